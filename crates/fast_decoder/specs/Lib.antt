@@ -1,0 +1,17 @@
+pub mod Events
+pub mod Handed
+pub mod Recorded
+pub mod Phrases
+pub mod Units
+pub mod Grammar
+pub mod Fields
+pub mod Messages
+pub mod Streams
+pub mod Sinks
+pub mod Standing
+pub mod Readers
+pub mod GrammarReaders
+pub mod Continuations
+pub mod Running
+pub mod Frames
+pub mod Machine

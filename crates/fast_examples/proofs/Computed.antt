@@ -1,0 +1,29 @@
+-- A stream by computing what the readers say of literal bytes.
+use Rattle.std.proofs.Common.{refl, arith}
+use Rattle.std.specs.Prelude.{◌≡◌, ℕ, ◌<◌, ◌≤◌, Bool, true, false, if◌then◌else◌, nat_le, List, [], ◌∷◌}
+use Rattle.std.proofs.lemmas.Bool.{leb-true}
+use Rattle.std.proofs.lemmas.List.Elements.{All-cons, All-nil}
+use Rattle.fast_value.specs.declared.settings.Limits.{Limits}
+use Rattle.fast_template.specs.Tree.{Tree}
+use Rattle.fast_decoder.specs.Events.{EventData}
+use Rattle.fast_decoder.specs.Streams.{End, Stream}
+use Rattle.fast_decoder.specs.Readers.{AreBytes}
+use Rattle.fast_decoder.specs.Running.{reading, end_of}
+use Rattle.fast_decoder.proofs.Reading.{reading-sound}
+
+-- all are below 256, by computation
+abbrev pub are_small : List ℕ → Bool
+are_small [] = true
+are_small (b ∷ w) = if nat_le b 255 then are_small w else false
+
+small : (w : List ℕ) → are_small w ≡ true → AreBytes w
+small [] h = All-nil (λ b. b < 256)
+small (b ∷ w) h = by (nat_le b 255) refl h (small w)
+  where
+    by : (c : Bool) → nat_le b 255 ≡ c → (if c then are_small w else false) ≡ true → (are_small w ≡ true → AreBytes w) → AreBytes (b ∷ w)
+    by true e h ih = let i : b ≤ 255 = leb-true b 255 e in All-cons (λ b. b < 256) b w (omega arith) (ih h)
+    by false e h ih = absurd (cc h)
+
+-- the events and the end that the readers come to
+pub answered : (t : Tree) (l : Limits) (w : List ℕ) {es : List EventData} {e : End} → are_small w ≡ true → (reading t l w).0 ≡ es → end_of (reading t l w).1 ≡ e → Stream t l w es e
+answered t l w h i j = rw (← i, ← j) (reading-sound t l w (small w h))

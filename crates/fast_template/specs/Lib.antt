@@ -1,0 +1,10 @@
+pub mod Tree
+pub mod Sizes
+pub mod AsWritten
+pub mod Notation
+pub mod Entries
+pub mod Uses
+pub mod InPlace
+pub mod Checked
+pub mod Refused
+pub mod Flat

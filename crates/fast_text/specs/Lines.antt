@@ -1,0 +1,88 @@
+-- One line for each event.
+use Rattle.std.specs.Prelude.{ℕ, ◌+◌, ◌/◌, ◌%◌, ◌||◌, nat_eq, nat_lt, if◌then◌else◌, List, [], ◌∷◌, ◌++◌, flat_map, slice_get, codes, decimal, ℤ, pos, negsuc, suc, Option, Some, None}
+use Rattle.fast_value.specs.Kinds.{ScalarData, U, I, Dec, AsciiText, UnicodeText, ByteVector}
+use Rattle.fast_template.specs.Tree.{Label, Instruction, field, parts, group, sequence, Body, end, step, TemplateData, Tree}
+use Rattle.fast_decoder.specs.Events.{EventData, MessageStart, FieldValue, GroupStart, GroupEnd, SequenceStart, ElementStart, ElementEnd, SequenceEnd, MessageEnd}
+
+-- the labels of the nodes, in preorder
+abbrev mutual
+  pub labels : Instruction → List Label
+  labels (field l f) = l ∷ []
+  labels (parts l e m) = l ∷ []
+  labels (group l optional body) = l ∷ body_labels body
+  labels (sequence l length body) = l ∷ body_labels body
+
+  pub body_labels : Body → List Label
+  body_labels end = []
+  body_labels (step i is) = labels i ++ body_labels is
+
+-- The name of a node, and of a template; empty for a number that the set doesn't have.
+abbrev pub name_among : ℕ → List Label → List ℕ
+name_among n [] = []
+name_among n (l ∷ ls) = if nat_eq l.node n then l.name else name_among n ls
+
+-- the name of a node of the set
+abbrev pub node_name : Tree → ℕ → List ℕ
+node_name t n = name_among n (flat_map (λ u. body_labels u.body) t.templates)
+
+-- a name, or none
+abbrev pub name_if : Option TemplateData → List ℕ
+name_if None = []
+name_if (Some u) = u.name
+
+-- the name of a template of the set
+abbrev pub template_name : Tree → ℕ → List ℕ
+template_name t n = name_if (slice_get t.templates n)
+
+-- an integer in decimal digits, with its sign
+abbrev pub signed_decimal : ℤ → List ℕ
+signed_decimal (pos n) = decimal n
+signed_decimal (negsuc n) = 0x2D ∷ decimal (suc n)
+
+-- a lower case hexadecimal digit, and the two of a byte
+abbrev pub hex_digit : ℕ → ℕ
+hex_digit n = if nat_lt n 10 then 0x30 + n else 0x57 + n
+
+-- a byte as two digits
+abbrev pub hex_byte : ℕ → List ℕ
+hex_byte c = hex_digit (c / 16) ∷ hex_digit (c % 16) ∷ []
+
+-- A quote and a backslash stand behind a backslash, and control characters are written in hexadecimal.
+abbrev pub escaped : ℕ → List ℕ
+escaped c =
+    if nat_eq c 0x22 || nat_eq c 0x5C then 0x5C ∷ c ∷ []
+    else if nat_lt c 0x20 || nat_eq c 0x7F then 0x5C ∷ 0x78 ∷ hex_byte c
+    else c ∷ []
+
+-- a text between quotes, with escapes
+abbrev pub quoted : List ℕ → List ℕ
+quoted v = 0x22 ∷ flat_map escaped v ++ 0x22 ∷ []
+
+-- the letter of a value's kind, a space, and the value
+abbrev pub written : ScalarData → List ℕ
+written (U n) = codes "u " ++ decimal n
+written (I x) = codes "i " ++ signed_decimal x
+written (Dec e m) = codes "d " ++ signed_decimal m ++ codes "e" ++ signed_decimal e
+written (AsciiText v) = codes "a " ++ quoted v
+written (UnicodeText v) = codes "s " ++ quoted v
+written (ByteVector v) = codes "b " ++ flat_map hex_byte v
+
+-- a node's number and its name
+abbrev pub node : Tree → ℕ → List ℕ
+node t n = decimal n ++ codes " " ++ node_name t n
+
+-- the line of an event
+abbrev pub line_of : Tree → EventData → List ℕ
+line_of t (MessageStart n) = codes "message " ++ template_name t n
+line_of t (FieldValue n v) = codes "field " ++ node t n ++ codes " " ++ written v
+line_of t (GroupStart n) = codes "group " ++ node t n
+line_of t GroupEnd = codes "end group"
+line_of t (SequenceStart n count) = codes "sequence " ++ node t n ++ codes " " ++ decimal count
+line_of t ElementStart = codes "element"
+line_of t ElementEnd = codes "end element"
+line_of t SequenceEnd = codes "end sequence"
+line_of t MessageEnd = codes "end message"
+
+-- the lines of the events, in order, each with its LF
+abbrev pub lines : Tree → List EventData → List ℕ
+lines t es = flat_map (λ e. line_of t e ++ 0x0A ∷ []) es

@@ -1,0 +1,5 @@
+pub mod Limits
+pub mod Kinds
+pub mod Messages
+pub mod Initial
+pub mod Values

@@ -1,0 +1,17 @@
+-- Limits, which are those of the Rust struct.
+use Rattle.std.specs.Prelude.{ℕ, Bool}
+use Rattle.fast_value.specs.declared.settings.Limits.{Limits}
+
+-- the same limits in a mode
+abbrev pub in_mode : Bool → Limits → Limits
+in_mode b l = record l { strict = b }
+
+-- What of the limits does not depend on the mode. The grammar of messages looks at no more than this.
+pub record Bounds : Type 0 where
+  pub max_text : ℕ
+  pub max_elements : ℕ
+  pub max_total : ℕ
+
+-- the limits without their mode
+abbrev pub bounds : Limits → Bounds
+bounds l = record { max_text = l.max_text; max_elements = l.max_elements; max_total = l.max_total }

@@ -1,0 +1,14 @@
+//! Values, kinds of values, messages and limits of FAST streams.
+#![tactic(auto)]
+
+pub mod codes;
+pub mod kinds;
+pub mod messages;
+pub mod settings;
+pub mod values;
+
+pub use codes::Code;
+pub use kinds::Kind;
+pub use messages::{Item, Message};
+pub use settings::Limits;
+pub use values::{Scalar, Value};
