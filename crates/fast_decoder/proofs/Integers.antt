@@ -123,15 +123,15 @@ module _ (strict : Bool) (range : Range) (nullable : Bool) (outside : Code) (w :
   no-true true h = absurd (h refl)
   no-true false h = refl
 
-  ok-judged : (o : Option ℤ) → Short → Means nullable (value range w) o → IfSome o (IsWithin range) → judged strict range nullable outside w ≡ Ok o
+  pub ok-judged : (o : Option ℤ) → Short → Means nullable (value range w) o → IfSome o (IsWithin range) → judged strict range nullable outside w ≡ Ok o
   unfolding judged
   ok-judged o s m f = rw (by-short s, lowered-means nullable (value range w) o m) (fits-ok o f)
 
-  overlong-judged : IsTrue strict → IsOverlong (value range) w → judged strict range nullable outside w ≡ Err R6
+  pub overlong-judged : IsTrue strict → IsOverlong (value range) w → judged strict range nullable outside w ≡ Err R6
   unfolding judged
   overlong-judged s o = rw (tests.1 (s, o)) refl
 
-  outside-judged : (x : ℤ) → Short → Means nullable (value range w) (Some x) → ¬ (IsWithin range x) → judged strict range nullable outside w ≡ Err outside
+  pub outside-judged : (x : ℤ) → Short → Means nullable (value range w) (Some x) → ¬ (IsWithin range x) → judged strict range nullable outside w ≡ Err outside
   unfolding judged
   outside-judged x s m f = rw (by-short s, lowered-means nullable (value range w) (Some x) m, no-true (within range x) (λ e. f ((decides-within range x).0 e))) refl
 
@@ -182,7 +182,7 @@ from-spare (a ∷ b ∷ c ∷ w) h = longer (from-spare (b ∷ c ∷ w) h)
     longer : HasSpareByte (b ∷ c ∷ w) → HasSpareByte (a ∷ b ∷ c ∷ w)
     longer (front, x, y, d, e) = (a ∷ front, x, y, ap (λ r. a ∷ r) d, e)
 
-decides-spare : (w : List ℕ) → Decides (spare w) (HasSpareByte w)
+pub decides-spare : (w : List ℕ) → Decides (spare w) (HasSpareByte w)
 decides-spare w = (from-spare w, λ (front, x, y, d, e). rw d (spare-from front x y e))
 
 module _ (strict : Bool) where

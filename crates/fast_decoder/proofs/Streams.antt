@@ -33,7 +33,7 @@ module _ {D : Type 0} (first : D → ℕ → Reader D) where
   abbrev pub go : {M : Type 0} → ℕ → Reader (M × D) → List ℕ → List EventData × Stands D
   go n r w = ((settle n (left r)).0 ++ (run first n (settle n (left r)).1 w).0, (run first n (settle n (left r)).1 w).1)
 
-  at-fault : (n m : ℕ) (c : Code) (w : List ℕ) → ((run first n (at_fault c m) w).0 ≡ []) × ((run first n (at_fault c m) w).1 ≡ at_fault c m)
+  pub at-fault : (n m : ℕ) (c : Code) (w : List ℕ) → ((run first n (at_fault c m) w).0 ≡ []) × ((run first n (at_fault c m) w).1 ≡ at_fault c m)
   at-fault n m c [] = (refl, refl)
   at-fault n m c (b ∷ w) = at-fault (suc n) m c w
 

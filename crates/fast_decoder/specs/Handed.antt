@@ -1,6 +1,5 @@
 -- What the events of the Rust types say.
-use Rattle.std.specs.Prelude.{List, map}
-use Rattle.fast_value.specs.Values.{scalar_data, value_data}
+use Rattle.fast_value.specs.Values.{scalar_data}
 use Rattle.fast_decoder.specs.Events.{EventData, MessageStart, FieldValue, GroupStart, GroupEnd, SequenceStart, ElementStart, ElementEnd, SequenceEnd, MessageEnd}
 use Rattle.fast_decoder.specs.declared.events.Event.{Event}
 use Rattle.fast_decoder.specs.declared.events.Event.TheVariants as Lent

@@ -1,5 +1,8 @@
+pub mod Codes
 pub mod Events
 pub mod Handed
+pub mod Handing
+pub mod Pending
 pub mod Recorded
 pub mod Phrases
 pub mod Units
@@ -15,3 +18,5 @@ pub mod Continuations
 pub mod Running
 pub mod Frames
 pub mod Machine
+pub mod Decoding
+pub mod Positions

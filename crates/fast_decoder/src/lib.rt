@@ -1,11 +1,17 @@
 //! The decoder of FAST streams: bytes in pieces go in, events come out.
 #![tactic(auto)]
 
+pub mod decoder;
 pub mod events;
 pub mod faults;
+mod flat;
 pub mod laws;
+mod machine;
+mod pending;
 pub mod recorder;
+mod turns;
 
+pub use decoder::Decoder;
 pub use events::{Event, Sink, Stop};
 pub use faults::{Fault, FaultCode, MakeError};
 pub use recorder::{Recorded, Recorder};

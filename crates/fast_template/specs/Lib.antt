@@ -7,4 +7,7 @@ pub mod Uses
 pub mod InPlace
 pub mod Checked
 pub mod Refused
+pub mod Numbers
 pub mod Flat
+pub mod NodeData
+pub mod FlatSets

@@ -1,5 +1,7 @@
--- The codes of a written template set that stands for no tree, and where their conditions stand.
+-- Where the conditions of the codes stand in a written template set that stands for no tree.
 use Rattle.std.specs.Prelude.{◌≡◌, ◌≢◌, ◌⊎◌, ℕ, zero, suc, ◌<◌, List, All, Any, Contains, slice_get, take, Some}
+use Rattle.fast_template.specs.declared.codes.StaticCode.{StaticCode}
+use Rattle.fast_template.specs.declared.codes.StaticCode.TheVariants.{S1, S2, S3, S4, S5, D8, C1, C2, C3, C4, C5, C6, Memory}
 use Rattle.fast_template.specs.Tree.{Body, bits_of, TemplateData}
 use Rattle.fast_template.specs.Sizes.{body_depth, segment_limit, nesting_limit, node_limit}
 use Rattle.fast_template.specs.AsWritten.{DeclaredTemplate, all_uses, all_references}
@@ -7,21 +9,6 @@ use Rattle.fast_template.specs.Entries.{Entry, scope_of}
 use Rattle.fast_template.specs.Uses.{IsS2, IsS3, IsS4, IsS5}
 use Rattle.fast_template.specs.InPlace.{InPlace, AreInPlace}
 use Rattle.fast_template.specs.Checked.{AreNarrowInside}
-
--- The codes of what is wrong with a written set. In the product they come from the Rust enum.
-pub data StaticCode : Type 0 where
-  S1 : StaticCode
-  S2 : StaticCode
-  S3 : StaticCode
-  S4 : StaticCode
-  S5 : StaticCode
-  D8 : StaticCode
-  C1 : StaticCode
-  C2 : StaticCode
-  C3 : StaticCode
-  C4 : StaticCode
-  C5 : StaticCode
-  C6 : StaticCode
 
 -- So many references lead from one template to the other, each from the text of the template before.
 abbrev pub Reaches : List DeclaredTemplate → ℕ → ℕ → ℕ → Type 0
@@ -46,3 +33,4 @@ StandsAt ts C3 k = (n : ℕ) × Reaches ts (suc n) k k
 StandsAt ts C4 k = ((b : ℕ) × Reaches ts (suc nesting_limit) k b) ⊎ ((body : Body) × IsBodyOf ts k body × (nesting_limit < body_depth body))
 StandsAt ts C5 k = (body : Body) × IsBodyOf ts k body × ((segment_limit < suc (bits_of body)) ⊎ ¬ (AreNarrowInside body))
 StandsAt ts C6 k = (entries : List Entry) × (us : List TemplateData) × (n : ℕ) × AreInPlace ts entries 0 (take (suc k) ts) 0 us n × (node_limit < n)
+StandsAt ts Memory k = ⊥

@@ -1,12 +1,21 @@
 //! Checked template sets.
 
+ghost use Rattle.std.specs.Prelude.{◌≤◌, ◌<◌, ◌^◌, length};
+ghost use Rattle.fast_template.specs.Numbers.{NameNodes, NameLaterNodes, HaveDistinctIds};
+
 use crate::instructions::{Node, Template};
 
 /// A checked template set. Templates are numbered from 0 in the order of their text; nodes, which are the instructions of
 /// all templates with references in place, from 0 in preorder.
 #[derive(Debug, Drop)]
 pub struct Templates {
-    templates: Vec<Template>,
-    nodes: Vec<Node>,
-    entries: u32,
+    pub(crate) templates: Vec<Template>,
+    pub(crate) nodes: Vec<Node>,
+    pub(crate) entries: u32,
+    ghost few_templates: { length templates.items < 2 ^ 32 },
+    ghost few_nodes: { length nodes.items ≤ 65536 },
+    ghost has_identifier: { 1 ≤ entries },
+    ghost templates_name_nodes: { NameNodes (length nodes.items) templates.items },
+    ghost nodes_name_later_nodes: { NameLaterNodes nodes.items },
+    ghost distinct_ids: { HaveDistinctIds templates.items },
 }

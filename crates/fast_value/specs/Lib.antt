@@ -2,4 +2,6 @@ pub mod Limits
 pub mod Kinds
 pub mod Messages
 pub mod Initial
+pub mod Numerals
 pub mod Values
+pub mod Views

@@ -1,0 +1,35 @@
+//! A count of turns that only proofs read.
+
+ghost use Rattle.std.specs.Prelude.{◌≡◌, ℕ, ◌+◌};
+ghost use Rattle.std.specs.Borrow.{ftrue};
+
+use std::marker::Model;
+
+/// How many turns a machine has taken. It has no bytes at run time.
+#[derive(Drop)]
+pub struct Turns {
+    pub ghost count: { ℕ },
+}
+
+impl Model for Turns {
+    ghost also_owns = { λ _. ftrue };
+}
+
+impl Turns {
+    /// No turn.
+    #[inline]
+    pub fn none() -> Turns
+        ensures { result.count ≡ 0 }
+    {
+        Turns {}
+    }
+
+    /// One turn more.
+    #[inline]
+    pub fn after(before: &Turns) -> Turns
+        ensures { result.count ≡ before.now.count + 1 }
+    {
+        let _ = before;
+        Turns {}
+    }
+}

@@ -1,0 +1,6 @@
+pub mod Lists
+pub mod SetTrees
+pub mod FlatLists
+pub mod NodeLists
+pub mod FlatTrees
+pub mod Walks

@@ -1,0 +1,22 @@
+-- What is known of each template set.
+use Rattle.std.proofs.Common.{◌≡◌, ℕ, ap, sym, ◌∙◌, slice_get, Some}
+use Rattle.fast_template.specs.declared.sets.Templates.{Templates}
+use Rattle.fast_template.specs.Tree.{HasDistinctIds, TemplateData}
+use Rattle.fast_template.specs.Flat.{tree_of, templates_of, nodes_of, instructions_from, template_data}
+use Rattle.fast_template.specs.declared.instructions.Template.{Template}
+use Rattle.fast_template.proofs.Lists.{mapped_get, map_get_back}
+
+-- the tree's template with a number is that of the set
+pub template_found : (s : Templates) (i : ℕ) (t : Template) → slice_get (templates_of s) i ≡ Some t → slice_get (tree_of s).templates i ≡ Some (template_data (instructions_from 0 (nodes_of s)) t)
+template_found s i t found = mapped_get (template_data (instructions_from 0 (nodes_of s))) (templates_of s) i t found
+
+-- the set's template behind the tree's
+pub template_behind : (s : Templates) (i : ℕ) (u : TemplateData) → slice_get (tree_of s).templates i ≡ Some u → (t : Template) × (slice_get (templates_of s) i ≡ Some t) × (u ≡ template_data (instructions_from 0 (nodes_of s)) t)
+template_behind s i u found = map_get_back (template_data (instructions_from 0 (nodes_of s))) (templates_of s) i u found
+
+-- no two templates of a set have one identifier
+pub distinct_ids : (s : Templates) → HasDistinctIds (tree_of s)
+distinct_ids s i j id a b at_i at_j id_of_a id_of_b =
+    let f = template_behind s i a at_i in
+    let g = template_behind s j b at_j in
+    s.distinct_ids i j id f.0 g.0 f.1 g.1 (sym (ap (λ (u : TemplateData). u.id) f.2) ∙ id_of_a) (sym (ap (λ (u : TemplateData). u.id) g.2) ∙ id_of_b)

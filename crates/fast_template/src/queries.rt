@@ -1,0 +1,78 @@
+//! What can be asked of a template set. No query takes memory.
+
+ghost use Rattle.std.specs.Prelude.{◌≡◌, ◌≢◌, ◌≤◌, ◌<◌, ℕ, length, slice_get, Some, IfSome, IfNone, IsTrue, ◌↔◌};
+ghost use Rattle.fast_template.specs.declared.instructions.Template.{Template};
+ghost use Rattle.fast_template.specs.Flat.{templates_of, nodes_of, tree_of};
+ghost use Rattle.fast_template.specs.Tree.{HasDistinctIds};
+ghost use Rattle.fast_template.specs.Numbers.{numbers_of, AreBelow, AreBetween};
+
+use crate::instructions::{Node, Template};
+use crate::sets::Templates;
+
+/// Whether the template has this identifier.
+fn has_id(template: &Template, id: u32) -> bool
+    ensures { IsTrue result ↔ (template.now.id ≡ Some id) }
+{
+    match template.id {
+        Some(own) => own == id,
+        None => false,
+    }
+}
+
+impl Templates {
+    /// The number of templates.
+    pub fn count(&self) -> u32
+        ensures { result ≡ length (templates_of self.now) }
+    {
+        self.templates.len() as u32
+    }
+
+    /// The number of nodes, at most 65,536.
+    pub fn nodes(&self) -> u32
+        ensures number { result ≡ length (nodes_of self.now) }
+        ensures few { result ≤ 65536 }
+    {
+        self.nodes.len() as u32
+    }
+
+    /// The number of dictionary entries. Entry 0 is the template identifier's.
+    pub fn entries(&self) -> u32
+        ensures number { result ≡ (tree_of self.now).entries }
+        ensures some { 1 ≤ result }
+    {
+        self.entries
+    }
+
+    /// A template by its number.
+    pub fn template(&self, i: u32) -> &Template
+        requires { i < length (templates_of self.now) }
+        ensures found { slice_get (templates_of self.now) i ≡ Some result.now }
+        ensures body { AreBelow (length (nodes_of self.now)) result.now.body.items }
+    {
+        &self.templates[i as usize]
+    }
+
+    /// A node by its number.
+    pub fn node(&self, n: u32) -> &Node
+        requires { n < length (nodes_of self.now) }
+        ensures found { slice_get (nodes_of self.now) n ≡ Some result.now }
+        ensures body { AreBetween n (length (nodes_of self.now)) (numbers_of result.now.shape) }
+    {
+        &self.nodes[n as usize]
+    }
+
+    /// The number of the template with an identifier.
+    pub fn by_id(&self, id: u32) -> Option<u32>
+        ensures found { IfSome result (λ i. (t : Template) × (slice_get (templates_of self.now) i ≡ Some t) × (t.id ≡ Some id)) }
+        ensures first { IfSome result (λ i. (j : ℕ) (t : Template) → j < i → slice_get (templates_of self.now) j ≡ Some t → t.id ≢ Some id) }
+        ensures none { IfNone result ((j : ℕ) (t : Template) → slice_get (templates_of self.now) j ≡ Some t → t.id ≢ Some id) }
+        ensures distinct { HasDistinctIds (tree_of self.now) }
+    {
+        for (i, template) in self.templates.iter().enumerate() {
+            if has_id(template, id) {
+                return Some(i as u32);
+            }
+        }
+        None
+    }
+}

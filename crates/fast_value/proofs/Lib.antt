@@ -1,0 +1,4 @@
+pub mod HexTexts
+pub mod Digits
+pub mod Numerals
+pub mod ItemViews

@@ -1,0 +1,303 @@
+//! Initial values, as they stand in the text of a template set.
+
+ghost use Rattle.std.specs.Prelude.{◌≡◌, ◌≢◌, ◌<◌, ◌^◌, ℤ, pos, List, ℕ, length, slice_index, IfSome, IfNone, IfOk, Err};
+ghost use Rattle.fast_value.specs.Initial.{IsNumeral, IsInteger, digits_value, IsDecimal, IsInitial, IsHex};
+ghost use Rattle.fast_value.specs.Kinds.{ScalarData, U, I, signed_range, exponent_range};
+ghost use Rattle.fast_value.specs.Numerals.{IsSigned, range_between};
+ghost use Rattle.fast_value.specs.Values.{value_data};
+
+use crate::kinds::Kind;
+use crate::values::Value;
+use hex::FromHexError;
+use std::alloc::{AllocError, Global};
+
+/// Why a text gives no initial value.
+#[derive(Clone, Copy, Debug, PartialEq, Eq)]
+pub enum InitialFault {
+    /// The text is no value of the kind.
+    S3,
+    /// There was no memory left.
+    Memory,
+}
+
+impl From<AllocError> for InitialFault {
+    ghost use Rattle.std.specs.Prelude.{◌≡◌};
+    ghost use Rattle.fast_value.specs.declared.initial.InitialFault.TheVariants.{Memory};
+
+    ghost from_gives = { λ _ fault. fault ≡ Memory };
+
+    fn from(_error: AllocError) -> InitialFault {
+        InitialFault::Memory
+    }
+}
+
+/// The number that 1 to 20 decimal digits stand for.
+fn parse_digits(digits: &[u8]) -> Option<u128>
+    ensures number { IfSome result (λ n. IsNumeral digits.now × (n ≡ digits_value digits.now)) }
+    ensures small { IfSome result (λ n. n < 10 ^ 20) }
+    ensures none { IfNone result (¬ (IsNumeral digits.now)) }
+{
+    if digits.is_empty() || digits.len() > 20 {
+        return None;
+    }
+    let mut number: u128 = 0;
+    for digit in digits {
+        if !digit.is_ascii_digit() {
+            return None;
+        }
+        number = number * 10 + u128::from(*digit - b'0');
+    }
+    Some(number)
+}
+
+/// The integer that 1 to 20 decimal digits stand for, perhaps behind a minus.
+fn parse_signed(text: &[u8]) -> Option<i128>
+    ensures integer { IfSome result (λ x. IsSigned text.now x) }
+    ensures none { IfNone result ((x : ℤ) → ¬ (IsSigned text.now x)) }
+{
+    if !text.is_empty() && text[0] == b'-' {
+        match parse_digits(&text[1..]) {
+            Some(number) => Some(-(number as i128)),
+            None => None,
+        }
+    } else {
+        match parse_digits(text) {
+            Some(number) => Some(number as i128),
+            None => None,
+        }
+    }
+}
+
+/// The integer, where it lies within the bounds.
+fn parse_within(text: &[u8], low: i128, high: i128) -> Option<i128>
+    ensures integer { IfSome result (λ x. IsInteger (range_between low high) text.now x) }
+    ensures none { IfNone result ((x : ℤ) → ¬ (IsInteger (range_between low high) text.now x)) }
+{
+    match parse_signed(text) {
+        Some(integer) if low <= integer && integer <= high => Some(integer),
+        _ => None,
+    }
+}
+
+/// An integer of 64 bits with a sign.
+fn parse_int64(text: &[u8]) -> Option<i64>
+    ensures integer { IfSome result (λ x. IsInteger (signed_range 63) text.now x) }
+    ensures none { IfNone result ((x : ℤ) → ¬ (IsInteger (signed_range 63) text.now x)) }
+{
+    match parse_within(text, i64::MIN as i128, i64::MAX as i128) {
+        Some(integer) => Some(integer as i64),
+        None => None,
+    }
+}
+
+/// An exponent of ten, -63 to 63.
+fn parse_exponent(text: &[u8]) -> Option<i32>
+    ensures integer { IfSome result (λ x. IsInteger exponent_range text.now x) }
+    ensures none { IfNone result ((x : ℤ) → ¬ (IsInteger exponent_range text.now x)) }
+{
+    match parse_within(text, -63, 63) {
+        Some(integer) => Some(integer as i32),
+        None => None,
+    }
+}
+
+/// Where the first `e` stands.
+fn find_e(text: &[u8]) -> Option<usize>
+    ensures found { IfSome result (λ k. (k < length text.now) × (slice_index text.now k ≡ 0x65)) }
+    ensures before { IfSome result (λ k. (j : ℕ) → j < k → slice_index text.now j ≢ 0x65) }
+    ensures none { IfNone result ((j : ℕ) → j < length text.now → slice_index text.now j ≢ 0x65) }
+{
+    text.iter().position(|b| *b == b'e')
+}
+
+/// A mantissa, or one with `e` and an exponent behind it: the exponent, then the mantissa.
+fn parse_decimal(text: &[u8]) -> Option<(i32, i64)>
+    ensures decimal { IfSome result (λ d. IsDecimal text.now d.0 d.1) }
+    ensures none { IfNone result ((e m : ℤ) → ¬ (IsDecimal text.now e m)) }
+{
+    let Some(at) = find_e(text) else {
+        return match parse_int64(text) {
+            Some(mantissa) => Some((0, mantissa)),
+            None => None,
+        };
+    };
+    let Some(mantissa) = parse_int64(&text[..at]) else {
+        return None;
+    };
+    match parse_exponent(&text[at + 1..]) {
+        Some(exponent) => Some((exponent, mantissa)),
+        None => None,
+    }
+}
+
+/// Bytes by pairs of hexadecimal digits.
+fn parse_bytes(alloc: Global, text: &[u8]) -> Result<Vec<u8>, InitialFault>
+    ensures bytes { IfOk result (λ v. IsHex text.now v.items) }
+    ensures none { result ≡ Err InitialFault.S3 → (w : List ℕ) → ¬ (IsHex text.now w) }
+{
+    match hex::decode(alloc, text) {
+        Ok(bytes) => Ok(bytes),
+        Err(error) => match error {
+            FromHexError::OutOfMemory => Err(InitialFault::Memory),
+            _ => Err(InitialFault::S3),
+        },
+    }
+}
+
+/// The integer of a kind without sign.
+fn parse_unsigned(text: &[u8], high: u64) -> Result<Value, InitialFault>
+    ensures value { IfOk result (λ v. (n : ℕ) × IsInteger (range_between (pos 0) (pos high)) text.now (pos n) × (value_data v ≡ U n)) }
+    ensures none { result ≡ Err InitialFault.S3 → (x : ℤ) → ¬ (IsInteger (range_between (pos 0) (pos high)) text.now x) }
+{
+    match parse_within(text, 0, i128::from(high)) {
+        Some(integer) => Ok(Value::U(integer as u64)),
+        None => Err(InitialFault::S3),
+    }
+}
+
+/// The integer of a kind with a sign.
+fn parse_integer(text: &[u8], low: i64, high: i64) -> Result<Value, InitialFault>
+    ensures value { IfOk result (λ v. (x : ℤ) × IsInteger (range_between low high) text.now x × (value_data v ≡ I x)) }
+    ensures none { result ≡ Err InitialFault.S3 → (x : ℤ) → ¬ (IsInteger (range_between low high) text.now x) }
+{
+    match parse_within(text, i128::from(low), i128::from(high)) {
+        Some(integer) => Ok(Value::I(integer as i64)),
+        None => Err(InitialFault::S3),
+    }
+}
+
+/// The value that an initial value of a kind stands for: 1 to 20 digits, perhaps behind a minus, for an integer; such an
+/// integer, perhaps with `e` and an exponent of -63 to 63 behind it, for a decimal; the text itself for strings, of
+/// characters below U+0080 for ASCII; pairs of hexadecimal digits for bytes. It is S3 where there is none.
+pub fn parse_initial(alloc: Global, kind: Kind, text: &str) -> Result<Value, InitialFault>
+    ensures value { IfOk result (λ v. IsInitial kind text.now (value_data v)) }
+    ensures none { result ≡ Err InitialFault.S3 → (v : ScalarData) → ¬ (IsInitial kind text.now v) }
+{
+    match kind {
+        Kind::UInt32 => parse_unsigned(text.as_bytes(), u32::MAX as u64),
+        Kind::Int32 => parse_integer(text.as_bytes(), i32::MIN as i64, i32::MAX as i64),
+        Kind::UInt64 => parse_unsigned(text.as_bytes(), u64::MAX),
+        Kind::Int64 => parse_integer(text.as_bytes(), i64::MIN, i64::MAX),
+        Kind::Decimal => match parse_decimal(text.as_bytes()) {
+            Some((exponent, mantissa)) => Ok(Value::Dec { exponent, mantissa }),
+            None => Err(InitialFault::S3),
+        },
+        Kind::Ascii => {
+            if !text.is_ascii() {
+                return Err(InitialFault::S3);
+            }
+            Ok(Value::Ascii(Vec::from_slice(alloc, text.as_bytes())?))
+        }
+        Kind::Unicode => Ok(Value::Unicode(Vec::from_slice(alloc, text.as_bytes())?)),
+        Kind::Bytes => Ok(Value::Bytes(parse_bytes(alloc, text.as_bytes())?)),
+    }
+}
+
+#[cfg(test)]
+mod tests {
+    use super::*;
+
+    fn is_refused(alloc: Global, kind: Kind, text: &str) -> bool {
+        matches!(parse_initial(alloc, kind, text), Err(InitialFault::S3))
+    }
+
+    #[test]
+    fn integers_are_read_up_to_their_bounds(rt: HostRuntime) {
+        let alloc = rt.alloc();
+        let unsigned = [
+            (Kind::UInt32, "0", 0),
+            (Kind::UInt32, "-0", 0),
+            (Kind::UInt32, "00000000000000000007", 7),
+            (Kind::UInt32, "4294967295", 4294967295),
+            (Kind::UInt64, "18446744073709551615", u64::MAX),
+        ];
+        for (kind, text, number) in unsigned {
+            assert_eq!(rt;
+                parse_initial(alloc, kind, text),
+                Ok(Value::U(number)),
+                "{text}"
+            );
+        }
+        let signed = [
+            (Kind::Int32, "-2147483648", -2147483648),
+            (Kind::Int32, "2147483647", 2147483647),
+            (Kind::Int64, "-9223372036854775808", i64::MIN),
+            (Kind::Int64, "9223372036854775807", i64::MAX),
+        ];
+        for (kind, text, number) in signed {
+            assert_eq!(rt;
+                parse_initial(alloc, kind, text),
+                Ok(Value::I(number)),
+                "{text}"
+            );
+        }
+    }
+
+    #[test]
+    fn other_integers_are_refused(rt: HostRuntime) {
+        let cases = [
+            (Kind::UInt32, "4294967296"),
+            (Kind::UInt32, "-1"),
+            (Kind::UInt64, "18446744073709551616"),
+            (Kind::Int32, "2147483648"),
+            (Kind::Int32, "-2147483649"),
+            (Kind::Int64, "9223372036854775808"),
+            (Kind::Int64, "-9223372036854775809"),
+            (Kind::UInt32, "000000000000000000000"),
+            (Kind::UInt32, ""),
+            (Kind::UInt32, "-"),
+            (Kind::UInt32, "+5"),
+            (Kind::UInt32, " 5"),
+            (Kind::UInt32, "5a"),
+        ];
+        for (kind, text) in cases {
+            assert!(rt; is_refused(rt.alloc(), kind, text), "{text}");
+        }
+    }
+
+    #[test]
+    fn decimals_keep_their_exponent(rt: HostRuntime) {
+        let alloc = rt.alloc();
+        let good = [
+            ("15e-1", -1, 15),
+            ("15", 0, 15),
+            ("-1e63", 63, -1),
+            ("0e-63", -63, 0),
+        ];
+        for (text, exponent, mantissa) in good {
+            let value = Value::Dec { exponent, mantissa };
+            assert_eq!(rt;
+                parse_initial(alloc, Kind::Decimal, text),
+                Ok(value),
+                "{text}"
+            );
+        }
+        for text in [
+            "1.5",
+            "1e64",
+            "1e-64",
+            "",
+            "e5",
+            "5e",
+            "1e2e3",
+            "9223372036854775808",
+        ] {
+            assert!(rt; is_refused(alloc, Kind::Decimal, text), "{text}");
+        }
+    }
+
+    #[test]
+    fn texts_and_bytes(rt: HostRuntime) -> Result<(), std::test::Fail> {
+        let alloc = rt.alloc();
+        let ascii = Value::Ascii(Vec::from_slice(alloc, b"AB c")?);
+        assert_eq!(rt; parse_initial(alloc, Kind::Ascii, "AB c"), Ok(ascii));
+        let unicode = Value::Unicode(Vec::from_slice(alloc, &[0xC3, 0xA9])?);
+        assert_eq!(rt; parse_initial(alloc, Kind::Unicode, "\u{e9}"), Ok(unicode));
+        let bytes = Value::Bytes(Vec::from_slice(alloc, &[1, 0xFF, 0xAB])?);
+        assert_eq!(rt; parse_initial(alloc, Kind::Bytes, "01fFAb"), Ok(bytes));
+        assert!(rt; is_refused(alloc, Kind::Ascii, "\u{e9}"));
+        assert!(rt; is_refused(alloc, Kind::Bytes, "abc"));
+        assert!(rt; is_refused(alloc, Kind::Bytes, "0g"));
+        Ok(())
+    }
+}
