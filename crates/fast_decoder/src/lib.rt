@@ -9,6 +9,8 @@ pub mod laws;
 mod machine;
 mod pending;
 pub mod recorder;
+#[cfg(test)]
+mod tests;
 mod turns;
 
 pub use decoder::Decoder;
