@@ -4,3 +4,4 @@ pub mod FlatLists
 pub mod NodeLists
 pub mod FlatTrees
 pub mod Walks
+pub mod FlatLabels

@@ -8,6 +8,8 @@ pub mod InPlace
 pub mod Checked
 pub mod Refused
 pub mod Numbers
+pub mod Nodes
+pub mod Labels
 pub mod Flat
 pub mod NodeData
 pub mod FlatSets

@@ -3,6 +3,7 @@
 ghost use Rattle.std.specs.Prelude.{◌≡◌, ◌≢◌, ◌≤◌, ◌<◌, ℕ, length, slice_get, Some, IfSome, IfNone, IsTrue, ◌↔◌};
 ghost use Rattle.fast_template.specs.declared.instructions.Template.{Template};
 ghost use Rattle.fast_template.specs.Flat.{templates_of, nodes_of, tree_of};
+ghost use Rattle.fast_template.specs.Labels.{template_labels, labels_from};
 ghost use Rattle.fast_template.specs.Tree.{HasDistinctIds};
 ghost use Rattle.fast_template.specs.Numbers.{numbers_of, AreBelow, AreBetween};
 
@@ -31,6 +32,7 @@ impl Templates {
     pub fn nodes(&self) -> u32
         ensures number { result ≡ length (nodes_of self.now) }
         ensures few { result ≤ 65536 }
+        ensures preorder { template_labels (tree_of self.now).templates ≡ labels_from 0 (nodes_of self.now) }
     {
         self.nodes.len() as u32
     }

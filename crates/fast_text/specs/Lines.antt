@@ -1,20 +1,10 @@
 -- One line for each event.
-use Rattle.std.specs.Prelude.{ℕ, ◌+◌, ◌/◌, ◌%◌, ◌||◌, nat_eq, nat_lt, if◌then◌else◌, List, [], ◌∷◌, ◌++◌, flat_map, slice_get, codes, decimal, ℤ, pos, negsuc, suc, Option, Some, None}
+use Rattle.std.specs.Prelude.{ℕ, ◌+◌, ◌/◌, ◌%◌, ◌||◌, nat_eq, nat_lt, if◌then◌else◌, List, [], ◌∷◌, ◌++◌, flat_map, slice_get, codes, decimal, Option, Some, None}
+use Rattle.std.specs.Fmt.{signed_decimal}
 use Rattle.fast_value.specs.Kinds.{ScalarData, U, I, Dec, AsciiText, UnicodeText, ByteVector}
-use Rattle.fast_template.specs.Tree.{Label, Instruction, field, parts, group, sequence, Body, end, step, TemplateData, Tree}
+use Rattle.fast_template.specs.Tree.{Label, TemplateData, Tree}
+use Rattle.fast_template.specs.Labels.{template_labels}
 use Rattle.fast_decoder.specs.Events.{EventData, MessageStart, FieldValue, GroupStart, GroupEnd, SequenceStart, ElementStart, ElementEnd, SequenceEnd, MessageEnd}
-
--- the labels of the nodes, in preorder
-abbrev mutual
-  pub labels : Instruction → List Label
-  labels (field l f) = l ∷ []
-  labels (parts l e m) = l ∷ []
-  labels (group l optional body) = l ∷ body_labels body
-  labels (sequence l length body) = l ∷ body_labels body
-
-  pub body_labels : Body → List Label
-  body_labels end = []
-  body_labels (step i is) = labels i ++ body_labels is
 
 -- The name of a node, and of a template; empty for a number that the set doesn't have.
 abbrev pub name_among : ℕ → List Label → List ℕ
@@ -23,7 +13,7 @@ name_among n (l ∷ ls) = if nat_eq l.node n then l.name else name_among n ls
 
 -- the name of a node of the set
 abbrev pub node_name : Tree → ℕ → List ℕ
-node_name t n = name_among n (flat_map (λ u. body_labels u.body) t.templates)
+node_name t n = name_among n (template_labels t.templates)
 
 -- a name, or none
 abbrev pub name_if : Option TemplateData → List ℕ
@@ -33,11 +23,6 @@ name_if (Some u) = u.name
 -- the name of a template of the set
 abbrev pub template_name : Tree → ℕ → List ℕ
 template_name t n = name_if (slice_get t.templates n)
-
--- an integer in decimal digits, with its sign
-abbrev pub signed_decimal : ℤ → List ℕ
-signed_decimal (pos n) = decimal n
-signed_decimal (negsuc n) = 0x2D ∷ decimal (suc n)
 
 -- a lower case hexadecimal digit, and the two of a byte
 abbrev pub hex_digit : ℕ → ℕ

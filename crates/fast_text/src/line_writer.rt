@@ -1,0 +1,171 @@
+//! The parts of a line, one after the other.
+
+ghost use Rattle.std.specs.Prelude.{◌≡◌, ◌≤◌, [], ◌∷◌, ◌++◌, IsTrue, All, length, take, codes, decimal, flat_map};
+ghost use Rattle.std.specs.Fmt.{signed_decimal};
+ghost use Rattle.fast_value.specs.Values.{scalar_data};
+ghost use Rattle.fast_text.specs.Lines.{escaped, quoted, hex_byte, written as value_text};
+ghost use Rattle.fast_text.specs.LineWriter.{Begins, Writes, outcome_of};
+
+use crate::streams::{Failed, Target};
+use fast_value::Scalar;
+use itoa::Buffer;
+
+/// Writes texts to a target, one after the other. It keeps the first failure, and writes nothing after it.
+#[derive(Drop)]
+pub struct LineWriter<'a, T> {
+    target: &'a mut T,
+    outcome: Result<(), Failed>,
+}
+
+/// How many bytes are turned into hexadecimal digits at a time.
+const HEX_CHUNK: usize = 32;
+
+/// Whether a byte of a text stands in a line as itself.
+fn is_plain(byte: u8) -> bool
+    ensures { IsTrue result → escaped byte ≡ byte ∷ [] }
+{
+    byte != b'"' && byte != b'\\' && byte >= 0x20 && byte != 0x7f
+}
+
+/// How many bytes at the front of a text stand in a line as themselves.
+fn plain_len(text: &[u8]) -> usize
+    ensures within { result ≤ length text.now }
+    ensures plain { All (λ c. escaped c ≡ c ∷ []) (take result text.now) }
+{
+    text.iter()
+        .position(|byte| !is_plain(*byte))
+        .unwrap_or(text.len())
+}
+
+impl<'a, T: Target> LineWriter<'a, T> {
+    /// A writer that has written nothing.
+    pub fn new(target: &'a mut T) -> LineWriter<'a, T>
+        ensures { Begins target.entry result }
+    {
+        LineWriter {
+            target,
+            outcome: Ok(()),
+        }
+    }
+
+    /// Writes a text.
+    pub fn put(&mut self, text: &[u8])
+        ensures { Writes T.written T.has_failed self.old text.now self.new }
+    {
+        if self.outcome.is_ok() {
+            self.outcome = self.target.write_all(text);
+        }
+    }
+
+    /// Writes an integer of 0 or more in decimal digits.
+    pub fn put_unsigned(&mut self, number: u64)
+        ensures { Writes T.written T.has_failed self.old (decimal number) self.new }
+    {
+        self.put(Buffer::new().format(number).as_bytes());
+    }
+
+    /// Writes an integer in decimal digits, with its sign if it is negative.
+    pub fn put_signed(&mut self, integer: i64)
+        ensures { Writes T.written T.has_failed self.old (signed_decimal integer) self.new }
+    {
+        self.put(Buffer::new().format(integer).as_bytes());
+    }
+
+    /// Writes a byte of a text, or what stands for it.
+    fn put_escaped(&mut self, byte: u8)
+        ensures { Writes T.written T.has_failed self.old (escaped byte) self.new }
+    {
+        if byte == b'"' || byte == b'\\' {
+            self.put(&[b'\\', byte]);
+        } else if byte < 0x20 || byte == 0x7f {
+            self.put(b"\\x");
+            self.put_hex(&[byte]);
+        } else {
+            self.put(&[byte]);
+        }
+    }
+
+    /// Writes a text between quotes, with escapes.
+    pub fn put_quoted(&mut self, text: &[u8])
+        ensures { Writes T.written T.has_failed self.old (quoted text.now) self.new }
+    {
+        self.put(b"\"");
+        let mut rest = text;
+        while !rest.is_empty() {
+            let (plain, others) = rest.split_at(plain_len(rest));
+            self.put(plain);
+            rest = others;
+            if let Some((byte, others)) = rest.split_first() {
+                self.put_escaped(*byte);
+                rest = others;
+            }
+        }
+        self.put(b"\"");
+    }
+
+    /// Writes at most 32 bytes in lower case hexadecimal digits.
+    fn put_hex_chunk(&mut self, bytes: &[u8])
+        requires { length bytes.now ≤ HEX_CHUNK }
+        ensures { Writes T.written T.has_failed self.old (flat_map hex_byte bytes.now) self.new }
+    {
+        let mut cells = [0; 2 * HEX_CHUNK];
+        let digits = &mut cells[..2 * bytes.len()];
+        let _ = hex::encode_to_slice(bytes, digits);
+        self.put(digits);
+    }
+
+    /// Writes bytes in lower case hexadecimal digits.
+    pub fn put_hex(&mut self, bytes: &[u8])
+        ensures { Writes T.written T.has_failed self.old (flat_map hex_byte bytes.now) self.new }
+    {
+        let mut rest = bytes;
+        while !rest.is_empty() {
+            let (chunk, others) = rest.split_at(rest.len().min(HEX_CHUNK));
+            self.put_hex_chunk(chunk);
+            rest = others;
+        }
+    }
+
+    /// Writes the letter of a value's kind, a space, and the value.
+    pub fn put_value(&mut self, value: Scalar<'_>)
+        ensures { Writes T.written T.has_failed self.old (value_text (scalar_data value.entry)) self.new }
+    {
+        match value {
+            Scalar::U(number) => {
+                self.put(b"u ");
+                self.put_unsigned(number);
+            }
+            Scalar::I(number) => {
+                self.put(b"i ");
+                self.put_signed(number);
+            }
+            Scalar::Dec { exponent, mantissa } => {
+                self.put(b"d ");
+                self.put_signed(mantissa);
+                self.put(b"e");
+                self.put_signed(i64::from(exponent));
+            }
+            Scalar::Ascii(text) => {
+                self.put(b"a ");
+                self.put_quoted(text);
+            }
+            Scalar::Unicode(text) => {
+                self.put(b"s ");
+                self.put_quoted(text);
+            }
+            Scalar::Bytes(bytes) => {
+                self.put(b"b ");
+                self.put_hex(bytes);
+            }
+        }
+    }
+
+    /// Whether all was written, or the first failure.
+    pub fn finish(self) -> Result<(), Failed>
+        ensures outcome { result ≡ outcome_of self.entry }
+        ensures left { self.exit.0.now ≡ self.entry.target.now }
+    {
+        let LineWriter { target: _, outcome } = self;
+        outcome
+    }
+}

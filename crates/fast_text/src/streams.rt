@@ -1,0 +1,348 @@
+//! Readers and writers whose bytes a contract can speak of, and the readers and writers of std.
+
+ghost use Rattle.std.specs.Prelude.{◌≡◌, ℕ, ◌≤◌, ◌<◌, List, [], ◌++◌, Bool, false, IsTrue, take, length, Option, Some, None, option_map, IfOk, IfSome, OnOk, OnErr};
+ghost use Rattle.fast_text.specs.Streams.{Appends, AppendsFront};
+
+use std::io::{Read, Write};
+
+/// A read or a write failed.
+#[derive(Clone, Copy, Debug, PartialEq, Eq)]
+pub struct Failed;
+
+/// Gives bytes.
+pub trait Source {
+    // What reads will give from here on, where it is known.
+    ghost left: { Self → Option (List ℕ) };
+
+    ghost has_failed: { Self → Bool };
+
+    /// Reads into the front of a buffer and answers how many bytes it read. 0 bytes into a buffer that is not empty are the
+    /// end. A read that fails has given nothing.
+    fn read(&mut self, buf: &mut [u8]) -> Result<usize, Failed>
+        ensures count { IfOk result (λ n. n ≤ length buf.new) }
+        ensures bytes { IfOk result (λ n. left self.old ≡ option_map (λ xs. take n buf.new ++ xs) (left self.new)) }
+        ensures end { IfOk result (λ n. n ≡ 0 → 0 < length buf.new → IfSome (left self.old) (λ xs. xs ≡ [])) }
+        ensures kept { OnErr result (left self.new ≡ left self.old) }
+        ensures fails { OnErr result (IsTrue (has_failed self.new)) }
+        ensures stays { OnOk result (has_failed self.new ≡ has_failed self.old) };
+
+    /// Whether a read has failed.
+    fn failed(&self) -> bool
+        ensures { result ≡ has_failed self.now };
+}
+
+/// Takes bytes.
+pub trait Target {
+    // What was written so far, where it is known.
+    ghost written: { Self → Option (List ℕ) };
+
+    ghost has_failed: { Self → Bool };
+
+    /// Writes a front of a piece and answers how many bytes it wrote: at least one of a piece that is not empty. A write
+    /// that fails has written nothing.
+    fn write(&mut self, piece: &[u8]) -> Result<usize, Failed>
+        ensures count { IfOk result (λ n. n ≤ length piece.now) }
+        ensures some { IfOk result (λ n. 0 < length piece.now → 0 < n) }
+        ensures bytes { IfOk result (λ n. Appends (written self.old) (written self.new) (take n piece.now)) }
+        ensures kept { OnErr result (written self.new ≡ written self.old) }
+        ensures fails { OnErr result (IsTrue (has_failed self.new)) }
+        ensures stays { OnOk result (has_failed self.new ≡ has_failed self.old) };
+
+    /// Whether a write has failed.
+    fn failed(&self) -> bool
+        ensures { result ≡ has_failed self.now };
+
+    /// Writes a whole piece, or fails when a front of it is written.
+    final fn write_all(&mut self, piece: &[u8]) -> Result<(), Failed>
+    where
+        Self: Sized,
+        ensures bytes { OnOk result (Appends (written self.old) (written self.new) piece.now) }
+        ensures part { OnErr result (AppendsFront (written self.old) (written self.new) piece.now) }
+        ensures fails { OnErr result (IsTrue (has_failed self.new)) }
+        ensures stays { OnOk result (has_failed self.new ≡ has_failed self.old) }
+    {
+        let mut rest = piece;
+        while !rest.is_empty() {
+            let count = self.write(rest)?;
+            rest = &rest[count..];
+        }
+        Ok(())
+    }
+}
+
+/// Reads the bytes of a slice, and never fails.
+#[derive(Debug, Drop)]
+pub struct FromBytes<'a> {
+    rest: &'a [u8],
+}
+
+impl<'a> FromBytes<'a> {
+    /// A reader of these bytes.
+    pub fn new(bytes: &'a [u8]) -> FromBytes<'a>
+        ensures { ⟦<FromBytes<'a> as Source>⟧.left result ≡ Some bytes.entry.now }
+    {
+        FromBytes { rest: bytes }
+    }
+}
+
+impl Source for FromBytes<'_> {
+    ghost left = { λ s. Some s.rest.now };
+
+    ghost has_failed = { λ _. false };
+
+    fn read(&mut self, buf: &mut [u8]) -> Result<usize, Failed> {
+        let count = self.rest.len().min(buf.len());
+        let (front, rest) = self.rest.split_at(count);
+        buf[..count].copy_from_slice(front);
+        self.rest = rest;
+        Ok(count)
+    }
+
+    fn failed(&self) -> bool {
+        false
+    }
+}
+
+/// Writes into a slice that is lent, and fails where the slice is full.
+#[derive(Debug, Drop)]
+pub struct ToBytes<'a> {
+    cells: &'a mut [u8],
+    len: usize,
+    failed: bool,
+    ghost within: { len ≤ length cells.now },
+    ghost full_where_failed: { IsTrue failed → length cells.now ≤ len },
+}
+
+impl<'a> ToBytes<'a> {
+    ghost use Rattle.fast_text.specs.ToBytes.{room_of};
+
+    /// A writer that has written nothing.
+    pub fn new(cells: &'a mut [u8]) -> ToBytes<'a>
+        ensures empty { ⟦<ToBytes<'a> as Target>⟧.written result ≡ Some [] }
+        ensures room { room_of result ≡ length cells.old }
+        ensures good { ⟦<ToBytes<'a> as Target>⟧.has_failed result ≡ false }
+    {
+        ToBytes {
+            cells,
+            len: 0,
+            failed: false,
+        }
+    }
+
+    /// What was written.
+    pub fn bytes(&self) -> &[u8]
+        ensures { ⟦<ToBytes<'a> as Target>⟧.written self.now ≡ Some result.now }
+    {
+        &self.cells[..self.len]
+    }
+
+    /// How many bytes there is room for.
+    pub fn room(&self) -> usize
+        ensures room { result ≡ room_of self.now }
+        ensures full_where_failed { IsTrue (⟦<ToBytes<'a> as Target>⟧.has_failed self.now) → result ≡ 0 }
+    {
+        self.cells.len() - self.len
+    }
+}
+
+impl Target for ToBytes<'_> {
+    ghost written = { λ s. Some (take s.len s.cells.now) };
+
+    ghost has_failed = { λ s. s.failed };
+
+    fn write(&mut self, piece: &[u8]) -> Result<usize, Failed> {
+        let room = self.room();
+        if room == 0 && !piece.is_empty() {
+            self.failed = true;
+            return Err(Failed);
+        }
+        let count = piece.len().min(room);
+        self.cells[self.len..self.len + count].copy_from_slice(&piece[..count]);
+        self.len += count;
+        Ok(count)
+    }
+
+    fn failed(&self) -> bool {
+        self.failed
+    }
+}
+
+/// A reader or a writer of std, and whether a call of it has failed. What it holds is not known.
+#[derive(Debug, Drop)]
+pub struct Watched<T> {
+    inner: T,
+    broken: bool,
+}
+
+impl<T> Watched<T> {
+    ghost use Rattle.fast_text.specs.Watched.{has_call_failed};
+
+    /// The reader or writer, with no call yet.
+    pub fn new(inner: T) -> Watched<T>
+        ensures { has_call_failed result ≡ false }
+    {
+        Watched {
+            inner,
+            broken: false,
+        }
+    }
+}
+
+impl<R: Read> Source for Watched<R> {
+    ghost left = { λ _. None };
+
+    ghost has_failed = { λ s. s.broken };
+
+    fn read(&mut self, buf: &mut [u8]) -> Result<usize, Failed> {
+        match self.inner.read(buf) {
+            Ok(count) => Ok(count),
+            Err(_) => {
+                self.broken = true;
+                Err(Failed)
+            }
+        }
+    }
+
+    fn failed(&self) -> bool {
+        self.broken
+    }
+}
+
+impl<W: Write> Target for Watched<W> {
+    ghost written = { λ _. None };
+
+    ghost has_failed = { λ s. s.broken };
+
+    fn write(&mut self, piece: &[u8]) -> Result<usize, Failed> {
+        match self.inner.write(piece) {
+            Ok(count) if count > 0 || piece.is_empty() => Ok(count),
+            _ => {
+                self.broken = true;
+                Err(Failed)
+            }
+        }
+    }
+
+    fn failed(&self) -> bool {
+        self.broken
+    }
+}
+
+#[cfg(test)]
+mod tests {
+    use super::*;
+    use std::io;
+    use std::io::ErrorKind;
+    use std::test::Fail;
+
+    /// Reads and writes one byte a call, and fails at a call.
+    #[derive(Drop)]
+    struct OneByOne<'a> {
+        cells: &'a mut [u8],
+        at: usize,
+        calls: usize,
+    }
+
+    impl OneByOne<'_> {
+        fn call(&mut self) -> io::Result<usize> {
+            if self.calls == 0 {
+                return Err(io::Error::from(ErrorKind::Other));
+            }
+            self.calls -= 1;
+            if self.at < self.cells.len() {
+                self.at += 1;
+                Ok(1)
+            } else {
+                Ok(0)
+            }
+        }
+    }
+
+    impl Read for OneByOne<'_> {
+        fn read(&mut self, buf: &mut [u8]) -> io::Result<usize> {
+            let from = self.at;
+            let count = self.call()?;
+            if count == 1 && !buf.is_empty() && from < self.cells.len() {
+                buf[0] = self.cells[from];
+                return Ok(1);
+            }
+            Ok(0)
+        }
+    }
+
+    impl Write for OneByOne<'_> {
+        fn write(&mut self, buf: &[u8]) -> io::Result<usize> {
+            let to = self.at;
+            let count = self.call()?;
+            if count == 1 && !buf.is_empty() && to < self.cells.len() {
+                self.cells[to] = buf[0];
+                return Ok(1);
+            }
+            Ok(0)
+        }
+
+        fn flush(&mut self) -> io::Result<()> {
+            Ok(())
+        }
+    }
+
+    #[test]
+    fn a_slice_is_read_to_its_end(rt: HostRuntime) {
+        let mut source = FromBytes::new(b"abcde");
+        let mut buf = [0; 3];
+        assert_eq!(rt; source.read(&mut buf), Ok(3));
+        assert_eq!(rt; buf, *b"abc");
+        assert_eq!(rt; source.read(&mut buf), Ok(2));
+        assert_eq!(rt; buf, *b"dec");
+        assert_eq!(rt; source.read(&mut buf), Ok(0));
+        assert!(rt; !source.failed());
+    }
+
+    #[test]
+    fn a_full_slice_fails(rt: HostRuntime) {
+        let mut cells = [0; 4];
+        let mut target = ToBytes::new(&mut cells);
+        assert_eq!(rt; target.write_all(b"abc"), Ok(()));
+        assert_eq!(rt; target.room(), 1);
+        assert!(rt; !target.failed());
+        assert_eq!(rt; target.write_all(b"de"), Err(Failed));
+        assert!(rt; target.failed());
+        assert_eq!(rt; target.bytes(), b"abcd".as_slice());
+    }
+
+    #[test]
+    fn a_reader_of_std_fails_where_a_call_does(rt: HostRuntime) {
+        let mut cells = *b"ab";
+        let mut source = Watched::new(OneByOne {
+            cells: &mut cells,
+            at: 0,
+            calls: 3,
+        });
+        let mut buf = [0; 8];
+        assert_eq!(rt; source.read(&mut buf), Ok(1));
+        assert_eq!(rt; source.read(&mut buf), Ok(1));
+        assert_eq!(rt; buf[0], b'b');
+        assert_eq!(rt; source.read(&mut buf), Ok(0));
+        assert!(rt; !Source::failed(&source));
+        assert_eq!(rt; source.read(&mut buf), Err(Failed));
+        assert!(rt; Source::failed(&source));
+    }
+
+    #[test]
+    fn a_writer_of_std_fails_where_a_call_does_or_writes_nothing(rt: HostRuntime) {
+        for calls in [2, 9] {
+            let mut cells = [0; 3];
+            let mut target = Watched::new(OneByOne {
+                cells: &mut cells,
+                at: 0,
+                calls,
+            });
+            assert_eq!(rt; target.write_all(b"ab"), Ok(()));
+            assert!(rt; !Target::failed(&target));
+            assert_eq!(rt; target.write_all(b"cd"), Err(Failed));
+            assert!(rt; Target::failed(&target));
+            let Watched { inner, broken: _ } = target;
+            assert_eq!(rt; inner.at, if calls == 2 { 2 } else { 3 });
+        }
+    }
+}
