@@ -1,6 +1,8 @@
 -- A stream by computing what the readers say of literal bytes.
 use Rattle.std.proofs.Common.{refl, arith}
 use Rattle.std.specs.Prelude.{◌≡◌, ℕ, ◌<◌, ◌≤◌, Bool, true, false, if◌then◌else◌, nat_le, List, [], ◌∷◌}
+use Rattle.std.specs.Str.{is_utf8, chars}
+use Rattle.std.specs.Char.{encode_utf8}
 use Rattle.std.proofs.lemmas.Bool.{leb-true}
 use Rattle.std.proofs.lemmas.List.Elements.{All-cons, All-nil}
 use Rattle.fast_value.specs.declared.settings.Limits.{Limits}
@@ -8,7 +10,10 @@ use Rattle.fast_template.specs.Tree.{Tree}
 use Rattle.fast_decoder.specs.Events.{EventData}
 use Rattle.fast_decoder.specs.Streams.{End, Stream}
 use Rattle.fast_decoder.specs.Readers.{AreBytes}
-use Rattle.fast_decoder.specs.Running.{reading, end_of}
+use Rattle.fast_decoder.specs.Running.{reading, end_of, message_begun}
+use Rattle.fast_decoder.specs.Fields.{field_term}
+use Rattle.fast_decoder.specs.Continuations.{message_then, message_of_then, body_then}
+use Rattle.fast_decoder.specs.GrammarReaders.{judged, judged_map, integer_reader, presence_map_reader, ascii_text_reader}
 use Rattle.fast_decoder.proofs.Reading.{reading-sound}
 
 -- all are below 256, by computation
@@ -27,3 +32,8 @@ small (b ∷ w) h = by (nat_le b 255) refl h (small w)
 -- the events and the end that the readers come to
 pub answered : (t : Tree) (l : Limits) (w : List ℕ) {es : List EventData} {e : End} → are_small w ≡ true → (reading t l w).0 ≡ es → end_of (reading t l w).1 ≡ e → Stream t l w es e
 answered t l w h i j = rw (← i, ← j) (reading-sound t l w (small w h))
+
+-- On an `unfolding` line this name lets the readers compute.
+unfoldable pub computing : Unit {0}
+unfolding message_begun message_then message_of_then body_then field_term integer_reader ascii_text_reader presence_map_reader judged judged_map is_utf8 chars encode_utf8
+computing = tt

@@ -4,3 +4,15 @@ pub mod Overlong
 pub mod Bits
 pub mod Spare
 pub mod Stopping
+pub mod Judging
+pub mod Packing
+pub mod FirstStop
+pub mod ShortEntities
+pub mod Signs
+pub mod SignExtension
+pub mod Endless
+pub mod Writing
+pub mod Building
+pub mod Finishing
+pub mod Spellings
+pub mod Narrow

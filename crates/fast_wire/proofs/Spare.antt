@@ -11,7 +11,7 @@ last_behind x w l =
     ap (λ (n : ℕ). get_or (x ∷ w) n 0) e
 
 -- two bytes or more, of which the last is told apart
-last_split : (w : List ℕ) → 1 < length w → (front : List ℕ) × (byte : ℕ) × (w ≡ front ++ byte ∷ get_or w (length w - 1) 0 ∷ [])
+pub last_split : (w : List ℕ) → 1 < length w → (front : List ℕ) × (byte : ℕ) × (w ≡ front ++ byte ∷ get_or w (length w - 1) 0 ∷ [])
 last_split [] l = absurd (omega arith)
 last_split (x ∷ []) l = absurd (omega arith)
 last_split (x ∷ y ∷ []) l = ([], x, refl)
@@ -19,7 +19,7 @@ last_split (x ∷ y ∷ z ∷ w) l =
     let s = last_split (y ∷ z ∷ w) (omega arith) in
     (x ∷ s.0, s.1, ap (λ r. x ∷ r) s.2 ∙ ap (λ (n : ℕ). x ∷ s.0 ++ s.1 ∷ n ∷ []) (sym (last_behind x (y ∷ z ∷ w) (omega arith))))
 
-last_of : (front : List ℕ) (byte last : ℕ) → get_or (front ++ byte ∷ last ∷ []) (length (front ++ byte ∷ last ∷ []) - 1) 0 ≡ last
+pub last_of : (front : List ℕ) (byte last : ℕ) → get_or (front ++ byte ∷ last ∷ []) (length (front ++ byte ∷ last ∷ []) - 1) 0 ≡ last
 last_of [] byte last = refl
 last_of (x ∷ front) byte last = last_behind x (front ++ byte ∷ last ∷ []) (omega (arith, length-append front (byte ∷ last ∷ []))) ∙ last_of front byte last
 

@@ -1,8 +1,12 @@
-//! Integers of whole entities.
+//! Integers of whole entities: FAST 1.1, Transfer Encoding.
+//!
+//! A read answers in one of three ways, of which exactly one holds: the integer, or NULL where it may be; `R6`
+//! where the entity is overlong in strict mode; else `D2`, where the integer lies outside its range. In lenient
+//! mode an overlong entity stands for its integer, and an overlong zero for NULL where that may be.
 
-ghost use Rattle.std.specs.Prelude.{◌≡◌, ℕ, ◌<◌, ◌≤◌, ◌^◌, ◌*◌, ◌↔◌, ◌%◌, false, IsTrue, IfOk, Some, Err, pos, length, slice_index};
-ghost use Rattle.fast_wire.specs.Entities.{IsEntity, number, IsOverlong};
-ghost use Rattle.fast_wire.specs.Integers.{value, IsInteger, SpellsInt, unsigned_up_to};
+ghost use Rattle.std.specs.Prelude.{◌≡◌, ◌≢◌, ◌<◌, ◌≤◌, ◌^◌, ◌*◌, ◌↔◌, ◌∷◌, [], true, false, IsTrue, if◌then◌else◌, IfOk, Some, Err, pos, option_map, length};
+ghost use Rattle.fast_wire.specs.Entities.{IsEntity, number, has_sign, signed, IsOverlong};
+ghost use Rattle.fast_wire.specs.Integers.{value, Means, IsWithin, IsInteger, SpellsInt, IsOutside, unsigned_up_to, signed_between};
 
 /// Why an entity is no integer of its type.
 #[derive(Clone, Copy, Debug, PartialEq, Eq)]
@@ -13,11 +17,167 @@ pub enum WireFault {
     D2,
 }
 
-/// The number of an entity.
+/// The mandatory integer of an entity of at most ten bytes, from 0 to `top`.
+///
+/// `R6` if the entity is overlong and the mode strict, else `D2` if the integer is over `top`.
+pub fn read_unsigned(w: &[u8], strict: bool, top: u64) -> Result<u64, WireFault>
+    requires entity { IsEntity w.now }
+    requires short { length w.now ≤ 10 }
+    ensures value { IfOk result (λ n. SpellsInt strict (unsigned_up_to top) false (Some (pos n)) w.now) }
+    ensures overlong { (result ≡ Err WireFault.R6) ↔ (IsTrue strict × IsOverlong (value (unsigned_up_to top)) w.now) }
+    ensures outside { result ≡ Err WireFault.D2 → IsInteger strict (unsigned_up_to top) w.now × (top < number w.now) }
+{
+    judge_unsigned(w, number_of(w), strict, top)
+}
+
+/// The nullable integer of an entity of at most ten bytes, from 0 to `top`: `None` is NULL.
+///
+/// `R6` if the entity is overlong and the mode strict, else `D2` if the integer is over `top`.
+pub fn read_nullable_unsigned(w: &[u8], strict: bool, top: u64) -> Result<Option<u64>, WireFault>
+    requires entity { IsEntity w.now }
+    requires short { length w.now ≤ 10 }
+    ensures value { IfOk result (λ x. SpellsInt strict (unsigned_up_to top) true (option_map pos x) w.now) }
+    ensures overlong { (result ≡ Err WireFault.R6) ↔ (IsTrue strict × IsOverlong (value (unsigned_up_to top)) w.now) }
+    ensures outside { result ≡ Err WireFault.D2 → IsOutside strict (unsigned_up_to top) true w.now }
+{
+    judge_nullable_unsigned(w, number_of(w).checked_sub(1), strict, top)
+}
+
+/// The mandatory integer of an entity of at most ten bytes in two's complement, from `low` to `top`.
+///
+/// `R6` if the entity is overlong and the mode strict, else `D2` if the integer is outside.
+pub fn read_signed(w: &[u8], strict: bool, low: i128, top: i128) -> Result<i128, WireFault>
+    requires entity { IsEntity w.now }
+    requires short { length w.now ≤ 10 }
+    ensures value { IfOk result (λ x. SpellsInt strict (signed_between low top) false (Some x) w.now) }
+    ensures overlong { (result ≡ Err WireFault.R6) ↔ (IsTrue strict × IsOverlong (value (signed_between low top)) w.now) }
+    ensures outside { result ≡ Err WireFault.D2 → IsOutside strict (signed_between low top) false w.now }
+{
+    judge_signed(w, signed_of(w), strict, low, top)
+}
+
+/// The nullable integer of an entity of at most ten bytes in two's complement, from `low` to `top`: `None` is NULL.
+///
+/// `R6` if the entity is overlong and the mode strict, else `D2` if the integer is outside.
+pub fn read_nullable_signed(
+    w: &[u8],
+    strict: bool,
+    low: i128,
+    top: i128,
+) -> Result<Option<i128>, WireFault>
+    requires entity { IsEntity w.now }
+    requires short { length w.now ≤ 10 }
+    ensures value { IfOk result (λ x. SpellsInt strict (signed_between low top) true x w.now) }
+    ensures overlong { (result ≡ Err WireFault.R6) ↔ (IsTrue strict × IsOverlong (value (signed_between low top)) w.now) }
+    ensures outside { result ≡ Err WireFault.D2 → IsOutside strict (signed_between low top) true w.now }
+{
+    judge_nullable_signed(w, lowered(signed_of(w)), strict, low, top)
+}
+
+/// What an entity that stands for `n` is as a mandatory unsigned integer.
+#[inline]
+pub(crate) fn judge_unsigned(w: &[u8], n: u128, strict: bool, top: u64) -> Result<u64, WireFault>
+    requires entity { IsEntity w.now }
+    requires short { length w.now ≤ 10 }
+    requires number { n ≡ number w.now }
+    ensures value { IfOk result (λ x. SpellsInt strict (unsigned_up_to top) false (Some (pos x)) w.now) }
+    ensures overlong { (result ≡ Err WireFault.R6) ↔ (IsTrue strict × IsOverlong (value (unsigned_up_to top)) w.now) }
+    ensures outside { result ≡ Err WireFault.D2 → IsInteger strict (unsigned_up_to top) w.now × (top < number w.now) }
+{
+    if is_refused_unsigned(w, strict) {
+        return Err(WireFault::R6);
+    }
+    if n > u128::from(top) {
+        return Err(WireFault::D2);
+    }
+    Ok(n as u64)
+}
+
+/// What an entity is as a nullable unsigned integer, where `x` is what it means.
+#[inline]
+pub(crate) fn judge_nullable_unsigned(
+    w: &[u8],
+    x: Option<u128>,
+    strict: bool,
+    top: u64,
+) -> Result<Option<u64>, WireFault>
+    requires entity { IsEntity w.now }
+    requires short { length w.now ≤ 10 }
+    requires meaning { Means true (pos (number w.now)) (option_map pos x) }
+    ensures value { IfOk result (λ x. SpellsInt strict (unsigned_up_to top) true (option_map pos x) w.now) }
+    ensures overlong { (result ≡ Err WireFault.R6) ↔ (IsTrue strict × IsOverlong (value (unsigned_up_to top)) w.now) }
+    ensures outside { result ≡ Err WireFault.D2 → IsOutside strict (unsigned_up_to top) true w.now }
+{
+    if is_refused_unsigned(w, strict) {
+        return Err(WireFault::R6);
+    }
+    let Some(x) = x else {
+        return Ok(None);
+    };
+    if x > u128::from(top) {
+        return Err(WireFault::D2);
+    }
+    Ok(Some(x as u64))
+}
+
+/// What an entity that stands for `n` is as a mandatory signed integer.
+#[inline]
+pub(crate) fn judge_signed(
+    w: &[u8],
+    n: i128,
+    strict: bool,
+    low: i128,
+    top: i128,
+) -> Result<i128, WireFault>
+    requires entity { IsEntity w.now }
+    requires short { length w.now ≤ 10 }
+    requires number { n ≡ signed w.now }
+    ensures value { IfOk result (λ x. SpellsInt strict (signed_between low top) false (Some x) w.now) }
+    ensures overlong { (result ≡ Err WireFault.R6) ↔ (IsTrue strict × IsOverlong (value (signed_between low top)) w.now) }
+    ensures outside { result ≡ Err WireFault.D2 → IsOutside strict (signed_between low top) false w.now }
+{
+    if is_refused_signed(w, strict) {
+        return Err(WireFault::R6);
+    }
+    if !is_within(n, low, top) {
+        return Err(WireFault::D2);
+    }
+    Ok(n)
+}
+
+/// What an entity is as a nullable signed integer, where `x` is what it means.
+#[inline]
+pub(crate) fn judge_nullable_signed(
+    w: &[u8],
+    x: Option<i128>,
+    strict: bool,
+    low: i128,
+    top: i128,
+) -> Result<Option<i128>, WireFault>
+    requires entity { IsEntity w.now }
+    requires short { length w.now ≤ 10 }
+    requires meaning { Means true (signed w.now) x }
+    ensures value { IfOk result (λ x. SpellsInt strict (signed_between low top) true x w.now) }
+    ensures overlong { (result ≡ Err WireFault.R6) ↔ (IsTrue strict × IsOverlong (value (signed_between low top)) w.now) }
+    ensures outside { result ≡ Err WireFault.D2 → IsOutside strict (signed_between low top) true w.now }
+{
+    if is_refused_signed(w, strict) {
+        return Err(WireFault::R6);
+    }
+    let Some(x) = x else {
+        return Ok(None);
+    };
+    if !is_within(x, low, top) {
+        return Err(WireFault::D2);
+    }
+    Ok(Some(x))
+}
+
+/// The lower seven bits of each byte as one number.
 fn number_of(w: &[u8]) -> u128
     requires { length w.now ≤ 10 }
     ensures value { result ≡ number w.now }
-    ensures small { result < 2 ^ 70 }
+    ensures small { result < 2 ^ (7 * length w.now) }
 {
     let mut sum: u128 = 0;
     for byte in w {
@@ -26,31 +186,68 @@ fn number_of(w: &[u8]) -> u128
     sum
 }
 
-/// Whether an unsigned integer would be the same without its first byte.
-#[inline]
-fn is_unsigned_overlong(w: &[u8]) -> bool
-    requires { IsEntity w.now }
-    ensures { IsTrue result ↔ IsOverlong (value (unsigned_up_to 0)) w.now }
-{
-    w.len() > 1 && w[0] & 0x7f == 0
-}
-
-/// The integer of a whole entity, mandatory, from 0 to `top`: FAST 1.1, Transfer Encoding.
-///
-/// In strict mode an overlong entity is `R6`; a number over `top` is `D2`.
-pub fn read_unsigned(w: &[u8], strict: bool, top: u64) -> Result<u64, WireFault>
+/// The same in two's complement.
+fn signed_of(w: &[u8]) -> i128
     requires entity { IsEntity w.now }
     requires short { length w.now ≤ 10 }
-    ensures value { IfOk result (λ n. SpellsInt strict (unsigned_up_to top) false (Some (pos n)) w.now) }
-    ensures overlong { (result ≡ Err WireFault.R6) ↔ (IsTrue strict × IsOverlong (value (unsigned_up_to top)) w.now) }
-    ensures outside { result ≡ Err WireFault.D2 → IsInteger strict (unsigned_up_to top) w.now × (top < number w.now) }
+    ensures { result ≡ signed w.now }
 {
-    if strict && is_unsigned_overlong(w) {
-        return Err(WireFault::R6);
+    let sum = number_of(w) as i128;
+    if w[0] & 0x40 != 0 {
+        sum - (1i128 << (7 * w.len()))
+    } else {
+        sum
     }
-    let n = number_of(w);
-    if n > u128::from(top) {
-        return Err(WireFault::D2);
+}
+
+/// Whether an unsigned integer has a byte too many, in strict mode: a zero in front.
+#[inline]
+fn is_refused_unsigned(w: &[u8], strict: bool) -> bool
+    requires { IsEntity w.now }
+    ensures { IsTrue result ↔ (IsTrue strict × IsOverlong (λ v. pos (number v)) w.now) }
+{
+    if !strict {
+        return false;
     }
-    Ok(n as u64)
+    w.len() > 1 && w[0] == 0
+}
+
+/// Whether a signed integer has a byte too many, in strict mode: seven bits in front that repeat the sign behind them.
+#[inline]
+fn is_refused_signed(w: &[u8], strict: bool) -> bool
+    requires { IsEntity w.now }
+    ensures { IsTrue result ↔ (IsTrue strict × IsOverlong signed w.now) }
+{
+    if !strict {
+        return false;
+    }
+    w.len() > 1 && w[0] == sign_byte(w[1])
+}
+
+/// Seven bits like the sign bit of `byte`.
+#[inline]
+fn sign_byte(byte: u8) -> u8
+    ensures { result ≡ (if has_sign (byte ∷ []) then 127 else 0) }
+{
+    if byte & 0x40 == 0 { 0x00 } else { 0x7f }
+}
+
+/// What the nullable form sends as `n`: `None` is NULL.
+#[inline]
+fn lowered(n: i128) -> Option<i128>
+    ensures { Means true n result }
+{
+    match n {
+        0 => None,
+        1.. => Some(n - 1),
+        _ => Some(n),
+    }
+}
+
+/// Whether an integer lies in a range.
+#[inline]
+fn is_within(x: i128, low: i128, top: i128) -> bool
+    ensures { IsTrue result ↔ IsWithin (signed_between low top) x }
+{
+    low <= x && x <= top
 }

@@ -6,7 +6,7 @@ ghost use Rattle.std.specs.Simd.Lanes.{chunk};
 
 use std::simd::prelude::*;
 
-/// In the 16 bytes from `at`, how many come before the first of at least 128, or 16.
+/// How many of the 16 bytes from `at` come before the first stop bit: 16 if there is none.
 fn stop_in_block(s: &[u8], at: usize) -> u32
     requires { at + 16 ≤ length s.now }
     ensures within { result ≤ 16 }
@@ -15,12 +15,12 @@ fn stop_in_block(s: &[u8], at: usize) -> u32
     ensures exact { result ≡ prefix_len (λ x. not (nat_le 128 x)) (chunk at 16 s.now) }
 {
     let hits = u8x16::from_slice(&s[at..])
-        .simd_ge(u8x16::splat(128))
+        .simd_ge(u8x16::splat(0x80))
         .to_bitmask();
     if hits == 0 { 16 } else { hits.trailing_zeros() }
 }
 
-/// The place of the first byte of at least 128, or none where there is none.
+/// The place of the first stop bit, counted from 0, if there is one.
 pub fn find_stop(bytes: &[u8]) -> Option<usize>
     ensures within { IfSome result (λ i. i < length bytes.now) }
     ensures found { IfSome result (λ i. 128 ≤ slice_index bytes.now i) }
@@ -36,7 +36,7 @@ pub fn find_stop(bytes: &[u8]) -> Option<usize>
         at += 16;
     }
     for i in at..bytes.len() {
-        if bytes[i] >= 128 {
+        if bytes[i] >= 0x80 {
             return Some(i);
         }
     }

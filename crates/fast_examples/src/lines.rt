@@ -1,0 +1,8 @@
+//! Events as lines of text.
+
+ghost use Rattle.fast_examples.specs.Lines.{NestedLines};
+
+/// The lines of the nested message: one for each event, with the number and the name of its node.
+pub fn nested_lines()
+    ensures { NestedLines }
+{}

@@ -1,0 +1,5 @@
+use Rattle.fast_wire.proofs.Narrow.{map_is_narrow}
+use Rattle.fast_wire.proofs.laws.map_is_narrow.Goals as goal
+
+pub returns : goal.returns
+returns c = map_is_narrow

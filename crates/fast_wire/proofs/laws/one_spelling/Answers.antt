@@ -1,0 +1,5 @@
+use Rattle.fast_wire.proofs.Spellings.{one_spelling}
+use Rattle.fast_wire.proofs.laws.one_spelling.Goals as goal
+
+pub returns : goal.returns
+returns c = one_spelling

@@ -1,0 +1,64 @@
+//! Presence maps in the making.
+
+ghost use Rattle.std.specs.Prelude.{◌≡◌, ℕ, ◌<◌, true, false, replicate, slice_set, slice_index_or};
+ghost use Rattle.fast_wire.specs.Maps.{bits, IsMap};
+
+use crate::maps::MAP_LIMIT;
+use arrayvec::ArrayVec;
+use std::marker::Model;
+
+/// The bits of a presence map, none of which is set at first: a contract sees them as a list of 1,022.
+#[derive(Drop)]
+pub struct MapBuilder {
+    /// The bits, seven a byte, most significant first.
+    cells: [u8; MAP_LIMIT],
+    /// How many cells the map takes: at least one, and else up to the last set bit.
+    len: usize,
+}
+
+impl Model for MapBuilder {
+    ghost use Rattle.std.specs.Prelude.{List, Bool};
+    ghost use Rattle.fast_wire.specs.Maps.{bits, IsBuilt};
+
+    ghost Value = { List Bool };
+
+    ghost view = { λ b. bits b.cells };
+
+    ghost invariant = { λ b. IsBuilt b.cells b.len };
+}
+
+impl MapBuilder {
+    /// No bit is set.
+    pub fn new() -> MapBuilder
+        ensures { result ≡ replicate 1022 false }
+    {
+        MapBuilder {
+            cells: [0; MAP_LIMIT],
+            len: 1,
+        }
+    }
+
+    /// Sets the bit at place `i`, counted from 0.
+    pub fn set(&mut self, i: usize)
+        requires { i < 1022 }
+        ensures { self.new ≡ slice_set self.old i true }
+    {
+        let byte = i / 7;
+        self.cells[byte] |= 0x40 >> (i % 7);
+        self.len = self.len.max(byte + 1);
+    }
+
+    /// The shortest map of these bits, of at least one byte.
+    pub fn finish(self) -> ArrayVec<u8, MAP_LIMIT>
+        ensures map { IsMap true result.items }
+        ensures bits { (i : ℕ) → slice_index_or (bits result.items) i false ≡ slice_index_or self i false }
+    {
+        let mut map = ArrayVec::new();
+        let last = self.len - 1;
+        for byte in &self.cells[..last] {
+            map.push(*byte);
+        }
+        map.push(self.cells[last] | 0x80);
+        map
+    }
+}

@@ -1,0 +1,92 @@
+//! Entities of at most eight bytes, taken as one word.
+
+ghost use Rattle.std.specs.Prelude.{◌≡◌, ℕ, ◌<◌, ◌≤◌, true, All, List, IfSome, pos, option_map, length, take};
+ghost use Rattle.fast_wire.specs.Entities.{IsEntity, number, signed};
+ghost use Rattle.fast_wire.specs.Integers.{Means};
+ghost use Rattle.fast_wire.specs.Words.{word_of, IsShortEntity};
+
+/// The stop bits of eight bytes.
+const STOP_BITS: u64 = 0x8080_8080_8080_8080;
+
+/// The number and the length of the first entity, if it is one byte, or ends within eight bytes that are there.
+#[inline]
+pub(crate) fn short_entity(bytes: &[u8]) -> Option<(u64, usize)>
+    ensures { IfSome result (λ e. IsShortEntity e.0 e.1 bytes.now) }
+{
+    match one_byte(bytes) {
+        Some(sum) => Some((sum, 1)),
+        None => eight_bytes(bytes),
+    }
+}
+
+/// The number of the first entity, if it is one byte.
+#[inline]
+pub(crate) fn one_byte(bytes: &[u8]) -> Option<u64>
+    ensures { IfSome result (λ sum. IsShortEntity sum 1 bytes.now) }
+{
+    let byte = *bytes.first()?;
+    if byte < 0x80 {
+        return None;
+    }
+    Some(u64::from(byte & 0x7f))
+}
+
+/// The number and the length of the first entity, if eight bytes are there and it ends among them.
+#[inline]
+pub(crate) fn eight_bytes(bytes: &[u8]) -> Option<(u64, usize)>
+    ensures { IfSome result (λ e. IsShortEntity e.0 e.1 bytes.now) }
+{
+    let chunk = *bytes.first_chunk::<8>()?;
+    let stops = u64::from_le_bytes(chunk) & STOP_BITS;
+    if stops == 0 {
+        return None;
+    }
+    let bits = stops.trailing_zeros() + 1;
+    let word = u64::from_be_bytes(chunk) >> (64 - bits);
+    Some((packed(word), bits as usize / 8))
+}
+
+/// The lower seven bits of each of eight bytes, side by side.
+#[inline]
+fn packed(word: u64) -> u64
+    ensures { (w : List ℕ) → length w ≡ 8 → All (λ byte. byte < 256) w → word ≡ word_of w → result ≡ number w }
+{
+    let sevens = word & 0x7f7f_7f7f_7f7f_7f7f;
+    let pairs = sevens - ((sevens & 0x7f00_7f00_7f00_7f00) >> 1);
+    let fours = pairs - ((pairs & 0x3fff_0000_3fff_0000) >> 2) * 3;
+    fours - (fours >> 32) * 0xf000_0000
+}
+
+/// The number of a short entity in two's complement.
+#[inline]
+pub(crate) fn short_signed(w: &[u8], sum: u64) -> i64
+    requires entity { IsEntity w.now }
+    requires short { length w.now ≤ 8 }
+    requires number { sum ≡ number w.now }
+    ensures { result ≡ signed w.now }
+{
+    let spare = 64 - 7 * w.len();
+    (sum << spare).cast_signed() >> spare
+}
+
+/// What the nullable form of an unsigned integer sends as `n`: `None` is NULL.
+#[inline]
+pub(crate) fn short_lowered(n: u64) -> Option<u128>
+    ensures { Means true (pos n) (option_map pos result) }
+{
+    if n == 0 {
+        return None;
+    }
+    Some(u128::from(n - 1))
+}
+
+/// What the nullable form of a signed integer sends as `n`: `None` is NULL.
+#[inline]
+pub(crate) fn short_signed_lowered(n: i64) -> Option<i128>
+    ensures { Means true n result }
+{
+    if n == 0 {
+        return None;
+    }
+    Some(i128::from(n - i64::from(n > 0)))
+}
