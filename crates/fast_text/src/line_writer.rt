@@ -9,12 +9,22 @@ ghost use Rattle.fast_text.specs.LineWriter.{Begins, Writes, outcome_of};
 use crate::streams::{Failed, Target};
 use fast_value::Scalar;
 use itoa::Buffer;
+use std::fmt;
 
 /// Writes texts to a target, one after the other. It keeps the first failure, and writes nothing after it.
 #[derive(Drop)]
 pub struct LineWriter<'a, T> {
     target: &'a mut T,
     outcome: Result<(), Failed>,
+}
+
+impl<T: Target> fmt::Write for LineWriter<'_, T> {
+    ghost write_str_gives = { Writes T.written T.has_failed };
+
+    fn write_str(&mut self, text: &str) -> fmt::Result {
+        self.put(text.as_bytes());
+        Ok(())
+    }
 }
 
 /// How many bytes are turned into hexadecimal digits at a time.

@@ -1,0 +1,6 @@
+pub mod Characters
+pub mod Unhexing
+pub mod Parts
+pub mod Lined
+pub mod Progressing
+pub mod Showing

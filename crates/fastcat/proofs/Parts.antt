@@ -1,0 +1,14 @@
+-- Lines that are written by a writer of their own.
+use Rattle.std.proofs.Common.{◌≡◌, ℕ, Bool, true, false, List, Option, Result, Ok, Err, refl, ap, sym, ◌∙◌}
+use Rattle.std.specs.Prelude.{is_ok, OnErr}
+use Rattle.fast_text.specs.declared.streams.Failed.{Failed}
+use Rattle.fast_text.specs.declared.line_writer.LineWriter.{LineWriter}
+use Rattle.fast_text.specs.Streams.{AppendsFront}
+use Rattle.fast_text.specs.LineWriter.{Writes}
+use Rattle.fast_text.proofs.Writing.{ended_short}
+
+-- a front was written where the writer has failed
+pub part_written : {T : Type 0} {written : T → Option (List ℕ)} {failed : T → Bool} {s t : LineWriter T} {text : List ℕ} (begun ended : T) (r : Result (Unit {0}) Failed)
+    → s.target.now ≡ begun → ended ≡ t.target.now → is_ok s.outcome ≡ true → r ≡ t.outcome → Writes written failed s text t → OnErr r (AppendsFront (written begun) (written ended) text)
+part_written begun ended (Ok x) begins ends began outcome h = tt
+part_written begun ended (Err e) begins ends began outcome h = rw (← begins, ends) (ended_short h began (ap is_ok (sym outcome))).0
