@@ -147,3 +147,4 @@ pub record IsFresh (m : Machine) : Type 0 where
   pub map_len : m.map_len ≡ 0
   pub entity : m.entity ≡ []
   pub cells : length m.maps.items ≡ map_limit
+  pub turns : m.turns.count ≡ 0

@@ -138,7 +138,8 @@ impl Machine {
 
     /// Begins to count turns.
     pub fn begin_turns(&mut self)
-        ensures { self.new ≡ record self.old { turns = self.new.turns } }
+        ensures same { self.new ≡ record self.old { turns = self.new.turns } }
+        ensures none { self.new.turns.count ≡ 0 }
     {
         self.turns = Turns::none();
     }

@@ -4,4 +4,16 @@ pub mod FlatLists
 pub mod NodeLists
 pub mod FlatTrees
 pub mod Walks
+pub mod NameTests
+pub mod TableKeys
+pub mod FieldLists
+pub mod TemplateLists
+pub mod ReadingPieces
+pub mod ReadingLaws
+pub mod WrittenLaws
+pub mod SetLaws
+pub mod SoundUses
+pub mod SetFaults
+pub mod PlaceLists
+pub mod ReferenceLists
 pub mod FlatLabels

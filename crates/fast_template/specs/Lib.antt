@@ -13,3 +13,12 @@ pub mod Labels
 pub mod Flat
 pub mod NodeData
 pub mod FlatSets
+pub mod Reading
+pub mod WrittenSets
+pub mod Unwritten
+pub mod WrittenReading
+pub mod Sound
+pub mod Faults
+pub mod Places
+pub mod References
+pub mod FivePasses

@@ -1,13 +1,20 @@
 //! Template sets of FAST streams: their text, their checks, and the form that a decoder walks.
 #![tactic(auto)]
 
+mod checks;
 pub mod codes;
+mod documents;
 pub mod flat;
 pub mod instructions;
+mod keys;
 mod names;
 pub mod operators;
+mod passes;
 pub mod queries;
+mod reading;
 pub mod sets;
+mod uses;
+mod written;
 
 pub use codes::{StaticCode, StaticFault};
 pub use flat::FlatTemplate;

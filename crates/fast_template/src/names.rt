@@ -1,6 +1,7 @@
 //! Names of templates, fields, keys and dictionaries.
 
-ghost use Rattle.std.specs.Prelude.{◌↔◌, IsTrue};
+ghost use Rattle.fast_template.specs.Reading.{is_name};
+ghost use Rattle.std.specs.Prelude.{◌≡◌, ◌↔◌, IsTrue};
 ghost use Rattle.fast_template.specs.AsWritten.{IsName, IsNameByte};
 
 /// Whether the byte may stand in a name.
@@ -12,7 +13,8 @@ fn is_name_byte(b: u8) -> bool
 
 /// Whether the text is a name: 1 to 64 letters, digits, underscores, hyphens and points.
 pub(crate) fn is_name(name: &str) -> bool
-    ensures { IsTrue result ↔ IsName name.now }
+    ensures name { IsTrue result ↔ IsName name.now }
+    ensures test { result ≡ is_name name.now }
 {
     for b in name.as_bytes() {
         if !is_name_byte(*b) {

@@ -13,7 +13,7 @@ pub returns-in-Some-clause-carried : goal.returns-in-Some-clause-carried
 returns-in-Some-clause-carried g c = λ w es so.
     let inside : DecoderData = record { set = set_of c.self.inside.templates.now; limits = c.self.inside.limits; machine = c.self.inside.machine; consumed = c.self.inside.consumed; fault = c.self.inside.fault } in
     let view : inside ≡ c.args.self.now = c.self.view_is in
-    let cells : _ = ap (λ (m : Machine). length m.maps.items) c.begin_turns.ensures ∙ c.self.invariant.cells in
+    let cells : _ = ap (λ (m : Machine). length m.maps.items) c.begin_turns.ensures.same ∙ c.self.invariant.cells in
     subst (λ (d : DecoderData). CarriesAt g.S.Sink.takes g.S.Sink.stops d w es c.args.piece.now c.args.sink.now c.in-Some.fault.code c.in-Some.fault.place (record inside { machine = c.begin_turns.new.self }) c.args.sink.now) view
     (carry_failed g.S.Sink.takes g.S.Sink.stops inside c.begin_turns.new.self c.in-Some.fault w es c.args.piece.now c.args.sink.now c.in-Some.is (bytes_of c.args.piece.now c.type_inv.piece) cells (subst (λ (d : DecoderData). So d w es) (sym view) so))
 
@@ -23,7 +23,7 @@ returns-in-Ok-clause-carried g c = λ w es so.
     let view : inside ≡ c.args.self.now = c.self.view_is in
     let m : Machine = c.begin_turns.new.self in
     let m' : Machine = c.take_all-taken.new.self in
-    let same : meaning inside.set inside.limits m ≡ meaning inside.set inside.limits inside.machine = ap (meaning inside.set inside.limits) c.begin_turns.ensures ∙ meaning-turns inside.machine.waiting inside.set inside.limits inside.machine m.turns in
+    let same : meaning inside.set inside.limits m ≡ meaning inside.set inside.limits inside.machine = ap (meaning inside.set inside.limits) c.begin_turns.ensures.same ∙ meaning-turns inside.machine.waiting inside.set inside.limits inside.machine m.turns in
     let all : c.take_all-taken.result.bytes ≡ length c.args.piece.now = c.take_all-taken.ensures.all (subst (λ (r : Result Unit FaultCode). IsOk r) (sym c.in-Ok.is) refl) in
     let ready : IsReady inside.set m' = subst (λ (r : Result Unit FaultCode). OnOk r (IsReady inside.set m')) c.in-Ok.is c.take_all-taken.ensures.ready in
     let fed : Fed g.S.Sink.takes g.S.Sink.stops (tree_in inside.set) inside.limits (stood (meaning inside.set inside.limits m)) (take c.take_all-taken.result.bytes c.args.piece.now) c.args.sink.now (Ok tt) c.take_all-taken.new.sink (stood (meaning inside.set inside.limits m'))
@@ -39,7 +39,7 @@ returns-in-Err-clause-carried g c = λ w es so.
     let view : inside ≡ c.args.self.now = c.self.view_is in
     let m : Machine = c.begin_turns.new.self in
     let m' : Machine = c.take_all-taken.new.self in
-    let same : meaning inside.set inside.limits m ≡ meaning inside.set inside.limits inside.machine = ap (meaning inside.set inside.limits) c.begin_turns.ensures ∙ meaning-turns inside.machine.waiting inside.set inside.limits inside.machine m.turns in
+    let same : meaning inside.set inside.limits m ≡ meaning inside.set inside.limits inside.machine = ap (meaning inside.set inside.limits) c.begin_turns.ensures.same ∙ meaning-turns inside.machine.waiting inside.set inside.limits inside.machine m.turns in
     let k : ℕ = c.take_all-taken.result.bytes in
     let fed : Fed g.S.Sink.takes g.S.Sink.stops (tree_in inside.set) inside.limits (stood (meaning inside.set inside.limits m)) (take k c.args.piece.now) c.args.sink.now (Err c.in-Err.code) c.take_all-taken.new.sink (stood (meaning inside.set inside.limits m'))
     = subst (λ (r : Result Unit FaultCode). Fed g.S.Sink.takes g.S.Sink.stops (tree_in inside.set) inside.limits (stood (meaning inside.set inside.limits m)) (take k c.args.piece.now) c.args.sink.now r c.take_all-taken.new.sink (stood (meaning inside.set inside.limits m'))) c.in-Err.is c.take_all-taken.ensures.fed in

@@ -1,0 +1,9 @@
+pub mod Changes
+pub mod Placing
+pub mod Slotted
+pub mod Blocks
+pub mod Clearing
+pub mod Listed
+pub mod Utf8
+pub mod Fronts
+pub mod Items

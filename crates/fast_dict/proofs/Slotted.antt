@@ -1,0 +1,87 @@
+-- What the entries of a block store hold, entry by entry.
+use Rattle.std.proofs.Common.{◌≡◌, ℕ, ◌-◌, ◌++◌, ◌<◌, ◌≤◌, List, [], ◌∷◌, length, refl, ap, sym, ◌∙◌, arith}
+use Rattle.std.specs.Prelude.{vec_len, IsTrue, take, zero, suc, ◌≢◌, Option, None, slice_index_or, slice_set, replicate}
+use native.Mathlib.Numerals.{sub-one}
+use Rattle.fast_value.specs.Kinds.{ScalarData, U, I, Dec, AsciiText, UnicodeText, ByteVector, text_of}
+use Rattle.fast_dict.specs.Stores.{Terms, IsStorable}
+use Rattle.fast_dict.specs.Dictionary.{PreviousData, undefined, fresh, reset}
+use Rattle.fast_dict.specs.declared.entry.Entry.{Entry}
+use Rattle.fast_dict.specs.declared.entry.Entry.TheVariants.{Undefined}
+use Rattle.fast_dict.specs.Entry.{text_length, with_text}
+use Rattle.fast_dict.specs.Slots.{text_in, entry_data, entries_data, length-entries, slots_dictionary}
+use Rattle.fast_dict.specs.declared.slots.Slots.{Slots}
+
+-- each by its slot
+pub get-entries : (b : List ℕ) (ps : List (Option ℕ)) (es : List Entry) (i : ℕ) → slice_index_or (entries_data b ps es) i undefined ≡ entry_data b (slice_index_or ps i None) (slice_index_or es i Undefined)
+get-entries b [] [] i = refl
+get-entries b (p ∷ ps) [] zero = refl
+get-entries b (p ∷ ps) [] (suc i) = refl
+get-entries b [] (e ∷ es) zero = refl
+get-entries b [] (e ∷ es) (suc i) = get-entries b [] es i
+get-entries b (p ∷ ps) (e ∷ es) zero = refl
+get-entries b (p ∷ ps) (e ∷ es) (suc i) = get-entries b ps es i
+
+-- the block of one store gives each entry what that of the other does
+pub same-entries : (b b' : List ℕ) (ps : List (Option ℕ)) (es : List Entry) → ((j : ℕ) → entry_data b' (slice_index_or ps j None) (slice_index_or es j Undefined) ≡ entry_data b (slice_index_or ps j None) (slice_index_or es j Undefined)) → entries_data b' ps es ≡ entries_data b ps es
+same-entries b b' ps [] same = refl
+same-entries b b' [] (e ∷ es) same = ap (λ x. x ∷ entries_data b' [] es) (same zero) ∙ ap (λ xs. entry_data b None e ∷ xs) (same-entries b b' [] es (λ j. same (suc j)))
+same-entries b b' (p ∷ ps) (e ∷ es) same = ap (λ x. x ∷ entries_data b' ps es) (same zero) ∙ ap (λ xs. entry_data b p e ∷ xs) (same-entries b b' ps es (λ j. same (suc j)))
+
+-- one entry changes, where the other entries keep their texts
+pub set-entries : (b b' : List ℕ) (ps : List (Option ℕ)) (es : List Entry) (i : ℕ) (e : Entry) → ((j : ℕ) → j ≢ i → entry_data b' (slice_index_or ps j None) (slice_index_or es j Undefined) ≡ entry_data b (slice_index_or ps j None) (slice_index_or es j Undefined)) → entries_data b' ps (slice_set es i e) ≡ slice_set (entries_data b ps es) i (entry_data b' (slice_index_or ps i None) e)
+set-entries b b' ps [] i e same = refl
+set-entries b b' [] (x ∷ es) zero e same = ap (λ xs. entry_data b' None e ∷ xs) (same-entries b b' [] es (λ j. same (suc j) (λ h. absurd (omega arith))))
+set-entries b b' (p ∷ ps) (x ∷ es) zero e same = ap (λ xs. entry_data b' p e ∷ xs) (same-entries b b' ps es (λ j. same (suc j) (λ h. absurd (omega arith))))
+set-entries b b' [] (x ∷ es) (suc i) e same = ap (λ y. y ∷ entries_data b' [] (slice_set es i e)) (same zero (λ h. absurd (omega arith))) ∙ ap (λ xs. entry_data b None x ∷ xs) (set-entries b b' [] es i e (λ j n. same (suc j) (λ h. n (omega arith))))
+set-entries b b' (p ∷ ps) (x ∷ es) (suc i) e same = ap (λ y. y ∷ entries_data b' ps (slice_set es i e)) (same zero (λ h. absurd (omega arith))) ∙ ap (λ xs. entry_data b p x ∷ xs) (set-entries b b' ps es i e (λ j n. same (suc j) (λ h. n (omega arith))))
+
+-- entries without a value are undefined
+pub fresh-entries : (b : List ℕ) (ps : List (Option ℕ)) (n : ℕ) → entries_data b ps (replicate n Undefined) ≡ fresh n
+fresh-entries b ps zero = refl
+fresh-entries b [] (suc n) = ap (λ xs. undefined ∷ xs) (fresh-entries b [] n)
+fresh-entries b (p ∷ ps) (suc n) = ap (λ xs. undefined ∷ xs) (fresh-entries b ps n)
+
+-- and have no text
+pub fresh_fits : (n size i : ℕ) → text_length (slice_index_or (replicate n Undefined) i Undefined) ≤ size
+fresh_fits zero size i = omega arith
+fresh_fits (suc n) size zero = omega arith
+fresh_fits (suc n) size (suc i) = fresh_fits n size i
+
+-- an entry that fits in place of another
+pub put_fits : (xs : List Entry) (at : ℕ) (e : Entry) (size : ℕ) → text_length e ≤ size → ((i : ℕ) → text_length (slice_index_or xs i Undefined) ≤ size) → (i : ℕ) → text_length (slice_index_or (slice_set xs at e) i Undefined) ≤ size
+put_fits [] at e size h all i = all i
+put_fits (x ∷ xs) zero e size h all zero = h
+put_fits (x ∷ xs) zero e size h all (suc i) = all (suc i)
+put_fits (x ∷ xs) (suc at) e size h all zero = all zero
+put_fits (x ∷ xs) (suc at) e size h all (suc i) = put_fits xs at e size h (λ j. all (suc j)) i
+
+-- a reset of the others keeps what fits
+pub others_fit : (xs : List Entry) (n size : ℕ) → ((i : ℕ) → text_length (slice_index_or xs i Undefined) ≤ size) → (i : ℕ) → text_length (slice_index_or (take 1 xs ++ replicate n Undefined) i Undefined) ≤ size
+others_fit [] n size all i = fresh_fits n size i
+others_fit (x ∷ xs) n size all zero = all zero
+others_fit (x ∷ xs) n size all (suc i) = fresh_fits n size i
+
+-- all entries but the first
+pub reset-entries : (b : List ℕ) (ps : List (Option ℕ)) (es : List Entry) → entries_data b ps (take 1 es ++ replicate (length es - 1) Undefined) ≡ reset (entries_data b ps es)
+reset-entries b ps [] = refl
+reset-entries b [] (e ∷ es) = rw sub-one (ap (λ xs. entry_data b None e ∷ xs) (fresh-entries b [] (length es) ∙ ap fresh (sym (length-entries b [] es))))
+reset-entries b (p ∷ ps) (e ∷ es) = rw sub-one (ap (λ xs. entry_data b p e ∷ xs) (fresh-entries b ps (length es) ∙ ap fresh (sym (length-entries b ps es))))
+
+-- an entry is put in its place, where the other entries keep their texts
+pub put-entries : (b b' : List ℕ) (ps : List (Option ℕ)) (es : List Entry) (i room : ℕ) (e : Entry) (p : PreviousData) → ((j size : ℕ) → j ≢ i → size ≤ room → text_in b' (slice_index_or ps j None) size ≡ text_in b (slice_index_or ps j None) size) → ((j : ℕ) → text_length (slice_index_or es j Undefined) ≤ room) → entry_data b' (slice_index_or ps i None) e ≡ p → entries_data b' ps (slice_set es i e) ≡ slice_set (entries_data b ps es) i p
+put-entries b b' ps es i room e p others fits h =
+    let same : (j : ℕ) → j ≢ i → entry_data b' (slice_index_or ps j None) (slice_index_or es j Undefined) ≡ entry_data b (slice_index_or ps j None) (slice_index_or es j Undefined) = λ j n. ap (with_text (slice_index_or es j Undefined)) (others j (text_length (slice_index_or es j Undefined)) n (fits j)) in
+    set-entries b b' ps es i e same ∙ ap (slice_set (entries_data b ps es) i) h
+
+-- the number of an entry, among those of the store
+pub place_of_entry : (s : Slots) (i : ℕ) → i < length (slots_dictionary s) → i < vec_len s.entries
+place_of_entry s i h = let e : length (slots_dictionary s) ≡ length s.entries.items = length-entries s.block.items s.places.items s.entries.items in let f = s.entries.ok.0 in omega (arith, h, e, f)
+
+-- a value that can be put at an entry: its text is short, and if there is one the entry takes it
+pub storable : (t : Terms) (i : ℕ) (v : ScalarData) → IsStorable t i v → (length (text_of v) ≤ t.max_text) × (0 < length (text_of v) → IsTrue (t.takes_text i))
+storable t i (U n) h = (omega arith, λ k. absurd (omega arith))
+storable t i (I x) h = (omega arith, λ k. absurd (omega arith))
+storable t i (Dec x m) h = (omega arith, λ k. absurd (omega arith))
+storable t i (AsciiText v) h = (h.0, λ _. h.1)
+storable t i (UnicodeText v) h = (h.0, λ _. h.1)
+storable t i (ByteVector v) h = (h.0, λ _. h.1)

@@ -1,0 +1,103 @@
+//! An entry of a block store.
+
+ghost use Rattle.std.specs.Prelude.{◌≡◌, [], length};
+ghost use Rattle.fast_value.specs.Kinds.{text_of, U, I};
+ghost use Rattle.fast_value.specs.Values.{scalar_data};
+ghost use Rattle.fast_dict.specs.Dictionary.{assigned};
+ghost use Rattle.fast_dict.specs.Entry.{text_length, with_text};
+
+use fast_value::{Kind, Scalar};
+
+/// What an entry holds, but for the bytes of a text, which stand in a slot of their own. A value of the field's own type
+/// has a variant for the type, so that one look at the variant tells undefined, empty, another type and the value.
+#[derive(Clone, Copy, Debug)]
+pub enum Entry {
+    /// Nothing has been kept since the entry was reset.
+    Undefined,
+    /// The field that was kept last was absent.
+    Empty,
+    /// A number under [`Kind::UInt32`].
+    UInt32(u64),
+    /// A number under [`Kind::Int32`].
+    Int32(i64),
+    /// A number under [`Kind::UInt64`].
+    UInt64(u64),
+    /// A number under [`Kind::Int64`].
+    Int64(i64),
+    /// A decimal under [`Kind::Decimal`]: exponent and mantissa.
+    Decimal(i32, i64),
+    /// The length of a text under [`Kind::Ascii`].
+    Ascii(usize),
+    /// The length of a text under [`Kind::Unicode`].
+    Unicode(usize),
+    /// The length of a text under [`Kind::Bytes`].
+    Bytes(usize),
+    /// An unsigned number under a kind of other values.
+    OtherUnsigned(Kind, u64),
+    /// A signed number under a kind of other values.
+    OtherSigned(Kind, i64),
+    /// A decimal under a kind of other values.
+    OtherDecimal(Kind, i32, i64),
+    /// The length of an ASCII text under a kind of other values.
+    OtherAscii(Kind, usize),
+    /// The length of a Unicode text under a kind of other values.
+    OtherUnicode(Kind, usize),
+    /// The length of a byte vector under a kind of other values.
+    OtherBytes(Kind, usize),
+}
+
+impl Entry {
+    /// The entry of a value under a kind, without the bytes of a text.
+    #[inline]
+    pub fn of(kind: Kind, scalar: Scalar<'_>) -> Entry
+        ensures value { with_text result (text_of (scalar_data scalar.entry)) ≡ assigned kind (scalar_data scalar.entry) }
+        ensures size { text_length result ≡ length (text_of (scalar_data scalar.entry)) }
+    {
+        match scalar {
+            Scalar::U(number) => Entry::of_unsigned(kind, number),
+            Scalar::I(number) => Entry::of_signed(kind, number),
+            Scalar::Dec { exponent, mantissa } => match kind {
+                Kind::Decimal => Entry::Decimal(exponent, mantissa),
+                _ => Entry::OtherDecimal(kind, exponent, mantissa),
+            },
+            Scalar::Ascii(text) => match kind {
+                Kind::Ascii => Entry::Ascii(text.len()),
+                _ => Entry::OtherAscii(kind, text.len()),
+            },
+            Scalar::Unicode(text) => match kind {
+                Kind::Unicode => Entry::Unicode(text.len()),
+                _ => Entry::OtherUnicode(kind, text.len()),
+            },
+            Scalar::Bytes(bytes) => match kind {
+                Kind::Bytes => Entry::Bytes(bytes.len()),
+                _ => Entry::OtherBytes(kind, bytes.len()),
+            },
+        }
+    }
+
+    /// The entry of an unsigned number under a kind.
+    #[inline]
+    fn of_unsigned(kind: Kind, number: u64) -> Entry
+        ensures value { with_text result [] ≡ assigned kind (U number) }
+        ensures size { text_length result ≡ 0 }
+    {
+        match kind {
+            Kind::UInt32 => Entry::UInt32(number),
+            Kind::UInt64 => Entry::UInt64(number),
+            _ => Entry::OtherUnsigned(kind, number),
+        }
+    }
+
+    /// The entry of a signed number under a kind.
+    #[inline]
+    fn of_signed(kind: Kind, number: i64) -> Entry
+        ensures value { with_text result [] ≡ assigned kind (I number) }
+        ensures size { text_length result ≡ 0 }
+    {
+        match kind {
+            Kind::Int32 => Entry::Int32(number),
+            Kind::Int64 => Entry::Int64(number),
+            _ => Entry::OtherSigned(kind, number),
+        }
+    }
+}

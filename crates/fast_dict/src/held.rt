@@ -1,0 +1,61 @@
+//! An entry of a dictionary that grows.
+
+ghost use Rattle.std.specs.Prelude.{◌≡◌, IfOk, OnErr};
+ghost use Rattle.fast_value.specs.Values.{scalar_data, value_data};
+ghost use Rattle.fast_dict.specs.Held.{held_data};
+ghost use Rattle.fast_dict.specs.Previous.{previous_data};
+ghost use Rattle.fast_dict.specs.Stores.{IsText};
+
+use crate::previous::Previous;
+use fast_value::{Kind, Scalar, Value};
+use std::alloc::{AllocError, Global};
+
+/// What an entry holds, with a text in memory of its own.
+#[derive(Debug, Drop)]
+pub enum Held {
+    /// Nothing has been kept since the entry was reset.
+    Undefined,
+    /// The field that was kept last was absent.
+    Empty,
+    /// The value that was kept last, and the type of the field that kept it.
+    Assigned(Kind, Value),
+}
+
+impl Held {
+    /// The same, with a text lent.
+    pub fn as_previous(&self) -> Previous<'_>
+        ensures { previous_data result ≡ held_data self.now }
+    {
+        match self {
+            Held::Undefined => Previous::Undefined,
+            Held::Empty => Previous::Empty,
+            Held::Assigned(kind, value) => Previous::Assigned(*kind, value.as_scalar()),
+        }
+    }
+
+    /// The same, with a text in memory of its own.
+    pub fn copy(&self, alloc: Global) -> Result<Held, AllocError>
+        ensures { IfOk result (λ h. held_data h ≡ held_data self.now) }
+    {
+        match self {
+            Held::Undefined => Ok(Held::Undefined),
+            Held::Empty => Ok(Held::Empty),
+            Held::Assigned(kind, value) => {
+                Ok(Held::Assigned(*kind, owned(alloc, value.as_scalar())?))
+            }
+        }
+    }
+}
+
+/// The value, with a text in memory of its own. Only a text wants memory.
+pub fn owned(alloc: Global, scalar: Scalar<'_>) -> Result<Value, AllocError>
+    ensures value { IfOk result (λ v. value_data v ≡ scalar_data scalar.entry) }
+    ensures text { OnErr result (IsText (scalar_data scalar.entry)) }
+{
+    match scalar {
+        Scalar::U(number) => Ok(Value::U(number)),
+        Scalar::I(number) => Ok(Value::I(number)),
+        Scalar::Dec { exponent, mantissa } => Ok(Value::Dec { exponent, mantissa }),
+        Scalar::Ascii(_) | Scalar::Unicode(_) | Scalar::Bytes(_) => Value::copy_of(alloc, scalar),
+    }
+}

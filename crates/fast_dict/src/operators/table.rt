@@ -1,0 +1,142 @@
+//! The operators as one table.
+
+ghost use Rattle.std.specs.Prelude.{◌≡◌, ◌↔◌, true, false};
+ghost use Rattle.fast_value.specs.Kinds.{family};
+ghost use Rattle.fast_value.specs.Values.{scalar_data};
+ghost use Rattle.fast_template.specs.Flat.{field_data};
+ghost use Rattle.fast_dict.specs.Answers.{outcome_answer, scalar_answer};
+ghost use Rattle.fast_dict.specs.Operators.{decide, sent_plain, sent_kept, sent_delta, gives_none, checked_in, unsent};
+ghost use Rattle.fast_dict.specs.Previous.{previous_data};
+ghost use Rattle.fast_dict.specs.Sending.{sent_data, NeedsNoJoin};
+
+use super::Outcome;
+use super::decimals::{exponent_delta, mantissa_delta};
+use super::integers::integer_delta;
+use super::texts::{checked_text, text_of};
+use super::unsent::{copied, fixed, incremented};
+use crate::previous::Previous;
+use fast_template::{FieldInstruction, Operator};
+use fast_value::{Code, Kind, Scalar};
+
+/// What was sent for a field.
+#[derive(Clone, Copy, Debug)]
+pub enum Sent<'a> {
+    /// Nothing, since the presence bit is clear or the value is a constant.
+    Nothing,
+    /// NULL.
+    Null,
+    /// A value. Of a tail, the tail.
+    Value(Scalar<'a>),
+    /// What is added to an integer.
+    IntegerDelta(i128),
+    /// What is added to the exponent and to the mantissa of a decimal.
+    DecimalDelta(i128, i128),
+    /// The subtraction length of a text, and the part that is joined to what it keeps.
+    TextDelta(i128, &'a [u8]),
+}
+
+/// What the field's operator gives under a previous value, a presence bit (true where the instruction uses none) and what
+/// was sent. A text that is joined of two parts wants a buffer: [`subtract`](super::subtract),
+/// [`tail_base`](super::tail_base) and [`joined`](super::joined) answer it in steps.
+///
+/// # Errors
+///
+/// The first of D4, D5, D6, D2, R1 and R2 that stands.
+pub fn decide<'a>(
+    field: &'a FieldInstruction,
+    previous: Previous<'a>,
+    bit: bool,
+    sent: Sent<'a>,
+) -> Result<Outcome<'a>, Code>
+    requires { NeedsNoJoin field.now.operator bit (sent_data sent) }
+    ensures { outcome_answer result
+        ≡ decide (field_data field.now) (previous_data previous.entry) bit (sent_data sent.entry) }
+{
+    match field.operator {
+        Operator::None => received(field, previous, sent),
+        Operator::Constant if bit => Ok(fixed(field, previous)),
+        Operator::Constant => Ok(Outcome::absent(previous)),
+        Operator::Default if bit => received(field, previous, sent),
+        Operator::Default => Ok(fixed(field, previous)),
+        Operator::Copy if bit => replaced(field, sent),
+        Operator::Copy => copied(field, previous),
+        Operator::Increment if bit => replaced(field, sent),
+        Operator::Increment => incremented(field, previous),
+        Operator::Delta => changed(field, previous, sent),
+        Operator::Tail if bit => Ok(Outcome::absent(Previous::Empty)),
+        Operator::Tail => copied(field, previous),
+    }
+}
+
+/// Whether what was sent has to be joined to what is kept of the previous value, so that [`decide`] cannot answer it.
+pub fn needs_join(operator: Operator, bit: bool, sent: Sent<'_>) -> bool
+    ensures { result ≡ false ↔ NeedsNoJoin operator bit (sent_data sent.entry) }
+{
+    match (operator, sent) {
+        (Operator::Delta, Sent::TextDelta(..)) => true,
+        (Operator::Tail, Sent::Value(_)) => bit,
+        _ => false,
+    }
+}
+
+/// What is sent without an operator and under default: the value, or NULL for absence.
+pub fn received<'a>(
+    field: &'a FieldInstruction,
+    previous: Previous<'a>,
+    sent: Sent<'a>,
+) -> Result<Outcome<'a>, Code>
+    ensures { outcome_answer result
+        ≡ sent_plain (field_data field.now) (previous_data previous.entry) (sent_data sent.entry) }
+{
+    match sent {
+        Sent::Value(value) => Ok(Outcome::given(checked(field.kind, value)?, previous)),
+        _ => Ok(Outcome::absent(previous)),
+    }
+}
+
+/// What is sent under copy and increment: the value, which the entry then holds, or NULL, which makes it empty.
+pub fn replaced<'a>(field: &FieldInstruction, sent: Sent<'a>) -> Result<Outcome<'a>, Code>
+    ensures { outcome_answer result ≡ sent_kept (field_data field.now) (sent_data sent.entry) }
+{
+    match sent {
+        Sent::Value(value) => Ok(Outcome::kept(field.kind, checked(field.kind, value)?)),
+        _ => Ok(Outcome::absent(Previous::Empty)),
+    }
+}
+
+/// What is sent under delta for an integer or a decimal: the delta, or NULL, which leaves the entry as it is.
+fn changed<'a>(
+    field: &'a FieldInstruction,
+    previous: Previous<'a>,
+    sent: Sent<'a>,
+) -> Result<Outcome<'a>, Code>
+    requires { NeedsNoJoin Operator.Delta true (sent_data sent) }
+    ensures { outcome_answer result
+        ≡ sent_delta (field_data field.now) (previous_data previous.entry) (sent_data sent.entry) }
+{
+    match sent {
+        Sent::IntegerDelta(delta) => integer_delta(field, previous, delta),
+        Sent::DecimalDelta(exponent, mantissa) => {
+            let exponent = exponent_delta(field, previous, exponent)?;
+            mantissa_delta(field, previous, exponent, mantissa)
+        }
+        Sent::Nothing | Sent::Null | Sent::Value(_) | Sent::TextDelta(..) => {
+            Ok(Outcome::absent(previous))
+        }
+    }
+}
+
+/// A value that is sent, as a value of the kind.
+///
+/// # Errors
+///
+/// R2 if the kind is unicode and the text no UTF-8.
+#[inline]
+pub fn checked(kind: Kind, value: Scalar<'_>) -> Result<Scalar<'_>, Code>
+    ensures { scalar_answer result ≡ checked_in (family kind) kind (scalar_data value.entry) }
+{
+    match kind {
+        Kind::Ascii | Kind::Unicode | Kind::Bytes => checked_text(kind, text_of(value)),
+        Kind::UInt32 | Kind::Int32 | Kind::UInt64 | Kind::Int64 | Kind::Decimal => Ok(value),
+    }
+}

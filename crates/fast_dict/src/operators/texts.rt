@@ -1,0 +1,179 @@
+//! Texts under a delta and a tail.
+//!
+//! Both are answered in steps. What is kept of the base is known before the part that is sent; the caller joins the two
+//! in a buffer of its own, and the last step checks the whole text.
+
+ghost use Rattle.std.specs.Prelude.{◌≡◌, ◌-◌, ◌++◌, ℕ, List, length, ◌≤◌, nat_le, if◌then◌else◌, SomeIff};
+ghost use Rattle.std.specs.Str.{is_utf8};
+ghost use Rattle.fast_value.specs.Kinds.{text_of, value_of_text};
+ghost use Rattle.fast_value.specs.Values.{scalar_data};
+ghost use Rattle.fast_template.specs.Flat.{field_data};
+ghost use Rattle.fast_dict.specs.Answers.{outcome_answer, kept_text, scalar_answer, kept_data, kept_answer};
+ghost use Rattle.fast_dict.specs.Operators.{checked_text, kept_of, kept_length, subtraction_step, tail_base, with_tail};
+ghost use Rattle.fast_dict.specs.Previous.{previous_data};
+
+use super::{Outcome, delta_base, of_kind, start_value};
+use crate::previous::Previous;
+use fast_template::FieldInstruction;
+use fast_value::{Code, Kind, Scalar};
+
+/// What a text's delta keeps of its base, and on which side of it the part goes that is sent.
+#[derive(Clone, Copy, Debug)]
+pub enum Kept<'a> {
+    /// The part goes behind what is kept.
+    AppendTo(&'a [u8]),
+    /// The part goes before what is kept.
+    PrependTo(&'a [u8]),
+}
+
+impl<'a> Kept<'a> {
+    /// What is kept.
+    pub fn text(self) -> &'a [u8]
+        ensures { length result.now ≡ kept_length (kept_data self.entry) }
+    {
+        match self {
+            Kept::AppendTo(text) | Kept::PrependTo(text) => text,
+        }
+    }
+
+    /// The most bytes that the part may have.
+    pub fn room(self, max_text: usize) -> usize
+        ensures { result ≡ max_text - kept_length (kept_data self.entry) }
+    {
+        max_text.saturating_sub(self.text().len())
+    }
+}
+
+/// The size of a text or of a part, if there is room for it.
+///
+/// # Errors
+///
+/// L1 if there is not.
+pub fn sized(size: u32, room: usize) -> Result<usize, Code>
+    ensures { result ≡ (if nat_le size room then Ok size else Err Code.L1) }
+{
+    let size = size as usize;
+    if size <= room {
+        Ok(size)
+    } else {
+        Err(Code::L1)
+    }
+}
+
+/// What a subtraction length keeps of the base. A length of k takes k bytes from the back, one of -k - 1 takes k from the
+/// front.
+///
+/// # Errors
+///
+/// D4 if the previous value is of another type, D6 if it is empty, D7 if the base has fewer bytes than are taken.
+pub fn subtract<'a>(
+    field: &'a FieldInstruction,
+    previous: Previous<'a>,
+    length: i128,
+) -> Result<Kept<'a>, Code>
+    ensures { kept_answer result ≡ subtraction_step (field_data field.now) (previous_data previous.entry) length }
+{
+    let base = delta_base(field, previous)?;
+    kept_of(text_of(base), length)
+}
+
+/// What a subtraction length keeps of a text.
+fn kept_of(base: &[u8], length: i128) -> Result<Kept<'_>, Code>
+    ensures { kept_answer result ≡ kept_of base.now length }
+{
+    if length >= 0 {
+        let taken = at_most(length as u128, base.len()).ok_or(Code::D7)?;
+        return Ok(Kept::AppendTo(&base[..base.len() - taken]));
+    }
+    let taken = at_most((-1 - length) as u128, base.len()).ok_or(Code::D7)?;
+    Ok(Kept::PrependTo(&base[taken..]))
+}
+
+/// A number of bytes to be taken, if there are as many.
+fn at_most(taken: u128, size: usize) -> Option<usize>
+    ensures { SomeIff result (taken ≤ size) taken }
+{
+    if taken <= size as u128 {
+        Some(taken as usize)
+    } else {
+        None
+    }
+}
+
+/// The base of a tail: the previous value, or without one the initial value, or else the empty text.
+///
+/// # Errors
+///
+/// D4 if the previous value is of another type.
+pub fn tail_base<'a>(
+    field: &'a FieldInstruction,
+    previous: Previous<'a>,
+) -> Result<Scalar<'a>, Code>
+    ensures { scalar_answer result ≡ tail_base (field_data field.now) (previous_data previous.entry) }
+{
+    match previous {
+        Previous::Assigned(kind, value) => of_kind(field.kind, kind, value),
+        Previous::Undefined | Previous::Empty => Ok(start_value(field)),
+    }
+}
+
+/// What a tail of so many bytes keeps of its base: all but as many at the end, or nothing under a longer tail. The tail
+/// goes behind it.
+pub fn tail_keeps(base: &[u8], size: usize) -> &[u8]
+    ensures { (part : List ℕ) → length part ≡ size → with_tail base.now part ≡ result.now ++ part }
+{
+    if size <= base.len() {
+        &base[..base.len() - size]
+    } else {
+        &[]
+    }
+}
+
+/// A joined text as a value of a kind of texts.
+///
+/// # Errors
+///
+/// R2 if it is of the kind unicode and no UTF-8.
+pub fn checked_text(kind: Kind, text: &[u8]) -> Result<Scalar<'_>, Code>
+    ensures { scalar_answer result ≡ checked_text kind text.now }
+{
+    match kind {
+        Kind::Unicode => {
+            if is_utf8(text) {
+                Ok(Scalar::Unicode(text))
+            } else {
+                Err(Code::R2)
+            }
+        }
+        Kind::Bytes => Ok(Scalar::Bytes(text)),
+        _ => Ok(Scalar::Ascii(text)),
+    }
+}
+
+/// A joined text as the value of a field under delta or tail, which the entry then holds.
+///
+/// # Errors
+///
+/// R2 if it is of the kind unicode and no UTF-8.
+pub fn joined(kind: Kind, text: &[u8]) -> Result<Outcome<'_>, Code>
+    ensures { outcome_answer result ≡ kept_text kind text.now }
+{
+    Ok(Outcome::kept(kind, checked_text(kind, text)?))
+}
+
+/// Whether a text is UTF-8.
+fn is_utf8(text: &[u8]) -> bool
+    ensures { result ≡ is_utf8 text.now }
+{
+    simdutf8::basic::from_utf8(text).is_ok()
+}
+
+/// The text of a value, empty if it has none.
+pub fn text_of(value: Scalar<'_>) -> &[u8]
+    ensures { result.now ≡ text_of (scalar_data value.entry) }
+{
+    match value {
+        Scalar::U(_) | Scalar::I(_) | Scalar::Dec { .. } => &[],
+        Scalar::Ascii(text) | Scalar::Unicode(text) | Scalar::Bytes(text) => text,
+    }
+}

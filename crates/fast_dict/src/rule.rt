@@ -1,0 +1,80 @@
+//! What an encoder sends for a value.
+
+pub mod common;
+pub mod items;
+
+ghost use Rattle.std.specs.Prelude.{◌≡◌, ◌↔◌, Bool, true, IsTrue, IfSome, IfNone, option_map};
+ghost use Rattle.fast_value.specs.Values.{scalar_data};
+ghost use Rattle.fast_template.specs.Flat.{field_data};
+ghost use Rattle.fast_template.specs.Tree.{uses_bit};
+ghost use Rattle.fast_dict.specs.Operators.{Sent as SentData};
+ghost use Rattle.fast_dict.specs.Previous.{previous_data};
+ghost use Rattle.fast_dict.specs.Rule.{Rule, GoesUnsent};
+ghost use Rattle.fast_dict.specs.Sending.{sent_data};
+
+use crate::operators::{Sent, decide};
+use crate::previous::Previous;
+use common::is_same_value;
+use fast_template::{FieldInstruction, Operator};
+use fast_value::Scalar;
+use items::item_for;
+
+/// What an encoder sends for a field.
+#[derive(Clone, Copy, Debug)]
+pub struct Choice<'a> {
+    /// The presence bit, true where the instruction uses none.
+    pub bit: bool,
+    /// What stands in the stream.
+    pub item: Sent<'a>,
+}
+
+/// What is sent for a value, or for absence, under a previous value: nothing wherever the clear presence bit gives just
+/// that, and else the value, its delta or its tail. `None` where neither will do.
+pub fn choose<'a, 'p>(
+    field: &'p FieldInstruction,
+    previous: Previous<'p>,
+    value: Option<Scalar<'a>>,
+) -> Option<Choice<'a>>
+    ensures some { IfSome result (λ c. Rule (field_data field.now) (previous_data previous.entry)
+        (option_map scalar_data value.entry) c.bit (sent_data c.item)) }
+    ensures none { IfNone result ((bit : Bool) (item : SentData) → ¬ (Rule (field_data field.now)
+        (previous_data previous.entry) (option_map scalar_data value.entry) bit item)) }
+{
+    if goes_unsent(field, previous, value) {
+        return Some(Choice {
+            bit: false,
+            item: Sent::Nothing,
+        });
+    }
+    let item = item_for(field, previous, value)?;
+    Some(Choice { bit: true, item })
+}
+
+/// Whether the clear presence bit gives just this value or absence.
+fn goes_unsent<'p>(
+    field: &'p FieldInstruction,
+    previous: Previous<'p>,
+    value: Option<Scalar<'_>>,
+) -> bool
+    ensures { IsTrue result ↔ GoesUnsent (field_data field.now) (previous_data previous.entry)
+        (option_map scalar_data value.entry) }
+{
+    if !uses_bit(field) {
+        return false;
+    }
+    match decide(field, previous, false, Sent::Nothing) {
+        Ok(outcome) => is_same_value(outcome.value, value),
+        Err(_) => false,
+    }
+}
+
+/// Whether the instruction uses a presence bit.
+pub fn uses_bit(field: &FieldInstruction) -> bool
+    ensures { result ≡ uses_bit (field_data field.now) }
+{
+    match field.operator {
+        Operator::None | Operator::Delta => false,
+        Operator::Constant => field.optional,
+        Operator::Default | Operator::Copy | Operator::Increment | Operator::Tail => true,
+    }
+}

@@ -1,0 +1,65 @@
+//! Comparisons of values and texts.
+
+ghost use Rattle.std.specs.Prelude.{◌≡◌, ◌↔◌, ◌≤◌, length, IsTrue, option_map};
+ghost use Rattle.fast_value.specs.Values.{scalar_data};
+ghost use Rattle.fast_dict.specs.Rule.{common_front, common_back};
+
+use fast_value::Scalar;
+
+/// Whether two values, or absences, are the same: 15e-1 and 150e-2 are not.
+pub fn is_same_value(a: Option<Scalar<'_>>, b: Option<Scalar<'_>>) -> bool
+    ensures { IsTrue result ↔ (option_map scalar_data a.entry ≡ option_map scalar_data b.entry) }
+{
+    match (a, b) {
+        (Some(a), Some(b)) => is_same(a, b),
+        (None, None) => true,
+        _ => false,
+    }
+}
+
+/// Whether two values are the same.
+pub fn is_same(a: Scalar<'_>, b: Scalar<'_>) -> bool
+    ensures { IsTrue result ↔ (scalar_data a.entry ≡ scalar_data b.entry) }
+{
+    match (a, b) {
+        (Scalar::U(a), Scalar::U(b)) => a == b,
+        (Scalar::I(a), Scalar::I(b)) => a == b,
+        (
+            Scalar::Dec { exponent, mantissa },
+            Scalar::Dec {
+                exponent: e,
+                mantissa: m,
+            },
+        ) => exponent == e && mantissa == m,
+        (Scalar::Ascii(a), Scalar::Ascii(b)) => a == b,
+        (Scalar::Unicode(a), Scalar::Unicode(b)) => a == b,
+        (Scalar::Bytes(a), Scalar::Bytes(b)) => a == b,
+        _ => false,
+    }
+}
+
+/// The length of the longest common front of two texts.
+pub fn common_front(a: &[u8], b: &[u8]) -> usize
+    ensures size { result ≡ common_front a.now b.now }
+    ensures in_a { result ≤ length a.now }
+    ensures in_b { result ≤ length b.now }
+{
+    let mut size = 0;
+    while size < a.len() && size < b.len() && a[size] == b[size] {
+        size += 1;
+    }
+    size
+}
+
+/// The length of the longest common back of two texts.
+pub fn common_back(a: &[u8], b: &[u8]) -> usize
+    ensures size { result ≡ common_back a.now b.now }
+    ensures in_a { result ≤ length a.now }
+    ensures in_b { result ≤ length b.now }
+{
+    let mut size = 0;
+    while size < a.len() && size < b.len() && a[a.len() - 1 - size] == b[b.len() - 1 - size] {
+        size += 1;
+    }
+    size
+}

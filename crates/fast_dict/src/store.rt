@@ -1,0 +1,87 @@
+//! What a dictionary is to those who read and write it.
+
+ghost use Rattle.std.specs.Prelude.{◌≡◌, ◌<◌, length, IsTrue, OnOk, OnErr};
+ghost use Rattle.fast_value.specs.Values.{scalar_data};
+ghost use Rattle.fast_dict.specs.Dictionary.{assigned, empty, fresh, reset, previous_at, write_at};
+ghost use Rattle.fast_dict.specs.Previous.{previous_data};
+ghost use Rattle.fast_dict.specs.Stores.{IsStorable, IsText};
+
+use crate::previous::Previous;
+use fast_value::{Kind, Scalar};
+use std::alloc::AllocError;
+
+/// A dictionary: a number of entries, each undefined, empty, or assigned a value with the type of the field that
+/// assigned it (FAST 1.1, Dictionaries and Previous Values). Entry 0 is the template identifier's.
+///
+/// A method that takes an entry is called with one below [`Store::entries`].
+pub trait Store {
+    ghost use Rattle.std.specs.Prelude.{ℕ, ◌+◌, ◌*◌, ◌≤◌, length};
+    ghost use Rattle.fast_dict.specs.Dictionary.{Dictionary};
+    ghost use Rattle.fast_dict.specs.Stores.{Terms};
+
+    // what each entry holds
+    ghost dictionary: { Self → Dictionary };
+
+    // what the store was made for, which no call changes
+    ghost terms: { Self → Terms };
+
+    // the bytes that are held for texts, and the entries
+    ghost units: { Self → ℕ };
+
+    /// The number of entries.
+    fn entries(&self) -> usize
+        ensures { result ≡ length (dictionary self.now) };
+
+    /// The greatest length of a text, in bytes.
+    fn max_text(&self) -> usize
+        ensures { result ≡ (terms self.now).max_text };
+
+    /// Whether a text can be put at the entry.
+    fn takes_text(&self, entry: usize) -> bool
+        requires { entry < length (dictionary self.now) }
+        ensures { result ≡ (terms self.now).takes_text entry };
+
+    /// Whether a [`Store::set`] of a text may want memory that is refused.
+    fn can_refuse(&self) -> bool
+        ensures { result ≡ (terms self.now).can_refuse };
+
+    /// What the entry holds. A text is lent.
+    fn get(&self, entry: usize) -> Previous<'_>
+        requires { entry < length (dictionary self.now) }
+        ensures { previous_data result ≡ previous_at (Some entry) (dictionary self.now) };
+
+    /// Assigns the value to the entry, as a field of the type does. A text is no longer than [`Store::max_text`], and
+    /// stands at an entry that takes one.
+    ///
+    /// # Errors
+    ///
+    /// Memory for a text was refused, and nothing has changed: only where [`Store::can_refuse`].
+    fn set(&mut self, entry: usize, kind: Kind, scalar: Scalar<'_>) -> Result<(), AllocError>
+        requires there { entry < length (dictionary self.old) }
+        requires room { IsStorable (terms self.old) entry (scalar_data scalar) }
+        ensures ok { OnOk result (dictionary self.new
+            ≡ write_at (Some entry) (assigned kind (scalar_data scalar.entry)) (dictionary self.old)) }
+        ensures err { OnErr result (self.new ≡ self.old) }
+        ensures text { OnErr result (IsText (scalar_data scalar.entry)) }
+        ensures refused { OnErr result (IsTrue (terms self.old).can_refuse) }
+        ensures same { terms self.new ≡ terms self.old };
+
+    /// Makes the entry empty.
+    fn set_empty(&mut self, entry: usize)
+        requires { entry < length (dictionary self.old) }
+        ensures entry { dictionary self.new ≡ write_at (Some entry) empty (dictionary self.old) }
+        ensures same { terms self.new ≡ terms self.old };
+
+    /// Makes all entries but the template identifier's undefined.
+    fn reset(&mut self)
+        ensures entries { dictionary self.new ≡ reset (dictionary self.old) }
+        ensures same { terms self.new ≡ terms self.old };
+
+    /// Makes all entries undefined.
+    fn reset_all(&mut self)
+        ensures entries { dictionary self.new ≡ fresh (length (dictionary self.old)) }
+        ensures same { terms self.new ≡ terms self.old };
+
+    // each text takes up to the greatest length, and each entry one
+    ghost bounded: { (s : Self) → units s ≤ length (dictionary s) * (terms s).max_text + length (dictionary s) };
+}

@@ -1,0 +1,59 @@
+//! Template sets as they are written, before references are put in place.
+
+use crate::operators::Operator;
+use fast_value::Kind;
+
+/// An operator with its initial value, key and dictionary, each only where it is written.
+#[derive(Debug, Drop)]
+pub(crate) struct WrittenOperator {
+    pub(crate) operator: Operator,
+    pub(crate) value: Option<String>,
+    pub(crate) key: Option<String>,
+    pub(crate) dictionary: Option<String>,
+}
+
+/// An instruction, or a reference to the instructions of another template.
+#[derive(Debug, Drop)]
+pub(crate) enum WrittenInstruction {
+    /// A field.
+    Scalar {
+        name: String,
+        optional: bool,
+        kind: Kind,
+        operator: WrittenOperator,
+    },
+    /// A decimal with an operator of its own for the exponent and for the mantissa.
+    Parts {
+        name: String,
+        optional: bool,
+        exponent: WrittenOperator,
+        mantissa: WrittenOperator,
+    },
+    /// A group.
+    Group {
+        name: String,
+        optional: bool,
+        fields: Vec<WrittenInstruction>,
+    },
+    /// A sequence, with the name of its length where that has one.
+    Sequence {
+        name: String,
+        optional: bool,
+        length_name: Option<String>,
+        length: WrittenOperator,
+        fields: Vec<WrittenInstruction>,
+    },
+    /// A reference to a template.
+    Reference(String),
+}
+
+/// A template.
+#[derive(Debug, Drop)]
+pub(crate) struct WrittenTemplate {
+    pub(crate) name: String,
+    pub(crate) id: Option<u32>,
+    pub(crate) reset: bool,
+    /// The dictionary of the instructions that name none.
+    pub(crate) dictionary: String,
+    pub(crate) fields: Vec<WrittenInstruction>,
+}
