@@ -76,6 +76,10 @@ abbrev pub IsUncounted : Result Unit Fault → Type 0
 IsUncounted (Ok u) = ⊥
 IsUncounted (Err f) = f.code ≡ Why.L4
 
+-- the turns that the decoder's machine took in the last call that made, fed or reset it
+abbrev pub turns : DecoderData → ℕ
+turns d = d.machine.turns.count
+
 -- what a decoder says of itself
 abbrev pub standing : DecoderData → Standing
 standing d = record { is_between = is_none d.fault && is_idle d.machine.waiting d.machine.map_len; fault = d.fault; consumed = d.consumed }

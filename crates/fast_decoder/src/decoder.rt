@@ -5,7 +5,7 @@ ghost use Rattle.fast_template.specs.Flat.{tree_of};
 ghost use Rattle.fast_decoder.specs.Events.{EventData};
 ghost use Rattle.fast_decoder.specs.Positions.{IsFlat, set_of};
 ghost use Rattle.fast_decoder.specs.Standing.{StandsAfter};
-ghost use Rattle.fast_decoder.specs.Decoding.{DecoderData, tree, AreBadLimits, IsUncounted, So, standing, answer, Carried};
+ghost use Rattle.fast_decoder.specs.Decoding.{DecoderData, tree, AreBadLimits, IsUncounted, So, turns, standing, answer, Carried};
 
 use crate::events::Sink;
 use crate::faults::{Fault, FaultCode, MakeError};
@@ -56,6 +56,7 @@ impl<'t> Decoder<'t> {
         ensures bad_limits { (result ≡ Err MakeError.BadLimits) ↔ (AreBadLimits limits) }
         ensures not_yet { result ≡ Err MakeError.NotYet → ¬ (IsFlat (set_of templates.entry.now)) }
         ensures runs { IsOk result → IsFlat (set_of templates.entry.now) }
+        ensures no_turn { IfOk result (λ d. turns d ≡ 0) }
     {
         if limits.max_text < MIN_TEXT || limits.max_text > MAX_TEXT {
             return Err(MakeError::BadLimits);
@@ -131,6 +132,7 @@ impl<'t> Decoder<'t> {
     /// The decoder as it was made: before the first byte, without a fault.
     pub fn reset(&mut self)
         ensures so { So self.new [] [] }
+        ensures no_turn { turns self.new ≡ 0 }
         ensures same_set { (tree self.new ≡ tree self.old) × (self.new.limits ≡ self.old.limits) }
     {
         self.machine.reset();
