@@ -1,10 +1,10 @@
 -- Single characters of a hexadecimal text.
-use Rattle.std.proofs.Common.{◌≡◌, ◌⊎◌, ℕ, ◌+◌, ◌*◌, ◌-◌, ◌<◌, ◌≤◌, ◌||◌, Bool, true, false, not, List, [], ◌∷◌, ◌++◌, Option, Some, None, Ok, refl, ap, sym, ◌∙◌, inl, inr, arith, eq-eqb, slice_index}
-use Rattle.std.specs.Prelude.{nat_eq, filter}
+use Rattle.std.proofs.Common.{◌≡◌, ◌⊎◌, ℕ, ◌+◌, ◌*◌, ◌-◌, ◌≤◌, ◌||◌, Bool, true, false, not, [], ◌∷◌, Some, Ok, refl, inl, inr, arith}
+use Rattle.std.specs.Prelude.{nat_eq}
 use Rattle.std.proofs.lemmas.Bool.{ne_eqb}
 use Rattle.std.proofs.lemmas.Bool.Decides.{nat_tests}
 use Rattle.fast_value.specs.Initial.{IsHexDigit}
-use Rattle.fast_text.specs.Hex.{IsBlank, IsHexOrBlank, digits_in}
+use Rattle.fast_text.specs.Hex.{IsBlank}
 use Rattle.hex.specs.Hex.{hex_digit_value, decode_pairs, decode_sized}
 
 -- digits from `0` to `9`

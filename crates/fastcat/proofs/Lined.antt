@@ -1,6 +1,5 @@
 -- The lines that a sink has written.
-use Rattle.std.proofs.Common.{◌≡◌, ℕ, ◌+◌, ◌<◌, ◌≤◌, ◌^◌, Bool, List, [], ◌∷◌, ◌++◌, Option, Some, None, Result, Ok, Err, refl, ap, sym, ◌∙◌, length, take, drop, arith, append_assoc, append-nil}
-use Rattle.std.specs.Prelude.{IsTrue, flat_map}
+use Rattle.std.proofs.Common.{◌≡◌, ℕ, ◌+◌, ◌<◌, ◌^◌, Bool, List, [], ◌∷◌, ◌++◌, Option, Result, Ok, Err, refl, ap, sym, ◌∙◌, length, take, drop, arith, append_assoc}
 use Rattle.std.proofs.lemmas.List.{take-append-drop}
 use Rattle.std.proofs.lemmas.Grind.{flat_map-append}
 use Rattle.fast_value.specs.declared.settings.Limits.{Limits}
@@ -10,13 +9,12 @@ use Rattle.fast_decoder.specs.declared.faults.Fault.{Fault}
 use Rattle.fast_decoder.specs.declared.faults.FaultCode.{FaultCode}
 use Rattle.fast_decoder.specs.declared.faults.FaultCode.TheVariants as Why
 use Rattle.fast_decoder.specs.Events.{EventData}
-use Rattle.fast_decoder.specs.Streams.{Stream}
 use Rattle.fast_decoder.specs.Sinks.{Takes}
-use Rattle.fast_decoder.specs.Decoding.{DecoderData, So, tree, Carried, CarriesAt, Carries, SinkEnds}
+use Rattle.fast_decoder.specs.Decoding.{DecoderData, tree, Carried, CarriesAt, Carries, SinkEnds}
 use Rattle.fast_text.specs.Lines.{line_of, lines}
-use Rattle.fast_text.specs.Streams.{Appends, AppendsFront}
+use Rattle.fast_text.specs.Streams.{Appends}
 use Rattle.fast_text.specs.declared.line_sink.LineSink.{LineSink}
-use Rattle.fast_text.specs.LineSink.{TakesLine, StopsInLine, whole_line}
+use Rattle.fast_text.specs.LineSink.{TakesLine, StopsInLine}
 use Rattle.fast_text.proofs.Writing.{appends_none, appends_both}
 use Rattle.fastcat.specs.Progress.{changed, Fed, CutShort, IsFed, IsFedAt}
 

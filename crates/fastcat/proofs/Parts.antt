@@ -1,5 +1,5 @@
 -- Lines that are written by a writer of their own.
-use Rattle.std.proofs.Common.{◌≡◌, ℕ, Bool, true, false, List, Option, Result, Ok, Err, refl, ap, sym, ◌∙◌}
+use Rattle.std.proofs.Common.{◌≡◌, ℕ, Bool, true, List, Option, Result, Ok, Err, ap, sym}
 use Rattle.std.specs.Prelude.{is_ok, OnErr}
 use Rattle.fast_text.specs.declared.streams.Failed.{Failed}
 use Rattle.fast_text.specs.declared.line_writer.LineWriter.{LineWriter}

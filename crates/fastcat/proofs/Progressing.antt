@@ -1,5 +1,5 @@
 -- From what the parts of a run do to what it has shown.
-use Rattle.std.proofs.Common.{◌≡◌, ◌⊎◌, ℕ, ◌+◌, ◌*◌, ◌<◌, ◌≤◌, Bool, true, false, List, [], ◌∷◌, ◌++◌, Option, Some, None, Result, Ok, Err, refl, ap, sym, ◌∙◌, inl, inr, subst, length, length-append, suc, arith, append_assoc, append-nil}
+use Rattle.std.proofs.Common.{◌≡◌, ◌⊎◌, ℕ, ◌+◌, ◌*◌, ◌≤◌, Bool, true, false, List, [], ◌∷◌, ◌++◌, Option, Some, None, Result, Ok, Err, refl, ap, sym, ◌∙◌, inl, inr, subst, length, length-append, suc, arith, append_assoc, append-nil}
 use Rattle.std.specs.Prelude.{IsTrue, is_some, if◌then◌else◌}
 use Rattle.fast_value.specs.declared.settings.Limits.{Limits}
 use Rattle.fast_value.specs.declared.codes.Code.{Code}
@@ -24,10 +24,10 @@ use Rattle.fastcat.specs.declared.show.Show.{Show}
 use Rattle.fastcat.specs.declared.faults.ShowEnd.{ShowEnd}
 use Rattle.fastcat.specs.declared.faults.ShowEnd.TheVariants.{Good, Faulted, Truncated}
 use Rattle.fastcat.specs.declared.faults.RunFault.{RunFault}
-use Rattle.fastcat.specs.declared.faults.RunFault.TheVariants.{Read, Write, BadHex}
+use Rattle.fastcat.specs.declared.faults.RunFault.TheVariants.{Write, BadHex}
 use Rattle.fastcat.specs.Closing.{fault_line, truncated_line, closing}
-use Rattle.fastcat.specs.Unhexing.{Unhexes, StandsAt}
-use Rattle.fastcat.specs.Showing.{StandsFor, IsGoodEnd, IsStreamOf, IsShown}
+use Rattle.fastcat.specs.Unhexing.{StandsAt}
+use Rattle.fastcat.specs.Showing.{StandsFor, IsGoodEnd}
 use Rattle.fastcat.specs.Progress.{IsTaken, Progress, Change, Fed, CutShort, IsFedAt, GoesOn, Ended, IsBadPlace, IsClosedAt}
 use Rattle.fastcat.proofs.Characters.{is_shown}
 use Rattle.fastcat.proofs.Lined.{lines-append}

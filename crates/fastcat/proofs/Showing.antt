@@ -1,6 +1,6 @@
 -- From the rounds of a run to what it has shown.
-use Rattle.std.proofs.Common.{◌≡◌, ◌⊎◌, ℕ, ◌+◌, ◌*◌, ◌<◌, ◌≤◌, ◌^◌, Bool, true, false, List, [], ◌∷◌, ◌++◌, Option, Some, None, Result, Ok, Err, refl, ap, sym, ◌∙◌, inl, inr, length, length-append, arith, append_assoc, append-nil}
-use Rattle.std.specs.Prelude.{IsTrue, is_some, option_map, IfSome}
+use Rattle.std.proofs.Common.{◌≡◌, ◌⊎◌, ℕ, ◌+◌, ◌*◌, ◌<◌, ◌≤◌, ◌^◌, Bool, List, [], ◌++◌, Option, Some, None, Result, Ok, Err, refl, ap, sym, ◌∙◌, inl, inr, length, length-append, arith, append_assoc, append-nil}
+use Rattle.std.specs.Prelude.{IsTrue, option_map, IfSome}
 use Rattle.fast_value.specs.declared.settings.Limits.{Limits}
 use Rattle.fast_template.specs.Tree.{Tree}
 use Rattle.fast_decoder.specs.declared.faults.MakeError.{MakeError}

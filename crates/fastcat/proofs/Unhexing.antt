@@ -1,9 +1,9 @@
 -- A hexadecimal text with one character more.
-use Rattle.std.proofs.Common.{◌≡◌, ◌⊎◌, ℕ, ◌+◌, ◌*◌, Bool, true, false, cond, List, [], ◌∷◌, ◌++◌, length, Option, Some, None, refl, ap, sym, ◌∙◌, inl, inr, append_assoc, append-nil, arith}
+use Rattle.std.proofs.Common.{◌≡◌, ℕ, ◌+◌, ◌*◌, Bool, cond, List, [], ◌∷◌, ◌++◌, length, refl, ap, ◌∙◌, inl, inr, append_assoc, append-nil}
 use Rattle.std.specs.Prelude.{All, filter}
 use Rattle.std.proofs.lemmas.List.Elements.{All-append, All-cons, All-nil, filter-append}
 use Rattle.fast_value.specs.Initial.{IsHex, IsHexDigit}
-use Rattle.fast_text.specs.Hex.{IsBlank, IsHexOrBlank, digits_in, ArePairs}
+use Rattle.fast_text.specs.Hex.{IsBlank, IsHexOrBlank, digits_in}
 use Rattle.fastcat.specs.declared.unhexer.Place.{Place}
 use Rattle.fastcat.specs.declared.unhexer.Place.TheVariants.{Between, InPair, Bad}
 use Rattle.fastcat.specs.Unhexing.{StandsAt}

@@ -6,7 +6,6 @@ use Rattle.fast_template.specs.Tree.{Tree}
 use Rattle.fast_template.specs.declared.sets.Templates.{Templates}
 use Rattle.fast_decoder.specs.Positions.{IsFlat, set_of}
 use Rattle.fast_decoder.specs.Decoding.{AreBadLimits}
-use Rattle.fast_decoder.specs.declared.faults.Fault.{Fault}
 use Rattle.fast_decoder.specs.declared.faults.FaultCode.TheVariants.{Stream as FaultOfStream}
 use Rattle.fast_decoder.specs.declared.faults.MakeError.{MakeError}
 use Rattle.fast_decoder.specs.declared.faults.MakeError.TheVariants as Why

@@ -1,5 +1,5 @@
 -- A hexadecimal text as far as it was taken.
-use Rattle.std.specs.Prelude.{◌≡◌, ℕ, List, [], ◌∷◌, ◌++◌, length, All, Option, Some, None}
+use Rattle.std.specs.Prelude.{◌≡◌, ℕ, List, [], ◌∷◌, ◌++◌, length, All}
 use Rattle.fast_value.specs.Initial.{IsHex, IsHexDigit}
 use Rattle.fast_text.specs.Hex.{IsBlank, IsHexOrBlank, digits_in, ArePairs}
 use Rattle.fastcat.specs.declared.unhexer.Class.{Class}

@@ -1,7 +1,7 @@
 //! How a run ends.
 
 ghost use Rattle.std.specs.Prelude.{◌≡◌};
-ghost use Rattle.fastcat.specs.Report.{status_of};
+ghost use Rattle.fastcat.specs.Report.{status_of, cause_number};
 
 use fast_decoder::{Fault, MakeError};
 use fast_text::{LineWriter, Target};
@@ -20,7 +20,9 @@ pub enum ShowEnd {
 }
 
 /// The number of a cause for which no decoder is made.
-fn number_of(cause: &MakeError) -> u8 {
+fn number_of(cause: &MakeError) -> u8
+    ensures { result ≡ cause_number cause.now }
+{
     match cause {
         MakeError::BadLimits => 1,
         MakeError::Memory => 4,

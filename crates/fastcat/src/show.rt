@@ -1,13 +1,13 @@
 //! Shows a stream as lines.
 
-ghost use Rattle.std.specs.Prelude.{◌≡◌, ◌⊎◌, ◌↔◌, ℕ, ◌+◌, ◌<◌, ◌≤◌, ◌^◌, List, [], ◌++◌, Bool, IsTrue, Err, IfErr, length, option_map, is_some, IfOk, IfSome, MatchOption};
+ghost use Rattle.std.specs.Prelude.{◌≡◌, ◌⊎◌, ◌↔◌, ℕ, ◌+◌, ◌<◌, ◌≤◌, ◌^◌, List, [], ◌++◌, Bool, IsTrue, Err, IfErr, length, option_map, is_some, IfOk, IfSome, IfNone, All, MatchOption};
 ghost use Rattle.fast_template.specs.Tree.{Tree};
 ghost use Rattle.fast_template.specs.Flat.{tree_of};
 ghost use Rattle.fast_value.specs.declared.settings.Limits.{Limits};
 ghost use Rattle.fast_decoder.specs.Events.{EventData};
 ghost use Rattle.fast_decoder.specs.Decoding.{So, standing, tree, answer, AreBadLimits};
 ghost use Rattle.fast_text.specs.Streams.{Appends};
-ghost use Rattle.fast_text.specs.Hex.{Unhexed};
+ghost use Rattle.fast_text.specs.Hex.{IsHexOrBlank};
 ghost use Rattle.fastcat.specs.Showing.{IsShown, IsRefusal, StandsFor, refusal_of};
 ghost use Rattle.fastcat.specs.Progress.{HasRoom, IsTaken, Progress, GoesOn, Ended, IsFed, IsBadPlace, IsClosedAt, changed};
 
@@ -50,7 +50,8 @@ fn bytes_of<'b>(unhexer: &mut Option<Unhexer>, piece: &'b [u8], room: &'b mut [u
 
 /// The place of the first bad character of a hexadecimal input, if it had one.
 fn bad_character(unhexer: &Option<Unhexer>) -> Option<u64>
-    ensures { IfSome result (IsBadPlace unhexer.now) }
+    ensures found { IfSome result (IsBadPlace unhexer.now) }
+    ensures none { IfNone result ((text b : List ℕ) → IsTrue (is_some unhexer.now) → IsTaken unhexer.now text b → All IsHexOrBlank text) }
 {
     match unhexer {
         None => None,

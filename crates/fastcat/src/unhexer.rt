@@ -1,6 +1,6 @@
 //! Hexadecimal digits that come in pieces.
 
-ghost use Rattle.std.specs.Prelude.{◌≡◌, ℕ, ◌+◌, ◌*◌, ◌<◌, ◌≤◌, ◌^◌, List, [], ◌∷◌, ◌++◌, length, take, Some, IfSome};
+ghost use Rattle.std.specs.Prelude.{◌≡◌, ℕ, ◌+◌, ◌*◌, ◌<◌, ◌≤◌, ◌^◌, List, [], ◌∷◌, ◌++◌, length, take, All, Some, IfSome, IfNone};
 ghost use Rattle.std.specs.Option.{option_to_list};
 ghost use Rattle.fast_value.specs.Initial.{IsHexDigit};
 ghost use Rattle.fast_text.specs.Hex.{IsHexOrBlank, Unhexed};
@@ -143,11 +143,13 @@ impl Unhexer {
 
     /// The place of the first bad character, if one was taken.
     pub fn bad_character(&self) -> Option<u64>
-        ensures { IfSome result (λ place. (t v : List ℕ) → Unhexes self.now t v → Unhexed t v (Some place) × (place < length t)) }
+        ensures found { IfSome result (λ place. (t v : List ℕ) → Unhexes self.now t v → Unhexed t v (Some place) × (place < length t)) }
+        ensures none { IfNone result ((t v : List ℕ) → Unhexes self.now t v → All IsHexOrBlank t) }
     {
         match self.place {
             Place::Bad(place) => Some(place),
-            Place::Between | Place::InPair(_) => None,
+            Place::Between => None,
+            Place::InPair(_) => None,
         }
     }
 

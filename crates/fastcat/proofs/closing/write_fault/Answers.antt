@@ -1,4 +1,4 @@
-use Rattle.std.proofs.Common.{◌≡◌, ◌∙◌, ap, sym, rules}
+use Rattle.std.proofs.Common.{◌≡◌, ◌∙◌, ap, rules}
 use Rattle.std.specs.Prelude.{is_ok}
 use Rattle.fast_text.proofs.Writing.{writes_both, writes_same}
 use Rattle.fastcat.proofs.Parts.{part_written}

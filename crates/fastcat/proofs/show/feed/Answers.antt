@@ -1,4 +1,4 @@
-use Rattle.std.proofs.Common.{◌≡◌, ◌∙◌, ap, sym, refl, rules}
+use Rattle.std.proofs.Common.{◌≡◌, ◌∙◌, ap, refl, rules}
 use Rattle.fast_template.specs.Flat.{tree_of}
 use Rattle.fastcat.proofs.Lined.{fed_by, fed_same_target}
 use Rattle.fastcat.proofs.show.feed.Goals as goal

@@ -1,4 +1,4 @@
-use Rattle.std.proofs.Common.{◌≡◌, ◌⊎◌, ℕ, ◌<◌, ◌≤◌, List, [], ◌++◌, refl, ap, sym, ◌∙◌, inl, inr, length, length-take, take, append-nil, arith, rules}
+use Rattle.std.proofs.Common.{◌≡◌, ◌⊎◌, ℕ, ◌<◌, ◌≤◌, List, [], refl, ap, inl, inr, length, length-take, take, arith}
 use Rattle.std.specs.Prelude.{IsTrue, IfSome}
 use Rattle.fast_template.specs.Flat.{tree_of}
 use Rattle.fast_text.proofs.Writing.{appends_none}

@@ -1,4 +1,4 @@
-use Rattle.std.proofs.Common.{rules, arith, []}
+use Rattle.std.proofs.Common.{rules, arith, ◌++◌, []}
 use Rattle.std.proofs.lemmas.Grind.{common_steps}
 use Rattle.fast_text.specs.Lines.{hex_byte}
 use Rattle.fast_text.proofs.Writing.{writes_none, writes_more, writes_same}
@@ -10,7 +10,7 @@ loop-rest-init g c = ([], search rules, writes_none _ _ _)
 pub loop-rest-preserved : goal.loop-rest-preserved
 loop-rest-preserved g c =
     let i = c.loop-rest.invariant in
-    (_, grind (arith, common_steps, i.1), writes_more [] hex_byte i.0 _ i.2 c.put_hex_chunk.ensures)
+    (i.0 ++ c.split_at.result.0.now, grind (arith, common_steps, i.1), writes_more [] hex_byte i.0 c.split_at.result.0.now i.2 c.put_hex_chunk.ensures)
 
 pub returns : goal.returns
 returns g c = let i = c.loop-rest.invariant in writes_same (grind (arith, common_steps, i.1)) i.2

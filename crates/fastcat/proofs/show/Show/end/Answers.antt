@@ -1,5 +1,4 @@
-use Rattle.std.proofs.Common.{◌≡◌, ◌∙◌, sym, ap, None, Some}
-use Rattle.fastcat.specs.Showing.{StandsFor}
+use Rattle.std.proofs.Common.{◌∙◌, sym}
 use Rattle.fastcat.proofs.Progressing.{bad_end_ends, good_ends, truncated_ends, truncated_fails}
 use Rattle.fastcat.proofs.show.Show.end.Goals as goal
 

@@ -1,4 +1,4 @@
-use Rattle.std.proofs.Common.{◌≡◌, ◌∙◌, ◌++◌, sym, ap, refl, None, Some}
+use Rattle.std.proofs.Common.{◌∙◌, ◌++◌, sym, refl}
 use Rattle.fast_template.specs.Flat.{tree_of}
 use Rattle.fastcat.proofs.Progressing.{goes_on, bad_character_ends, fault_ends, stands_for, no_fault, this_fault, fed_in, fed_at_in}
 use Rattle.fastcat.proofs.show.Show.take.Goals as goal
@@ -12,7 +12,7 @@ pub returns-in-Some : goal.returns-in-Some
 returns-in-Some g c t l hex text b es p =
     let fed = fed_in (tree_of c.args.self.now.templates.now) t b es c.bytes_of-bytes.result.now c.feed.new.decoder _ p.names (c.in-Ok.ensures.fed b es (p.set ∙ sym p.names) p.so) in
     let on = goes_on t l hex c.args.self.now (record { templates = c.args.self.now.templates; decoder = c.feed.new.decoder; unhexer = c.bytes_of-bytes.new.unhexer }) text b c.args.piece.now c.bytes_of-bytes.result.now es _ p refl c.feed.ensures.same_set c.bytes_of-bytes.ensures.same (no_fault _ _ c.in-Ok.ensures.answer) (c.bytes_of-bytes.ensures.taken text b p.taken) fed in
-    bad_character_ends t l hex _ (text ++ c.args.piece.now) es _ c.in-Some.place on c.in-Some.ensures
+    bad_character_ends t l hex _ (text ++ c.args.piece.now) es _ c.in-Some.place on c.in-Some.ensures.found
 
 pub returns-in-Err : goal.returns-in-Err
 returns-in-Err g c t l hex text b es p =

@@ -1,4 +1,4 @@
-use Rattle.std.proofs.Common.{◌≡◌, ℕ, ◌+◌, ◌*◌, ◌≤◌, List, ◌++◌, length, take}
+use Rattle.std.proofs.Common.{◌≡◌, ℕ, ◌+◌, ◌*◌, ◌≤◌, List, ◌++◌, take}
 use Rattle.fastcat.specs.Unhexing.{Unhexes, pending}
 use Rattle.fastcat.proofs.unhexer.Unhexer.take.Given as goal
 
