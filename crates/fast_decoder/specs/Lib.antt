@@ -20,3 +20,6 @@ pub mod Frames
 pub mod Machine
 pub mod Decoding
 pub mod Positions
+pub mod Taking
+pub mod Settling
+pub mod Stages

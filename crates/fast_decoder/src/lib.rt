@@ -7,6 +7,9 @@ pub mod faults;
 mod flat;
 pub mod laws;
 mod machine;
+pub mod progress;
+pub mod source;
+pub mod stages;
 mod pending;
 pub mod recorder;
 #[cfg(test)]
