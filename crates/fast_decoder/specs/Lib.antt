@@ -23,3 +23,4 @@ pub mod Positions
 pub mod Taking
 pub mod Settling
 pub mod Stages
+pub mod Cursors
