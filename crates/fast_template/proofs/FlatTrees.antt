@@ -107,7 +107,7 @@ flat_names_nodes limit list ts fits templates i t found =
     outlines_below 0 limit list (omega (arith, fits)) i (outline t) (ap (λ (os : List TemplateOutline). slice_get os i) (sym templates) ∙ mapped_get outline ts i t found)
 
 -- each node of a flat set is a field
-nodes_are_fields : (list : List FlatTemplate) → All (λ x. x.shape ≡ a_field plain_field) (flat_nodes list)
+pub nodes_are_fields : (list : List FlatTemplate) → All (λ x. x.shape ≡ a_field plain_field) (flat_nodes list)
 nodes_are_fields [] = All-nil (λ x. x.shape ≡ a_field plain_field)
 nodes_are_fields (t ∷ list) =
     All-append (λ x. x.shape ≡ a_field plain_field) (map plain_node t.fields.now) (flat_nodes list)

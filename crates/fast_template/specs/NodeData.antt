@@ -5,7 +5,7 @@ use Rattle.fast_template.specs.declared.instructions.Shape.TheVariants.{Field, D
 use Rattle.fast_template.specs.declared.instructions.Node.{Node}
 use Rattle.fast_template.specs.declared.instructions.Template.{Template}
 use Rattle.fast_template.specs.Tree.{FieldData, Label, Instruction, field, parts, group, sequence, TemplateData}
-use Rattle.fast_template.specs.Flat.{field_data, body_of}
+use Rattle.fast_template.specs.Nodes.{field_data, body_of}
 use Rattle.std.specs.Prelude.{Option}
 
 -- what a shape holds: bodies are lists of node numbers

@@ -5,6 +5,8 @@ ghost use Rattle.fast_template.specs.declared.instructions.Template.{Template};
 ghost use Rattle.fast_template.specs.Flat.{templates_of, nodes_of, tree_of};
 ghost use Rattle.fast_template.specs.Labels.{template_labels, labels_from};
 ghost use Rattle.fast_template.specs.Tree.{HasDistinctIds};
+ghost use Rattle.fast_template.specs.NodeData.{shape_data};
+ghost use Rattle.fast_template.specs.Usable.{IsUsableShape};
 ghost use Rattle.fast_template.specs.Numbers.{numbers_of, AreBelow, AreBetween};
 
 use crate::instructions::{Node, Template};
@@ -59,6 +61,7 @@ impl Templates {
         requires { n < length (nodes_of self.now) }
         ensures found { slice_get (nodes_of self.now) n ≡ Some result.now }
         ensures body { AreBetween n (length (nodes_of self.now)) (numbers_of result.now.shape) }
+        ensures usable { IsUsableShape (tree_of self.now).entries (shape_data result.now.shape) }
     {
         &self.nodes[n as usize]
     }

@@ -3,6 +3,7 @@
 ghost use Rattle.std.specs.Prelude.{◌≤◌, ◌<◌, ◌^◌, length};
 ghost use Rattle.fast_template.specs.Labels.{AreInPreorder};
 ghost use Rattle.fast_template.specs.Numbers.{NameNodes, NameLaterNodes, HaveDistinctIds};
+ghost use Rattle.fast_template.specs.Usable.{AreUsable};
 
 use crate::instructions::{Node, Template};
 
@@ -18,6 +19,7 @@ pub struct Templates {
     ghost has_identifier: { 1 ≤ entries },
     ghost templates_name_nodes: { NameNodes (length nodes.items) templates.items },
     ghost nodes_name_later_nodes: { NameLaterNodes nodes.items },
+    ghost nodes_usable: { AreUsable entries nodes.items },
     ghost nodes_in_preorder: { AreInPreorder nodes.items templates.items },
     ghost distinct_ids: { HaveDistinctIds templates.items },
 }

@@ -5,6 +5,7 @@ use Rattle.fast_template.specs.FlatSets.{flat_outlines}
 use Rattle.fast_template.proofs.FlatLists.{nodes_step, count_step, templates_step, outline_is, nodes_done, templates_done, count_done, templates_count}
 use Rattle.fast_template.proofs.FlatTrees.{flat_trees, flat_names_nodes, flat_names_later_nodes, flat_distinct_ids}
 use Rattle.fast_template.proofs.FlatLabels.{flat_in_preorder}
+use Rattle.fast_template.proofs.FlatUsable.{flat_usable}
 use Rattle.fast_template.proofs.flat.build.Goals as goal
 
 pub loop-template-preserved : goal.loop-template-preserved
@@ -38,6 +39,7 @@ invariant_of-result c =
       has_identifier = omega arith;
       templates_name_nodes = flat_names_nodes (length c.loop-template.nodes.items) list c.loop-template.templates.items (omega (arith, n, k)) templates;
       nodes_name_later_nodes = flat_names_later_nodes list c.loop-template.nodes.items nodes;
+      nodes_usable = flat_usable list c.loop-template.nodes.items nodes;
       nodes_in_preorder = flat_in_preorder list c.loop-template.templates.items c.loop-template.nodes.items nodes templates;
       distinct_ids = flat_distinct_ids list c.loop-template.templates.items c.requires.ids templates;
     }
