@@ -24,3 +24,4 @@ pub mod Taking
 pub mod Settling
 pub mod Stages
 pub mod Cursors
+pub mod Serving

@@ -1,0 +1,36 @@
+-- A dictionary that serves all fields of a set, and the widths of its segments.
+use Rattle.std.specs.Prelude.{◌≡◌, ℕ, List, length, slice_get, slice_index, Some}
+use Rattle.fast_value.specs.declared.kinds.Kind.TheVariants.{UInt32, Int32, Int64}
+use Rattle.fast_template.specs.declared.instructions.Node.{Node}
+use Rattle.fast_template.specs.declared.instructions.Template.{Template}
+use Rattle.fast_template.specs.Tree.{Body, bits_of, message_bits}
+use Rattle.fast_template.specs.Nodes.{body_of, instructions_from, template_data}
+use Rattle.fast_template.specs.NodeData.{ShapeData, a_field, a_decimal, a_group, a_sequence, shape_data}
+use Rattle.fast_template.specs.Numbers.{numbers_of}
+use Rattle.fast_dict.specs.Stores.{Terms}
+use Rattle.fast_decoder.specs.Settling.{Serves}
+
+-- It serves the fields of the shape; the parts of decimals and the lengths of sequences are integers.
+abbrev pub ServesShape : ℕ → Terms → ShapeData → Type 0
+ServesShape entries terms (a_field f) = Serves entries terms f
+ServesShape entries terms (a_decimal e m) = Serves entries terms e × Serves entries terms m × (e.kind ≡ Int32) × (m.kind ≡ Int64)
+ServesShape entries terms (a_group optional body) = Unit {0}
+ServesShape entries terms (a_sequence length body) = Serves entries terms length × (length.kind ≡ UInt32)
+
+-- It serves the fields of all nodes.
+abbrev pub ServesNodes : ℕ → Terms → List Node → Type 0
+ServesNodes entries terms ns = (n : ℕ) (v : Node) → slice_get ns n ≡ Some v → ServesShape entries terms (shape_data v.shape)
+
+-- the body of nodes of a set
+abbrev pub body_among : List Node → List ℕ → Body
+body_among nodes ns = body_of 0 (instructions_from 0 nodes) ns
+
+-- The widths are the bits that the bodies of the nodes use.
+pub record AreNodeWidths (nodes : List Node) (widths : List ℕ) : Type 0 where
+  pub long : length widths ≡ length nodes
+  pub each : (n : ℕ) (v : Node) → slice_get nodes n ≡ Some v → slice_index widths n ≡ bits_of (body_among nodes (numbers_of v.shape))
+
+-- The widths are the bits that the messages of the templates use, the identifier's among them.
+pub record AreTemplateWidths (nodes : List Node) (templates : List Template) (widths : List ℕ) : Type 0 where
+  pub long : length widths ≡ length templates
+  pub each : (i : ℕ) (t : Template) → slice_get templates i ≡ Some t → slice_index widths i ≡ message_bits (template_data (instructions_from 0 nodes) t)
