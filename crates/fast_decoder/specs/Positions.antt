@@ -1,31 +1,40 @@
 -- Where a machine is in a stream, by what it keeps.
-use Rattle.std.specs.Prelude.{◌≡◌, ℕ, ◌<◌, ◌≤◌, true, false, List, [], ◌∷◌, length, take, drop, slice_get, All, map, Option, Some, None}
+use Rattle.std.specs.Prelude.{◌≡◌, ◌≢◌, ◌⊎◌, ℕ, suc, ◌+◌, ◌<◌, ◌≤◌, ◌^◌, Bool, true, false, if◌then◌else◌, List, [], ◌∷◌, length, map, ℤ, Option, Some, None}
 use Rattle.fast_wire.specs.Entities.{HaveNoStop, IsEntity}
-use Rattle.fast_wire.specs.Maps.{map_limit, bits, first_bit, later_bits}
+use Rattle.fast_wire.specs.Maps.{map_limit, bits, first_bit}
 use Rattle.fast_value.specs.declared.settings.Limits.{Limits}
-use Rattle.fast_value.specs.declared.kinds.Kind.TheVariants.{UInt32}
-use Rattle.fast_value.specs.Kinds.{ScalarData, U}
+use Rattle.fast_value.specs.declared.kinds.Kind.TheVariants.{Ascii}
+use Rattle.fast_value.specs.Kinds.{texts, family}
 use Rattle.fast_value.specs.Limits.{Bounds, bounds}
-use Rattle.fast_template.specs.declared.operators.Operator.TheVariants.{None as no_operator}
+use Rattle.fast_template.specs.declared.operators.Operator.TheVariants.{Constant, Delta}
 use Rattle.fast_template.specs.declared.instructions.Node.{Node}
-use Rattle.fast_template.specs.declared.instructions.Shape.{Shape}
-use Rattle.fast_template.specs.declared.instructions.Shape.TheVariants.{Field, Decimal, Group, Sequence}
 use Rattle.fast_template.specs.declared.instructions.Template.{Template}
-use Rattle.fast_template.specs.Numbers.{NameNodes}
-use Rattle.fast_template.specs.Tree.{FieldData, identifier, Body, Tree}
+use Rattle.fast_template.specs.Numbers.{AreBelow}
+use Rattle.fast_template.specs.Sizes.{body_depth, set_depth}
+use Rattle.fast_template.specs.Tree.{FieldData, identifier, uses_bit, field, parts, group, sequence, Body, end, step, bits_of, Tree}
 use Rattle.fast_template.specs.declared.sets.Templates.{Templates}
-use Rattle.fast_template.specs.Flat.{field_data, body_of, instructions_from, template_data, templates_of, nodes_of}
-use Rattle.fast_dict.specs.Dictionary.{PreviousData, undefined, assigned, Dictionary}
-use Rattle.fast_decoder.specs.Grammar.{Grammar, ◌>>=◌}
-use Rattle.fast_decoder.specs.Messages.{State, begin, field_in}
+use Rattle.fast_template.specs.Flat.{field_data, instructions_from, template_data, templates_of, nodes_of}
+use Rattle.fast_dict.specs.Dictionary.{PreviousData, Dictionary, fresh, previous_at}
+use Rattle.fast_dict.specs.Operators.{Outcome}
+use Rattle.fast_dict.specs.Slots.{slots_dictionary, slots_terms}
+use Rattle.fast_decoder.specs.Phrases.{cut}
+use Rattle.fast_decoder.specs.Units.{ascii_text}
+use Rattle.fast_decoder.specs.Fields.{field_term}
+use Rattle.fast_decoder.specs.Grammar.{Grammar, presence_map, narrow, ◌>>=◌}
+use Rattle.fast_decoder.specs.Messages.{State, begin, field_in, found, decimal_with}
 use Rattle.fast_decoder.specs.Readers.{Reader, Done, bind}
 use Rattle.fast_decoder.specs.GrammarReaders.{settles_reader, judged_map, reader_of}
-use Rattle.fast_decoder.specs.Continuations.{message_behind_then, message_then}
-use Rattle.fast_decoder.specs.Frames.{resume}
+use Rattle.fast_decoder.specs.Continuations.{handed_then, message_behind_then, message_then}
+use Rattle.fast_decoder.specs.Frames.{Frame, open_group, open_element, resume}
 use Rattle.fast_decoder.specs.Machine.{after_bytes}
+use Rattle.fast_decoder.specs.Cursors.{ElementsData, FrameData, CursorData, bits_behind, bits_left, at_rest}
+use Rattle.fast_decoder.specs.Serving.{ServesNodes, body_among, AreNodeWidths, AreTemplateWidths}
+use Rattle.fast_decoder.specs.Stages.{term_behind, IsStageOf}
+use Rattle.fast_decoder.specs.declared.stages.Stage.{Stage}
+use Rattle.fast_decoder.specs.declared.stages.Stage.TheVariants.{Mantissa as MantissaStage, MantissaDelta, Vector, Part, PartVector}
 use Rattle.fast_decoder.specs.declared.machine.Machine.{Machine}
 use Rattle.fast_decoder.specs.declared.machine.Waiting.{Waiting}
-use Rattle.fast_decoder.specs.declared.machine.Waiting.TheVariants.{Map, Identifier, Field as FieldWaits}
+use Rattle.fast_decoder.specs.declared.machine.Waiting.TheVariants.{Map, Identifier, SegmentMap, Field, Text, Number, Bytes, Mantissa}
 
 -- A template set as its templates, its nodes and the number of its entries.
 pub record Set : Type 0 where
@@ -37,74 +46,77 @@ pub record Set : Type 0 where
 abbrev pub tree_in : Set → Tree
 tree_in set = record { templates = map (template_data (instructions_from 0 set.nodes)) set.templates; entries = set.entries }
 
--- a mandatory uInt32 without operator
-abbrev pub plain_field : Option ScalarData → FieldData
-plain_field initial = record { kind = UInt32; optional = false; operator = no_operator; initial = initial; entry = None }
-
--- The shape is that of a mandatory uInt32 without operator.
-abbrev pub IsPlain : Shape → Type 0
-IsPlain (Field f) = (initial : Option ScalarData) × (field_data f ≡ plain_field initial)
-IsPlain (Decimal e m) = ⊥
-IsPlain (Group optional body) = ⊥
-IsPlain (Sequence length body) = ⊥
-
--- All fields are mandatory uInt32 without operator, no template resets, there is no entry but the identifier's, and
--- templates name nodes of the set.
-pub record IsFlat (set : Set) : Type 0 where
-  pub nodes : All (λ (n : Node). IsPlain n.shape) set.nodes
-  pub templates : All (λ (t : Template). t.reset ≡ false) set.templates
-  pub entries : set.entries ≡ 1
-  pub named : NameNodes (length set.nodes) set.templates
-
--- what the identifier's entry holds
-abbrev pub previous_identifier : Option ℕ → PreviousData
-previous_identifier None = undefined
-previous_identifier (Some id) = assigned UInt32 (U id)
-
--- the dictionary of a set that has the identifier's entry alone
-abbrev pub dictionary_with : Option ℕ → Dictionary
-dictionary_with id = previous_identifier id ∷ []
-
 -- the set of a checked set of the Rust type
 abbrev pub set_of : Templates → Set
 set_of t = record { templates = templates_of t; nodes = nodes_of t; entries = t.entries }
 
--- the numbers of the nodes of a template, if it is there
-abbrev pub numbers_in : Option Template → List ℕ
-numbers_in None = []
-numbers_in (Some t) = t.body.items
+-- the body of nodes of a set
+abbrev pub body_in : Set → List ℕ → Body
+body_in set ns = body_among set.nodes ns
 
--- the numbers of the nodes of a template
-abbrev pub numbers_at : List Template → ℕ → List ℕ
-numbers_at ts n = numbers_in (slice_get ts n)
+-- an open segment, by what is still to come of a sequence
+abbrev pub frame_by : Set → FrameData → Option ElementsData → Frame
+frame_by set f None = open_group (body_in set f.after) (bits_behind f.map f.used)
+frame_by set f (Some e) = open_element e.more (body_in set e.body) (body_in set f.after) (bits_behind f.map f.used)
 
--- the instructions of a template from a position on
-abbrev pub body_from : Set → ℕ → ℕ → Body
-body_from set template position = body_of 0 (instructions_from 0 set.nodes) (drop position (numbers_at set.templates template))
+-- open segments
+abbrev pub frames_in : Set → List FrameData → List Frame
+frames_in set [] = []
+frames_in set (f ∷ fs) = frame_by set f f.elements ∷ frames_in set fs
 
--- the bytes of the map that a machine keeps
-abbrev pub map_bytes : Machine → List ℕ
-map_bytes m = take m.map_len m.maps.items
+-- the state in a segment
+abbrev pub state_in : Dictionary → ℕ → CursorData → State
+state_in d counted c = record { context = record { dictionary = d; counted = counted }; bits = bits_left c }
 
--- the state behind the identifier
-abbrev pub state_behind : Option ℕ → List ℕ → State
-state_behind id map = record { context = record { dictionary = dictionary_with id; counted = 0 }; bits = later_bits (bits map) }
+-- what is to be read from the next instruction on
+abbrev pub going_on : Set → Bounds → Dictionary → ℕ → CursorData → Grammar Dictionary
+going_on set l d counted c = resume l (frames_in set c.frames) (body_in set c.left) (state_in d counted c)
+
+-- the bit of a field: set, if it uses none
+abbrev pub bit_of : FieldData → State → Bool
+bit_of f s = if uses_bit f then first_bit s.bits else true
+
+-- what is read of the next instruction's field from a later unit on, and behind it
+abbrev pub unit_then : Bounds → List Frame → Body → State → Stage → Grammar Dictionary
+unit_then l fs (step (field at f) is) s stage =
+    term_behind l f (previous_at f.entry s.context.dictionary) stage >>= (λ o. handed_then at.node (resume l fs is) (found f s o).0 (found f s o).1)
+unit_then l fs body s stage = resume l fs body s
+
+-- what is read of the next decimal from its mantissa on, and behind it
+abbrev pub mantissa_then : Bounds → List Frame → Body → State → ℤ → Grammar Dictionary
+mantissa_then l fs (step (parts at e m) is) s x = field_in l m s >>= (λ r. handed_then at.node (resume l fs is) (decimal_with x r.0) r.1)
+mantissa_then l fs body s x = resume l fs body s
 
 -- what is read behind a whole map
 abbrev pub behind_map : Set → Bounds → Dictionary → List ℕ → Grammar Dictionary
 behind_map set l d m = field_in l identifier (begin d (bits m)) >>= message_behind_then (tree_in set) l m
 
+-- what is read of a segment from its map on
+abbrev pub segment_behind : Set → Bounds → Dictionary → ℕ → CursorData → ℕ → Grammar Dictionary
+segment_behind set l d counted c width =
+    presence_map (λ m. narrow width m (resume l (frames_in set c.frames) (body_in set c.left) (record { context = record { dictionary = d; counted = counted }; bits = bits m })))
+
 -- what a machine has still to read, from the unit in hand on
 abbrev pub term_at : Waiting → Set → Bounds → Machine → Grammar Dictionary
-term_at Map set l m = message_then (tree_in set) l (dictionary_with m.identifier)
-term_at Identifier set l m = behind_map set l (dictionary_with m.identifier) (map_bytes m)
-term_at FieldWaits set l m = resume l [] (body_from set m.template m.position) (state_behind m.identifier (map_bytes m))
+term_at Map set l m = message_then (tree_in set) l (slots_dictionary m.slots)
+term_at Identifier set l m = behind_map set l (slots_dictionary m.slots) m.cursor.map
+term_at (SegmentMap width) set l m = segment_behind set l (slots_dictionary m.slots) m.counted m.cursor width
+term_at Field set l m = going_on set l (slots_dictionary m.slots) m.counted m.cursor
+term_at Text set l m = going_on set l (slots_dictionary m.slots) m.counted m.cursor
+term_at (Number stage) set l m = unit_then l (frames_in set m.cursor.frames) (body_in set m.cursor.left) (state_in (slots_dictionary m.slots) m.counted m.cursor) stage
+term_at (Bytes stage) set l m = unit_then l (frames_in set m.cursor.frames) (body_in set m.cursor.left) (state_in (slots_dictionary m.slots) m.counted m.cursor) stage
+term_at (Mantissa x) set l m = mantissa_then l (frames_in set m.cursor.frames) (body_in set m.cursor.left) (state_in (slots_dictionary m.slots) m.counted m.cursor) x
 
 -- the bytes of the unit in hand that have come
 abbrev pub front_at : Waiting → Machine → List ℕ
-front_at Map m = map_bytes m
+front_at Map m = m.cursor.map
 front_at Identifier m = m.entity
-front_at FieldWaits m = m.entity
+front_at (SegmentMap width) m = m.cursor.map
+front_at Field m = m.entity
+front_at Text m = m.text.text
+front_at (Number stage) m = m.entity
+front_at (Bytes stage) m = m.text.text
+front_at (Mantissa x) m = m.entity
 
 -- the reader of a message whose map begins with these bytes; without any no message is begun
 abbrev pub map_reader : Set → Limits → Dictionary → List ℕ → Reader Dictionary
@@ -115,36 +127,141 @@ map_reader set l d (b ∷ w) = after_bytes (reader_of l.strict (message_then (tr
 abbrev pub mapped_reader : Set → Limits → Dictionary → List ℕ → Reader Dictionary
 mapped_reader set l d w = bind (settles_reader (judged_map l.strict w)) (λ m. reader_of l.strict (behind_map set (bounds l) d m))
 
--- what a machine has still to read, behind the bytes that have come
+-- what a machine has still to read, behind the bytes of a unit that have come
+abbrev pub unit_reader : Waiting → Set → Limits → Machine → Reader Dictionary
+unit_reader w set l m = after_bytes (reader_of l.strict (term_at w set (bounds l) m)) (front_at w m)
+
+-- what a machine has still to read, by the unit that it waits for
 abbrev pub meaning_at : Waiting → Set → Limits → Machine → Reader Dictionary
-meaning_at Map set l m = map_reader set l (dictionary_with m.identifier) (map_bytes m)
-meaning_at Identifier set l m = after_bytes (reader_of l.strict (term_at Identifier set (bounds l) m)) m.entity
-meaning_at FieldWaits set l m = after_bytes (reader_of l.strict (term_at FieldWaits set (bounds l) m)) m.entity
+meaning_at Map set l m = map_reader set l (slots_dictionary m.slots) m.cursor.map
+meaning_at Identifier set l m = unit_reader Identifier set l m
+meaning_at (SegmentMap width) set l m = unit_reader (SegmentMap width) set l m
+meaning_at Field set l m = unit_reader Field set l m
+meaning_at Text set l m = unit_reader Text set l m
+meaning_at (Number stage) set l m = unit_reader (Number stage) set l m
+meaning_at (Bytes stage) set l m = unit_reader (Bytes stage) set l m
+meaning_at (Mantissa x) set l m = unit_reader (Mantissa x) set l m
 
 -- what a machine has still to read
 abbrev pub meaning : Set → Limits → Machine → Reader Dictionary
 meaning set l m = meaning_at m.waiting set l m
 
--- The unit is one that the machine can read.
-abbrev pub IsInPlace : Waiting → Set → Machine → Type 0
-IsInPlace Map set m = m.map_len < map_limit
-IsInPlace Identifier set m = (m.map_len ≤ map_limit) × IsEntity (map_bytes m) × (first_bit (bits (map_bytes m)) ≡ true)
-IsInPlace FieldWaits set m = (m.map_len ≤ map_limit) × (m.template < length set.templates) × (m.position < length (numbers_at set.templates m.template))
+-- A segment has no map, or its map is whole.
+abbrev pub IsMapWhole : List ℕ → Type 0
+IsMapWhole map = (map ≡ []) ⊎ IsEntity map
 
--- The machine can go on: the bytes in hand have no stop bit, and there is room for one more.
-pub record IsReady (set : Set) (m : Machine) : Type 0 where
-  pub cells : length m.maps.items ≡ map_limit
+-- What is still to come of a sequence: the nodes are of the set, nest no deeper than there are frames, and use these bits.
+abbrev pub AreElementsFit : Set → ℕ → ℕ → Option ElementsData → Type 0
+AreElementsFit set depth level None = Unit {0}
+AreElementsFit set depth level (Some e) = AreBelow (length set.nodes) e.body × (suc level + body_depth (body_in set e.body) ≤ depth) × (e.width ≡ bits_of (body_in set e.body))
+
+-- An open segment, with so many around it: its nodes are of the set, and nest no deeper than there are frames.
+pub record IsFrameFit (set : Set) (depth level : ℕ) (f : FrameData) : Type 0 where
+  pub below : AreBelow (length set.nodes) f.after
+  pub nested : level + body_depth (body_in set f.after) ≤ depth
+  pub mapped : IsMapWhole f.map
+  pub elements : AreElementsFit set depth level f.elements
+
+-- so are all
+abbrev pub AreFramesFit : Set → ℕ → List FrameData → Type 0
+AreFramesFit set depth [] = Unit {0}
+AreFramesFit set depth (f ∷ fs) = IsFrameFit set depth (length fs) f × AreFramesFit set depth fs
+
+-- The cursor stands in messages of the set.
+pub record IsPlaced (set : Set) (c : CursorData) : Type 0 where
+  pub below : AreBelow (length set.nodes) c.left
+  pub nested : length c.frames + body_depth (body_in set c.left) ≤ c.depth
+  pub frames : AreFramesFit set c.depth c.frames
+
+-- What a machine is made with, and keeps.
+pub record IsSupplied (set : Set) (l : Limits) (m : Machine) : Type 0 where
+  pub entries : length (slots_dictionary m.slots) ≡ set.entries
+  pub serves : ServesNodes set.entries (slots_terms m.slots) set.nodes
+  pub some_entry : 1 ≤ set.entries
+  pub max_text : (slots_terms m.slots).max_text ≡ l.max_text
+  pub least_text : 16 ≤ l.max_text
+  pub text_room : l.max_text ≤ m.text.room
+  pub joined_room : l.max_text ≤ m.joined.room
+  pub node_widths : AreNodeWidths set.nodes m.widths.nodes.items
+  pub template_widths : AreTemplateWidths set.nodes set.templates m.widths.templates.items
+  pub depth : set_depth (tree_in set) ≤ m.cursor.depth
+  pub identifier : field_data m.identifier ≡ identifier
+  pub counted : m.counted ≤ l.max_total
+
+-- The field stands in the stream.
+pub record IsSent (f : FieldData) (bit : Bool) : Type 0 where
+  pub varies : f.operator ≢ Constant
+  pub as_sent : (l : Bounds) (p : PreviousData) → field_term l f p bit ≡ field_term l f p true
+
+-- The field begins with an ASCII text.
+abbrev pub IsAsciiFirst : FieldData → Type 0
+IsAsciiFirst f = (f.kind ≡ Ascii) × (f.operator ≢ Delta)
+
+-- The next instruction begins with an integer.
+abbrev pub BeginsWithInteger : Body → State → Type 0
+BeginsWithInteger (step (field at f) is) s = IsSent f (bit_of f s) × ¬ (IsAsciiFirst f)
+BeginsWithInteger (step (parts at e m) is) s = IsSent e (bit_of e s)
+BeginsWithInteger (step (sequence at f body) is) s = IsSent f (bit_of f s)
+BeginsWithInteger body s = ⊥
+
+-- The next instruction is an ASCII text, of which these bytes have come.
+abbrev pub BeginsWithText : Limits → Body → State → List ℕ → Type 0
+BeginsWithText l (step (field at f) is) s front = IsSent f (bit_of f s) × IsAsciiFirst f × ascii_text f.optional l.max_text front [] cut
+BeginsWithText l body s front = ⊥
+
+-- The next instruction is a decimal by parts, whose mantissa stands in the stream.
+abbrev pub GoesOnWithMantissa : Body → State → Type 0
+GoesOnWithMantissa (step (parts at e m) is) s = IsSent m (bit_of m s)
+GoesOnWithMantissa body s = ⊥
+
+-- The stage reads an integer: so a part's size.
+abbrev pub IsNumberStage : FieldData → Stage → Type 0
+IsNumberStage f (MantissaStage e) = Unit {0}
+IsNumberStage f (MantissaDelta e) = Unit {0}
+IsNumberStage f (Vector n) = ⊥
+IsNumberStage f (Part k) = f.kind ≢ Ascii
+IsNumberStage f (PartVector k n) = ⊥
+
+-- The stage reads a text or raw bytes, of which these have come.
+abbrev pub IsBytesStage : Bounds → FieldData → PreviousData → Stage → List ℕ → Type 0
+IsBytesStage l f p (MantissaStage e) front = ⊥
+IsBytesStage l f p (MantissaDelta e) front = ⊥
+IsBytesStage l f p (Vector n) front = length front < n
+IsBytesStage l f p (Part k) front = (f.kind ≡ Ascii) × IsPartFront l f p k front
+IsBytesStage l f p (PartVector k n) front = length front < n
+
+-- The next instruction is a field that goes on with this stage.
+abbrev pub GoesOnWithNumber : Limits → Body → State → Stage → Type 0
+GoesOnWithNumber l (step (field at f) is) s stage = IsSent f (bit_of f s) × IsStageOf (bounds l) f (previous_at f.entry s.context.dictionary) stage × IsNumberStage f stage
+GoesOnWithNumber l body s stage = ⊥
+
+abbrev pub GoesOnWithBytes : Limits → Body → State → Stage → List ℕ → Type 0
+GoesOnWithBytes l (step (field at f) is) s stage front =
+    IsSent f (bit_of f s) × IsStageOf (bounds l) f (previous_at f.entry s.context.dictionary) stage × IsBytesStage (bounds l) f (previous_at f.entry s.context.dictionary) stage front
+GoesOnWithBytes l body s stage front = ⊥
+
+-- The machine can take the unit that it waits for.
+abbrev pub CanTake : Waiting → Set → Limits → Machine → Type 0
+CanTake Map set l m = HaveNoStop m.cursor.map × (length m.cursor.map < map_limit) × (m.entity ≡ []) × (m.cursor ≡ record (at_rest m.cursor.depth) { map = m.cursor.map })
+CanTake Identifier set l m = IsEntity m.cursor.map × (first_bit (bits m.cursor.map) ≡ true) × (m.cursor ≡ record (at_rest m.cursor.depth) { map = m.cursor.map })
+CanTake (SegmentMap width) set l m = HaveNoStop m.cursor.map × (length m.cursor.map < map_limit) × (m.entity ≡ []) × (m.cursor.used ≡ 0) × IsPlaced set m.cursor × (width ≡ bits_of (body_in set m.cursor.left))
+CanTake Field set l m = IsPlaced set m.cursor × IsMapWhole m.cursor.map × BeginsWithInteger (body_in set m.cursor.left) (state_in (slots_dictionary m.slots) m.counted m.cursor)
+CanTake Text set l m = IsPlaced set m.cursor × IsMapWhole m.cursor.map × (m.entity ≡ []) × BeginsWithText l (body_in set m.cursor.left) (state_in (slots_dictionary m.slots) m.counted m.cursor) m.text.text
+CanTake (Number stage) set l m = IsPlaced set m.cursor × IsMapWhole m.cursor.map × GoesOnWithNumber l (body_in set m.cursor.left) (state_in (slots_dictionary m.slots) m.counted m.cursor) stage
+CanTake (Bytes stage) set l m = IsPlaced set m.cursor × IsMapWhole m.cursor.map × (m.entity ≡ []) × GoesOnWithBytes l (body_in set m.cursor.left) (state_in (slots_dictionary m.slots) m.counted m.cursor) stage m.text.text
+CanTake (Mantissa x) set l m = IsPlaced set m.cursor × IsMapWhole m.cursor.map × GoesOnWithMantissa (body_in set m.cursor.left) (state_in (slots_dictionary m.slots) m.counted m.cursor)
+
+-- The machine can go on.
+pub record IsReady (set : Set) (l : Limits) (m : Machine) : Type 0 where
+  pub supplied : IsSupplied set l m
   pub entity_open : HaveNoStop m.entity
   pub entity_short : length m.entity < 10
-  pub map_open : m.waiting ≡ Map → HaveNoStop (map_bytes m)
-  pub entity_unused : m.waiting ≡ Map → m.entity ≡ []
-  pub in_place : IsInPlace m.waiting set m
+  pub takes : CanTake m.waiting set l m
 
 -- Nothing was read.
-pub record IsFresh (m : Machine) : Type 0 where
+pub record IsFresh (set : Set) (m : Machine) : Type 0 where
   pub waiting : m.waiting ≡ Map
-  pub identifier : m.identifier ≡ None
-  pub map_len : m.map_len ≡ 0
+  pub cursor : m.cursor ≡ at_rest m.cursor.depth
+  pub dictionary : slots_dictionary m.slots ≡ fresh set.entries
   pub entity : m.entity ≡ []
-  pub cells : length m.maps.items ≡ map_limit
   pub turns : m.turns.count ≡ 0

@@ -1,0 +1,241 @@
+//! Where a decoder is in a message: the open segments, and what is left of each.
+
+ghost use Rattle.std.specs.Prelude.{◌≡◌, ◌⊎◌, ◌↔◌, ◌<◌, List, [], ◌∷◌, length, drop, IfOk, IsTrue, Some, None, option_map};
+ghost use Rattle.fast_wire.specs.Entities.{HaveNoStop, IsEntity};
+ghost use Rattle.fast_wire.specs.Maps.{map_limit, first_bit, later_bits};
+ghost use Rattle.fast_decoder.specs.Cursors.{CursorData, FrameData, bits_left, at_rest, entered, left_to};
+ghost use Rattle.fast_decoder.specs.Segments.{elements_data, first_node};
+ghost use Rattle.fast_decoder.specs.MapTaking.{IsMapTaken};
+
+use crate::pending::{MapFront, next_map};
+use fast_wire::{MAP_LIMIT, map_bit};
+use std::alloc::{AllocError, Global};
+use std::marker::Model;
+
+/// What is still to come of a sequence behind an element.
+#[derive(Clone, Copy, Debug)]
+pub struct Elements<'t> {
+    /// How many elements.
+    pub more: u32,
+    /// The nodes of each.
+    pub body: &'t [u32],
+    /// The bits that each uses.
+    pub width: usize,
+}
+
+/// The segment around an open group or element.
+#[derive(Clone, Copy)]
+struct Frame<'t> {
+    // the nodes behind the group or sequence
+    after: &'t [u32],
+    map_len: usize,
+    used: usize,
+    elements: Option<Elements<'t>>,
+}
+
+/// Where a decoder is in a message. All its memory is taken when it is made.
+#[derive(Drop)]
+pub struct Cursor<'t> {
+    // The first `open` frames count, the outermost first.
+    frames: Vec<Frame<'t>>,
+    open: usize,
+    left: &'t [u32],
+    // The cells of one map for each level, the outermost first; those of the innermost segment begin at `start`.
+    maps: Vec<u8>,
+    start: usize,
+    map_len: usize,
+    used: usize,
+}
+
+impl<'t> Model for Cursor<'t> {
+    ghost use Rattle.fast_decoder.specs.Cursors.{CursorData};
+
+    ghost Value = { CursorData };
+
+    ghost use Rattle.fast_decoder.specs.Segments.{cursor_data, IsCursor};
+
+    ghost view = { cursor_data };
+
+    ghost invariant = { IsCursor };
+}
+
+impl<'t> Cursor<'t> {
+    /// A cursor before a message, for at most so many open groups and elements at once.
+    ///
+    /// # Errors
+    ///
+    /// Memory was refused.
+    pub fn new(alloc: Global, depth: usize) -> Result<Cursor<'t>, AllocError>
+        ensures { IfOk result (λ c. c ≡ at_rest depth) }
+    {
+        let levels = depth.checked_add(1).ok_or(AllocError)?;
+        let cells = levels.checked_mul(MAP_LIMIT).ok_or(AllocError)?;
+        let empty = Frame {
+            after: &[],
+            map_len: 0,
+            used: 0,
+            elements: None,
+        };
+        let frames = vec![in alloc; empty; depth]?;
+        let maps = vec![in alloc; 0u8; cells]?;
+        Ok(Cursor {
+            frames,
+            open: 0,
+            left: &[],
+            maps,
+            start: 0,
+            map_len: 0,
+            used: 0,
+        })
+    }
+
+    /// Forgets all that was read.
+    pub fn reset(&mut self)
+        ensures { self.new ≡ at_rest self.old.depth }
+    {
+        self.open = 0;
+        self.start = 0;
+        self.left = &[];
+        self.clear_map();
+    }
+
+    /// The instructions of a message's template are to come.
+    pub fn begin(&mut self, body: &'t [u32])
+        ensures { self.new ≡ record self.old { left = body.entry.now } }
+    {
+        self.left = body;
+    }
+
+    /// Takes the bytes of the innermost segment's map that a piece goes on with.
+    pub fn take_map(&mut self, rest: &[u8]) -> MapFront
+        requires open { HaveNoStop self.old.map }
+        requires room { length self.old.map < map_limit }
+        ensures map { IsMapTaken self.old.map rest.now self.new.map result }
+        ensures same { self.new ≡ record self.old { map = self.new.map } }
+    {
+        let cells = &mut self.maps[self.start..self.start + MAP_LIMIT];
+        let front = next_map(cells, self.map_len, rest);
+        match front {
+            MapFront::Whole(bytes) => self.map_len += bytes,
+            MapFront::TooLong(_) => {}
+            MapFront::Cut => self.map_len += rest.len(),
+        }
+        front
+    }
+
+    /// The innermost segment has no map.
+    pub fn clear_map(&mut self)
+        ensures { self.new ≡ record self.old { map = []; used = 0 } }
+    {
+        self.map_len = 0;
+        self.used = 0;
+    }
+
+    /// The bytes of the innermost segment's map that have come.
+    #[inline]
+    pub fn map(&self) -> &[u8]
+        ensures { result.now ≡ self.now.map }
+    {
+        &self.maps[self.start..self.start + self.map_len]
+    }
+
+    /// How many they are.
+    #[inline]
+    pub fn map_len(&self) -> usize
+        ensures { result ≡ length self.now.map }
+    {
+        self.map_len
+    }
+
+    /// The next bit of the innermost segment. Behind the last one stand zeros for ever.
+    #[inline]
+    pub fn bit(&self) -> bool
+        requires map { (self.now.map ≡ []) ⊎ IsEntity self.now.map }
+        ensures { result ≡ first_bit (bits_left self.now) }
+    {
+        self.map_len > 0 && map_bit(self.map(), self.used)
+    }
+
+    /// Uses the next bit.
+    #[inline]
+    pub fn use_bit(&mut self)
+        ensures bits { bits_left self.new ≡ later_bits (bits_left self.old) }
+        ensures same { self.new ≡ record self.old { used = self.new.used } }
+    {
+        self.used = self.used.saturating_add(1);
+    }
+
+    /// The next instruction's node, if one is left of the innermost segment.
+    #[inline]
+    pub fn next(&self) -> Option<u32>
+        ensures { result ≡ first_node self.now.left }
+    {
+        self.left.first().copied()
+    }
+
+    /// The next instruction is whole.
+    #[inline]
+    pub fn advance(&mut self)
+        requires { 0 < length self.old.left }
+        ensures { self.new ≡ record self.old { left = drop 1 self.old.left } }
+    {
+        self.left = &self.left[1..];
+    }
+
+    /// A group begins, behind which the innermost segment goes on.
+    pub fn open_group(&mut self, body: &'t [u32])
+        requires room { length self.old.frames < self.old.depth }
+        ensures { self.new ≡ entered self.old None body.entry.now }
+    {
+        self.enter(None, body);
+    }
+
+    /// An element begins, behind which come others, and then what is left of the innermost segment.
+    pub fn open_element(&mut self, elements: Elements<'t>)
+        requires room { length self.old.frames < self.old.depth }
+        ensures { self.new ≡ entered self.old (Some (elements_data elements.entry)) elements.entry.body.now }
+    {
+        self.enter(Some(elements), elements.body);
+    }
+
+    /// A segment begins.
+    fn enter(&mut self, elements: Option<Elements<'t>>, body: &'t [u32])
+        requires room { length self.old.frames < self.old.depth }
+        ensures { self.new ≡ entered self.old (option_map elements_data elements.entry) body.entry.now }
+    {
+        self.frames[self.open] = Frame {
+            after: self.left,
+            map_len: self.map_len,
+            used: self.used,
+            elements,
+        };
+        self.open += 1;
+        self.start += MAP_LIMIT;
+        self.left = body;
+        self.map_len = 0;
+        self.used = 0;
+    }
+
+    /// Whether the innermost segment is the message's.
+    #[inline]
+    pub fn is_outermost(&self) -> bool
+        ensures { IsTrue result ↔ (self.now.frames ≡ []) }
+    {
+        self.open == 0
+    }
+
+    /// The innermost segment is whole, and the one around it goes on. The answer is what is still to come of a sequence.
+    pub fn close(&mut self) -> Option<Elements<'t>>
+        requires inner { 0 < length self.old.frames }
+        ensures { (f : FrameData) (fs : List FrameData) → self.old.frames ≡ f ∷ fs
+            → (self.new ≡ left_to self.old f fs) × (option_map elements_data result ≡ f.elements) }
+    {
+        self.open -= 1;
+        self.start -= MAP_LIMIT;
+        let frame = self.frames[self.open];
+        self.left = frame.after;
+        self.map_len = frame.map_len;
+        self.used = frame.used;
+        frame.elements
+    }
+}
