@@ -1,5 +1,6 @@
 pub mod Tree
 pub mod Sizes
+pub mod Saturation
 pub mod AsWritten
 pub mod Notation
 pub mod Entries
