@@ -1,6 +1,7 @@
 pub mod Tree
 pub mod Sizes
 pub mod Saturation
+pub mod Counts
 pub mod AsWritten
 pub mod Notation
 pub mod Entries
