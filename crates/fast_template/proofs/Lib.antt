@@ -7,6 +7,8 @@ pub mod FlatTrees
 pub mod Walks
 pub mod Bodies
 pub mod Saturation
+pub mod CapBounds
+pub mod Greatest
 pub mod NameTests
 pub mod TableKeys
 pub mod FieldLists

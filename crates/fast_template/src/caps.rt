@@ -1,6 +1,6 @@
 //! How deep a set nests, and the most events that a message of it can have.
 
-ghost use Rattle.std.specs.Prelude.{◌≡◌, ℕ, ◌+◌, ◌*◌, max, ◌<◌, ◌≤◌, length, slice_index_or};
+ghost use Rattle.std.specs.Prelude.{◌≡◌, ℕ, ◌+◌, ◌*◌, ◌^◌, max, ◌<◌, ◌≤◌, length, slice_index_or};
 ghost use Rattle.fast_template.specs.Flat.{tree_of, body_of, instructions_from, no_instruction};
 ghost use Rattle.fast_template.specs.Numbers.{AreBelow, NameLaterNodes};
 ghost use Rattle.fast_template.specs.Saturation.{in_32_bits, in_64_bits};
@@ -11,6 +11,54 @@ use crate::instructions::{Node, Shape};
 use crate::sets::Templates;
 use fast_value::Limits;
 
+impl Templates {
+    /// How deep groups and sequences nest, at most: 0 for a set without any.
+    pub fn depth(&self) -> u32
+        ensures greatest { result ≡ set_depth (tree_of self.now) }
+        ensures few { result ≤ 65536 }
+    {
+        let mut deepest: u32 = 0;
+        for template in &self.templates {
+            deepest = deepest.max(body_depth(&self.nodes, &template.body));
+        }
+        deepest
+    }
+
+    /// The most events of a message: the greatest message by the limit on the elements of each sequence, or by that on the
+    /// elements of the whole message, whichever is less.
+    pub fn message_cap(&self, limits: Limits) -> u64
+        ensures { result ≡ message_cap (tree_of self.now) limits }
+    {
+        let max_total = widened(limits.max_total);
+        let mut by_sequence: u64 = 0;
+        let mut by_message: u64 = 0;
+        for template in &self.templates {
+            let message = group_counts(body_counts(&self.nodes, limits, &template.body));
+            by_sequence = by_sequence.max(message.all);
+            by_message = by_message.max(with_elements(message, max_total));
+        }
+        by_sequence.min(by_message)
+    }
+}
+
+/// The limit in 64 bits.
+fn widened(limit: u32) -> u64
+    ensures value { result ≡ limit }
+    ensures small { result < 2 ^ 32 }
+{
+    u64::from(limit)
+}
+
+/// The most events of a message with so many elements.
+fn with_elements(message: Counts, max_total: u64) -> u64
+    ensures { (a o w : ℕ) → AreCounts message a o w → result ≡ in_64_bits (o + max_total * w) }
+{
+    message
+        .widest
+        .saturating_mul(max_total)
+        .saturating_add(message.outer)
+}
+
 /// How deep groups and sequences nest in a body.
 #[cycle(depth)]
 fn body_depth(nodes: &[Node], body: &[u32]) -> u32
@@ -18,9 +66,9 @@ fn body_depth(nodes: &[Node], body: &[u32]) -> u32
     requires below { AreBelow (length nodes.now) body.now }
     ensures { result ≡ in_32_bits (body_depth (body_of 0 (instructions_from 0 nodes.now) body.now)) }
 {
-    let mut deepest = 0;
+    let mut deepest: u32 = 0;
     for number in body {
-        deepest = node_depth(nodes, *number as usize).max(deepest);
+        deepest = deepest.max(node_depth(nodes, *number as usize));
     }
     deepest
 }

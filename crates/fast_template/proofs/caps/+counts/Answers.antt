@@ -36,7 +36,6 @@ node_counts-body_counts-requires-in-Sequence t c =
     let smaller = smaller_at_body limit c.args.number body.result.now c.requires.below later in
     (subst (λ m. left_at_body limit body.result.now < m) c.decreases smaller, (c.requires.later, all_below c.args.number limit body.result.now later))
 
-
 pub body_counts-loop-number-preserved : goal.body_counts-loop-number-preserved
 body_counts-loop-number-preserved t c =
     let i = c.loop-number.invariant in
@@ -50,11 +49,15 @@ body_counts-loop-number-preserved t c =
     let o = i.1 in
     let w = i.2 in
     let l = c.args.limits in
-    let u = event_weights in
-    (a + size u l here, o + outer u here, max w (widest u here), c.counts_of_both-counts.ensures a o w _ _ _ i.3 c.node_counts.ensures,
-    add_assoc a (size u l here) (body_size u l rest) ∙ ap (λ b. a + body_size u l b) (sym next) ∙ i.4,
-    add_assoc o (outer u here) (body_outer u rest) ∙ ap (λ b. o + body_outer u b) (sym next) ∙ i.5,
-    max_assoc w (widest u here) (body_widest u rest) ∙ ap (λ b. max w (body_widest u b)) (sym next) ∙ i.6)
+    let u = event_weights in (
+      a + size u l here,
+      o + outer u here,
+      max w (widest u here),
+      c.counts_of_both-counts.ensures a o w _ _ _ i.3 c.node_counts.ensures,
+      add_assoc a (size u l here) (body_size u l rest) ∙ ap (λ b. a + body_size u l b) (sym next) ∙ i.4,
+      add_assoc o (outer u here) (body_outer u rest) ∙ ap (λ b. o + body_outer u b) (sym next) ∙ i.5,
+      max_assoc w (widest u here) (body_widest u rest) ∙ ap (λ b. max w (body_widest u b)) (sym next) ∙ i.6,
+    )
 
 pub body_counts-returns : goal.body_counts-returns
 body_counts-returns t c =
@@ -70,7 +73,8 @@ body_counts-returns t c =
     record {
       all = counts.all ∙ ap in_64_bits (sym (add-zero a) ∙ ap (λ b. a + body_size u l b) (sym none) ∙ i.4);
       outer = counts.outer ∙ ap in_64_bits (sym (add-zero o) ∙ ap (λ b. o + body_outer u b) (sym none) ∙ i.5);
-      widest = counts.widest ∙ ap in_64_bits (sym (max-zero w) ∙ ap (λ b. max w (body_widest u b)) (sym none) ∙ i.6) }
+      widest = counts.widest ∙ ap in_64_bits (sym (max-zero w) ∙ ap (λ b. max w (body_widest u b)) (sym none) ∙ i.6);
+    }
 
 pub node_counts-returns-in-Field : goal.node_counts-returns-in-Field
 node_counts-returns-in-Field t c =

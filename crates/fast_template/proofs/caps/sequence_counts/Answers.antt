@@ -11,4 +11,5 @@ returns c a o w h =
     record {
       all = c.saturating_add.ensures ∙ ap (λ x. min (x + 2) top) product ∙ stopped_two top (m * (2 + a));
       outer = refl;
-      widest = c.max.ensures ∙ ap (λ x. max x c.group_counts-element.result.widest) element.outer ∙ ap (max (min (2 + o) top)) element.widest ∙ stopped_max top (2 + o) w }
+      widest = c.max.ensures ∙ ap (λ x. max x c.group_counts-element.result.widest) element.outer ∙ ap (max (min (2 + o) top)) element.widest ∙ stopped_max top (2 + o) w;
+    }
