@@ -8,6 +8,7 @@ pub mod Entries
 pub mod Uses
 pub mod InPlace
 pub mod Checked
+pub mod Segments
 pub mod Refused
 pub mod Numbers
 pub mod Nodes

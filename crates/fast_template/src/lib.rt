@@ -13,6 +13,7 @@ pub mod operators;
 mod passes;
 pub mod queries;
 mod reading;
+mod segments;
 pub mod sets;
 mod uses;
 mod written;
