@@ -1,6 +1,7 @@
 //! Template sets of FAST streams: their text, their checks, and the form that a decoder walks.
 #![tactic(auto)]
 
+mod caps;
 mod checks;
 pub mod codes;
 mod documents;
@@ -12,6 +13,7 @@ pub mod operators;
 mod passes;
 pub mod queries;
 mod reading;
+mod segments;
 pub mod sets;
 mod uses;
 mod written;
