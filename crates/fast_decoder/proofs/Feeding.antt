@@ -14,7 +14,7 @@ use Rattle.fast_decoder.specs.Sinks.{Takes, TakesUpTo}
 use Rattle.fast_decoder.specs.Readers.{Reader, Done, Emit, Stop, Byte}
 use Rattle.fast_decoder.specs.Machine.{after_bytes}
 use Rattle.fast_decoder.specs.Running.{Stands, at_fault, settle, step, run, after_byte, message_begun}
-use Rattle.fast_decoder.specs.Handing.{Hands, due, Waits, TakesQuietly, IsTaken, stood, Leads, Took, Failed, Stopped, Fed}
+use Rattle.fast_decoder.specs.Handing.{Hands, due, Waits, Quiet, IsTaken, stood, Leads, Took, Failed, Stopped, Fed}
 use Rattle.fast_decoder.proofs.Streams.{run-append}
 use Rattle.fast_decoder.proofs.Takings.{due-waits, last_of}
 
@@ -95,7 +95,7 @@ module _ (t : Tree) (l : Limits) where
       ap (λ (x : List EventData × Stands Dictionary). (x.0 ++ (run (message_begun t l) (suc n) x.1 w).0, (run (message_begun t l) (suc n) x.1 w).1)) e
 
   -- Bytes of which only the last hands something over.
-  pub quiet_run : (n : ℕ) (r : Reader Dictionary) (b : ℕ) (w : List ℕ) → TakesQuietly (due t l r) (b ∷ w)
+  pub quiet_run : (n : ℕ) (r : Reader Dictionary) (b : ℕ) (w : List ℕ) → Quiet (due t l r) (b ∷ w)
       → run (message_begun t l) n (stood r) (b ∷ w) ≡ settle (n + length (b ∷ w)) (after_bytes (due t l r) (b ∷ w))
   quiet_run n r b [] h = let one : suc n ≡ n + 1 = omega arith in run-one n r b ∙ ap (λ m. settle m (after_byte (due t l r) b)) one
   quiet_run n r b (c ∷ w) h =
@@ -103,7 +103,7 @@ module _ (t : Tree) (l : Limits) where
       let e = due-waits t l q h.1.0 in
       let sum : suc n + length (c ∷ w) ≡ n + length (b ∷ c ∷ w) = omega arith in
       run-cons n r b (c ∷ w) h.1.0
-      ∙ quiet_run (suc n) q c w (subst (λ (p : Reader Dictionary). TakesQuietly p (c ∷ w)) (sym e) h.1)
+      ∙ quiet_run (suc n) q c w (subst (λ (p : Reader Dictionary). Quiet p (c ∷ w)) (sym e) h.1)
       ∙ ap (λ (p : Reader Dictionary). settle (suc n + length (c ∷ w)) (after_bytes p (c ∷ w))) e
       ∙ ap (λ m. settle m (after_bytes q (c ∷ w))) sum
 
@@ -113,7 +113,7 @@ module _ (t : Tree) (l : Limits) where
     pub before : Leads t l (stood r) u [] at
     pub last : (n : ℕ) → run (message_begun t l) n at (b ∷ []) ≡ settle (suc n) (after_bytes (due t l r) (u ++ b ∷ []))
 
-  pub quiet_before : (r : Reader Dictionary) (u : List ℕ) (b : ℕ) → TakesQuietly (due t l r) (u ++ b ∷ []) → QuietBefore r u b
+  pub quiet_before : (r : Reader Dictionary) (u : List ℕ) (b : ℕ) → Quiet (due t l r) (u ++ b ∷ []) → QuietBefore r u b
   quiet_before r [] b h = record { at = stood r; before = λ n. refl; last = λ n. run-one n r b }
   quiet_before r (a ∷ []) b h =
       let q = after_byte (due t l r) a in
@@ -125,7 +125,7 @@ module _ (t : Tree) (l : Limits) where
   quiet_before r (a ∷ c ∷ u) b h =
       let q = after_byte (due t l r) a in
       let e = due-waits t l q h.1.0 in
-      let more = quiet_before q (c ∷ u) b (subst (λ (p : Reader Dictionary). TakesQuietly p (c ∷ u ++ b ∷ [])) (sym e) h.1) in
+      let more = quiet_before q (c ∷ u) b (subst (λ (p : Reader Dictionary). Quiet p (c ∷ u ++ b ∷ [])) (sym e) h.1) in
       record {
         at = more.at;
         before = λ n. run-cons n r a (c ∷ u) h.1.0 ∙ more.before (suc n);
@@ -182,7 +182,7 @@ module _ (t : Tree) (l : Limits) where
     fed_both from mid to u v s m s' (Err Why.L4) a b = absurd b
 
     -- what is known of bytes of which only the last hands something over
-    quiet_fed : (r : Reader Dictionary) (b : ℕ) (w : List ℕ) (s : S) (o : Result Unit FaultCode) (s' : S) (q : Reader Dictionary) → TakesQuietly (due t l r) (b ∷ w)
+    quiet_fed : (r : Reader Dictionary) (b : ℕ) (w : List ℕ) (s : S) (o : Result Unit FaultCode) (s' : S) (q : Reader Dictionary) → Quiet (due t l r) (b ∷ w)
         → Hands takes stops (after_bytes (due t l r) (b ∷ w)) s o s' q → Fed takes stops t l (stood r) (b ∷ w) s o s' (stood q)
     quiet_fed r b w s (Ok u) s' q h i =
         let (es, settled, taken) = hands_settle takes stops (after_bytes (due t l r) (b ∷ w)) s u s' q i in
@@ -193,7 +193,7 @@ module _ (t : Tree) (l : Limits) where
     quiet_fed r b w s (Err Why.SinkStopped) s' q h i =
         let (es, settled, stopped) = hands_stop takes stops (after_bytes (due t l r) (b ∷ w)) s s' q i in
         let (u, last, e) = last_of (b ∷ w) (omega arith) in
-        let k = quiet_before r u last (subst (λ (x : List ℕ). TakesQuietly (due t l r) x) e h) in
+        let k = quiet_before r u last (subst (λ (x : List ℕ). Quiet (due t l r) x) e h) in
         record {
           before = u;
           byte = last;
@@ -207,7 +207,7 @@ module _ (t : Tree) (l : Limits) where
         }
     quiet_fed r b w s (Err Why.L4) s' q h i = hands_no_count takes stops (after_bytes (due t l r) (b ∷ w)) s s' q i
 
-    by_list : (r : Reader Dictionary) (w : List ℕ) (s : S) (o : Result Unit FaultCode) (s' : S) (q : Reader Dictionary) → 0 < length w → TakesQuietly (due t l r) w
+    by_list : (r : Reader Dictionary) (w : List ℕ) (s : S) (o : Result Unit FaultCode) (s' : S) (q : Reader Dictionary) → 0 < length w → Quiet (due t l r) w
         → Hands takes stops (after_bytes (due t l r) w) s o s' q → Fed takes stops t l (stood r) w s o s' (stood q)
     by_list r [] s o s' q some h i = absurd (omega (arith, some))
     by_list r (b ∷ w) s o s' q some h i = quiet_fed r b w s o s' q h i

@@ -9,7 +9,7 @@ use Rattle.fast_decoder.specs.Readers.{Reader, Done, Emit, Stop, Byte, bind, Rea
 use Rattle.fast_decoder.specs.GrammarReaders.{settles_reader, integer_reader, ascii_text_reader, raw_reader, presence_map_reader, reader_of}
 use Rattle.fast_decoder.specs.Grammar.{Grammar, give, fault, hand, integer, ascii_text, raw, presence_map, narrow, ◌>>=◌, phrase_of}
 use Rattle.fast_decoder.proofs.Binds.{goes, reads-bind}
-use Rattle.fast_decoder.proofs.Units.{reads-gives, reads-hands, reads-settles}
+use Rattle.fast_decoder.proofs.UnitReaders.{reads-gives, reads-hands, reads-settles}
 use Rattle.fast_decoder.proofs.Integers.{reads-integer, reads-map}
 use Rattle.fast_decoder.proofs.Texts.{reads-raw, reads-ascii}
 

@@ -10,7 +10,7 @@ use Rattle.fast_dict.specs.Dictionary.{Dictionary}
 use Rattle.fast_decoder.specs.Readers.{Reader, Stop, bind}
 use Rattle.fast_decoder.specs.GrammarReaders.{entity_reader}
 use Rattle.fast_decoder.specs.Machine.{after_bytes}
-use Rattle.fast_decoder.specs.Handing.{Waits, TakesQuietly}
+use Rattle.fast_decoder.specs.Handing.{Waits, Quiet}
 use Rattle.fast_decoder.proofs.Binds.{All-front}
 use Rattle.fast_decoder.proofs.Stepping.{after-more, entity-stays, entity-ends, entity-full}
 
@@ -71,11 +71,11 @@ module _ (c : Code) (n : ℕ) (k : List ℕ → Reader Dictionary) where
       entity-full c k front b n room (All-front (λ x. x < 128) front (b ∷ []) h).0 (no_stop b small)
 
   -- The bytes behind those in hand hand nothing over before the last.
-  pub takes_quietly : (front w : List ℕ) → IsOpenBefore front w → length (front ++ w) ≤ n → TakesQuietly (after_bytes entity_then front) w
+  pub takes_quietly : (front w : List ℕ) → IsOpenBefore front w → length (front ++ w) ≤ n → Quiet (after_bytes entity_then front) w
   takes_quietly front [] h short = tt
   takes_quietly front (b ∷ w) h short =
       let len : length (front ++ b ∷ w) ≡ length front + length (b ∷ w) = length-append front (b ∷ w) in
       let room : length front < n = omega arith in (
         open_waits front h.0 room,
-        subst (λ r. TakesQuietly r w) (after-more entity_then front b) (takes_quietly (front ++ b ∷ []) w h.1 (rw (shifted front b w) short)),
+        subst (λ r. Quiet r w) (after-more entity_then front b) (takes_quietly (front ++ b ∷ []) w h.1 (rw (shifted front b w) short)),
       )

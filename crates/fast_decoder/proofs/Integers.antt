@@ -13,7 +13,7 @@ use Rattle.fast_decoder.specs.Phrases.{Reached, whole, cut, wrong}
 use Rattle.fast_decoder.specs.Units.{integer, presence_map, WrongInt}
 use Rattle.fast_decoder.specs.Readers.{Reads}
 use Rattle.fast_decoder.specs.GrammarReaders.{overlong, lowered, within, fitting, judged, integer_reader, spare, judged_map, presence_map_reader}
-use Rattle.fast_decoder.proofs.Units.{closed, reads-closed, reads-like}
+use Rattle.fast_decoder.proofs.UnitReaders.{closed, reads-closed, reads-like}
 use Rattle.fast_decoder.proofs.Fronts.{rest_of}
 
 T-true : (b : Bool) → T b → b ≡ true

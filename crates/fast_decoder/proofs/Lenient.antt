@@ -13,7 +13,7 @@ use Rattle.fast_decoder.specs.Phrases.{whole, Phrase, gives, hands, settles, ◌
 use Rattle.fast_decoder.specs.Units
 use Rattle.fast_decoder.specs.Grammar.{Grammar, give, fault, hand, integer, ascii_text, raw, presence_map, narrow, phrase_of}
 use Rattle.fast_decoder.specs.Messages.{message_term, SpellsMessage}
-use Rattle.fast_decoder.proofs.Units.{settled-whole}
+use Rattle.fast_decoder.proofs.UnitReaders.{settled-whole}
 
 -- What is the first phrase whole is the second one whole.
 pub record Keeps {A : Type 0} (p q : Phrase A) : Type 0 where

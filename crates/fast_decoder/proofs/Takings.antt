@@ -24,7 +24,7 @@ use Rattle.fast_decoder.specs.GrammarReaders.{settles_reader, judged, reader_of}
 use Rattle.fast_decoder.specs.Continuations.{message_then}
 use Rattle.fast_decoder.specs.Machine.{after_bytes}
 use Rattle.fast_decoder.specs.Running.{after_byte}
-use Rattle.fast_decoder.specs.Handing.{Hands, due, Waits, TakesQuietly, IsTaken}
+use Rattle.fast_decoder.specs.Handing.{Hands, due, Waits, Quiet, IsTaken}
 use Rattle.fast_decoder.specs.Positions.{Set, tree_in, behind_map, mapped_reader, map_reader}
 use Rattle.fast_decoder.proofs.Hanging.{hands_waits, hands_fault, hands_as}
 use Rattle.fast_decoder.proofs.InHand.{entity_then, IsOpenBefore, open_in_entity, open_in_open, open_waits, whole_gives, full_stops, takes_quietly}
@@ -60,7 +60,7 @@ module _ {S : Type 0} (takes stops : S → EventData → S → Type 0) (t : Tree
     taken_by n s r s' to some within before short h = record {
       some = some;
       within = within;
-      quiet = subst (λ (p : Reader Dictionary). TakesQuietly p (take n rest)) (sym here) (takes_quietly c room k front (take n rest) before short);
+      quiet = subst (λ (p : Reader Dictionary). Quiet p (take n rest)) (sym here) (takes_quietly c room k front (take n rest) before short);
       hands = hands_as takes stops s r s' to (ap (λ (p : Reader Dictionary). after_bytes p (take n rest)) here ∙ sym (after-append (entity_then c room k) front (take n rest))) h;
     }
 

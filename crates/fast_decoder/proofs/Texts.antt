@@ -11,7 +11,7 @@ use Rattle.fast_decoder.specs.Phrases.{Reached, whole, cut, wrong}
 use Rattle.fast_decoder.specs.Units.{raw, ascii_text, HasLeadingZero}
 use Rattle.fast_decoder.specs.Readers.{Reader, Done, Stop, Byte, Runs, AreBytes, Reads}
 use Rattle.fast_decoder.specs.GrammarReaders.{raw_reader, characters_reader, after_zero_reader, bare_stop, first_character_reader, ascii_text_reader}
-use Rattle.fast_decoder.proofs.Units.{empty-length, below-head, below-rest, below-cons, below-nil}
+use Rattle.fast_decoder.proofs.UnitReaders.{empty-length, below-head, below-rest, below-cons, below-nil}
 use Rattle.fast_decoder.proofs.Fronts.{head_of, rest_of}
 use Rattle.fast_decoder.proofs.Binds.{All-front}
 

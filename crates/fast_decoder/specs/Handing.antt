@@ -13,6 +13,7 @@ use Rattle.fast_decoder.specs.Readers.{Reader, Done, Emit, Stop, Byte}
 use Rattle.fast_decoder.specs.GrammarReaders.{reader_of}
 use Rattle.fast_decoder.specs.Continuations.{message_then}
 use Rattle.fast_decoder.specs.Machine.{after_bytes}
+pub use Rattle.fast_decoder.specs.Taking.{Waits, Quiet}
 use Rattle.fast_decoder.specs.Running.{Stands, at_start, amid, at_fault, after_byte, run, message_begun}
 
 -- The sink takes, one after the other, the events that the reader hands over before it waits or ends, and this is what is
@@ -30,20 +31,11 @@ due t l (Emit e r) = Emit e r
 due t l (Stop c) = Stop c
 due t l (Byte f) = Byte f
 
--- The reader waits for a byte.
-abbrev pub Waits : Reader Dictionary → Type 0
-Waits r = (f : ℕ → Reader Dictionary) × (r ≡ Byte f)
-
--- The reader waits for each of the bytes, and hands nothing over before the last.
-abbrev pub TakesQuietly : Reader Dictionary → List ℕ → Type 0
-TakesQuietly r [] = Unit {0}
-TakesQuietly r (b ∷ w) = Waits r × TakesQuietly (after_byte r b) w
-
 -- A machine that has the reader still to read takes some of the bytes, of which only the last hands something over.
 pub record IsTaken {S : Type 0} (takes stops : S → EventData → S → Type 0) (t : Tree) (l : Limits) (from : Reader Dictionary) (rest : List ℕ) (s : S) (n : ℕ) (r : Result Unit FaultCode) (s' : S) (to : Reader Dictionary) : Type 0 where
   pub some : 0 < n
   pub within : n ≤ length rest
-  pub quiet : TakesQuietly (due t l from) (take n rest)
+  pub quiet : Quiet (due t l from) (take n rest)
   pub hands : Hands takes stops (after_bytes (due t l from) (take n rest)) s r s' to
 
 -- where a reader stands that waits or ends

@@ -18,10 +18,14 @@ pub mod Continuations
 pub mod Running
 pub mod Frames
 pub mod Machine
-pub mod Decoding
 pub mod Positions
 pub mod Taking
 pub mod Settling
 pub mod Stages
 pub mod Cursors
 pub mod Serving
+pub mod Segments
+pub mod MapTaking
+pub mod Scratches
+pub mod NextUnits
+pub mod Moving

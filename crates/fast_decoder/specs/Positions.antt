@@ -1,5 +1,5 @@
 -- Where a machine is in a stream, by what it keeps.
-use Rattle.std.specs.Prelude.{◌≡◌, ◌≢◌, ◌⊎◌, ℕ, suc, ◌+◌, ◌<◌, ◌≤◌, ◌^◌, Bool, true, false, if◌then◌else◌, List, [], ◌∷◌, length, map, ℤ, Option, Some, None}
+use Rattle.std.specs.Prelude.{◌≡◌, ◌≢◌, ◌⊎◌, ℕ, suc, ◌+◌, ◌-◌, ◌<◌, ◌≤◌, ◌^◌, Bool, true, false, if◌then◌else◌, List, [], ◌∷◌, length, map, ℤ, Option, Some, None, Ok}
 use Rattle.fast_wire.specs.Entities.{HaveNoStop, IsEntity}
 use Rattle.fast_wire.specs.Maps.{map_limit, bits, first_bit}
 use Rattle.fast_value.specs.declared.settings.Limits.{Limits}
@@ -15,7 +15,7 @@ use Rattle.fast_template.specs.Tree.{FieldData, identifier, uses_bit, field, par
 use Rattle.fast_template.specs.declared.sets.Templates.{Templates}
 use Rattle.fast_template.specs.Flat.{field_data, instructions_from, template_data, templates_of, nodes_of}
 use Rattle.fast_dict.specs.Dictionary.{PreviousData, Dictionary, fresh, previous_at}
-use Rattle.fast_dict.specs.Operators.{Outcome}
+use Rattle.fast_dict.specs.Operators.{Outcome, Kept, kept_length, subtraction_step}
 use Rattle.fast_dict.specs.Slots.{slots_dictionary, slots_terms}
 use Rattle.fast_decoder.specs.Phrases.{cut}
 use Rattle.fast_decoder.specs.Units.{ascii_text}
@@ -180,8 +180,8 @@ pub record IsSupplied (set : Set) (l : Limits) (m : Machine) : Type 0 where
   pub some_entry : 1 ≤ set.entries
   pub max_text : (slots_terms m.slots).max_text ≡ l.max_text
   pub least_text : 16 ≤ l.max_text
-  pub text_room : l.max_text ≤ m.text.room
-  pub joined_room : l.max_text ≤ m.joined.room
+  pub text_room : l.max_text ≤ m.text.capacity
+  pub joined_room : l.max_text ≤ m.joined.capacity
   pub node_widths : AreNodeWidths set.nodes m.widths.nodes.items
   pub template_widths : AreTemplateWidths set.nodes set.templates m.widths.templates.items
   pub depth : set_depth (tree_in set) ≤ m.cursor.depth
@@ -221,6 +221,10 @@ IsNumberStage f (MantissaDelta e) = Unit {0}
 IsNumberStage f (Vector n) = ⊥
 IsNumberStage f (Part k) = f.kind ≢ Ascii
 IsNumberStage f (PartVector k n) = ⊥
+
+-- These bytes of the part of a text delta have come.
+abbrev pub IsPartFront : Bounds → FieldData → PreviousData → ℤ → List ℕ → Type 0
+IsPartFront l f p k front = (kept : Kept) × (subtraction_step f p k ≡ Ok kept) × ascii_text false (l.max_text - kept_length kept) front [] cut
 
 -- The stage reads a text or raw bytes, of which these have come.
 abbrev pub IsBytesStage : Bounds → FieldData → PreviousData → Stage → List ℕ → Type 0

@@ -3,8 +3,10 @@ use Rattle.std.specs.Prelude.{◌≡◌, ℕ, List, length, slice_get, slice_ind
 use Rattle.fast_value.specs.declared.kinds.Kind.TheVariants.{UInt32, Int32, Int64}
 use Rattle.fast_template.specs.declared.instructions.Node.{Node}
 use Rattle.fast_template.specs.declared.instructions.Template.{Template}
-use Rattle.fast_template.specs.Tree.{Body, bits_of, message_bits}
-use Rattle.fast_template.specs.Nodes.{body_of, instructions_from, template_data}
+use Rattle.fast_template.specs.declared.instructions.Shape.{Shape}
+use Rattle.fast_template.specs.declared.instructions.Shape.TheVariants.{Field, Decimal, Group, Sequence}
+use Rattle.fast_template.specs.Tree.{Label, Instruction, field, parts, group, sequence, Body, bits_of, message_bits}
+use Rattle.fast_template.specs.Nodes.{field_data, body_of, instructions_from, template_data}
 use Rattle.fast_template.specs.NodeData.{ShapeData, a_field, a_decimal, a_group, a_sequence, shape_data}
 use Rattle.fast_template.specs.Numbers.{numbers_of}
 use Rattle.fast_dict.specs.Stores.{Terms}
@@ -24,6 +26,13 @@ ServesNodes entries terms ns = (n : ℕ) (v : Node) → slice_get ns n ≡ Some 
 -- the body of nodes of a set
 abbrev pub body_among : List Node → List ℕ → Body
 body_among nodes ns = body_of 0 (instructions_from 0 nodes) ns
+
+-- the instruction of a shape that names nodes of a set
+abbrev pub instruction_among : List Node → Label → Shape → Instruction
+instruction_among nodes at (Field f) = field at (field_data f)
+instruction_among nodes at (Decimal e m) = parts at (field_data e) (field_data m)
+instruction_among nodes at (Group optional body) = group at optional (body_among nodes body.items)
+instruction_among nodes at (Sequence length body) = sequence at (field_data length) (body_among nodes body.items)
 
 -- The widths are the bits that the bodies of the nodes use.
 pub record AreNodeWidths (nodes : List Node) (widths : List ℕ) : Type 0 where

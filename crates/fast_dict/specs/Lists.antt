@@ -15,7 +15,7 @@ lists_dictionary s = map held_data s.entries.items
 
 -- Any entry takes a text, for which memory may be refused.
 abbrev pub lists_terms : Lists → Terms
-lists_terms s = record { max_text = s.max_text; takes_text = λ e. true; can_refuse = true }
+lists_terms s = record { entries = length s.entries.items; max_text = s.max_text; takes_text = λ e. true; can_refuse = true }
 
 -- the bytes of the texts, and the entries
 abbrev pub lists_units : Lists → ℕ

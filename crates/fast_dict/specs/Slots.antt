@@ -28,7 +28,7 @@ slots_dictionary s = entries_data s.block.items s.places.items s.entries.items
 
 -- A text can stand where there is a slot. No memory is wanted.
 abbrev pub slots_terms : Slots → Terms
-slots_terms s = record { max_text = s.max_text; takes_text = λ e. is_some (slice_index_or s.places.items e None); can_refuse = false }
+slots_terms s = record { entries = length s.entries.items; max_text = s.max_text; takes_text = λ e. is_some (slice_index_or s.places.items e None); can_refuse = false }
 
 -- the whole block, and the entries
 abbrev pub slots_units : Slots → ℕ
@@ -43,3 +43,7 @@ length-entries b (p ∷ ps) (e ∷ es) = ap suc (length-entries b ps es)
 -- the block has a slot for each entry at most
 pub slots_bounded : (s : Slots) → slots_units s ≤ length (slots_dictionary s) * s.max_text + length (slots_dictionary s)
 slots_bounded s = let e : length (slots_dictionary s) ≡ length s.entries.items = length-entries s.block.items s.places.items s.entries.items in let f = s.entries.ok.0 in let h : vec_len s.block ≤ length s.entries.items * s.max_text = rw (← f) s.small in rw (e) (omega (arith, h, f))
+
+-- it has as many entries as it was made for
+pub slots_sized : (s : Slots) → length (slots_dictionary s) ≡ (slots_terms s).entries
+slots_sized s = length-entries s.block.items s.places.items s.entries.items

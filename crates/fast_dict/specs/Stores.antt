@@ -2,8 +2,10 @@
 use Rattle.std.specs.Prelude.{ℕ, ◌≤◌, Bool, IsTrue, List, length}
 use Rattle.fast_value.specs.Kinds.{ScalarData, AsciiText, UnicodeText, ByteVector}
 
--- The greatest length of a text, the entries that take one, and whether a text may be refused for want of memory.
+-- The number of entries, the greatest length of a text, the entries that take one, and whether a text may be refused for want
+-- of memory.
 pub record Terms : Type 0 where
+  pub entries : ℕ
   pub max_text : ℕ
   pub takes_text : ℕ → Bool
   pub can_refuse : Bool

@@ -1,0 +1,96 @@
+//! Bytes of a text that no piece has whole.
+
+ghost use Rattle.std.specs.Prelude.{◌≡◌, ◌+◌, ◌<◌, ◌≤◌, ◌==◌, [], ◌∷◌, ◌++◌, length, IfOk};
+
+use std::alloc::{AllocError, Global};
+use std::marker::Model;
+
+/// The bytes of a text as they come, and room for more. All its memory is taken when it is made.
+#[derive(Drop)]
+pub struct Scratch {
+    cells: Vec<u8>,
+    len: usize,
+}
+
+impl Model for Scratch {
+    ghost use Rattle.std.specs.Prelude.{◌≤◌, take, vec_len};
+    ghost use Rattle.fast_decoder.specs.Scratches.{Held};
+
+    ghost Value = { Held };
+
+    ghost view = { λ s. record { text = take s.len s.cells.items; capacity = vec_len s.cells } };
+
+    ghost invariant = { λ s. s.len ≤ vec_len s.cells };
+}
+
+impl Scratch {
+    /// No byte yet, and room for so many.
+    ///
+    /// # Errors
+    ///
+    /// Memory was refused.
+    pub fn new(alloc: Global, capacity: usize) -> Result<Scratch, AllocError>
+        ensures text { IfOk result (λ s. s.text ≡ []) }
+        ensures capacity { IfOk result (λ s. s.capacity ≡ capacity) }
+    {
+        let cells = vec![in alloc; 0u8; capacity]?;
+        Ok(Scratch { cells, len: 0 })
+    }
+
+    /// The bytes, in order.
+    #[inline]
+    pub fn as_slice(&self) -> &[u8]
+        ensures { result.now ≡ self.now.text }
+    {
+        &self.cells[..self.len]
+    }
+
+    /// The number of bytes.
+    #[inline]
+    pub fn len(&self) -> usize
+        ensures len { result ≡ length self.now.text }
+        ensures within { result ≤ self.now.capacity }
+    {
+        self.len
+    }
+
+    /// Whether no byte has come.
+    #[inline]
+    pub fn is_empty(&self) -> bool
+        ensures { result ≡ (length self.now.text == 0) }
+    {
+        self.len == 0
+    }
+
+    /// Forgets the bytes.
+    #[inline]
+    pub fn clear(&mut self)
+        ensures text { self.new.text ≡ [] }
+        ensures capacity { self.new.capacity ≡ self.old.capacity }
+    {
+        self.len = 0;
+    }
+
+    /// Takes more bytes.
+    #[inline]
+    pub fn append(&mut self, bytes: &[u8])
+        requires { length self.old.text + length bytes.now ≤ self.old.capacity }
+        ensures text { self.new.text ≡ self.old.text ++ bytes.now }
+        ensures capacity { self.new.capacity ≡ self.old.capacity }
+    {
+        let end = self.len + bytes.len();
+        self.cells[self.len..end].copy_from_slice(bytes);
+        self.len = end;
+    }
+
+    /// Takes one more byte.
+    #[inline]
+    pub fn push(&mut self, byte: u8)
+        requires { length self.old.text < self.old.capacity }
+        ensures text { self.new.text ≡ self.old.text ++ byte ∷ [] }
+        ensures capacity { self.new.capacity ≡ self.old.capacity }
+    {
+        self.cells[self.len] = byte;
+        self.len += 1;
+    }
+}
