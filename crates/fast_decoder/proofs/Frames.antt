@@ -14,10 +14,7 @@ use Rattle.fast_decoder.specs.Grammar.{Grammar, give, hand, ◌>>=◌, of_result
 use Rattle.fast_decoder.specs.Messages.{Context, State, Found, field_in, own_bits, count_more, length_in, decimal_with, reset_if}
 use Rattle.fast_decoder.specs.Continuations.{handed_then, segment_then, elements_then, group_if_then, sequence_from_then, instruction_then, body_then, message_of_then}
 use Rattle.fast_decoder.specs.Frames.{Frame, open_group, open_element, unwind, resume}
-
--- a group's or an element's segment begins
-abbrev pub opened : Bounds → List Frame → Body → Context → Grammar Dictionary
-opened l fs body d = own_bits body >>= (λ b. resume l fs body (record { context = d; bits = b }))
+pub use Rattle.fast_decoder.specs.Passing.{opened, elements_turn}
 
 pub at_end : (l : Bounds) (fs : List Frame) (s : State) → resume l fs end s ≡ unwind l fs s.context
 unfolding resume body_then
@@ -56,11 +53,6 @@ pub at_optional_group : (l : Bounds) (fs : List Frame) (at : Label) (body is : B
     → resume l fs (step (group at true body) is) s ≡ group_turn (first_bit s.bits) l fs at.node body is (record s { bits = later_bits s.bits })
 unfolding resume body_then instruction_then unwind
 at_optional_group l fs at body is s = optional (first_bit s.bits) l fs at.node body is (record s { bits = later_bits s.bits })
-
--- a sequence begins, or goes on with n more elements
-abbrev pub elements_turn : Bounds → List Frame → ℕ → Body → Body → State → Grammar Dictionary
-elements_turn l fs zero body is s = hand SequenceEnd (resume l fs is s)
-elements_turn l fs (suc n) body is s = hand ElementStart (opened l (open_element n body is s.bits ∷ fs) body s.context)
 
 -- so many elements more are counted
 abbrev pub counting : ℕ → State → State

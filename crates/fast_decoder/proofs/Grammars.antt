@@ -11,7 +11,7 @@ use Rattle.fast_decoder.specs.Grammar.{Grammar, give, fault, hand, integer, asci
 use Rattle.fast_decoder.proofs.Binds.{goes, reads-bind}
 use Rattle.fast_decoder.proofs.UnitReaders.{reads-gives, reads-hands, reads-settles}
 use Rattle.fast_decoder.proofs.Integers.{reads-integer, reads-map}
-use Rattle.fast_decoder.proofs.Texts.{reads-raw, reads-ascii}
+use Rattle.fast_decoder.proofs.TextReaders.{reads-raw, reads-ascii}
 
 -- The reader of a term answers as its phrase.
 pub reads-grammar : {A : Type 0} (s : Bool) (g : Grammar A) → Reads (reader_of s g) (phrase_of s g)

@@ -29,3 +29,9 @@ pub mod MapTaking
 pub mod Scratches
 pub mod NextUnits
 pub mod Moving
+pub mod UnitFronts
+pub mod Passing
+pub mod Deciding
+pub mod Scalars
+pub mod EntryTexts
+pub mod TextDecisions

@@ -1,7 +1,7 @@
 -- Segments and messages as terms.
-use Rattle.std.specs.Prelude.{ℕ, zero, suc, ◌+◌, Bool, true, false, if◌then◌else◌, nat_eq, nat_le, nat_abs, List, [], ◌∷◌, ℤ, Option, Some, None, Result, Ok, Err}
+use Rattle.std.specs.Prelude.{ℕ, zero, suc, ◌+◌, Bool, true, false, if◌then◌else◌, nat_eq, nat_le, nat_abs, List, [], ◌∷◌, ℤ, pos, Option, Some, None, Result, Ok, Err}
 use Rattle.fast_wire.specs.Maps.{bits, first_bit, later_bits}
-use Rattle.fast_value.specs.Kinds.{exponent_range, ScalarData, Dec, integer_of}
+use Rattle.fast_value.specs.Kinds.{exponent_range, ScalarData, I, Dec, integer_of}
 use Rattle.fast_value.specs.declared.settings.Limits.{Limits}
 use Rattle.fast_value.specs.Limits.{Bounds, bounds}
 use Rattle.fast_value.specs.Messages.{ItemData, one, group as group_item, sequence as sequence_item, Slots, no_slots, absent, present, Elements, no_elements, element, MessageData}
@@ -63,10 +63,15 @@ abbrev pub handed : ℕ → Option ScalarData → State → Grammar Read
 handed n None s = give (None, s)
 handed n (Some v) s = hand (FieldValue n v) (give (Some (one v), s))
 
+-- the signed number of a value, 0 if it has none: a mantissa is one
+abbrev pub signed_of : ScalarData → ℤ
+signed_of (I x) = x
+signed_of v = pos 0
+
 -- a decimal of an exponent and a mantissa, which may be absent
 abbrev pub decimal_with : ℤ → Option ScalarData → Option ScalarData
 decimal_with x None = None
-decimal_with x (Some m) = Some (Dec x (integer_of m))
+decimal_with x (Some m) = Some (Dec x (signed_of m))
 
 -- An exponent by parts lies in the range of exponents, however it came about. If it is absent, the decimal is, and
 -- neither the mantissa nor its bit is there.

@@ -4,7 +4,6 @@ use Rattle.fast_wire.specs.Entities.{HaveNoStop, IsEntity, IsOverlong}
 use Rattle.fast_wire.specs.Integers.{Range, unsigned_up_to, signed_between, value, SpellsInt, IsOutside}
 use Rattle.fast_wire.specs.Texts.{SpellsAscii}
 use Rattle.fast_wire.specs.declared.fronts.First.{First}
-use Rattle.fast_wire.specs.declared.fronts.First.TheVariants as First
 use Rattle.fast_wire.specs.declared.reads.WireFault.{WireFault}
 use Rattle.fast_wire.specs.declared.reads.WireFault.TheVariants as Wire
 use Rattle.fast_value.specs.declared.codes.Code.{Code}

@@ -1,5 +1,5 @@
 -- Where a machine is in a stream, by what it keeps.
-use Rattle.std.specs.Prelude.{◌≡◌, ◌≢◌, ◌⊎◌, ℕ, suc, ◌+◌, ◌-◌, ◌<◌, ◌≤◌, ◌^◌, Bool, true, false, if◌then◌else◌, List, [], ◌∷◌, length, map, ℤ, Option, Some, None, Ok}
+use Rattle.std.specs.Prelude.{◌≡◌, ◌≢◌, ◌⊎◌, ℕ, suc, ◌+◌, ◌-◌, ◌<◌, ◌≤◌, ◌^◌, Bool, true, false, nat_eq, if◌then◌else◌, List, [], ◌∷◌, length, drop, map, ℤ, Option, Some, None, Result, Ok, Err}
 use Rattle.fast_wire.specs.Entities.{HaveNoStop, IsEntity}
 use Rattle.fast_wire.specs.Maps.{map_limit, bits, first_bit}
 use Rattle.fast_value.specs.declared.settings.Limits.{Limits}
@@ -11,12 +11,13 @@ use Rattle.fast_template.specs.declared.instructions.Node.{Node}
 use Rattle.fast_template.specs.declared.instructions.Template.{Template}
 use Rattle.fast_template.specs.Numbers.{AreBelow}
 use Rattle.fast_template.specs.Sizes.{body_depth, set_depth}
-use Rattle.fast_template.specs.Tree.{FieldData, identifier, uses_bit, field, parts, group, sequence, Body, end, step, bits_of, Tree}
+use Rattle.fast_template.specs.Tree.{Label, FieldData, identifier, uses_bit, field, parts, group, sequence, Body, end, step, bits_of, Tree}
 use Rattle.fast_template.specs.declared.sets.Templates.{Templates}
 use Rattle.fast_template.specs.Flat.{field_data, instructions_from, template_data, templates_of, nodes_of}
 use Rattle.fast_dict.specs.Dictionary.{PreviousData, Dictionary, fresh, previous_at}
-use Rattle.fast_dict.specs.Operators.{Outcome, Kept, kept_length, subtraction_step}
 use Rattle.fast_dict.specs.Slots.{slots_dictionary, slots_terms}
+use Rattle.fast_decoder.specs.Events.{EventData}
+use Rattle.fast_decoder.specs.Moving.{Moves}
 use Rattle.fast_decoder.specs.Phrases.{cut}
 use Rattle.fast_decoder.specs.Units.{ascii_text}
 use Rattle.fast_decoder.specs.Fields.{field_term}
@@ -30,9 +31,12 @@ use Rattle.fast_decoder.specs.Machine.{after_bytes}
 use Rattle.fast_decoder.specs.Cursors.{ElementsData, FrameData, CursorData, bits_behind, bits_left, at_rest}
 use Rattle.fast_decoder.specs.Serving.{ServesNodes, body_among, AreNodeWidths, AreTemplateWidths}
 use Rattle.fast_decoder.specs.Stages.{term_behind, IsStageOf}
+use Rattle.fast_decoder.specs.UnitFronts.{IsSent, IsAsciiFirst, IsNumberStage, IsBytesStage}
 use Rattle.fast_decoder.specs.declared.stages.Stage.{Stage}
-use Rattle.fast_decoder.specs.declared.stages.Stage.TheVariants.{Mantissa as MantissaStage, MantissaDelta, Vector, Part, PartVector}
 use Rattle.fast_decoder.specs.declared.machine.Machine.{Machine}
+use Rattle.fast_decoder.specs.declared.faults.FaultCode.{FaultCode}
+use Rattle.fast_decoder.specs.declared.machine.Turn.{Turn}
+use Rattle.fast_decoder.specs.declared.machine.Turn.TheVariants.{Silent, Handed, Waits}
 use Rattle.fast_decoder.specs.declared.machine.Waiting.{Waiting}
 use Rattle.fast_decoder.specs.declared.machine.Waiting.TheVariants.{Map, Identifier, SegmentMap, Field, Text, Number, Bytes, Mantissa}
 
@@ -175,7 +179,7 @@ pub record IsPlaced (set : Set) (c : CursorData) : Type 0 where
 
 -- What a machine is made with, and keeps.
 pub record IsSupplied (set : Set) (l : Limits) (m : Machine) : Type 0 where
-  pub entries : length (slots_dictionary m.slots) ≡ set.entries
+  pub entries : (slots_terms m.slots).entries ≡ set.entries
   pub serves : ServesNodes set.entries (slots_terms m.slots) set.nodes
   pub some_entry : 1 ≤ set.entries
   pub max_text : (slots_terms m.slots).max_text ≡ l.max_text
@@ -187,15 +191,6 @@ pub record IsSupplied (set : Set) (l : Limits) (m : Machine) : Type 0 where
   pub depth : set_depth (tree_in set) ≤ m.cursor.depth
   pub identifier : field_data m.identifier ≡ identifier
   pub counted : m.counted ≤ l.max_total
-
--- The field stands in the stream.
-pub record IsSent (f : FieldData) (bit : Bool) : Type 0 where
-  pub varies : f.operator ≢ Constant
-  pub as_sent : (l : Bounds) (p : PreviousData) → field_term l f p bit ≡ field_term l f p true
-
--- The field begins with an ASCII text.
-abbrev pub IsAsciiFirst : FieldData → Type 0
-IsAsciiFirst f = (f.kind ≡ Ascii) × (f.operator ≢ Delta)
 
 -- The next instruction begins with an integer.
 abbrev pub BeginsWithInteger : Body → State → Type 0
@@ -213,26 +208,6 @@ BeginsWithText l body s front = ⊥
 abbrev pub GoesOnWithMantissa : Body → State → Type 0
 GoesOnWithMantissa (step (parts at e m) is) s = IsSent m (bit_of m s)
 GoesOnWithMantissa body s = ⊥
-
--- The stage reads an integer: so a part's size.
-abbrev pub IsNumberStage : FieldData → Stage → Type 0
-IsNumberStage f (MantissaStage e) = Unit {0}
-IsNumberStage f (MantissaDelta e) = Unit {0}
-IsNumberStage f (Vector n) = ⊥
-IsNumberStage f (Part k) = f.kind ≢ Ascii
-IsNumberStage f (PartVector k n) = ⊥
-
--- These bytes of the part of a text delta have come.
-abbrev pub IsPartFront : Bounds → FieldData → PreviousData → ℤ → List ℕ → Type 0
-IsPartFront l f p k front = (kept : Kept) × (subtraction_step f p k ≡ Ok kept) × ascii_text false (l.max_text - kept_length kept) front [] cut
-
--- The stage reads a text or raw bytes, of which these have come.
-abbrev pub IsBytesStage : Bounds → FieldData → PreviousData → Stage → List ℕ → Type 0
-IsBytesStage l f p (MantissaStage e) front = ⊥
-IsBytesStage l f p (MantissaDelta e) front = ⊥
-IsBytesStage l f p (Vector n) front = length front < n
-IsBytesStage l f p (Part k) front = (f.kind ≡ Ascii) × IsPartFront l f p k front
-IsBytesStage l f p (PartVector k n) front = length front < n
 
 -- The next instruction is a field that goes on with this stage.
 abbrev pub GoesOnWithNumber : Limits → Body → State → Stage → Type 0
@@ -261,6 +236,63 @@ pub record IsReady (set : Set) (l : Limits) (m : Machine) : Type 0 where
   pub entity_open : HaveNoStop m.entity
   pub entity_short : length m.entity < 10
   pub takes : CanTake m.waiting set l m
+
+-- The next instruction is a field, and so on.
+abbrev pub IsAtField : Set → CursorData → ℕ → FieldData → Type 0
+IsAtField set c n f = (at : Label) × (at.node ≡ n) × (0 < length c.left) × (body_in set c.left ≡ step (field at f) (body_in set (drop 1 c.left)))
+
+abbrev pub IsAtParts : Set → CursorData → ℕ → FieldData → FieldData → Type 0
+IsAtParts set c n e m = (at : Label) × (at.node ≡ n) × (0 < length c.left) × (body_in set c.left ≡ step (parts at e m) (body_in set (drop 1 c.left)))
+
+abbrev pub IsAtGroup : Set → CursorData → ℕ → Bool → List ℕ → Type 0
+IsAtGroup set c n optional body = (at : Label) × (at.node ≡ n) × (0 < length c.left) × (body_in set c.left ≡ step (group at optional (body_in set body)) (body_in set (drop 1 c.left)))
+
+abbrev pub IsAtSequence : Set → CursorData → ℕ → FieldData → List ℕ → Type 0
+IsAtSequence set c n f body = (at : Label) × (at.node ≡ n) × (0 < length c.left) × (body_in set c.left ≡ step (sequence at f (body_in set body)) (body_in set (drop 1 c.left)))
+
+-- The machine is between two units: no byte is in hand, and what is next may need none.
+pub record CanTurn (set : Set) (l : Limits) (m : Machine) : Type 0 where
+  pub supplied : IsSupplied set l m
+  pub placed : IsPlaced set m.cursor
+  pub mapped : IsMapWhole m.cursor.map
+  pub unused : m.entity ≡ []
+
+-- what is to be read by a machine between two units
+abbrev pub turning : Set → Limits → Machine → Reader Dictionary
+turning set l m = reader_of l.strict (going_on set (bounds l) (slots_dictionary m.slots) m.counted m.cursor)
+
+-- A machine goes on after a turn: it can take the next one, or the unit that it waits for, or it is at an end.
+abbrev pub GoesOn : Set → Limits → Machine → Result Turn FaultCode → Type 0
+GoesOn set l m (Ok Silent) = CanTurn set l m
+GoesOn set l m (Ok Handed) = CanTurn set l m
+GoesOn set l m (Ok Waits) = IsReady set l m
+GoesOn set l m (Err c) = Unit {0}
+
+-- A whole turn: from what was to be read before to what is to be read behind it.
+pub record IsTurn {S : Type 0} (takes stops : S → EventData → S → Type 0) (set : Set) (l : Limits) (r : Reader Dictionary) (s : S) (result : Result Turn FaultCode) (s' : S) (m : Machine) : Type 0 where
+  pub moves : Moves takes stops r s result s' (turning set l m) (meaning set l m)
+  pub supplied : IsSupplied set l m
+  pub goes_on : GoesOn set l m result
+
+-- The map of a message is whole, and nothing is read behind it.
+pub record IsBehindMap (set : Set) (l : Limits) (m : Machine) : Type 0 where
+  pub supplied : IsSupplied set l m
+  pub map : IsEntity m.cursor.map
+  pub short : length m.cursor.map ≤ map_limit
+  pub outermost : m.cursor ≡ record (at_rest m.cursor.depth) { map = m.cursor.map }
+  pub unused : m.entity ≡ []
+
+-- what is read of a segment at its whole map
+abbrev pub segment_reader : Set → Limits → Machine → ℕ → Reader Dictionary
+segment_reader set l m width = bind (settles_reader (judged_map l.strict m.cursor.map)) (λ w. reader_of l.strict (narrow width w (going_on set (bounds l) (slots_dictionary m.slots) m.counted (record m.cursor { map = w }))))
+
+-- No message is begun.
+abbrev pub is_idle_at : Waiting → List ℕ → Bool
+is_idle_at Map map = nat_eq (length map) 0
+is_idle_at waiting map = false
+
+abbrev pub is_idle : Machine → Bool
+is_idle m = is_idle_at m.waiting m.cursor.map
 
 -- Nothing was read.
 pub record IsFresh (set : Set) (m : Machine) : Type 0 where

@@ -1,14 +1,14 @@
 //! Where a decoder is in a message: the open segments, and what is left of each.
 
-ghost use Rattle.std.specs.Prelude.{◌≡◌, ◌⊎◌, ◌↔◌, ◌<◌, List, [], ◌∷◌, length, drop, IfOk, IsTrue, Some, None, option_map};
-ghost use Rattle.fast_wire.specs.Entities.{HaveNoStop, IsEntity};
+ghost use Rattle.std.specs.Prelude.{◌≡◌, ◌↔◌, ◌<◌, List, [], ◌∷◌, length, drop, IfOk, IsTrue, Some, None, option_map};
+ghost use Rattle.fast_wire.specs.Entities.{HaveNoStop};
 ghost use Rattle.fast_wire.specs.Maps.{map_limit, first_bit, later_bits};
 ghost use Rattle.fast_decoder.specs.Cursors.{CursorData, FrameData, bits_left, at_rest, entered, left_to};
 ghost use Rattle.fast_decoder.specs.Segments.{elements_data, first_node};
 ghost use Rattle.fast_decoder.specs.MapTaking.{IsMapTaken};
 
 use crate::pending::{MapFront, next_map};
-use fast_wire::{MAP_LIMIT, map_bit};
+use fast_wire::MAP_LIMIT;
 use std::alloc::{AllocError, Global};
 use std::marker::Model;
 
@@ -23,28 +23,42 @@ pub struct Elements<'t> {
     pub width: usize,
 }
 
+/// How many bytes of a segment's map have come, and which bit is the next one.
+#[derive(Clone, Copy)]
+struct MapPlace {
+    len: usize,
+    // the byte that has the next bit, and how many bits of it are behind that one
+    byte: usize,
+    shift: u8,
+}
+
+/// The place in a map that has not come.
+const NO_MAP: MapPlace = MapPlace {
+    len: 0,
+    byte: 0,
+    shift: 6,
+};
+
 /// The segment around an open group or element.
 #[derive(Clone, Copy)]
 struct Frame<'t> {
     // the nodes behind the group or sequence
     after: &'t [u32],
-    map_len: usize,
-    used: usize,
+    map: MapPlace,
     elements: Option<Elements<'t>>,
 }
 
 /// Where a decoder is in a message. All its memory is taken when it is made.
 #[derive(Drop)]
 pub struct Cursor<'t> {
-    // The first `open` frames count, the outermost first.
+    // The first `level` frames count, the outermost first.
     frames: Vec<Frame<'t>>,
-    open: usize,
+    level: usize,
     left: &'t [u32],
     // The cells of one map for each level, the outermost first; those of the innermost segment begin at `start`.
     maps: Vec<u8>,
     start: usize,
-    map_len: usize,
-    used: usize,
+    map: MapPlace,
 }
 
 impl<'t> Model for Cursor<'t> {
@@ -72,20 +86,18 @@ impl<'t> Cursor<'t> {
         let cells = levels.checked_mul(MAP_LIMIT).ok_or(AllocError)?;
         let empty = Frame {
             after: &[],
-            map_len: 0,
-            used: 0,
+            map: NO_MAP,
             elements: None,
         };
         let frames = vec![in alloc; empty; depth]?;
         let maps = vec![in alloc; 0u8; cells]?;
         Ok(Cursor {
             frames,
-            open: 0,
+            level: 0,
             left: &[],
             maps,
             start: 0,
-            map_len: 0,
-            used: 0,
+            map: NO_MAP,
         })
     }
 
@@ -93,7 +105,7 @@ impl<'t> Cursor<'t> {
     pub fn reset(&mut self)
         ensures { self.new ≡ at_rest self.old.depth }
     {
-        self.open = 0;
+        self.level = 0;
         self.start = 0;
         self.left = &[];
         self.clear_map();
@@ -114,11 +126,11 @@ impl<'t> Cursor<'t> {
         ensures same { self.new ≡ record self.old { map = self.new.map } }
     {
         let cells = &mut self.maps[self.start..self.start + MAP_LIMIT];
-        let front = next_map(cells, self.map_len, rest);
+        let front = next_map(cells, self.map.len, rest);
         match front {
-            MapFront::Whole(bytes) => self.map_len += bytes,
+            MapFront::Whole(bytes) => self.map.len += bytes,
             MapFront::TooLong(_) => {}
-            MapFront::Cut => self.map_len += rest.len(),
+            MapFront::Cut => self.map.len += rest.len(),
         }
         front
     }
@@ -127,8 +139,7 @@ impl<'t> Cursor<'t> {
     pub fn clear_map(&mut self)
         ensures { self.new ≡ record self.old { map = []; used = 0 } }
     {
-        self.map_len = 0;
-        self.used = 0;
+        self.map = NO_MAP;
     }
 
     /// The bytes of the innermost segment's map that have come.
@@ -136,7 +147,7 @@ impl<'t> Cursor<'t> {
     pub fn map(&self) -> &[u8]
         ensures { result.now ≡ self.now.map }
     {
-        &self.maps[self.start..self.start + self.map_len]
+        &self.maps[self.start..self.start + self.map.len]
     }
 
     /// How many they are.
@@ -144,16 +155,16 @@ impl<'t> Cursor<'t> {
     pub fn map_len(&self) -> usize
         ensures { result ≡ length self.now.map }
     {
-        self.map_len
+        self.map.len
     }
 
     /// The next bit of the innermost segment. Behind the last one stand zeros for ever.
     #[inline]
     pub fn bit(&self) -> bool
-        requires map { (self.now.map ≡ []) ⊎ IsEntity self.now.map }
         ensures { result ≡ first_bit (bits_left self.now) }
     {
-        self.map_len > 0 && map_bit(self.map(), self.used)
+        let place = self.map;
+        place.byte < place.len && (self.maps[self.start + place.byte] >> place.shift) % 2 == 1
     }
 
     /// Uses the next bit.
@@ -162,7 +173,12 @@ impl<'t> Cursor<'t> {
         ensures bits { bits_left self.new ≡ later_bits (bits_left self.old) }
         ensures same { self.new ≡ record self.old { used = self.new.used } }
     {
-        self.used = self.used.saturating_add(1);
+        if self.map.shift > 0 {
+            self.map.shift -= 1;
+        } else {
+            self.map.shift = 6;
+            self.map.byte = self.map.byte.saturating_add(1);
+        }
     }
 
     /// The next instruction's node, if one is left of the innermost segment.
@@ -203,17 +219,15 @@ impl<'t> Cursor<'t> {
         requires room { length self.old.frames < self.old.depth }
         ensures { self.new ≡ entered self.old (option_map elements_data elements.entry) body.entry.now }
     {
-        self.frames[self.open] = Frame {
+        self.frames[self.level] = Frame {
             after: self.left,
-            map_len: self.map_len,
-            used: self.used,
+            map: self.map,
             elements,
         };
-        self.open += 1;
+        self.level += 1;
         self.start += MAP_LIMIT;
         self.left = body;
-        self.map_len = 0;
-        self.used = 0;
+        self.map = NO_MAP;
     }
 
     /// Whether the innermost segment is the message's.
@@ -221,7 +235,7 @@ impl<'t> Cursor<'t> {
     pub fn is_outermost(&self) -> bool
         ensures { IsTrue result ↔ (self.now.frames ≡ []) }
     {
-        self.open == 0
+        self.level == 0
     }
 
     /// The innermost segment is whole, and the one around it goes on. The answer is what is still to come of a sequence.
@@ -230,12 +244,14 @@ impl<'t> Cursor<'t> {
         ensures { (f : FrameData) (fs : List FrameData) → self.old.frames ≡ f ∷ fs
             → (self.new ≡ left_to self.old f fs) × (option_map elements_data result ≡ f.elements) }
     {
-        self.open -= 1;
+        let frame = self.frames[self.level - 1];
+        self.level -= 1;
         self.start -= MAP_LIMIT;
-        let frame = self.frames[self.open];
         self.left = frame.after;
-        self.map_len = frame.map_len;
-        self.used = frame.used;
+        self.map = frame.map;
         frame.elements
     }
 }
+
+#[cfg(test)]
+mod tests;

@@ -1,17 +1,391 @@
-//! What a decoder works out of its template set once, when it is made.
+//! What a decoder works out once, when it is made: the widths of presence maps, and its dictionary.
 
-ghost use Rattle.std.specs.Prelude.{◌≡◌, IfOk};
-ghost use Rattle.fast_template.specs.Flat.{templates_of, nodes_of, tree_of};
-ghost use Rattle.fast_decoder.specs.Serving.{AreNodeWidths, AreTemplateWidths};
+ghost use Rattle.std.specs.Prelude.{◌≡◌, ◌⊎◌, ◌↔◌, ℕ, ◌<◌, ◌≤◌, ◌^◌, ◌-◌, List, length, slice_index_or, false, Some, IsTrue, IfOk};
+ghost use Rattle.fast_value.specs.Kinds.{family, texts, text_of};
+ghost use Rattle.fast_value.specs.Values.{value_data};
+ghost use Rattle.fast_template.specs.Tree.{Label, Instruction, uses_bit, bits_used, bits_of};
+ghost use Rattle.fast_template.specs.Flat.{tree_of, nodes_of, templates_of, field_data, instruction_of};
+ghost use Rattle.fast_template.specs.NodeData.{shape_data};
+ghost use Rattle.fast_template.specs.Numbers.{AreBelow, numbers_of};
+ghost use Rattle.fast_template.specs.Usable.{IsUsableShape};
+ghost use Rattle.fast_dict.specs.Dictionary.{fresh};
+ghost use Rattle.fast_dict.specs.Slots.{slots_dictionary, slots_terms};
+ghost use Rattle.fast_dict.specs.Stores.{IsText};
+ghost use Rattle.fast_decoder.specs.EntryTexts.{AnyField, IsLongText, HasLongInitial, MayHoldText, HoldsTextAt, NeedsText};
+ghost use Rattle.fast_decoder.specs.Serving.{body_among, ServesNodes, AreNodeWidths, AreTemplateWidths};
 
-use fast_template::Templates;
+use fast_dict::Slots;
+use fast_template::{FieldInstruction, Node, Operator, Shape, Templates};
+use fast_value::{Kind, Value};
 use std::alloc::{AllocError, Global};
 
-/// The bits that segments use.
+/// How many bits of a presence map segments use at most.
 #[derive(Debug, Drop)]
 pub struct Widths {
-    /// Of the instructions in each node's body.
+    /// Of the body of each node, by the node's number.
     pub nodes: Vec<usize>,
-    /// Of each template's message, the identifier's among them.
+    /// Of each template's messages, by the template's number, with the bit of the identifier.
     pub templates: Vec<usize>,
+}
+
+/// Whether the field uses a bit of the presence map.
+fn has_bit(field: &FieldInstruction) -> bool
+    ensures { result ≡ uses_bit (field_data field.now) }
+{
+    match field.operator {
+        Operator::None | Operator::Delta => false,
+        Operator::Constant => field.optional,
+        Operator::Default | Operator::Copy | Operator::Increment | Operator::Tail => true,
+    }
+}
+
+/// The bits that the instruction uses of its own segment's map.
+fn bits_used(node: &Node) -> usize
+    ensures used { (at : Label) (first : ℕ) (is : List Instruction) → result ≡ bits_used (instruction_of at first is node.now.shape) }
+    ensures few { result ≤ 2 }
+{
+    match &node.shape {
+        Shape::Field(field) => usize::from(has_bit(field)),
+        Shape::Decimal { exponent, mantissa } => {
+            usize::from(has_bit(exponent)) + usize::from(has_bit(mantissa))
+        }
+        Shape::Group { optional, .. } => usize::from(*optional),
+        Shape::Sequence { length, .. } => usize::from(has_bit(length)),
+    }
+}
+
+/// The bits that the segment of these nodes uses.
+fn segment_bits(templates: &Templates, body: &[u32]) -> usize
+    requires within { AreBelow (length (nodes_of templates.now)) body.now }
+    requires short { length body.now < 2 ^ 63 }
+    ensures bits { result ≡ bits_of (body_among (nodes_of templates.now) body.now) }
+    ensures small { result < 2 ^ 64 - 1 }
+{
+    let mut bits = 0;
+    for n in body {
+        bits += bits_used(templates.node(*n));
+    }
+    bits
+}
+
+/// The nodes of the segment within a group or a sequence.
+fn body_of(node: &Node) -> &[u32]
+    ensures numbers { result.now ≡ numbers_of node.now.shape }
+    ensures short { length result.now < 2 ^ 63 }
+{
+    match &node.shape {
+        Shape::Field(_) | Shape::Decimal { .. } => &[],
+        Shape::Group { body, .. } | Shape::Sequence { body, .. } => body.as_slice(),
+    }
+}
+
+/// The bits that the segment within each node uses.
+fn node_widths(alloc: Global, templates: &Templates) -> Result<Vec<usize>, AllocError>
+    ensures { IfOk result (λ w. AreNodeWidths (nodes_of templates.now) w.items) }
+{
+    let mut widths = Vec::with_capacity(alloc, templates.nodes() as usize)?;
+    for n in 0..templates.nodes() {
+        widths.push(segment_bits(templates, body_of(templates.node(n))))?;
+    }
+    Ok(widths)
+}
+
+/// The bits that a message of each template uses.
+fn template_widths(alloc: Global, templates: &Templates) -> Result<Vec<usize>, AllocError>
+    ensures { IfOk result (λ w. AreTemplateWidths (nodes_of templates.now) (templates_of templates.now) w.items) }
+{
+    let mut widths = Vec::with_capacity(alloc, templates.count() as usize)?;
+    for i in 0..templates.count() {
+        widths.push(1 + segment_bits(templates, &templates.template(i).body))?;
+    }
+    Ok(widths)
+}
+
+/// The widths of all segments of a set.
+///
+/// # Errors
+///
+/// Memory was refused.
+pub fn measure(alloc: Global, templates: &Templates) -> Result<Widths, AllocError>
+    ensures nodes { IfOk result (λ w. AreNodeWidths (nodes_of templates.now) w.nodes.items) }
+    ensures templates { IfOk result (λ w. AreTemplateWidths (nodes_of templates.now) (templates_of templates.now) w.templates.items) }
+{
+    Ok(Widths {
+        nodes: node_widths(alloc, templates)?,
+        templates: template_widths(alloc, templates)?,
+    })
+}
+
+/// The length of a text, 0 of a number.
+fn text_len(value: &Value) -> usize
+    ensures { result ≡ length (text_of (value_data value.now)) }
+{
+    match value {
+        Value::U(_) | Value::I(_) | Value::Dec { .. } => 0,
+        Value::Ascii(text) | Value::Unicode(text) | Value::Bytes(text) => text.len(),
+    }
+}
+
+/// Whether the initial value of the field is a text longer than `max_text`.
+fn is_long(field: &FieldInstruction, max_text: usize) -> bool
+    ensures { IsTrue result ↔ IsLongText max_text (field_data field.now).initial }
+{
+    matches!(&field.initial, Some(value) if text_len(value) > max_text)
+}
+
+/// Whether an initial value within the node is a text longer than `max_text`.
+fn has_long_field(node: &Node, max_text: usize) -> bool
+    ensures { IsTrue result ↔ AnyField (λ f. IsLongText max_text f.initial) (shape_data node.now.shape) }
+{
+    match &node.shape {
+        Shape::Field(field) => is_long(field, max_text),
+        Shape::Decimal { exponent, mantissa } => is_long(exponent, max_text)
+            || is_long(mantissa, max_text),
+        Shape::Group { .. } => false,
+        Shape::Sequence { length, .. } => is_long(length, max_text),
+    }
+}
+
+/// Whether an initial value of the set is a text longer than `max_text`.
+pub fn has_long_initial(templates: &Templates, max_text: usize) -> bool
+    ensures { IsTrue result ↔ HasLongInitial max_text (nodes_of templates.now) }
+{
+    for n in 0..templates.nodes() {
+        if has_long_field(templates.node(n), max_text) {
+            return true;
+        }
+    }
+    false
+}
+
+/// Whether values of the kind are texts.
+fn is_text_kind(kind: Kind) -> bool
+    ensures { IsTrue result ↔ (family kind ≡ texts) }
+{
+    match kind {
+        Kind::UInt32 | Kind::Int32 | Kind::UInt64 | Kind::Int64 | Kind::Decimal => false,
+        Kind::Ascii | Kind::Unicode | Kind::Bytes => true,
+    }
+}
+
+/// Whether the value is a text.
+fn is_text(value: &Value) -> bool
+    ensures { IsTrue result ↔ IsText (value_data value.now) }
+{
+    match value {
+        Value::U(_) | Value::I(_) | Value::Dec { .. } => false,
+        Value::Ascii(_) | Value::Unicode(_) | Value::Bytes(_) => true,
+    }
+}
+
+/// Whether the field may put a text at its entry.
+fn may_hold_text(field: &FieldInstruction) -> bool
+    ensures { IsTrue result ↔ MayHoldText (field_data field.now) }
+{
+    is_text_kind(field.kind) || matches!(&field.initial, Some(value) if is_text(value))
+}
+
+/// Marks the entry of the field, if the field may put a text there.
+fn mark_field(marks: &mut [bool], field: &FieldInstruction)
+    requires { (e : ℕ) → field.now.entry ≡ Some e → e < length marks.old }
+    ensures long { length marks.new ≡ length marks.old }
+    ensures marked { (e : ℕ) → IsTrue (slice_index_or marks.new e false) ↔ (IsTrue (slice_index_or marks.old e false) ⊎ HoldsTextAt e (field_data field.now)) }
+{
+    if let Some(entry) = field.entry
+        && may_hold_text(field)
+    {
+        marks[entry as usize] = true;
+    }
+}
+
+/// Marks the entries of the fields within the node that may put a text there.
+fn mark_node(marks: &mut [bool], node: &Node)
+    requires { IsUsableShape (length marks.old) (shape_data node.now.shape) }
+    ensures long { length marks.new ≡ length marks.old }
+    ensures marked { (e : ℕ) → IsTrue (slice_index_or marks.new e false) ↔ (IsTrue (slice_index_or marks.old e false) ⊎ AnyField (HoldsTextAt e) (shape_data node.now.shape)) }
+{
+    match &node.shape {
+        Shape::Field(field) => mark_field(marks, field),
+        Shape::Decimal { exponent, mantissa } => {
+            mark_field(marks, exponent);
+            mark_field(marks, mantissa);
+        }
+        Shape::Group { .. } => {}
+        Shape::Sequence { length, .. } => mark_field(marks, length),
+    }
+}
+
+/// Which entries of the dictionary take a text: those of fields of a text kind, and those of fields with an initial value
+/// that is a text.
+///
+/// # Errors
+///
+/// Memory was refused.
+pub fn text_marks(alloc: Global, templates: &Templates) -> Result<Vec<bool>, AllocError>
+    ensures long { IfOk result (λ v. length v.items ≡ (tree_of templates.now).entries) }
+    ensures marked { IfOk result (λ v. (e : ℕ) → IsTrue (slice_index_or v.items e false) ↔ NeedsText (nodes_of templates.now) e) }
+{
+    let mut marks = vec![in alloc; false; templates.entries() as usize]?;
+    for n in 0..templates.nodes() {
+        mark_node(&mut marks, templates.node(n));
+    }
+    Ok(marks)
+}
+
+/// The dictionary of a decoder: room for a text of at most `max_text` bytes at each entry that takes one.
+///
+/// # Errors
+///
+/// Memory was refused.
+pub fn make_slots(
+    alloc: Global,
+    templates: &Templates,
+    max_text: usize,
+) -> Result<Slots, AllocError>
+    requires { ¬ (HasLongInitial max_text (nodes_of templates.now)) }
+    ensures fresh { IfOk result (λ s. slots_dictionary s ≡ fresh (tree_of templates.now).entries) }
+    ensures max_text { IfOk result (λ s. (slots_terms s).max_text ≡ max_text) }
+    ensures serves { IfOk result (λ s. ServesNodes (tree_of templates.now).entries (slots_terms s) (nodes_of templates.now)) }
+{
+    let marks = text_marks(alloc, templates)?;
+    Slots::new(alloc, &marks, max_text)
+}
+
+#[cfg(test)]
+mod tests {
+    use super::*;
+    use fast_dict::Store;
+    use fast_template::FlatTemplate;
+    use std::test::Fail;
+
+    fn field(kind: Kind, optional: bool, operator: Operator) -> FieldInstruction
+        ensures { result.entry ≡ None }
+    {
+        FieldInstruction {
+            kind,
+            optional,
+            operator,
+            initial: None,
+            entry: None,
+        }
+    }
+
+    fn bits_of(alloc: Global, shape: Shape) -> Result<usize, AllocError> {
+        let node = Node {
+            name: String::from_str(alloc, "x")?,
+            shape,
+        };
+        Ok(bits_used(&node))
+    }
+
+    fn flat_set(alloc: Global) -> Result<Templates, Fail> {
+        let list = [
+            FlatTemplate {
+                name: "A",
+                id: 7,
+                fields: &["x", "y"],
+            },
+            FlatTemplate {
+                name: "B",
+                id: 9,
+                fields: &[],
+            },
+        ];
+        Ok(Templates::flat(alloc, &list)?)
+    }
+
+    #[test]
+    fn a_flat_message_has_the_bit_of_its_identifier(rt: HostRuntime) -> Result<(), Fail> {
+        let set = flat_set(rt.alloc())?;
+        let widths = measure(rt.alloc(), &set)?;
+        assert_eq!(rt; widths.nodes.as_slice(), [0, 0].as_slice());
+        assert_eq!(rt; widths.templates.as_slice(), [1, 1].as_slice());
+        Ok(())
+    }
+
+    #[test]
+    fn a_flat_set_has_the_entry_of_the_identifier(rt: HostRuntime) -> Result<(), Fail> {
+        let set = flat_set(rt.alloc())?;
+        let long = has_long_initial(&set, 0);
+        assert!(rt; !long);
+        if !long {
+            let slots = make_slots(rt.alloc(), &set, 0)?;
+            assert_eq!(rt; slots.entries(), 1);
+            assert!(rt; slots.entries() > 0 && !slots.takes_text(0));
+        }
+        Ok(())
+    }
+
+    #[test]
+    fn the_bits_of_fields(rt: HostRuntime) -> Result<(), Fail> {
+        let cases = [
+            (Operator::None, 0, 0),
+            (Operator::Constant, 0, 1),
+            (Operator::Default, 1, 1),
+            (Operator::Copy, 1, 1),
+            (Operator::Increment, 1, 1),
+            (Operator::Delta, 0, 0),
+            (Operator::Tail, 1, 1),
+        ];
+        for (operator, mandatory, optional) in cases {
+            let shape = Shape::Field(field(Kind::Ascii, false, operator));
+            assert_eq!(rt; bits_of(rt.alloc(), shape)?, mandatory);
+            let shape = Shape::Field(field(Kind::Ascii, true, operator));
+            assert_eq!(rt; bits_of(rt.alloc(), shape)?, optional);
+        }
+        Ok(())
+    }
+
+    #[test]
+    fn the_bits_of_other_instructions(rt: HostRuntime) -> Result<(), Fail> {
+        let alloc = rt.alloc();
+        let parts = Shape::Decimal {
+            exponent: field(Kind::Int32, true, Operator::Copy),
+            mantissa: field(Kind::Int64, false, Operator::Increment),
+        };
+        assert_eq!(rt; bits_of(alloc, parts)?, 2);
+        for (optional, bits) in [(false, 0), (true, 1)] {
+            let group = Shape::Group {
+                optional,
+                body: Vec::new(alloc),
+            };
+            assert_eq!(rt; bits_of(alloc, group)?, bits);
+            let sequence = Shape::Sequence {
+                length: field(Kind::UInt32, optional, Operator::Constant),
+                body: Vec::new(alloc),
+            };
+            assert_eq!(rt; bits_of(alloc, sequence)?, bits);
+        }
+        Ok(())
+    }
+
+    #[test]
+    fn entries_of_texts_are_marked(rt: HostRuntime) -> Result<(), Fail> {
+        let alloc = rt.alloc();
+        let mut marks = [false; 4];
+        let mut bytes = field(Kind::Bytes, true, Operator::Delta);
+        bytes.entry = Some(1);
+        mark_field(&mut marks, &bytes);
+        let mut number = field(Kind::UInt32, true, Operator::Copy);
+        number.entry = Some(2);
+        mark_field(&mut marks, &number);
+        let mut odd = field(Kind::UInt32, true, Operator::Copy);
+        odd.entry = Some(3);
+        odd.initial = Some(Value::Ascii(Vec::from_slice(alloc, b"ABCD")?));
+        mark_field(&mut marks, &odd);
+        assert_eq!(rt; marks, [false, true, false, true]);
+        Ok(())
+    }
+
+    #[test]
+    fn an_initial_value_may_have_the_greatest_length(rt: HostRuntime) -> Result<(), Fail> {
+        let alloc = rt.alloc();
+        let mut text = field(Kind::Ascii, false, Operator::Default);
+        text.initial = Some(Value::Ascii(Vec::from_slice(alloc, b"ABCD")?));
+        assert!(rt; is_long(&text, 3));
+        assert!(rt; !is_long(&text, 4));
+        text.initial = Some(Value::U(5));
+        assert!(rt; !is_long(&text, 0));
+        Ok(())
+    }
 }

@@ -1,21 +1,26 @@
 //! The decoder of FAST streams: bytes in pieces go in, events come out.
 #![tactic(auto)]
 
+pub mod cursor;
 // pub mod decoder;
 pub mod events;
 pub mod faults;
-pub mod cursor;
-pub mod layout;
+pub mod fields;
 pub mod laws;
+pub mod layout;
 mod machine;
+pub mod numbers;
+mod pending;
 pub mod progress;
+pub mod recorder;
+pub mod scalars;
 pub mod scratch;
+pub mod settling;
 pub mod source;
 pub mod stages;
-mod pending;
-pub mod recorder;
-// #[cfg(test)]
-// mod tests;
+pub mod taking;
+mod text_outcomes;
+pub mod texts;
 mod turns;
 pub mod units;
 

@@ -1,0 +1,13 @@
+use Rattle.std.proofs.Common.{◌≡◌, ◌≤◌, ◌+◌, ◌*◌}
+use Rattle.std.specs.Prelude.{drop}
+use Rattle.fast_template.specs.Tree.{bits_of}
+use Rattle.fast_template.specs.Flat.{nodes_of}
+use Rattle.fast_decoder.specs.Serving.{body_among}
+use Rattle.fast_decoder.proofs.layout.segment_bits.Given as goal
+
+-- the bits so far, and those of the nodes that are left
+abbrev pub invariant-loop-n : goal.invariant-loop-n
+invariant-loop-n l = record {
+  sum : l.bits + bits_of (body_among (nodes_of l.templates) (drop l.n-index l.body)) ≡ bits_of (body_among (nodes_of l.templates) l.body);
+  few : l.bits ≤ 2 * l.n-index;
+}

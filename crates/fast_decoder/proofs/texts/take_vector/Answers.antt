@@ -1,0 +1,105 @@
+use Rattle.std.proofs.Common.{◌≡◌, ◌∙◌, sym, ap, refl, subst, arith, List, ℕ, ℤ, take, ◌++◌, ◌≤◌, ◌-◌, length}
+use Rattle.std.specs.Prelude.{Ok, Err, Some, None, Option, true, false}
+use Rattle.std.proofs.lemmas.List.{length-take-le}
+use Rattle.fast_value.specs.declared.settings.Limits.{Limits}
+use Rattle.fast_value.specs.Limits.{bounds}
+use Rattle.fast_value.specs.Kinds.{value_of_text}
+use Rattle.fast_template.specs.Flat.{field_data}
+use Rattle.fast_dict.specs.Dictionary.{previous_at}
+use Rattle.fast_dict.specs.Operators.{decide, Kept, kept_length, subtraction_step, text_step}
+use Rattle.fast_dict.specs.Slots.{slots_dictionary}
+use Rattle.fast_decoder.specs.Fields.{sent_text, part_change}
+use Rattle.fast_decoder.specs.Grammar.{Grammar, give, ascii_text, integer, raw, of_result}
+use Rattle.fast_decoder.specs.GrammarReaders.{reader_of}
+use Rattle.fast_decoder.specs.NextUnits.{text_or_null, run_at}
+use Rattle.fast_decoder.specs.TextDecisions.{first_reader, reader_behind}
+use Rattle.fast_decoder.specs.declared.stages.Stage.TheVariants.{Vector, Part, PartVector}
+use Rattle.fast_decoder.specs.declared.units.Run.{Run}
+use Rattle.fast_decoder.specs.declared.units.Run.TheVariants.{Piece, Scratch}
+use Rattle.fast_decoder.proofs.LastUnits.{unit_stops, unit_stays, number_within}
+use Rattle.fast_decoder.proofs.TextUnits.{text_field, vector_field, part_field, part_vector_field, text_last, behind_text}
+use Rattle.fast_decoder.proofs.texts.take_vector.Goals as goal
+
+pub slice_bounds-text-end : goal.slice_bounds-text-end
+slice_bounds-text-end c =
+    let (some, within, turns, len) = c.in-Whole-Piece-default.ensures.unit c.args.limits.strict in
+    sym (length-take-le c.in-Whole-Piece-default.bytes c.args.rest.now within)
+
+pub finish_text-requires-clause-fits : goal.finish_text-requires-clause-fits
+finish_text-requires-clause-fits c =
+    let (some, within, turns, len) = c.in-Whole-Piece-default.ensures.unit c.args.limits.strict in
+    let is : length (run_at c.in-Whole-Piece-default.field-0 c.next_raw.new.scratch.text (take c.in-Whole-Piece-default.bytes c.args.rest.now)) ≡ length (run_at Piece c.next_raw.new.scratch.text (take c.in-Whole-Piece-default.bytes c.args.rest.now))
+    = ap (λ (r : Run). length (run_at r c.next_raw.new.scratch.text (take c.in-Whole-Piece-default.bytes c.args.rest.now))) c.in-Whole-Piece-default.field-0-is in
+    let fits = c.requires.stage.4 in
+    let most = c.requires.max_text in
+    omega (arith, len, is, fits, most)
+
+pub finish_text-requires-in-Whole-Scratch-default-clause-fits : goal.finish_text-requires-in-Whole-Scratch-default-clause-fits
+finish_text-requires-in-Whole-Scratch-default-clause-fits c =
+    let (some, within, turns, len) = c.in-Whole-Scratch-default.ensures.unit c.args.limits.strict in
+    let is : length (run_at c.in-Whole-Scratch-default.field-0 c.next_raw.new.scratch.text (take c.in-Whole-Scratch-default.bytes c.args.rest.now)) ≡ length (run_at Scratch c.next_raw.new.scratch.text (take c.in-Whole-Scratch-default.bytes c.args.rest.now))
+    = ap (λ (r : Run). length (run_at r c.next_raw.new.scratch.text (take c.in-Whole-Scratch-default.bytes c.args.rest.now))) c.in-Whole-Scratch-default.field-0-is in
+    let fits = c.requires.stage.4 in
+    let most = c.requires.max_text in
+    rw c.as_slice-text.ensures (omega (arith, len, is, fits, most))
+
+pub returns-in-Whole-Piece-default-clause-unit : goal.returns-in-Whole-Piece-default-clause-unit
+returns-in-Whole-Piece-default-clause-unit c =
+    let l = c.args.limits in
+    let f = field_data c.args.field.now in
+    let old = slots_dictionary c.args.slots.now in
+    let p = previous_at f.entry old in
+    let front = c.args.scratch.now.text in
+    let here : reader_behind l f old (Vector c.args.size) ≡ _ = ap (reader_of l.strict) (vector_field (bounds l) f p c.args.size) in
+    let g = raw c.args.size give in
+    let k : List ℕ → Grammar _ = λ v. behind_text (bounds l) f p (Some v) in
+    let text = c.next_raw.new.scratch.text in
+    let n = c.in-Whole-Piece-default.bytes in
+    let (some, within, turns, len) = c.in-Whole-Piece-default.ensures.unit l.strict in
+    let x : List ℕ = run_at c.in-Whole-Piece-default.field-0 text (take n c.args.rest.now) in
+    let i : x ≡ (take n c.args.rest.now) = ap (λ (r : Run). run_at r text (take n c.args.rest.now)) c.in-Whole-Piece-default.field-0-is in
+    text_last l.strict g k (reader_behind l f old (Vector c.args.size)) here f front c.args.rest.now old (slots_dictionary c.finish_text.new.slots) text n x (some, within, turns)
+    (decide f p true (sent_text f.kind (Some (take n c.args.rest.now)))) c.finish_text.result c.answered.result c.answered.ensures (ap k i)
+    (c.finish_text.ensures.field text (take n c.args.rest.now) refl)
+
+pub returns-in-Whole-Scratch-default-clause-unit : goal.returns-in-Whole-Scratch-default-clause-unit
+returns-in-Whole-Scratch-default-clause-unit c =
+    let l = c.args.limits in
+    let f = field_data c.args.field.now in
+    let old = slots_dictionary c.args.slots.now in
+    let p = previous_at f.entry old in
+    let front = c.args.scratch.now.text in
+    let here : reader_behind l f old (Vector c.args.size) ≡ _ = ap (reader_of l.strict) (vector_field (bounds l) f p c.args.size) in
+    let g = raw c.args.size give in
+    let k : List ℕ → Grammar _ = λ v. behind_text (bounds l) f p (Some v) in
+    let text = c.next_raw.new.scratch.text in
+    let n = c.in-Whole-Scratch-default.bytes in
+    let (some, within, turns, len) = c.in-Whole-Scratch-default.ensures.unit l.strict in
+    let x : List ℕ = run_at c.in-Whole-Scratch-default.field-0 text (take n c.args.rest.now) in
+    let i : x ≡ c.as_slice-text.result.now = ap (λ (r : Run). run_at r text (take n c.args.rest.now)) c.in-Whole-Scratch-default.field-0-is ∙ sym c.as_slice-text.ensures in
+    text_last l.strict g k (reader_behind l f old (Vector c.args.size)) here f front c.args.rest.now old (slots_dictionary c.finish_text-in-Whole-Scratch-default.new.slots) text n x (some, within, turns)
+    (decide f p true (sent_text f.kind (Some c.as_slice-text.result.now))) c.finish_text-in-Whole-Scratch-default.result c.answered-in-Whole-Scratch-default.result c.answered-in-Whole-Scratch-default.ensures (ap k i)
+    (c.finish_text-in-Whole-Scratch-default.ensures.field text (take n c.args.rest.now) (ap (λ (t : List ℕ). Some (value_of_text f.kind t)) (sym c.as_slice-text.ensures)))
+
+pub returns-in-Wrong-clause-unit : goal.returns-in-Wrong-clause-unit
+returns-in-Wrong-clause-unit c =
+    absurd (c.in-Wrong.ensures.unit c.args.limits.strict)
+
+pub returns-in-Cut-clause-unit : goal.returns-in-Cut-clause-unit
+returns-in-Cut-clause-unit c =
+    let l = c.args.limits in
+    let f = field_data c.args.field.now in
+    let old = slots_dictionary c.args.slots.now in
+    let p = previous_at f.entry old in
+    let front = c.args.scratch.now.text in
+    let here : reader_behind l f old (Vector c.args.size) ≡ _ = ap (reader_of l.strict) (vector_field (bounds l) f p c.args.size) in
+    let g = raw c.args.size give in
+    let k : List ℕ → Grammar _ = λ v. behind_text (bounds l) f p (Some v) in
+    let text = c.next_raw.new.scratch.text in
+    let (stays, bytes, short) = c.in-Cut.ensures.unit l.strict in
+    (unit_stays l.strict g k (reader_behind l f old (Vector c.args.size)) here (front ++ c.args.rest.now) stays, refl)
+
+pub returns-in-Cut-clause-cut : goal.returns-in-Cut-clause-cut
+returns-in-Cut-clause-cut c e =
+    let (stays, bytes, short) = c.in-Cut.ensures.unit c.args.limits.strict in
+    (bytes, short)

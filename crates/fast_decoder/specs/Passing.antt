@@ -1,0 +1,63 @@
+-- What a machine's turns leave of its cursor.
+use Rattle.std.specs.Prelude.{◌≡◌, ℕ, zero, suc, ℤ, if◌then◌else◌, List, ◌∷◌, drop}
+use Rattle.fast_wire.specs.Maps.{later_bits}
+use Rattle.fast_template.specs.Tree.{FieldData, identifier, uses_bit, Body}
+use Rattle.fast_dict.specs.Dictionary.{Dictionary}
+use Rattle.fast_value.specs.Kinds.{ScalarData}
+use Rattle.fast_value.specs.Limits.{Bounds}
+use Rattle.std.specs.Prelude.{Option}
+use Rattle.fast_decoder.specs.Grammar.{Grammar, hand, ◌>>=◌}
+use Rattle.fast_decoder.specs.Events.{SequenceEnd, ElementStart}
+use Rattle.fast_decoder.specs.Messages.{Context, State, own_bits, decimal_with}
+use Rattle.fast_decoder.specs.Continuations.{handed_then, mantissa_after_then, segment_then, body_then, sequence_from_then, message_behind_then}
+use Rattle.fast_decoder.specs.Frames.{Frame, open_element, resume}
+use Rattle.fast_decoder.specs.Cursors.{CursorData, bits_left}
+use Rattle.fast_decoder.specs.Positions.{Set, tree_in, body_in, frames_in, state_in}
+
+-- The cursor is past the next instruction, and bits may have been used.
+pub record IsPast (old new : CursorData) : Type 0 where
+  pub same : new ≡ record old { left = drop 1 old.left; used = new.used }
+
+-- the state behind a field that a cursor is at
+abbrev pub state_past : FieldData → Dictionary → ℕ → CursorData → State
+state_past f d counted c = record { context = record { dictionary = d; counted = counted }; bits = if uses_bit f then later_bits (bits_left c) else bits_left c }
+
+-- What is still to be read once the exponent of the next instruction, a decimal by parts, is known.
+abbrev pub exponent_then : Set → Bounds → ℕ → Option ScalarData → FieldData → FieldData → Dictionary → ℕ → CursorData → Grammar Dictionary
+exponent_then set l n v e m d counted c = mantissa_after_then l n m (resume l (frames_in set c.frames) (body_in set (drop 1 c.left))) (v, state_past e d counted c)
+
+-- What is still to be read once its mantissa is known.
+abbrev pub decimal_then : Set → Bounds → ℕ → ℤ → Option ScalarData → FieldData → Dictionary → ℕ → CursorData → Grammar Dictionary
+decimal_then set l n x v m d counted c = handed_then n (resume l (frames_in set c.frames) (body_in set (drop 1 c.left))) (decimal_with x v) (state_past m d counted c)
+
+-- What is still to be read once the length of the next instruction, a sequence, is known.
+abbrev pub length_then : Set → Bounds → ℕ → Option ScalarData → FieldData → List ℕ → Dictionary → ℕ → CursorData → Grammar Dictionary
+length_then set l n v f body d counted c =
+    sequence_from_then l n (segment_then (body_in set body) (body_then l (body_in set body))) (resume l (frames_in set c.frames) (body_in set (drop 1 c.left))) (v, state_past f d counted c)
+
+-- What is still to be read of a segment that begins: its map, if it has one, and its instructions.
+abbrev pub segment_opened : Set → Bounds → Dictionary → ℕ → CursorData → Grammar Dictionary
+segment_opened set l d counted c =
+    own_bits (body_in set c.left) >>= (λ b. resume l (frames_in set c.frames) (body_in set c.left) (record { context = record { dictionary = d; counted = counted }; bits = b }))
+
+-- a segment that begins
+abbrev pub opened : Bounds → List Frame → Body → Context → Grammar Dictionary
+opened l fs body c = own_bits body >>= (λ b. resume l fs body (record { context = c; bits = b }))
+
+-- a sequence that goes on with so many elements
+abbrev pub elements_turn : Bounds → List Frame → ℕ → Body → Body → State → Grammar Dictionary
+elements_turn l fs zero body is s = hand SequenceEnd (resume l fs is s)
+elements_turn l fs (suc n) body is s = hand ElementStart (opened l (open_element n body is s.bits ∷ fs) body s.context)
+
+-- What is still to be read of a sequence from its elements on: so many elements, behind which this segment goes on.
+abbrev pub elements_from : Set → Bounds → ℕ → List ℕ → Dictionary → ℕ → CursorData → Grammar Dictionary
+elements_from set l n body d counted c =
+    elements_turn l (frames_in set c.frames) n (body_in set body) (body_in set c.left) (state_in d counted c)
+
+-- What is still to be read once the value of the next instruction, a field, is known.
+abbrev pub value_then : Set → Bounds → ℕ → Option ScalarData → FieldData → Dictionary → ℕ → CursorData → Grammar Dictionary
+value_then set l n v f d counted c = handed_then n (resume l (frames_in set c.frames) (body_in set (drop 1 c.left))) v (state_past f d counted c)
+
+-- What is still to be read once the identifier of a message is known.
+abbrev pub identified_then : Set → Bounds → Option ScalarData → Dictionary → CursorData → Grammar Dictionary
+identified_then set l v d c = message_behind_then (tree_in set) l c.map (v, state_past identifier d 0 c)

@@ -1,0 +1,570 @@
+//! What a machine does without a byte: values that the bytes before decide, starts and ends of segments.
+
+ghost use Rattle.std.specs.Prelude.{◌≡◌, ◌≢◌, ◌+◌, ◌<◌, ◌≤◌, ℕ, suc, List, [], true, Bool, Ok, drop, length, length as list_length, OnOk, IfOk, MatchResult, slice_index, Some, None, option_map};
+ghost use Rattle.fast_value.specs.Kinds.{exponent_range};
+ghost use Rattle.fast_value.specs.Values.{scalar_data};
+ghost use Rattle.fast_value.specs.Limits.{Bounds, bounds};
+ghost use Rattle.fast_template.specs.Flat.{field_data};
+ghost use Rattle.fast_template.specs.Numbers.{AreBelow};
+ghost use Rattle.fast_template.specs.Sizes.{body_depth};
+ghost use Rattle.fast_template.specs.Tree.{FieldData, uses_bit, bits_of};
+ghost use Rattle.fast_dict.specs.Dictionary.{Dictionary};
+ghost use Rattle.fast_dict.specs.Operators.{ranged};
+ghost use Rattle.fast_dict.specs.Slots.{slots_dictionary, slots_terms};
+ghost use Rattle.fast_decoder.specs.Handed.{event_data};
+ghost use Rattle.fast_decoder.specs.GrammarReaders.{reader_of};
+ghost use Rattle.fast_decoder.specs.Readers.{Reader};
+ghost use Rattle.fast_decoder.specs.Handing.{Hands};
+ghost use Rattle.fast_decoder.specs.Messages.{signed_of, within_limits};
+ghost use Rattle.fast_decoder.specs.Moving.{Moves};
+ghost use Rattle.fast_decoder.specs.Settling.{Serves, value_at};
+ghost use Rattle.fast_decoder.specs.UnitFronts.{IsAsciiFirst};
+ghost use Rattle.fast_decoder.specs.Passing.{IsPast, value_then, exponent_then, decimal_then, length_then, elements_from};
+ghost use Rattle.fast_decoder.specs.Positions.{Set, set_of, body_in, frames_in, mantissa_then, IsAtField, IsAtParts, IsAtGroup, IsAtSequence, CanTurn, IsTurn, turning, IsSupplied, IsMapWhole, IsReady, bit_of, state_in, going_on, meaning};
+
+use crate::cursor::Elements;
+use crate::events::{Event, Sink};
+use crate::faults::FaultCode;
+use crate::fields::{needs_bytes, unsent, value_at};
+use crate::machine::{Machine, Turn, Waiting};
+use crate::source::Source;
+use crate::turns::Turns;
+use fast_dict::operators::integers::integer_of;
+use fast_template::{FieldInstruction, Operator, Shape, Templates};
+use fast_value::{Code, Kind, Limits, Scalar};
+
+/// Whether a field uses a presence bit.
+#[inline]
+pub fn uses_bit(field: &FieldInstruction) -> bool
+    ensures { result ≡ uses_bit (field_data field.now) }
+{
+    match field.operator {
+        Operator::None | Operator::Delta => false,
+        Operator::Constant => field.optional,
+        Operator::Default | Operator::Copy | Operator::Increment | Operator::Tail => true,
+    }
+}
+
+/// Hands an event over.
+#[inline]
+pub fn hand<S: Sink>(sink: &mut S, event: Event<'_>) -> Result<(), FaultCode>
+    ensures { MatchResult result (λ _. S.takes sink.old (event_data event.entry) sink.new) (λ code. (code ≡ FaultCode.SinkStopped) × S.stops sink.old (event_data event.entry) sink.new) }
+{
+    match sink.take(event) {
+        Ok(()) => Ok(()),
+        Err(_) => Err(FaultCode::SinkStopped),
+    }
+}
+
+impl<'t> Machine<'t> {
+    /// The bit of a field: set, if it uses none.
+    #[inline]
+    pub fn presence(&self, field: &FieldInstruction) -> bool
+        requires { IsMapWhole self.now.cursor.map }
+        ensures { (d : Dictionary) (n : ℕ) → result ≡ bit_of (field_data field.now) (state_in d n self.now.cursor) }
+    {
+        !uses_bit(field) || self.cursor.bit()
+    }
+
+    /// Goes past the next instruction, whose field has a value now or none, and hands the value over.
+    #[inline]
+    pub fn finish<S: Sink>(
+        &mut self,
+        node: u32,
+        field: &FieldInstruction,
+        source: Source,
+        piece: &[u8],
+        sink: &mut S,
+    ) -> Result<Turn, FaultCode>
+        requires left { 0 < length self.old.cursor.left }
+        requires entry { (e : ℕ) → (field_data field.now).entry ≡ Some e → e < length (slots_dictionary self.old.slots) }
+        ensures moves { (set : Set) (l : Bounds) (strict : Bool) (waits : Reader Dictionary) → Moves S.takes S.stops
+            (reader_of strict (value_then set l node (value_at source (field_data field.now) (slots_dictionary self.old.slots) self.old.text.text piece.now) (field_data field.now) (slots_dictionary self.old.slots) self.old.counted self.old.cursor))
+            sink.old result sink.new (reader_of strict (going_on set l (slots_dictionary self.new.slots) self.new.counted self.new.cursor)) waits }
+        ensures past { OnOk result (IsPast self.old.cursor self.new.cursor) }
+        ensures same { self.new ≡ record self.old { cursor = self.new.cursor } }
+        ensures on { result ≢ Ok Turn.Waits }
+    {
+        let value = value_at(&self.slots, field, self.text.as_slice(), piece, source);
+        let turn = match value {
+            Some(value) => {
+                hand(sink, Event::Field { node, value })?;
+                Turn::Handed
+            }
+            None => Turn::Silent,
+        };
+        if uses_bit(field) {
+            self.cursor.use_bit();
+        }
+        self.cursor.advance();
+        Ok(turn)
+    }
+
+    /// A field is next: the machine waits for its first unit, or nothing is sent of it.
+    #[inline]
+    fn begin_field<S: Sink>(
+        &mut self,
+        templates: &'t Templates,
+        limits: Limits,
+        node: u32,
+        field: &FieldInstruction,
+        sink: &mut S,
+    ) -> Result<Turn, FaultCode>
+        requires turn { CanTurn (set_of templates.now) limits self.old }
+        requires next { IsAtField (set_of templates.now) self.old.cursor node (field_data field.now) }
+        requires serves { Serves (set_of templates.now).entries (slots_terms self.old.slots) (field_data field.now) }
+        ensures turn { IsTurn S.takes S.stops (set_of templates.now) limits (turning (set_of templates.now) limits self.old) sink.old result sink.new self.new }
+        ensures past { result ≡ Ok Turn.Silent → self.new.cursor.left ≡ drop 1 self.old.cursor.left }
+    {
+        let bit = self.presence(field);
+        if needs_bytes(field, bit) {
+            self.wait_first(field);
+            return Ok(Turn::Waits);
+        }
+        match unsent(&mut self.slots, field, bit) {
+            Err(code) => Err(FaultCode::Stream(code)),
+            Ok(source) => self.finish(node, field, source, &[], sink),
+        }
+    }
+
+    /// Waits for the first unit of a field.
+    #[inline]
+    fn wait_first(&mut self, field: &FieldInstruction)
+        ensures text { IsAsciiFirst (field_data field.now) → (self.new.waiting ≡ Waiting.Text) × (self.new.text.text ≡ []) }
+        ensures number { ¬ (IsAsciiFirst (field_data field.now)) → self.new.waiting ≡ Waiting.Field }
+        ensures same { self.new ≡ record self.old { waiting = self.new.waiting; text = self.new.text } }
+        ensures capacity { self.new.text.capacity ≡ self.old.text.capacity }
+    {
+        if field.kind == Kind::Ascii && field.operator != Operator::Delta {
+            self.text.clear();
+            self.waiting = Waiting::Text;
+        } else {
+            self.waiting = Waiting::Field;
+        }
+    }
+
+    /// The value of a field, lent.
+    #[inline]
+    pub fn value_of<'x>(&'x self, field: &'x FieldInstruction, source: Source) -> Option<Scalar<'x>>
+        requires entry { (e : ℕ) → (field_data field.now).entry ≡ Some e → e < length (slots_dictionary self.now.slots) }
+        ensures { option_map scalar_data result ≡ value_at source (field_data field.now) (slots_dictionary self.now.slots) self.now.text.text [] }
+    {
+        value_at(&self.slots, field, self.text.as_slice(), &[], source)
+    }
+
+    /// A decimal by parts is next: the machine waits for its exponent, or nothing is sent of the exponent.
+    fn begin_decimal<S: Sink>(
+        &mut self,
+        templates: &'t Templates,
+        limits: Limits,
+        node: u32,
+        exponent: &FieldInstruction,
+        mantissa: &FieldInstruction,
+        sink: &mut S,
+    ) -> Result<Turn, FaultCode>
+        requires turn { CanTurn (set_of templates.now) limits self.old }
+        requires next { IsAtParts (set_of templates.now) self.old.cursor node (field_data exponent.now) (field_data mantissa.now) }
+        requires exponent { Serves (set_of templates.now).entries (slots_terms self.old.slots) (field_data exponent.now) }
+        requires mantissa { Serves (set_of templates.now).entries (slots_terms self.old.slots) (field_data mantissa.now) }
+        ensures turn { IsTurn S.takes S.stops (set_of templates.now) limits (turning (set_of templates.now) limits self.old) sink.old result sink.new self.new }
+        ensures past { result ≡ Ok Turn.Silent → self.new.cursor.left ≡ drop 1 self.old.cursor.left }
+    {
+        let bit = self.presence(exponent);
+        if needs_bytes(exponent, bit) {
+            self.waiting = Waiting::Field;
+            return Ok(Turn::Waits);
+        }
+        match unsent(&mut self.slots, exponent, bit) {
+            Err(code) => Err(FaultCode::Stream(code)),
+            Ok(source) => {
+                self.exponent_known(templates, limits, node, exponent, mantissa, source, sink)
+            }
+        }
+    }
+
+    /// The exponent of the next decimal by parts is known. Without one there is no mantissa either.
+    pub fn exponent_known<S: Sink>(
+        &mut self,
+        templates: &'t Templates,
+        limits: Limits,
+        node: u32,
+        exponent: &FieldInstruction,
+        mantissa: &FieldInstruction,
+        source: Source,
+        sink: &mut S,
+    ) -> Result<Turn, FaultCode>
+        requires turn { CanTurn (set_of templates.now) limits self.old }
+        requires next { IsAtParts (set_of templates.now) self.old.cursor node (field_data exponent.now) (field_data mantissa.now) }
+        requires exponent { Serves (set_of templates.now).entries (slots_terms self.old.slots) (field_data exponent.now) }
+        requires mantissa { Serves (set_of templates.now).entries (slots_terms self.old.slots) (field_data mantissa.now) }
+        ensures turn { IsTurn S.takes S.stops (set_of templates.now) limits
+            (reader_of limits.strict (exponent_then (set_of templates.now) (bounds limits) node (value_at source (field_data exponent.now) (slots_dictionary self.old.slots) self.old.text.text []) (field_data exponent.now) (field_data mantissa.now) (slots_dictionary self.old.slots) self.old.counted self.old.cursor))
+            sink.old result sink.new self.new }
+        ensures past { result ≡ Ok Turn.Silent → self.new.cursor.left ≡ drop 1 self.old.cursor.left }
+    {
+        let exponent_value = match self.value_of(exponent, source) {
+            Some(value) => Some(integer_of(value)),
+            None => None,
+        };
+        if uses_bit(exponent) {
+            self.cursor.use_bit();
+        }
+        match exponent_value {
+            None => {
+                self.cursor.advance();
+                Ok(Turn::Silent)
+            }
+            Some(value) => match exponent_in_range(value) {
+                Err(code) => Err(FaultCode::Stream(code)),
+                Ok(value) => self.begin_mantissa(templates, limits, node, mantissa, value, sink),
+            },
+        }
+    }
+
+    /// The exponent of the next decimal by parts is known and there: the machine waits for the mantissa, or nothing is sent of it.
+    fn begin_mantissa<S: Sink>(
+        &mut self,
+        templates: &'t Templates,
+        limits: Limits,
+        node: u32,
+        mantissa: &FieldInstruction,
+        exponent: i32,
+        sink: &mut S,
+    ) -> Result<Turn, FaultCode>
+        requires turn { CanTurn (set_of templates.now) limits self.old }
+        requires next { (e : FieldData) × IsAtParts (set_of templates.now) self.old.cursor node e (field_data mantissa.now) }
+        requires mantissa { Serves (set_of templates.now).entries (slots_terms self.old.slots) (field_data mantissa.now) }
+        ensures turn { IsTurn S.takes S.stops (set_of templates.now) limits
+            (reader_of limits.strict (mantissa_then (bounds limits) (frames_in (set_of templates.now) self.old.cursor.frames) (body_in (set_of templates.now) self.old.cursor.left) (state_in (slots_dictionary self.old.slots) self.old.counted self.old.cursor) exponent))
+            sink.old result sink.new self.new }
+        ensures past { result ≡ Ok Turn.Silent → self.new.cursor.left ≡ drop 1 self.old.cursor.left }
+    {
+        let bit = self.presence(mantissa);
+        if needs_bytes(mantissa, bit) {
+            self.waiting = Waiting::Mantissa(exponent);
+            return Ok(Turn::Waits);
+        }
+        match unsent(&mut self.slots, mantissa, bit) {
+            Err(code) => Err(FaultCode::Stream(code)),
+            Ok(source) => self.finish_decimal(node, mantissa, exponent, source, sink),
+        }
+    }
+
+    /// Goes past the next decimal by parts, whose mantissa is known, and hands the decimal over.
+    pub fn finish_decimal<S: Sink>(
+        &mut self,
+        node: u32,
+        mantissa: &FieldInstruction,
+        exponent: i32,
+        source: Source,
+        sink: &mut S,
+    ) -> Result<Turn, FaultCode>
+        requires left { 0 < length self.old.cursor.left }
+        requires entry { (e : ℕ) → (field_data mantissa.now).entry ≡ Some e → e < length (slots_dictionary self.old.slots) }
+        ensures moves { (set : Set) (l : Bounds) (strict : Bool) (waits : Reader Dictionary) → Moves S.takes S.stops
+            (reader_of strict (decimal_then set l node exponent (value_at source (field_data mantissa.now) (slots_dictionary self.old.slots) self.old.text.text []) (field_data mantissa.now) (slots_dictionary self.old.slots) self.old.counted self.old.cursor))
+            sink.old result sink.new (reader_of strict (going_on set l (slots_dictionary self.new.slots) self.new.counted self.new.cursor)) waits }
+        ensures past { OnOk result (IsPast self.old.cursor self.new.cursor) }
+        ensures same { self.new ≡ record self.old { cursor = self.new.cursor } }
+        ensures on { result ≢ Ok Turn.Waits }
+    {
+        let value = match self.value_of(mantissa, source) {
+            Some(value) => Some(signed_of(value)),
+            None => None,
+        };
+        let turn = match value {
+            Some(mantissa) => {
+                let value = Scalar::Dec { exponent, mantissa };
+                hand(sink, Event::Field { node, value })?;
+                Turn::Handed
+            }
+            None => Turn::Silent,
+        };
+        if uses_bit(mantissa) {
+            self.cursor.use_bit();
+        }
+        self.cursor.advance();
+        Ok(turn)
+    }
+
+    /// A group is next, which may be absent.
+    fn begin_group<S: Sink>(
+        &mut self,
+        templates: &'t Templates,
+        limits: Limits,
+        node: u32,
+        optional: bool,
+        body: &'t [u32],
+        sink: &mut S,
+    ) -> Result<Turn, FaultCode>
+        requires turn { CanTurn (set_of templates.now) limits self.old }
+        requires next { IsAtGroup (set_of templates.now) self.old.cursor node optional body.now }
+        requires below { AreBelow (length (set_of templates.now).nodes) body.now }
+        requires width { slice_index self.old.widths.nodes.items node ≡ bits_of (body_in (set_of templates.now) body.now) }
+        requires node { node < length (set_of templates.now).nodes }
+        ensures turn { IsTurn S.takes S.stops (set_of templates.now) limits (turning (set_of templates.now) limits self.old) sink.old result sink.new self.new }
+        ensures past { result ≡ Ok Turn.Silent → self.new.cursor.left ≡ drop 1 self.old.cursor.left }
+    {
+        if optional {
+            let bit = self.cursor.bit();
+            self.cursor.use_bit();
+            if !bit {
+                self.cursor.advance();
+                return Ok(Turn::Silent);
+            }
+        }
+        hand(sink, Event::GroupStart { node })?;
+        let width = self.widths.nodes[node as usize];
+        self.cursor.advance();
+        self.cursor.open_group(body);
+        Ok(self.open_segment(width))
+    }
+
+    /// The segment of a group or an element begins, with its map if its instructions use any bits.
+    fn open_segment(&mut self, width: usize) -> Turn
+        requires map { self.old.cursor.map ≡ [] }
+        ensures waits { 0 < width → (result ≡ Turn.Waits) × (self.new ≡ record self.old { waiting = Waiting.SegmentMap width }) }
+        ensures goes_on { width ≡ 0 → (result ≡ Turn.Handed) × (self.new ≡ self.old) }
+    {
+        if width == 0 {
+            return Turn::Handed;
+        }
+        self.waiting = Waiting::SegmentMap(width);
+        Turn::Waits
+    }
+
+    /// A sequence is next: the machine waits for its length, or nothing is sent of the length.
+    fn begin_sequence<S: Sink>(
+        &mut self,
+        templates: &'t Templates,
+        limits: Limits,
+        node: u32,
+        length: &FieldInstruction,
+        body: &'t [u32],
+        sink: &mut S,
+    ) -> Result<Turn, FaultCode>
+        requires turn { CanTurn (set_of templates.now) limits self.old }
+        requires next { IsAtSequence (set_of templates.now) self.old.cursor node (field_data length.now) body.now }
+        requires serves { Serves (set_of templates.now).entries (slots_terms self.old.slots) (field_data length.now) }
+        requires below { AreBelow (list_length (set_of templates.now).nodes) body.now }
+        requires width { slice_index self.old.widths.nodes.items node ≡ bits_of (body_in (set_of templates.now) body.now) }
+        requires node { node < list_length (set_of templates.now).nodes }
+        ensures turn { IsTurn S.takes S.stops (set_of templates.now) limits (turning (set_of templates.now) limits self.old) sink.old result sink.new self.new }
+        ensures past { result ≡ Ok Turn.Silent → self.new.cursor.left ≡ drop 1 self.old.cursor.left }
+    {
+        let bit = self.presence(length);
+        if needs_bytes(length, bit) {
+            self.waiting = Waiting::Field;
+            return Ok(Turn::Waits);
+        }
+        match unsent(&mut self.slots, length, bit) {
+            Err(code) => Err(FaultCode::Stream(code)),
+            Ok(source) => self.length_known(templates, limits, node, length, body, source, sink),
+        }
+    }
+
+    /// The length of the next sequence is known. Without one there is no sequence.
+    pub fn length_known<S: Sink>(
+        &mut self,
+        templates: &'t Templates,
+        limits: Limits,
+        node: u32,
+        length: &FieldInstruction,
+        body: &'t [u32],
+        source: Source,
+        sink: &mut S,
+    ) -> Result<Turn, FaultCode>
+        requires turn { CanTurn (set_of templates.now) limits self.old }
+        requires next { IsAtSequence (set_of templates.now) self.old.cursor node (field_data length.now) body.now }
+        requires serves { Serves (set_of templates.now).entries (slots_terms self.old.slots) (field_data length.now) }
+        requires below { AreBelow (list_length (set_of templates.now).nodes) body.now }
+        requires width { slice_index self.old.widths.nodes.items node ≡ bits_of (body_in (set_of templates.now) body.now) }
+        requires node { node < list_length (set_of templates.now).nodes }
+        ensures turn { IsTurn S.takes S.stops (set_of templates.now) limits
+            (reader_of limits.strict (length_then (set_of templates.now) (bounds limits) node (value_at source (field_data length.now) (slots_dictionary self.old.slots) self.old.text.text []) (field_data length.now) body.now (slots_dictionary self.old.slots) self.old.counted self.old.cursor))
+            sink.old result sink.new self.new }
+        ensures past { result ≡ Ok Turn.Silent → self.new.cursor.left ≡ drop 1 self.old.cursor.left }
+    {
+        let claimed = match self.value_of(length, source) {
+            Some(value) => Some(integer_of(value).unsigned_abs()),
+            None => None,
+        };
+        if uses_bit(length) {
+            self.cursor.use_bit();
+        }
+        self.cursor.advance();
+        let Some(claimed) = claimed else {
+            return Ok(Turn::Silent);
+        };
+        match count_within(limits, self.counted, claimed) {
+            Err(code) => Err(FaultCode::Stream(code)),
+            Ok(count) => {
+                self.counted += count;
+                hand(sink, Event::SequenceStart { node, count })?;
+                let width = self.widths.nodes[node as usize];
+                self.next_element(templates, limits, count, body, width, sink)
+            }
+        }
+    }
+
+    /// So many elements of a sequence are still to come: the next one begins, or the sequence is whole.
+    fn next_element<S: Sink>(
+        &mut self,
+        templates: &'t Templates,
+        limits: Limits,
+        count: u32,
+        body: &'t [u32],
+        width: usize,
+        sink: &mut S,
+    ) -> Result<Turn, FaultCode>
+        requires turn { CanTurn (set_of templates.now) limits self.old }
+        requires below { AreBelow (length (set_of templates.now).nodes) body.now }
+        requires nested { suc (length self.old.cursor.frames) + body_depth (body_in (set_of templates.now) body.now) ≤ self.old.cursor.depth }
+        requires width { width ≡ bits_of (body_in (set_of templates.now) body.now) }
+        ensures turn { IsTurn S.takes S.stops (set_of templates.now) limits
+            (reader_of limits.strict (elements_from (set_of templates.now) (bounds limits) count body.now (slots_dictionary self.old.slots) self.old.counted self.old.cursor))
+            sink.old result sink.new self.new }
+        ensures on { result ≢ Ok Turn.Silent }
+    {
+        if count == 0 {
+            hand(sink, Event::SequenceEnd)?;
+            return Ok(Turn::Handed);
+        }
+        hand(sink, Event::ElementStart)?;
+        self.cursor.open_element(Elements {
+            more: count - 1,
+            body,
+            width,
+        });
+        Ok(self.open_segment(width))
+    }
+
+    /// The innermost segment is whole: a group, an element or the message.
+    fn close<S: Sink>(
+        &mut self,
+        templates: &'t Templates,
+        limits: Limits,
+        sink: &mut S,
+    ) -> Result<Turn, FaultCode>
+        requires turn { CanTurn (set_of templates.now) limits self.old }
+        requires end { self.old.cursor.left ≡ [] }
+        ensures turn { IsTurn S.takes S.stops (set_of templates.now) limits (turning (set_of templates.now) limits self.old) sink.old result sink.new self.new }
+        ensures on { result ≢ Ok Turn.Silent }
+    {
+        if self.cursor.is_outermost() {
+            hand(sink, Event::MessageEnd)?;
+            self.cursor.clear_map();
+            self.waiting = Waiting::Map;
+            return Ok(Turn::Waits);
+        }
+        match self.cursor.close() {
+            None => {
+                hand(sink, Event::GroupEnd)?;
+                Ok(Turn::Handed)
+            }
+            Some(elements) => {
+                hand(sink, Event::ElementEnd)?;
+                self.next_element(
+                    templates,
+                    limits,
+                    elements.more,
+                    elements.body,
+                    elements.width,
+                    sink,
+                )
+            }
+        }
+    }
+
+    /// What is next needs no byte, or the machine waits.
+    #[inline]
+    fn turn<S: Sink>(
+        &mut self,
+        templates: &'t Templates,
+        limits: Limits,
+        sink: &mut S,
+    ) -> Result<Turn, FaultCode>
+        requires turn { CanTurn (set_of templates.now) limits self.old }
+        ensures turn { IsTurn S.takes S.stops (set_of templates.now) limits (turning (set_of templates.now) limits self.old) sink.old result sink.new self.new }
+        ensures past { result ≡ Ok Turn.Silent → (0 < length self.old.cursor.left) × (self.new.cursor.left ≡ drop 1 self.old.cursor.left) }
+    {
+        self.turns = Turns::after(&self.turns);
+        let Some(number) = self.cursor.next() else {
+            return self.close(templates, limits, sink);
+        };
+        match &templates.node(number).shape {
+            Shape::Field(field) => self.begin_field(templates, limits, number, field, sink),
+            Shape::Decimal { exponent, mantissa } => {
+                self.begin_decimal(templates, limits, number, exponent, mantissa, sink)
+            }
+            Shape::Group { optional, body } => {
+                self.begin_group(templates, limits, number, *optional, body.as_slice(), sink)
+            }
+            Shape::Sequence { length, body } => {
+                self.begin_sequence(templates, limits, number, length, body.as_slice(), sink)
+            }
+        }
+    }
+
+    /// All that needs no further byte.
+    pub fn settle<S: Sink>(
+        &mut self,
+        templates: &'t Templates,
+        limits: Limits,
+        sink: &mut S,
+    ) -> Result<(), FaultCode>
+        requires turn { CanTurn (set_of templates.now) limits self.old }
+        ensures hands { Hands S.takes S.stops (turning (set_of templates.now) limits self.old) sink.old result sink.new (meaning (set_of templates.now) limits self.new) }
+        ensures ready { OnOk result (IsReady (set_of templates.now) limits self.new) }
+        ensures supplied { IsSupplied (set_of templates.now) limits self.new }
+    {
+        'events: loop {
+            'silent: loop {
+                match self.turn(templates, limits, sink)? {
+                    Turn::Silent => {}
+                    Turn::Handed => break 'silent,
+                    Turn::Waits => return Ok(()),
+                }
+            }
+        }
+    }
+}
+
+/// An exponent, if it lies in the range of exponents.
+#[inline]
+fn exponent_in_range(value: i128) -> Result<i32, Code>
+    ensures { result ≡ ranged exponent_range Code.R1 value }
+{
+    if value < -63 || 63 < value {
+        return Err(Code::R1);
+    }
+    Ok(value as i32)
+}
+
+/// The signed number of a value, 0 if it has none.
+#[inline]
+fn signed_of(value: Scalar<'_>) -> i64
+    ensures { result ≡ signed_of (scalar_data value.entry) }
+{
+    match value {
+        Scalar::I(number) => number,
+        Scalar::U(_) | Scalar::Dec { .. } | Scalar::Ascii(_) | Scalar::Unicode(_) | Scalar::Bytes(_) => 0,
+    }
+}
+
+/// The elements that a length claims, if they are within the limit of one sequence, and then within that of the message.
+#[inline]
+fn count_within(limits: Limits, counted: u32, claimed: u128) -> Result<u32, Code>
+    requires { counted ≤ limits.max_total }
+    ensures count { result ≡ within_limits (bounds limits) counted claimed }
+    ensures total { IfOk result (λ n. counted + n ≤ limits.max_total) }
+{
+    if claimed > u128::from(limits.max_elements) {
+        return Err(Code::L2);
+    }
+    let count = claimed as u32;
+    if count > limits.max_total - counted {
+        return Err(Code::L5);
+    }
+    Ok(count)
+}

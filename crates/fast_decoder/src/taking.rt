@@ -1,0 +1,779 @@
+//! What a machine does with the bytes of a piece: it takes units, and all that they decide.
+
+ghost use Rattle.std.specs.Prelude.{◌≡◌, ◌≢◌, ◌⊎◌, ◌<◌, ◌≤◌, ◌^◌, ◌&&◌, not, nat_le, true, false, ℕ, List, [], length, length as list_length, slice_get, IfSome, IfNone, Err, drop, take, IsTrue, ◌↔◌, IsOk, IfOk, OnOk, Some, None, Ok, slice_index};
+ghost use Rattle.fast_wire.specs.Entities.{HaveNoStop, IsEntity};
+ghost use Rattle.fast_wire.specs.Maps.{map_limit, bits, first_bit, bytes_for};
+ghost use Rattle.fast_value.specs.Limits.{bounds};
+ghost use Rattle.fast_template.specs.Flat.{field_data, nodes_of, templates_of, template_data, instructions_from};
+ghost use Rattle.fast_template.specs.Numbers.{AreBelow};
+ghost use Rattle.fast_template.specs.declared.instructions.Template.{Template};
+ghost use Rattle.fast_value.specs.declared.settings.Limits.{Limits};
+ghost use Rattle.fast_template.specs.Tree.{FieldData, bits_of, identifier};
+ghost use Rattle.fast_dict.specs.Slots.{slots_dictionary, slots_terms};
+ghost use Rattle.fast_decoder.specs.GrammarReaders.{spare, reader_of};
+ghost use Rattle.fast_decoder.specs.Readers.{Reader};
+ghost use Rattle.fast_decoder.specs.EntryTexts.{HasLongInitial};
+ghost use Rattle.fast_decoder.specs.declared.machine.Machine.{Machine};
+ghost use Rattle.fast_dict.specs.Dictionary.{Dictionary};
+ghost use Rattle.fast_decoder.specs.Handing.{Hands, IsTaken, Fed, stood};
+ghost use Rattle.fast_decoder.specs.Settling.{Serves, value_at};
+ghost use Rattle.fast_decoder.specs.Passing.{state_past, identified_then};
+ghost use Rattle.fast_decoder.specs.Scalars.{IsOfField, IsOfFieldLater, IsScalarUnit, CanStep, CanProgress, step_then};
+ghost use Rattle.fast_decoder.specs.UnitFronts.{IsNumberStage};
+ghost use Rattle.fast_decoder.specs.Moving.{Moves};
+ghost use Rattle.fast_decoder.specs.Continuations.{message_of_then};
+ghost use Rattle.fast_decoder.specs.Positions.{Set, set_of, tree_in, body_in, IsAtField, IsAtParts, IsAtSequence, CanTurn, GoesOn, IsBehindMap, IsSupplied, IsReady, IsFresh, segment_reader, mapped_reader, turning, is_idle, meaning};
+
+use crate::cursor::Cursor;
+use crate::events::{Event, Sink};
+use crate::faults::FaultCode;
+use crate::fields::unsent;
+use crate::layout::{make_slots, measure};
+use crate::machine::{Machine, Turn, Waiting};
+use crate::numbers::take_integer;
+use crate::pending::MapFront;
+use crate::progress::Progress;
+use crate::scalars::{take_bytes, take_first, take_first_text, take_number};
+use crate::scratch::Scratch;
+use crate::settling::hand;
+use crate::source::Source;
+use crate::stages::{Stage, Step};
+use crate::turns::Turns;
+use fast_dict::Store;
+use fast_dict::operators::integers::integer_of;
+use fast_template::{FieldInstruction, Operator, Shape, Templates};
+use fast_value::{Code, Kind, Limits};
+use fast_wire::{Entity, map_overlong};
+use std::alloc::{AllocError, Global};
+
+/// How many bytes of a piece were taken, and why the machine stopped behind them, if it did.
+#[derive(Clone, Copy, Debug)]
+pub struct Taken {
+    /// The bytes that were taken.
+    pub bytes: usize,
+    /// Whether the machine goes on.
+    pub outcome: Result<(), FaultCode>,
+}
+
+impl Taken {
+    /// All bytes of the rest, and the unit is cut.
+    #[inline]
+    fn cut(rest: &[u8]) -> Taken
+        ensures bytes { result.bytes ≡ length rest.now }
+        ensures outcome { result.outcome ≡ Ok tt }
+    {
+        Taken {
+            bytes: rest.len(),
+            outcome: Ok(()),
+        }
+    }
+
+    /// So many bytes, of which the last decides a fault.
+    #[inline]
+    fn wrong(code: Code, bytes: usize) -> Taken
+        ensures bytes { result.bytes ≡ bytes }
+        ensures outcome { result.outcome ≡ Err (FaultCode.Stream code) }
+    {
+        Taken {
+            bytes,
+            outcome: Err(FaultCode::Stream(code)),
+        }
+    }
+}
+
+/// Whether a map has more bytes than a segment of so many bits can use, in strict mode.
+#[inline]
+fn is_too_wide(strict: bool, map_len: usize, bits: usize) -> bool
+    requires { bits < 2 ^ 63 }
+    ensures { result ≡ (strict && not (nat_le map_len (bytes_for bits))) }
+{
+    strict && map_len > ((bits + 6) / 7).max(1)
+}
+
+/// Whether the last of more than seven bits of a map are zero, in strict mode.
+#[inline]
+fn is_overlong(strict: bool, map: &[u8]) -> bool
+    requires entity { IsEntity map.now }
+    requires short { length map.now ≤ map_limit }
+    ensures { result ≡ (strict && spare map.now) }
+{
+    strict && map_overlong(map)
+}
+
+/// The number of the template with an identifier.
+#[inline]
+fn template_of(templates: &Templates, identifier: Option<u128>) -> Option<u32>
+    ensures some { IfSome result (λ i. (id : ℕ) × (t : Template) × (identifier ≡ Some id) × (slice_get (templates_of templates.now) i ≡ Some t) × (t.id ≡ Some id)
+        × ((j : ℕ) (u : Template) → j < i → slice_get (templates_of templates.now) j ≡ Some u → u.id ≢ Some id)) }
+    ensures none { IfNone result ((id j : ℕ) (t : Template) → identifier ≡ Some id → slice_get (templates_of templates.now) j ≡ Some t → t.id ≢ Some id) }
+{
+    match identifier {
+        Some(id) if id <= u128::from(u32::MAX) => templates.by_id(id as u32),
+        _ => None,
+    }
+}
+
+impl<'t> Machine<'t> {
+    /// Takes bytes of the presence map of a message.
+    fn take_map<S: Sink>(
+        &mut self,
+        templates: &'t Templates,
+        limits: Limits,
+        rest: &[u8],
+        sink: &mut S,
+    ) -> Taken
+        requires waits { self.old.waiting ≡ Waiting.Map }
+        requires ready { IsReady (set_of templates.now) limits self.old }
+        requires some { 0 < length rest.now }
+        ensures taken { IsTaken S.takes S.stops (tree_in (set_of templates.now)) limits (meaning (set_of templates.now) limits self.old) rest.now
+            sink.old result.bytes result.outcome sink.new (meaning (set_of templates.now) limits self.new) }
+        ensures ready { OnOk result.outcome (IsReady (set_of templates.now) limits self.new) }
+        ensures supplied { IsSupplied (set_of templates.now) limits self.new }
+    {
+        match self.cursor.take_map(rest) {
+            MapFront::Cut => Taken::cut(rest),
+            MapFront::TooLong(bytes) => Taken::wrong(Code::L3, bytes),
+            MapFront::Whole(bytes) => {
+                let outcome = self.mapped(templates, limits, sink);
+                Taken { bytes, outcome }
+            }
+        }
+    }
+
+    /// The presence map of a message is whole.
+    fn mapped<S: Sink>(
+        &mut self,
+        templates: &'t Templates,
+        limits: Limits,
+        sink: &mut S,
+    ) -> Result<(), FaultCode>
+        requires behind { IsBehindMap (set_of templates.now) limits self.old }
+        ensures hands { Hands S.takes S.stops
+            (mapped_reader (set_of templates.now) limits (slots_dictionary self.old.slots) self.old.cursor.map)
+            sink.old result sink.new (meaning (set_of templates.now) limits self.new) }
+        ensures ready { OnOk result (IsReady (set_of templates.now) limits self.new) }
+        ensures supplied { IsSupplied (set_of templates.now) limits self.new }
+    {
+        if is_overlong(limits.strict, self.cursor.map()) {
+            return Err(FaultCode::Stream(Code::R7));
+        }
+        if self.cursor.bit() {
+            self.waiting = Waiting::Identifier;
+            return Ok(());
+        }
+        match unsent(&mut self.slots, &self.identifier, false) {
+            Err(code) => Err(FaultCode::Stream(code)),
+            Ok(source) => self.identified(templates, limits, source, sink),
+        }
+    }
+
+    /// The template identifier is known, sent or copied.
+    fn identified<S: Sink>(
+        &mut self,
+        templates: &'t Templates,
+        limits: Limits,
+        source: Source,
+        sink: &mut S,
+    ) -> Result<(), FaultCode>
+        requires behind { IsBehindMap (set_of templates.now) limits self.old }
+        ensures hands { Hands S.takes S.stops
+            (reader_of limits.strict (identified_then (set_of templates.now) (bounds limits) (value_at source identifier (slots_dictionary self.old.slots) self.old.text.text []) (slots_dictionary self.old.slots) self.old.cursor))
+            sink.old result sink.new (meaning (set_of templates.now) limits self.new) }
+        ensures ready { OnOk result (IsReady (set_of templates.now) limits self.new) }
+        ensures supplied { IsSupplied (set_of templates.now) limits self.new }
+    {
+        let id = match self.value_of(&self.identifier, source) {
+            Some(value) => Some(integer_of(value).unsigned_abs()),
+            None => None,
+        };
+        let Some(number) = template_of(templates, id) else {
+            return Err(FaultCode::Stream(Code::D9));
+        };
+        let width = self.widths.templates[number as usize];
+        if is_too_wide(limits.strict, self.cursor.map_len(), width) {
+            return Err(FaultCode::Stream(Code::R8));
+        }
+        self.begin_message(templates, limits, number, sink)
+    }
+
+    /// A message of a template begins.
+    fn begin_message<S: Sink>(
+        &mut self,
+        templates: &'t Templates,
+        limits: Limits,
+        number: u32,
+        sink: &mut S,
+    ) -> Result<(), FaultCode>
+        requires behind { IsBehindMap (set_of templates.now) limits self.old }
+        requires number { number < length (set_of templates.now).templates }
+        ensures hands { (t : Template) → slice_get (set_of templates.now).templates number ≡ Some t → Hands S.takes S.stops
+            (reader_of limits.strict (message_of_then (bounds limits) number (template_data (instructions_from 0 (set_of templates.now).nodes) t) (state_past identifier (slots_dictionary self.old.slots) 0 self.old.cursor)))
+            sink.old result sink.new (meaning (set_of templates.now) limits self.new) }
+        ensures ready { OnOk result (IsReady (set_of templates.now) limits self.new) }
+        ensures supplied { IsSupplied (set_of templates.now) limits self.new }
+    {
+        hand(sink, Event::MessageStart { template: number })?;
+        let template = templates.template(number);
+        if template.reset {
+            self.slots.reset();
+        }
+        self.counted = 0;
+        self.cursor.use_bit();
+        self.cursor.begin(template.body.as_slice());
+        self.turns = Turns::after(&self.turns);
+        self.settle(templates, limits, sink)
+    }
+
+    /// Takes bytes of the template identifier.
+    fn take_identifier<S: Sink>(
+        &mut self,
+        templates: &'t Templates,
+        limits: Limits,
+        rest: &[u8],
+        sink: &mut S,
+    ) -> Taken
+        requires waits { self.old.waiting ≡ Waiting.Identifier }
+        requires ready { IsReady (set_of templates.now) limits self.old }
+        requires some { 0 < length rest.now }
+        ensures taken { IsTaken S.takes S.stops (tree_in (set_of templates.now)) limits (meaning (set_of templates.now) limits self.old) rest.now
+            sink.old result.bytes result.outcome sink.new (meaning (set_of templates.now) limits self.new) }
+        ensures ready { OnOk result.outcome (IsReady (set_of templates.now) limits self.new) }
+        ensures supplied { IsSupplied (set_of templates.now) limits self.new }
+    {
+        match take_integer(
+            &mut self.slots,
+            &mut self.entity,
+            &self.identifier,
+            rest,
+            limits.strict,
+        ) {
+            Progress::Cut => Taken::cut(rest),
+            Progress::Wrong(code, bytes) => Taken::wrong(code, bytes),
+            Progress::Whole(source, bytes) => {
+                let outcome = self.identified(templates, limits, source, sink);
+                Taken { bytes, outcome }
+            }
+        }
+    }
+
+    /// Takes bytes of the presence map of a group or an element.
+    fn take_segment_map<S: Sink>(
+        &mut self,
+        templates: &'t Templates,
+        limits: Limits,
+        width: usize,
+        rest: &[u8],
+        sink: &mut S,
+    ) -> Taken
+        requires waits { self.old.waiting ≡ Waiting.SegmentMap width }
+        requires ready { IsReady (set_of templates.now) limits self.old }
+        requires some { 0 < length rest.now }
+        ensures taken { IsTaken S.takes S.stops (tree_in (set_of templates.now)) limits (meaning (set_of templates.now) limits self.old) rest.now
+            sink.old result.bytes result.outcome sink.new (meaning (set_of templates.now) limits self.new) }
+        ensures ready { OnOk result.outcome (IsReady (set_of templates.now) limits self.new) }
+        ensures supplied { IsSupplied (set_of templates.now) limits self.new }
+    {
+        match self.cursor.take_map(rest) {
+            MapFront::Cut => Taken::cut(rest),
+            MapFront::TooLong(bytes) => Taken::wrong(Code::L3, bytes),
+            MapFront::Whole(bytes) => {
+                let outcome = self.segment_mapped(templates, limits, width, sink);
+                Taken { bytes, outcome }
+            }
+        }
+    }
+
+    /// The presence map of a group or an element is whole.
+    fn segment_mapped<S: Sink>(
+        &mut self,
+        templates: &'t Templates,
+        limits: Limits,
+        width: usize,
+        sink: &mut S,
+    ) -> Result<(), FaultCode>
+        requires turn { CanTurn (set_of templates.now) limits self.old }
+        requires map { IsEntity self.old.cursor.map }
+        requires short { length self.old.cursor.map ≤ map_limit }
+        requires none { self.old.cursor.used ≡ 0 }
+        requires width { width < 2 ^ 63 }
+        ensures hands { Hands S.takes S.stops
+            (segment_reader (set_of templates.now) limits self.old width)
+            sink.old result sink.new (meaning (set_of templates.now) limits self.new) }
+        ensures ready { OnOk result (IsReady (set_of templates.now) limits self.new) }
+        ensures supplied { IsSupplied (set_of templates.now) limits self.new }
+    {
+        if is_overlong(limits.strict, self.cursor.map()) {
+            return Err(FaultCode::Stream(Code::R7));
+        }
+        if is_too_wide(limits.strict, self.cursor.map_len(), width) {
+            return Err(FaultCode::Stream(Code::R8));
+        }
+        self.settle(templates, limits, sink)
+    }
+
+    /// Takes bytes of the first unit of the next instruction, an integer.
+    fn take_instruction<S: Sink>(
+        &mut self,
+        templates: &'t Templates,
+        limits: Limits,
+        rest: &[u8],
+        sink: &mut S,
+    ) -> Taken
+        requires waits { self.old.waiting ≡ Waiting.Field }
+        requires ready { IsReady (set_of templates.now) limits self.old }
+        requires some { 0 < length rest.now }
+        ensures taken { IsTaken S.takes S.stops (tree_in (set_of templates.now)) limits (meaning (set_of templates.now) limits self.old) rest.now
+            sink.old result.bytes result.outcome sink.new (meaning (set_of templates.now) limits self.new) }
+        ensures ready { OnOk result.outcome (IsReady (set_of templates.now) limits self.new) }
+        ensures supplied { IsSupplied (set_of templates.now) limits self.new }
+    {
+        let Some(number) = self.cursor.next() else {
+            return Taken::cut(rest);
+        };
+        match &templates.node(number).shape {
+            Shape::Field(field) => {
+                let progress = take_first(
+                    &mut self.slots,
+                    &mut self.entity,
+                    &mut self.text,
+                    &mut self.joined,
+                    field,
+                    rest,
+                    limits,
+                );
+                self.scalar_taken(templates, limits, number, field, progress, rest, sink)
+            }
+            Shape::Decimal { exponent, mantissa } => {
+                self.take_exponent(templates, limits, number, exponent, mantissa, rest, sink)
+            }
+            Shape::Sequence { length, body } => {
+                self.take_length(templates, limits, number, length, body.as_slice(), rest, sink)
+            }
+            Shape::Group { .. } => Taken::cut(rest),
+        }
+    }
+
+    /// Takes bytes of the exponent of the next instruction, a decimal by parts.
+    fn take_exponent<S: Sink>(
+        &mut self,
+        templates: &'t Templates,
+        limits: Limits,
+        node: u32,
+        exponent: &FieldInstruction,
+        mantissa: &FieldInstruction,
+        rest: &[u8],
+        sink: &mut S,
+    ) -> Taken
+        requires waits { self.old.waiting ≡ Waiting.Field }
+        requires ready { IsReady (set_of templates.now) limits self.old }
+        requires some { 0 < length rest.now }
+        requires next { IsAtParts (set_of templates.now) self.old.cursor node (field_data exponent.now) (field_data mantissa.now) }
+        requires exponent { Serves (set_of templates.now).entries (slots_terms self.old.slots) (field_data exponent.now) }
+        requires mantissa { Serves (set_of templates.now).entries (slots_terms self.old.slots) (field_data mantissa.now) }
+        requires kind { exponent.now.kind ≡ Kind.Int32 }
+        ensures taken { IsTaken S.takes S.stops (tree_in (set_of templates.now)) limits (meaning (set_of templates.now) limits self.old) rest.now
+            sink.old result.bytes result.outcome sink.new (meaning (set_of templates.now) limits self.new) }
+        ensures ready { OnOk result.outcome (IsReady (set_of templates.now) limits self.new) }
+        ensures supplied { IsSupplied (set_of templates.now) limits self.new }
+    {
+        match take_integer(&mut self.slots, &mut self.entity, exponent, rest, limits.strict) {
+            Progress::Cut => Taken::cut(rest),
+            Progress::Wrong(code, bytes) => Taken::wrong(code, bytes),
+            Progress::Whole(source, bytes) => {
+                let turn = self
+                    .exponent_known(templates, limits, node, exponent, mantissa, source, sink);
+                let outcome = self.go_on(templates, limits, turn, sink);
+                Taken { bytes, outcome }
+            }
+        }
+    }
+
+    /// Takes bytes of the length of the next instruction, a sequence.
+    fn take_length<S: Sink>(
+        &mut self,
+        templates: &'t Templates,
+        limits: Limits,
+        node: u32,
+        length: &FieldInstruction,
+        body: &'t [u32],
+        rest: &[u8],
+        sink: &mut S,
+    ) -> Taken
+        requires waits { self.old.waiting ≡ Waiting.Field }
+        requires ready { IsReady (set_of templates.now) limits self.old }
+        requires some { 0 < list_length rest.now }
+        requires next { IsAtSequence (set_of templates.now) self.old.cursor node (field_data length.now) body.now }
+        requires serves { Serves (set_of templates.now).entries (slots_terms self.old.slots) (field_data length.now) }
+        requires kind { length.now.kind ≡ Kind.UInt32 }
+        requires below { AreBelow (list_length (set_of templates.now).nodes) body.now }
+        requires width { slice_index self.old.widths.nodes.items node ≡ bits_of (body_in (set_of templates.now) body.now) }
+        requires node { node < list_length (set_of templates.now).nodes }
+        ensures taken { IsTaken S.takes S.stops (tree_in (set_of templates.now)) limits (meaning (set_of templates.now) limits self.old) rest.now
+            sink.old result.bytes result.outcome sink.new (meaning (set_of templates.now) limits self.new) }
+        ensures ready { OnOk result.outcome (IsReady (set_of templates.now) limits self.new) }
+        ensures supplied { IsSupplied (set_of templates.now) limits self.new }
+    {
+        match take_integer(&mut self.slots, &mut self.entity, length, rest, limits.strict) {
+            Progress::Cut => Taken::cut(rest),
+            Progress::Wrong(code, bytes) => Taken::wrong(code, bytes),
+            Progress::Whole(source, bytes) => {
+                let turn =
+                    self.length_known(templates, limits, node, length, body, source, sink);
+                let outcome = self.go_on(templates, limits, turn, sink);
+                Taken { bytes, outcome }
+            }
+        }
+    }
+
+    /// Takes bytes of the mantissa of the next instruction, a decimal by parts.
+    fn take_mantissa<S: Sink>(
+        &mut self,
+        templates: &'t Templates,
+        limits: Limits,
+        exponent: i32,
+        rest: &[u8],
+        sink: &mut S,
+    ) -> Taken
+        requires waits { self.old.waiting ≡ Waiting.Mantissa exponent }
+        requires ready { IsReady (set_of templates.now) limits self.old }
+        requires some { 0 < length rest.now }
+        ensures taken { IsTaken S.takes S.stops (tree_in (set_of templates.now)) limits (meaning (set_of templates.now) limits self.old) rest.now
+            sink.old result.bytes result.outcome sink.new (meaning (set_of templates.now) limits self.new) }
+        ensures ready { OnOk result.outcome (IsReady (set_of templates.now) limits self.new) }
+        ensures supplied { IsSupplied (set_of templates.now) limits self.new }
+    {
+        let Some(number) = self.cursor.next() else {
+            return Taken::cut(rest);
+        };
+        let Shape::Decimal { mantissa, .. } = &templates.node(number).shape else {
+            return Taken::cut(rest);
+        };
+        match take_integer(&mut self.slots, &mut self.entity, mantissa, rest, limits.strict) {
+            Progress::Cut => Taken::cut(rest),
+            Progress::Wrong(code, bytes) => Taken::wrong(code, bytes),
+            Progress::Whole(source, bytes) => {
+                let turn = self.finish_decimal(number, mantissa, exponent, source, sink);
+                let outcome = self.go_on(templates, limits, turn, sink);
+                Taken { bytes, outcome }
+            }
+        }
+    }
+
+    /// Takes bytes of a text or of a later unit of the next instruction, a field.
+    fn take_later<S: Sink>(
+        &mut self,
+        templates: &'t Templates,
+        limits: Limits,
+        rest: &[u8],
+        sink: &mut S,
+    ) -> Taken
+        requires waits { IsOfFieldLater self.old.waiting }
+        requires ready { IsReady (set_of templates.now) limits self.old }
+        requires some { 0 < length rest.now }
+        ensures taken { IsTaken S.takes S.stops (tree_in (set_of templates.now)) limits (meaning (set_of templates.now) limits self.old) rest.now
+            sink.old result.bytes result.outcome sink.new (meaning (set_of templates.now) limits self.new) }
+        ensures ready { OnOk result.outcome (IsReady (set_of templates.now) limits self.new) }
+        ensures supplied { IsSupplied (set_of templates.now) limits self.new }
+    {
+        let Some(number) = self.cursor.next() else {
+            return Taken::cut(rest);
+        };
+        let Shape::Field(field) = &templates.node(number).shape else {
+            return Taken::cut(rest);
+        };
+        let progress = self.take_scalar(templates, limits, field, rest);
+        self.scalar_taken(templates, limits, number, field, progress, rest, sink)
+    }
+
+    /// Takes bytes of a text or of a later unit of a field.
+    fn take_scalar(
+        &mut self,
+        templates: &'t Templates,
+        limits: Limits,
+        field: &FieldInstruction,
+        rest: &[u8],
+    ) -> Progress<Step>
+        requires waits { IsOfFieldLater self.old.waiting }
+        requires ready { IsReady (set_of templates.now) limits self.old }
+        requires serves { Serves (set_of templates.now).entries (slots_terms self.old.slots) (field_data field.now) }
+        requires next { (node : ℕ) × IsAtField (set_of templates.now) self.old.cursor node (field_data field.now) }
+        ensures unit { IsScalarUnit limits self.old self.new (field_data field.now) rest.now result }
+        ensures supplied { IsSupplied (set_of templates.now) limits self.new }
+        ensures progress { CanProgress (set_of templates.now) limits self.new (field_data field.now) result }
+        ensures within { (step : Step) (n : ℕ) → result ≡ Progress.Whole step n → n ≤ length rest.now }
+    {
+        match self.waiting {
+            Waiting::Text => take_first_text(
+                &mut self.slots,
+                &mut self.text,
+                &mut self.joined,
+                field,
+                rest,
+                limits,
+            ),
+            Waiting::Number(stage) => take_number(
+                &mut self.slots,
+                &mut self.entity,
+                &mut self.joined,
+                field,
+                stage,
+                rest,
+                limits,
+            ),
+            Waiting::Bytes(stage) => take_bytes(
+                &mut self.slots,
+                &mut self.text,
+                &mut self.joined,
+                field,
+                stage,
+                rest,
+                limits,
+            ),
+            _ => Progress::Cut,
+        }
+    }
+
+    /// What a unit of the next instruction, a field, has come to.
+    #[inline]
+    fn scalar_taken<S: Sink>(
+        &mut self,
+        templates: &'t Templates,
+        limits: Limits,
+        node: u32,
+        field: &FieldInstruction,
+        progress: Progress<Step>,
+        rest: &[u8],
+        sink: &mut S,
+    ) -> Taken
+        requires next { IsAtField (set_of templates.now) self.old.cursor node (field_data field.now) }
+        requires serves { Serves (set_of templates.now).entries (slots_terms self.old.slots) (field_data field.now) }
+        requires progress { CanProgress (set_of templates.now) limits self.old (field_data field.now) progress }
+        requires within { (step : Step) (n : ℕ) → progress ≡ Progress.Whole step n → n ≤ length rest.now }
+        ensures taken { (m : Machine) → IsReady (set_of templates.now) limits m → IsOfField m.waiting → 0 < length rest.now → IsScalarUnit limits m self.old (field_data field.now) rest.now progress
+            → IsTaken S.takes S.stops (tree_in (set_of templates.now)) limits (meaning (set_of templates.now) limits m) rest.now
+            sink.old result.bytes result.outcome sink.new (meaning (set_of templates.now) limits self.new) }
+        ensures ready { OnOk result.outcome (IsReady (set_of templates.now) limits self.new) }
+        ensures supplied { IsSupplied (set_of templates.now) limits self.new }
+    {
+        match progress {
+            Progress::Cut => Taken::cut(rest),
+            Progress::Wrong(code, bytes) => Taken::wrong(code, bytes),
+            Progress::Whole(step, bytes) => {
+                let piece = &rest[..bytes];
+                let outcome = self.step_on(templates, limits, node, field, step, piece, sink);
+                Taken { bytes, outcome }
+            }
+        }
+    }
+
+    /// A unit of the next instruction, a field, is whole.
+    #[inline]
+    fn step_on<S: Sink>(
+        &mut self,
+        templates: &'t Templates,
+        limits: Limits,
+        node: u32,
+        field: &FieldInstruction,
+        step: Step,
+        piece: &[u8],
+        sink: &mut S,
+    ) -> Result<(), FaultCode>
+        requires next { IsAtField (set_of templates.now) self.old.cursor node (field_data field.now) }
+        requires serves { Serves (set_of templates.now).entries (slots_terms self.old.slots) (field_data field.now) }
+        requires step { CanStep (set_of templates.now) limits self.old (field_data field.now) step }
+        ensures hands { Hands S.takes S.stops
+            (reader_of limits.strict (step_then (set_of templates.now) limits node (field_data field.now) self.old piece.now step))
+            sink.old result sink.new (meaning (set_of templates.now) limits self.new) }
+        ensures ready { OnOk result (IsReady (set_of templates.now) limits self.new) }
+        ensures supplied { IsSupplied (set_of templates.now) limits self.new }
+    {
+        match step {
+            Step::Settled(source) => {
+                let turn = self.finish(node, field, source, piece, sink);
+                self.go_on(templates, limits, turn, sink)
+            }
+            Step::Next(stage) => {
+                self.wait_behind(field, stage);
+                Ok(())
+            }
+        }
+    }
+
+    /// Waits for a later unit of a field.
+    fn wait_behind(&mut self, field: &FieldInstruction, stage: Stage)
+        ensures waits { self.new.waiting ≡ Waiting.Number stage × IsNumberStage (field_data field.now) stage
+            ⊎ self.new.waiting ≡ Waiting.Bytes stage × (self.new.text.text ≡ []) × ¬ (IsNumberStage (field_data field.now) stage) }
+        ensures same { self.new ≡ record self.old { waiting = self.new.waiting; text = self.new.text } }
+        ensures capacity { self.new.text.capacity ≡ self.old.text.capacity }
+    {
+        let is_number = match stage {
+            Stage::Mantissa(_) | Stage::MantissaDelta(_) => true,
+            Stage::Part(_) => field.kind != Kind::Ascii,
+            Stage::Vector(_) | Stage::PartVector(..) => false,
+        };
+        if is_number {
+            self.waiting = Waiting::Number(stage);
+        } else {
+            self.text.clear();
+            self.waiting = Waiting::Bytes(stage);
+        }
+    }
+
+    /// Goes on behind a turn.
+    #[inline]
+    fn go_on<S: Sink>(
+        &mut self,
+        templates: &'t Templates,
+        limits: Limits,
+        turn: Result<Turn, FaultCode>,
+        sink: &mut S,
+    ) -> Result<(), FaultCode>
+        requires supplied { IsSupplied (set_of templates.now) limits self.old }
+        requires goes_on { GoesOn (set_of templates.now) limits self.old turn }
+        ensures hands { (r : Reader Dictionary) (s : S) → Moves S.takes S.stops r s turn sink.old (turning (set_of templates.now) limits self.old) (meaning (set_of templates.now) limits self.old)
+            → Hands S.takes S.stops r s result sink.new (meaning (set_of templates.now) limits self.new) }
+        ensures ready { OnOk result (IsReady (set_of templates.now) limits self.new) }
+        ensures supplied { IsSupplied (set_of templates.now) limits self.new }
+    {
+        match turn {
+            Err(code) => Err(code),
+            Ok(Turn::Waits) => Ok(()),
+            Ok(Turn::Silent | Turn::Handed) => self.settle(templates, limits, sink),
+        }
+    }
+
+    /// Takes one unit, or as much of it as there is.
+    #[inline]
+    fn take_unit<S: Sink>(
+        &mut self,
+        templates: &'t Templates,
+        limits: Limits,
+        rest: &[u8],
+        sink: &mut S,
+    ) -> Taken
+        requires ready { IsReady (set_of templates.now) limits self.old }
+        requires some { 0 < length rest.now }
+        ensures taken { IsTaken S.takes S.stops (tree_in (set_of templates.now)) limits (meaning (set_of templates.now) limits self.old) rest.now
+            sink.old result.bytes result.outcome sink.new (meaning (set_of templates.now) limits self.new) }
+        ensures ready { OnOk result.outcome (IsReady (set_of templates.now) limits self.new) }
+        ensures supplied { IsSupplied (set_of templates.now) limits self.new }
+    {
+        self.turns = Turns::after(&self.turns);
+        match self.waiting {
+            Waiting::Field => self.take_instruction(templates, limits, rest, sink),
+            Waiting::Map => self.take_map(templates, limits, rest, sink),
+            Waiting::Identifier => self.take_identifier(templates, limits, rest, sink),
+            Waiting::SegmentMap(width) => self.take_segment_map(templates, limits, width, rest, sink),
+            Waiting::Text | Waiting::Number(_) | Waiting::Bytes(_) => {
+                self.take_later(templates, limits, rest, sink)
+            }
+            Waiting::Mantissa(exponent) => self.take_mantissa(templates, limits, exponent, rest, sink),
+        }
+    }
+
+    /// Takes the units of a piece, up to its end, a fault, or where the sink stops.
+    pub fn take_all<S: Sink>(
+        &mut self,
+        templates: &'t Templates,
+        limits: Limits,
+        piece: &[u8],
+        sink: &mut S,
+    ) -> Taken
+        requires ready { IsReady (set_of templates.now) limits self.old }
+        ensures within { result.bytes ≤ length piece.now }
+        ensures all { IsOk result.outcome → result.bytes ≡ length piece.now }
+        ensures fed { Fed S.takes S.stops (tree_in (set_of templates.now)) limits (stood (meaning (set_of templates.now) limits self.old)) (take result.bytes piece.now)
+            sink.old result.outcome sink.new (stood (meaning (set_of templates.now) limits self.new)) }
+        ensures ready { OnOk result.outcome (IsReady (set_of templates.now) limits self.new) }
+        ensures supplied { IsSupplied (set_of templates.now) limits self.new }
+    {
+        let mut bytes = 0;
+        while bytes < piece.len() {
+            let taken = self.take_unit(templates, limits, &piece[bytes..], sink);
+            bytes += taken.bytes;
+            if taken.outcome.is_err() {
+                return Taken {
+                    bytes,
+                    outcome: taken.outcome,
+                };
+            }
+        }
+        Taken {
+            bytes,
+            outcome: Ok(()),
+        }
+    }
+
+    /// A machine before the first message of streams of the set.
+    ///
+    /// # Errors
+    ///
+    /// Memory was refused.
+    pub fn new(
+        alloc: Global,
+        templates: &'t Templates,
+        limits: Limits,
+    ) -> Result<Machine<'t>, AllocError>
+        requires least { 16 ≤ limits.max_text }
+        requires initial { ¬ (HasLongInitial limits.max_text (nodes_of templates.now)) }
+        ensures fresh { IfOk result (λ m. IsFresh (set_of templates.entry.now) m) }
+        ensures supplied { IfOk result (λ m. IsSupplied (set_of templates.entry.now) limits m) }
+    {
+        Ok(Machine {
+            waiting: Waiting::Map,
+            cursor: Cursor::new(alloc, templates.depth() as usize)?,
+            slots: make_slots(alloc, templates, limits.max_text)?,
+            entity: Entity::new(),
+            text: Scratch::new(alloc, limits.max_text)?,
+            joined: Scratch::new(alloc, limits.max_text)?,
+            counted: 0,
+            widths: measure(alloc, templates)?,
+            identifier: FieldInstruction {
+                kind: Kind::UInt32,
+                optional: false,
+                operator: Operator::Copy,
+                initial: None,
+                entry: Some(0),
+            },
+            turns: Turns::none(),
+        })
+    }
+
+    /// Forgets all that was read.
+    pub fn reset(&mut self)
+        ensures fresh { (set : Set) (l : Limits) → IsSupplied set l self.old → IsFresh set self.new }
+        ensures supplied { (set : Set) (l : Limits) → IsSupplied set l self.old → IsSupplied set l self.new }
+    {
+        self.waiting = Waiting::Map;
+        self.cursor.reset();
+        self.slots.reset_all();
+        self.entity.clear();
+        self.counted = 0;
+        self.turns = Turns::none();
+    }
+
+    /// Begins to count turns.
+    #[inline]
+    pub fn begin_turns(&mut self)
+        ensures same { self.new ≡ record self.old { turns = self.new.turns } }
+        ensures none { self.new.turns.count ≡ 0 }
+    {
+        self.turns = Turns::none();
+    }
+
+    /// Whether no message is begun.
+    pub fn is_idle(&self) -> bool
+        ensures { result ≡ is_idle self.now }
+    {
+        match self.waiting {
+            Waiting::Map => self.cursor.map_len() == 0,
+            Waiting::Identifier
+            | Waiting::SegmentMap(_)
+            | Waiting::Field
+            | Waiting::Text
+            | Waiting::Number(_)
+            | Waiting::Bytes(_)
+            | Waiting::Mantissa(_) => false,
+        }
+    }
+}
