@@ -1,6 +1,6 @@
 -- What is left of a text field behind its last unit.
 use Rattle.std.proofs.Common.{refl, sym, ap, ◌∙◌, subst, arith, inl, inr, length-append}
-use Rattle.std.specs.Prelude.{◌≡◌, ◌≢◌, ◌⊎◌, ℕ, ◌+◌, ◌-◌, ◌<◌, ◌≤◌, Bool, true, false, nat_le, if◌then◌else◌, List, [], ◌++◌, length, take, drop, slice_set, slice_index_or, Option, Some, None, is_some, unwrap_or, ℤ, pos, negsuc, Result, Ok, Err}
+use Rattle.std.specs.Prelude.{◌≡◌, ◌≢◌, ◌⊎◌, ℕ, ◌+◌, ◌-◌, ◌<◌, ◌≤◌, Bool, true, false, nat_le, if◌then◌else◌, List, [], ◌++◌, length, take, drop, Option, Some, None, is_some, unwrap_or, ℤ, pos, negsuc, Result, Ok, Err}
 use Rattle.std.specs.Str.{is_utf8}
 use Rattle.std.proofs.lemmas.List.{set-get_or, get_or-set_same, length-take, length-drop}
 use Rattle.std.proofs.lemmas.Bool.Decides.{leb_tells}
@@ -16,12 +16,12 @@ use Rattle.fast_template.specs.Entries.{keeps_value}
 use Rattle.fast_dict.specs.Answers.{kept_text}
 use Rattle.fast_dict.specs.Dictionary.{Dictionary, PreviousData, undefined, empty, assigned, previous_at, write_at}
 use Rattle.fast_dict.specs.Held.{text_size}
-use Rattle.fast_dict.specs.Operators.{◌>>=◌, Outcome, gives, keeps, gives_none, checked_in, checked, checked_text, null, value, decide, decide_by, of_kind, start_value, zero_in, delta_base, tail_base, with_tail, Kept, append_to, prepend_to, kept_of, kept_length, joined, subtraction_step, sent_tail}
+use Rattle.fast_dict.specs.Operators.{◌>>=◌, Outcome, gives, keeps, gives_none, checked_in, checked, checked_text, null, decide, decide_by, start_value, zero_in, delta_base, tail_base, with_tail, Kept, append_to, prepend_to, kept_of, kept_length, subtraction_step}
 use Rattle.fast_dict.specs.Stores.{Terms, IsStorable}
 use Rattle.fast_dict.specs.Slots.{slots_dictionary, slots_terms, slots_texts_fit}
 use Rattle.fast_dict.specs.declared.slots.Slots.{Slots}
 use Rattle.fast_decoder.specs.Fields.{sent_text}
-use Rattle.fast_decoder.specs.Settling.{HasRoomFor, Serves, value_in, value_at, IsSettled}
+use Rattle.fast_decoder.specs.Settling.{HasRoomFor, Serves, value_in, value_at}
 use Rattle.fast_decoder.specs.TextDecisions.{is_emptied, IsTextDecided}
 use Rattle.fast_decoder.specs.declared.source.Source.{Source}
 use Rattle.fast_decoder.specs.declared.source.Source.TheVariants as From

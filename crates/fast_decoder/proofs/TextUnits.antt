@@ -1,33 +1,32 @@
 -- The units of text fields: the terms that they stand in front of, and what they make of the field.
 use Rattle.std.proofs.Common.{refl, sym, ap, ◌∙◌, subst, arith, inl, inr}
-use Rattle.std.specs.Prelude.{◌≡◌, ◌≢◌, ◌⊎◌, ℕ, zero, suc, ◌-◌, ◌<◌, ◌≤◌, Bool, true, false, nat_le, if◌then◌else◌, List, [], ◌∷◌, ◌++◌, length, take, ℤ, pos, Option, Some, None, IfSome, Result, Ok, Err}
+use Rattle.std.specs.Prelude.{◌≡◌, ◌≢◌, ◌⊎◌, ℕ, ◌-◌, ◌<◌, ◌≤◌, Bool, true, false, nat_le, if◌then◌else◌, List, [], ◌++◌, length, take, ℤ, pos, Option, Some, Result, Ok, Err}
 use Rattle.std.proofs.lemmas.Bool.Decides.{leb_tells}
-use Rattle.fast_wire.specs.Integers.{Range, unsigned_range, signed_range}
+use Rattle.fast_wire.specs.Integers.{unsigned_range, signed_range}
 use Rattle.fast_value.specs.declared.codes.Code.{Code}
 use Rattle.fast_value.specs.declared.codes.Code.TheVariants.{D2, D7, L1}
 use Rattle.fast_value.specs.declared.kinds.Kind.{Kind}
 use Rattle.fast_value.specs.declared.kinds.Kind.TheVariants.{UInt32, Int32, UInt64, Int64, Decimal, Ascii, Unicode, Bytes}
 use Rattle.fast_value.specs.declared.settings.Limits.{Limits}
-use Rattle.fast_value.specs.Kinds.{Family, texts, family}
-use Rattle.fast_value.specs.Limits.{Bounds, bounds}
+use Rattle.fast_value.specs.Kinds.{texts, family}
+use Rattle.fast_value.specs.Limits.{Bounds}
 use Rattle.fast_template.specs.declared.operators.Operator.{Operator}
 use Rattle.fast_template.specs.declared.operators.Operator.TheVariants as Op
 use Rattle.fast_template.specs.Tree.{FieldData}
-use Rattle.fast_dict.specs.Dictionary.{Dictionary, PreviousData, previous_at}
+use Rattle.fast_dict.specs.Dictionary.{Dictionary, PreviousData}
 use Rattle.fast_dict.specs.Operators.{Outcome, null, decide, decide_by, gives_none, Kept, kept_length, subtraction_step, text_step}
 use Rattle.fast_decoder.specs.Readers.{Reader, Done, Stop}
-use Rattle.fast_decoder.specs.Machine.{behind_size as size_stage, behind_kept, behind_part_size as part_stage, stage_term}
+use Rattle.fast_decoder.specs.Machine.{behind_size as size_stage, behind_part_size as part_stage, stage_term}
 use Rattle.fast_decoder.specs.Grammar.{Grammar, give, fault, integer, ascii_text, raw, ◌>>=◌, of_result}
 use Rattle.fast_decoder.specs.GrammarReaders.{reader_of}
 use Rattle.fast_decoder.specs.Fields.{text, sized, sent_text, item_in, part_change, text_change, change_in, sent, field_by, field_term}
-use Rattle.fast_decoder.specs.Taking.{Turns, Stays}
+use Rattle.fast_decoder.specs.Taking.{Turns}
 use Rattle.fast_decoder.specs.Settling.{IsSettled, GivesField, IsLastUnit}
-use Rattle.fast_decoder.specs.Stages.{term_behind, IsStageOf, IsFieldUnit}
-use Rattle.fast_decoder.specs.TextDecisions.{IsTextDecided, IsStepped, first_reader, reader_behind, behind_size, behind_part_size, answered}
+use Rattle.fast_decoder.specs.Stages.{term_behind, IsFieldUnit}
+use Rattle.fast_decoder.specs.TextDecisions.{IsTextDecided, IsStepped, behind_size, behind_part_size, answered, settled}
 use Rattle.fast_decoder.specs.declared.progress.Progress.{Progress}
 use Rattle.fast_decoder.specs.declared.progress.Progress.TheVariants.{Whole}
 use Rattle.fast_decoder.specs.declared.source.Source.{Source}
-use Rattle.fast_decoder.specs.declared.stages.Stage.{Stage}
 use Rattle.fast_decoder.specs.declared.stages.Stage.TheVariants.{Vector, Part, PartVector}
 use Rattle.fast_decoder.specs.declared.stages.Step.{Step}
 use Rattle.fast_decoder.specs.declared.stages.Step.TheVariants.{Settled, Next}
@@ -180,3 +179,30 @@ delta_null f p e = sym (ap (λ (o : Operator). of_result (decide_by o true f p n
 -- One subtraction keeps one part of the base.
 pub one_kept : {r : Result Kept Code} (a b : Kept) → r ≡ Ok a → r ≡ Ok b → a ≡ b
 one_kept {r} a b h k = let e : Ok a ≡ Ok b = sym h ∙ k in cc e
+
+-- What is decided with no unit more.
+pub stepped : (l : Limits) (r : Reader Outcome) (f : FieldData) (old new : Dictionary) (scratch piece : List ℕ) (d : Result Outcome Code) (answer : Result Source Code) → r ≡ reader_of l.strict (of_result d)
+    → IsTextDecided d f old new scratch piece answer → IsStepped l r f old new scratch piece (settled answer)
+stepped l r f old new scratch piece d (Ok source) e (o, i, h) = (o, e ∙ ap (λ q. reader_of l.strict (of_result q)) i, h)
+stepped l r f old new scratch piece d (Err c) e i = e ∙ ap (λ q. reader_of l.strict (of_result q)) i
+
+-- A vector without bytes, and a part without bytes.
+pub size_none : (s : Bool) (l : Bounds) (f : FieldData) (p : PreviousData) (n size : ℕ) → (if nat_le n l.max_text then Ok n else Err L1) ≡ Ok size → size ≤ 0
+    → reader_of s (behind_size l f p (Some (pos n))) ≡ reader_of s (of_result (decide f p true (sent_text f.kind (Some []))))
+unfolding stage_term
+size_none s l f p n size e z =
+    let (same, fits, next) = size_fits l f p n size e in
+    let none : n ≡ 0 = omega (arith, same, z) in
+    ap (reader_of s) (next ∙ ap (λ m. stage_term l f p (size_stage m)) none)
+
+pub part_size_none : (s : Bool) (l : Bounds) (f : FieldData) (p : PreviousData) (kept : Kept) (n size : ℕ) → (if nat_le n (l.max_text - kept_length kept) then Ok n else Err L1) ≡ Ok size → size ≤ 0
+    → reader_of s (behind_part_size l f p kept (Some (pos n))) ≡ reader_of s (of_result (text_step f kept []))
+unfolding stage_term
+part_size_none s l f p kept n size e z =
+    let (same, fits, next) = part_size_fits l f p kept n size e in
+    let none : n ≡ 0 = omega (arith, same, z) in
+    ap (reader_of s) (next ∙ ap (λ m. stage_term l f p (part_stage kept m)) none)
+
+-- The part of a delta's vector, behind its size.
+pub part_vector_here : (l : Bounds) (f : FieldData) (p : PreviousData) (kept : Kept) (k : ℤ) (n : ℕ) → subtraction_step f p k ≡ Ok kept → stage_term l f p (part_stage kept n) ≡ term_behind l f p (PartVector k n)
+part_vector_here l f p kept k n e = sym (ap (λ r. of_result r >>= (λ q. stage_term l f p (part_stage q n))) e)

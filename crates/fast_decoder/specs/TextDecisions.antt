@@ -58,3 +58,8 @@ behind_part_size l f p kept size = sized (l.max_text - kept_length kept) size >>
 abbrev pub answered : {T : Type 0} → Result T Code → ℕ → Progress T
 answered (Ok x) n = Whole x n
 answered (Err c) n = Wrong c n
+
+-- the last answer of a field as that of a unit
+abbrev pub settled : Result Source Code → Result Step Code
+settled (Ok source) = Ok (Settled source)
+settled (Err c) = Err c

@@ -1,8 +1,9 @@
 //! Fields of numbers: what their units give, and what they leave in the dictionary.
 
-ghost use Rattle.std.specs.Prelude.{◌≡◌, ◌≢◌, ℕ, ◌<◌, ◌≤◌, ◌^◌, ◌++◌, true, List, [], length, ℤ, pos, neg_ℤ, ◌≤ℤ◌, Ok};
+ghost use Rattle.std.specs.Prelude.{false, Some, IfSome, ◌≡◌, ◌≢◌, ℕ, ◌<◌, ◌≤◌, ◌^◌, ◌++◌, true, List, [], length, ℤ, pos, neg_ℤ, ◌≤ℤ◌, Ok};
 ghost use Rattle.fast_wire.specs.Entities.{HaveNoStop};
-ghost use Rattle.fast_value.specs.Kinds.{Dec, integers, decimals, texts, family, signed_range};
+ghost use Rattle.fast_wire.specs.Integers.{unsigned_up_to};
+ghost use Rattle.fast_value.specs.Kinds.{U, Dec, value_of_integer, integers, decimals, texts, family, signed_range};
 ghost use Rattle.fast_value.specs.Limits.{Bounds, bounds};
 ghost use Rattle.fast_template.specs.Flat.{field_data};
 ghost use Rattle.fast_dict.specs.Dictionary.{previous_at};
@@ -19,7 +20,7 @@ use crate::fields::{Number, assign_empty, keep, previous};
 use crate::progress::Progress;
 use crate::source::Source;
 use crate::stages::{Stage, Step};
-use crate::units::{IntegerRange, next_integer};
+use crate::units::{IntegerRange, next_integer, next_unsigned};
 use fast_dict::Slots;
 use fast_dict::operators::decimals::{exponent_delta, mantissa_of};
 use fast_dict::operators::delta_base;
@@ -191,6 +192,9 @@ fn take_integer_item(
     ensures cut { result ≡ Progress.Cut → (pending.new ≡ pending.old ++ rest.now) × HaveNoStop pending.new × (length pending.new < 10) }
     ensures terms { slots_terms slots.new ≡ slots_terms slots.old }
 {
+    if let Some(top) = mandatory_top(field) {
+        return take_unsigned(slots, pending, field, rest, strict, top);
+    }
     let range = range_on_wire(field.kind);
     match next_integer(pending, rest, strict, range, field.optional, Code::D2) {
         Progress::Whole(Some(integer), bytes) => {
@@ -198,6 +202,56 @@ fn take_integer_item(
             Progress::Whole(received(slots, field, Some(number)), bytes)
         }
         Progress::Whole(None, bytes) => Progress::Whole(received(slots, field, None), bytes),
+        Progress::Wrong(code, bytes) => Progress::Wrong(code, bytes),
+        Progress::Cut => Progress::Cut,
+    }
+}
+
+/// The greatest number of a mandatory field of unsigned numbers.
+#[inline]
+fn mandatory_top(field: &FieldInstruction) -> Option<u64>
+    ensures { IfSome result (λ top. (field.now.optional ≡ false) × (unsigned_up_to top ≡ range_of field.now.kind) × ((n : ℕ) → value_of_integer field.now.kind (pos n) ≡ U n)) }
+{
+    if field.optional {
+        return None;
+    }
+    match field.kind {
+        Kind::UInt32 => Some(4_294_967_295),
+        Kind::UInt64 => Some(18_446_744_073_709_551_615),
+        _ => None,
+    }
+}
+
+/// An unsigned number that is mandatory, under no delta.
+#[inline]
+fn take_unsigned(
+    slots: &mut Slots,
+    pending: &mut Entity,
+    field: &FieldInstruction,
+    rest: &[u8],
+    strict: bool,
+    top: u64,
+) -> Progress<Source>
+    requires open { HaveNoStop pending.old }
+    requires short { length pending.old < 10 }
+    requires serves { Serves (length (slots_dictionary slots.old)) (slots_terms slots.old) (field_data field.now) }
+    requires integers { family field.now.kind ≡ integers (range_of field.now.kind) }
+    requires no_delta { field.now.operator ≢ Operator.Delta }
+    requires no_constant { field.now.operator ≢ Operator.Constant }
+    requires mandatory { field.now.optional ≡ false }
+    requires range { unsigned_up_to top ≡ range_of field.now.kind }
+    requires unsigned { (n : ℕ) → value_of_integer field.now.kind (pos n) ≡ U n }
+    ensures unit { (l : Bounds) (scratch : List ℕ) → IsLastUnit (reader_of strict (field_term l (field_data field.now) (previous_at (field_data field.now).entry (slots_dictionary slots.old)) true))
+        (field_data field.now) pending.old rest.now (slots_dictionary slots.old) (slots_dictionary slots.new) scratch result }
+    ensures whole { (s : Source) (n : ℕ) → result ≡ Progress.Whole s n → pending.new ≡ [] }
+    ensures cut { result ≡ Progress.Cut → (pending.new ≡ pending.old ++ rest.now) × HaveNoStop pending.new × (length pending.new < 10) }
+    ensures terms { slots_terms slots.new ≡ slots_terms slots.old }
+{
+    match next_unsigned(pending, rest, strict, top) {
+        Progress::Whole(number, bytes) => {
+            let item = Some(Number::Unsigned(number));
+            Progress::Whole(received(slots, field, item), bytes)
+        }
         Progress::Wrong(code, bytes) => Progress::Wrong(code, bytes),
         Progress::Cut => Progress::Cut,
     }

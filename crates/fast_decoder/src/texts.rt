@@ -18,7 +18,7 @@ ghost use Rattle.fast_decoder.specs.Units.{ascii_text as ascii_phrase};
 ghost use Rattle.fast_decoder.specs.GrammarReaders.{reader_of};
 ghost use Rattle.fast_decoder.specs.Settling.{Serves, IsLastUnit};
 ghost use Rattle.fast_decoder.specs.Stages.{IsStageOf, IsFieldUnit};
-ghost use Rattle.fast_decoder.specs.TextDecisions.{IsStepped, first_reader, reader_behind, behind_size, behind_part_size, answered};
+ghost use Rattle.fast_decoder.specs.TextDecisions.{IsStepped, first_reader, reader_behind, behind_size, behind_part_size, answered, settled};
 
 use crate::progress::Progress;
 use crate::scratch::Scratch;
@@ -44,6 +44,14 @@ fn answered<T>(answer: Result<T, Code>, bytes: usize) -> Progress<T>
         Ok(value) => Progress::Whole(value, bytes),
         Err(code) => Progress::Wrong(code, bytes),
     }
+}
+
+/// The last answer of a field as that of a unit.
+#[inline]
+fn settled(answer: Result<Source, Code>) -> Result<Step, Code>
+    ensures { result ≡ settled answer }
+{
+    answer.map(Step::Settled)
 }
 
 /// A size, of which it is known that it is a uInt32.
@@ -174,8 +182,7 @@ fn vector_next(
     if size > 0 {
         return Ok(Step::Next(Stage::Vector(size)));
     }
-    let source = finish_text(slots, joined, field, &[], Source::Scratch)?;
-    Ok(Step::Settled(source))
+    settled(finish_text(slots, joined, field, &[], Source::Scratch))
 }
 
 /// Takes bytes of a vector that is no delta, behind its size.
@@ -372,8 +379,7 @@ fn part_vector_next(
     if size > 0 {
         return Ok(Step::Next(Stage::PartVector(subtraction, size)));
     }
-    let source = finish_part(slots, joined, field, subtraction, &[])?;
-    Ok(Step::Settled(source))
+    settled(finish_part(slots, joined, field, subtraction, &[]))
 }
 
 /// Takes bytes of a vector delta's part, behind its size.

@@ -11,16 +11,6 @@ use Rattle.fast_dict.specs.Entry.{text_length, with_text}
 use Rattle.fast_dict.specs.Slots.{text_in, entry_data, entries_data, length-entries, slots_dictionary}
 use Rattle.fast_dict.specs.declared.slots.Slots.{Slots}
 
--- each by its slot
-pub get-entries : (b : List ℕ) (ps : List (Option ℕ)) (es : List Entry) (i : ℕ) → slice_index_or (entries_data b ps es) i undefined ≡ entry_data b (slice_index_or ps i None) (slice_index_or es i Undefined)
-get-entries b [] [] i = refl
-get-entries b (p ∷ ps) [] zero = refl
-get-entries b (p ∷ ps) [] (suc i) = refl
-get-entries b [] (e ∷ es) zero = refl
-get-entries b [] (e ∷ es) (suc i) = get-entries b [] es i
-get-entries b (p ∷ ps) (e ∷ es) zero = refl
-get-entries b (p ∷ ps) (e ∷ es) (suc i) = get-entries b ps es i
-
 -- the block of one store gives each entry what that of the other does
 pub same-entries : (b b' : List ℕ) (ps : List (Option ℕ)) (es : List Entry) → ((j : ℕ) → entry_data b' (slice_index_or ps j None) (slice_index_or es j Undefined) ≡ entry_data b (slice_index_or ps j None) (slice_index_or es j Undefined)) → entries_data b' ps es ≡ entries_data b ps es
 same-entries b b' ps [] same = refl

@@ -113,7 +113,10 @@ fn dictionary(alloc: Global, before: Held) -> Result<Slots, AllocError> {
 fn is_served(slots: &Slots, field: &FieldInstruction) -> bool
     ensures { result ≡ true → Serves (length (slots_dictionary slots.now)) (slots_terms slots.now) (field_data field.now) }
 {
-    has_entry(slots, field) && !is_text(field.kind) && !has_initial_text(field)
+    if !has_entry(slots, field) || is_text(field.kind) {
+        return false;
+    }
+    !has_initial_text(field)
 }
 
 /// Whether the operator has an entry exactly where it keeps a value, and is no tail.

@@ -1,4 +1,4 @@
-use Rattle.std.proofs.Common.{◌≡◌, ◌∙◌, sym, ap, subst, refl, inl, inr, List, ℕ, Ok}
+use Rattle.std.proofs.Common.{◌∙◌, sym, ap, refl, inl, inr, List, ℕ, Ok}
 use Rattle.fast_value.specs.Values.{scalar_data}
 use Rattle.fast_template.specs.Flat.{field_data}
 use Rattle.fast_dict.specs.Answers.{kept_text}

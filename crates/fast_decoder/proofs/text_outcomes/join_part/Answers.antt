@@ -1,10 +1,10 @@
-use Rattle.std.proofs.Common.{◌≡◌, ◌∙◌, sym, ap, refl, ◌+◌, ◌≤◌, ◌++◌, length, arith, length-append, append-nil, ℤ}
+use Rattle.std.proofs.Common.{◌∙◌, sym, ap, refl, arith, length-append, ℤ}
 use Rattle.std.specs.Prelude.{Ok}
 use mir.Syntax.{w32}
 use Rattle.std.proofs.lemmas.Int.{to_z-of_z}
 use Rattle.fast_template.specs.Flat.{field_data}
 use Rattle.fast_dict.specs.Answers.{kept_data}
-use Rattle.fast_dict.specs.Dictionary.{PreviousData, previous_at}
+use Rattle.fast_dict.specs.Dictionary.{previous_at}
 use Rattle.fast_dict.specs.Operators.{append_to, prepend_to, subtraction_step}
 use Rattle.fast_dict.specs.Slots.{slots_dictionary}
 use Rattle.fast_decoder.proofs.TextOutcomes.{part_together}

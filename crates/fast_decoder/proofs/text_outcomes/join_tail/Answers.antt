@@ -1,4 +1,4 @@
-use Rattle.std.proofs.Common.{◌≡◌, ◌∙◌, sym, ap, refl, ◌+◌, ◌≤◌, List, ℕ, length, arith, length-append}
+use Rattle.std.proofs.Common.{◌∙◌, sym, ap, refl, List, ℕ, arith, length-append}
 use Rattle.fast_value.specs.Values.{scalar_data}
 use Rattle.fast_template.specs.Flat.{field_data}
 use Rattle.fast_dict.specs.Operators.{tail_base, with_tail}

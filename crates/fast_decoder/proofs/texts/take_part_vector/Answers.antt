@@ -1,27 +1,23 @@
-use Rattle.std.proofs.Common.{◌≡◌, ◌∙◌, sym, ap, refl, subst, arith, List, [], ℕ, ℤ, take, ◌++◌, ◌≤◌, ◌-◌, length}
-use Rattle.std.specs.Prelude.{Ok, Err, Some, None, Option, true, false}
+use Rattle.std.proofs.Common.{◌≡◌, ◌∙◌, sym, ap, refl, arith, List, ℕ, ℤ, take, ◌++◌, length}
+use Rattle.std.specs.Prelude.{Some}
 use mir.Syntax.{w32}
 use Rattle.std.proofs.lemmas.List.{length-take-le}
 use Rattle.std.proofs.lemmas.Int.{to_z-of_z}
-use Rattle.fast_value.specs.declared.settings.Limits.{Limits}
 use Rattle.fast_value.specs.Limits.{bounds}
-use Rattle.fast_value.specs.Kinds.{value_of_text}
 use Rattle.fast_template.specs.Flat.{field_data}
 use Rattle.fast_dict.specs.Dictionary.{previous_at}
-use Rattle.fast_dict.specs.Operators.{null, decide, Kept, kept_length, subtraction_step, text_step}
+use Rattle.fast_dict.specs.Operators.{kept_length, subtraction_step, text_step}
 use Rattle.fast_dict.specs.Slots.{slots_dictionary}
-use Rattle.fast_decoder.specs.Phrases.{cut}
-use Rattle.fast_decoder.specs.Units.{ascii_text as ascii_phrase}
-use Rattle.fast_decoder.specs.Fields.{sent_text, part_change}
-use Rattle.fast_decoder.specs.Grammar.{Grammar, give, ascii_text, integer, raw, ◌>>=◌, of_result}
+use Rattle.fast_decoder.specs.Fields.{part_change}
+use Rattle.fast_decoder.specs.Grammar.{Grammar, give, raw}
 use Rattle.fast_decoder.specs.GrammarReaders.{reader_of}
-use Rattle.fast_decoder.specs.NextUnits.{text_or_null, run_at}
-use Rattle.fast_decoder.specs.TextDecisions.{first_reader, reader_behind}
-use Rattle.fast_decoder.specs.declared.stages.Stage.TheVariants.{Vector, Part, PartVector}
+use Rattle.fast_decoder.specs.NextUnits.{run_at}
+use Rattle.fast_decoder.specs.TextDecisions.{reader_behind}
+use Rattle.fast_decoder.specs.declared.stages.Stage.TheVariants.{PartVector}
 use Rattle.fast_decoder.specs.declared.units.Run.{Run}
 use Rattle.fast_decoder.specs.declared.units.Run.TheVariants.{Piece, Scratch}
-use Rattle.fast_decoder.proofs.LastUnits.{unit_stops, unit_stays, number_within}
-use Rattle.fast_decoder.proofs.TextUnits.{text_field, vector_field, part_field, part_vector_field, text_last, behind_text, delta_null, one_kept}
+use Rattle.fast_decoder.proofs.LastUnits.{unit_stays}
+use Rattle.fast_decoder.proofs.TextUnits.{part_vector_field, text_last, one_kept}
 use Rattle.fast_decoder.proofs.texts.take_part_vector.Goals as goal
 
 pub slice_bounds-part-end : goal.slice_bounds-part-end

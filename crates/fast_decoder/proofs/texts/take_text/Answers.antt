@@ -1,5 +1,5 @@
-use Rattle.std.proofs.Common.{◌≡◌, ◌∙◌, sym, ap, refl, subst, List, ℕ, ℤ, take, ◌++◌, length}
-use Rattle.std.specs.Prelude.{Ok, Err, Some, None, Option, true, false}
+use Rattle.std.proofs.Common.{◌≡◌, ◌∙◌, sym, ap, refl, List, ℕ, take, ◌++◌}
+use Rattle.std.specs.Prelude.{Ok, Some, None, Option, true}
 use Rattle.fast_value.specs.Limits.{bounds}
 use Rattle.fast_value.specs.Kinds.{value_of_text}
 use Rattle.fast_template.specs.Flat.{field_data}
@@ -7,11 +7,11 @@ use Rattle.fast_dict.specs.Dictionary.{previous_at}
 use Rattle.fast_dict.specs.Operators.{decide}
 use Rattle.fast_dict.specs.Slots.{slots_dictionary}
 use Rattle.fast_decoder.specs.Fields.{sent_text}
-use Rattle.fast_decoder.specs.Grammar.{give, ascii_text, integer, raw, of_result}
+use Rattle.fast_decoder.specs.Grammar.{give, ascii_text}
 use Rattle.fast_decoder.specs.GrammarReaders.{reader_of}
 use Rattle.fast_decoder.specs.NextUnits.{text_or_null}
-use Rattle.fast_decoder.specs.TextDecisions.{first_reader, reader_behind}
-use Rattle.fast_decoder.proofs.LastUnits.{unit_stops, unit_stays, number_within}
+use Rattle.fast_decoder.specs.TextDecisions.{first_reader}
+use Rattle.fast_decoder.proofs.LastUnits.{unit_stops, unit_stays}
 use Rattle.fast_decoder.proofs.TextUnits.{text_field, text_last, behind_text}
 use Rattle.fast_decoder.proofs.texts.take_text.Goals as goal
 

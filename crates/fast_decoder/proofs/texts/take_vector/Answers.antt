@@ -1,23 +1,22 @@
-use Rattle.std.proofs.Common.{◌≡◌, ◌∙◌, sym, ap, refl, subst, arith, List, ℕ, ℤ, take, ◌++◌, ◌≤◌, ◌-◌, length}
-use Rattle.std.specs.Prelude.{Ok, Err, Some, None, Option, true, false}
+use Rattle.std.proofs.Common.{◌≡◌, ◌∙◌, sym, ap, refl, arith, List, ℕ, take, ◌++◌, length}
+use Rattle.std.specs.Prelude.{Some, true}
 use Rattle.std.proofs.lemmas.List.{length-take-le}
-use Rattle.fast_value.specs.declared.settings.Limits.{Limits}
 use Rattle.fast_value.specs.Limits.{bounds}
 use Rattle.fast_value.specs.Kinds.{value_of_text}
 use Rattle.fast_template.specs.Flat.{field_data}
 use Rattle.fast_dict.specs.Dictionary.{previous_at}
-use Rattle.fast_dict.specs.Operators.{decide, Kept, kept_length, subtraction_step, text_step}
+use Rattle.fast_dict.specs.Operators.{decide}
 use Rattle.fast_dict.specs.Slots.{slots_dictionary}
-use Rattle.fast_decoder.specs.Fields.{sent_text, part_change}
-use Rattle.fast_decoder.specs.Grammar.{Grammar, give, ascii_text, integer, raw, of_result}
+use Rattle.fast_decoder.specs.Fields.{sent_text}
+use Rattle.fast_decoder.specs.Grammar.{Grammar, give, raw}
 use Rattle.fast_decoder.specs.GrammarReaders.{reader_of}
-use Rattle.fast_decoder.specs.NextUnits.{text_or_null, run_at}
-use Rattle.fast_decoder.specs.TextDecisions.{first_reader, reader_behind}
-use Rattle.fast_decoder.specs.declared.stages.Stage.TheVariants.{Vector, Part, PartVector}
+use Rattle.fast_decoder.specs.NextUnits.{run_at}
+use Rattle.fast_decoder.specs.TextDecisions.{reader_behind}
+use Rattle.fast_decoder.specs.declared.stages.Stage.TheVariants.{Vector}
 use Rattle.fast_decoder.specs.declared.units.Run.{Run}
 use Rattle.fast_decoder.specs.declared.units.Run.TheVariants.{Piece, Scratch}
-use Rattle.fast_decoder.proofs.LastUnits.{unit_stops, unit_stays, number_within}
-use Rattle.fast_decoder.proofs.TextUnits.{text_field, vector_field, part_field, part_vector_field, text_last, behind_text}
+use Rattle.fast_decoder.proofs.LastUnits.{unit_stays}
+use Rattle.fast_decoder.proofs.TextUnits.{vector_field, text_last, behind_text}
 use Rattle.fast_decoder.proofs.texts.take_vector.Goals as goal
 
 pub slice_bounds-text-end : goal.slice_bounds-text-end
