@@ -85,6 +85,15 @@ copy_decided f d kind v o p k =
     (sym (write_same f.entry (assigned f.kind (next_value f.operator f.kind v)) d (p ∙ ap (λ x. assigned x v) k ∙ ap (assigned f.kind) (sym same))))
     (λ scratch piece. ap Some same ∙ ap value_in (sym p))
 
+-- the same where it is a number of the field's own kind, which stands anywhere
+pub own_decided : (f : FieldData) (d : Dictionary) (v : ScalarData) (source : Source) → f.operator ≢ Op.Increment → previous_at f.entry d ≡ assigned f.kind v
+    → ((e : Dictionary) (scratch piece : List ℕ) → value_at source f e scratch piece ≡ Some v) → IsDecided (unsent f (previous_at f.entry d)) f d d (Ok source)
+own_decided f d v source o p at =
+    let same : next_value f.operator f.kind v ≡ v = next_same f.operator f.kind v o in
+    next_decided f d d f.kind v source p refl
+    (sym (write_same f.entry (assigned f.kind (next_value f.operator f.kind v)) d (p ∙ ap (assigned f.kind) (sym same))))
+    (λ scratch piece. ap Some same ∙ sym (at d scratch piece))
+
 -- The integer of an integer's value is the integer.
 pub integer_again : (kind : Kind) (x : ℤ) → integer_of (value_of_integer kind x) ≡ x
 integer_again UInt32 (pos n) = refl

@@ -1,5 +1,4 @@
 -- How turns of a machine follow each other.
-
 use Rattle.std.proofs.Common.{refl, sym, ap, ◌∙◌, subst, inl, inr, arith}
 use Rattle.std.specs.Prelude.{◌≡◌, ℕ, suc, ◌+◌, ◌<◌, List, [], ◌∷◌, ◌++◌, length, Result, Ok, Err, MatchResult}
 use Rattle.fast_value.specs.declared.codes.Code.{Code}

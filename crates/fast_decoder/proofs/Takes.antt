@@ -1,5 +1,4 @@
 -- How a machine takes the bytes of a unit.
-
 use Rattle.std.proofs.Common.{refl, sym, ap, ◌∙◌, subst, arith}
 use Rattle.std.specs.Prelude.{◌≡◌, ℕ, ◌<◌, ◌≤◌, List, [], ◌∷◌, ◌++◌, length, take, Result, Ok, Err}
 use Rattle.std.proofs.lemmas.List.{take_all, length-take-le}

@@ -1,13 +1,14 @@
 //! Fields and their entries: where values stand, and what a field leaves of which nothing is sent.
 
-ghost use Rattle.std.specs.Prelude.{◌≡◌, ◌≢◌, ℕ, ◌<◌, ◌≤◌, ◌^◌, true, false, List, length, Some, None, Ok, option_map, pos, neg_ℤ, ◌≤ℤ◌};
-ghost use Rattle.fast_value.specs.Kinds.{value_of_integer, value_of_text, ScalarData};
+ghost use Rattle.std.specs.Prelude.{◌≡◌, ◌≢◌, IfSome, ℕ, ◌<◌, ◌≤◌, ◌^◌, true, false, List, length, Some, None, Ok, option_map, pos, neg_ℤ, ◌≤ℤ◌};
+ghost use Rattle.fast_value.specs.Kinds.{integer_of, value_of_integer, value_of_text, ScalarData};
 ghost use Rattle.fast_value.specs.Values.{scalar_data};
 ghost use Rattle.fast_value.specs.Limits.{Bounds};
 ghost use Rattle.fast_template.specs.Flat.{field_data};
 ghost use Rattle.fast_template.specs.Tree.{FieldData};
+ghost use Rattle.fast_dict.specs.Entry.{with_text};
 ghost use Rattle.fast_dict.specs.Dictionary.{Dictionary, PreviousData, assigned, empty, previous_at, write_at};
-ghost use Rattle.fast_dict.specs.Operators.{Outcome, decide, nothing, unsent, from_initial, range_of};
+ghost use Rattle.fast_dict.specs.Operators.{incremented, decide, nothing, unsent, from_initial, range_of};
 ghost use Rattle.fast_dict.specs.Previous.{previous_data};
 ghost use Rattle.fast_dict.specs.Slots.{slots_dictionary, slots_terms};
 ghost use Rattle.fast_dict.specs.Stores.{IsStorable};
@@ -20,7 +21,7 @@ use crate::source::Source;
 use fast_dict::operators::initial_value;
 use fast_dict::operators::integers::{integer_of, integer_value};
 use fast_dict::operators::unsent::next_integer;
-use fast_dict::{Previous, Slots, Store};
+use fast_dict::{Entry, Previous, Slots, Store};
 use fast_template::{FieldInstruction, Operator};
 use fast_value::{Code, Kind, Scalar};
 
@@ -151,6 +152,35 @@ pub fn keep(slots: &mut Slots, field: &FieldInstruction, number: Number) -> Sour
     number.source()
 }
 
+/// The number that the field's entry holds, if it is one of the field's own kind.
+#[inline]
+pub fn own_number(slots: &Slots, field: &FieldInstruction) -> Option<Number>
+    requires within { (e : ℕ) → (field_data field.now).entry ≡ Some e → e < length (slots_dictionary slots.now) }
+    ensures { IfSome result (λ n. previous_at (field_data field.now).entry (slots_dictionary slots.now) ≡ assigned field.now.kind (number_data n)) }
+{
+    match field.entry {
+        Some(entry) => number_under(field.kind, slots.held(entry as usize)),
+        None => None,
+    }
+}
+
+/// The number of an entry under this kind.
+#[inline]
+fn number_under(kind: Kind, entry: Entry) -> Option<Number>
+    ensures { IfSome result (λ n. (text : List ℕ) → with_text entry text ≡ assigned kind (number_data n)) }
+{
+    match (kind, entry) {
+        (Kind::UInt32, Entry::UInt32(number)) => Some(Number::Unsigned(number)),
+        (Kind::UInt64, Entry::UInt64(number)) => Some(Number::Unsigned(number)),
+        (Kind::Int32, Entry::Int32(number)) => Some(Number::Signed(number)),
+        (Kind::Int64, Entry::Int64(number)) => Some(Number::Signed(number)),
+        (Kind::Decimal, Entry::Decimal(exponent, mantissa)) => {
+            Some(Number::Decimal { exponent, mantissa })
+        }
+        _ => None,
+    }
+}
+
 /// What a field leaves of which nothing is sent.
 ///
 /// # Errors
@@ -183,6 +213,9 @@ fn copied(slots: &mut Slots, field: &FieldInstruction) -> Result<Source, Code>
         (field_data field.now) (slots_dictionary slots.old) (slots_dictionary slots.new) result }
     ensures terms { slots_terms slots.new ≡ slots_terms slots.old }
 {
+    if let Some(number) = own_number(slots, field) {
+        return Ok(number.source());
+    }
     match previous(slots, field) {
         Previous::Assigned(kind, _) if kind == field.kind => Ok(Source::Entry),
         Previous::Assigned(..) => Err(Code::D4),
@@ -200,15 +233,27 @@ fn incremented(slots: &mut Slots, field: &FieldInstruction) -> Result<Source, Co
         (field_data field.now) (slots_dictionary slots.old) (slots_dictionary slots.new) result }
     ensures terms { slots_terms slots.new ≡ slots_terms slots.old }
 {
+    if let Some(number) = own_number(slots, field) {
+        let next = next_number(field.kind, number.as_scalar());
+        return Ok(keep(slots, field, next));
+    }
     match previous(slots, field) {
         Previous::Assigned(kind, value) if kind == field.kind => {
-            let next = Number::of_integer(kind, integer_of(next_integer(kind, value)));
+            let next = next_number(kind, value);
             Ok(keep(slots, field, next))
         }
         Previous::Assigned(..) => Err(Code::D4),
         Previous::Undefined => initial(slots, field),
         Previous::Empty => absent(slots, field, Code::D6),
     }
+}
+
+/// One more, and behind the greatest value of the kind the least.
+#[inline]
+fn next_number(kind: Kind, value: Scalar<'_>) -> Number
+    ensures { number_data result ≡ value_of_integer kind (incremented (range_of kind) (integer_of (scalar_data value.entry))) }
+{
+    Number::of_integer(kind, integer_of(next_integer(kind, value)))
 }
 
 /// The initial value under an undefined entry, which then holds it; without one absent.

@@ -21,6 +21,9 @@ use fast_wire::{
     read_unsigned,
 };
 
+#[cfg(test)]
+mod tests;
+
 /// The integers that an entity may stand for, and whether it is read in two's complement.
 #[derive(Clone, Copy, Debug, PartialEq, Eq)]
 pub enum IntegerRange {
@@ -120,6 +123,7 @@ pub fn next_raw(scratch: &mut Scratch, rest: &[u8], size: usize) -> Progress<Run
     requires more { length scratch.old.text < size }
     requires fits { size ≤ scratch.old.capacity }
     ensures unit { (strict : Bool) → IsNextRun (reader_of strict (raw size give)) size scratch.old.text rest.now scratch.new.text result }
+    ensures cut { result ≡ Progress.Cut → (scratch.new.text ≡ scratch.old.text ++ rest.now) × (length scratch.new.text < size) }
     ensures capacity { scratch.new.capacity ≡ scratch.old.capacity }
 {
     let missing = size - scratch.len();
@@ -375,31 +379,4 @@ fn characters(scratch: &mut Scratch, rest: &[u8], room: usize) -> Progress<bool>
     }
     scratch.append(rest);
     Progress::Cut
-}
-
-#[cfg(test)]
-mod tests {
-    use super::*;
-    use std::alloc::Global;
-    use std::process::Abort;
-    use std::test::Fail;
-
-    /// What a unit has come to.
-    #[derive(Clone, Copy, Debug, PartialEq)]
-    enum End<T> {
-        Whole(T, usize),
-        Wrong(Code, usize),
-        Cut(usize),
-    }
-
-    /// How a unit ends whose bytes come in pieces of this size, and how many bytes that took.
-    fn ended<T>(progress: Progress<T>, before: usize, piece: usize) -> End<T>
-        requires room { before + piece < 2 ^ 32 }
-    {
-        match progress {
-            Progress::Whole(x, len) => End::Whole(x, before.wrapping_add(len)),
-            Progress::Wrong(code, len) => End::Wrong(code, before.wrapping_add(len)),
-            Progress::Cut => End::Cut(before + piece),
-        }
-    }
 }
