@@ -11,13 +11,13 @@ use Rattle.fast_decoder.specs.Events.{EventData}
 use Rattle.fast_decoder.specs.Sinks.{Takes}
 use Rattle.fast_decoder.specs.Readers.{Reader, Done, Emit, Stop, Byte}
 use Rattle.fast_decoder.specs.Handing.{Hands, Waits}
-use Rattle.fast_decoder.specs.Moving.{emits, events_due, Moves}
+use Rattle.fast_decoder.specs.Moving.{emits, events_due, Moves, Onward}
 use Rattle.fast_decoder.proofs.Hanging.{hands_waits, hands_more, hands_stopped, hands_fault, hands_as}
 
 -- Fewer events are due behind some of them.
 pub due_behind : (es : List EventData) (r : Reader Dictionary) → events_due (emits es r) ≡ length es + events_due r
-due_behind [] r = refl
-due_behind (e ∷ es) r = ap suc (due_behind es r)
+due_behind [] r = omega arith
+due_behind (e ∷ es) r = let h = due_behind es r in omega (arith, h)
 
 module _ {S : Type 0} (takes stops : S → EventData → S → Type 0) where
   -- Events in front were taken, and the rest was handed over.
@@ -26,8 +26,8 @@ module _ {S : Type 0} (takes stops : S → EventData → S → Type 0) where
   hands_behind (e ∷ es) q s mid o s' to h i = hands_more takes stops e (emits es q) s h.0 o s' to h.1 (hands_behind es q h.0 mid o s' to h.2 i)
 
   -- The same reader by another name.
-  pub moves_as : {p p' on waits : Reader Dictionary} (s : S) (result : Result Turn FaultCode) (s' : S) → p ≡ p' → Moves takes stops p' s result s' on waits → Moves takes stops p s result s' on waits
-  moves_as {on = on} {waits = waits} s result s' e h = subst (λ (r : Reader Dictionary). Moves takes stops r s result s' on waits) (sym e) h
+  pub moves_as : {p p' : Reader Dictionary} (on waits : Reader Dictionary) (s : S) (result : Result Turn FaultCode) (s' : S) → p ≡ p' → Moves takes stops p' s result s' on waits → Moves takes stops p s result s' on waits
+  moves_as on waits s result s' e h = subst (λ (r : Reader Dictionary). Moves takes stops r s result s' on waits) (sym e) h
 
   -- An event in front was taken, and the machine went on.
   pub moves_more : (e : EventData) (p on waits : Reader Dictionary) (s mid : S) (result : Result Turn FaultCode) (s' : S) → takes s e mid
@@ -42,12 +42,12 @@ module _ {S : Type 0} (takes stops : S → EventData → S → Type 0) where
   moves_one {e = e} waits s s' i h = (e, [], i, (s', h, refl))
 
   -- The sink stopped at the event in front.
-  pub moves_halt : {p p' on waits : Reader Dictionary} {e : EventData} (s : S) (c : FaultCode) (s' : S) → p ≡ Emit e p' → (c ≡ Why.SinkStopped) × stops s e s' → Moves takes stops p s (Err c) s' on waits
-  moves_halt {p' = p'} {e = e} s c s' i h = λ q. hands_as takes stops s (Err c) s' q i (hands_stopped takes stops e p' s s' q c h)
+  pub moves_halt : {p p' : Reader Dictionary} {e : EventData} (on waits : Reader Dictionary) (s : S) (c : FaultCode) (s' : S) → p ≡ Emit e p' → (c ≡ Why.SinkStopped) × stops s e s' → Moves takes stops p s (Err c) s' on waits
+  moves_halt {p' = p'} {e = e} on waits s c s' i h = λ q. hands_as takes stops s (Err c) s' q i (hands_stopped takes stops e p' s s' q c h)
 
   -- The reader stops at its fault.
-  pub moves_fault : {p on waits : Reader Dictionary} {c : Code} (s : S) → p ≡ Stop c → Moves takes stops p s (Err (Why.Stream c)) s on waits
-  moves_fault s e = λ q. hands_fault takes stops s q e
+  pub moves_fault : {p : Reader Dictionary} {c : Code} (on waits : Reader Dictionary) (s : S) → p ≡ Stop c → Moves takes stops p s (Err (Why.Stream c)) s on waits
+  moves_fault on waits s e = λ q. hands_fault takes stops s q e
 
   -- The reader waits.
   pub moves_waits : {p waits : Reader Dictionary} (on : Reader Dictionary) (s : S) → p ≡ waits → Waits p → Moves takes stops p s (Ok TurnWaits) s on waits
@@ -59,3 +59,16 @@ module _ {S : Type 0} (takes stops : S → EventData → S → Type 0) where
   hands_turned p on waits s Silent mid o s' to go (e, i) h = hands_as takes stops s o s' to e (subst (λ (x : S). Hands takes stops on x o s' to) i h)
   hands_turned p on waits s Handed mid o s' to go (e, es, i, taken) h = hands_as takes stops s o s' to i (hands_behind (e ∷ es) on s mid o s' to taken h)
   hands_turned p on waits s TurnWaits mid o s' to go i h = absurd (go refl)
+
+  -- A turn that goes on, behind others.
+  pub onward_handed : (r0 r on waits : Reader Dictionary) (s0 s s' : S) → Onward takes stops r0 s0 r s → Moves takes stops r s (Ok Handed) s' on waits → Onward takes stops r0 s0 on s'
+  onward_handed r0 r on waits s0 s s' before m o t q h = before o t q (hands_turned r on waits s Handed s' o t q (λ e. absurd (cc e)) m h)
+
+  pub onward_silent : (r0 r on waits : Reader Dictionary) (s0 s s' : S) → Onward takes stops r0 s0 r s → Moves takes stops r s (Ok Silent) s' on waits → Onward takes stops r0 s0 on s'
+  onward_silent r0 r on waits s0 s s' before m o t q h = before o t q (hands_turned r on waits s Silent s' o t q (λ e. absurd (cc e)) m h)
+
+  -- It leaves fewer events due.
+  pub fewer_due : (r on waits : Reader Dictionary) (s s' : S) → Moves takes stops r s (Ok Handed) s' on waits → events_due on < events_due r
+  fewer_due r on waits s s' (e, es, i, taken) =
+      let k : events_due r ≡ length (e ∷ es) + events_due on = ap events_due i ∙ due_behind (e ∷ es) on in
+      omega (arith, k)

@@ -28,3 +28,7 @@ Moves takes stops r s (Ok Silent) s' on waits = (r ≡ on) × (s' ≡ s)
 Moves takes stops r s (Ok Handed) s' on waits = (e : EventData) × (es : List EventData) × (r ≡ emits (e ∷ es) on) × Takes takes s (e ∷ es) s'
 Moves takes stops r s (Ok Waits) s' on waits = Hands takes stops r s (Ok tt) s' waits
 Moves takes stops r s (Err c) s' on waits = (q : Reader Dictionary) → Hands takes stops r s (Err c) s' q
+
+-- What the second reader hands over from the second sink on is what the first hands over from the first on.
+abbrev pub Onward : {S : Type 0} → (S → EventData → S → Type 0) → (S → EventData → S → Type 0) → Reader Dictionary → S → Reader Dictionary → S → Type 0
+Onward {S} takes stops r s r' s' = (o : Result Unit FaultCode) (t : S) (q : Reader Dictionary) → Hands takes stops r' s' o t q → Hands takes stops r s o t q

@@ -1,0 +1,31 @@
+use Rattle.std.proofs.Common.{◌≡◌, ℕ, ◌<◌, sym, ap, ◌∙◌, subst}
+use Rattle.std.specs.Prelude.{Result, Ok}
+use Rattle.fast_decoder.specs.declared.faults.FaultCode.{FaultCode}
+use Rattle.fast_decoder.specs.declared.machine.Turn.{Turn}
+use Rattle.fast_decoder.specs.declared.machine.Turn.TheVariants.{Handed}
+use Rattle.fast_decoder.specs.Moving.{events_due}
+use Rattle.fast_decoder.specs.Positions.{set_of, IsTurn, CanTurn, turning, meaning}
+use Rattle.fast_decoder.proofs.Moves.{onward_handed, fewer_due}
+use Rattle.fast_decoder.proofs.machine.Machine.settle.Goals as goal
+
+-- the turn handed something over
+abbrev the_turn : (g : _) (c : goal.In-Handed g) → IsTurn g.S.Sink.takes g.S.Sink.stops (set_of c.args.templates.now) c.args.limits (turning (set_of c.args.templates.now) c.args.limits c.silent.self) c.silent.sink (Ok Handed) c.turn.new.sink c.turn.new.self
+the_turn g c =
+    let result : c.turn.result ≡ Ok Handed = c.in_ok-turn.was ∙ ap Ok c.in-Handed.is in
+    subst (λ (r : Result Turn FaultCode). IsTurn g.S.Sink.takes g.S.Sink.stops (set_of c.args.templates.now) c.args.limits (turning (set_of c.args.templates.now) c.args.limits c.silent.self) c.silent.sink r c.turn.new.sink c.turn.new.self) result c.turn.ensures.turn
+
+pub events-smaller : goal.events-smaller
+events-smaller g c =
+    let set = set_of c.args.templates.now in
+    let fewer : events_due (turning set c.args.limits c.turn.new.self) < events_due (turning set c.args.limits c.silent.self) =
+    fewer_due g.S.Sink.takes g.S.Sink.stops (turning set c.args.limits c.silent.self) (turning set c.args.limits c.turn.new.self) (meaning set c.args.limits c.turn.new.self) c.silent.sink c.turn.new.sink (the_turn g c).moves in
+    subst (λ (n : ℕ). events_due (turning set c.args.limits c.turn.new.self) < n) (ap events_due c.silent.invariant.same) fewer
+
+pub events-preserved : goal.events-preserved
+events-preserved g c =
+    let set = set_of c.args.templates.now in
+    record {
+      turn = (the_turn g c).goes_on;
+      onward = onward_handed g.S.Sink.takes g.S.Sink.stops (turning set c.args.limits c.args.self.now) (turning set c.args.limits c.silent.self) (turning set c.args.limits c.turn.new.self) (meaning set c.args.limits c.turn.new.self)
+          c.args.sink.now c.silent.sink c.turn.new.sink c.silent.invariant.onward (the_turn g c).moves;
+    }
