@@ -637,8 +637,11 @@ impl<'t> Machine<'t> {
     {
         match turn {
             Err(code) => Err(code),
-            Ok(Turn::Waits) => Ok(()),
-            Ok(Turn::Silent | Turn::Handed) => self.settle(templates, limits, sink),
+            Ok(turn) => match turn {
+                Turn::Waits => Ok(()),
+                Turn::Silent => self.settle(templates, limits, sink),
+                Turn::Handed => self.settle(templates, limits, sink),
+            },
         }
     }
 
