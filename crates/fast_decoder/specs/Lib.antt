@@ -35,3 +35,4 @@ pub mod Deciding
 pub mod Scalars
 pub mod EntryTexts
 pub mod TextDecisions
+pub mod Decoding

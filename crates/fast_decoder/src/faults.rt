@@ -28,8 +28,8 @@ pub struct Fault {
 pub enum MakeError {
     /// `max_text` is not one of 16 to 1,048,576.
     BadLimits,
-    /// The decoder does not run such a template set yet.
-    NotYet,
+    /// A field has an initial value that is a text longer than `max_text`.
+    InitialTooLong,
     /// There is no memory.
     Memory,
 }

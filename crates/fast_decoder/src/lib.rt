@@ -2,7 +2,7 @@
 #![tactic(auto)]
 
 pub mod cursor;
-// pub mod decoder;
+pub mod decoder;
 pub mod events;
 pub mod faults;
 pub mod fields;
@@ -24,7 +24,7 @@ pub mod texts;
 mod turns;
 pub mod units;
 
-// pub use decoder::Decoder;
+pub use decoder::Decoder;
 pub use events::{Event, Sink, Stop};
 pub use faults::{Fault, FaultCode, MakeError};
 pub use recorder::{Recorded, Recorder};

@@ -1,0 +1,170 @@
+//! The decoder: a machine with its template set, its limits, and the count of its bytes.
+
+ghost use Rattle.std.specs.Prelude.{◌≡◌, ◌≢◌, ◌↔◌, ◌⊎◌, ℕ, ◌+◌, ◌<◌, ◌≤◌, ◌^◌, List, [], ◌∷◌, length, IfOk, IsOk, IsSome, None, Some, Err};
+ghost use Rattle.fast_template.specs.Flat.{tree_of, nodes_of};
+ghost use Rattle.fast_decoder.specs.EntryTexts.{HasLongInitial};
+ghost use Rattle.fast_decoder.specs.Events.{EventData};
+ghost use Rattle.fast_decoder.specs.Standing.{StandsAfter};
+ghost use Rattle.fast_decoder.specs.Decoding.{DecoderData, tree, AreBadLimits, IsUncounted, So, turns, standing, answer, Carried};
+
+use crate::events::Sink;
+use crate::faults::{Fault, FaultCode, MakeError};
+use crate::layout::has_long_initial;
+use crate::machine::Machine;
+use fast_template::Templates;
+use fast_value::Limits;
+use std::alloc::Global;
+use std::marker::Model;
+
+/// The least and the greatest length that texts may be limited to.
+const MIN_TEXT: usize = 16;
+
+const MAX_TEXT: usize = 1_048_576;
+
+/// Decodes a stream of FAST messages that comes in pieces, cut anywhere. All its memory is taken when it is made.
+#[derive(Drop)]
+pub struct Decoder<'t> {
+    templates: &'t Templates,
+    limits: Limits,
+    machine: Machine<'t>,
+    consumed: u64,
+    fault: Option<Fault>,
+}
+
+impl<'t> Model for Decoder<'t> {
+    ghost use Rattle.fast_decoder.specs.Positions.{set_of};
+    ghost use Rattle.fast_decoder.specs.Decoding.{DecoderData, IsSound};
+
+    ghost Value = { DecoderData };
+
+    ghost view = { λ d. record { set = set_of d.templates.now; limits = d.limits; machine = d.machine; consumed = d.consumed; fault = d.fault } };
+
+    ghost invariant = { λ d. IsSound (record { set = set_of d.templates.now; limits = d.limits; machine = d.machine; consumed = d.consumed; fault = d.fault }) };
+}
+
+impl<'t> Decoder<'t> {
+    /// A decoder of streams under a template set and limits, before the first byte.
+    ///
+    /// # Errors
+    ///
+    /// `BadLimits` where `max_text` is not one of 16 to 1,048,576; then `InitialTooLong` where a field has an initial value that is a
+    /// text longer than `max_text`; then `Memory` where memory was refused.
+    pub fn new(
+        alloc: Global,
+        templates: &'t Templates,
+        limits: Limits,
+    ) -> Result<Decoder<'t>, MakeError>
+        ensures made { IfOk result (λ d. So d [] [] × (tree d ≡ tree_of templates.entry.now) × (d.limits ≡ limits)) }
+        ensures bad_limits { (result ≡ Err MakeError.BadLimits) ↔ (AreBadLimits limits) }
+        ensures long_initial { (result ≡ Err MakeError.InitialTooLong) ↔ (¬ (AreBadLimits limits) × HasLongInitial limits.max_text (nodes_of templates.entry.now)) }
+        ensures no_turn { IfOk result (λ d. turns d ≡ 0) }
+    {
+        if limits.max_text < MIN_TEXT || limits.max_text > MAX_TEXT {
+            return Err(MakeError::BadLimits);
+        }
+        if has_long_initial(templates, limits.max_text) {
+            return Err(MakeError::InitialTooLong);
+        }
+        match Machine::new(alloc, templates, limits) {
+            Err(_) => Err(MakeError::Memory),
+            Ok(machine) => Ok(Decoder {
+                templates,
+                limits,
+                machine,
+                consumed: 0,
+                fault: None,
+            }),
+        }
+    }
+
+    /// Takes the next piece of the stream, which may be cut anywhere, and hands its events to the sink.
+    ///
+    /// At a fault the bytes up to its place were consumed, and each further feed answers the same fault, until `reset`.
+    pub fn feed<S: Sink>(&mut self, piece: &[u8], sink: &mut S) -> Result<(), Fault>
+        // What led to the decoder, and then the piece, leads to it afterwards, and the sink takes what the piece gives.
+        ensures carried { (w : List ℕ) (es : List EventData) → So self.old w es → Carried S.takes S.stops self.old w es piece.now sink.old result self.new sink.new }
+        ensures answer { result ≡ answer self.new.fault }
+        ensures same_set { (tree self.new ≡ tree self.old) × (self.new.limits ≡ self.old.limits) }
+        // A decoder that has stopped answers the same fault, consumes nothing, and calls no sink.
+        ensures stopped { IsSome self.old.fault → (standing self.new ≡ standing self.old) × (sink.new ≡ sink.old) }
+        // L4 comes exactly where the bytes can no longer be counted.
+        ensures counted { self.old.fault ≡ None → (IsUncounted result ↔ (2 ^ 64 ≤ self.old.consumed + length piece.now)) }
+    {
+        self.machine.begin_turns();
+        if let Some(fault) = self.fault {
+            return Err(fault);
+        }
+        if piece.len() as u64 > u64::MAX - self.consumed {
+            let fault = Fault {
+                code: FaultCode::L4,
+                place: self.consumed,
+            };
+            self.fault = Some(fault);
+            return Err(fault);
+        }
+        let taken = self
+            .machine
+            .take_all(self.templates, self.limits, piece, sink);
+        self.consumed += taken.bytes as u64;
+        match taken.outcome {
+            Ok(()) => Ok(()),
+            Err(code) => {
+                let fault = Fault {
+                    code,
+                    place: self.consumed,
+                };
+                self.fault = Some(fault);
+                Err(fault)
+            }
+        }
+    }
+
+    /// A feed of one byte.
+    pub fn push<S: Sink>(&mut self, byte: u8, sink: &mut S) -> Result<(), Fault>
+        ensures carried { (w : List ℕ) (es : List EventData) → So self.old w es → Carried S.takes S.stops self.old w es (byte ∷ []) sink.old result self.new sink.new }
+        ensures answer { result ≡ answer self.new.fault }
+        ensures same_set { (tree self.new ≡ tree self.old) × (self.new.limits ≡ self.old.limits) }
+        ensures stopped { IsSome self.old.fault → (standing self.new ≡ standing self.old) × (sink.new ≡ sink.old) }
+        ensures counted { self.old.fault ≡ None → (IsUncounted result ↔ (2 ^ 64 ≤ self.old.consumed + 1)) }
+    {
+        self.feed(&[byte], sink)
+    }
+
+    /// The decoder as it was made: before the first byte, without a fault.
+    pub fn reset(&mut self)
+        ensures so { So self.new [] [] }
+        ensures no_turn { turns self.new ≡ 0 }
+        ensures same_set { (tree self.new ≡ tree self.old) × (self.new.limits ≡ self.old.limits) }
+    {
+        self.machine.reset();
+        self.consumed = 0;
+        self.fault = None;
+    }
+
+    /// The number of bytes consumed since the decoder was made or reset.
+    pub fn consumed(&self) -> u64
+        ensures { result ≡ (standing self.now).consumed }
+    {
+        self.consumed
+    }
+
+    /// Whether there is no fault, and no message that is begun and not whole.
+    pub fn between(&self) -> bool
+        ensures { result ≡ (standing self.now).is_between }
+    {
+        self.fault.is_none() && self.machine.is_idle()
+    }
+
+    /// The fault at which the decoder stopped, if it did.
+    pub fn fault(&self) -> Option<Fault>
+        ensures { result ≡ (standing self.now).fault }
+    {
+        self.fault
+    }
+}
+
+/// What leads to a decoder is a stream with these events, and the decoder tells how it ends: whether it is between two messages,
+/// its fault, and the number of bytes consumed.
+pub fn so_is_stream()
+    ensures { (d : DecoderData) (w : List ℕ) (es : List EventData) → So d w es → StandsAfter (tree d) d.limits w es (standing d) }
+{}
