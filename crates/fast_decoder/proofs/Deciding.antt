@@ -1,16 +1,16 @@
 -- What is decided for a field, case by case.
 use Rattle.std.proofs.Common.{refl, sym, ap, ◌∙◌, subst}
-use Rattle.std.specs.Prelude.{◌≡◌, ◌≢◌, ℕ, zero, suc, Bool, true, false, List, [], ◌∷◌, slice_index_or, slice_set, is_some, ℤ, pos, negsuc, if◌then◌else◌, Option, Some, None, Result, Ok, Err}
+use Rattle.std.specs.Prelude.{◌≡◌, ◌≢◌, ℕ, zero, suc, Bool, true, false, List, [], ◌∷◌, slice_index_or, slice_set, is_some, ℤ, pos, negsuc, ◌+ℤ◌, if◌then◌else◌, Option, Some, None, Result, Ok, Err}
 use Rattle.fast_value.specs.declared.kinds.Kind.{Kind}
 use Rattle.fast_value.specs.declared.kinds.Kind.TheVariants.{UInt32, Int32, UInt64, Int64, Decimal, Ascii, Unicode, Bytes}
 use Rattle.fast_value.specs.declared.codes.Code.{Code}
-use Rattle.fast_value.specs.declared.codes.Code.TheVariants.{D4}
+use Rattle.fast_value.specs.declared.codes.Code.TheVariants.{D2, D4}
 use Rattle.fast_value.specs.Kinds.{ScalarData, Family, integers, decimals, texts, family, integer_of, value_of_integer, same_kind}
 use Rattle.fast_template.specs.declared.operators.Operator.{Operator}
 use Rattle.fast_template.specs.declared.operators.Operator.TheVariants as Op
 use Rattle.fast_template.specs.Tree.{FieldData}
 use Rattle.fast_dict.specs.Dictionary.{Dictionary, PreviousData, undefined, empty, assigned, previous_at, write_at}
-use Rattle.fast_dict.specs.Operators.{Outcome, checked, checked_in, null, value, gives, gives_none, decide, decide_by, nothing, fixed, ◌>>=◌, keeps, from_initial, unsent, next_value}
+use Rattle.fast_dict.specs.Operators.{Outcome, delta_base, integer_step, ranged, range_of, checked, checked_in, null, value, gives, gives_none, decide, decide_by, nothing, fixed, ◌>>=◌, keeps, from_initial, unsent, next_value}
 use Rattle.fast_decoder.specs.declared.source.Source.{Source}
 use Rattle.fast_decoder.specs.declared.source.Source.TheVariants as From
 use Rattle.fast_template.specs.Entries.{keeps_value}
@@ -19,7 +19,7 @@ use Rattle.fast_decoder.specs.Settling.{Serves, value_in, value_at, IsSettled}
 use Rattle.fast_value.specs.Limits.{Bounds}
 use Rattle.fast_decoder.specs.Grammar.{of_result}
 use Rattle.fast_decoder.specs.Fields.{not_sent, field_by, field_term}
-use Rattle.fast_decoder.specs.Deciding.{needs_bytes, IsDecided}
+use Rattle.fast_decoder.specs.Deciding.{needs_bytes, base_integer, IsDecided}
 
 -- by another name of what is decided
 pub decided_as : (f : FieldData) (old new : Dictionary) (a : Result Source Code) {r r' : Result Outcome Code} → r ≡ r' → IsDecided r' f old new a → IsDecided r f old new a
@@ -256,3 +256,15 @@ module _ {n : ℕ} {t : Terms} (f : FieldData) (serves : Serves n t f) (numbers 
       by Op.Increment e = given empty Op.Increment e refl d
       by Op.Delta e = absurd (no_delta e)
       by Op.Tail e = absurd (numbers (serves.tail e))
+
+-- The integer of a previous value of the field's own kind, and the steps behind the integer that a delta is added to.
+pub base_own : (f : FieldData) (p : PreviousData) (v : ScalarData) → p ≡ assigned f.kind v → base_integer f p ≡ Ok (integer_of v)
+base_own f p v h = ap (base_integer f) h ∙ ap (λ b. (if b then Ok v else Err D4) >>= (λ w. Ok (integer_of w))) (same_one f.kind)
+
+pub base_stepped : (f : FieldData) (p : PreviousData) (k : ℤ) → integer_step f p k ≡ (base_integer f p >>= (λ x. ranged (range_of f.kind) D2 (x +ℤ k) >>= (λ y. keeps f.kind (value_of_integer f.kind y))))
+base_stepped f p k = by (delta_base f p)
+  where
+    by : (r : Result ScalarData Code) → (r >>= (λ v. ranged (range_of f.kind) D2 (integer_of v +ℤ k) >>= (λ y. keeps f.kind (value_of_integer f.kind y))))
+        ≡ ((r >>= (λ v. Ok (integer_of v))) >>= (λ x. ranged (range_of f.kind) D2 (x +ℤ k) >>= (λ y. keeps f.kind (value_of_integer f.kind y))))
+    by (Ok v) = refl
+    by (Err c) = refl

@@ -1,12 +1,12 @@
 -- What is decided for a field, by the operators, and where its value then stands.
-use Rattle.std.specs.Prelude.{◌≡◌, ℕ, Bool, true, false, List, Option, Some, None, Result, Ok, Err}
+use Rattle.std.specs.Prelude.{◌≡◌, ℕ, Bool, true, false, List, ℤ, Option, Some, None, Result, Ok, Err}
 use Rattle.fast_value.specs.declared.codes.Code.{Code}
-use Rattle.fast_value.specs.Kinds.{ScalarData, U, I, Dec}
+use Rattle.fast_value.specs.Kinds.{ScalarData, U, I, Dec, integer_of}
 use Rattle.fast_template.specs.declared.operators.Operator.{Operator}
 use Rattle.fast_template.specs.declared.operators.Operator.TheVariants.{None as no_operator, Constant, Delta}
 use Rattle.fast_template.specs.Tree.{FieldData}
-use Rattle.fast_dict.specs.Dictionary.{Dictionary}
-use Rattle.fast_dict.specs.Operators.{Outcome, Sent, null, value}
+use Rattle.fast_dict.specs.Dictionary.{Dictionary, PreviousData}
+use Rattle.fast_dict.specs.Operators.{Outcome, ◌>>=◌, Sent, null, value, delta_base}
 use Rattle.fast_decoder.specs.Settling.{IsSettled}
 use Rattle.fast_decoder.specs.declared.source.Source.{Source}
 use Rattle.fast_decoder.specs.declared.progress.Progress.{Progress}
@@ -31,6 +31,10 @@ number_data (As.Decimal e m) = Dec e m
 abbrev pub sent_number : Option Number → Sent
 sent_number None = null
 sent_number (Some n) = value (number_data n)
+
+-- the integer that a delta is added to
+abbrev pub base_integer : FieldData → PreviousData → Result ℤ Code
+base_integer f p = delta_base f p >>= (λ v. Ok (integer_of v))
 
 -- This outcome is decided for the field, and it stands at the source, whatever texts were read; or this fault is decided.
 abbrev pub IsDecided : Result Outcome Code → FieldData → Dictionary → Dictionary → Result Source Code → Type 0

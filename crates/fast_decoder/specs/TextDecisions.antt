@@ -1,5 +1,5 @@
 -- What the operators' functions leave of a text field, behind its units.
-use Rattle.std.specs.Prelude.{◌≡◌, ℕ, ◌-◌, Bool, true, false, List, ℤ, Option, Result, Ok, Err}
+use Rattle.std.specs.Prelude.{◌≡◌, ℕ, ◌-◌, ◌<◌, Bool, true, false, List, ℤ, Option, Result, Ok, Err}
 use Rattle.fast_value.specs.declared.codes.Code.{Code}
 use Rattle.fast_value.specs.declared.settings.Limits.{Limits}
 use Rattle.fast_value.specs.Limits.{Bounds, bounds}
@@ -16,6 +16,7 @@ use Rattle.fast_decoder.specs.Settling.{IsSettled}
 use Rattle.fast_decoder.specs.Stages.{term_behind, IsStageOf}
 use Rattle.fast_decoder.specs.declared.source.Source.{Source}
 use Rattle.fast_decoder.specs.declared.stages.Stage.{Stage}
+use Rattle.fast_decoder.specs.declared.stages.Stage.TheVariants.{Vector, PartVector}
 use Rattle.fast_decoder.specs.declared.stages.Step.{Step}
 use Rattle.fast_decoder.specs.declared.stages.Step.TheVariants.{Settled, Next}
 use Rattle.fast_decoder.specs.declared.progress.Progress.{Progress}
@@ -63,3 +64,9 @@ answered (Err c) n = Wrong c n
 abbrev pub settled : Result Source Code → Result Step Code
 settled (Ok source) = Ok (Settled source)
 settled (Err c) = Err c
+
+-- A run of bytes that follows has some.
+abbrev pub HasBytes : Step → Type 0
+HasBytes (Next (Vector n)) = 0 < n
+HasBytes (Next (PartVector k n)) = 0 < n
+HasBytes step = Unit {0}

@@ -14,9 +14,9 @@ ghost use Rattle.fast_decoder.specs.GrammarReaders.{reader_of};
 ghost use Rattle.fast_decoder.specs.Settling.{Serves, IsLastUnit};
 ghost use Rattle.fast_decoder.specs.Stages.{term_behind, IsStageOf, IsFieldUnit};
 ghost use Rattle.fast_decoder.specs.NextUnits.{range_data};
-ghost use Rattle.fast_decoder.specs.Deciding.{number_data, sent_number, progress_of, IsDecided};
+ghost use Rattle.fast_decoder.specs.Deciding.{number_data, sent_number, base_integer, progress_of, IsDecided};
 
-use crate::fields::{Number, assign_empty, keep, previous};
+use crate::fields::{Number, assign_empty, keep, own_number, previous};
 use crate::progress::Progress;
 use crate::source::Source;
 use crate::stages::{Stage, Step};
@@ -76,6 +76,18 @@ fn received(slots: &mut Slots, field: &FieldInstruction, item: Option<Number>) -
     }
 }
 
+/// The integer that a delta is added to.
+#[inline]
+fn base_integer(slots: &Slots, field: &FieldInstruction) -> Result<i128, Code>
+    requires within { (e : ℕ) → (field_data field.now).entry ≡ Some e → e < length (slots_dictionary slots.now) }
+    ensures { result ≡ base_integer (field_data field.now) (previous_at (field_data field.now).entry (slots_dictionary slots.now)) }
+{
+    if let Some(number) = own_number(slots, field) {
+        return Ok(integer_of(number.as_scalar()));
+    }
+    Ok(integer_of(delta_base(field, previous(slots, field))?))
+}
+
 /// An integer behind its delta, which the entry then holds.
 #[inline]
 fn change_integer(slots: &mut Slots, field: &FieldInstruction, delta: i128) -> Result<Source, Code>
@@ -84,7 +96,7 @@ fn change_integer(slots: &mut Slots, field: &FieldInstruction, delta: i128) -> R
         (field_data field.now) (slots_dictionary slots.old) (slots_dictionary slots.new) result }
     ensures terms { slots_terms slots.new ≡ slots_terms slots.old }
 {
-    let base = integer_of(delta_base(field, previous(slots, field))?);
+    let base = base_integer(slots, field)?;
     let (low, high) = range_of(field.kind);
     let sum = sum_in(low, high, Code::D2, base, delta)?;
     Ok(keep(slots, field, Number::of_integer(field.kind, sum)))

@@ -1,7 +1,8 @@
 //! What a machine does without a byte: values that the bytes before decide, starts and ends of segments.
 
-ghost use Rattle.std.specs.Prelude.{◌≡◌, ◌≢◌, ◌+◌, ◌<◌, ◌≤◌, ℕ, suc, List, [], true, Bool, Ok, drop, length, length as list_length, OnOk, IfOk, MatchResult, slice_index, Some, None, option_map};
-ghost use Rattle.fast_value.specs.Kinds.{exponent_range};
+ghost use Rattle.std.specs.Prelude.{◌≡◌, ◌≢◌, ◌+◌, ◌<◌, ◌≤◌, ℕ, suc, List, [], true, Bool, Ok, drop, length, length as list_length, OnOk, IfOk, MatchResult, slice_index, Some, None, option_map, if◌then◌else◌};
+ghost use Rattle.fast_wire.specs.Maps.{later_bits};
+ghost use Rattle.fast_value.specs.Kinds.{exponent_range, integer_of};
 ghost use Rattle.fast_value.specs.Values.{scalar_data};
 ghost use Rattle.fast_value.specs.Limits.{Bounds, bounds};
 ghost use Rattle.fast_template.specs.Flat.{field_data};
@@ -11,6 +12,7 @@ ghost use Rattle.fast_template.specs.Tree.{FieldData, uses_bit, bits_of};
 ghost use Rattle.fast_dict.specs.Dictionary.{Dictionary};
 ghost use Rattle.fast_dict.specs.Operators.{ranged};
 ghost use Rattle.fast_dict.specs.Slots.{slots_dictionary, slots_terms};
+ghost use Rattle.fast_decoder.specs.Cursors.{bits_left};
 ghost use Rattle.fast_decoder.specs.Handed.{event_data};
 ghost use Rattle.fast_decoder.specs.GrammarReaders.{reader_of};
 ghost use Rattle.fast_decoder.specs.Readers.{Reader};
@@ -83,6 +85,7 @@ impl<'t> Machine<'t> {
             sink.old result sink.new (reader_of strict (going_on set l (slots_dictionary self.new.slots) self.new.counted self.new.cursor)) waits }
         ensures past { OnOk result (IsPast self.old.cursor self.new.cursor) }
         ensures same { self.new ≡ record self.old { cursor = self.new.cursor } }
+        ensures depth { self.new.cursor.depth ≡ self.old.cursor.depth }
         ensures on { result ≢ Ok Turn.Waits }
     {
         let value = value_at(&self.slots, field, self.text.as_slice(), piece, source);
@@ -152,6 +155,29 @@ impl<'t> Machine<'t> {
         value_at(&self.slots, field, self.text.as_slice(), &[], source)
     }
 
+    /// The integer that is a field's value, if it has one.
+    #[inline]
+    pub fn integer_at(&self, field: &FieldInstruction, source: Source) -> Option<i128>
+        requires entry { (e : ℕ) → (field_data field.now).entry ≡ Some e → e < length (slots_dictionary self.now.slots) }
+        ensures { result ≡ option_map integer_of (value_at source (field_data field.now) (slots_dictionary self.now.slots) self.now.text.text []) }
+    {
+        match self.value_of(field, source) {
+            Some(value) => Some(integer_of(value)),
+            None => None,
+        }
+    }
+
+    /// Uses the bit of a field, if it uses one.
+    #[inline]
+    pub fn use_bit_of(&mut self, field: &FieldInstruction)
+        ensures bits { bits_left self.new.cursor ≡ if uses_bit (field_data field.now) then later_bits (bits_left self.old.cursor) else bits_left self.old.cursor }
+        ensures same { self.new ≡ record self.old { cursor = record self.old.cursor { used = self.new.cursor.used } } }
+    {
+        if uses_bit(field) {
+            self.cursor.use_bit();
+        }
+    }
+
     /// A decimal by parts is next: the machine waits for its exponent, or nothing is sent of the exponent.
     fn begin_decimal<S: Sink>(
         &mut self,
@@ -202,14 +228,9 @@ impl<'t> Machine<'t> {
             sink.old result sink.new self.new }
         ensures past { result ≡ Ok Turn.Silent → self.new.cursor.left ≡ drop 1 self.old.cursor.left }
     {
-        let exponent_value = match self.value_of(exponent, source) {
-            Some(value) => Some(integer_of(value)),
-            None => None,
-        };
-        if uses_bit(exponent) {
-            self.cursor.use_bit();
-        }
-        match exponent_value {
+        let value = self.integer_at(exponent, source);
+        self.use_bit_of(exponent);
+        match value {
             None => {
                 self.cursor.advance();
                 Ok(Turn::Silent)
@@ -266,6 +287,7 @@ impl<'t> Machine<'t> {
             sink.old result sink.new (reader_of strict (going_on set l (slots_dictionary self.new.slots) self.new.counted self.new.cursor)) waits }
         ensures past { OnOk result (IsPast self.old.cursor self.new.cursor) }
         ensures same { self.new ≡ record self.old { cursor = self.new.cursor } }
+        ensures depth { self.new.cursor.depth ≡ self.old.cursor.depth }
         ensures on { result ≢ Ok Turn.Waits }
     {
         let value = match self.value_of(mantissa, source) {
@@ -548,7 +570,11 @@ fn signed_of(value: Scalar<'_>) -> i64
 {
     match value {
         Scalar::I(number) => number,
-        Scalar::U(_) | Scalar::Dec { .. } | Scalar::Ascii(_) | Scalar::Unicode(_) | Scalar::Bytes(_) => 0,
+        Scalar::U(_)
+        | Scalar::Dec { .. }
+        | Scalar::Ascii(_)
+        | Scalar::Unicode(_)
+        | Scalar::Bytes(_) => 0,
     }
 }
 

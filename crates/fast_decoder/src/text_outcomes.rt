@@ -3,11 +3,11 @@
 //! What is joined of two parts is joined in a buffer of its own first: what an entry lends cannot be written back while it
 //! is lent.
 
-ghost use Rattle.std.specs.Prelude.{◌≡◌, ◌≢◌, ◌-◌, ◌<◌, ◌≤◌, ◌++◌, ℕ, List, [], length, take, true, false, Ok, Err, Some, MatchResult};
+ghost use Rattle.std.specs.Prelude.{◌≡◌, ◌≢◌, ◌+◌, ◌-◌, ◌<◌, ◌≤◌, ◌++◌, ℕ, List, [], length, take, true, false, Ok, Err, Some, MatchResult};
 ghost use Rattle.fast_value.specs.Kinds.{ScalarData, texts, family, text_of, value_of_text};
 ghost use Rattle.fast_template.specs.Flat.{field_data};
 ghost use Rattle.fast_template.specs.Entries.{keeps_value};
-ghost use Rattle.fast_dict.specs.Answers.{kept_answer, kept_text};
+ghost use Rattle.fast_dict.specs.Answers.{kept_answer, kept_data, kept_text};
 ghost use Rattle.fast_dict.specs.Dictionary.{previous_at};
 ghost use Rattle.fast_dict.specs.Operators.{Kept as KeptData, null, decide, tail_base, with_tail, subtraction_step, kept_length, joined as joined_text, text_step};
 ghost use Rattle.fast_dict.specs.Slots.{slots_dictionary, slots_terms};
@@ -101,6 +101,17 @@ pub fn kept<'a>(
     subtract(field, previous(slots, field), i128::from(subtraction))
 }
 
+/// What is kept and the part, in their order.
+fn sides<'a>(kept: Kept<'a>, part: &'a [u8]) -> (&'a [u8], &'a [u8])
+    ensures text { result.0.now ++ result.1.now ≡ joined_text (kept_data kept.entry) part.now }
+    ensures size { length result.0.now + length result.1.now ≡ kept_length (kept_data kept.entry) + length part.now }
+{
+    match kept {
+        Kept::AppendTo(kept) => (kept, part),
+        Kept::PrependTo(kept) => (part, kept),
+    }
+}
+
 /// Joins the part of a delta to what its subtraction length keeps.
 fn join_part(
     slots: &Slots,
@@ -121,17 +132,11 @@ fn join_part(
     ensures fits { result ≡ Ok tt → length joined.new.text ≤ (slots_terms slots.now).max_text }
     ensures capacity { joined.new.capacity ≡ joined.old.capacity }
 {
+    let kept = kept(slots, field, subtraction)?;
+    let (front, back) = sides(kept, part);
     joined.clear();
-    match kept(slots, field, subtraction)? {
-        Kept::AppendTo(kept) => {
-            joined.append(kept);
-            joined.append(part);
-        }
-        Kept::PrependTo(kept) => {
-            joined.append(part);
-            joined.append(kept);
-        }
-    }
+    joined.append(front);
+    joined.append(back);
     Ok(())
 }
 

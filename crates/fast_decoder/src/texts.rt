@@ -3,7 +3,7 @@
 //! A unit at a time: an ASCII text, or the size of a vector and then its bytes; before the part of a delta its subtraction length.
 //! Of a unit that a piece cuts the bytes are in hand, in the entity or in the scratch, and nothing else changes.
 
-ghost use Rattle.std.specs.Prelude.{◌≡◌, ◌≢◌, ◌-◌, ◌<◌, ◌≤◌, ◌++◌, ℕ, ℤ, List, [], length, false, Ok, Some, pos};
+ghost use Rattle.std.specs.Prelude.{◌≡◌, ◌≢◌, ◌-◌, ◌<◌, ◌≤◌, ◌++◌, ℕ, ℤ, List, [], length, false, Ok, Some, pos, IfOk};
 ghost use Rattle.fast_wire.specs.Entities.{HaveNoStop};
 ghost use Rattle.fast_wire.specs.Integers.{IsWithin, unsigned_range, signed_range};
 ghost use Rattle.fast_value.specs.Kinds.{texts, family};
@@ -18,7 +18,7 @@ ghost use Rattle.fast_decoder.specs.Units.{ascii_text as ascii_phrase};
 ghost use Rattle.fast_decoder.specs.GrammarReaders.{reader_of};
 ghost use Rattle.fast_decoder.specs.Settling.{Serves, IsLastUnit};
 ghost use Rattle.fast_decoder.specs.Stages.{IsStageOf, IsFieldUnit};
-ghost use Rattle.fast_decoder.specs.TextDecisions.{IsStepped, first_reader, reader_behind, behind_size, behind_part_size, answered, settled};
+ghost use Rattle.fast_decoder.specs.TextDecisions.{IsStepped, first_reader, reader_behind, behind_size, behind_part_size, answered, settled, HasBytes};
 
 use crate::progress::Progress;
 use crate::scratch::Scratch;
@@ -130,6 +130,7 @@ pub fn take_size(
     requires short { length pending.old < 10 }
     requires joined { limits.max_text ≤ joined.old.capacity }
     ensures unit { IsFieldUnit limits (first_reader limits (field_data field.now) (slots_dictionary slots.old)) (field_data field.now) pending.old rest.now (slots_dictionary slots.old) (slots_dictionary slots.new) [] result }
+    ensures more { (step : Step) (n : ℕ) → result ≡ Progress.Whole step n → HasBytes step }
     ensures whole { (step : Step) (n : ℕ) → result ≡ Progress.Whole step n → pending.new ≡ [] }
     ensures cut { result ≡ Progress.Cut → (pending.new ≡ pending.old ++ rest.now) × HaveNoStop pending.new × (length pending.new < 10) }
     ensures terms { slots_terms slots.new ≡ slots_terms slots.old }
@@ -175,6 +176,7 @@ fn vector_next(
     requires whole { field.now.operator ≢ Operator.Delta }
     requires joined { limits.max_text ≤ joined.old.capacity }
     ensures step { (piece : List ℕ) → IsStepped limits (reader_of limits.strict (behind_size (bounds limits) (field_data field.now) (previous_at (field_data field.now).entry (slots_dictionary slots.old)) (Some (pos size)))) (field_data field.now) (slots_dictionary slots.old) (slots_dictionary slots.new) [] piece result }
+    ensures more { IfOk result HasBytes }
     ensures terms { slots_terms slots.new ≡ slots_terms slots.old }
     ensures joined { joined.new.capacity ≡ joined.old.capacity }
 {
@@ -336,6 +338,7 @@ pub fn take_part_size(
     requires short { length pending.old < 10 }
     requires joined { limits.max_text ≤ joined.old.capacity }
     ensures unit { (scratch : List ℕ) → IsFieldUnit limits (reader_behind limits (field_data field.now) (slots_dictionary slots.old) (Stage.Part subtraction)) (field_data field.now) pending.old rest.now (slots_dictionary slots.old) (slots_dictionary slots.new) scratch result }
+    ensures more { (step : Step) (n : ℕ) → result ≡ Progress.Whole step n → HasBytes step }
     ensures whole { (step : Step) (n : ℕ) → result ≡ Progress.Whole step n → pending.new ≡ [] }
     ensures cut { result ≡ Progress.Cut → (pending.new ≡ pending.old ++ rest.now) × HaveNoStop pending.new × (length pending.new < 10) }
     ensures terms { slots_terms slots.new ≡ slots_terms slots.old }
@@ -371,6 +374,7 @@ fn part_vector_next(
     requires joined { limits.max_text ≤ joined.old.capacity }
     ensures step { (kept : KeptData) → subtraction_step (field_data field.now) (previous_at (field_data field.now).entry (slots_dictionary slots.old)) subtraction ≡ Ok kept → (scratch piece : List ℕ)
         → IsStepped limits (reader_of limits.strict (behind_part_size (bounds limits) (field_data field.now) (previous_at (field_data field.now).entry (slots_dictionary slots.old)) kept (Some (pos size)))) (field_data field.now) (slots_dictionary slots.old) (slots_dictionary slots.new) scratch piece result }
+    ensures more { IfOk result HasBytes }
     ensures terms { slots_terms slots.new ≡ slots_terms slots.old }
     ensures joined { joined.new.capacity ≡ joined.old.capacity }
 {

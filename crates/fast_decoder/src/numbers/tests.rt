@@ -40,7 +40,6 @@ enum End {
     I(i64, usize),
     Dec(i32, i64, usize),
     Initial(usize),
-    Entry(usize),
     Wrong(Code, usize),
     Cut,
     /// Nothing of the kind is tested here.
@@ -205,8 +204,7 @@ fn ended(progress: Progress<Source>, before: usize) -> End {
                 Source::Signed(number) => End::I(number, all),
                 Source::Decimal { exponent, mantissa } => End::Dec(exponent, mantissa, all),
                 Source::Initial => End::Initial(all),
-                Source::Entry => End::Entry(all),
-                Source::Scratch | Source::Piece => End::Other,
+                Source::Entry | Source::Scratch | Source::Piece => End::Other,
             }
         }
         Progress::Wrong(code, bytes) => End::Wrong(code, before.wrapping_add(bytes)),
@@ -737,7 +735,7 @@ fn nothing_is_sent(rt: HostRuntime) -> Result<(), Fail> {
         },
         Unsent {
             before: U(u32, 5),
-            end: End::Entry(0),
+            end: End::U(5, 0),
             after: U(u32, 5),
             ..copy
         },
