@@ -110,7 +110,7 @@ module _ {S : Type 0} (takes stops : S → EventData → S → Type 0) where
       record {
         more = took.events;
         so = record {
-          sound = record { supplied = supplied; at = subst (λ (g : Option Fault). IsSoundAt g d.set d.limits m' (d.consumed + k)) (sym still) ready };
+          sound = record { later = so.sound.later; supplied = supplied; at = subst (λ (g : Option Fault). IsSoundAt g d.set d.limits m' (d.consumed + k)) (sym still) ready };
           bytes = both_bytes w piece so.bytes bytes;
           stands = stood (meaning d.set d.limits m');
           read = read_behind d w piece es so.stands so.read ∙ ap (λ (x : List EventData × Stands Dictionary). (es ++ x.0, x.1)) led;
@@ -139,7 +139,7 @@ module _ {S : Type 0} (takes stops : S → EventData → S → Type 0) where
       record {
         more = failed.events;
         so = record {
-          sound = record { supplied = supplied; at = refl };
+          sound = record { later = so.sound.later; supplied = supplied; at = refl };
           bytes = both_bytes w piece so.bytes bytes;
           stands = at_fault c (d.consumed + k);
           read = ap (reading (tree d) d.limits) split ∙ read_behind d (w ++ take k piece) (drop k piece) (es ++ failed.events) (at_fault c (d.consumed + k)) front
@@ -210,7 +210,7 @@ module _ {S : Type 0} (takes stops : S → EventData → S → Type 0) where
       record {
         more = [];
         so = record {
-          sound = record { supplied = supplied; at = subst (λ (g : Option Fault). IsSoundAt g d.set d.limits m' d.consumed) (sym e) sound };
+          sound = record { later = so.sound.later; supplied = supplied; at = subst (λ (g : Option Fault). IsSoundAt g d.set d.limits m' d.consumed) (sym e) sound };
           bytes = both_bytes w piece so.bytes bytes;
           stands = at_fault c f.place;
           read = read_behind d w piece es so.stands so.read ∙ ap (λ (x : List EventData × Stands Dictionary). (es ++ x.0, x.1)) stays;

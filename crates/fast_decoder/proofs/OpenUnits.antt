@@ -114,7 +114,7 @@ unfolding stage_term
 number_open s l f p (Mantissa e) w h i j = integer_open s (signed_range 63) false R1 (λ m. of_result (decide f p true (sent_decimal e m))) w j
 number_open s l f p (MantissaDelta e) w h i j = integer_open s delta_range false D2 (mantissa_change f p e) w j
 number_open s l f p (Vector n) w h i j = absurd i
-number_open s l f p (Part k) w (fam, delta, kept, e) i j =
+number_open s l f p (Part k) w (fam, delta, (kept, e)) i j =
     stays_as (result_done s (subtraction_step f p k) (λ x. stage_term l f p (behind_kept x)) e)
     (term_stays s (text f.kind false (l.max_text - kept_length kept)) (part_change f p kept) (vector_open s f.kind false (l.max_text - kept_length kept) w i j))
 number_open s l f p (PartVector k n) w h i j = absurd i
@@ -125,9 +125,9 @@ unfolding stage_term
 bytes_open s l f p (Mantissa e) w h i = absurd i
 bytes_open s l f p (MantissaDelta e) w h i = absurd i
 bytes_open s l f p (Vector n) w h i = raw_open s n (λ v. of_result (decide f p true (sent_text f.kind (Some v)))) w i
-bytes_open s l f p (Part k) w h (ascii, kept, e, open_front) =
+bytes_open s l f p (Part k) w h (ascii, (kept, e, open_front)) =
     stays_as (result_done s (subtraction_step f p k) (λ x. stage_term l f p (behind_kept x)) e)
     (term_stays s (text f.kind false (l.max_text - kept_length kept)) (part_change f p kept) (text_open s f.kind false (l.max_text - kept_length kept) w ascii open_front))
-bytes_open s l f p (PartVector k n) w (fam, other, delta, kept, e, fits) i =
+bytes_open s l f p (PartVector k n) w (fam, other, delta, (kept, e, fits)) i =
     stays_as (result_done s (subtraction_step f p k) (λ x. stage_term l f p (behind_part_size x n)) e)
     (raw_open s n (λ v. part_change f p kept (Some v)) w i)

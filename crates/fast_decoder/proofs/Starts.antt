@@ -5,6 +5,7 @@ use Rattle.std.proofs.lemmas.List.Elements.{All-nil}
 use Rattle.fast_wire.specs.Entities.{HaveNoStop}
 use Rattle.fast_wire.specs.Maps.{map_limit}
 use Rattle.fast_value.specs.declared.settings.Limits.{Limits}
+use Rattle.fast_template.specs.Numbers.{NameLaterNodes}
 use Rattle.fast_dict.specs.Dictionary.{Dictionary, fresh}
 use Rattle.fast_dict.specs.Slots.{slots_dictionary}
 use Rattle.fast_decoder.specs.declared.faults.Fault.{Fault}
@@ -43,15 +44,16 @@ fresh_meaning set l m f =
     ∙ ap Done f.dictionary
 
 -- A decoder of which nothing was read.
-pub sound_fresh : (d : DecoderData) → IsSupplied d.set d.limits d.machine → IsFresh d.set d.machine → d.fault ≡ None → IsSound d
-sound_fresh d supplied f none = record {
+pub sound_fresh : (d : DecoderData) → NameLaterNodes d.set.nodes → IsSupplied d.set d.limits d.machine → IsFresh d.set d.machine → d.fault ≡ None → IsSound d
+sound_fresh d later supplied f none = record {
+  later = later;
   supplied = supplied;
   at = subst (λ o. IsSoundAt o d.set d.limits d.machine d.consumed) (sym none) (ready_fresh d.set d.limits d.machine supplied f);
 }
 
-pub so_fresh : (d : DecoderData) → IsSupplied d.set d.limits d.machine → IsFresh d.set d.machine → d.consumed ≡ 0 → d.fault ≡ None → So d [] []
-so_fresh d supplied f zero none = record {
-  sound = sound_fresh d supplied f none;
+pub so_fresh : (d : DecoderData) → NameLaterNodes d.set.nodes → IsSupplied d.set d.limits d.machine → IsFresh d.set d.machine → d.consumed ≡ 0 → d.fault ≡ None → So d [] []
+so_fresh d later supplied f zero none = record {
+  sound = sound_fresh d later supplied f none;
   bytes = All-nil (λ b. b < 256);
   stands = at_start (fresh d.set.entries);
   read = refl;

@@ -2,6 +2,7 @@
 use Rattle.std.specs.Prelude.{◌≡◌, ◌⊎◌, ℕ, ◌+◌, ◌<◌, ◌≤◌, ◌^◌, ◌&&◌, Bool, false, nat_eq, is_none, List, ◌++◌, length, take, Option, Some, None, Result, Ok, Err}
 use Rattle.fast_value.specs.declared.settings.Limits.{Limits}
 use Rattle.fast_template.specs.Tree.{Tree}
+use Rattle.fast_template.specs.Numbers.{NameLaterNodes}
 use Rattle.fast_dict.specs.Dictionary.{Dictionary}
 use Rattle.fast_decoder.specs.declared.faults.Fault.{Fault}
 use Rattle.fast_decoder.specs.declared.faults.FaultCode.{FaultCode}
@@ -35,6 +36,7 @@ IsSoundAt (Some f) set l m n = f.place ≡ n
 
 -- the decoder is as its functions leave it
 pub record IsSound (d : DecoderData) : Type 0 where
+  pub later : NameLaterNodes d.set.nodes
   pub supplied : IsSupplied d.set d.limits d.machine
   pub at : IsSoundAt d.fault d.set d.limits d.machine d.consumed
 

@@ -16,10 +16,10 @@ fresh : (c : goal.After-self-2-1) → IsFresh (set_of c.self.inside.templates.no
 fresh c = c.reset.ensures.fresh (set_of c.self.inside.templates.now) c.self.inside.limits c.self.invariant.supplied
 
 pub invariant_of-self : goal.invariant_of-self
-invariant_of-self c = sound_fresh (made c) (supplied c) (fresh c) refl
+invariant_of-self c = sound_fresh (made c) c.self.invariant.later (supplied c) (fresh c) refl
 
 pub returns-clause-so : goal.returns-clause-so
-returns-clause-so c = so_fresh (made c) (supplied c) (fresh c) refl refl
+returns-clause-so c = so_fresh (made c) c.self.invariant.later (supplied c) (fresh c) refl refl
 
 pub returns-clause-no_turn : goal.returns-clause-no_turn
 returns-clause-no_turn c = (fresh c).turns
