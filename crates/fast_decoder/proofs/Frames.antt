@@ -68,7 +68,7 @@ unfolding resume unwind
 elements-same l fs zero body is s = refl
 elements-same l fs (suc n) body is s = refl
 
-sequence-same : (l : Bounds) (fs : List Frame) (n : ℕ) (body is : Body) (r : Found) → sequence_from_then l n (segment_then body (body_then l body)) (resume l fs is) r ≡ sequence_turn l fs n body is r
+pub sequence-same : (l : Bounds) (fs : List Frame) (n : ℕ) (body is : Body) (r : Found) → sequence_from_then l n (segment_then body (body_then l body)) (resume l fs is) r ≡ sequence_turn l fs n body is r
 sequence-same l fs n body is (None, s) = refl
 sequence-same l fs n body is (Some v, s) = ap (λ k. of_result (length_in l s.context v) >>= k) (fun_ext (λ c. ap (λ q. hand (SequenceStart n c) q) (elements-same l fs c body is (counting c s))))
 

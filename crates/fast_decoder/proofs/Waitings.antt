@@ -18,7 +18,7 @@ use Rattle.fast_dict.specs.Dictionary.{Dictionary, previous_at}
 use Rattle.fast_dict.specs.Slots.{slots_dictionary, slots_terms}
 use Rattle.fast_dict.specs.Stores.{Terms}
 use Rattle.fast_decoder.specs.Fields.{field_term}
-use Rattle.fast_decoder.specs.Grammar.{Grammar, ◌>>=◌}
+use Rattle.fast_decoder.specs.Grammar.{Grammar, narrow, ◌>>=◌}
 use Rattle.fast_decoder.specs.Messages.{State, Found, begin, field_in, found, decimal_with}
 use Rattle.fast_decoder.specs.Readers.{Reader, bind}
 use Rattle.fast_decoder.specs.GrammarReaders.{reader_of}
@@ -153,7 +153,7 @@ module _ (set : Set) (l : Limits) (m : Machine) (later : NameLaterNodes set.node
   waits_at : (w : Waiting) → w ≢ Map → CanTake w set l m → Stays (reader_of l.strict (term_at w set (bounds l) m)) (front_at w m)
   waits_at Map h c = absurd (h refl)
   waits_at Identifier h c = identifier_waits c
-  waits_at (SegmentMap width) h c = map_open l.strict _ m.cursor.map c.0 c.1
+  waits_at (SegmentMap width) h c = map_open l.strict (λ w. narrow width w (resume (bounds l) fs (body_in set m.cursor.left) (record { context = record { dictionary = slots_dictionary m.slots; counted = m.counted }; bits = bits w }))) m.cursor.map c.0 c.1
   waits_at Field h c =
       with_left (λ ns. BeginsWithInteger (body_in set ns) st → Stays (reader_of l.strict (resume (bounds l) fs (body_in set ns) st)) m.entity) c.0.below
       (λ b. absurd b)

@@ -407,18 +407,13 @@ impl<'t> Machine<'t> {
             sink.old result sink.new self.new }
         ensures past { result ≡ Ok Turn.Silent → self.new.cursor.left ≡ drop 1 self.old.cursor.left }
     {
-        let claimed = match self.value_of(length, source) {
-            Some(value) => Some(integer_of(value).unsigned_abs()),
-            None => None,
-        };
-        if uses_bit(length) {
-            self.cursor.use_bit();
-        }
+        let claimed = self.integer_at(length, source);
+        self.use_bit_of(length);
         self.cursor.advance();
         let Some(claimed) = claimed else {
             return Ok(Turn::Silent);
         };
-        match count_within(limits, self.counted, claimed) {
+        match count_within(limits, self.counted, claimed.unsigned_abs()) {
             Err(code) => Err(FaultCode::Stream(code)),
             Ok(count) => {
                 self.counted += count;

@@ -1,0 +1,101 @@
+use Rattle.std.proofs.Common.{◌≡◌, ap, rules, [], option_map}
+use Rattle.std.proofs.lemmas.Result.{err_from_is_err_and}
+use Rattle.fast_value.specs.Limits.{bounds}
+use Rattle.fast_dict.specs.Slots.{slots_dictionary}
+use Rattle.fast_decoder.specs.Events.{GroupEnd, ElementEnd, MessageEnd}
+use Rattle.fast_decoder.specs.Readers.{Done}
+use Rattle.fast_decoder.specs.GrammarReaders.{reader_of}
+use Rattle.fast_decoder.specs.Segments.{elements_data}
+use Rattle.fast_decoder.specs.Passing.{elements_from}
+use Rattle.fast_decoder.specs.Positions.{set_of, turning}
+use Rattle.fast_decoder.proofs.SegmentTurns.{message_end, closed, turn_halt, turn_one, turn_more, turn_end}
+use Rattle.fast_decoder.proofs.machine.Machine.close.Goals as goal
+
+pub returns-in_err-hand-clause-turn : goal.returns-in_err-hand-clause-turn
+returns-in_err-hand-clause-turn g c =
+    let m = c.args.self.now in
+    let set = set_of c.args.templates.now in
+    let outermost : m.cursor.frames ≡ [] = search rules in
+    let r = err_from_is_err_and c.from_residual.result c.from_residual.ensures.1 in
+    rw (r.1, r.2) (turn_halt g.S.Sink.takes g.S.Sink.stops set c.args.limits (turning set c.args.limits m) (Done (slots_dictionary m.slots)) MessageEnd c.args.sink.now c.in_err-hand.field-0.0 c.hand.new.sink m
+    (message_end set c.args.limits m c.requires.end outermost) c.in_err-hand.ensures c.requires.turn.supplied)
+
+pub returns-then-is_outermost-clause-turn : goal.returns-then-is_outermost-clause-turn
+returns-then-is_outermost-clause-turn g c =
+    let m = c.args.self.now in
+    let set = set_of c.args.templates.now in
+    let outermost : m.cursor.frames ≡ [] = search rules in
+    turn_end g.S.Sink.takes g.S.Sink.stops set c.args.limits (turning set c.args.limits m) c.args.sink.now c.hand.new.sink m c.clear_map.new.self c.requires.turn c.requires.end outermost c.clear_map.ensures
+    (message_end set c.args.limits m c.requires.end outermost) c.in_ok-hand.ensures
+
+pub returns-in_err-hand-in-None-clause-turn : goal.returns-in_err-hand-in-None-clause-turn
+returns-in_err-hand-in-None-clause-turn g c =
+    let m = c.args.self.now in
+    let m' = record m { cursor = c.close.new.self } in
+    let set = set_of c.args.templates.now in
+    let inner : ¬ (m.cursor.frames ≡ []) = search rules in
+    let h = closed set c.args.limits m c.close.new.self (option_map elements_data c.close.result) c.requires.turn c.requires.end inner c.close.ensures in
+    let r = err_from_is_err_and c.from_residual-in_err-hand-in-None.result c.from_residual-in_err-hand-in-None.ensures.1 in
+    rw (r.1, r.2) (turn_halt g.S.Sink.takes g.S.Sink.stops set c.args.limits (turning set c.args.limits m) (turning set c.args.limits m') GroupEnd c.args.sink.now c.in_err-hand-in-None.field-0.0 c.hand-in-None.new.sink m'
+    (h.group (ap (option_map elements_data) c.in-None.is)) c.in_err-hand-in-None.ensures h.can.supplied)
+
+pub returns-in_err-hand-in-Some-clause-turn : goal.returns-in_err-hand-in-Some-clause-turn
+returns-in_err-hand-in-Some-clause-turn g c =
+    let m = c.args.self.now in
+    let e = elements_data c.in-Some.elements in
+    let set = set_of c.args.templates.now in
+    let inner : ¬ (m.cursor.frames ≡ []) = search rules in
+    let h = closed set c.args.limits m c.close.new.self (option_map elements_data c.close.result) c.requires.turn c.requires.end inner c.close.ensures in
+    let r = err_from_is_err_and c.from_residual-in_err-hand-in-Some.result c.from_residual-in_err-hand-in-Some.ensures.1 in
+    rw (r.1, r.2) (turn_halt g.S.Sink.takes g.S.Sink.stops set c.args.limits (turning set c.args.limits m)
+    (reader_of c.args.limits.strict (elements_from set (bounds c.args.limits) e.more e.body (slots_dictionary m.slots) m.counted c.close.new.self))
+    ElementEnd c.args.sink.now c.in_err-hand-in-Some.field-0.0 c.hand-in-Some.new.sink (record m { cursor = c.close.new.self })
+    (h.element e (ap (option_map elements_data) c.in-Some.is)) c.in_err-hand-in-Some.ensures h.can.supplied)
+
+pub next_element-requires-clause-turn : goal.next_element-requires-clause-turn
+next_element-requires-clause-turn g c =
+    let m = c.args.self.now in
+    let inner : ¬ (m.cursor.frames ≡ []) = search rules in
+    (closed (set_of c.args.templates.now) c.args.limits m c.close.new.self (option_map elements_data c.close.result) c.requires.turn c.requires.end inner c.close.ensures).can
+
+pub next_element-requires-clause-below : goal.next_element-requires-clause-below
+next_element-requires-clause-below g c =
+    let m = c.args.self.now in
+    let inner : ¬ (m.cursor.frames ≡ []) = search rules in
+    let h = closed (set_of c.args.templates.now) c.args.limits m c.close.new.self (option_map elements_data c.close.result) c.requires.turn c.requires.end inner c.close.ensures in
+    (h.elements_fit (elements_data c.in-Some.elements) (ap (option_map elements_data) c.in-Some.is)).0
+
+pub next_element-requires-clause-nested : goal.next_element-requires-clause-nested
+next_element-requires-clause-nested g c =
+    let m = c.args.self.now in
+    let inner : ¬ (m.cursor.frames ≡ []) = search rules in
+    let h = closed (set_of c.args.templates.now) c.args.limits m c.close.new.self (option_map elements_data c.close.result) c.requires.turn c.requires.end inner c.close.ensures in
+    (h.elements_fit (elements_data c.in-Some.elements) (ap (option_map elements_data) c.in-Some.is)).1
+
+pub next_element-requires-clause-width : goal.next_element-requires-clause-width
+next_element-requires-clause-width g c =
+    let m = c.args.self.now in
+    let inner : ¬ (m.cursor.frames ≡ []) = search rules in
+    let h = closed (set_of c.args.templates.now) c.args.limits m c.close.new.self (option_map elements_data c.close.result) c.requires.turn c.requires.end inner c.close.ensures in
+    (h.elements_fit (elements_data c.in-Some.elements) (ap (option_map elements_data) c.in-Some.is)).2
+
+pub returns-in_ok-hand-in-None-clause-turn : goal.returns-in_ok-hand-in-None-clause-turn
+returns-in_ok-hand-in-None-clause-turn g c =
+    let m = c.args.self.now in
+    let set = set_of c.args.templates.now in
+    let inner : ¬ (m.cursor.frames ≡ []) = search rules in
+    let h = closed set c.args.limits m c.close.new.self (option_map elements_data c.close.result) c.requires.turn c.requires.end inner c.close.ensures in
+    turn_one g.S.Sink.takes g.S.Sink.stops set c.args.limits (turning set c.args.limits m) GroupEnd c.args.sink.now c.hand-in-None.new.sink (record m { cursor = c.close.new.self })
+    (h.group (ap (option_map elements_data) c.in-None.is)) c.in_ok-hand-in-None.ensures h.can
+
+pub returns-in_ok-hand-in-Some-clause-turn : goal.returns-in_ok-hand-in-Some-clause-turn
+returns-in_ok-hand-in-Some-clause-turn g c =
+    let m = c.args.self.now in
+    let e = elements_data c.in-Some.elements in
+    let set = set_of c.args.templates.now in
+    let inner : ¬ (m.cursor.frames ≡ []) = search rules in
+    let h = closed set c.args.limits m c.close.new.self (option_map elements_data c.close.result) c.requires.turn c.requires.end inner c.close.ensures in
+    turn_more g.S.Sink.takes g.S.Sink.stops set c.args.limits (turning set c.args.limits m)
+    (reader_of c.args.limits.strict (elements_from set (bounds c.args.limits) e.more e.body (slots_dictionary m.slots) m.counted c.close.new.self))
+    ElementEnd c.args.sink.now c.hand-in-Some.new.sink c.next_element.result c.next_element.new.sink c.next_element.new.self
+    (h.element e (ap (option_map elements_data) c.in-Some.is)) c.in_ok-hand-in-Some.ensures c.next_element.ensures.turn c.next_element.ensures.on

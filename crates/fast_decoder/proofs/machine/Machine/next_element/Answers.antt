@@ -1,0 +1,20 @@
+use Rattle.std.proofs.Common.{◌<◌, ◌-◌, ap, Some, rules}
+use Rattle.fast_value.specs.Limits.{bounds}
+use Rattle.fast_dict.specs.Slots.{slots_dictionary}
+use Rattle.fast_decoder.specs.Events.{ElementStart}
+use Rattle.fast_decoder.specs.GrammarReaders.{reader_of}
+use Rattle.fast_decoder.specs.Positions.{set_of, body_in, frames_in, state_in}
+use Rattle.fast_decoder.proofs.SegmentTurns.{element_turn, turn_in}
+use Rattle.fast_decoder.proofs.machine.Machine.next_element.Goals as goal
+
+pub returns-clause-turn : goal.returns-clause-turn
+returns-clause-turn g c =
+    let m = c.args.self.now in
+    let set = set_of c.args.templates.now in
+    let some : 0 < c.args.count = search rules in
+    turn_in g.S.Sink.takes g.S.Sink.stops set c.args.limits m c.open_segment.new.self c.open_element.new.self c.open_segment.result c.args.width
+    (Some (record { more = c.args.count - 1; body = c.args.body.now; width = c.args.width })) c.args.body.now _ ElementStart c.args.sink.now c.hand-2.new.sink
+    c.open_segment.ensures.waits c.open_segment.ensures.goes_on c.open_element.ensures c.requires.turn c.requires.width c.requires.below c.requires.nested
+    (c.requires.below, c.requires.nested, c.requires.width)
+    (ap (reader_of c.args.limits.strict) (element_turn (bounds c.args.limits) (frames_in set m.cursor.frames) c.args.count (body_in set c.args.body.now) (body_in set m.cursor.left) (state_in (slots_dictionary m.slots) m.counted m.cursor) some))
+    c.in_ok-hand-2.ensures
