@@ -22,3 +22,5 @@ pub mod Faults
 pub mod Places
 pub mod References
 pub mod FivePasses
+pub mod Chains
+pub mod EntryKeys

@@ -4,6 +4,7 @@
 mod checks;
 pub mod codes;
 mod documents;
+mod entries;
 pub mod flat;
 pub mod instructions;
 mod keys;
@@ -12,6 +13,7 @@ pub mod operators;
 mod passes;
 pub mod queries;
 mod reading;
+mod scopes;
 pub mod sets;
 mod uses;
 mod written;
