@@ -17,3 +17,4 @@ pub mod SetFaults
 pub mod PlaceLists
 pub mod ReferenceLists
 pub mod FlatLabels
+pub mod EntryLists

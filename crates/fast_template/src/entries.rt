@@ -153,14 +153,22 @@ impl Entries {
                 optional,
                 kind,
                 operator,
-            } => self.add_use(alloc, scope, scalar_use(name.as_str(), *optional, *kind, operator)),
+            } => self.add_use(
+                alloc,
+                scope,
+                scalar_use(name.as_str(), *optional, *kind, operator),
+            ),
             WrittenInstruction::Parts {
                 name,
                 optional,
                 exponent,
                 mantissa,
             } => {
-                self.add_use(alloc, scope, exponent_use(name.as_str(), *optional, exponent))?;
+                self.add_use(
+                    alloc,
+                    scope,
+                    exponent_use(name.as_str(), *optional, exponent),
+                )?;
                 self.add_use(alloc, scope, mantissa_use(name.as_str(), mantissa))
             }
             WrittenInstruction::Group { fields, .. } => self.add_fields(alloc, scope, fields),
