@@ -1,22 +1,26 @@
 -- Entries, each once, in the order of their first uses.
 use Rattle.std.proofs.Common.{rules, ◌≡◌, ◌≢◌, ◌⊎◌, inl, inr, ℕ, ◌+◌, suc, zero, ◌<◌, ◌≤◌, Bool, true, false, not, List, [], ◌∷◌, ◌++◌, length, refl, ap, sym, ◌∙◌, subst, map, take, slice_get, get_or, Option, Some, None, IfSome, IfNone, arith, append_assoc, append-nil, nat_lt, add-zero}
-use Rattle.std.specs.Prelude.{Contains, if◌then◌else◌, is_some}
+use Rattle.std.specs.Prelude.{Contains, All, if◌then◌else◌, is_some, codes, unwrap_or}
+use Rattle.std.specs.Str.{bytes_eq}
 use Rattle.std.specs.List.{list_any, position, position_or_len}
 use Rattle.std.proofs.lemmas.Bool.{cases_Bool, false≢true}
 use Rattle.std.proofs.lemmas.Bool.Decides.{nat_tests}
-use Rattle.std.proofs.lemmas.List.{map-append, map_more, length-map, length-take-le}
+use Rattle.std.proofs.lemmas.List.{get_or_append_left, length-append, map-append, map_more, length-map, length-take-le}
 use Rattle.std.proofs.lemmas.Option.{slice_get_within, get_or_from_slice_get}
 use Rattle.fast_template.specs.declared.entries.EntryKey.{EntryKey}
 use Rattle.fast_template.specs.contracts.entries.EntryKeyPartialEq.TheImpl.{eq-value}
 use Rattle.fast_template.specs.declared.written.WrittenInstruction.{WrittenInstruction}
 use Rattle.fast_template.specs.declared.written.WrittenTemplate.{WrittenTemplate}
 use Rattle.fast_template.specs.AsWritten.{DeclaredTemplate, Use, uses, all_uses}
-use Rattle.fast_template.specs.Entries.{Entry, Scope, Collects, in_scope, uses_from, scope_of}
-use Rattle.fast_template.specs.EntryKeys.{key_data}
+use Rattle.fast_template.specs.Entries.{Place, Entry, Scope, IsPlace, IsUnderKey, IsEntry, keeps_value, Collects, in_scope, uses_from, scope_of}
+use Rattle.fast_template.specs.EntryKeys.{key_data, HasEntry}
 use Rattle.fast_template.specs.Sound.{uses_in}
 use Rattle.fast_template.specs.WrittenSets.{instruction_data, written_data}
 use Rattle.fast_template.proofs.Lists.{mapped_get}
 use Rattle.fast_template.proofs.SoundUses.{uses_in-more}
+use Rattle.fast_template.proofs.ReadingPieces.{same_text, text_same}
+use Rattle.std.proofs.Math.Seq.{get_or-append_seam}
+use Rattle.std.proofs.lemmas.List.Elements.{All-nil, All-cons}
 
 -- equal keys are one entry
 key_same : (a b : EntryKey) → (eq-value).it a b ≡ true → key_data a ≡ key_data b
@@ -127,3 +131,82 @@ collects_template a b c ts k t found before here =
     subst (λ ps. Collects a ps c) (sym (ap (uses_from 0) more ∙ uses_from-push 0 us (written_data t)))
     (collects_both a b c (uses_from 0 us) (in_scope (scope_of (0 + length us) (written_data t)) (uses_in t.fields.items)) before
     (subst (λ m. Collects b (in_scope (scope_of m (written_data t)) (uses_in t.fields.items)) c) (let e : k ≡ 0 + length us = omega (arith, long) in e) here))
+
+-- ---- the entry of a use
+
+-- a name stands for one dictionary
+one_place : (s : Scope) (name : List ℕ) (p q : Place) → IsPlace s name p → IsPlace s name q → p ≡ q
+one_place s name p q h i = elim (cases_Bool (bytes_eq name (codes "global"))) [
+  | inl is_global ↦
+      let e = same_text name (codes "global") is_global in
+      h.is_global e ∙ sym (i.is_global e)
+  | inr no_global ↦
+      elim (cases_Bool (bytes_eq name (codes "template"))) [
+        | inl is_template ↦
+            let e = same_text name (codes "template") is_template in
+            h.is_template e ∙ sym (i.is_template e)
+        | inr no_template ↦
+            let a = other_text name (codes "global") no_global in
+            let b = other_text name (codes "template") no_template in
+            h.is_named a b ∙ sym (i.is_named a b)
+      ]
+]
+  where
+    other_text : (a b : List ℕ) → bytes_eq a b ≡ false → a ≢ b
+    other_text a b h e = false≢true (sym h ∙ ap (λ s. bytes_eq a s) (sym e) ∙ text_same a)
+
+-- a use has one entry
+pub one_entry : (s : Scope) (u : Use) (e f : Entry) → IsEntry s u e → IsEntry s u f → e ≡ f
+one_entry s u e f h i =
+    let place = one_place s (unwrap_or u.written.dictionary s.dictionary) e.place f.place h.0 i.0 in
+    let under = one_key u.written.key h.1 i.1 in
+    same e f place under.0 under.1
+  where
+    same : (e f : Entry) → e.place ≡ f.place → e.key ≡ f.key → e.part ≡ f.part → e ≡ f
+    same e f place key part = ap (λ p. record { place = p; key = e.key; part = e.part }) place ∙ ap (λ k. record { place = f.place; key = k; part = e.part }) key ∙ ap (λ p. record { place = f.place; key = f.key; part = p }) part
+
+    one_key : (o : Option (List ℕ)) → IsUnderKey o u e → IsUnderKey o u f → (e.key ≡ f.key) × (e.part ≡ f.part)
+    one_key None a b = (a.0 ∙ sym b.0, a.1 ∙ sym b.1)
+    one_key (Some key) a b = (a.0 ∙ sym b.0, a.1 ∙ sym b.1)
+
+-- the entry that a use has is there
+pub is_there : (entries : List Entry) (s : Scope) (u : Use) (e : Entry) → keeps_value u.written.operator ≡ true → IsEntry s u e → HasEntry entries s u → Contains entries e
+is_there entries s u e keeps is there =
+    let h = there keeps in
+    subst (Contains entries) (one_entry s u h.0 e h.1 is) h.2
+
+-- what was collected has an entry for each use
+kept_seen : (seen entries : List Entry) (us : List (Scope × Use)) → Collects seen us entries → (rest : List Entry) × (entries ≡ seen ++ rest)
+kept_seen seen entries [] h = ([], h ∙ sym (append-nil seen))
+kept_seen seen entries (u ∷ us) (inl (not_kept, h)) = kept_seen seen entries us h
+kept_seen seen entries (u ∷ us) (inr (inl (e, kept, is, there, h))) = kept_seen seen entries us h
+kept_seen seen entries (u ∷ us) (inr (inr (e, kept, is, new, h))) =
+    let r = kept_seen (seen ++ e ∷ []) entries us h in
+    (e ∷ r.0, r.1 ∙ append_assoc seen (e ∷ []) r.0)
+
+contains_left : (xs ys : List Entry) (e : Entry) → Contains xs e → Contains (xs ++ ys) e
+contains_left xs ys e (k, inside, at) =
+    let l = length-append xs ys in
+    (k, omega (arith, inside, l), get_or_append_left xs ys e k inside ∙ at)
+
+pub collected_has : (seen entries : List Entry) (us : List (Scope × Use)) → Collects seen us entries → All (λ p. HasEntry entries p.0 p.1) us
+collected_has seen entries [] h = All-nil (λ p. HasEntry entries p.0 p.1)
+collected_has seen entries (u ∷ us) (inl (not_kept, h)) =
+    All-cons (λ p. HasEntry entries p.0 p.1) u us (λ keeps. absurd (false≢true (sym not_kept ∙ keeps))) (collected_has seen entries us h)
+collected_has seen entries (u ∷ us) (inr (inl (e, kept, is, there, h))) =
+    let r = kept_seen seen entries us h in
+    All-cons (λ p. HasEntry entries p.0 p.1) u us (λ keeps. (e, is, subst (λ es. Contains es e) (sym r.1) (contains_left seen r.0 e there))) (collected_has seen entries us h)
+collected_has seen entries (u ∷ us) (inr (inr (e, kept, is, new, h))) =
+    let r = kept_seen (seen ++ e ∷ []) entries us h in
+    let here : Contains (seen ++ e ∷ []) e = (let l = length-append seen (e ∷ []) in (length seen, omega (arith, l), get_or-append_seam seen e [] e)) in
+    All-cons (λ p. HasEntry entries p.0 p.1) u us (λ keeps. (e, is, subst (λ es. Contains es e) (sym r.1) (contains_left (seen ++ e ∷ []) r.0 e here))) (collected_has (seen ++ e ∷ []) entries us h)
+
+-- no more entries than uses
+pub collected_few : (seen entries : List Entry) (us : List (Scope × Use)) → Collects seen us entries → length entries ≤ length seen + length us
+collected_few seen entries [] h = let e = ap length h in omega (arith, e)
+collected_few seen entries (u ∷ us) (inl (not_kept, h)) = let r = collected_few seen entries us h in omega (arith, r)
+collected_few seen entries (u ∷ us) (inr (inl (e, kept, is, there, h))) = let r = collected_few seen entries us h in omega (arith, r)
+collected_few seen entries (u ∷ us) (inr (inr (e, kept, is, new, h))) =
+    let r = collected_few (seen ++ e ∷ []) entries us h in
+    let l = length-append seen (e ∷ []) in
+    omega (arith, r, l)

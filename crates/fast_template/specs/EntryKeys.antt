@@ -1,5 +1,5 @@
 -- Operators in their texts, and the entries that are kept for them, without their memory.
-use Rattle.std.specs.Prelude.{List, map, string_bytes}
+use Rattle.std.specs.Prelude.{◌≡◌, true, List, map, Contains, string_bytes}
 use Rattle.fast_template.specs.declared.scopes.TextScope.{TextScope}
 use Rattle.fast_template.specs.declared.scopes.OperatorUse.{OperatorUse}
 use Rattle.fast_template.specs.declared.entries.EntryPlace.{EntryPlace}
@@ -7,7 +7,7 @@ use Rattle.fast_template.specs.declared.entries.EntryPlace.TheVariants.{Global, 
 use Rattle.fast_template.specs.declared.entries.EntryKey.{EntryKey}
 use Rattle.fast_template.specs.declared.entries.Entries.{Entries}
 use Rattle.fast_template.specs.AsWritten.{Use}
-use Rattle.fast_template.specs.Entries.{Place, global, of_template, named, Entry, Scope}
+use Rattle.fast_template.specs.Entries.{Place, global, of_template, named, Entry, Scope, IsEntry, keeps_value}
 use Rattle.fast_template.specs.Sound.{part_data}
 use Rattle.fast_template.specs.WrittenSets.{operator_data}
 
@@ -32,3 +32,7 @@ key_data k = record { place = place_data k.place; key = string_bytes k.key; part
 -- the entries in their order
 abbrev pub entries_of : Entries → List Entry
 entries_of es = map key_data es.keys.keys
+
+-- The operator has one of the entries, if it keeps a value.
+abbrev pub HasEntry : List Entry → Scope → Use → Type 0
+HasEntry entries s u = keeps_value u.written.operator ≡ true → (e : Entry) × IsEntry s u e × Contains entries e

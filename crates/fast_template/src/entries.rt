@@ -1,9 +1,10 @@
 //! The dictionary entries of a set, numbered in the order of its text.
 
-ghost use Rattle.std.specs.Prelude.{◌≡◌, ◌⊎◌, ◌++◌, ◌∷◌, [], ℕ, ◌<◌, ◌^◌, true, slice_get, length, map, Contains, Some, None, IfSome, IfNone, IfOk, OnOk};
+ghost use Rattle.std.specs.Prelude.{◌≡◌, ◌⊎◌, ◌++◌, ◌∷◌, [], ℕ, ◌<◌, ◌≤◌, ◌*◌, ◌^◌, true, slice_get, length, map, Contains, Some, None, IfSome, IfNone, IfOk, OnOk};
 ghost use Rattle.fast_template.specs.AsWritten.{uses};
-ghost use Rattle.fast_template.specs.Entries.{IsPlace, IsEntry, keeps_value, Collects, in_scope, uses_from};
-ghost use Rattle.fast_template.specs.EntryKeys.{scope_data, use_data, place_data, key_data, entries_of};
+ghost use Rattle.fast_template.specs.Entries.{IsPlace, IsEntry, EntryNumber, keeps_value, Collects, in_scope, uses_from};
+ghost use Rattle.fast_template.specs.EntryKeys.{scope_data, use_data, place_data, key_data, entries_of, HasEntry};
+ghost use Rattle.fast_template.specs.Sizes.{node_limit};
 ghost use Rattle.fast_template.specs.Sound.{uses_in};
 ghost use Rattle.fast_template.specs.WrittenSets.{instruction_data, written_data};
 
@@ -103,6 +104,27 @@ impl Entries {
         ensures none { IfNone result (¬ (Contains (entries_of self.now) (key_data key.now))) }
     {
         self.keys.get_index_of(key)
+    }
+
+    /// The number of the entry of an operator in a text, if it keeps a value there. The template identifier's is 0.
+    pub(crate) fn number_of(
+        &self,
+        alloc: Global,
+        scope: TextScope<'_>,
+        used: OperatorUse<'_>,
+    ) -> Result<Option<u32>, AllocError>
+        requires few { length (entries_of self.now) ≤ 2 * node_limit }
+        requires there { HasEntry (entries_of self.now) (scope_data scope) (use_data used) }
+        ensures { IfOk result (λ n. EntryNumber (entries_of self.now) (scope_data scope.entry) (use_data used.entry) n) }
+    {
+        if !keeps_value(used.written.operator) {
+            return Ok(None);
+        }
+        let key = key_of(alloc, scope, used)?;
+        match self.place_of(&key) {
+            Some(place) => Ok(Some(place as u32 + 1)),
+            None => unreachable!(),
+        }
     }
 
     /// Adds the entry of an operator in a text, if it has one.
