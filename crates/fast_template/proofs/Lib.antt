@@ -18,3 +18,6 @@ pub mod PlaceLists
 pub mod ReferenceLists
 pub mod FlatLabels
 pub mod EntryLists
+pub mod ChainSizes
+pub mod InPlaceSizes
+pub mod BuiltLists

@@ -33,7 +33,8 @@ pub(crate) fn scalar_use<'a>(
     kind: Kind,
     written: &'a WrittenOperator,
 ) -> OperatorUse<'a>
-    ensures { use_data result ≡ scalar_use name.now optional kind (operator_data written.now) }
+    ensures use_of { use_data result ≡ scalar_use name.now optional kind (operator_data written.now) }
+    ensures exponent { result.part ≡ OperatorPart.Exponent → result.kind ≡ Kind.Int32 }
 {
     OperatorUse {
         kind,
@@ -50,7 +51,8 @@ pub(crate) fn exponent_use<'a>(
     optional: bool,
     written: &'a WrittenOperator,
 ) -> OperatorUse<'a>
-    ensures { use_data result ≡ exponent_use name.now optional (operator_data written.now) }
+    ensures use_of { use_data result ≡ exponent_use name.now optional (operator_data written.now) }
+    ensures exponent { result.part ≡ OperatorPart.Exponent → result.kind ≡ Kind.Int32 }
 {
     OperatorUse {
         kind: Kind::Int32,
@@ -63,7 +65,8 @@ pub(crate) fn exponent_use<'a>(
 
 /// The use of an operator by the mantissa of a decimal.
 pub(crate) fn mantissa_use<'a>(name: &'a str, written: &'a WrittenOperator) -> OperatorUse<'a>
-    ensures { use_data result ≡ mantissa_use name.now (operator_data written.now) }
+    ensures use_of { use_data result ≡ mantissa_use name.now (operator_data written.now) }
+    ensures exponent { result.part ≡ OperatorPart.Exponent → result.kind ≡ Kind.Int32 }
 {
     OperatorUse {
         kind: Kind::Int64,
@@ -81,7 +84,8 @@ pub(crate) fn length_use<'a>(
     own: &'a Option<String>,
     written: &'a WrittenOperator,
 ) -> OperatorUse<'a>
-    ensures { use_data result ≡ length_use name.now optional (option_map string_bytes own.now) (operator_data written.now) }
+    ensures use_of { use_data result ≡ length_use name.now optional (option_map string_bytes own.now) (operator_data written.now) }
+    ensures exponent { result.part ≡ OperatorPart.Exponent → result.kind ≡ Kind.Int32 }
 {
     match own {
         Some(own) => scalar_use(own.as_str(), optional, Kind::UInt32, written),

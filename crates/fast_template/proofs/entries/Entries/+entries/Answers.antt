@@ -23,8 +23,8 @@ add_instruction-returns-in_ok-add_use-in-Parts t c =
     let x = exponent_use name c.in-Parts.optional (operator_data c.in-Parts.exponent) in
     let m = mantissa_use name (operator_data c.in-Parts.mantissa) in
     let e = ap (λ i. uses (instruction_data i)) c.in-Parts.is ∙ uses_of_parts c.in-Parts.name c.in-Parts.optional c.in-Parts.exponent c.in-Parts.mantissa in
-    let here : use_data c.exponent_use.result ≡ x = rw c.as_str-in-Parts.ensures.value at c.exponent_use.ensures in
-    let there : use_data c.mantissa_use.result ≡ m = rw c.as_str-in-Parts-2.ensures.value at c.mantissa_use.ensures in
+    let here : use_data c.exponent_use.result ≡ x = rw c.as_str-in-Parts.ensures.value at c.exponent_use.ensures.use_of in
+    let there : use_data c.mantissa_use.result ≡ m = rw c.as_str-in-Parts-2.ensures.value at c.mantissa_use.ensures.use_of in
     let first = subst (λ u. Collects (entries_of c.args.self.now) ((s, u) ∷ []) (entries_of c.add_use-in-Parts.new.self)) here c.in_ok-add_use-in-Parts.ensures in
     rw e (on_ok_weaker c.add_use-in-Parts-2.result
     (λ h. collects_both (entries_of c.args.self.now) (entries_of c.add_use-in-Parts.new.self) (entries_of c.add_use-in-Parts-2.new.self) ((s, x) ∷ []) ((s, m) ∷ []) first
@@ -37,7 +37,7 @@ add_instruction-returns-in_ok-add_use-in-Sequence t c =
     let s = scope_data c.args.scope in
     let l = length_use (string_bytes c.in-Sequence.name) c.in-Sequence.optional (option_map string_bytes c.in-Sequence.length_name) (operator_data c.in-Sequence.length) in
     let e = ap (λ i. uses (instruction_data i)) c.in-Sequence.is ∙ uses_of_sequence c.in-Sequence.name c.in-Sequence.optional c.in-Sequence.length_name c.in-Sequence.length c.in-Sequence.fields in
-    let here : use_data c.length_use.result ≡ l = rw c.as_str-in-Sequence.ensures.value at c.length_use.ensures in
+    let here : use_data c.length_use.result ≡ l = rw c.as_str-in-Sequence.ensures.value at c.length_use.ensures.use_of in
     let first = subst (λ u. Collects (entries_of c.args.self.now) ((s, u) ∷ []) (entries_of c.add_use-in-Sequence.new.self)) here c.in_ok-add_use-in-Sequence.ensures in
     rw e (on_ok_weaker c.add_fields-in-Sequence.result
     (λ h. collects_both (entries_of c.args.self.now) (entries_of c.add_use-in-Sequence.new.self) (entries_of c.add_fields-in-Sequence.new.self) ((s, l) ∷ []) (in_scope s (uses_in c.in-Sequence.fields.items)) first
