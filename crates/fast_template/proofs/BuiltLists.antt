@@ -1,5 +1,7 @@
 -- Nodes that are built, one instruction after the other.
-use Rattle.std.proofs.Common.{◌≡◌, ◌≢◌, ℕ, ◌+◌, ◌*◌, ◌<◌, ◌≤◌, zero, suc, Bool, false, List, [], ◌∷◌, ◌++◌, length, map, take, drop, get_or, slice_get, slice_set, refl, ap, sym, ◌∙◌, subst, arith, Option, Some, None, append_assoc, append-nil, length-append}
+use Rattle.std.proofs.Common.{◌≡◌, ◌≢◌, ℕ, ◌+◌, ◌*◌, ◌<◌, ◌≤◌, zero, suc, Bool, false, List, [], ◌∷◌, ◌++◌, length, map, take, drop, get_or, slice_get, slice_set, refl, ap, sym, ◌∙◌, subst, arith, Option, Some, None, append_assoc, append-nil, length-append, Vec, Global}
+use Rattle.std.specs.Vec.{with_items}
+use Rattle.std.proofs.lemmas.List.{with_items_is}
 use Rattle.std.specs.Prelude.{All, AllPairs, Contains, IsSome, sum_by}
 use Rattle.std.proofs.lemmas.List.{get_or_append_left, get_or-append-add, take_more, map-append, length-map}
 use Rattle.std.proofs.lemmas.List.Elements.{Contains-append_left, Contains-append_right, All-get_or}
@@ -9,7 +11,7 @@ use Rattle.fast_template.specs.declared.instructions.Shape.{Shape}
 use Rattle.fast_template.specs.declared.written.WrittenInstruction.{WrittenInstruction}
 use Rattle.fast_template.specs.AsWritten.{Written, Declared, scalar, by_parts, group as group_declared, sequence as sequence_declared, reference, DeclaredList, no_more, more, DeclaredTemplate, Use, scalar_use, exponent_use, mantissa_use, length_use, uses, all_uses, references, all_references}
 use Rattle.fast_value.specs.declared.kinds.Kind.{Kind}
-use Rattle.fast_template.specs.Built.{own_number, top_numbers, spread, spread_all, with_shape, IsReady, IsIndexed, CanBuild, IsBuilt}
+use Rattle.fast_template.specs.Built.{own_number, top_numbers, spread, spread_all, with_shape, data_of, IsReady, IsIndexed, CanBuild, IsBuilt}
 use Rattle.fast_template.specs.Chains.{Fits, instruction_nodes, nodes_by, nodes_in}
 use Rattle.fast_template.specs.Entries.{Entry, Scope, scope_of, in_scope, uses_from}
 use Rattle.fast_template.specs.EntryKeys.{HasEntry}
@@ -91,6 +93,15 @@ same_length : (ns : List NodeData) (k : ℕ) (y : ShapeData) → length (with_sh
 same_length [] k y = refl
 same_length (x ∷ ns) zero y = refl
 same_length (x ∷ ns) (suc k) y = ap suc (same_length ns k y)
+
+-- what the nodes are after one got its shape
+pub same_items : (v : Vec Node Global) (ws : List Node) (k : ℕ) (y : ShapeData) → map node_data ws ≡ with_shape (data_of v) k y → data_of (with_items v ws) ≡ map node_data ws
+same_items v ws k y is =
+    let a = length-map ws node_data in
+    let b = length-map v.items node_data in
+    let e = ap length is ∙ same_length (data_of v) k y in
+    let ok = v.ok in
+    ap (map node_data) (with_items_is v ws (omega (arith, a, b, e, ok)))
 
 module _ {ts : List DeclaredTemplate} {entries : List Entry} {chain : ℕ} {s : Scope} where
   pub built_none : (old : List NodeData) (before : List ℕ) → IsBuilt ts entries chain s no_more old old before before

@@ -21,3 +21,5 @@ pub mod EntryLists
 pub mod ChainSizes
 pub mod InPlaceSizes
 pub mod BuiltLists
+pub mod BuildingNeeds
+pub mod InstructionForms
