@@ -9,6 +9,7 @@ pub mod Uses
 pub mod InPlace
 pub mod Checked
 pub mod Segments
+pub mod TextFields
 pub mod Refused
 pub mod Numbers
 pub mod Nodes

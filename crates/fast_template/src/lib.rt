@@ -15,6 +15,7 @@ pub mod queries;
 mod reading;
 mod segments;
 pub mod sets;
+mod texts;
 mod uses;
 mod written;
 
