@@ -1,9 +1,14 @@
 pub mod Lists
+pub mod Measures
 pub mod SetTrees
 pub mod FlatLists
 pub mod NodeLists
 pub mod FlatTrees
 pub mod Walks
+pub mod Bodies
+pub mod Saturation
+pub mod CapBounds
+pub mod Greatest
 pub mod NameTests
 pub mod TableKeys
 pub mod FieldLists

@@ -60,7 +60,7 @@ later_body n limit ns ms later =
     ap (λ is. body_of (suc n) is ms) e ∙ body_of_later (suc n) (instructions_from 0 ns) ms (λ k inside. let h = (later k inside).0 in omega (arith, h))
 
 -- the instruction of a shape that names later nodes, by all instructions
-instruction_of_later : (n limit : ℕ) (ns : List Node) (at : Label) (s : Shape) → AreBetween n limit (numbers_of s)
+pub instruction_of_later : (n limit : ℕ) (ns : List Node) (at : Label) (s : Shape) → AreBetween n limit (numbers_of s)
     → instruction_of at (suc n) (instructions_from (suc n) (drop (suc n) ns)) s ≡ instruction_of at 0 (instructions_from 0 ns) s
 instruction_of_later n limit ns at (Field f) later = refl
 instruction_of_later n limit ns at (Decimal e m) later = refl

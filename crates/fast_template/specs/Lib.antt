@@ -1,11 +1,15 @@
 pub mod Tree
 pub mod Sizes
+pub mod Saturation
+pub mod Counts
 pub mod AsWritten
 pub mod Notation
 pub mod Entries
 pub mod Uses
 pub mod InPlace
 pub mod Checked
+pub mod Segments
+pub mod TextFields
 pub mod Refused
 pub mod Numbers
 pub mod Nodes

@@ -2,6 +2,7 @@
 #![tactic(auto)]
 
 mod building;
+mod caps;
 mod checks;
 pub mod codes;
 mod documents;
@@ -15,7 +16,9 @@ mod passes;
 pub mod queries;
 mod reading;
 mod scopes;
+mod segments;
 pub mod sets;
+mod texts;
 mod uses;
 mod written;
 
