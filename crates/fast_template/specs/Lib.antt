@@ -22,3 +22,4 @@ pub mod Faults
 pub mod Places
 pub mod References
 pub mod FivePasses
+pub mod Chains
