@@ -17,3 +17,5 @@ pub mod SetFaults
 pub mod PlaceLists
 pub mod ReferenceLists
 pub mod FlatLabels
+pub mod ChainSizes
+pub mod InPlaceSizes

@@ -23,3 +23,4 @@ pub mod Places
 pub mod References
 pub mod FivePasses
 pub mod Chains
+pub mod Extents

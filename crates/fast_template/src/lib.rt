@@ -4,6 +4,7 @@
 mod checks;
 pub mod codes;
 mod documents;
+mod extents;
 pub mod flat;
 pub mod instructions;
 mod keys;
