@@ -19,3 +19,4 @@ pub mod ReferenceLists
 pub mod FlatLabels
 pub mod ChainSizes
 pub mod InPlaceSizes
+pub mod ChainLaws

@@ -1,6 +1,7 @@
 //! Template sets of FAST streams: their text, their checks, and the form that a decoder walks.
 #![tactic(auto)]
 
+mod chains;
 mod checks;
 pub mod codes;
 mod documents;
