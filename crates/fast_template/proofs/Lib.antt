@@ -20,3 +20,5 @@ pub mod FlatLabels
 pub mod ChainSizes
 pub mod InPlaceSizes
 pub mod ChainLaws
+pub mod InPlaceBodies
+pub mod ChainFaults
