@@ -5,12 +5,14 @@ use Rattle.std.proofs.lemmas.List.Sums.{sum_by-cons}
 use Rattle.std.proofs.lemmas.Option.{slice_get_within, slice_get-get_or, get_or_from_slice_get}
 use Rattle.fast_template.specs.declared.extents.Extent.{Extent}
 use Rattle.fast_template.specs.declared.codes.StaticCode.TheVariants.{C4, C6}
+use Rattle.fast_template.specs.declared.codes.StaticFault.{StaticFault}
 use Rattle.fast_template.specs.AsWritten.{DeclaredTemplate, all_uses}
 use Rattle.fast_template.specs.Entries.{Entry, scope_of}
 use Rattle.fast_template.specs.Tree.{Body, TemplateData}
 use Rattle.fast_template.specs.Sizes.{body_depth, nesting_limit, node_limit}
 use Rattle.fast_template.specs.Sound.{IsSound}
 use Rattle.fast_template.specs.References.{KnowsReferences}
+use Rattle.fast_template.specs.Faults.{IsFaultAt}
 use Rattle.fast_template.specs.InPlace.{InPlace, AreInPlace}
 use Rattle.fast_template.specs.Refused.{Reaches, IsBodyOf, StandsAt}
 use Rattle.fast_template.specs.Chains.{Fits, nodes_in, depth_in}
@@ -154,3 +156,13 @@ many_at ts es k apart knows sound h shallow many =
     (ap (slice_get ts) (let e : 0 + j ≡ j = omega arith in e) ∙ whole, (each_fits ts es h shallow j t whole).0)) in
     let counted = many_counts ts ts es (suc k) (right_counts ts es h shallow) in
     (all_entries ts, us, m, placed, omega (arith, sum, counted, many))
+
+-- the same of a fault as it is told
+pub deep_fault : (ts : List DeclaredTemplate) (es : List (Option Extent)) → AllPairs (λ a b. a.name ≢ b.name) ts → KnowsReferences ts → All (λ t. All IsSound (all_uses t.fields)) ts → AreExtents ts (suc nesting_limit) es
+    → (fault : StaticFault) → (k : ℕ) × (fault.code ≡ C4) × (fault.template ≡ Some k) × IsDeepAt es k → IsFaultAt ts fault.code fault.template
+deep_fault ts es apart knows sound h fault (k, code, template, deep) = rw (code, template) (deep_at ts es k apart knows sound h deep)
+
+pub many_fault : (ts : List DeclaredTemplate) (es : List (Option Extent)) → AllPairs (λ a b. a.name ≢ b.name) ts → KnowsReferences ts → All (λ t. All IsSound (all_uses t.fields)) ts → AreExtents ts (suc nesting_limit) es
+    → All IsShallow es → (fault : StaticFault) → (k : ℕ) × (fault.code ≡ C6) × (fault.template ≡ Some k) × (k < length es) × (node_limit < sum_by known_nodes (take (suc k) es))
+    → IsFaultAt ts fault.code fault.template
+many_fault ts es apart knows sound h shallow fault (k, code, template, inside, many) = rw (code, template) (many_at ts es k apart knows sound h shallow many)

@@ -22,3 +22,5 @@ pub mod InPlaceSizes
 pub mod ChainLaws
 pub mod InPlaceBodies
 pub mod ChainFaults
+pub mod Targets
+pub mod CycleLaws

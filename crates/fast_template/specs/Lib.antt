@@ -24,3 +24,4 @@ pub mod References
 pub mod FivePasses
 pub mod Chains
 pub mod Extents
+pub mod Cycles

@@ -4,14 +4,20 @@
 ghost use Rattle.std.specs.Prelude.{◌≡◌, ◌≢◌, ◌↔◌, ◌<◌, ◌≤◌, ◌^◌, ℕ, suc, List, is_some, map, length, replicate, take, sum_by, All, AllPairs, Some, None, IsTrue, IfOk, IfErr, OnOk};
 ghost use Rattle.std.specs.List.{list_all};
 ghost use Rattle.std.specs.HashMap.{get_by_text};
+ghost use Rattle.fast_template.specs.AsWritten.{all_uses};
+ghost use Rattle.fast_template.specs.Chains.{Fits, nodes_in, depth_in};
 ghost use Rattle.fast_template.specs.Extents.{named_extent, next_extents, known_nodes, AreExtents, IsShallow, IsDeepAt};
+ghost use Rattle.fast_template.specs.Faults.{IsFaultAt};
 ghost use Rattle.fast_template.specs.Places.{place_of_name};
 ghost use Rattle.fast_template.specs.References.{KnowsReferences};
 ghost use Rattle.fast_template.specs.Sizes.{nesting_limit, node_limit};
+ghost use Rattle.fast_template.specs.Sound.{IsSound};
 ghost use Rattle.fast_template.specs.WrittenSets.{written_data};
 
 use crate::codes::{StaticCode, StaticFault};
+use crate::cycles::first_cyclic;
 use crate::extents::{Extent, extent_of_fields};
+use crate::passes::WrittenSet;
 use crate::written::WrittenTemplate;
 use std::alloc::{AllocError, Global};
 use std::collections::HashMap;
@@ -21,6 +27,12 @@ const NESTING_LIMIT: u32 = 64;
 
 /// The most nodes of a set with its references in place.
 const NODE_LIMIT: u32 = 65536;
+
+/// There was no memory left.
+const NO_MEMORY: StaticFault = StaticFault {
+    code: StaticCode::Memory,
+    template: None,
+};
 
 /// No extent of so many templates.
 fn nothing_known(alloc: Global, count: usize) -> Result<Vec<Option<Extent>>, AllocError>
@@ -132,4 +144,99 @@ fn check_nodes(extents: &[Option<Extent>]) -> Result<(), StaticFault>
         room -= nodes;
     }
     Ok(())
+}
+
+/// No template refers to itself, by way of others or not.
+fn check_cycles(
+    alloc: Global,
+    names: &HashMap<String, u32>,
+    templates: &[WrittenTemplate],
+) -> Result<(), StaticFault>
+    requires few { length templates.now < 2 ^ 32 }
+    requires index { (q : List ℕ) → get_by_text names.now q ≡ place_of_name q (map written_data templates.now) }
+    ensures { IfErr result (λ e. IsFaultAt (map written_data templates.now) e.code e.template) }
+{
+    match first_cyclic(alloc, names, templates) {
+        Ok(None) => Ok(()),
+        Ok(Some(template)) => Err(StaticFault {
+            code: StaticCode::C3,
+            template: Some(template as u32),
+        }),
+        Err(_) => Err(NO_MEMORY),
+    }
+}
+
+/// The sixth, seventh and eighth pass over a set in which the first five find no fault. No template refers to itself;
+/// no chain of references is too long, and no template too deep; and there are not too many nodes.
+pub(crate) fn check_chains(alloc: Global, set: &WrittenSet) -> Result<(), StaticFault>
+    requires few { length set.now.templates.items < 2 ^ 32 }
+    requires names { (q : List ℕ) → get_by_text set.now.names q ≡ place_of_name q (map written_data set.now.templates.items) }
+    requires apart { AllPairs (λ a b. a.name ≢ b.name) (map written_data set.now.templates.items) }
+    requires known { KnowsReferences (map written_data set.now.templates.items) }
+    requires sound { All (λ t. All IsSound (all_uses t.fields)) (map written_data set.now.templates.items) }
+    ensures fits { OnOk result (All (λ t. Fits (map written_data set.now.templates.items) nesting_limit t.fields) (map written_data set.now.templates.items)) }
+    ensures shallow { OnOk result (All (λ t. depth_in (map written_data set.now.templates.items) nesting_limit t.fields ≤ nesting_limit) (map written_data set.now.templates.items)) }
+    ensures few_nodes { OnOk result (sum_by (λ t. nodes_in (map written_data set.now.templates.items) nesting_limit t.fields) (map written_data set.now.templates.items) ≤ node_limit) }
+    ensures fault { IfErr result (λ e. IsFaultAt (map written_data set.now.templates.items) e.code e.template) }
+{
+    let Ok(extents) = extents_of(alloc, &set.names, &set.templates) else {
+        return Err(NO_MEMORY);
+    };
+    if !are_known(&extents) {
+        check_cycles(alloc, &set.names, &set.templates)?;
+    }
+    check_depths(&extents)?;
+    check_nodes(&extents)
+}
+
+#[cfg(test)]
+mod tests {
+    use super::*;
+    use crate::passes::read_set;
+    use std::alloc::{AllocError, Global};
+
+    /// The code of a set whose templates have these names and fields, and the template at which it stands.
+    fn fault_of(alloc: Global, text: &str) -> Option<(StaticCode, Option<u32>)> {
+        let fault = match read_set(alloc, text) {
+            Ok(set) => check_chains(alloc, &set).err(),
+            Err(fault) => Some(fault),
+        };
+        fault.map(|fault| (fault.code, fault.template))
+    }
+
+    /// A field, and references to these templates.
+    fn text_of(alloc: Global, templates: &[(&str, &[&str])]) -> Result<String, AllocError> {
+        let mut text = String::new(alloc);
+        for (name, references) in templates {
+            text.push_str("[[template]]\nname = '")?;
+            text.push_str(name)?;
+            text.push_str("'\nfields = [{kind='uInt32', name='x'}")?;
+            for reference in *references {
+                text.push_str(", {kind='ref', name='")?;
+                text.push_str(reference)?;
+                text.push_str("'}")?;
+            }
+            text.push_str("]\n")?;
+        }
+        Ok(text)
+    }
+
+    #[test]
+    fn circles_of_references(rt: HostRuntime) {
+        let cases: [(&[(&str, &[&str])], Option<u32>); 8] = [
+            (&[("A", &["A"])], Some(0)),
+            (&[("A", &["B"]), ("B", &["A"])], Some(0)),
+            (&[("A", &["B"]), ("B", &["B"])], Some(1)),
+            (&[("A", &["C"]), ("B", &["C"]), ("C", &["B"])], Some(1)),
+            (&[("A", &["D"]), ("B", &[]), ("C", &["A", "B"]), ("D", &["E"]), ("E", &["B", "D"])], Some(3)),
+            (&[("A", &["D", "C"]), ("B", &["D"]), ("C", &["B"]), ("D", &["C"])], Some(1)),
+            (&[("A", &["E"]), ("B", &["E", "A"]), ("C", &["E"]), ("D", &["C", "B"]), ("E", &["D"])], Some(0)),
+            (&[("A", &["B", "B", "C"]), ("B", &["C"]), ("C", &[])], None),
+        ];
+        for (templates, template) in cases {
+            let text = text_of(rt.alloc(), templates).expect(&rt, "memory");
+            let want = template.map(|k| (StaticCode::C3, Some(k)));
+            assert_eq!(rt; fault_of(rt.alloc(), text.as_str()), want, "{text}");
+        }
+    }
 }

@@ -3,7 +3,9 @@
 
 mod chains;
 mod checks;
+mod circles;
 pub mod codes;
+mod cycles;
 mod documents;
 mod extents;
 pub mod flat;
