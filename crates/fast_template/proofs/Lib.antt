@@ -28,3 +28,9 @@ pub mod InPlaceSizes
 pub mod BuiltLists
 pub mod BuildingNeeds
 pub mod InstructionForms
+pub mod ChainLaws
+pub mod InPlaceBodies
+pub mod ChainFaults
+pub mod Targets
+pub mod CycleLaws
+pub mod BuiltTrees

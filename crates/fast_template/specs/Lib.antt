@@ -29,3 +29,5 @@ pub mod FivePasses
 pub mod Chains
 pub mod EntryKeys
 pub mod Built
+pub mod Extents
+pub mod Cycles

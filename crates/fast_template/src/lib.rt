@@ -3,10 +3,14 @@
 
 mod building;
 mod caps;
+mod chains;
 mod checks;
+mod circles;
 pub mod codes;
+mod cycles;
 mod documents;
 mod entries;
+mod extents;
 pub mod flat;
 pub mod instructions;
 mod keys;
