@@ -46,7 +46,7 @@ mutual
   after_one (group l optional body) n m h = let r = after_all body (suc n) m h.1 in omega (arith, r)
   after_one (sequence l f body) n m h = let r = after_all body (suc n) m h.1 in omega (arith, r)
 
-  after_all : (b : Body) (n m : ℕ) → AreNumbered n b m → n ≤ m
+  pub after_all : (b : Body) (n m : ℕ) → AreNumbered n b m → n ≤ m
   after_all end n m h = omega (arith, h)
   after_all (step i is) n m (k, first, rest) =
       let a = after_one i n k first in
@@ -63,7 +63,7 @@ own_first (sequence l f body) n m h = h.0
 
 abbrev mutual
   -- those inside an instruction
-  inside : Instruction → List Instruction
+  pub inside : Instruction → List Instruction
   inside (field l f) = []
   inside (parts l e f) = []
   inside (group l optional body) = all_inside body
@@ -177,6 +177,39 @@ in_either [] ys k x h = inr (k, (let e : k ≡ 0 + k = omega arith in e), h)
 in_either (y ∷ xs) ys zero x h = inl h
 in_either (y ∷ xs) ys (suc k) x h = elim (in_either xs ys k x h) [ inl a ↦ inl a | inr b ↦ inr (b.0, (let e = b.1 in omega (arith, e)), b.2) ]
 
+-- as many numbers as nodes
+mutual
+  spread_long : (i : Instruction) (n m : ℕ) → IsNumbered n i m → m ≡ n + length (spread i)
+  spread_long (field l f) n m h = let e = h.1 in omega (arith, e)
+  spread_long (parts l e f) n m h = let g = h.1 in omega (arith, g)
+  spread_long (group l optional body) n m h = let r = all_long body (suc n) m h.1 in omega (arith, r)
+  spread_long (sequence l f body) n m h = let r = all_long body (suc n) m h.1 in omega (arith, r)
+
+  pub all_long : (b : Body) (n m : ℕ) → AreNumbered n b m → m ≡ n + length (spread_all b)
+  all_long end n m h = omega (arith, h)
+  all_long (step i is) n m (k, first, rest) =
+      let a = spread_long i n k first in
+      let r = all_long is k m rest in
+      let l = length-append (spread i) (spread_all is) in
+      omega (arith, a, r, l)
+
+some_shape : {x d : NodeData} → Some x ≡ Some d → d.shape ≡ x.shape
+some_shape h = cc
+
+none : (d : NodeData) (s : ShapeData) (k : ℕ) → d.shape ≡ s → named_numbers s ≡ [] → k < length (named_numbers d.shape) → ⊥
+none d s k is empty inside = let e = ap length (ap named_numbers is ∙ empty) in omega (arith, e, inside)
+
+own_between : (body : Body) (n m : ℕ) (d : NodeData) (s : ShapeData) (k : ℕ) → d.shape ≡ s → named_numbers s ≡ top_numbers body → AreNumbered (suc n) body m → k < length (named_numbers d.shape)
+    → (n + 0 < get_or (named_numbers d.shape) k 0) × (get_or (named_numbers d.shape) k 0 < m)
+own_between body n m d s k is names h inside =
+    let same = ap named_numbers is ∙ names in
+    let l = ap length same in
+    let t = tops_between body (suc n) m h k (omega (arith, l, inside)) in
+    let g = ap (λ ns. get_or ns k 0) same in
+    let low = t.0 in
+    let high = t.1 in
+    (omega (arith, g, low), omega (arith, g, high))
+
 -- each node names later ones
 mutual
   between_one : (i : Instruction) (n m : ℕ) → IsNumbered n i m → (at : ℕ) (d : NodeData) → slice_get (spread i) at ≡ Some d → (k : ℕ) → k < length (named_numbers d.shape)
@@ -212,34 +245,3 @@ mutual
         let long = spread_long i n j first in
         (omega (arith, low, e, long), r.1)
   ]
-
-  some_shape : {x d : NodeData} → Some x ≡ Some d → d.shape ≡ x.shape
-  some_shape h = cc
-
-  none : (d : NodeData) (s : ShapeData) (k : ℕ) → d.shape ≡ s → named_numbers s ≡ [] → k < length (named_numbers d.shape) → ⊥
-  none d s k is empty inside = let e = ap length (ap named_numbers is ∙ empty) in omega (arith, e, inside)
-
-  own_between : (body : Body) (n m : ℕ) (d : NodeData) (s : ShapeData) (k : ℕ) → d.shape ≡ s → named_numbers s ≡ top_numbers body → AreNumbered (suc n) body m → k < length (named_numbers d.shape)
-      → (n + 0 < get_or (named_numbers d.shape) k 0) × (get_or (named_numbers d.shape) k 0 < m)
-  own_between body n m d s k is names h inside =
-      let same = ap named_numbers is ∙ names in
-      let l = ap length same in
-      let t = tops_between body (suc n) m h k (omega (arith, l, inside)) in
-      let g = ap (λ ns. get_or ns k 0) same in
-      let low = t.0 in
-      let high = t.1 in
-      (omega (arith, g, low), omega (arith, g, high))
-
-  spread_long : (i : Instruction) (n m : ℕ) → IsNumbered n i m → m ≡ n + length (spread i)
-  spread_long (field l f) n m h = let e = h.1 in omega (arith, e)
-  spread_long (parts l e f) n m h = let g = h.1 in omega (arith, g)
-  spread_long (group l optional body) n m h = let r = all_long body (suc n) m h.1 in omega (arith, r)
-  spread_long (sequence l f body) n m h = let r = all_long body (suc n) m h.1 in omega (arith, r)
-
-  pub all_long : (b : Body) (n m : ℕ) → AreNumbered n b m → m ≡ n + length (spread_all b)
-  all_long end n m h = omega (arith, h)
-  all_long (step i is) n m (k, first, rest) =
-      let a = spread_long i n k first in
-      let r = all_long is k m rest in
-      let l = length-append (spread i) (spread_all is) in
-      omega (arith, a, r, l)

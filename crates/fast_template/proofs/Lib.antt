@@ -34,3 +34,4 @@ pub mod ChainFaults
 pub mod Targets
 pub mod CycleLaws
 pub mod BuiltTrees
+pub mod BuiltSets

@@ -1,18 +1,18 @@
 -- The nodes that instructions are spread into, and when they are built.
-use Rattle.std.specs.Prelude.{◌≡◌, ◌≢◌, ℕ, ◌+◌, ◌*◌, ◌≤◌, zero, suc, List, [], ◌∷◌, ◌++◌, All, AllPairs, IsSome, length, map, Option, Vec}
+use Rattle.std.specs.Prelude.{◌≡◌, ◌≢◌, ℕ, ◌+◌, ◌*◌, ◌≤◌, zero, suc, List, [], ◌∷◌, ◌++◌, All, AllPairs, IsSome, length, map, flat_map, Option, Vec}
 use Rattle.std.specs.Global.{Global}
 use Rattle.fast_template.specs.declared.instructions.Node.{Node}
 use Rattle.fast_template.specs.AsWritten.{DeclaredList, DeclaredTemplate, Use, all_uses, all_references}
 use Rattle.fast_template.specs.Chains.{Fits, nodes_in}
 use Rattle.fast_template.specs.Entries.{Entry, Scope, Collects, uses_from}
 use Rattle.fast_template.specs.EntryKeys.{HasEntry}
-use Rattle.fast_template.specs.InPlace.{InPlace}
-use Rattle.fast_template.specs.NodeData.{ShapeData, a_field, a_decimal, a_group, a_sequence, NodeData, node_data}
+use Rattle.fast_template.specs.InPlace.{InPlace, AreInPlace}
+use Rattle.fast_template.specs.NodeData.{ShapeData, a_field, a_decimal, a_group, a_sequence, NodeData, node_data, TemplateOutline}
 use Rattle.fast_template.specs.Places.{place_of_name}
 use Rattle.fast_template.specs.References.{KnowsReferences}
 use Rattle.fast_template.specs.Sizes.{node_limit}
 use Rattle.fast_template.specs.Sound.{IsSound}
-use Rattle.fast_template.specs.Tree.{Label, Instruction, field, parts, group, sequence, Body, end, step}
+use Rattle.fast_template.specs.Tree.{Label, Instruction, field, parts, group, sequence, Body, end, step, TemplateData}
 
 -- the number of an instruction's node
 abbrev pub own_number : Instruction → ℕ
@@ -76,3 +76,14 @@ pub record IsBuilt (ts : List DeclaredTemplate) (entries : List Entry) (chain : 
   pub in_place : InPlace ts entries chain s ds (length old) body (length new)
   pub nodes : new ≡ old ++ spread_all body
   pub numbers : after ≡ before ++ top_numbers body
+
+-- a template by the numbers of its nodes
+abbrev pub outline_of : TemplateData → TemplateOutline
+outline_of u = record { name = u.name; id = u.id; reset = u.reset; body = top_numbers u.body }
+
+-- The first templates of a set with references in place, their nodes, and how they name these.
+pub record AreBuilt (all : List DeclaredTemplate) (entries : List Entry) (ts : List DeclaredTemplate) (nodes : List NodeData) (outlines : List TemplateOutline) : Type 0 where
+  pub templates : List TemplateData
+  pub in_place : AreInPlace all entries 0 ts 0 templates (length nodes)
+  pub spread_into : nodes ≡ flat_map (λ u. spread_all u.body) templates
+  pub named_by : outlines ≡ map outline_of templates
