@@ -37,9 +37,15 @@ in_place_push all entries k [] n mid m [] t b h i =
     (m, refl, refl, refl, subst (λ j. InPlace all entries nesting_limit (scope_of k t) t.fields j b m) (sym h) here, refl)
 in_place_push all entries k [] n mid m (u ∷ us) t b h i = absurd h
 in_place_push all entries k (s ∷ ts) n mid m [] t b h i = absurd h
-in_place_push all entries k (s ∷ ts) n mid m (u ∷ us) t b (next, name, id, reset, body, rest) i =
-    (next, name, id, reset, body, in_place_push all entries (suc k) ts next mid m us t b rest
-    (subst (λ j. InPlace all entries nesting_limit (scope_of j t) t.fields mid b m) (let e : k + suc (length ts) ≡ suc k + length ts = omega arith in e) i))
+in_place_push all entries k (s ∷ ts) n mid m (u ∷ us) t b (next, name, id, reset, body, rest) i = (
+  next,
+  name,
+  id,
+  reset,
+  body,
+  in_place_push all entries (suc k) ts next mid m us t b rest
+      (subst (λ j. InPlace all entries nesting_limit (scope_of j t) t.fields mid b m) (let e : k + suc (length ts) ≡ suc k + length ts = omega arith in e) i),
+)
 
 spread_push : (us : List TemplateData) (u : TemplateData) → flat_map (λ v. spread_all v.body) (us ++ u ∷ []) ≡ flat_map (λ v. spread_all v.body) us ++ spread_all u.body
 spread_push [] u = append-nil (spread_all u.body)
@@ -187,8 +193,7 @@ in_place_at all entries k [] n m (v ∷ us) i u h found = absurd h
 in_place_at all entries k (t ∷ ts) n m [] i u h found = absurd h
 in_place_at all entries k (t ∷ ts) n m (v ∷ us) zero u (mid, name, id, reset, body, rest) found =
     let is : v ≡ u = some_is found in
-    let last = after_whole all entries (suc k) ts mid m us rest in
-    (
+    let last = after_whole all entries (suc k) ts mid m us rest in (
       t,
       n,
       mid,

@@ -1,27 +1,31 @@
 //! From a set as it is written to its nodes, with references in place.
 
-ghost use Rattle.std.specs.Prelude.{ℕ, suc, Bool, false, List, Option, ◌≡◌, ◌<◌, ◌≤◌, ◌*◌, ◌++◌, ◌∷◌, [], length, map, option_map, IfOk, OnOk};
+ghost use Rattle.std.specs.Prelude.{ℕ, suc, Bool, false, List, Option, ◌≡◌, ◌<◌, ◌≤◌, ◌*◌, ◌^◌, All, sum_by, ◌++◌, ◌∷◌, [], length, map, option_map, IfOk, OnOk};
 ghost use Rattle.std.specs.HashMap.{get_by_text};
 ghost use Rattle.fast_value.specs.Values.{value_data};
 ghost use Rattle.fast_template.specs.AsWritten.{Written, group, sequence, reference, no_more, more, length_use};
-ghost use Rattle.fast_template.specs.Built.{with_shape, data_of, IsReady, IsIndexed, CanBuild, IsBuilt};
+ghost use Rattle.fast_template.specs.Built.{with_shape, data_of, IsReady, IsIndexed, CanBuild, IsBuilt, AreBuilt};
+ghost use Rattle.fast_template.specs.Chains.{Fits, nodes_in};
 ghost use Rattle.fast_template.specs.EntryKeys.{scope_data, use_data, entries_of};
-ghost use Rattle.fast_template.specs.NodeData.{a_group, node_data, shape_data};
+ghost use Rattle.fast_template.specs.NodeData.{a_group, node_data, shape_data, outline};
 ghost use Rattle.fast_template.specs.Nodes.{field_data};
-ghost use Rattle.fast_template.specs.Sizes.{node_limit};
+ghost use Rattle.fast_template.specs.Sizes.{nesting_limit, node_limit};
 ghost use Rattle.fast_template.specs.Uses.{IsInitialOf, IsField};
 ghost use Rattle.fast_template.specs.Sound.{IsSound};
 ghost use Rattle.fast_template.specs.WrittenSets.{instruction_data, fields_data, written_data};
 
 use crate::codes::StaticCode;
 use crate::entries::Entries;
-use crate::instructions::{FieldInstruction, Node, Shape};
+use crate::instructions::{FieldInstruction, Node, Shape, Template};
 use crate::passes::WrittenSet;
 use crate::scopes::{OperatorUse, TextScope, exponent_use, length_use, mantissa_use, scalar_use};
 use crate::uses::{OperatorPart, initial_in};
-use crate::written::WrittenInstruction;
+use crate::written::{WrittenInstruction, WrittenTemplate};
 use fast_value::{Kind, Value};
 use std::alloc::{AllocError, Global};
+
+/// The longest chain of references.
+const NESTING_LIMIT: usize = 64;
 
 /// The initial value of an operator, where it has one.
 fn initial_of(alloc: Global, used: OperatorUse<'_>) -> Result<Option<Value>, AllocError>
@@ -77,11 +81,34 @@ fn set_shape(nodes: &mut [Node], number: usize, shape: Shape)
     nodes[number].shape = shape;
 }
 
+/// The template that is written, with the nodes of its body.
+fn template_of(
+    alloc: Global,
+    written: &WrittenTemplate,
+    body: Vec<u32>,
+) -> Result<Template, AllocError>
+    ensures { IfOk result (λ t. outline t ≡ record { name = (written_data written.now).name; id = written.now.id; reset = written.now.reset; body = body.items }) }
+{
+    Ok(Template {
+        name: String::from_str(alloc, written.name.as_str())?,
+        id: written.id,
+        reset: written.reset,
+        body,
+    })
+}
+
 /// Where instructions stand: in the text of a template, from which so many references may still lead on.
 #[derive(Clone, Copy, Debug)]
 pub(crate) struct Standing<'a> {
     pub(crate) scope: TextScope<'a>,
     pub(crate) chain: usize,
+}
+
+/// Templates with their nodes.
+#[derive(Debug, Drop)]
+pub(crate) struct BuiltTemplates {
+    pub(crate) templates: Vec<Template>,
+    pub(crate) nodes: Vec<Node>,
 }
 
 /// A set whose nodes are built, with its entries.
@@ -93,6 +120,32 @@ pub(crate) struct Builder<'a> {
 }
 
 impl Builder<'_> {
+    /// Builds all templates.
+    pub(crate) fn build(&self) -> Result<BuiltTemplates, AllocError>
+        requires many { length self.now.set.now.templates.items < 2 ^ 32 }
+        requires set { IsIndexed (get_by_text self.now.set.now.names) (map written_data self.now.set.now.templates.items) (entries_of self.now.entries.now) }
+        requires fits { All (λ t. Fits (map written_data self.now.set.now.templates.items) nesting_limit t.fields) (map written_data self.now.set.now.templates.items) }
+        requires few { sum_by (λ t. nodes_in (map written_data self.now.set.now.templates.items) nesting_limit t.fields) (map written_data self.now.set.now.templates.items) ≤ node_limit }
+        ensures { IfOk result (λ b. AreBuilt (map written_data self.now.set.now.templates.items) (entries_of self.now.entries.now) (map written_data self.now.set.now.templates.items) (map node_data b.nodes.items) (map outline b.templates.items)) }
+    {
+        let mut nodes = Vec::new(self.alloc);
+        let mut templates = Vec::new(self.alloc);
+        for (k, written) in self.set.templates.iter().enumerate() {
+            let scope = TextScope {
+                template: k as u32,
+                dictionary: written.dictionary.as_str(),
+            };
+            let at = Standing {
+                scope,
+                chain: NESTING_LIMIT,
+            };
+            let mut body = Vec::new(self.alloc);
+            self.build_fields(&mut nodes, &mut body, at, &written.fields)?;
+            templates.push(template_of(self.alloc, written, body)?)?;
+        }
+        Ok(BuiltTemplates { templates, nodes })
+    }
+
     /// How a value is sent under an operator.
     fn field_of(
         &self,

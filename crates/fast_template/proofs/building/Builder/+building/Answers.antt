@@ -30,8 +30,7 @@ build_fields-build_instruction-requires t c =
     let w = weight_at fs i c.field-item.result c.loop-field-test.true in
     let same = ap (λ d. weight (more (instruction_data d) no_more)) c.field-item.is in
     let d : measure (map written_data c.args.self.now.set.now.templates.items) c.args.at.chain (3 * weight (fields_data fs) + 1) ≡ t = c.decreases in
-    let can = can_build_next fs i c.field-item.result (data_of c.args.nodes.now) (data_of c.loop-field.nodes) c.args.body.now.items c.loop-field.body.items c.requires.set.names c.loop-field-test.true c.loop-field.invariant c.requires.can in
-    (
+    let can = can_build_next fs i c.field-item.result (data_of c.args.nodes.now) (data_of c.loop-field.nodes) c.args.body.now.items c.loop-field.body.items c.requires.set.names c.loop-field-test.true c.loop-field.invariant c.requires.can in (
       omega (arith, w, same, d),
       (c.requires.set, subst (λ d. CanBuild ts (entries_of c.args.self.now.entries.now) c.args.at.chain (scope_data c.args.at.scope) (more (instruction_data d) no_more) (length (data_of c.loop-field.nodes))) (sym c.field-item.is) can),
     )
