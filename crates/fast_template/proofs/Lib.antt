@@ -35,3 +35,4 @@ pub mod Targets
 pub mod CycleLaws
 pub mod BuiltTrees
 pub mod BuiltSets
+pub mod ReadLaws

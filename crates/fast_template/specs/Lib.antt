@@ -29,5 +29,6 @@ pub mod FivePasses
 pub mod Chains
 pub mod EntryKeys
 pub mod Built
+pub mod ReadSets
 pub mod Extents
 pub mod Cycles

@@ -104,11 +104,12 @@ pub(crate) struct Standing<'a> {
     pub(crate) chain: usize,
 }
 
-/// Templates with their nodes.
+/// Templates with their nodes, and the number of entries.
 #[derive(Debug, Drop)]
-pub(crate) struct BuiltTemplates {
+pub(crate) struct BuiltSet {
     pub(crate) templates: Vec<Template>,
     pub(crate) nodes: Vec<Node>,
+    pub(crate) entries: u32,
 }
 
 /// A set whose nodes are built, with its entries.
@@ -121,12 +122,13 @@ pub(crate) struct Builder<'a> {
 
 impl Builder<'_> {
     /// Builds all templates.
-    pub(crate) fn build(&self) -> Result<BuiltTemplates, AllocError>
+    pub(crate) fn build(&self) -> Result<BuiltSet, AllocError>
         requires many { length self.now.set.now.templates.items < 2 ^ 32 }
         requires set { IsIndexed (get_by_text self.now.set.now.names) (map written_data self.now.set.now.templates.items) (entries_of self.now.entries.now) }
         requires fits { All (λ t. Fits (map written_data self.now.set.now.templates.items) nesting_limit t.fields) (map written_data self.now.set.now.templates.items) }
         requires few { sum_by (λ t. nodes_in (map written_data self.now.set.now.templates.items) nesting_limit t.fields) (map written_data self.now.set.now.templates.items) ≤ node_limit }
-        ensures { IfOk result (λ b. AreBuilt (map written_data self.now.set.now.templates.items) (entries_of self.now.entries.now) (map written_data self.now.set.now.templates.items) (map node_data b.nodes.items) (map outline b.templates.items)) }
+        ensures entries { IfOk result (λ b. b.entries ≡ suc (length (entries_of self.now.entries.now))) }
+        ensures built { IfOk result (λ b. AreBuilt (map written_data self.now.set.now.templates.items) (entries_of self.now.entries.now) (map written_data self.now.set.now.templates.items) (map node_data b.nodes.items) (map outline b.templates.items)) }
     {
         let mut nodes = Vec::new(self.alloc);
         let mut templates = Vec::new(self.alloc);
@@ -143,7 +145,11 @@ impl Builder<'_> {
             self.build_fields(&mut nodes, &mut body, at, &written.fields)?;
             templates.push(template_of(self.alloc, written, body)?)?;
         }
-        Ok(BuiltTemplates { templates, nodes })
+        Ok(BuiltSet {
+            templates,
+            nodes,
+            entries: self.entries.count(),
+        })
     }
 
     /// How a value is sent under an operator.

@@ -1,6 +1,6 @@
 //! The dictionary entries of a set, numbered in the order of its text.
 
-ghost use Rattle.std.specs.Prelude.{◌≡◌, ◌⊎◌, ◌++◌, ◌∷◌, [], ℕ, ◌<◌, ◌≤◌, ◌*◌, ◌^◌, true, slice_get, length, map, Contains, Some, None, IfSome, IfNone, IfOk, OnOk};
+ghost use Rattle.std.specs.Prelude.{◌≡◌, ◌⊎◌, ◌++◌, ◌∷◌, [], ℕ, suc, ◌<◌, ◌≤◌, ◌*◌, ◌^◌, true, slice_get, length, map, Contains, Some, None, IfSome, IfNone, IfOk, OnOk};
 ghost use Rattle.fast_template.specs.AsWritten.{uses};
 ghost use Rattle.fast_template.specs.Entries.{IsPlace, IsEntry, EntryNumber, keeps_value, Collects, in_scope, uses_from};
 ghost use Rattle.fast_template.specs.EntryKeys.{scope_data, use_data, place_data, key_data, entries_of, HasEntry};
@@ -104,6 +104,14 @@ impl Entries {
         ensures none { IfNone result (¬ (Contains (entries_of self.now) (key_data key.now))) }
     {
         self.keys.get_index_of(key)
+    }
+
+    /// The number of entries, with the template identifier's.
+    pub(crate) fn count(&self) -> u32
+        requires { length (entries_of self.now) ≤ 2 * node_limit }
+        ensures { result ≡ suc (length (entries_of self.now)) }
+    {
+        self.keys.len() as u32 + 1
     }
 
     /// The number of the entry of an operator in a text, if it keeps a value there. The template identifier's is 0.

@@ -18,6 +18,7 @@ mod names;
 pub mod operators;
 mod passes;
 pub mod queries;
+mod read;
 mod reading;
 mod scopes;
 mod segments;

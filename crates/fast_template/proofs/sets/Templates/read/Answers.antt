@@ -1,0 +1,59 @@
+use Rattle.std.proofs.Common.{◌≡◌, map, length, subst, sym, arith, inr, Some}
+use Rattle.std.specs.Prelude.{All}
+use Rattle.std.proofs.lemmas.List.{length-map}
+use Rattle.fast_template.specs.Nodes.{instructions_from, template_data}
+use Rattle.fast_template.specs.Numbers.{NameNodes, NameLaterNodes}
+use Rattle.fast_template.specs.Segments.{IsNarrow}
+use Rattle.fast_template.specs.WrittenSets.{written_data}
+use Rattle.fast_template.proofs.BuiltSets.{built_in_preorder, built_names_nodes, built_names_later_nodes, built_distinct_ids, built_few_nodes, built_count}
+use Rattle.fast_template.proofs.ReadLaws.{tree_read, wide_stands}
+use Rattle.fast_template.proofs.sets.Templates.read.Goals as goal
+
+pub check_segments-requires-clause-later : goal.check_segments-requires-clause-later
+check_segments-requires-clause-later c = subst NameLaterNodes (sym c.deref.ensures.value) (built_names_later_nodes c.in-Ok.built.nodes.items c.in-Ok.built.templates.items c.in-Ok.ensures.are_built)
+
+pub check_segments-requires-clause-named : goal.check_segments-requires-clause-named
+check_segments-requires-clause-named c = rw (c.deref.ensures.value, c.deref-2.ensures.value) (built_names_nodes c.in-Ok.built.nodes.items c.in-Ok.built.templates.items c.in-Ok.ensures.are_built)
+
+pub check_segments-requires-clause-few : goal.check_segments-requires-clause-few
+check_segments-requires-clause-few c =
+    let n = built_count c.in-Ok.built.nodes.items c.in-Ok.built.templates.items c.in-Ok.ensures.are_built in
+    let many = c.in_ok-set.ensures.set.shape.4 in
+    rw c.deref-2.ensures.value (omega (arith, n, many))
+
+pub returns-in-Err-clause-fault : goal.returns-in-Err-clause-fault
+returns-in-Err-clause-fault c =
+    let w = c.in_ok-set.ensures.set in
+    let ts = map written_data c.in_ok-set.set.templates.items in
+    let f = rw (c.deref.ensures.value, c.deref-2.ensures.value) at c.in-Err.ensures.wide in
+    inr (record { document = w.document; written = ts; reads = w.reads; shape = w.shape; stands = wide_stands ts c.in-Ok.built c.in-Err.template f.0 c.in-Ok.ensures f.1 f.2 })
+
+pub invariant_of-result : goal.invariant_of-result
+invariant_of-result c =
+    let w = c.in_ok-set.ensures.set in
+    let ns = c.in-Ok.built.nodes.items in
+    let us = c.in-Ok.built.templates.items in
+    let built = c.in-Ok.ensures.are_built in
+    let n = built_count ns us built in
+    let many = w.shape.4 in
+    let count = c.in-Ok.ensures.count in
+    record {
+      few_templates = omega (arith, n, many);
+      few_nodes = built_few_nodes ns us built w.names c.in_ok-check_chains.ensures.few_nodes;
+      has_identifier = omega (arith, count);
+      templates_name_nodes = built_names_nodes ns us built;
+      nodes_name_later_nodes = built_names_later_nodes ns us built;
+      nodes_in_preorder = built_in_preorder ns us built;
+      distinct_ids = built_distinct_ids ns us built w.ids;
+    }
+
+pub returns-clause-read : goal.returns-clause-read
+returns-clause-read c =
+    let w = c.in_ok-set.ensures.set in
+    let ts = map written_data c.in_ok-set.set.templates.items in
+    let narrow = rw (c.deref.ensures.value, c.deref-2.ensures.value) at c.in_default-check_segments.ensures.narrow in
+    (
+      w.document,
+      w.reads,
+      tree_read w.document ts c.in-Ok.built c.in-Ok.ensures w.names w.ids w.shape w.sound c.in_ok-check_chains.ensures.shallow c.in_ok-check_chains.ensures.few_nodes narrow,
+    )
