@@ -97,8 +97,7 @@ wide_stands ts b k u w found wide =
     let built = w.are_built in
     let m = length (map node_data b.nodes.items) in
     let tree = built_tree b.nodes.items b.templates.items built in
-    let p = in_place_at ts w.entries 0 ts 0 m built.templates k u built.in_place (subst (λ us. slice_get us k ≡ Some u) tree found) in
-    (
+    let p = in_place_at ts w.entries 0 ts 0 m built.templates k u built.in_place (subst (λ us. slice_get us k ≡ Some u) tree found) in (
       u.body,
       (w.entries, p.0, p.1, p.2, p.3, subst (λ j. InPlace ts w.entries nesting_limit (scope_of j p.0) p.0.fields p.1 u.body p.2) (let e : 0 + k ≡ k = omega arith in e) p.5),
       too_wide wide,

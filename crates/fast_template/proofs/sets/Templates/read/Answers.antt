@@ -51,8 +51,7 @@ pub returns-clause-read : goal.returns-clause-read
 returns-clause-read c =
     let w = c.in_ok-set.ensures.set in
     let ts = map written_data c.in_ok-set.set.templates.items in
-    let narrow = rw (c.deref.ensures.value, c.deref-2.ensures.value) at c.in_default-check_segments.ensures.narrow in
-    (
+    let narrow = rw (c.deref.ensures.value, c.deref-2.ensures.value) at c.in_default-check_segments.ensures.narrow in (
       w.document,
       w.reads,
       tree_read w.document ts c.in-Ok.built c.in-Ok.ensures w.names w.ids w.shape w.sound c.in_ok-check_chains.ensures.shallow c.in_ok-check_chains.ensures.few_nodes narrow,
