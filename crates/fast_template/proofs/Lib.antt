@@ -36,3 +36,4 @@ pub mod CycleLaws
 pub mod BuiltTrees
 pub mod BuiltSets
 pub mod ReadLaws
+pub mod Headings

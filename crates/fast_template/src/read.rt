@@ -62,6 +62,8 @@ impl Templates {
             templates: built.templates,
             nodes: built.nodes,
             entries: built.entries,
+            names: set.names,
+            ids: set.ids,
         })
     }
 }
@@ -218,6 +220,8 @@ fields = [{kind="ascii", name="r", optional=true}]
         assert_eq!(rt; set.entries(), 13);
         assert_eq!(rt; set.by_id(15), Some(14));
         assert_eq!(rt; set.by_id(0), None);
+        assert_eq!(rt; set.by_name("T19"), Some(18));
+        assert_eq!(rt; set.by_name("T"), None);
         let text = spelled(rt.alloc(), &set)?;
         assert_eq!(rt;
             text.as_str(),

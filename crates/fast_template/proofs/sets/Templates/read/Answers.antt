@@ -1,4 +1,4 @@
-use Rattle.std.proofs.Common.{◌≡◌, map, length, subst, sym, arith, inr, Some}
+use Rattle.std.proofs.Common.{◌≡◌, map, length, subst, sym, ◌∙◌, arith, inr, Some}
 use Rattle.std.specs.Prelude.{All}
 use Rattle.std.proofs.lemmas.List.{length-map}
 use Rattle.fast_template.specs.Nodes.{instructions_from, template_data}
@@ -6,6 +6,8 @@ use Rattle.fast_template.specs.Numbers.{NameNodes, NameLaterNodes}
 use Rattle.fast_template.specs.Segments.{IsNarrow}
 use Rattle.fast_template.specs.WrittenSets.{written_data}
 use Rattle.fast_template.proofs.BuiltSets.{built_in_preorder, built_names_nodes, built_names_later_nodes, built_distinct_ids, built_few_nodes, built_count}
+use Rattle.fast_template.specs.NodeData.{node_data}
+use Rattle.fast_template.proofs.Headings.{same_names, same_ids, built_headings}
 use Rattle.fast_template.proofs.ReadLaws.{tree_read, wide_stands}
 use Rattle.fast_template.proofs.sets.Templates.read.Goals as goal
 
@@ -37,6 +39,8 @@ invariant_of-result c =
     let n = built_count ns us built in
     let many = w.shape.4 in
     let count = c.in-Ok.ensures.count in
+    let ts = map written_data c.in_ok-set.set.templates.items in
+    let headings = built_headings ts c.in-Ok.ensures.entries (map node_data ns) us built in
     record {
       few_templates = omega (arith, n, many);
       few_nodes = built_few_nodes ns us built w.names c.in_ok-check_chains.ensures.few_nodes;
@@ -45,6 +49,8 @@ invariant_of-result c =
       nodes_name_later_nodes = built_names_later_nodes ns us built;
       nodes_in_preorder = built_in_preorder ns us built;
       distinct_ids = built_distinct_ids ns us built w.ids;
+      names_index = λ q. c.in_ok-set.ensures.names q ∙ same_names us ts q headings;
+      ids_index = λ q. c.in_ok-set.ensures.ids q ∙ same_ids us ts q headings;
     }
 
 pub returns-clause-read : goal.returns-clause-read
