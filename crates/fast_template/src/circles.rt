@@ -145,9 +145,10 @@ pub(crate) fn first_in_circle(
     alloc: Global,
     graph: &[Vec<u32>],
 ) -> Result<Option<usize>, AllocError> {
-    let turns = graph
-        .iter()
-        .fold(1usize, |turns, targets| turns.saturating_add(targets.len()).saturating_add(1));
+    let turns = graph.iter().fold(
+        1usize,
+        |turns, targets| turns.saturating_add(targets.len()).saturating_add(1),
+    );
     let mut walk = Walk::new(alloc, graph)?;
     for template in 0..graph.len() {
         if walk.low(template) == 0 {

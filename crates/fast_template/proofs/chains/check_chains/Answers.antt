@@ -55,6 +55,6 @@ returns-clause-fault c =
     (λ fault. (k : ℕ) × (fault.code ≡ C6) × (fault.template ≡ Some k) × (k < length c.deref-4.result.now) × (node_limit < sum_by known_nodes (take (suc k) c.deref-4.result.now)))
     (λ fault. IsFaultAt ts fault.code fault.template)
     (λ fault many.
-        many_fault ts es c.requires.apart c.requires.known c.requires.sound found shallow fault
-        (subst (λ xs. (k : ℕ) × (fault.code ≡ C6) × (fault.template ≡ Some k) × (k < length xs) × (node_limit < sum_by known_nodes (take (suc k) xs))) c.deref-4.ensures.value many))
+    many_fault ts es c.requires.apart c.requires.known c.requires.sound found shallow fault
+    (subst (λ xs. (k : ℕ) × (fault.code ≡ C6) × (fault.template ≡ Some k) × (k < length xs) × (node_limit < sum_by known_nodes (take (suc k) xs))) c.deref-4.ensures.value many))
     c.check_nodes.ensures.fault
