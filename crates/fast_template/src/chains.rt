@@ -255,7 +255,7 @@ mod tests {
     const SEQUENCES: (&str, &str) = ("{kind='sequence', name='s', fields=[", "]}");
 
     #[test]
-    fn circles_of_references(rt: HostRuntime) {
+    fn cycles_of_references(rt: HostRuntime) {
         let cases: [(&[(&str, &[&str])], Option<u32>); 9] = [
             (&[("A", &["A"])], Some(0)),
             (&[("A", &[]), ("B", &["A"]), ("C", &["B", "C"])], Some(2)),
@@ -346,13 +346,13 @@ mod tests {
     }
 
     #[test]
-    fn circles_before_chains_before_nodes(rt: HostRuntime) {
-        let circle = references(rt.alloc(), &[("C", &["C"])]).expect(&rt, "memory");
+    fn cycles_before_chains_before_nodes(rt: HostRuntime) {
+        let cycle = references(rt.alloc(), &[("C", &["C"])]).expect(&rt, "memory");
         let long = chain(rt.alloc(), "B", 66, 1, PLAIN).expect(&rt, "memory");
         let many = chain(rt.alloc(), "A", 17, 2, PLAIN).expect(&rt, "memory");
         let cases = [
-            (&long, &circle, (StaticCode::C3, Some(66))),
-            (&many, &circle, (StaticCode::C3, Some(17))),
+            (&long, &cycle, (StaticCode::C3, Some(66))),
+            (&many, &cycle, (StaticCode::C3, Some(17))),
             (&many, &long, (StaticCode::C4, Some(82))),
             (&long, &many, (StaticCode::C4, Some(65))),
         ];

@@ -3,8 +3,8 @@
 
 mod chains;
 mod checks;
-mod circles;
 pub mod codes;
+mod components;
 mod cycles;
 mod documents;
 mod extents;

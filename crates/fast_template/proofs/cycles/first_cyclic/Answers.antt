@@ -6,8 +6,8 @@ use Rattle.fast_template.specs.WrittenSets.{written_data}
 use Rattle.fast_template.proofs.CycleLaws.{all_within, long_as, cycle_at}
 use Rattle.fast_template.proofs.cycles.first_cyclic.Goals as goal
 
-pub first_in_circle-requires : goal.first_in_circle-requires
-first_in_circle-requires c =
+pub first_in_cycle-requires : goal.first_in_cycle-requires
+first_in_cycle-requires c =
     let within = all_within (map written_data c.args.templates.now) (get_by_text c.args.names.now) c.in_ok-graph.graph.items c.requires.index c.in_ok-graph.ensures in
     subst AreWithin (sym c.deref.ensures.value) within
 

@@ -1,40 +1,39 @@
-//! The templates that refer to one another in a circle.
+//! The sets of templates that refer to one another.
 
 ghost use Rattle.std.specs.Prelude.{◌≡◌, ◌<◌, length, vec_len, All};
 ghost use Rattle.fast_template.specs.Cycles.{AreWithin};
 
 use std::alloc::{AllocError, Global};
 
-/// Where a template of a closed circle stands: behind all that are open.
+/// The mark of a template whose component is closed, behind each place on the stack.
 const CLOSED: usize = usize::MAX;
 
-/// A template on the way from the first one, and how far its references have been followed.
+/// A template on the path from where the walk began.
 #[derive(Clone, Copy, Debug)]
 struct Step {
     template: usize,
-    /// The place of the template among those that are open, from 1 on.
+    /// The place of the template on the stack, from 1 on.
     place: usize,
+    /// How many of its references have been followed.
     followed: usize,
 }
 
-/// A walk along all references that finds the circles, each once it is behind (Tarjan's algorithm for strongly
-/// connected components, without recursion).
+/// A depth-first walk along all references that finds the strongly connected components (Tarjan's algorithm, without
+/// recursion).
 #[derive(Debug, Drop)]
 struct Walk<'a> {
     graph: &'a [Vec<u32>],
-    /// For each template the first of the places of open templates that it is known to lead to: 0 where the template
-    /// was not met.
-    places: Vec<usize>,
-    /// The open templates: those that were met, but for those of closed circles.
-    met: Vec<usize>,
-    /// The way from where the walk began.
-    way: Vec<Step>,
-    /// The first template that was found in a circle.
+    /// For each template the first place on the stack that it is known to lead to; 0 where it was not met.
+    lowlinks: Vec<usize>,
+    /// The templates that were met and whose components are not closed.
+    stack: Vec<usize>,
+    path: Vec<Step>,
+    /// The first template that was found to refer to itself, by way of others or not.
     first: Option<usize>,
     ghost graph_within: { AreWithin graph.now },
-    ghost places_long: { vec_len places ≡ length graph.now },
-    ghost met_within: { All (λ k. k < length graph.now) met.items },
-    ghost way_within: { All (λ s. s.template < length graph.now) way.items },
+    ghost lowlinks_long: { vec_len lowlinks ≡ length graph.now },
+    ghost stack_within: { All (λ k. k < length graph.now) stack.items },
+    ghost path_within: { All (λ s. s.template < length graph.now) path.items },
 }
 
 impl<'a> Walk<'a> {
@@ -47,22 +46,22 @@ impl<'a> Walk<'a> {
     {
         Ok(Walk {
             graph,
-            places: vec![in alloc; 0; graph.len()]?,
-            met: Vec::new(alloc),
-            way: Vec::new(alloc),
+            lowlinks: vec![in alloc; 0; graph.len()]?,
+            stack: Vec::new(alloc),
+            path: Vec::new(alloc),
             first: None,
         })
     }
 
-    /// Puts down that a template leads to one at a place.
+    /// A template leads to one at this place on the stack.
     fn lower(&mut self, template: usize, place: usize)
         requires { template < length self.old.graph.now }
         ensures { self.new.graph ≡ self.old.graph }
     {
-        self.places[template] = self.places[template].min(place);
+        self.lowlinks[template] = self.lowlinks[template].min(place);
     }
 
-    /// Puts down that a template is in a circle.
+    /// A template refers to itself.
     fn note(&mut self, template: usize)
         requires { template < length self.old.graph.now }
         ensures { self.new.graph ≡ self.old.graph }
@@ -78,10 +77,10 @@ impl<'a> Walk<'a> {
         requires { template < length self.old.graph.now }
         ensures { self.new.graph ≡ self.old.graph }
     {
-        self.met.push(template)?;
-        let place = self.met.len();
-        self.places[template] = place;
-        self.way.push(Step {
+        self.stack.push(template)?;
+        let place = self.stack.len();
+        self.lowlinks[template] = place;
+        self.path.push(Step {
             template,
             place,
             followed: 0,
@@ -89,18 +88,18 @@ impl<'a> Walk<'a> {
         Ok(())
     }
 
-    /// Follows one reference or goes back one template. Whether there is a way still.
+    /// Follows one reference or goes back one template; `false` where the walk is at its end.
     fn turn(&mut self) -> Result<bool, AllocError>
         ensures { self.new.graph ≡ self.old.graph }
     {
-        let Some(mut step) = self.way.pop() else {
+        let Some(mut step) = self.path.pop() else {
             return Ok(false);
         };
         if let Some(target) = self.graph[step.template].get(step.followed) {
             let target = *target as usize;
             let template = step.template;
             step.followed += 1;
-            self.way.push(step)?;
+            self.path.push(step)?;
             self.follow(template, target)?;
         } else {
             self.leave(step);
@@ -117,7 +116,7 @@ impl<'a> Walk<'a> {
         if template == target {
             self.note(target);
         }
-        match self.places[target] {
+        match self.lowlinks[target] {
             0 => self.enter(target)?,
             place => self.lower(template, place),
         }
@@ -129,34 +128,34 @@ impl<'a> Walk<'a> {
         requires { step.template < length self.old.graph.now }
         ensures { self.new.graph ≡ self.old.graph }
     {
-        let place = self.places[step.template];
+        let place = self.lowlinks[step.template];
         if place == step.place {
             self.close(place);
-        } else if let Some(before) = self.way.last() {
+        } else if let Some(before) = self.path.last() {
             let template = before.template;
             self.lower(template, place);
         }
     }
 
-    /// Closes the circle of the open templates from a place on. One template is no circle.
+    /// Closes the component of the templates on the stack from a place on. More than one refer to each other.
     fn close(&mut self, place: usize)
         ensures { self.new.graph ≡ self.old.graph }
     {
-        let is_circle = self.met.len() > place;
-        for _ in place..=self.met.len() {
-            self.close_last(is_circle);
+        let is_cycle = self.stack.len() > place;
+        for _ in place..=self.stack.len() {
+            self.close_last(is_cycle);
         }
     }
 
-    /// Closes the open template that was met last.
-    fn close_last(&mut self, is_circle: bool)
+    /// Closes the last template on the stack.
+    fn close_last(&mut self, is_cycle: bool)
         ensures { self.new.graph ≡ self.old.graph }
     {
-        let Some(template) = self.met.pop() else {
+        let Some(template) = self.stack.pop() else {
             return;
         };
-        self.places[template] = CLOSED;
-        if is_circle {
+        self.lowlinks[template] = CLOSED;
+        if is_cycle {
             self.note(template);
         }
     }
@@ -171,17 +170,14 @@ fn turns_of(graph: &[Vec<u32>]) -> usize {
     turns
 }
 
-/// The first template that refers to itself in a circle.
-pub(crate) fn first_in_circle(
-    alloc: Global,
-    graph: &[Vec<u32>],
-) -> Result<Option<usize>, AllocError>
+/// The first template that refers to itself, by way of others or not.
+pub(crate) fn first_in_cycle(alloc: Global, graph: &[Vec<u32>]) -> Result<Option<usize>, AllocError>
     requires { AreWithin graph.now }
 {
     let turns = turns_of(graph);
     let mut walk = Walk::new(alloc, graph)?;
     for template in 0..graph.len() {
-        if walk.places[template] == 0 {
+        if walk.lowlinks[template] == 0 {
             walk.enter(template)?;
             for _ in 0..turns {
                 if !walk.turn()? {
