@@ -136,6 +136,7 @@ pub(crate) fn first_cyclic(
     let Some(first) = first_in_cycle(alloc, &graph)? else {
         return Ok(None);
     };
+    // The walk proposes the template, and the search shows that it refers to itself.
     if first < graph.len() && is_cyclic(alloc, &graph, first)? {
         return Ok(Some(first));
     }

@@ -1,7 +1,6 @@
 use Rattle.std.proofs.Common.{◌≡◌, ◌<◌, ◌≤◌, ℕ, suc, map, length, take, subst, Some}
 use Rattle.std.specs.Prelude.{All, sum_by}
 use Rattle.std.proofs.lemmas.Result.{on_ok_weaker, IfErr-weaker, err_from_is_err_and}
-use Rattle.fast_template.specs.declared.codes.StaticFault.{StaticFault}
 use Rattle.fast_template.specs.declared.codes.StaticCode.TheVariants.{C4, C6}
 use Rattle.fast_template.specs.Extents.{known_nodes, AreExtents, IsShallow, IsDeepAt}
 use Rattle.fast_template.specs.Faults.{IsFaultAt}

@@ -1,4 +1,4 @@
-use Rattle.std.proofs.Common.{◌≡◌, ◌<◌, map, length, sym, ◌∙◌, ap, subst, arith, refl}
+use Rattle.std.proofs.Common.{map, length, sym, ◌∙◌, ap, subst, arith}
 use Rattle.std.specs.HashMap.{get_by_text}
 use Rattle.std.proofs.lemmas.List.{length-map}
 use Rattle.fast_template.specs.Cycles.{AreWithin, IsCyclic}
