@@ -1,20 +1,20 @@
 -- What the extents of templates show of a set, and what is wrong with one.
-use Rattle.std.proofs.Common.{◌≡◌, ◌≢◌, ℕ, zero, suc, ◌+◌, ◌<◌, ◌≤◌, List, [], ◌∷◌, refl, ap, sym, ◌∙◌, subst, arith, slice_get, get_or, length, take, Option, Some, None, true, inl, inr}
+use Rattle.std.proofs.Common.{◌≡◌, ◌≢◌, ℕ, zero, suc, ◌+◌, ◌<◌, ◌≤◌, List, [], ◌∷◌, refl, ap, sym, ◌∙◌, arith, slice_get, get_or, length, take, Option, Some, None, inl, inr}
 use Rattle.std.specs.Prelude.{All, AllPairs, sum_by}
 use Rattle.std.proofs.lemmas.List.Sums.{sum_by-cons}
-use Rattle.std.proofs.lemmas.Option.{slice_get_within, slice_get-get_or, get_or_from_slice_get}
+use Rattle.std.proofs.lemmas.Option.{slice_get_within, slice_get-get_or}
 use Rattle.fast_template.specs.declared.extents.Extent.{Extent}
 use Rattle.fast_template.specs.declared.codes.StaticCode.TheVariants.{C4, C6}
 use Rattle.fast_template.specs.declared.codes.StaticFault.{StaticFault}
 use Rattle.fast_template.specs.AsWritten.{DeclaredTemplate, all_uses}
 use Rattle.fast_template.specs.Entries.{Entry, scope_of}
-use Rattle.fast_template.specs.Tree.{Body, TemplateData}
-use Rattle.fast_template.specs.Sizes.{body_depth, nesting_limit, node_limit}
+use Rattle.fast_template.specs.Tree.{TemplateData}
+use Rattle.fast_template.specs.Sizes.{nesting_limit, node_limit}
 use Rattle.fast_template.specs.Sound.{IsSound}
 use Rattle.fast_template.specs.References.{KnowsReferences}
 use Rattle.fast_template.specs.Faults.{IsFaultAt}
-use Rattle.fast_template.specs.InPlace.{InPlace, AreInPlace}
-use Rattle.fast_template.specs.Refused.{Reaches, IsBodyOf, StandsAt}
+use Rattle.fast_template.specs.InPlace.{AreInPlace}
+use Rattle.fast_template.specs.Refused.{StandsAt}
 use Rattle.fast_template.specs.Chains.{Fits, nodes_in, depth_in}
 use Rattle.fast_template.specs.Extents.{capped, known_nodes, IsExtent, LeadsOn, AreExtents, IsShallow, IsDeepAt}
 use Rattle.fast_template.proofs.PlaceLists.{take_get}

@@ -1,6 +1,6 @@
 -- Chains that fit, and the extents that are found in rounds.
-use Rattle.std.proofs.Common.{◌≡◌, ◌≢◌, ℕ, zero, suc, ◌+◌, ◌<◌, ◌≤◌, List, [], ◌∷◌, ◌++◌, refl, ap, sym, ◌∙◌, subst, arith, slice_get, length, replicate, Option, Some, None, Bool, true, false, ◌&&◌, ◌⊎◌, inl, inr}
-use Rattle.std.specs.Prelude.{max, min, All, AllPairs, Contains, IsSome, is_some, option_map}
+use Rattle.std.proofs.Common.{◌≡◌, ◌≢◌, ℕ, zero, suc, ◌+◌, ◌<◌, ◌≤◌, List, [], ◌∷◌, refl, ap, sym, ◌∙◌, subst, arith, slice_get, length, replicate, Option, Some, None, true, ◌⊎◌, inl, inr}
+use Rattle.std.specs.Prelude.{max, All, AllPairs, Contains, IsSome, is_some, option_map}
 use Rattle.std.specs.List.{list_all}
 use Rattle.std.specs.Str.{bytes_eq}
 use Rattle.std.proofs.lemmas.Bool.{cases_Bool, false≢true, and_parts}
@@ -11,7 +11,6 @@ use Rattle.fast_template.specs.declared.extents.Extent.{Extent}
 use Rattle.fast_template.specs.AsWritten.{Declared, scalar, by_parts, group, sequence, reference, DeclaredList, no_more, more, DeclaredTemplate, references, all_references}
 use Rattle.fast_template.specs.Places.{place_of_name}
 use Rattle.fast_template.specs.References.{KnowsReferences}
-use Rattle.fast_template.specs.Refused.{Reaches}
 use Rattle.fast_template.specs.Chains.{Fits, instruction_nodes, nodes_by, instruction_depth, depth_by, fields_named, nodes_in, depth_in}
 use Rattle.fast_template.specs.Extents.{capped, nothing, single, beside, around, if_known, extent_at, named_extent, and_then, extent_in, extent_by, or_extent, next_extents, IsExtent, LeadsOn, AreExtents}
 use Rattle.fast_template.proofs.PlaceLists.{placed}

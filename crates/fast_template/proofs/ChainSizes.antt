@@ -1,12 +1,11 @@
 -- Nodes and depth of chains of references, by those of what each reference names.
-use Rattle.std.proofs.Common.{◌≡◌, ◌≢◌, ℕ, zero, suc, ◌+◌, ◌<◌, List, [], ◌∷◌, ◌++◌, refl, ap, sym, ◌∙◌, arith, slice_get, length, Some, Bool, true, false, inl, inr}
-use Rattle.std.specs.Prelude.{max, AllPairs, Contains}
+use Rattle.std.proofs.Common.{◌≡◌, ◌≢◌, ℕ, zero, suc, List, [], ◌∷◌, refl, ap, sym, ◌∙◌, arith, slice_get, Some, true, inl, inr}
+use Rattle.std.specs.Prelude.{AllPairs}
 use Rattle.std.specs.Str.{bytes_eq}
 use Rattle.std.proofs.lemmas.Bool.{cases_Bool}
 use Rattle.std.proofs.lemmas.Option.{slice_get_within, get_or_from_slice_get}
-use Rattle.std.proofs.lemmas.List.Elements.{Contains-append_left, Contains-append_right}
-use Rattle.fast_template.specs.AsWritten.{Declared, scalar, by_parts, group, sequence, reference, DeclaredList, no_more, more, DeclaredTemplate, references, all_references}
-use Rattle.fast_template.specs.Chains.{Fits, instruction_nodes, nodes_by, instruction_depth, depth_by, fields_named, nodes_in, depth_in}
+use Rattle.fast_template.specs.AsWritten.{DeclaredList, DeclaredTemplate}
+use Rattle.fast_template.specs.Chains.{nodes_by, depth_by, fields_named, nodes_in, depth_in}
 use Rattle.fast_template.proofs.ReadingPieces.{same_text, text_same}
 
 -- the nodes and the depth of what a reference names, in a chain of no more than so many

@@ -1,12 +1,12 @@
 -- A body in place exists for instructions that fit, where references are known and uses of operators are sound.
-use Rattle.std.proofs.Common.{◌≡◌, ◌≢◌, ℕ, zero, suc, ◌+◌, ◌<◌, List, [], ◌∷◌, ◌++◌, refl, ap, sym, ◌∙◌, subst, arith, map, slice_get, get_or, length, Option, Some, None, Bool, true, false, ◌⊎◌, inl, inr, codes}
-use Rattle.std.specs.Prelude.{max, All, AllPairs, Contains, IsSome, if◌then◌else◌, unwrap_or, sum_by}
+use Rattle.std.proofs.Common.{◌≡◌, ◌≢◌, ℕ, zero, suc, ◌+◌, List, [], ◌∷◌, refl, ap, sym, ◌∙◌, subst, arith, slice_get, length, Option, Some, None, false, inl, inr, codes}
+use Rattle.std.specs.Prelude.{All, Contains, IsSome, if◌then◌else◌, unwrap_or}
 use Rattle.std.specs.Str.{bytes_eq}
 use Rattle.std.proofs.lemmas.Bool.{cases_Bool, false≢true}
 use Rattle.std.proofs.lemmas.Option.{slice_get_within, slice_get-get_or, get_or_from_slice_get}
 use Rattle.std.proofs.lemmas.List.Elements.{All-contains, Contains-append_left, Contains-append_right}
-use Rattle.fast_template.specs.AsWritten.{Declared, scalar, by_parts, group, sequence, reference, DeclaredList, no_more, more, DeclaredTemplate, Part, whole, Use, scalar_use, exponent_use, mantissa_use, length_use, uses, all_uses, references, all_references}
-use Rattle.fast_template.specs.Entries.{Place, global, of_template, named, Entry, Scope, IsPlace, IsUnderKey, IsEntry, keeps_value, EntryNumber, scope_of, in_scope, uses_from}
+use Rattle.fast_template.specs.AsWritten.{Declared, scalar, by_parts, group, sequence, reference, DeclaredList, no_more, more, DeclaredTemplate, whole, Use, scalar_use, exponent_use, mantissa_use, length_use, uses, all_uses, references, all_references}
+use Rattle.fast_template.specs.Entries.{Place, global, of_template, named, Entry, Scope, IsPlace, IsUnderKey, IsEntry, keeps_value, scope_of, in_scope, uses_from}
 use Rattle.fast_template.specs.Tree.{FieldData, Body, end}
 use Rattle.fast_template.specs.Uses.{IsField}
 use Rattle.fast_template.specs.Sound.{IsSound}
@@ -16,7 +16,6 @@ use Rattle.fast_template.specs.InPlace.{InPlace, nothing, a_field, some_parts, a
 use Rattle.fast_template.specs.Chains.{Fits}
 use Rattle.fast_template.proofs.PlaceLists.{placed}
 use Rattle.fast_template.proofs.ReadingPieces.{same_text, text_same}
-use Rattle.std.proofs.lemmas.Option.{slice_get-map}
 
 -- ---- an entry for each use
 

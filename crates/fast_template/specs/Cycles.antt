@@ -1,5 +1,5 @@
 -- References between templates by their numbers.
-use Rattle.std.specs.Prelude.{◌≡◌, ℕ, zero, suc, ◌<◌, List, map, length, Contains, slice_get, Vec, Option, Some}
+use Rattle.std.specs.Prelude.{◌≡◌, ℕ, zero, suc, ◌<◌, List, length, Contains, slice_get, Vec, Option, Some}
 use Rattle.std.specs.Global.{Global}
 use Rattle.std.specs.List.{filter_map}
 use Rattle.fast_template.specs.AsWritten.{DeclaredTemplate, all_references}

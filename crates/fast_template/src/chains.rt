@@ -195,7 +195,7 @@ mod tests {
     use crate::passes::read_set;
     use std::alloc::{AllocError, Global};
 
-    /// The code of a set whose templates have these names and fields, and the template at which it stands.
+    /// The code of a text, and the template at which it stands; nothing where no pass finds a fault.
     fn fault_of(alloc: Global, text: &str) -> Option<(StaticCode, Option<u32>)> {
         let fault = match read_set(alloc, text) {
             Ok(set) => check_chains(alloc, &set).err(),
@@ -204,16 +204,16 @@ mod tests {
         fault.map(|fault| (fault.code, fault.template))
     }
 
-    /// A field, and references to these templates.
-    fn text_of(alloc: Global, templates: &[(&str, &[&str])]) -> Result<String, AllocError> {
+    /// Templates that refer to these.
+    fn references(alloc: Global, templates: &[(&str, &[&str])]) -> Result<String, AllocError> {
         let mut text = String::new(alloc);
-        for (name, references) in templates {
-            text.push_str("[[template]]\nname = '")?;
+        for (name, targets) in templates {
+            text.push_str("[[template]]\nname='")?;
             text.push_str(name)?;
-            text.push_str("'\nfields = [{kind='uInt32', name='x'}")?;
-            for reference in *references {
+            text.push_str("'\nfields=[{kind='uInt32', name='x'}")?;
+            for target in *targets {
                 text.push_str(", {kind='ref', name='")?;
-                text.push_str(reference)?;
+                text.push_str(target)?;
                 text.push_str("'}")?;
             }
             text.push_str("]\n")?;
@@ -221,22 +221,144 @@ mod tests {
         Ok(text)
     }
 
+    /// Templates of one letter and a number, of which the first has a field and each other refers so many times to the
+    /// one before, all of them within these brackets.
+    fn chain(
+        alloc: Global,
+        letter: &str,
+        count: u32,
+        times: u32,
+        (open, close): (&str, &str),
+    ) -> Result<String, AllocError> {
+        let mut text = format!(in alloc;
+            "[[template]]\nname='{letter}0'\nfields=[{open}{{kind='uInt32', name='x'}}{close}]\n"
+        )?;
+        for k in 1..count {
+            let head = format!(in alloc; "[[template]]\nname='{letter}{k}'\nfields=[")?;
+            text.push_str(head.as_str())?;
+            let before = k - 1;
+            let field = format!(in alloc;
+                "{open}{{kind='ref', name='{letter}{before}'}}{close}, "
+            )?;
+            for _ in 0..times {
+                text.push_str(field.as_str())?;
+            }
+            text.push_str("]\n")?;
+        }
+        Ok(text)
+    }
+
+    const PLAIN: (&str, &str) = ("", "");
+
+    const GROUPS: (&str, &str) = ("{kind='group', name='g', fields=[", "]}");
+
+    const SEQUENCES: (&str, &str) = ("{kind='sequence', name='s', fields=[", "]}");
+
     #[test]
-    fn circles_of_references(rt: HostRuntime) {
-        let cases: [(&[(&str, &[&str])], Option<u32>); 8] = [
+    fn cycles_of_references(rt: HostRuntime) {
+        let cases: [(&[(&str, &[&str])], Option<u32>); 9] = [
             (&[("A", &["A"])], Some(0)),
+            (&[("A", &[]), ("B", &["A"]), ("C", &["B", "C"])], Some(2)),
             (&[("A", &["B"]), ("B", &["A"])], Some(0)),
             (&[("A", &["B"]), ("B", &["B"])], Some(1)),
             (&[("A", &["C"]), ("B", &["C"]), ("C", &["B"])], Some(1)),
-            (&[("A", &["D"]), ("B", &[]), ("C", &["A", "B"]), ("D", &["E"]), ("E", &["B", "D"])], Some(3)),
-            (&[("A", &["D", "C"]), ("B", &["D"]), ("C", &["B"]), ("D", &["C"])], Some(1)),
-            (&[("A", &["E"]), ("B", &["E", "A"]), ("C", &["E"]), ("D", &["C", "B"]), ("E", &["D"])], Some(0)),
+            (
+                &[
+                    ("A", &["D"]),
+                    ("B", &[]),
+                    ("C", &["A", "B"]),
+                    ("D", &["E"]),
+                    ("E", &["B", "D"]),
+                ],
+                Some(3),
+            ),
+            (
+                &[
+                    ("A", &["D", "C"]),
+                    ("B", &["D"]),
+                    ("C", &["B"]),
+                    ("D", &["C"]),
+                ],
+                Some(1),
+            ),
+            (
+                &[
+                    ("A", &["E"]),
+                    ("B", &["E", "A"]),
+                    ("C", &["B"]),
+                    ("D", &["C"]),
+                    ("E", &["C", "D"]),
+                ],
+                Some(0),
+            ),
             (&[("A", &["B", "B", "C"]), ("B", &["C"]), ("C", &[])], None),
         ];
         for (templates, template) in cases {
-            let text = text_of(rt.alloc(), templates).expect(&rt, "memory");
+            let text = references(rt.alloc(), templates).expect(&rt, "memory");
             let want = template.map(|k| (StaticCode::C3, Some(k)));
             assert_eq!(rt; fault_of(rt.alloc(), text.as_str()), want, "{text}");
+        }
+    }
+
+    #[test]
+    fn references_in_groups_and_sequences(rt: HostRuntime) {
+        for (open, close) in [GROUPS, SEQUENCES] {
+            let text = format!(in rt.alloc();
+                "[[template]]\nname='A'\nfields=[{open}{open}{{kind='ref', name='A'}}{close}{close}]"
+            ).expect(&rt, "memory");
+            let want = Some((StaticCode::C3, Some(0)));
+            assert_eq!(rt; fault_of(rt.alloc(), text.as_str()), want);
+        }
+    }
+
+    #[test]
+    fn the_longest_chain(rt: HostRuntime) {
+        for (count, want) in [(65, None), (66, Some((StaticCode::C4, Some(65))))] {
+            let text = chain(rt.alloc(), "B", count, 1, PLAIN).expect(&rt, "memory");
+            assert_eq!(rt; fault_of(rt.alloc(), text.as_str()), want);
+        }
+    }
+
+    #[test]
+    fn the_deepest_nesting(rt: HostRuntime) {
+        for brackets in [GROUPS, SEQUENCES] {
+            for (count, want) in [(64, None), (65, Some((StaticCode::C4, Some(65))))] {
+                let mut text = references(rt.alloc(), &[("A", &[])]).expect(&rt, "memory");
+                let chain = chain(rt.alloc(), "G", count, 1, brackets).expect(&rt, "memory");
+                text.push_str(chain.as_str()).expect(&rt, "memory");
+                assert_eq!(rt; fault_of(rt.alloc(), text.as_str()), want);
+            }
+        }
+    }
+
+    #[test]
+    fn the_most_nodes(rt: HostRuntime) {
+        let doubled = chain(rt.alloc(), "A", 41, 2, PLAIN).expect(&rt, "memory");
+        let want = Some((StaticCode::C6, Some(16)));
+        assert_eq!(rt; fault_of(rt.alloc(), doubled.as_str()), want);
+        // 65,535 nodes, and two more.
+        let mut text = chain(rt.alloc(), "A", 16, 2, PLAIN).expect(&rt, "memory");
+        for (name, want) in [("Y", None), ("Z", Some((StaticCode::C6, Some(17))))] {
+            let one = references(rt.alloc(), &[(name, &[])]).expect(&rt, "memory");
+            text.push_str(one.as_str()).expect(&rt, "memory");
+            assert_eq!(rt; fault_of(rt.alloc(), text.as_str()), want);
+        }
+    }
+
+    #[test]
+    fn cycles_before_chains_before_nodes(rt: HostRuntime) {
+        let cycle = references(rt.alloc(), &[("C", &["C"])]).expect(&rt, "memory");
+        let long = chain(rt.alloc(), "B", 66, 1, PLAIN).expect(&rt, "memory");
+        let many = chain(rt.alloc(), "A", 17, 2, PLAIN).expect(&rt, "memory");
+        let cases = [
+            (&long, &cycle, (StaticCode::C3, Some(66))),
+            (&many, &cycle, (StaticCode::C3, Some(17))),
+            (&many, &long, (StaticCode::C4, Some(82))),
+            (&long, &many, (StaticCode::C4, Some(65))),
+        ];
+        for (first, second, want) in cases {
+            let text = format!(in rt.alloc(); "{first}{second}").expect(&rt, "memory");
+            assert_eq!(rt; fault_of(rt.alloc(), text.as_str()), Some(want));
         }
     }
 }

@@ -10,8 +10,8 @@ ghost use Rattle.fast_template.specs.Refused.{StandsAt};
 ghost use Rattle.fast_template.specs.References.{references_in};
 ghost use Rattle.fast_template.specs.WrittenSets.{instruction_data, written_data};
 
-use crate::circles::first_in_circle;
 use crate::codes::StaticCode;
+use crate::components::first_in_cycle;
 use crate::written::{WrittenInstruction, WrittenTemplate};
 use std::alloc::{AllocError, Global};
 use std::collections::HashMap;
@@ -133,9 +133,10 @@ pub(crate) fn first_cyclic(
     ensures { IfOk result (λ o. IfSome o (λ k. (k < 2 ^ 32) × StandsAt (map written_data templates.now) StaticCode.C3 k)) }
 {
     let graph = graph_of(alloc, names, templates)?;
-    let Some(first) = first_in_circle(alloc, &graph)? else {
+    let Some(first) = first_in_cycle(alloc, &graph)? else {
         return Ok(None);
     };
+    // The walk proposes the template, and the search shows that it refers to itself.
     if first < graph.len() && is_cyclic(alloc, &graph, first)? {
         return Ok(Some(first));
     }

@@ -1,7 +1,6 @@
 use Rattle.std.proofs.Common.{◌≡◌, ◌<◌, ◌≤◌, ℕ, suc, map, length, take, subst, Some}
 use Rattle.std.specs.Prelude.{All, sum_by}
 use Rattle.std.proofs.lemmas.Result.{on_ok_weaker, IfErr-weaker, err_from_is_err_and}
-use Rattle.fast_template.specs.declared.codes.StaticFault.{StaticFault}
 use Rattle.fast_template.specs.declared.codes.StaticCode.TheVariants.{C4, C6}
 use Rattle.fast_template.specs.Extents.{known_nodes, AreExtents, IsShallow, IsDeepAt}
 use Rattle.fast_template.specs.Faults.{IsFaultAt}
@@ -55,6 +54,6 @@ returns-clause-fault c =
     (λ fault. (k : ℕ) × (fault.code ≡ C6) × (fault.template ≡ Some k) × (k < length c.deref-4.result.now) × (node_limit < sum_by known_nodes (take (suc k) c.deref-4.result.now)))
     (λ fault. IsFaultAt ts fault.code fault.template)
     (λ fault many.
-        many_fault ts es c.requires.apart c.requires.known c.requires.sound found shallow fault
-        (subst (λ xs. (k : ℕ) × (fault.code ≡ C6) × (fault.template ≡ Some k) × (k < length xs) × (node_limit < sum_by known_nodes (take (suc k) xs))) c.deref-4.ensures.value many))
+    many_fault ts es c.requires.apart c.requires.known c.requires.sound found shallow fault
+    (subst (λ xs. (k : ℕ) × (fault.code ≡ C6) × (fault.template ≡ Some k) × (k < length xs) × (node_limit < sum_by known_nodes (take (suc k) xs))) c.deref-4.ensures.value many))
     c.check_nodes.ensures.fault

@@ -1,4 +1,4 @@
-use Rattle.std.proofs.Common.{◌≡◌, None, sym}
+use Rattle.std.proofs.Common.{None}
 use Rattle.std.proofs.lemmas.List.Elements.{All-more}
 use Rattle.fast_template.specs.Extents.{IsShallow}
 use Rattle.fast_template.proofs.Lists.{all_taken}

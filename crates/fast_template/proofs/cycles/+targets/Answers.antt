@@ -1,4 +1,4 @@
-use Rattle.std.proofs.Common.{◌≡◌, ◌++◌, ◌∷◌, [], ◌∙◌, sym, ap, string_bytes, append_assoc, append-nil, drop, ◌+◌, Some, None}
+use Rattle.std.proofs.Common.{◌≡◌, ◌++◌, ◌∙◌, sym, ap, string_bytes, append_assoc, append-nil, drop, ◌+◌, Some, None}
 use Rattle.std.specs.List.{filter_map}
 use Rattle.std.specs.HashMap.{get_by_text}
 use Rattle.fast_template.specs.AsWritten.{references}

@@ -1,10 +1,15 @@
-use Rattle.std.proofs.Common.{◌≡◌, ◌<◌, map, length, sym, ◌∙◌, ap, subst, arith, refl}
+use Rattle.std.proofs.Common.{map, length, sym, ◌∙◌, ap, subst, arith}
 use Rattle.std.specs.HashMap.{get_by_text}
 use Rattle.std.proofs.lemmas.List.{length-map}
 use Rattle.fast_template.specs.Cycles.{AreWithin, IsCyclic}
 use Rattle.fast_template.specs.WrittenSets.{written_data}
 use Rattle.fast_template.proofs.CycleLaws.{all_within, long_as, cycle_at}
 use Rattle.fast_template.proofs.cycles.first_cyclic.Goals as goal
+
+pub first_in_cycle-requires : goal.first_in_cycle-requires
+first_in_cycle-requires c =
+    let within = all_within (map written_data c.args.templates.now) (get_by_text c.args.names.now) c.in_ok-graph.graph.items c.requires.index c.in_ok-graph.ensures in
+    subst AreWithin (sym c.deref.ensures.value) within
 
 pub is_cyclic-requires-clause-within : goal.is_cyclic-requires-clause-within
 is_cyclic-requires-clause-within c =

@@ -1,8 +1,8 @@
-use Rattle.std.proofs.Common.{◌≡◌, ◌<◌, ◌++◌, ◌∷◌, [], ℕ, length, get_or, sym, ◌∙◌, subst, arith, true}
+use Rattle.std.proofs.Common.{get_or, sym, ◌∙◌, subst, arith, true}
 use Rattle.std.specs.Prelude.{All}
 use Rattle.std.proofs.lemmas.List.{length-set}
 use Rattle.std.proofs.lemmas.List.Elements.{All-push}
-use Rattle.fast_template.specs.Cycles.{Refers, IsReached}
+use Rattle.fast_template.specs.Cycles.{IsReached}
 use Rattle.fast_template.proofs.CycleLaws.{refers_here, reached_next, cyclic_here}
 use Rattle.fast_template.proofs.cycles.follow.Goals as goal
 
