@@ -167,7 +167,7 @@ module _ {ts : List DeclaredTemplate} {entries : List Entry} {chain : ℕ} {s : 
 -- ---- templates
 
 -- what holds of all uses holds of those of one template
-uses_of_template : (P : Scope → Use → Type 0) (n k : ℕ) (ts : List DeclaredTemplate) (t : DeclaredTemplate) → All (λ p. P p.0 p.1) (uses_from n ts) → slice_get ts k ≡ Some t
+pub uses_of_template : (P : Scope → Use → Type 0) (n k : ℕ) (ts : List DeclaredTemplate) (t : DeclaredTemplate) → All (λ p. P p.0 p.1) (uses_from n ts) → slice_get ts k ≡ Some t
     → All (P (scope_of (n + k) t)) (all_uses t.fields)
 uses_of_template P n k [] t h found = absurd (cc)
 uses_of_template P n zero (u ∷ ts) t h found =

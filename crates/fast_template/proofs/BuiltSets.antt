@@ -69,7 +69,7 @@ are_built_more all entries ts t k old new os body long a b =
     }
 
 -- the nodes of templates in place
-set_nodes : (all : List DeclaredTemplate) (entries : List Entry) (k : ℕ) (ts : List DeclaredTemplate) (n m : ℕ) (us : List TemplateData) → AllPairs (λ a b. a.name ≢ b.name) all
+pub set_nodes : (all : List DeclaredTemplate) (entries : List Entry) (k : ℕ) (ts : List DeclaredTemplate) (n m : ℕ) (us : List TemplateData) → AllPairs (λ a b. a.name ≢ b.name) all
     → AreInPlace all entries k ts n us m → m ≡ n + sum_by (λ t. nodes_in all nesting_limit t.fields) ts
 set_nodes all entries k [] n m [] apart h = omega (arith, h)
 set_nodes all entries k [] n m (u ∷ us) apart h = absurd h

@@ -37,3 +37,4 @@ pub mod BuiltTrees
 pub mod BuiltSets
 pub mod ReadLaws
 pub mod Headings
+pub mod NoTrees

@@ -1,6 +1,6 @@
 //! From the text of a template set to the set.
 
-ghost use Rattle.std.specs.Prelude.{◌≡◌, ◌<◌, ◌^◌, length, map, Some, IfOk, IfErr, OnOk};
+ghost use Rattle.std.specs.Prelude.{◌≡◌, ◌≢◌, ◌<◌, ◌^◌, length, map, Some, IfOk, IfErr, OnOk};
 ghost use Rattle.std.specs.HashMap.{get_by_text};
 ghost use Rattle.toml.specs.Data.{Members};
 ghost use Rattle.toml.specs.Parse.{parse_document};
@@ -8,6 +8,7 @@ ghost use Rattle.fast_template.specs.Checked.{IsTree};
 ghost use Rattle.fast_template.specs.FivePasses.{IsAtFault};
 ghost use Rattle.fast_template.specs.Flat.{tree_of};
 ghost use Rattle.fast_template.specs.ReadSets.{IsChecked, IsSetBuilt};
+ghost use Rattle.fast_template.specs.Tree.{Tree};
 ghost use Rattle.fast_template.specs.WrittenSets.{written_data};
 
 use crate::building::{Builder, BuiltSet};
@@ -43,6 +44,7 @@ impl Templates {
     pub fn read(alloc: Global, text: &str) -> Result<Templates, StaticFault>
         ensures read { IfOk result (λ t. (document : Members) × (parse_document text.now ≡ Some document) × IsTree document (tree_of t)) }
         ensures fault { IfErr result (λ e. IsAtFault (parse_document text.now) e.code e.template) }
+        ensures none { IfErr result (λ e. e.code ≢ StaticCode.Memory → (document : Members) (t : Tree) → parse_document text.now ≡ Some document → ¬ (IsTree document t)) }
     {
         let set = read_set(alloc, text)?;
         check_chains(alloc, &set)?;

@@ -8,6 +8,10 @@ use Rattle.fast_template.specs.WrittenSets.{written_data}
 use Rattle.fast_template.proofs.BuiltSets.{built_in_preorder, built_names_nodes, built_names_later_nodes, built_distinct_ids, built_few_nodes, built_count}
 use Rattle.fast_template.specs.NodeData.{node_data}
 use Rattle.fast_template.proofs.Headings.{same_names, same_ids, built_headings}
+use Rattle.std.proofs.lemmas.Result.{err_from_is_err_and}
+use Rattle.toml.specs.Parse.{parse_document}
+use Rattle.fast_template.specs.declared.codes.StaticCode.TheVariants.{C5}
+use Rattle.fast_template.proofs.NoTrees.{no_tree}
 use Rattle.fast_template.proofs.ReadLaws.{tree_read, wide_stands}
 use Rattle.fast_template.proofs.sets.Templates.read.Goals as goal
 
@@ -62,3 +66,26 @@ returns-clause-read c =
       w.reads,
       tree_read w.document ts c.in-Ok.built c.in-Ok.ensures w.names w.ids w.shape w.sound c.in_ok-check_chains.ensures.shallow c.in_ok-check_chains.ensures.few_nodes narrow,
     )
+
+pub returns-in_err-set-clause-none : goal.returns-in_err-set-clause-none
+returns-in_err-set-clause-none c =
+    let r = err_from_is_err_and c.from_residual.result c.from_residual.ensures.1 in
+    let e = c.in_err-set.field-0.0 in
+    rw (r.1, r.2) (λ other document t is h. no_tree (parse_document c.args.text.now) e.code e.template c.in_err-set.ensures.fault other document t is h)
+
+pub returns-in_err-check_chains-clause-none : goal.returns-in_err-check_chains-clause-none
+returns-in_err-check_chains-clause-none c =
+    let w = c.in_ok-set.ensures.set in
+    let r = err_from_is_err_and c.from_residual-in_err-check_chains.result c.from_residual-in_err-check_chains.ensures.1 in
+    let e = c.in_err-check_chains.field-0.0 in
+    let ts = map written_data c.in_ok-set.set.templates.items in
+    let fault = inr (record { document = w.document; written = ts; reads = w.reads; shape = w.shape; stands = c.in_err-check_chains.ensures.fault }) in
+    rw (r.1, r.2) (λ other document t is h. no_tree (parse_document c.args.text.now) e.code e.template fault other document t is h)
+
+pub returns-in-Err-clause-none : goal.returns-in-Err-clause-none
+returns-in-Err-clause-none c other document t is h =
+    let w = c.in_ok-set.ensures.set in
+    let ts = map written_data c.in_ok-set.set.templates.items in
+    let f = rw (c.deref.ensures.value, c.deref-2.ensures.value) at c.in-Err.ensures.wide in
+    let fault = inr (record { document = w.document; written = ts; reads = w.reads; shape = w.shape; stands = wide_stands ts c.in-Ok.built c.in-Err.template f.0 c.in-Ok.ensures f.1 f.2 }) in
+    no_tree (parse_document c.args.text.now) C5 (Some c.in-Err.template) fault other document t is h
