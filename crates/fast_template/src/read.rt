@@ -74,6 +74,8 @@ impl Templates {
 mod tests {
     use super::*;
     use crate::instructions::{FieldInstruction, Shape};
+    use crate::operators::Operator;
+    use fast_value::Value;
     use std::test::Fail;
 
     /// A set with an operator of each kind, of 19 templates.
@@ -232,6 +234,18 @@ fields = [{kind="ascii", name="r", optional=true}]
         if 14 < set.count() {
             assert_eq!(rt; set.template(14).body.as_slice(), [15, 16, 18].as_slice());
         }
+        if 2 < set.nodes() {
+            assert!(rt;
+                matches!(
+                    &set.node(2).shape,
+                    Shape::Field(FieldInstruction {
+                        operator: Operator::Constant,
+                        initial: Some(Value::U(7)),
+                        ..
+                    })
+                )
+            );
+        }
         if 8 < set.count() {
             assert!(rt; set.template(8).reset);
             assert!(rt; set.template(8).body.is_empty());
@@ -320,6 +334,11 @@ fields = [{kind="ascii", name="r", optional=true}]
                 (StaticCode::C3, Some(1)),
             ),
             ("[[template]]\nname = 'A'", (StaticCode::C1, Some(1))),
+            // too many bits, and 65 times as many nodes
+            (
+                "[[template]]\nname = 'B'\nfields = [{kind='ref', name='C'}, {kind='ref', name='C'}, {kind='ref', name='C'}, {kind='ref', name='C'}]\n[[template]]\nname = 'C'\nfields = [{kind='ref', name='D'}, {kind='ref', name='D'}, {kind='ref', name='D'}, {kind='ref', name='D'}]\n[[template]]\nname = 'D'\nfields = [{kind='ref', name='A'}, {kind='ref', name='A'}, {kind='ref', name='A'}, {kind='ref', name='A'}]",
+                (StaticCode::C6, Some(1)),
+            ),
         ];
         for (rest, want) in cases {
             let text = copying(rt.alloc(), 1022, rest)?;
