@@ -1,15 +1,15 @@
 -- What building needs, of the parts of instructions for which it has it.
-use Rattle.std.proofs.Common.{◌≡◌, ◌≢◌, ℕ, ◌+◌, ◌*◌, ◌-◌, ◌<◌, ◌≤◌, zero, suc, Bool, true, List, [], ◌∷◌, ◌++◌, length, map, take, get_or, slice_get, refl, ap, sym, ◌∙◌, subst, arith, Option, Some, None, append-nil, length-append}
+use Rattle.std.proofs.Common.{◌≡◌, ◌≢◌, ℕ, ◌+◌, ◌*◌, ◌-◌, ◌<◌, ◌≤◌, zero, suc, Bool, List, [], ◌∷◌, ◌++◌, length, take, get_or, slice_get, refl, ap, sym, ◌∙◌, subst, arith, Option, Some, append-nil, length-append}
 use Rattle.std.specs.Prelude.{All, AllPairs, Contains, IsSome, sum_by}
 use Rattle.std.proofs.Math.Nat.{suc-mul}
 use Rattle.std.proofs.lemmas.List.Sums.{sum_by-cons}
 use Rattle.std.proofs.lemmas.List.{get_or_append_left, get_or-append-add}
-use Rattle.std.proofs.lemmas.List.Elements.{Contains-append_left, Contains-append_right, All-get_or, All-append}
+use Rattle.std.proofs.lemmas.List.Elements.{Contains-append_left, Contains-append_right, All-get_or}
 use Rattle.std.proofs.lemmas.Option.{slice_get_within, get_or_from_slice_get}
 use Rattle.fast_template.specs.declared.written.WrittenInstruction.{WrittenInstruction}
 use Rattle.fast_template.specs.AsWritten.{Written, Declared, scalar, by_parts, group, sequence, reference, DeclaredList, no_more, more, DeclaredTemplate, Use, scalar_use, exponent_use, mantissa_use, length_use, uses, all_uses, references, all_references}
 use Rattle.fast_template.specs.Built.{IsReady, IsIndexed, CanBuild, IsBuilt}
-use Rattle.fast_template.specs.Chains.{Fits, instruction_nodes, nodes_by, nodes_in}
+use Rattle.fast_template.specs.Chains.{Fits, nodes_by, nodes_in}
 use Rattle.fast_template.specs.Entries.{Entry, Scope, scope_of, in_scope, uses_from}
 use Rattle.fast_template.specs.EntryKeys.{HasEntry}
 use Rattle.fast_template.specs.NodeData.{NodeData}

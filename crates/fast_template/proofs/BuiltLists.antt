@@ -1,31 +1,20 @@
 -- Nodes that are built, one instruction after the other.
-use Rattle.std.proofs.Common.{◌≡◌, ◌≢◌, ℕ, ◌+◌, ◌*◌, ◌<◌, ◌≤◌, zero, suc, Bool, false, List, [], ◌∷◌, ◌++◌, length, map, take, drop, get_or, slice_get, slice_set, refl, ap, sym, ◌∙◌, subst, arith, Option, Some, None, append_assoc, append-nil, length-append, Vec, Global}
+use Rattle.std.proofs.Common.{◌≡◌, ℕ, ◌+◌, ◌<◌, zero, suc, Bool, List, [], ◌∷◌, ◌++◌, length, map, take, get_or, slice_get, slice_set, refl, ap, sym, ◌∙◌, subst, arith, Option, Some, append_assoc, append-nil, length-append, Vec, Global}
 use Rattle.std.specs.Vec.{with_items}
 use Rattle.std.proofs.lemmas.List.{with_items_is}
-use Rattle.std.specs.Prelude.{All, AllPairs, Contains, IsSome, sum_by}
-use Rattle.std.proofs.lemmas.List.{get_or_append_left, get_or-append-add, take_more, map-append, length-map}
-use Rattle.std.proofs.lemmas.List.Elements.{Contains-append_left, Contains-append_right, All-get_or}
-use Rattle.std.proofs.lemmas.Option.{slice_get_within, get_or_from_slice_get}
+use Rattle.std.proofs.lemmas.List.{take_more, map-append, length-map}
 use Rattle.fast_template.specs.declared.instructions.Node.{Node}
 use Rattle.fast_template.specs.declared.instructions.Shape.{Shape}
 use Rattle.fast_template.specs.declared.written.WrittenInstruction.{WrittenInstruction}
-use Rattle.fast_template.specs.AsWritten.{Written, Declared, scalar, by_parts, group as group_declared, sequence as sequence_declared, reference, DeclaredList, no_more, more, DeclaredTemplate, Use, scalar_use, exponent_use, mantissa_use, length_use, uses, all_uses, references, all_references}
+use Rattle.fast_template.specs.AsWritten.{Written, Declared, scalar, by_parts, group as group_declared, sequence as sequence_declared, reference, DeclaredList, no_more, more, DeclaredTemplate, scalar_use, exponent_use, mantissa_use, length_use}
 use Rattle.fast_value.specs.declared.kinds.Kind.{Kind}
-use Rattle.fast_template.specs.Built.{own_number, top_numbers, spread, spread_all, with_shape, data_of, IsReady, IsIndexed, CanBuild, IsBuilt}
-use Rattle.fast_template.specs.Chains.{Fits, instruction_nodes, nodes_by, nodes_in}
-use Rattle.fast_template.specs.Entries.{Entry, Scope, scope_of, in_scope, uses_from}
-use Rattle.fast_template.specs.EntryKeys.{HasEntry}
+use Rattle.fast_template.specs.Built.{own_number, top_numbers, spread, spread_all, with_shape, data_of, IsBuilt}
+use Rattle.fast_template.specs.Entries.{Entry, Scope, scope_of}
 use Rattle.fast_template.specs.InPlace.{label, ◌then◌, InPlace, nothing, a_field, some_parts, a_group, a_sequence, a_reference}
 use Rattle.fast_template.specs.NodeData.{ShapeData, a_field as a_field_data, a_decimal, a_group as a_group_data, a_sequence as a_sequence_data, NodeData, node_data, shape_data}
-use Rattle.fast_template.specs.Places.{place_of_name}
-use Rattle.fast_template.specs.Sizes.{node_limit}
-use Rattle.fast_template.specs.Sound.{IsSound}
 use Rattle.fast_template.specs.Tree.{FieldData, field, parts, group, sequence, Body, end, step}
 use Rattle.fast_template.specs.Uses.{IsField}
 use Rattle.fast_template.specs.WrittenSets.{list_of, instruction_data, fields_data}
-use Rattle.fast_template.proofs.ChainSizes.{nodes_named, nodes_in-by, nodes_named-suc, fields_of_name}
-use Rattle.fast_template.proofs.EntryLists.{collected_has}
-use Rattle.fast_template.proofs.InPlaceSizes.{in_place-nodes}
 
 -- ---- shapes
 

@@ -1,9 +1,9 @@
 -- Sets that are built: their tree, and the numbers in it.
-use Rattle.std.proofs.Common.{◌≡◌, ◌≢◌, ◌⊎◌, inl, inr, ℕ, ◌+◌, ◌*◌, ◌<◌, ◌≤◌, zero, suc, List, [], ◌∷◌, ◌++◌, length, map, take, get_or, slice_get, refl, ap, sym, ◌∙◌, subst, arith, Option, Some, None, append_assoc, append-nil, length-append, flat_map, add-zero, string_bytes}
-use Rattle.std.specs.Prelude.{All, AllPairs, sum_by, slice_index_or}
+use Rattle.std.proofs.Common.{◌≡◌, ◌≢◌, inl, inr, ℕ, ◌+◌, ◌*◌, ◌<◌, ◌≤◌, zero, suc, List, [], ◌∷◌, ◌++◌, length, map, take, get_or, slice_get, refl, ap, sym, ◌∙◌, subst, arith, Some, append_assoc, append-nil, length-append, flat_map, add-zero}
+use Rattle.std.specs.Prelude.{AllPairs, sum_by}
 use Rattle.std.proofs.lemmas.Bool.{cases_order}
-use Rattle.std.proofs.lemmas.List.{map-append, length-map, get_or_append_left}
-use Rattle.std.proofs.lemmas.List.Sums.{sum_by-cons, sum_by-append}
+use Rattle.std.proofs.lemmas.List.{map-append, length-map}
+use Rattle.std.proofs.lemmas.List.Sums.{sum_by-cons}
 use Rattle.std.proofs.lemmas.Option.{slice_get_within, get_or_from_slice_get}
 use Rattle.fast_template.specs.declared.instructions.Node.{Node}
 use Rattle.fast_template.specs.declared.instructions.Shape.{Shape}
@@ -11,19 +11,19 @@ use Rattle.fast_template.specs.declared.instructions.Shape.TheVariants.{Field, D
 use Rattle.fast_template.specs.declared.instructions.Template.{Template}
 use Rattle.fast_template.specs.AsWritten.{Declared, scalar, by_parts, group, sequence, reference, DeclaredList, no_more, more, DeclaredTemplate, Use, uses, all_uses}
 use Rattle.fast_template.specs.Built.{top_numbers, spread, spread_all, outline_of, IsBuilt, AreBuilt}
-use Rattle.fast_template.specs.Chains.{Fits, instruction_nodes, nodes_by, nodes_in, depth_in}
+use Rattle.fast_template.specs.Chains.{instruction_nodes, nodes_by, nodes_in}
 use Rattle.fast_template.specs.Entries.{Entry, scope_of, in_scope, uses_from}
 use Rattle.fast_template.specs.InPlace.{◌then◌, InPlace, AreInPlace}
-use Rattle.fast_template.specs.Labels.{labels, body_labels, template_labels, labels_from, AreInPreorder}
+use Rattle.fast_template.specs.Labels.{labels, body_labels, template_labels, AreInPreorder}
 use Rattle.fast_template.specs.NodeData.{NodeData, node_data, shape_data, TemplateOutline, outline, instructions_of, template_from}
 use Rattle.fast_template.specs.Nodes.{body_of, instructions_from, template_data}
 use Rattle.fast_template.specs.Numbers.{numbers_of, NameNodes, NameLaterNodes, HaveDistinctIds}
-use Rattle.fast_template.specs.Sizes.{body_depth, nesting_limit, node_limit}
+use Rattle.fast_template.specs.Sizes.{nesting_limit, node_limit}
 use Rattle.fast_template.specs.Tree.{Instruction, Body, end, step, TemplateData}
 use Rattle.fast_template.proofs.BuiltTrees.{after_all, inside, AreNumbered, numbered-then, in_place-numbered, all_inside, long_all, body_among, spread_body, labels_body, named_numbers, tops_between, between_all}
 use Rattle.fast_template.proofs.ChainSizes.{nodes_named, nodes_in-by}
 use Rattle.fast_template.proofs.FlatLabels.{data_labels, same_labels}
-use Rattle.fast_template.proofs.InPlaceSizes.{in_place-nodes, in_place-depth}
+use Rattle.fast_template.proofs.InPlaceSizes.{in_place-nodes}
 use Rattle.fast_template.proofs.Lists.{mapped_get, map_get_back}
 use Rattle.fast_template.proofs.NodeLists.{same_instructions, same_templates}
 

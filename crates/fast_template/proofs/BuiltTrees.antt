@@ -1,14 +1,13 @@
 -- Bodies whose nodes are numbered in preorder: the nodes that they are spread into stand for them.
-use Rattle.std.proofs.Common.{◌≡◌, ◌≢◌, ◌⊎◌, inl, inr, ℕ, ◌+◌, ◌-◌, ◌<◌, ◌≤◌, zero, suc, List, [], ◌∷◌, ◌++◌, length, map, get_or, slice_get, refl, ap, sym, ◌∙◌, subst, arith, Option, Some, None, append_assoc, append-nil, length-append, flat_map, Bool}
+use Rattle.std.proofs.Common.{◌≡◌, ◌⊎◌, inl, inr, ℕ, ◌+◌, ◌-◌, ◌<◌, ◌≤◌, zero, suc, List, [], ◌∷◌, ◌++◌, length, get_or, slice_get, refl, ap, sym, ◌∙◌, subst, arith, Some, append_assoc, length-append}
 use Rattle.std.specs.Prelude.{slice_index_or}
 use Rattle.std.proofs.Math.Seq.{get_or-append_seam}
-use Rattle.std.proofs.lemmas.Bool.{cases_lt}
 use Rattle.fast_template.specs.AsWritten.{DeclaredList, DeclaredTemplate}
 use Rattle.fast_template.specs.Built.{own_number, top_numbers, spread, spread_all}
 use Rattle.fast_template.specs.Entries.{Entry, Scope}
 use Rattle.fast_template.specs.InPlace.{◌then◌, InPlace, nothing, a_field, some_parts, a_group, a_sequence, a_reference}
 use Rattle.fast_template.specs.Labels.{labels, body_labels}
-use Rattle.fast_template.specs.NodeData.{ShapeData, a_field as a_field_data, a_decimal, a_group as a_group_data, a_sequence as a_sequence_data, NodeData, instruction_from, instructions_of}
+use Rattle.fast_template.specs.NodeData.{ShapeData, a_field as a_field_data, a_decimal, a_group as a_group_data, a_sequence as a_sequence_data, NodeData, instructions_of}
 use Rattle.fast_template.specs.Nodes.{body_of, no_instruction}
 use Rattle.fast_template.specs.Tree.{Label, Instruction, field, parts, group, sequence, Body, end, step}
 use Rattle.fast_template.proofs.FlatLabels.{data_labels}

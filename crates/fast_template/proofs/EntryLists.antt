@@ -1,5 +1,5 @@
 -- Entries, each once, in the order of their first uses.
-use Rattle.std.proofs.Common.{rules, ◌≡◌, ◌≢◌, ◌⊎◌, inl, inr, ℕ, ◌+◌, suc, zero, ◌<◌, ◌≤◌, Bool, true, false, not, List, [], ◌∷◌, ◌++◌, length, refl, ap, sym, ◌∙◌, subst, map, take, slice_get, get_or, Option, Some, None, IfSome, IfNone, arith, append_assoc, append-nil, nat_lt, add-zero}
+use Rattle.std.proofs.Common.{rules, ◌≡◌, ◌≢◌, ◌⊎◌, inl, inr, ℕ, ◌+◌, suc, zero, ◌<◌, ◌≤◌, Bool, true, false, List, [], ◌∷◌, ◌++◌, length, refl, ap, sym, ◌∙◌, subst, map, take, slice_get, get_or, Option, Some, None, IfSome, IfNone, arith, append_assoc, append-nil, nat_lt, add-zero}
 use Rattle.std.specs.Prelude.{Contains, All, if◌then◌else◌, is_some, codes, unwrap_or}
 use Rattle.std.specs.Str.{bytes_eq}
 use Rattle.std.specs.List.{list_any, position, position_or_len}

@@ -1,6 +1,6 @@
 -- Templates found by their names and identifiers.
-use Rattle.std.proofs.Common.{◌≡◌, ◌≢◌, ℕ, ◌+◌, ◌<◌, ◌≤◌, zero, suc, Bool, true, false, List, [], ◌∷◌, length, map, slice_get, get_or, refl, ap, sym, ◌∙◌, subst, arith, Option, Some, None, inl, inr, string_bytes}
-use Rattle.std.specs.Prelude.{if◌then◌else◌, All, IfSome, IfNone, nat_eq}
+use Rattle.std.proofs.Common.{◌≡◌, ◌≢◌, ℕ, ◌+◌, ◌<◌, zero, suc, Bool, false, List, [], ◌∷◌, length, map, slice_get, refl, ap, sym, ◌∙◌, subst, arith, Option, Some, None, inl, inr, string_bytes}
+use Rattle.std.specs.Prelude.{if◌then◌else◌, IfSome, IfNone}
 use Rattle.std.specs.Str.{bytes_eq}
 use Rattle.std.proofs.lemmas.Bool.{cases_Bool, false≢true}
 use Rattle.std.proofs.lemmas.Option.{slice_get_within, get_or_from_slice_get}
@@ -9,7 +9,7 @@ use Rattle.fast_template.specs.declared.flat.FlatTemplate.{FlatTemplate}
 use Rattle.fast_template.specs.AsWritten.{DeclaredTemplate}
 use Rattle.fast_template.specs.Built.{outline_of, AreBuilt}
 use Rattle.fast_template.specs.Entries.{Entry}
-use Rattle.fast_template.specs.FlatSets.{flat_outline, flat_outlines, flat_heading}
+use Rattle.fast_template.specs.FlatSets.{flat_outlines, flat_heading}
 use Rattle.fast_template.specs.InPlace.{AreInPlace}
 use Rattle.fast_template.specs.NodeData.{NodeData, TemplateOutline, outline}
 use Rattle.fast_template.specs.Numbers.{number_of_name, number_of_id}

@@ -1,5 +1,5 @@
 -- What each form of an instruction holds.
-use Rattle.std.proofs.Common.{◌≡◌, ℕ, Bool, Option, List, String, Vec, Global, string_bytes, rules, refl}
+use Rattle.std.proofs.Common.{◌≡◌, Bool, Option, String, Vec, Global, string_bytes, rules}
 use Rattle.std.specs.Prelude.{option_map, OnOk, Result, Ok, Err}
 use Rattle.fast_value.specs.declared.kinds.Kind.{Kind}
 use Rattle.fast_template.specs.declared.written.WrittenOperator.{WrittenOperator}

@@ -12,7 +12,7 @@ use Rattle.fast_template.specs.Places.{place_of_name}
 use Rattle.fast_template.specs.References.{KnowsReferences}
 use Rattle.fast_template.specs.Sizes.{node_limit}
 use Rattle.fast_template.specs.Sound.{IsSound}
-use Rattle.fast_template.specs.Tree.{Label, Instruction, field, parts, group, sequence, Body, end, step, TemplateData}
+use Rattle.fast_template.specs.Tree.{Instruction, field, parts, group, sequence, Body, end, step, TemplateData}
 
 -- the number of an instruction's node
 abbrev pub own_number : Instruction → ℕ

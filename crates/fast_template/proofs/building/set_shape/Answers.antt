@@ -1,5 +1,4 @@
 use Rattle.fast_template.proofs.BuiltLists.{with_shape-set}
-use Rattle.fast_template.proofs.BuildingNeeds.{found_reference}
 use Rattle.fast_template.proofs.building.set_shape.Goals as goal
 
 pub returns : goal.returns

@@ -1,22 +1,19 @@
-use Rattle.std.proofs.Common.{◌≡◌, ◌+◌, ◌-◌, ◌*◌, ◌≤◌, ◌<◌, ◌∷◌, [], ◌++◌, suc, refl, map, length, ap, sym, ◌∙◌, subst, arith, string_bytes, vec_len, false, Bool, Option, List, ℕ, slice_get, Some}
+use Rattle.std.proofs.Common.{◌≡◌, ◌+◌, ◌-◌, ◌*◌, [], suc, refl, map, length, ap, sym, ◌∙◌, subst, arith, string_bytes, false, slice_get, Some}
 use Rattle.std.specs.Prelude.{option_map}
-use Rattle.std.specs.HashMap.{get_by_text}
 use Rattle.std.proofs.lemmas.List.{length-map}
 use Rattle.std.proofs.lemmas.Option.{slice_get_within, slice_get_read}
 use Rattle.std.proofs.lemmas.Result.{on_ok_weaker}
 use Rattle.fast_template.proofs.Lists.{mapped_get}
-use Rattle.fast_template.specs.AsWritten.{Declared, DeclaredTemplate, Written, scalar, by_parts, group, sequence, reference, no_more, more, scalar_use, exponent_use, mantissa_use, length_use}
-use Rattle.fast_template.specs.Built.{data_of, with_shape, IsReady, CanBuild, IsBuilt}
-use Rattle.fast_template.specs.Chains.{nodes_by}
-use Rattle.fast_template.specs.Entries.{scope_of}
+use Rattle.fast_template.specs.AsWritten.{DeclaredTemplate, scalar, by_parts, reference, no_more, more, scalar_use, exponent_use, mantissa_use, length_use}
+use Rattle.fast_template.specs.Built.{data_of, IsReady, CanBuild, IsBuilt}
 use Rattle.fast_template.specs.EntryKeys.{scope_data, use_data, entries_of}
-use Rattle.fast_template.specs.NodeData.{NodeData, ShapeData, a_group as a_group_data, a_sequence as a_sequence_data, node_data, shape_data}
+use Rattle.fast_template.specs.NodeData.{a_group as a_group_data, node_data}
 use Rattle.fast_template.specs.Nodes.{field_data}
 use Rattle.fast_template.specs.Uses.{IsField}
 use Rattle.fast_template.specs.WrittenSets.{operator_data, instruction_data, fields_data, written_data}
 use Rattle.fast_template.proofs.BuiltLists.{same_items, built_none, built_more, built_field, built_parts, built_group, built_sequence, built_reference}
 use Rattle.fast_template.proofs.BuildingNeeds.{weight, weight_at, measure, next_smaller, can_build_next, room_for, can_build_group, length_ready, can_build_sequence, scalar_ready, exponent_ready, mantissa_ready, chain_some, can_build_reference, looked_up, some_is}
-use Rattle.fast_template.proofs.InstructionForms.{scalar_form, parts_form, group_form, sequence_form, reference_form, from_both}
+use Rattle.fast_template.proofs.InstructionForms.{scalar_form, parts_form, group_form, sequence_form, from_both}
 use Rattle.fast_template.proofs.building.Builder.+building.Goals as goal
 
 pub build_fields-loop-field-init : goal.build_fields-loop-field-init

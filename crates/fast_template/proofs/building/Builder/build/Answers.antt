@@ -1,17 +1,15 @@
-use Rattle.std.proofs.Common.{◌≡◌, ◌≢◌, ◌+◌, ◌≤◌, ◌∷◌, [], ◌++◌, map, take, length, refl, ap, sym, ◌∙◌, subst, arith, slice_get, Some, get_or}
-use Rattle.std.specs.Prelude.{All}
+use Rattle.std.proofs.Common.{◌≡◌, ◌+◌, ◌≤◌, ◌∷◌, [], ◌++◌, map, take, length, refl, ap, sym, ◌∙◌, subst, arith, slice_get, Some}
 use Rattle.std.proofs.lemmas.List.{map_more, take-map, length-map, length-take-le, map-append}
 use Rattle.std.proofs.lemmas.List.Elements.{All-get_or}
 use Rattle.std.proofs.lemmas.Option.{slice_get_read, slice_get_within, get_or_from_slice_get}
-use Rattle.fast_template.specs.declared.instructions.Template.{Template}
 use Rattle.fast_template.specs.AsWritten.{DeclaredTemplate}
-use Rattle.fast_template.specs.Built.{AreBuilt, IsBuilt, CanBuild, data_of}
+use Rattle.fast_template.specs.Built.{AreBuilt, IsBuilt, data_of}
 use Rattle.fast_template.specs.Chains.{Fits}
 use Rattle.fast_template.specs.Entries.{scope_of}
 use Rattle.fast_template.specs.EntryKeys.{entries_of}
 use Rattle.fast_template.specs.NodeData.{node_data, outline}
 use Rattle.fast_template.specs.Sizes.{nesting_limit}
-use Rattle.fast_template.specs.WrittenSets.{written_data, fields_data}
+use Rattle.fast_template.specs.WrittenSets.{written_data}
 use Rattle.fast_template.proofs.BuildingNeeds.{can_build_template}
 use Rattle.fast_template.proofs.BuiltSets.{are_built_more, room_for_template}
 use Rattle.fast_template.proofs.Lists.{mapped_get}

@@ -1,5 +1,3 @@
-use Rattle.std.proofs.Common.{◌≡◌}
-use Rattle.std.specs.Prelude.{if◌then◌else◌}
 use Rattle.fast_template.proofs.EntryLists.{added}
 use Rattle.fast_template.proofs.entries.Entries.add.Goals as goal
 use Rattle.fast_template.proofs.entries.Entries.add.Goals.{in-Ok, in-Err}

@@ -1,9 +1,5 @@
-use Rattle.std.proofs.Common.{◌≡◌, map, length, subst, sym, ◌∙◌, arith, inr, Some}
-use Rattle.std.specs.Prelude.{All}
-use Rattle.std.proofs.lemmas.List.{length-map}
-use Rattle.fast_template.specs.Nodes.{instructions_from, template_data}
-use Rattle.fast_template.specs.Numbers.{NameNodes, NameLaterNodes}
-use Rattle.fast_template.specs.Segments.{IsNarrow}
+use Rattle.std.proofs.Common.{map, subst, sym, ◌∙◌, arith, inr, Some}
+use Rattle.fast_template.specs.Numbers.{NameLaterNodes}
 use Rattle.fast_template.specs.WrittenSets.{written_data}
 use Rattle.fast_template.proofs.BuiltSets.{built_in_preorder, built_names_nodes, built_names_later_nodes, built_distinct_ids, built_few_nodes, built_count}
 use Rattle.fast_template.specs.NodeData.{node_data}
