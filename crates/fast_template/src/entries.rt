@@ -1,6 +1,6 @@
 //! The dictionary entries of a set, numbered in the order of its text.
 
-ghost use Rattle.std.specs.Prelude.{◌≡◌, ◌⊎◌, ◌++◌, ◌∷◌, [], ℕ, suc, ◌<◌, ◌≤◌, ◌*◌, ◌^◌, true, slice_get, length, map, Contains, Some, None, IfSome, IfNone, IfOk, OnOk};
+ghost use Rattle.std.specs.Prelude.{◌≡◌, ◌⊎◌, ◌++◌, ◌∷◌, [], suc, ◌<◌, ◌≤◌, ◌*◌, ◌^◌, slice_get, length, map, Contains, Some, IfSome, IfNone, IfOk, OnOk};
 ghost use Rattle.fast_template.specs.AsWritten.{uses};
 ghost use Rattle.fast_template.specs.Entries.{IsPlace, IsEntry, EntryNumber, keeps_value, Collects, in_scope, uses_from};
 ghost use Rattle.fast_template.specs.EntryKeys.{scope_data, use_data, place_data, key_data, entries_of, HasEntry};

@@ -1,6 +1,6 @@
 //! What can be asked of a template set. No query takes memory.
 
-ghost use Rattle.std.specs.Prelude.{◌≡◌, ◌≢◌, ◌≤◌, ◌<◌, ℕ, length, slice_get, Some, IfSome, IfNone, IsTrue, ◌↔◌, string_bytes};
+ghost use Rattle.std.specs.Prelude.{◌≡◌, ◌≢◌, ◌≤◌, ◌<◌, ℕ, length, slice_get, Some, IfSome, IfNone, string_bytes};
 ghost use Rattle.fast_template.specs.declared.instructions.Template.{Template};
 ghost use Rattle.fast_template.specs.Flat.{templates_of, nodes_of, tree_of};
 ghost use Rattle.fast_template.specs.Labels.{template_labels, labels_from};
