@@ -39,7 +39,7 @@ then-assoc : (b c d : Body) → (b then c) then d ≡ b then (c then d)
 then-assoc end c d = refl
 then-assoc (step i is) c d = ap (step i) (then-assoc is c d)
 
-spread-then : (b c : Body) → spread_all (b then c) ≡ spread_all b ++ spread_all c
+pub spread-then : (b c : Body) → spread_all (b then c) ≡ spread_all b ++ spread_all c
 spread-then end c = refl
 spread-then (step i is) c = ap (λ ns. spread i ++ ns) (spread-then is c) ∙ sym (append_assoc (spread i) (spread_all is) (spread_all c))
 

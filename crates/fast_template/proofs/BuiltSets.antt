@@ -10,7 +10,7 @@ use Rattle.fast_template.specs.declared.instructions.Shape.{Shape}
 use Rattle.fast_template.specs.declared.instructions.Shape.TheVariants.{Field, Decimal, Group, Sequence}
 use Rattle.fast_template.specs.declared.instructions.Template.{Template}
 use Rattle.fast_template.specs.AsWritten.{Declared, scalar, by_parts, group, sequence, reference, DeclaredList, no_more, more, DeclaredTemplate, Use, uses, all_uses}
-use Rattle.fast_template.specs.Built.{top_numbers, spread, spread_all, outline_of, IsBuilt, AreBuilt}
+use Rattle.fast_template.specs.Built.{top_numbers, spread_all, outline_of, IsBuilt, AreBuilt}
 use Rattle.fast_template.specs.Chains.{instruction_nodes, nodes_by, nodes_in}
 use Rattle.fast_template.specs.Entries.{Entry, scope_of, in_scope, uses_from}
 use Rattle.fast_template.specs.InPlace.{◌then◌, InPlace, AreInPlace}
@@ -20,6 +20,7 @@ use Rattle.fast_template.specs.Nodes.{body_of, instructions_from, template_data}
 use Rattle.fast_template.specs.Numbers.{numbers_of, NameNodes, NameLaterNodes, HaveDistinctIds}
 use Rattle.fast_template.specs.Sizes.{nesting_limit, node_limit}
 use Rattle.fast_template.specs.Tree.{Instruction, Body, end, step, TemplateData}
+use Rattle.fast_template.proofs.BuiltLists.{spread-then}
 use Rattle.fast_template.proofs.BuiltTrees.{after_all, inside, AreNumbered, numbered-then, in_place-numbered, all_inside, long_all, body_among, spread_body, labels_body, named_numbers, tops_between, between_all}
 use Rattle.fast_template.proofs.ChainSizes.{nodes_named, nodes_in-by}
 use Rattle.fast_template.proofs.FlatLabels.{data_labels, same_labels}
@@ -141,10 +142,6 @@ few_uses_from all n (t ∷ ts) =
 abbrev whole : List TemplateData → Body
 whole [] = end
 whole (u ∷ us) = u.body then whole us
-
-spread-then : (b c : Body) → spread_all (b then c) ≡ spread_all b ++ spread_all c
-spread-then end c = refl
-spread-then (step i is) c = ap (λ ns. spread i ++ ns) (spread-then is c) ∙ sym (append_assoc (spread i) (spread_all is) (spread_all c))
 
 inside-then : (b c : Body) → all_inside (b then c) ≡ all_inside b ++ all_inside c
 inside-then end c = refl
