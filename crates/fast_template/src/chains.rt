@@ -204,17 +204,18 @@ mod tests {
         fault.map(|fault| (fault.code, fault.template))
     }
 
-    /// Templates that refer to these.
-    fn references(alloc: Global, templates: &[(&str, &[&str])]) -> Result<String, AllocError> {
+    /// A template for each word: its first letter is the name, the others are the names that it refers to.
+    fn references(alloc: Global, words: &[&str]) -> Result<String, AllocError> {
         let mut text = String::new(alloc);
-        for (name, targets) in templates {
-            text.push_str("[[template]]\nname='")?;
-            text.push_str(name)?;
-            text.push_str("'\nfields=[{kind='uInt32', name='x'}")?;
-            for target in *targets {
-                text.push_str(", {kind='ref', name='")?;
-                text.push_str(target)?;
-                text.push_str("'}")?;
+        for word in words {
+            for (k, letter) in word.chars().enumerate() {
+                let part = match k {
+                    0 => format!(in alloc;
+                        "[[template]]\nname='{letter}'\nfields=[{{kind='uInt32', name='x'}}"
+                    )?,
+                    _ => format!(in alloc; ", {{kind='ref', name='{letter}'}}")?,
+                };
+                text.push_str(part.as_str())?;
             }
             text.push_str("]\n")?;
         }
@@ -256,45 +257,19 @@ mod tests {
 
     #[test]
     fn cycles_of_references(rt: HostRuntime) {
-        let cases: [(&[(&str, &[&str])], Option<u32>); 9] = [
-            (&[("A", &["A"])], Some(0)),
-            (&[("A", &[]), ("B", &["A"]), ("C", &["B", "C"])], Some(2)),
-            (&[("A", &["B"]), ("B", &["A"])], Some(0)),
-            (&[("A", &["B"]), ("B", &["B"])], Some(1)),
-            (&[("A", &["C"]), ("B", &["C"]), ("C", &["B"])], Some(1)),
-            (
-                &[
-                    ("A", &["D"]),
-                    ("B", &[]),
-                    ("C", &["A", "B"]),
-                    ("D", &["E"]),
-                    ("E", &["B", "D"]),
-                ],
-                Some(3),
-            ),
-            (
-                &[
-                    ("A", &["D", "C"]),
-                    ("B", &["D"]),
-                    ("C", &["B"]),
-                    ("D", &["C"]),
-                ],
-                Some(1),
-            ),
-            (
-                &[
-                    ("A", &["E"]),
-                    ("B", &["E", "A"]),
-                    ("C", &["B"]),
-                    ("D", &["C"]),
-                    ("E", &["C", "D"]),
-                ],
-                Some(0),
-            ),
-            (&[("A", &["B", "B", "C"]), ("B", &["C"]), ("C", &[])], None),
+        let cases: [(&[&str], Option<u32>); 9] = [
+            (&["AA"], Some(0)),
+            (&["A", "BA", "CBC"], Some(2)),
+            (&["AB", "BA"], Some(0)),
+            (&["AB", "BB"], Some(1)),
+            (&["AC", "BC", "CB"], Some(1)),
+            (&["AD", "B", "CAB", "DE", "EBD"], Some(3)),
+            (&["ADC", "BD", "CB", "DC"], Some(1)),
+            (&["AE", "BEA", "CB", "DC", "ECD"], Some(0)),
+            (&["ABBC", "BC", "C"], None),
         ];
-        for (templates, template) in cases {
-            let text = references(rt.alloc(), templates).expect(&rt, "memory");
+        for (words, template) in cases {
+            let text = references(rt.alloc(), words).expect(&rt, "memory");
             let want = template.map(|k| (StaticCode::C3, Some(k)));
             assert_eq!(rt; fault_of(rt.alloc(), text.as_str()), want, "{text}");
         }
@@ -323,7 +298,7 @@ mod tests {
     fn the_deepest_nesting(rt: HostRuntime) {
         for brackets in [GROUPS, SEQUENCES] {
             for (count, want) in [(64, None), (65, Some((StaticCode::C4, Some(65))))] {
-                let mut text = references(rt.alloc(), &[("A", &[])]).expect(&rt, "memory");
+                let mut text = references(rt.alloc(), &["A"]).expect(&rt, "memory");
                 let chain = chain(rt.alloc(), "G", count, 1, brackets).expect(&rt, "memory");
                 text.push_str(chain.as_str()).expect(&rt, "memory");
                 assert_eq!(rt; fault_of(rt.alloc(), text.as_str()), want);
@@ -339,7 +314,7 @@ mod tests {
         // 65,535 nodes, and two more.
         let mut text = chain(rt.alloc(), "A", 16, 2, PLAIN).expect(&rt, "memory");
         for (name, want) in [("Y", None), ("Z", Some((StaticCode::C6, Some(17))))] {
-            let one = references(rt.alloc(), &[(name, &[])]).expect(&rt, "memory");
+            let one = references(rt.alloc(), &[name]).expect(&rt, "memory");
             text.push_str(one.as_str()).expect(&rt, "memory");
             assert_eq!(rt; fault_of(rt.alloc(), text.as_str()), want);
         }
@@ -347,7 +322,7 @@ mod tests {
 
     #[test]
     fn cycles_before_chains_before_nodes(rt: HostRuntime) {
-        let cycle = references(rt.alloc(), &[("C", &["C"])]).expect(&rt, "memory");
+        let cycle = references(rt.alloc(), &["CC"]).expect(&rt, "memory");
         let long = chain(rt.alloc(), "B", 66, 1, PLAIN).expect(&rt, "memory");
         let many = chain(rt.alloc(), "A", 17, 2, PLAIN).expect(&rt, "memory");
         let cases = [
