@@ -37,6 +37,7 @@ pub mod Targets
 pub mod CycleLaws
 pub mod BuiltTrees
 pub mod BuiltSets
+pub mod BuiltUsable
 pub mod ReadLaws
 pub mod Headings
 pub mod NoTrees
