@@ -4,3 +4,4 @@ pub mod Parts
 pub mod Lined
 pub mod Progressing
 pub mod Showing
+pub mod SetLines

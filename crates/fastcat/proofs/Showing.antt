@@ -15,7 +15,7 @@ use Rattle.fastcat.specs.declared.show.Show.{Show}
 use Rattle.fastcat.specs.declared.faults.ShowEnd.{ShowEnd}
 use Rattle.fastcat.specs.declared.faults.ShowEnd.TheVariants.{Good, Faulted, Truncated}
 use Rattle.fastcat.specs.declared.faults.RunFault.{RunFault}
-use Rattle.fastcat.specs.declared.faults.RunFault.TheVariants.{Read, Write, BadHex, Make, Memory}
+use Rattle.fastcat.specs.declared.faults.RunFault.TheVariants.{Read, Write, BadHex, Templates as Refused, Make, Memory}
 use Rattle.fastcat.specs.Showing.{IsShown, refusal_of}
 use Rattle.fastcat.specs.Progress.{HasRoom, IsTaken, Progress, Change, GoesOn, Ended}
 use Rattle.fastcat.proofs.Lined.{lines-append}
@@ -30,6 +30,7 @@ shown_more t l hex R R' A B H A' B' H' text out (Err (BadHex n)) m a b h s = (s.
 shown_more t l hex R R' A B H A' B' H' text out (Err Read) m a b h s = (s.0, s.1, s.2, s.3, s.4, s.5, s.6, b s.7)
 shown_more t l hex R R' A B H A' B' H' text out (Err Write) m a b h s = (s.0, s.1, s.2, s.3, s.4, s.5, s.6, s.7, s.8, h s.9)
 shown_more t l hex R R' A B H A' B' H' text out (Err (Make cause)) m a b h s = (s.0, s.1, m cause s.2)
+shown_more t l hex R R' A B H A' B' H' text out (Err (Refused fault)) m a b h s = elim s [ ]
 shown_more t l hex R R' A B H A' B' H' text out (Err Memory) m a b h s = s
 
 -- nothing was read and nothing shown where no decoder is made

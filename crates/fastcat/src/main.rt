@@ -2,10 +2,13 @@
 //! standard output.
 #![tactic(auto)]
 
+pub mod check;
 pub mod closing;
 pub mod faults;
+pub mod plans;
 pub mod show;
 pub mod unhexer;
+pub mod words;
 
 use fast_template::{FlatTemplate, StaticFault, Templates};
 use fast_text::{Source, Target, Watched};
