@@ -5,3 +5,5 @@ pub mod Lined
 pub mod Progressing
 pub mod Showing
 pub mod SetLines
+pub mod Commands
+pub mod Given
