@@ -22,11 +22,7 @@ fn put_number<T: Target>(line: &mut LineWriter<'_, T>, name: &str, number: u64)
 }
 
 /// Writes the lines of a set.
-fn write_set<T: Target>(
-    templates: &Templates,
-    limits: Limits,
-    target: &mut T,
-) -> Result<(), Failed>
+fn write_set<T: Target>(templates: &Templates, limits: Limits, target: &mut T) -> Result<(), Failed>
     ensures written { OnOk result (Appends (T.written target.old) (T.written target.new) (set_lines (tree_of templates.now) limits)) }
     ensures part { OnErr result (AppendsFront (T.written target.old) (T.written target.new) (set_lines (tree_of templates.now) limits)) }
     ensures fails { OnErr result (IsTrue (T.has_failed target.new)) }

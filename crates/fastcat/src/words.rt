@@ -35,9 +35,9 @@ fn input_arg<'a>(alloc: Global) -> Arg<'a>
     ensures rule { rule_of result ≡ input_rule }
     ensures local { result.global ≡ false }
 {
-    Arg::new(alloc, "input")
-        .value_name("F")
-        .help("The path of the stream; without it, standard input is read")
+    Arg::new(alloc, "input").value_name("F").help(
+        "The path of the stream; without it, standard input is read",
+    )
 }
 
 /// A flag.

@@ -27,8 +27,12 @@ returns-clause-plan c =
     let taken : fault_of fastcat_app words ≡ [] = subst (λ a. fault_of a words ≡ []) made (c.in_ok-matches.ensures.kinds (ap is_simple_and_free made ∙ fastcat_free)) in
     let matches = (c.in_ok-matches.ensures.matches (ap is_simple made ∙ fastcat_simple)).1 ∙ ap (λ a. subcommand_of a words) made in
     elim c.match-subcommand.branch [
-      | in-Some w ↦ (w.in-Some.name.now, rows_of (found_of w.in-Some.given.now), sym matches ∙ found_both _ _ _ _ _ (sym w.in-Some.ensures.name) (sym w.in-Some.ensures.rows),
-        subst (IsPlanOf w.in-Some.name.now (rows_of (found_of w.in-Some.given.now))) (sym w.result-is) w.plan_of.ensures)
+      | in-Some w ↦ (
+        w.in-Some.name.now,
+        rows_of (found_of w.in-Some.given.now),
+        sym matches ∙ found_both _ _ _ _ _ (sym w.in-Some.ensures.name) (sym w.in-Some.ensures.rows),
+        subst (IsPlanOf w.in-Some.name.now (rows_of (found_of w.in-Some.given.now))) (sym w.result-is) w.plan_of.ensures,
+      )
       | in-None w ↦ absurd (false≢true (w.in-None.ensures.variant ∙ sym (still_there _ _) ∙ ap is_some matches ∙ names_one words taken))
     ]
 
