@@ -54,3 +54,58 @@ pub fn run_check<T: Target>(
         Err(_) => Err(RunFault::Write),
     }
 }
+
+#[cfg(test)]
+mod tests {
+    use super::*;
+    use fast_template::FlatTemplate;
+    use fast_text::ToBytes;
+    use std::test::Fail;
+
+    const LIMITS: Limits = Limits {
+        strict: false,
+        max_text: 1024,
+        max_elements: 1000,
+        max_total: 1000,
+    };
+
+    const LINES: &str = "templates 2\nnodes 3\nentries 1\ndepth 0\ncap 4\n";
+
+    fn set(rt: &HostRuntime) -> Result<Templates, Fail> {
+        let list = [
+            FlatTemplate {
+                name: "A",
+                id: 1,
+                fields: &["x", "y"],
+            },
+            FlatTemplate {
+                name: "B",
+                id: 2,
+                fields: &["x"],
+            },
+        ];
+        Ok(Templates::flat(rt.alloc(), &list)?)
+    }
+
+    #[test]
+    fn a_set_in_five_lines(rt: HostRuntime) -> Result<(), Fail> {
+        let mut cells = [0; 64];
+        let mut target = ToBytes::new(&mut cells);
+        assert_eq!(rt; run_check(&set(&rt)?, LIMITS, &mut target), Ok(()));
+        assert_eq!(rt; target.bytes(), LINES.as_bytes());
+        Ok(())
+    }
+
+    #[test]
+    fn a_writer_that_fails_leaves_a_front_of_the_lines(rt: HostRuntime) -> Result<(), Fail> {
+        let set = set(&rt)?;
+        for room in 0..LINES.len() {
+            let mut cells = [0; 64];
+            let mut target = ToBytes::new(&mut cells[..room]);
+            assert_eq!(rt; run_check(&set, LIMITS, &mut target), Err(RunFault::Write));
+            assert!(rt; target.failed());
+            assert_eq!(rt; target.bytes(), &LINES.as_bytes()[..room]);
+        }
+        Ok(())
+    }
+}

@@ -16,6 +16,17 @@ use std::alloc::{AllocError, Global};
 /// The length of a text, where no other is asked for.
 const MAX_TEXT: u32 = 1024;
 
+/// What stands below the help of the whole command.
+const TEMPLATES_HELP: &str = "T is @vectors or a text in TOML such as
+  [[template]]
+  name = \"Trade\"
+  id = 1
+  fields = [{ kind = \"uInt32\", name = \"price\" }]
+
+Examples:
+  fastcat check templates.toml
+  fastcat show templates.toml stream.fast";
+
 /// The numbers of elements of a sequence and of a message, where no others are asked for.
 const MAX_ELEMENTS: u32 = 1000;
 
@@ -27,7 +38,7 @@ fn templates_arg<'a>(alloc: Global) -> Arg<'a>
     Arg::new(alloc, "templates")
         .value_name("T")
         .required(true)
-        .help("The path of a template text in TOML, or @vectors for the built-in set")
+        .help("The path of a template text (see fastcat --help), or @vectors for the built-in set")
 }
 
 /// The argument for the input.
@@ -110,6 +121,7 @@ fn fastcat_command<'a>(alloc: Global) -> Result<Command<'a>, AllocError>
 {
     Command::new(alloc, "fastcat")
         .about("Reads streams in the FAST encoding, version 1.1, by templates in TOML")
+        .after_help(TEMPLATES_HELP)
         .subcommand_required(true)
         .subcommand(check_command(alloc)?)?
         .subcommand(show_command(alloc)?)
@@ -161,3 +173,6 @@ pub fn plan<'a>(alloc: Global, words: &'a [&'a str]) -> Result<Plan<'a>, Error>
         None => plan_of("show", &matches),
     })
 }
+
+#[cfg(test)]
+mod tests;
