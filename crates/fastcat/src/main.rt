@@ -13,11 +13,12 @@ pub use check::run_check;
 use clap::Error;
 use clap::error::ErrorKind;
 use fast_template::{FlatTemplate, StaticCode, StaticFault, Templates};
-use fast_text::{Source, Watched};
+use fast_text::{Source, Target, Watched};
 pub use faults::{RunFault, ShowEnd, report};
 pub use plans::{BUILT_IN, Plan, Task};
 pub use show::run_show;
 use std::alloc::{AllocError, Global};
+use std::io::BufWriter;
 use std::process::ExitCode;
 use std::{env, fs};
 pub use words::plan;
@@ -52,15 +53,18 @@ fn refused(fault: StaticFault) -> RunFault {
     }
 }
 
-/// Shows what a reader gives on standard output.
+/// Shows what a reader gives on standard output, in large pieces.
 fn show_from<S: Source>(
     rt: &HostRuntime,
     templates: &Templates,
     plan: &Plan<'_>,
     reader: &mut S,
 ) -> Result<ShowEnd, RunFault> {
-    let mut target = Watched::new(rt.stdout());
-    run_show(
+    let Ok(output) = BufWriter::new(rt.alloc(), rt.stdout()) else {
+        return Err(RunFault::Memory);
+    };
+    let mut target = Watched::new(output);
+    let ending = run_show(
         rt.alloc(),
         templates,
         plan.limits(),
@@ -68,7 +72,11 @@ fn show_from<S: Source>(
         MAX_READS,
         reader,
         &mut target,
-    )
+    );
+    match Target::flush(&mut target) {
+        Ok(()) => ending,
+        Err(_) => Err(RunFault::Write),
+    }
 }
 
 /// Does what a plan asks for.

@@ -224,6 +224,10 @@ impl Target for Lines {
         }
     }
 
+    fn flush(&mut self) -> Result<(), Failed> {
+        Ok(())
+    }
+
     fn failed(&self) -> bool {
         false
     }
