@@ -358,6 +358,7 @@ mod tests {
                 calls,
             });
             assert_eq!(rt; target.write_all(b"ab"), Ok(()));
+            assert_eq!(rt; Target::flush(&mut target), Ok(()));
             assert!(rt; !Target::failed(&target));
             assert_eq!(rt; target.write_all(b"cd"), Err(Failed));
             assert!(rt; Target::failed(&target));
