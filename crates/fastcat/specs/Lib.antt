@@ -4,5 +4,6 @@ pub mod Showing
 pub mod Progress
 pub mod Report
 pub mod Checking
+pub mod Texts
 pub mod Plans
 pub mod Words

@@ -6,6 +6,7 @@ pub mod closing;
 pub mod faults;
 pub mod plans;
 pub mod show;
+pub mod texts;
 pub mod unhexer;
 pub mod words;
 
@@ -21,6 +22,7 @@ use std::alloc::{AllocError, Global};
 use std::io::BufWriter;
 use std::process::ExitCode;
 use std::{env, fs};
+pub use texts::read_whole;
 pub use words::plan;
 
 /// The status of a call that asks for what is not there.
@@ -79,23 +81,44 @@ fn show_from<S: Source>(
     }
 }
 
+/// The template set of a path, or the built-in one. A text in a file is read and not yet understood: there is no set of it.
+fn templates_of(rt: &HostRuntime, path: &str) -> Result<Option<Templates>, RunFault> {
+    if path == BUILT_IN {
+        return Ok(Some(built_in(rt.alloc())?));
+    }
+    let Ok(file) = fs::open(rt, path) else {
+        return Err(RunFault::Read);
+    };
+    let text = read_whole(rt.alloc(), &mut Watched::new(file))?;
+    match str::from_utf8(&text) {
+        Ok(_) => Ok(None),
+        Err(_) => Err(RunFault::Templates(StaticFault {
+            code: StaticCode::S1,
+            template: None,
+        })),
+    }
+}
+
 /// Does what a plan asks for.
-fn carry_out(rt: &HostRuntime, plan: &Plan<'_>) -> Result<ShowEnd, RunFault> {
-    let templates = built_in(rt.alloc())?;
+fn carry_out(
+    rt: &HostRuntime,
+    templates: &Templates,
+    plan: &Plan<'_>,
+) -> Result<ShowEnd, RunFault> {
     match (plan.task, plan.input) {
         (Task::Check, _) => {
             let mut target = Watched::new(rt.stdout());
-            run_check(&templates, plan.limits(), &mut target)?;
+            run_check(templates, plan.limits(), &mut target)?;
             Ok(ShowEnd::Good)
         }
         (Task::Show, None) => {
             let mut reader = Watched::new(rt.stdin());
-            show_from(rt, &templates, plan, &mut reader)
+            show_from(rt, templates, plan, &mut reader)
         }
         (Task::Show, Some(path)) => match fs::open(rt, path) {
             Ok(file) => {
                 let mut reader = Watched::new(file);
-                show_from(rt, &templates, plan, &mut reader)
+                show_from(rt, templates, plan, &mut reader)
             }
             Err(_) => Err(RunFault::Read),
         },
@@ -119,16 +142,24 @@ fn explained(rt: &HostRuntime, error: &Error) -> ExitCode {
     }
 }
 
-/// Runs the command on its words, of which the first is the program's name.
-fn run(rt: &HostRuntime, words: &[&str]) -> ExitCode {
-    match plan(rt.alloc(), words) {
-        Ok(plan) if plan.templates == BUILT_IN => ended(rt, carry_out(rt, &plan)),
-        Ok(_) => {
+/// Runs a plan.
+fn run_plan(rt: &HostRuntime, plan: &Plan<'_>) -> ExitCode {
+    match templates_of(rt, plan.templates) {
+        Ok(Some(templates)) => ended(rt, carry_out(rt, &templates, plan)),
+        Ok(None) => {
             let _ = eprintln!(rt;
-                "fastcat: a template text in a file is not read yet: write {BUILT_IN}"
+                "fastcat: no template text in a file is understood yet: write {BUILT_IN}"
             );
             ExitCode::from(USAGE)
         }
+        Err(fault) => ended(rt, Err(fault)),
+    }
+}
+
+/// Runs the command on its words, of which the first is the program's name.
+fn run(rt: &HostRuntime, words: &[&str]) -> ExitCode {
+    match plan(rt.alloc(), words) {
+        Ok(plan) => run_plan(rt, &plan),
         Err(error) => explained(rt, &error),
     }
 }
