@@ -1,9 +1,9 @@
 -- The command that takes the words, and what it makes of them.
-use Rattle.std.proofs.Common.{◌≡◌, Bool, true, false, List, [], ◌∷◌, Option, Some, None, refl, ap, ap₂, sym, ◌∙◌, is_some, option_map, ◌||◌, ◌&&◌, not}
+use Rattle.std.proofs.Common.{◌≡◌, Bool, true, false, List, [], ◌∷◌, Option, Some, None, refl, ap₂, ◌∙◌, is_some, option_map, ◌||◌, ◌&&◌, not}
 use Rattle.clap.specs.Built.{AddsArg}
 use Rattle.clap.specs.Faults.{fault_of, built_fault, check_fault, defaults_fault, entered_fault, settle_fault, walk_fault, is_simple_and_free}
 use Rattle.clap.specs.Kinds.{Kinds, or_else, check_kinds}
-use Rattle.clap.specs.Simple.{App, app_of, argument_words, built, entered, is_simple, names_of, subcommand_of, with_rule}
+use Rattle.clap.specs.Simple.{App, argument_words, built, entered, is_simple, names_of, subcommand_of, with_rule}
 use Rattle.clap.specs.Walk.{Rule, Text, finished, nothing_held, rule_of, settled, stop_after, walk, walk_from}
 use Rattle.clap.specs.Facts.{explicit_source}
 use Rattle.clap.specs.Takes.{is_given}

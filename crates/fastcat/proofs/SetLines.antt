@@ -1,5 +1,5 @@
 -- The numbers of a set.
-use Rattle.std.proofs.Common.{◌≡◌, ℕ, List, [], ◌∷◌, refl, ap, sym, ◌∙◌, suc, length}
+use Rattle.std.proofs.Common.{◌≡◌, ℕ, List, [], ◌∷◌, refl, ap, suc, length}
 use Rattle.fast_template.specs.declared.instructions.Node.{Node}
 use Rattle.fast_template.specs.Labels.{labels_from}
 

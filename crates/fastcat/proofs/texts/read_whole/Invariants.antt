@@ -1,4 +1,4 @@
-use Rattle.std.proofs.Common.{◌≡◌, ◌≤◌, ◌++◌, length, List}
+use Rattle.std.proofs.Common.{◌≡◌, ◌≤◌, ◌++◌, length}
 use Rattle.std.specs.Prelude.{option_map}
 use Rattle.fastcat.specs.Texts.{text_limit}
 use Rattle.fastcat.proofs.texts.read_whole.Given as goal

@@ -1,4 +1,4 @@
-use Rattle.std.proofs.Common.{◌∙◌, codes, ap, option_map}
+use Rattle.std.proofs.Common.{◌∙◌, codes, ap}
 use Rattle.std.specs.Option.{unwrap_or}
 use Rattle.clap.specs.Matches.{found_of}
 use Rattle.clap.proofs.WalkLemmas.{first_value-rows}

@@ -1,8 +1,8 @@
-use Rattle.std.proofs.Common.{refl, codes, ap, ◌∙◌, ◌≡◌, rules, false}
+use Rattle.std.proofs.Common.{codes, ap, ◌∙◌, ◌≡◌, rules, false}
 use Rattle.std.proofs.lemmas.Result.{IfOk-weaker}
-use Rattle.clap.specs.Simple.{app_of, app_of_fields, new_app, with_rule}
+use Rattle.clap.specs.Simple.{app_of, app_of_fields, new_app}
 use Rattle.clap.specs.declared.builder.command.Command.TheViews.{out-Command}
-use Rattle.fastcat.specs.Words.{MakesApp, templates_rule, input_rule, flag_rule, with_limits}
+use Rattle.fastcat.specs.Words.{templates_rule, input_rule, flag_rule, with_limits}
 use Rattle.fastcat.proofs.Commands.{makes_rule}
 use Rattle.fastcat.proofs.words.show_command.Goals as goal
 

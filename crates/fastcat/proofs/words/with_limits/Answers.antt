@@ -1,6 +1,6 @@
 use Rattle.std.proofs.Common.{refl, codes}
 use Rattle.std.proofs.lemmas.Result.{IfOk-weaker}
-use Rattle.clap.specs.Simple.{app_of, with_rule}
+use Rattle.clap.specs.Simple.{app_of}
 use Rattle.fastcat.specs.Words.{number_rule}
 use Rattle.fastcat.proofs.Commands.{makes_rule}
 use Rattle.fastcat.proofs.words.with_limits.Goals as goal
