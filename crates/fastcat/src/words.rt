@@ -170,6 +170,7 @@ pub fn plan<'a>(alloc: Global, words: &'a [&'a str]) -> Result<Plan<'a>, Error>
     let matches = fastcat_command(alloc)?.try_get_matches_from(words)?;
     Ok(match matches.subcommand() {
         Some((name, given)) => plan_of(name, given),
+        // Words without a subcommand are an error already.
         None => plan_of("show", &matches),
     })
 }
