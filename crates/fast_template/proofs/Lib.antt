@@ -9,6 +9,7 @@ pub mod Bodies
 pub mod Saturation
 pub mod CapBounds
 pub mod Greatest
+pub mod TextNodes
 pub mod NameTests
 pub mod TableKeys
 pub mod FieldLists
