@@ -124,12 +124,26 @@ fn id_of(value: Option<Scalar<'_>>) -> Option<u128>
 }
 
 /// The number of the template with an identifier.
+#[inline]
 fn template_of(templates: &Templates, identifier: Option<u128>) -> Option<u32>
     ensures some { IfSome result (λ i. (id : ℕ) × (t : Template) × (identifier ≡ Some id) × (slice_get (templates_of templates.now) i ≡ Some t) × (t.id ≡ Some id)
         × ((j : ℕ) (u : Template) → j < i → slice_get (templates_of templates.now) j ≡ Some u → u.id ≢ Some id)) }
     ensures none { IfNone result ((id j : ℕ) (t : Template) → identifier ≡ Some id → slice_get (templates_of templates.now) j ≡ Some t → t.id ≢ Some id) }
 {
     let id = identifier?;
+    if id > u128::from(u32::MAX) {
+        return template_beyond(templates, id);
+    }
+    templates.by_id(id as u32)
+}
+
+/// The same where the identifier has more than 32 bits. No template has such a one: the walk says so without a promise of the set.
+#[cold]
+fn template_beyond(templates: &Templates, id: u128) -> Option<u32>
+    ensures some { IfSome result (λ i. (t : Template) × (slice_get (templates_of templates.now) i ≡ Some t) × (t.id ≡ Some id)
+        × ((j : ℕ) (u : Template) → j < i → slice_get (templates_of templates.now) j ≡ Some u → u.id ≢ Some id)) }
+    ensures none { IfNone result ((j : ℕ) (t : Template) → slice_get (templates_of templates.now) j ≡ Some t → t.id ≢ Some id) }
+{
     for number in 0..templates.count() {
         if has_id(templates.template(number), id) {
             return Some(number);
