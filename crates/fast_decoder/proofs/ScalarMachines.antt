@@ -8,22 +8,22 @@ use Rattle.fast_value.specs.declared.settings.Limits.{Limits}
 use Rattle.fast_value.specs.Kinds.{ScalarData}
 use Rattle.fast_value.specs.Limits.{Bounds, bounds}
 use Rattle.fast_template.specs.Tree.{FieldData, Body}
-use Rattle.fast_dict.specs.Dictionary.{Dictionary, previous_at, write_at}
+use Rattle.fast_dict.specs.Dictionary.{Dictionary, PreviousData, previous_at, write_at}
 use Rattle.fast_dict.specs.Operators.{Outcome}
-use Rattle.fast_dict.specs.Slots.{slots_dictionary, slots_terms, slots_sized}
+use Rattle.fast_dict.specs.Slots.{slots_dictionary, slots_terms}
 use Rattle.fast_dict.specs.declared.slots.Slots.{Slots}
 use Rattle.fast_decoder.specs.Events.{EventData}
 use Rattle.fast_decoder.specs.Readers.{Reader, Stop, bind}
 use Rattle.fast_decoder.specs.Grammar.{Grammar}
 use Rattle.fast_decoder.specs.GrammarReaders.{reader_of}
 use Rattle.fast_decoder.specs.Fields.{field_term}
-use Rattle.fast_decoder.specs.Messages.{State, found}
+use Rattle.fast_decoder.specs.Messages.{found}
 use Rattle.fast_decoder.specs.Continuations.{handed_then}
 use Rattle.fast_decoder.specs.Frames.{resume}
 use Rattle.fast_decoder.specs.Machine.{after_bytes}
 use Rattle.fast_decoder.specs.Taking.{Turns, Stays}
 use Rattle.fast_decoder.specs.Handing.{Hands, IsTaken}
-use Rattle.fast_decoder.specs.Settling.{Serves, IsSettled, value_at}
+use Rattle.fast_decoder.specs.Settling.{IsSettled, value_at}
 use Rattle.fast_decoder.specs.Stages.{term_behind, IsStageOf, IsFieldUnit}
 use Rattle.fast_decoder.specs.UnitFronts.{IsSent, IsBytesStage, IsEntityKept, IsNextOf, IsNextStage, SettlesOnly}
 use Rattle.fast_decoder.specs.Phrases.{cut}
@@ -46,6 +46,7 @@ use Rattle.fast_decoder.specs.declared.machine.Waiting.TheVariants.{Map, Identif
 use Rattle.fast_decoder.proofs.Grammars.{reader-then}
 use Rattle.fast_decoder.proofs.Frames.{at_field}
 use Rattle.fast_decoder.proofs.SentFields.{field_sent}
+use Rattle.fast_decoder.proofs.FieldTurns.{state_of, supplied_like}
 use Rattle.fast_decoder.proofs.Turning.{turns_as, turns_on, turns_done, turns_stop, stays_on, stays_as}
 use Rattle.fast_decoder.proofs.Takes.{taken_turns, taken_fault, taken_stays}
 
@@ -53,31 +54,11 @@ use Rattle.fast_decoder.proofs.Takes.{taken_turns, taken_fault, taken_stays}
 abbrev pub with_units : Machine → Slots → Entity → Scratch → Scratch → Machine
 with_units m s e t j = record m { slots = s; entity = e; text = t; joined = j }
 
--- The dictionary has as many entries as the set.
-pub serves_dictionary : (set : Set) (l : Limits) (m : Machine) (f : FieldData) → IsSupplied set l m → Serves set.entries (slots_terms m.slots) f → Serves (length (slots_dictionary m.slots)) (slots_terms m.slots) f
-serves_dictionary set l m f h s = subst (λ (n : ℕ). Serves n (slots_terms m.slots) f) (sym (slots_sized m.slots ∙ h.entries)) s
-
 -- It is still supplied.
 pub still_supplied : (set : Set) (l : Limits) (m : Machine) (s : Slots) (e : Entity) (t j : Scratch) → slots_terms s ≡ slots_terms m.slots → t.capacity ≡ m.text.capacity → j.capacity ≡ m.joined.capacity
     → IsSupplied set l m → IsSupplied set l (with_units m s e t j)
-still_supplied set l m s e t j terms text joined h = record {
-  entries = ap (λ x. x.entries) terms ∙ h.entries;
-  serves = subst (λ x. Rattle.fast_decoder.specs.Serving.ServesNodes set.entries x set.nodes) (sym terms) h.serves;
-  some_entry = h.some_entry;
-  max_text = ap (λ x. x.max_text) terms ∙ h.max_text;
-  least_text = h.least_text;
-  text_room = subst (λ (n : ℕ). l.max_text ≤ n) (sym text) h.text_room;
-  joined_room = subst (λ (n : ℕ). l.max_text ≤ n) (sym joined) h.joined_room;
-  node_widths = h.node_widths;
-  template_widths = h.template_widths;
-  depth = h.depth;
-  identifier = h.identifier;
-  counted = h.counted;
-}
-
--- the state of a machine
-abbrev pub state_of : Machine → State
-state_of m = state_in (slots_dictionary m.slots) m.counted m.cursor
+still_supplied set l m s e t j terms text joined h =
+    supplied_like set l m (with_units m s e t j) h (record { terms = terms; text = text; joined = joined; widths = refl; identifier = refl; depth = refl }) h.counted
 
 -- Where the unit in hand is one of a field, the cursor stands in a message.
 pub placed_by : (w : Waiting) (set : Set) (l : Limits) (m : Machine) → IsOfField w → CanTake w set l m → IsPlaced set m.cursor × IsMapWhole m.cursor.map
@@ -170,7 +151,7 @@ module _ (set : Set) (l : Limits) (m : Machine) (f : FieldData) (n : ℕ) where
     wrong_here r same c b h = turns_as (unit_here w of can at) refl (turns_stop (λ o. reader_of l.strict (behind_field set (bounds l) m f n o)) (turns_as (sym same) refl h))
 
 -- Behind a unit that settles its field nothing is next.
-next_of_settled : (l : Bounds) (f : FieldData) (p : Rattle.fast_dict.specs.Dictionary.PreviousData) (q : Progress Step) → SettlesOnly q → IsNextOf l f p q
+next_of_settled : (l : Bounds) (f : FieldData) (p : PreviousData) (q : Progress Step) → SettlesOnly q → IsNextOf l f p q
 next_of_settled l f p (Whole (Settled source) b) h = tt
 next_of_settled l f p (Whole (Next stage) b) h = absurd h
 next_of_settled l f p (Wrong c b) h = tt

@@ -6,12 +6,11 @@ use Rattle.fast_decoder.specs.Continuations.{mantissa_after_then}
 use Rattle.fast_decoder.specs.Positions.{set_of, tree_in, turning, meaning}
 use Rattle.fast_decoder.proofs.PartTakes.{integer_whole, integer_wrong, integer_cut, exponent_sees, exponent_sent, meaning_first, first_cut}
 use Rattle.fast_decoder.proofs.Takes.{taken_by}
-use Rattle.fast_decoder.proofs.FieldTurns.{behind, parts_next}
-use Rattle.fast_decoder.proofs.ScalarMachines.{serves_dictionary}
+use Rattle.fast_decoder.proofs.FieldTurns.{serves_here, behind, parts_next}
 use Rattle.fast_decoder.proofs.machine.Machine.take_exponent.Goals as goal
 
 pub take_integer-requires-clause-serves : goal.take_integer-requires-clause-serves
-take_integer-requires-clause-serves g c = serves_dictionary (set_of c.args.templates.now) c.args.limits c.args.self.now (field_data c.args.exponent.now) c.requires.ready.supplied c.requires.exponent
+take_integer-requires-clause-serves g c = serves_here (set_of c.args.templates.now) c.args.limits c.args.self.now (field_data c.args.exponent.now) c.requires.ready.supplied c.requires.exponent
 
 pub returns-in-Cut-clause-taken : goal.returns-in-Cut-clause-taken
 returns-in-Cut-clause-taken g c =

@@ -5,7 +5,8 @@ use Rattle.fast_dict.specs.Slots.{slots_dictionary}
 use Rattle.fast_decoder.specs.Scalars.{IsOfField}
 use Rattle.fast_decoder.specs.Positions.{set_of, state_in, CanTake}
 use Rattle.fast_decoder.specs.declared.machine.Waiting.{Waiting}
-use Rattle.fast_decoder.proofs.ScalarMachines.{serves_dictionary, still_supplied, first_taken}
+use Rattle.fast_decoder.proofs.FieldTurns.{serves_here}
+use Rattle.fast_decoder.proofs.ScalarMachines.{still_supplied, first_taken}
 use Rattle.fast_decoder.proofs.ScalarNodes.{at_field_node, at_parts_node, at_sequence_node, no_group, first_below, served_node, first_begins}
 use Rattle.fast_decoder.proofs.machine.Machine.take_instruction.Goals as goal
 
@@ -18,7 +19,7 @@ take_first-progress-requires-clause-serves g c =
     let v = c.node.result.now in
     let later = c.args.templates.now.nodes_name_later_nodes in
     let first = sym c.next.ensures ∙ c.in-Some.is in
-    serves_dictionary set l m (field_data c.in-Field.field) c.requires.ready.supplied (served_node set l m n v (Field c.in-Field.field) c.requires.ready.supplied c.node.ensures.found c.in-Field.is)
+    serves_here set l m (field_data c.in-Field.field) c.requires.ready.supplied (served_node set l m n v (Field c.in-Field.field) c.requires.ready.supplied c.node.ensures.found c.in-Field.is)
 
 pub take_first-progress-requires-clause-number : goal.take_first-progress-requires-clause-number
 take_first-progress-requires-clause-number g c =

@@ -6,12 +6,11 @@ use Rattle.fast_decoder.specs.Continuations.{sequence_from_then, segment_then, b
 use Rattle.fast_decoder.specs.Positions.{set_of, body_in, tree_in, turning, meaning}
 use Rattle.fast_decoder.proofs.PartTakes.{integer_whole, integer_wrong, integer_cut, length_sees, length_sent, sequence_next, meaning_first, first_cut}
 use Rattle.fast_decoder.proofs.Takes.{taken_by}
-use Rattle.fast_decoder.proofs.FieldTurns.{behind}
-use Rattle.fast_decoder.proofs.ScalarMachines.{serves_dictionary}
+use Rattle.fast_decoder.proofs.FieldTurns.{serves_here, behind}
 use Rattle.fast_decoder.proofs.machine.Machine.take_length.Goals as goal
 
 pub take_integer-requires-clause-serves : goal.take_integer-requires-clause-serves
-take_integer-requires-clause-serves g c = serves_dictionary (set_of c.args.templates.now) c.args.limits c.args.self.now (field_data c.args.length.now) c.requires.ready.supplied c.requires.serves
+take_integer-requires-clause-serves g c = serves_here (set_of c.args.templates.now) c.args.limits c.args.self.now (field_data c.args.length.now) c.requires.ready.supplied c.requires.serves
 
 pub returns-in-Cut-clause-taken : goal.returns-in-Cut-clause-taken
 returns-in-Cut-clause-taken g c =

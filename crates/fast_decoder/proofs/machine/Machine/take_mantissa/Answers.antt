@@ -16,8 +16,7 @@ use Rattle.fast_decoder.specs.Messages.{Found, decimal_with}
 use Rattle.fast_decoder.specs.Positions.{set_of, tree_in, meaning, CanTake}
 use Rattle.fast_decoder.specs.declared.machine.Waiting.{Waiting}
 use Rattle.fast_decoder.proofs.Takes.{taken_by}
-use Rattle.fast_decoder.proofs.FieldTurns.{behind, mantissa_from, mantissa_next, serves_known, entry_here}
-use Rattle.fast_decoder.proofs.ScalarMachines.{serves_dictionary}
+use Rattle.fast_decoder.proofs.FieldTurns.{serves_here, behind, mantissa_from, mantissa_next, serves_known, entry_here}
 use Rattle.fast_decoder.proofs.ScalarSteps.{goes_on_moved}
 use Rattle.fast_decoder.proofs.ScalarNodes.{at_parts_node, mantissa_parts, not_decimal, served_node}
 use Rattle.fast_decoder.proofs.PartTakes.{integer_whole, integer_wrong, integer_cut, mantissa_sees, mantissa_sent, meaning_second, second_cut, second_turn, part_supplied}
@@ -39,7 +38,7 @@ take_integer-requires-clause-serves g c =
     let f = field_data c.in-Decimal.mantissa in
     let n = c.in-Some.number in
     let served = served_node set l m n c.node.result.now (Decimal c.in-Decimal.exponent c.in-Decimal.mantissa) c.requires.ready.supplied c.node.ensures.found c.in-Decimal.is in
-    serves_dictionary set l m f c.requires.ready.supplied served.1
+    serves_here set l m f c.requires.ready.supplied served.1
 
 pub take_integer-requires-clause-sent : goal.take_integer-requires-clause-sent
 take_integer-requires-clause-sent g c =

@@ -1,17 +1,18 @@
 use Rattle.std.proofs.Common.{refl, []}
 use Rattle.fast_template.specs.Flat.{field_data}
 use Rattle.fast_decoder.specs.Positions.{set_of}
-use Rattle.fast_decoder.proofs.ScalarMachines.{serves_dictionary, still_supplied, unit_within, text_taken, number_taken, bytes_taken}
+use Rattle.fast_decoder.proofs.FieldTurns.{serves_here}
+use Rattle.fast_decoder.proofs.ScalarMachines.{still_supplied, unit_within, text_taken, number_taken, bytes_taken}
 use Rattle.fast_decoder.proofs.machine.Machine.take_scalar.Goals as goal
 
 pub take_first_text-requires-clause-serves : goal.take_first_text-requires-clause-serves
-take_first_text-requires-clause-serves c = serves_dictionary (set_of c.args.templates.now) c.args.limits c.args.self.now (field_data c.args.field.now) c.requires.ready.supplied c.requires.serves
+take_first_text-requires-clause-serves c = serves_here (set_of c.args.templates.now) c.args.limits c.args.self.now (field_data c.args.field.now) c.requires.ready.supplied c.requires.serves
 
 pub take_number-requires-clause-serves : goal.take_number-requires-clause-serves
-take_number-requires-clause-serves c = serves_dictionary (set_of c.args.templates.now) c.args.limits c.args.self.now (field_data c.args.field.now) c.requires.ready.supplied c.requires.serves
+take_number-requires-clause-serves c = serves_here (set_of c.args.templates.now) c.args.limits c.args.self.now (field_data c.args.field.now) c.requires.ready.supplied c.requires.serves
 
 pub take_bytes-requires-clause-serves : goal.take_bytes-requires-clause-serves
-take_bytes-requires-clause-serves c = serves_dictionary (set_of c.args.templates.now) c.args.limits c.args.self.now (field_data c.args.field.now) c.requires.ready.supplied c.requires.serves
+take_bytes-requires-clause-serves c = serves_here (set_of c.args.templates.now) c.args.limits c.args.self.now (field_data c.args.field.now) c.requires.ready.supplied c.requires.serves
 
 pub returns-in-Text-clause-unit : goal.returns-in-Text-clause-unit
 returns-in-Text-clause-unit c =
