@@ -1,6 +1,6 @@
 -- A message that begins.
-use Rattle.std.proofs.Common.{refl, sym, ap, ◌∙◌, subst, arith, inl, inr}
-use Rattle.std.specs.Prelude.{◌≡◌, ℕ, zero, suc, ◌+◌, ◌<◌, ◌≤◌, max, Bool, true, false, if◌then◌else◌, map, List, [], ◌∷◌, length, slice_get, Some}
+use Rattle.std.proofs.Common.{refl, sym, ap, ◌∙◌, subst, arith, inr}
+use Rattle.std.specs.Prelude.{◌≡◌, ℕ, zero, suc, ◌≤◌, Bool, true, false, if◌then◌else◌, map, List, [], ◌∷◌, length, slice_get, Some}
 use Rattle.fast_wire.specs.Entities.{IsEntity}
 use Rattle.fast_wire.specs.Maps.{later_bits}
 use Rattle.fast_value.specs.declared.settings.Limits.{Limits}
@@ -13,7 +13,7 @@ use Rattle.fast_template.specs.Flat.{template_data, instructions_from}
 use Rattle.fast_dict.specs.Dictionary.{Dictionary, reset}
 use Rattle.fast_dict.specs.Slots.{slots_terms}
 use Rattle.fast_dict.specs.declared.slots.Slots.{Slots}
-use Rattle.fast_decoder.specs.Cursors.{CursorData, bits_left, at_rest}
+use Rattle.fast_decoder.specs.Cursors.{CursorData, bits_left}
 use Rattle.fast_decoder.specs.Events.{MessageStart}
 use Rattle.fast_decoder.specs.Frames.{resume}
 use Rattle.fast_decoder.specs.GrammarReaders.{reader_of}
@@ -22,7 +22,7 @@ use Rattle.fast_decoder.specs.Continuations.{message_of_then}
 use Rattle.fast_decoder.specs.Passing.{state_past}
 use Rattle.fast_decoder.specs.Readers.{Emit}
 use Rattle.fast_decoder.specs.Serving.{ServesNodes}
-use Rattle.fast_decoder.specs.Positions.{Set, body_in, frames_in, state_in, going_on, IsSupplied, IsBehindMap, IsPlaced, CanTurn, AreFramesFit}
+use Rattle.fast_decoder.specs.Positions.{Set, body_in, frames_in, state_in, going_on, IsBehindMap, CanTurn, AreFramesFit}
 use Rattle.fast_decoder.specs.declared.machine.Machine.{Machine}
 use Rattle.fast_decoder.specs.declared.turns.Turns.{Turns}
 use Rattle.fast_decoder.proofs.Frames.{begin_message}

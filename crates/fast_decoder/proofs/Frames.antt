@@ -9,9 +9,9 @@ use Rattle.fast_value.specs.declared.codes.Code.TheVariants.{R1}
 use Rattle.fast_template.specs.Tree.{Label, FieldData, field, parts, group, sequence, Body, end, step, TemplateData}
 use Rattle.fast_dict.specs.Dictionary.{Dictionary}
 use Rattle.fast_dict.specs.Operators.{ranged}
-use Rattle.fast_decoder.specs.Events.{GroupStart, GroupEnd, SequenceStart, ElementStart, ElementEnd, SequenceEnd, MessageStart, MessageEnd}
+use Rattle.fast_decoder.specs.Events.{GroupStart, GroupEnd, SequenceStart, ElementEnd, SequenceEnd, MessageStart, MessageEnd}
 use Rattle.fast_decoder.specs.Grammar.{Grammar, give, hand, ◌>>=◌, of_result}
-use Rattle.fast_decoder.specs.Messages.{Context, State, Found, field_in, own_bits, count_more, length_in, decimal_with, reset_if}
+use Rattle.fast_decoder.specs.Messages.{Context, State, Found, field_in, count_more, length_in, decimal_with, reset_if}
 use Rattle.fast_decoder.specs.Continuations.{handed_then, segment_then, elements_then, group_if_then, sequence_from_then, instruction_then, body_then, message_of_then}
 use Rattle.fast_decoder.specs.Frames.{Frame, open_group, open_element, unwind, resume}
 pub use Rattle.fast_decoder.specs.Passing.{opened, elements_turn}

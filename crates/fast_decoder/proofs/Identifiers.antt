@@ -1,6 +1,6 @@
 -- The template that an identifier names, and the field of the identifier.
 use Rattle.std.proofs.Common.{refl, sym, ap, ◌∙◌, subst, arith, inl, inr}
-use Rattle.std.specs.Prelude.{◌≡◌, ◌≢◌, ℕ, zero, suc, ◌+◌, ◌-◌, ◌<◌, ◌≤◌, Bool, true, false, ◌&&◌, not, nat_le, nat_eq, nat_abs, if◌then◌else◌, IsTrue, ◌↔◌, map, List, [], ◌∷◌, length, drop, slice_get, Option, Some, None, option_map, Result, Ok, Err}
+use Rattle.std.specs.Prelude.{◌≡◌, ◌≢◌, ℕ, zero, suc, ◌+◌, ◌<◌, ◌≤◌, Bool, true, false, ◌&&◌, not, nat_le, nat_eq, nat_abs, if◌then◌else◌, IsTrue, ◌↔◌, map, List, [], ◌∷◌, length, drop, slice_get, Option, Some, None, option_map, Result, Ok, Err}
 use Rattle.std.proofs.lemmas.Bool.Decides.{eqb_tells}
 use Rattle.fast_wire.specs.Maps.{bytes_for, bits, first_bit, later_bits}
 use Rattle.fast_value.specs.Kinds.{ScalarData, integer_of}

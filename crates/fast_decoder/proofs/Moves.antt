@@ -1,6 +1,6 @@
 -- How turns of a machine follow each other.
-use Rattle.std.proofs.Common.{refl, sym, ap, ◌∙◌, subst, inl, inr, arith}
-use Rattle.std.specs.Prelude.{◌≡◌, ℕ, suc, ◌+◌, ◌<◌, List, [], ◌∷◌, ◌++◌, length, Result, Ok, Err, MatchResult}
+use Rattle.std.proofs.Common.{refl, sym, ap, ◌∙◌, subst, arith}
+use Rattle.std.specs.Prelude.{◌≡◌, ◌+◌, ◌<◌, List, [], ◌∷◌, length, Result, Ok, Err}
 use Rattle.fast_value.specs.declared.codes.Code.{Code}
 use Rattle.fast_dict.specs.Dictionary.{Dictionary}
 use Rattle.fast_decoder.specs.declared.faults.FaultCode.{FaultCode}
@@ -9,7 +9,7 @@ use Rattle.fast_decoder.specs.declared.machine.Turn.{Turn}
 use Rattle.fast_decoder.specs.declared.machine.Turn.TheVariants.{Silent, Handed, Waits as TurnWaits}
 use Rattle.fast_decoder.specs.Events.{EventData}
 use Rattle.fast_decoder.specs.Sinks.{Takes}
-use Rattle.fast_decoder.specs.Readers.{Reader, Done, Emit, Stop, Byte}
+use Rattle.fast_decoder.specs.Readers.{Reader, Emit, Stop}
 use Rattle.fast_decoder.specs.Handing.{Hands, Waits}
 use Rattle.fast_decoder.specs.Moving.{emits, events_due, Moves, Onward}
 use Rattle.fast_decoder.proofs.Hanging.{hands_waits, hands_more, hands_stopped, hands_fault, hands_as}

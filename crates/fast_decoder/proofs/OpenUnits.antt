@@ -1,6 +1,6 @@
 -- Readers that wait: of the unit that they read some bytes have come, and it is cut.
-use Rattle.std.proofs.Common.{refl, sym, ap, ◌∙◌, subst, arith}
-use Rattle.std.specs.Prelude.{◌≡◌, ◌≢◌, ℕ, ◌-◌, ◌<◌, Bool, true, false, List, [], length, ℤ, Option, Some, Ok}
+use Rattle.std.proofs.Common.{refl, ap}
+use Rattle.std.specs.Prelude.{◌≡◌, ◌≢◌, ℕ, ◌-◌, ◌<◌, Bool, true, false, List, [], length, ℤ, Option, Some}
 use Rattle.fast_wire.specs.Entities.{HaveNoStop}
 use Rattle.fast_wire.specs.Integers.{Range, unsigned_range, signed_range, exponent_range, delta_range}
 use Rattle.fast_wire.specs.Maps.{map_limit}
@@ -14,13 +14,13 @@ use Rattle.fast_template.specs.declared.operators.Operator.{Operator}
 use Rattle.fast_template.specs.declared.operators.Operator.TheVariants.{None as no_operator, Constant, Default, Copy, Increment, Delta, Tail}
 use Rattle.fast_template.specs.Tree.{FieldData}
 use Rattle.fast_dict.specs.Dictionary.{PreviousData}
-use Rattle.fast_dict.specs.Operators.{Outcome, decide, Kept, kept_length, subtraction_step, mantissa_step}
+use Rattle.fast_dict.specs.Operators.{decide, kept_length, subtraction_step}
 use Rattle.fast_decoder.specs.Phrases.{cut}
 use Rattle.fast_decoder.specs.Units.{ascii_text as ascii_phrase}
-use Rattle.fast_decoder.specs.Grammar.{Grammar, give, integer, ascii_text, raw, presence_map, ◌>>=◌, of_result}
+use Rattle.fast_decoder.specs.Grammar.{Grammar, give, integer, ascii_text, raw, presence_map, of_result}
 use Rattle.fast_decoder.specs.GrammarReaders.{integer_reader, ascii_text_reader, raw_reader, presence_map_reader, reader_of}
 use Rattle.fast_decoder.specs.Fields.{text, sized, sent_integer, sent_text, sent_decimal, decimal_from, integer_change, mantissa_change, decimal_change, part_change, text_change, item_in, item, change_in, sent, field_by, field_term}
-use Rattle.fast_decoder.specs.Machine.{behind_size, behind_exponent, behind_exponent_delta, behind_kept, behind_part_size, stage_term}
+use Rattle.fast_decoder.specs.Machine.{behind_kept, behind_part_size, stage_term}
 use Rattle.fast_decoder.specs.Stages.{term_behind, IsStageOf}
 use Rattle.fast_decoder.specs.UnitFronts.{IsAsciiFirst, IsNumberStage, IsBytesStage}
 use Rattle.fast_decoder.specs.Taking.{Stays}

@@ -1,9 +1,8 @@
 -- The presence map of a group or an element.
-use Rattle.std.proofs.Common.{refl, sym, ap, ◌∙◌}
-use Rattle.std.specs.Prelude.{◌≡◌, ℕ, List, ◌++◌, length, drop, take}
-use Rattle.fast_wire.specs.Entities.{HaveNoStop}
+use Rattle.std.proofs.Common.{sym, ap, ◌∙◌}
+use Rattle.std.specs.Prelude.{◌≡◌, ℕ, List, drop}
 use Rattle.fast_wire.specs.Maps.{map_limit, bits}
-use Rattle.fast_value.specs.Limits.{Bounds, bounds}
+use Rattle.fast_value.specs.Limits.{bounds}
 use Rattle.fast_value.specs.declared.settings.Limits.{Limits}
 use Rattle.fast_value.specs.declared.codes.Code.TheVariants.{L3}
 use Rattle.fast_dict.specs.Dictionary.{Dictionary}

@@ -1,6 +1,6 @@
 -- Fields that stand in the stream, and fields of which nothing is sent, in front of what follows.
 use Rattle.std.proofs.Common.{refl, sym, ap, ◌∙◌, subst}
-use Rattle.std.specs.Prelude.{◌≡◌, ◌≢◌, ℕ, ◌-◌, Bool, true, false, List, ℤ, Option, Some, None, Result, Ok, Err}
+use Rattle.std.specs.Prelude.{◌≡◌, ◌≢◌, ℕ, Bool, true, List, ℤ, Option, Ok, Err}
 use Rattle.fast_wire.specs.Integers.{Range, unsigned_range, signed_range, exponent_range, delta_range}
 use Rattle.fast_value.specs.declared.kinds.Kind.{Kind}
 use Rattle.fast_value.specs.declared.kinds.Kind.TheVariants.{UInt32, Int32, UInt64, Int64, Decimal, Ascii, Unicode, Bytes}
@@ -12,11 +12,11 @@ use Rattle.fast_template.specs.declared.operators.Operator.{Operator}
 use Rattle.fast_template.specs.declared.operators.Operator.TheVariants.{None as no_operator, Constant, Default, Copy, Increment, Delta, Tail}
 use Rattle.fast_template.specs.Tree.{FieldData}
 use Rattle.fast_dict.specs.Dictionary.{PreviousData, previous_at}
-use Rattle.fast_dict.specs.Operators.{Outcome, Sent, nothing, decide}
-use Rattle.fast_decoder.specs.Readers.{Reader, Byte, Stop, bind}
-use Rattle.fast_decoder.specs.Grammar.{Grammar, give, integer, ascii_text, raw, ◌>>=◌, of_result}
+use Rattle.fast_dict.specs.Operators.{Outcome, nothing, decide}
+use Rattle.fast_decoder.specs.Readers.{Stop, bind}
+use Rattle.fast_decoder.specs.Grammar.{Grammar, give, integer, ascii_text, ◌>>=◌, of_result}
 use Rattle.fast_decoder.specs.GrammarReaders.{integer_reader, ascii_text_reader, reader_of}
-use Rattle.fast_decoder.specs.Fields.{text, sized, sent_integer, sent_text, decimal_from, integer_change, decimal_change, text_change, item_in, item, change_in, change, sent, field_by, field_term}
+use Rattle.fast_decoder.specs.Fields.{text, sized, sent_integer, sent_text, decimal_from, integer_change, decimal_change, text_change, item_in, item, change_in, sent, field_by, field_term}
 use Rattle.fast_decoder.specs.Messages.{State, Found, field_in, found}
 use Rattle.fast_decoder.specs.Taking.{Waits}
 use Rattle.fast_decoder.specs.UnitFronts.{IsSent}

@@ -6,18 +6,16 @@ use Rattle.fast_wire.specs.Entities.{HaveNoStop}
 use Rattle.fast_wire.specs.Maps.{map_limit}
 use Rattle.fast_value.specs.declared.settings.Limits.{Limits}
 use Rattle.fast_template.specs.Numbers.{NameLaterNodes}
-use Rattle.fast_dict.specs.Dictionary.{Dictionary, fresh}
+use Rattle.fast_dict.specs.Dictionary.{fresh}
 use Rattle.fast_dict.specs.Slots.{slots_dictionary}
-use Rattle.fast_decoder.specs.declared.faults.Fault.{Fault}
 use Rattle.fast_decoder.specs.declared.machine.Machine.{Machine}
 use Rattle.fast_decoder.specs.declared.machine.Waiting.{Waiting}
-use Rattle.fast_decoder.specs.declared.machine.Waiting.TheVariants.{Map}
 use Rattle.fast_decoder.specs.Cursors.{CursorData, at_rest}
-use Rattle.fast_decoder.specs.Readers.{Reader, Done}
-use Rattle.fast_decoder.specs.Running.{Stands, at_start}
+use Rattle.fast_decoder.specs.Readers.{Done}
+use Rattle.fast_decoder.specs.Running.{at_start}
 use Rattle.fast_decoder.specs.Handing.{stood}
 use Rattle.fast_decoder.specs.Positions.{Set, meaning, meaning_at, map_reader, CanTake, IsSupplied, IsReady, IsFresh}
-use Rattle.fast_decoder.specs.Decoding.{DecoderData, tree, IsSoundAt, IsSound, IsAt, So}
+use Rattle.fast_decoder.specs.Decoding.{DecoderData, IsSoundAt, IsSound, IsAt, So}
 
 none_open : (m : List ℕ) → m ≡ [] → HaveNoStop m
 none_open m e = subst HaveNoStop (sym e) (All-nil (λ b. b < 128))

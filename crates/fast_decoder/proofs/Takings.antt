@@ -1,26 +1,20 @@
 -- How a machine takes the bytes of an entity, of which some are in hand.
-use Rattle.std.proofs.Common.{refl, sym, ap, ◌∙◌, subst, arith, inl, inr, length-append}
-use Rattle.std.specs.Prelude.{◌≡◌, ℕ, ◌+◌, ◌<◌, ◌≤◌, Bool, false, List, [], ◌∷◌, ◌++◌, length, take, ℤ, pos, Option, Some, Result, Ok, Err}
+use Rattle.std.proofs.Common.{refl, sym, ap, ◌∙◌, subst, arith, length-append}
+use Rattle.std.specs.Prelude.{◌≡◌, ℕ, ◌+◌, ◌<◌, ◌≤◌, List, [], ◌∷◌, ◌++◌, length, take, Result, Ok, Err}
 use Rattle.std.proofs.lemmas.List.{take_all, length-take-le}
 use Rattle.fast_wire.specs.Entities.{HaveNoStop, IsEntity}
-use Rattle.fast_wire.specs.Integers.{unsigned_range, unsigned_up_to, SpellsInt}
 use Rattle.fast_wire.specs.Maps.{map_limit}
-use Rattle.fast_wire.specs.Fronts.{IsWrongInt}
-use Rattle.fast_wire.specs.declared.reads.WireFault.{WireFault}
-use Rattle.fast_wire.specs.declared.reads.WireFault.TheVariants as Wire
 use Rattle.fast_value.specs.declared.settings.Limits.{Limits}
 use Rattle.fast_value.specs.Limits.{bounds}
 use Rattle.fast_value.specs.declared.codes.Code.{Code}
-use Rattle.fast_value.specs.declared.codes.Code.TheVariants.{D2, R6, L3}
+use Rattle.fast_value.specs.declared.codes.Code.TheVariants.{L3}
 use Rattle.fast_template.specs.Tree.{Tree}
 use Rattle.fast_dict.specs.Dictionary.{Dictionary}
 use Rattle.fast_decoder.specs.declared.faults.FaultCode.{FaultCode}
 use Rattle.fast_decoder.specs.declared.faults.FaultCode.TheVariants as Why
-use Rattle.fast_decoder.specs.Codes.{stream_code}
-use Rattle.fast_decoder.specs.Pending.{top}
 use Rattle.fast_decoder.specs.Events.{EventData}
-use Rattle.fast_decoder.specs.Readers.{Reader, bind}
-use Rattle.fast_decoder.specs.GrammarReaders.{settles_reader, judged, reader_of}
+use Rattle.fast_decoder.specs.Readers.{Reader}
+use Rattle.fast_decoder.specs.GrammarReaders.{reader_of}
 use Rattle.fast_decoder.specs.Continuations.{message_then}
 use Rattle.fast_decoder.specs.Machine.{after_bytes}
 use Rattle.fast_decoder.specs.Running.{after_byte}
@@ -28,7 +22,6 @@ use Rattle.fast_decoder.specs.Handing.{Hands, due, Waits, Quiet, IsTaken}
 use Rattle.fast_decoder.specs.Positions.{Set, tree_in, behind_map, mapped_reader, map_reader}
 use Rattle.fast_decoder.proofs.Hanging.{hands_waits, hands_fault, hands_as}
 use Rattle.fast_decoder.proofs.InHand.{entity_then, IsOpenBefore, open_in_entity, open_in_open, open_waits, whole_gives, full_stops, takes_quietly}
-use Rattle.fast_decoder.proofs.Integers.{ok-judged, overlong-judged, outside-judged}
 use Rattle.fast_decoder.proofs.Stepping.{map-entity}
 
 -- Bytes in two runs.
@@ -91,29 +84,6 @@ module _ {S : Type 0} (takes stops : S → EventData → S → Type 0) (t : Tree
         let (before, b, e) = last_of (front ++ take n rest) (omega arith) in
         taken_by n s (Err (Why.Stream c)) s to some within (open_in_open front (take n rest) no_stop) (omega arith)
         (hands_fault takes stops s to (ap (after_bytes (entity_then c room k)) e ∙ full_stops c room k before b (subst HaveNoStop e no_stop) (ap length (sym e) ∙ full)))
-
--- what is read of a mandatory uInt32 behind its entity
-abbrev pub number_behind : Bool → (Option ℤ → Reader Dictionary) → List ℕ → Reader Dictionary
-number_behind strict f w = bind (settles_reader (judged strict (unsigned_range 32) false D2 w)) f
-
--- A number that is spelled, and entities that are none.
-pub number_whole : (strict : Bool) (f : Option ℤ → Reader Dictionary) (w : List ℕ) (x : ℕ) → SpellsInt strict (unsigned_up_to top) false (Some (pos x)) w → number_behind strict f w ≡ f (Some (pos x))
-number_whole strict f w x h = ap (λ r. bind (settles_reader r) f) (ok-judged strict (unsigned_range 32) false D2 w (Some (pos x)) h.form.shortest h.meaning h.fits)
-
-module _ {S : Type 0} (takes stops : S → EventData → S → Type 0) (t : Tree) (l : Limits) (f : Option ℤ → Reader Dictionary) (from : Reader Dictionary) (front rest : List ℕ)
-    (here : due t l from ≡ after_bytes (entity_then D2 10 (number_behind l.strict f)) front) where
-  taken_at_fault : (c : Code) (n : ℕ) (s : S) (to : Reader Dictionary) → 0 < n → n ≤ length rest → IsEntity (front ++ take n rest) → length (front ++ take n rest) ≤ 10
-      → judged l.strict (unsigned_range 32) false D2 (front ++ take n rest) ≡ Err c → IsTaken takes stops t l from rest s n (Err (Why.Stream c)) s to
-  taken_at_fault c n s to some within entity short e =
-      taken_whole takes stops t l D2 10 (number_behind l.strict f) from front rest here n s (Err (Why.Stream c)) s to some within entity short
-      (hands_fault takes stops s to (ap (λ r. bind (settles_reader r) f) e))
-
-  pub taken_wrong : (fault : WireFault) (n : ℕ) (s : S) (to : Reader Dictionary) → 0 < n → n ≤ length rest → IsWrongInt l.strict (unsigned_up_to top) false fault (front ++ take n rest)
-      → IsTaken takes stops t l from rest s n (Err (Why.Stream (stream_code fault))) s to
-  taken_wrong Wire.R6 n s to some within h = taken_at_fault R6 n s to some within h.0 h.1 (overlong-judged l.strict (unsigned_range 32) false D2 (front ++ take n rest) h.2 h.3)
-  taken_wrong Wire.D2 n s to some within (inl h) = taken_full takes stops t l D2 10 (number_behind l.strict f) from front rest here n s to some within h.0 h.1
-  taken_wrong Wire.D2 n s to some within (inr h) =
-      taken_at_fault D2 n s to some within h.1.entity h.1.short (outside-judged l.strict (unsigned_range 32) false D2 (front ++ take n rest) h.0 h.1.shortest h.2 h.3)
 
 -- the map of a message, of which these bytes have come
 pub map-reader : (set : Set) (l : Limits) (d : Dictionary) → reader_of l.strict (message_then (tree_in set) (bounds l) d) ≡ entity_then L3 map_limit (mapped_reader set l d)

@@ -2,7 +2,7 @@
 use Rattle.std.proofs.Common.{refl, sym, ap, ◌∙◌, subst, arith, inl, inr}
 use Rattle.std.specs.Prelude.{◌≡◌, ◌≢◌, ℕ, ◌<◌, ◌≤◌, Bool, true, List, [], ◌∷◌, length, drop, slice_get, ℤ, Some}
 use Rattle.std.proofs.lemmas.Option.{slice_get_cases}
-use Rattle.fast_wire.specs.Maps.{bits, first_bit}
+use Rattle.fast_wire.specs.Maps.{bits}
 use Rattle.fast_value.specs.declared.settings.Limits.{Limits}
 use Rattle.fast_value.specs.declared.kinds.Kind.{Kind}
 use Rattle.fast_value.specs.declared.kinds.Kind.TheVariants.{UInt32, Int32, Int64, Ascii}
@@ -12,21 +12,20 @@ use Rattle.fast_template.specs.declared.instructions.Shape.{Shape}
 use Rattle.fast_template.specs.declared.instructions.Shape.TheVariants.{Field as FieldShape, Decimal, Group, Sequence}
 use Rattle.fast_template.specs.Numbers.{AreBelow, NameLaterNodes}
 use Rattle.fast_template.specs.NodeData.{shape_data}
-use Rattle.fast_template.specs.Tree.{Label, FieldData, identifier, uses_bit, Body, step}
+use Rattle.fast_template.specs.Tree.{Label, FieldData, identifier, Body, step}
 use Rattle.fast_template.specs.Flat.{field_data, label_of}
-use Rattle.fast_dict.specs.Dictionary.{Dictionary, previous_at}
+use Rattle.fast_dict.specs.Dictionary.{Dictionary}
 use Rattle.fast_dict.specs.Slots.{slots_dictionary, slots_terms}
 use Rattle.fast_dict.specs.Stores.{Terms}
 use Rattle.fast_decoder.specs.Fields.{field_term}
 use Rattle.fast_decoder.specs.Grammar.{Grammar, narrow, ◌>>=◌}
 use Rattle.fast_decoder.specs.Messages.{State, Found, begin, field_in, found, decimal_with}
-use Rattle.fast_decoder.specs.Readers.{Reader, bind}
+use Rattle.fast_decoder.specs.Readers.{bind}
 use Rattle.fast_decoder.specs.GrammarReaders.{reader_of}
 use Rattle.fast_decoder.specs.Continuations.{handed_then, message_behind_then}
 use Rattle.fast_decoder.specs.Frames.{Frame, resume}
-use Rattle.fast_decoder.specs.Machine.{after_bytes}
 use Rattle.fast_decoder.specs.Taking.{Waits, Stays}
-use Rattle.fast_decoder.specs.Serving.{body_among, instruction_among, ServesShape, ServesNodes}
+use Rattle.fast_decoder.specs.Serving.{body_among, instruction_among, ServesShape}
 use Rattle.fast_decoder.specs.Stages.{term_behind}
 use Rattle.fast_decoder.specs.UnitFronts.{IsSent, IsAsciiFirst}
 use Rattle.fast_decoder.specs.Positions.{Set, tree_in, body_in, frames_in, state_in, bit_of, unit_then, mantissa_then, term_at, front_at, unit_reader, meaning, meaning_at, BeginsWithInteger, BeginsWithText, GoesOnWithMantissa, GoesOnWithNumber, GoesOnWithBytes, CanTake, IsReady}
@@ -38,7 +37,7 @@ use Rattle.fast_decoder.proofs.BodyNodes.{body_step}
 use Rattle.fast_decoder.proofs.Frames.{at_field, at_parts, at_sequence, mantissa_turn, sequence_turn}
 use Rattle.fast_decoder.proofs.SentFields.{before, field_then, field_sent}
 use Rattle.fast_decoder.proofs.Turning.{stays_on, stays_as, term_stays}
-use Rattle.fast_decoder.proofs.OpenUnits.{IsOpen, integer_open, map_open, field_open, ascii_field_open, number_open, bytes_open}
+use Rattle.fast_decoder.proofs.OpenUnits.{IsOpen, map_open, field_open, ascii_field_open, number_open, bytes_open}
 
 -- A field that begins with an integer, in front of what follows it.
 integer_field : {A : Type 0} (s : Bool) (l : Bounds) (f : FieldData) (st : State) (k : Found → Grammar A) (w : List ℕ) → IsSent f (bit_of f st) → ¬ (IsAsciiFirst f) → IsOpen w → Stays (reader_of s (field_in l f st >>= k)) w
@@ -73,7 +72,7 @@ module _ (s : Bool) (l : Bounds) (fs : List Frame) (nodes : List Node) (entries 
       let b = subst (λ (x : Body). BeginsWithText limits x st w) e begins in
       let sent : IsSent (field_data f) (bit_of (field_data f) st) = b.0 in
       stays_as (ap (λ (x : Body). reader_of s (resume l fs x st)) e ∙ ap (reader_of s) (at_field l fs at (field_data f) is st)
-          ∙ field_sent s l (field_data f) st (λ r. handed_then at.node (resume l fs is) r.0 r.1) sent)
+      ∙ field_sent s l (field_data f) st (λ r. handed_then at.node (resume l fs is) r.0 r.1) sent)
       (stays_on (λ o. reader_of s (handed_then at.node (resume l fs is) (found (field_data f) st o).0 (found (field_data f) st o).1))
       (subst (λ (x : Bounds). Stays (reader_of s (field_term x (field_data f) (before (field_data f) st) true)) w) (sym same) (ascii_field_open s (bounds limits) (field_data f) (before (field_data f) st) w b.1 sent.varies b.2)))
   by_ascii limits (Decimal x m) w same e begins = absurd (subst (λ (y : Body). BeginsWithText limits y st w) e begins)

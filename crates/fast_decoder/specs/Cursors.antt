@@ -1,5 +1,5 @@
 -- Where a decoder is in a message: the open segments, the instructions that are left, and the bits that are left.
-use Rattle.std.specs.Prelude.{ℕ, Bool, List, [], ◌∷◌, drop, length, Option, Some, None}
+use Rattle.std.specs.Prelude.{ℕ, Bool, List, [], ◌∷◌, drop, Option}
 use Rattle.fast_wire.specs.Maps.{bits}
 
 -- What is still to come of a sequence behind an element: so many elements, the nodes of each, and the bits that each uses.

@@ -1,5 +1,5 @@
 -- What a contract sees of a decoder, and what leads to it.
-use Rattle.std.specs.Prelude.{◌≡◌, ◌⊎◌, ℕ, ◌+◌, ◌<◌, ◌≤◌, ◌^◌, ◌&&◌, Bool, false, nat_eq, is_none, List, ◌++◌, length, take, Option, Some, None, Result, Ok, Err}
+use Rattle.std.specs.Prelude.{◌≡◌, ◌⊎◌, ℕ, ◌+◌, ◌<◌, ◌≤◌, ◌^◌, ◌&&◌, is_none, List, ◌++◌, length, take, Option, Some, None, Result, Ok, Err}
 use Rattle.fast_value.specs.declared.settings.Limits.{Limits}
 use Rattle.fast_template.specs.Tree.{Tree}
 use Rattle.fast_template.specs.Numbers.{NameLaterNodes}

@@ -1,5 +1,5 @@
 -- How a machine moves on without a byte.
-use Rattle.std.specs.Prelude.{◌≡◌, ℕ, suc, List, [], ◌∷◌, ◌++◌, Result, Ok, Err}
+use Rattle.std.specs.Prelude.{◌≡◌, ℕ, suc, List, [], ◌∷◌, Result, Ok, Err}
 use Rattle.fast_dict.specs.Dictionary.{Dictionary}
 use Rattle.fast_decoder.specs.declared.faults.FaultCode.{FaultCode}
 use Rattle.fast_decoder.specs.declared.machine.Turn.{Turn}

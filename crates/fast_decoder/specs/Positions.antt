@@ -1,26 +1,22 @@
 -- Where a machine is in a stream, by what it keeps.
-use Rattle.std.specs.Prelude.{◌≡◌, ◌≢◌, ◌⊎◌, ℕ, suc, ◌+◌, ◌-◌, ◌<◌, ◌≤◌, ◌^◌, Bool, true, false, nat_eq, if◌then◌else◌, List, [], ◌∷◌, length, drop, map, ℤ, Option, Some, None, Result, Ok, Err}
+use Rattle.std.specs.Prelude.{◌≡◌, ◌⊎◌, ℕ, suc, ◌+◌, ◌<◌, ◌≤◌, Bool, true, false, nat_eq, if◌then◌else◌, List, [], ◌∷◌, length, drop, map, ℤ, Option, Some, None, Result, Ok, Err}
 use Rattle.fast_wire.specs.Entities.{HaveNoStop, IsEntity}
 use Rattle.fast_wire.specs.Maps.{map_limit, bits, first_bit}
 use Rattle.fast_value.specs.declared.settings.Limits.{Limits}
-use Rattle.fast_value.specs.declared.kinds.Kind.TheVariants.{Ascii}
-use Rattle.fast_value.specs.Kinds.{texts, family}
 use Rattle.fast_value.specs.Limits.{Bounds, bounds}
-use Rattle.fast_template.specs.declared.operators.Operator.TheVariants.{Constant, Delta}
 use Rattle.fast_template.specs.declared.instructions.Node.{Node}
 use Rattle.fast_template.specs.declared.instructions.Template.{Template}
 use Rattle.fast_template.specs.Numbers.{AreBelow}
 use Rattle.fast_template.specs.Sizes.{body_depth, set_depth}
-use Rattle.fast_template.specs.Tree.{Label, FieldData, identifier, uses_bit, field, parts, group, sequence, Body, end, step, bits_of, Tree}
+use Rattle.fast_template.specs.Tree.{Label, FieldData, identifier, uses_bit, field, parts, group, sequence, Body, step, bits_of, Tree}
 use Rattle.fast_template.specs.declared.sets.Templates.{Templates}
 use Rattle.fast_template.specs.Flat.{field_data, instructions_from, template_data, templates_of, nodes_of}
-use Rattle.fast_dict.specs.Dictionary.{PreviousData, Dictionary, fresh, previous_at}
+use Rattle.fast_dict.specs.Dictionary.{Dictionary, fresh, previous_at}
 use Rattle.fast_dict.specs.Slots.{slots_dictionary, slots_terms}
 use Rattle.fast_decoder.specs.Events.{EventData}
 use Rattle.fast_decoder.specs.Moving.{Moves}
 use Rattle.fast_decoder.specs.Phrases.{cut}
 use Rattle.fast_decoder.specs.Units.{ascii_text}
-use Rattle.fast_decoder.specs.Fields.{field_term}
 use Rattle.fast_decoder.specs.Grammar.{Grammar, presence_map, narrow, ◌>>=◌}
 use Rattle.fast_decoder.specs.Messages.{State, begin, field_in, found, decimal_with}
 use Rattle.fast_decoder.specs.Readers.{Reader, Done, bind}

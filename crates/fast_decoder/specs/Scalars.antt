@@ -1,5 +1,5 @@
 -- How a machine takes the units of the next instruction, a field that is neither a length nor a part of a decimal.
-use Rattle.std.specs.Prelude.{◌≡◌, ℕ, ◌<◌, true, List, ◌++◌, length}
+use Rattle.std.specs.Prelude.{◌≡◌, ℕ, true, List, ◌++◌}
 use Rattle.fast_value.specs.declared.settings.Limits.{Limits}
 use Rattle.fast_value.specs.Limits.{Bounds, bounds}
 use Rattle.fast_template.specs.Tree.{FieldData}
@@ -10,12 +10,10 @@ use Rattle.fast_decoder.specs.Grammar.{Grammar}
 use Rattle.fast_decoder.specs.GrammarReaders.{reader_of}
 use Rattle.fast_decoder.specs.Fields.{field_term}
 use Rattle.fast_decoder.specs.Settling.{value_at}
-use Rattle.fast_decoder.specs.Cursors.{CursorData}
 use Rattle.fast_decoder.specs.Stages.{term_behind, IsStageOf, IsFieldUnit}
 use Rattle.fast_decoder.specs.UnitFronts.{IsSent, IsNextStage}
 use Rattle.fast_decoder.specs.Passing.{value_then}
 use Rattle.fast_decoder.specs.Positions.{Set, body_in, frames_in, state_in, bit_of, unit_then, front_at, CanTurn, IsSupplied, IsReady}
-use Rattle.fast_decoder.specs.declared.stages.Stage.{Stage}
 use Rattle.fast_decoder.specs.declared.stages.Step.{Step}
 use Rattle.fast_decoder.specs.declared.stages.Step.TheVariants.{Settled, Next}
 use Rattle.fast_decoder.specs.declared.progress.Progress.{Progress}

@@ -1,14 +1,12 @@
 -- What a field leaves when it is whole: the bytes it took, its value, and the dictionary.
-use Rattle.std.specs.Prelude.{◌≡◌, ◌⊎◌, ℕ, ◌<◌, ◌≤◌, true, List, [], ◌++◌, length, take, is_some, Option, Some, None, unwrap_or}
-use Rattle.fast_value.specs.declared.kinds.Kind.{Kind}
-use Rattle.fast_value.specs.declared.codes.Code.{Code}
-use Rattle.fast_value.specs.Kinds.{ScalarData, U, I, Dec, texts, family, text_of, value_of_text}
+use Rattle.std.specs.Prelude.{◌≡◌, ℕ, ◌<◌, ◌≤◌, true, List, ◌++◌, length, take, is_some, Option, Some, None}
+use Rattle.fast_value.specs.Kinds.{ScalarData, U, I, Dec, texts, family, value_of_text}
 use Rattle.fast_template.specs.declared.operators.Operator.TheVariants.{Tail}
 use Rattle.fast_template.specs.Tree.{FieldData}
 use Rattle.fast_template.specs.Entries.{keeps_value}
 use Rattle.fast_dict.specs.Dictionary.{Dictionary, PreviousData, undefined, empty, assigned, previous_at, write_at}
 use Rattle.fast_dict.specs.Operators.{Outcome}
-use Rattle.fast_dict.specs.Stores.{Terms, IsText, IsStorable}
+use Rattle.fast_dict.specs.Stores.{Terms, IsStorable}
 use Rattle.fast_decoder.specs.Readers.{Reader, Done, Stop}
 use Rattle.fast_decoder.specs.Taking.{Turns, Stays}
 use Rattle.fast_decoder.specs.declared.progress.Progress.{Progress}

@@ -1,6 +1,5 @@
 -- How a reader takes bytes, of which some are in hand from earlier pieces.
 use Rattle.std.specs.Prelude.{◌≡◌, ℕ, ◌<◌, ◌≤◌, List, [], ◌∷◌, ◌++◌, length, take}
-use Rattle.fast_value.specs.declared.codes.Code.{Code}
 use Rattle.fast_decoder.specs.Readers.{Reader, Done, Stop, Byte}
 use Rattle.fast_decoder.specs.Running.{after_byte}
 use Rattle.fast_decoder.specs.Machine.{after_bytes}

@@ -1,5 +1,5 @@
 -- The units of a field that is neither a length nor a part of a decimal: which one is in hand, and what bytes of it have come.
-use Rattle.std.specs.Prelude.{◌≡◌, ◌≢◌, ℕ, ◌-◌, ◌<◌, ◌≤◌, Bool, true, false, List, [], ◌++◌, length, ℤ, Ok}
+use Rattle.std.specs.Prelude.{◌≡◌, ◌≢◌, ℕ, ◌-◌, ◌<◌, Bool, true, false, List, [], ◌++◌, length, ℤ, Ok}
 use Rattle.fast_wire.specs.Entities.{HaveNoStop}
 use Rattle.fast_value.specs.declared.kinds.Kind.TheVariants.{Ascii}
 use Rattle.fast_value.specs.Limits.{Bounds}
@@ -10,7 +10,6 @@ use Rattle.fast_dict.specs.Operators.{Kept, kept_length, subtraction_step}
 use Rattle.fast_decoder.specs.Phrases.{cut}
 use Rattle.fast_decoder.specs.Units.{ascii_text}
 use Rattle.fast_decoder.specs.Fields.{field_term}
-use Rattle.fast_decoder.specs.Stages.{IsStageOf}
 use Rattle.fast_decoder.specs.declared.stages.Stage.{Stage}
 use Rattle.fast_decoder.specs.declared.stages.Stage.TheVariants.{Mantissa, MantissaDelta, Vector, Part, PartVector}
 use Rattle.fast_decoder.specs.declared.stages.Step.{Step}

@@ -1,52 +1,11 @@
-//! Units that a piece may cut: integers and presence maps.
+//! Presence maps that a piece may cut.
 
 ghost use Rattle.std.specs.Prelude.{◌≡◌, ◌<◌, length, take};
 ghost use Rattle.fast_wire.specs.Entities.{HaveNoStop};
 ghost use Rattle.fast_wire.specs.Maps.{map_limit};
-ghost use Rattle.fast_decoder.specs.Pending.{IsNextInt, IsNextMap};
+ghost use Rattle.fast_decoder.specs.Pending.{IsNextMap};
 
-use fast_wire::{Entity, First, MapStep, Step, WireFault, first_unsigned, map_push, read_unsigned};
-
-/// The greatest uInt32.
-pub const TOP: u64 = 4_294_967_295;
-
-/// The uInt32 that begins with the bytes in hand and goes on with the rest. The bytes that are counted are those of the rest.
-pub fn next_integer(pending: &mut Entity, rest: &[u8], strict: bool) -> First<u64>
-    requires open { HaveNoStop pending.old }
-    requires short { length pending.old < 10 }
-    ensures { IsNextInt strict pending.old rest.now pending.new result }
-{
-    if pending.is_empty() {
-        match first_unsigned(rest, strict, TOP) {
-            First::Cut => {}
-            decided => return decided,
-        }
-    }
-    complete(pending, rest, strict)
-}
-
-/// The same, byte after byte.
-fn complete(pending: &mut Entity, rest: &[u8], strict: bool) -> First<u64>
-    requires open { HaveNoStop pending.old }
-    requires short { length pending.old < 10 }
-    ensures { IsNextInt strict pending.old rest.now pending.new result }
-{
-    for (i, byte) in rest.iter().enumerate() {
-        match pending.push(*byte) {
-            Step::More => {}
-            Step::TooLong => return First::Wrong(WireFault::D2, i + 1),
-            Step::Whole => {
-                let read = read_unsigned(pending.as_slice(), strict, TOP);
-                pending.clear();
-                return match read {
-                    Ok(value) => First::Whole(value, i + 1),
-                    Err(fault) => First::Wrong(fault, i + 1),
-                };
-            }
-        }
-    }
-    First::Cut
-}
+use fast_wire::{MapStep, map_push};
 
 /// What the bytes of a piece make of a presence map, and how many of them decide it.
 #[derive(Clone, Copy, Debug, PartialEq, Eq)]

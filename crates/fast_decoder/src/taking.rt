@@ -41,8 +41,8 @@ use crate::settling::hand;
 use crate::source::Source;
 use crate::stages::{Stage, Step};
 use crate::turns::Turns;
-use fast_dict::{Slots, Store};
 use fast_dict::operators::integers::integer_of;
+use fast_dict::{Slots, Store};
 use fast_template::{FieldInstruction, Operator, Shape, Template, Templates};
 use fast_value::{Code, Kind, Limits, Scalar};
 use fast_wire::{Entity, map_overlong};
@@ -395,7 +395,15 @@ impl<'t> Machine<'t> {
                 self.take_exponent(templates, limits, number, exponent, mantissa, rest, sink)
             }
             Shape::Sequence { length, body } => {
-                self.take_length(templates, limits, number, length, body.as_slice(), rest, sink)
+                self.take_length(
+                    templates,
+                    limits,
+                    number,
+                    length,
+                    body.as_slice(),
+                    rest,
+                    sink,
+                )
             }
             Shape::Group { .. } => Taken::cut(rest),
         }
@@ -424,12 +432,19 @@ impl<'t> Machine<'t> {
         ensures ready { OnOk result.outcome (IsReady (set_of templates.now) limits self.new) }
         ensures supplied { IsSupplied (set_of templates.now) limits self.new }
     {
-        match take_integer(&mut self.slots, &mut self.entity, exponent, rest, limits.strict) {
+        match take_integer(
+            &mut self.slots,
+            &mut self.entity,
+            exponent,
+            rest,
+            limits.strict,
+        ) {
             Progress::Cut => Taken::cut(rest),
             Progress::Wrong(code, bytes) => Taken::wrong(code, bytes),
             Progress::Whole(source, bytes) => {
-                let turn = self
-                    .exponent_known(templates, limits, node, exponent, mantissa, source, sink);
+                let turn = self.exponent_known(
+                    templates, limits, node, exponent, mantissa, source, sink,
+                );
                 let outcome = self.go_on(templates, limits, turn, sink);
                 Taken { bytes, outcome }
             }
@@ -461,12 +476,17 @@ impl<'t> Machine<'t> {
         ensures ready { OnOk result.outcome (IsReady (set_of templates.now) limits self.new) }
         ensures supplied { IsSupplied (set_of templates.now) limits self.new }
     {
-        match take_integer(&mut self.slots, &mut self.entity, length, rest, limits.strict) {
+        match take_integer(
+            &mut self.slots,
+            &mut self.entity,
+            length,
+            rest,
+            limits.strict,
+        ) {
             Progress::Cut => Taken::cut(rest),
             Progress::Wrong(code, bytes) => Taken::wrong(code, bytes),
             Progress::Whole(source, bytes) => {
-                let turn =
-                    self.length_known(templates, limits, node, length, body, source, sink);
+                let turn = self.length_known(templates, limits, node, length, body, source, sink);
                 let outcome = self.go_on(templates, limits, turn, sink);
                 Taken { bytes, outcome }
             }
@@ -496,7 +516,13 @@ impl<'t> Machine<'t> {
         let Shape::Decimal { mantissa, .. } = &templates.node(number).shape else {
             return Taken::cut(rest);
         };
-        match take_integer(&mut self.slots, &mut self.entity, mantissa, rest, limits.strict) {
+        match take_integer(
+            &mut self.slots,
+            &mut self.entity,
+            mantissa,
+            rest,
+            limits.strict,
+        ) {
             Progress::Cut => Taken::cut(rest),
             Progress::Wrong(code, bytes) => Taken::wrong(code, bytes),
             Progress::Whole(source, bytes) => {
@@ -714,11 +740,15 @@ impl<'t> Machine<'t> {
             Waiting::Field => self.take_instruction(templates, limits, rest, sink),
             Waiting::Map => self.take_map(templates, limits, rest, sink),
             Waiting::Identifier => self.take_identifier(templates, limits, rest, sink),
-            Waiting::SegmentMap(width) => self.take_segment_map(templates, limits, width, rest, sink),
+            Waiting::SegmentMap(width) => self.take_segment_map(
+                templates, limits, width, rest, sink,
+            ),
             Waiting::Text | Waiting::Number(_) | Waiting::Bytes(_) => {
                 self.take_later(templates, limits, rest, sink)
             }
-            Waiting::Mantissa(exponent) => self.take_mantissa(templates, limits, exponent, rest, sink),
+            Waiting::Mantissa(exponent) => self.take_mantissa(
+                templates, limits, exponent, rest, sink,
+            ),
         }
     }
 

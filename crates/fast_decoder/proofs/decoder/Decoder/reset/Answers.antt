@@ -1,6 +1,6 @@
-use Rattle.std.proofs.Common.{◌≡◌, refl}
+use Rattle.std.proofs.Common.{refl}
 use Rattle.std.specs.Prelude.{None}
-use Rattle.fast_decoder.specs.Positions.{Set, set_of, IsSupplied, IsFresh}
+use Rattle.fast_decoder.specs.Positions.{set_of, IsSupplied, IsFresh}
 use Rattle.fast_decoder.specs.Decoding.{DecoderData}
 use Rattle.fast_decoder.proofs.Starts.{sound_fresh, so_fresh}
 use Rattle.fast_decoder.proofs.decoder.Decoder.reset.Goals as goal

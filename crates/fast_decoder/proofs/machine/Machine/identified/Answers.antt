@@ -1,9 +1,9 @@
-use Rattle.std.proofs.Common.{◌≡◌, ℕ, ◌<◌, ap, ◌∙◌, sym, arith, length}
-use Rattle.std.specs.Prelude.{true, false, ◌&&◌, not, nat_le, nat_abs, Option, option_map, slice_index}
+use Rattle.std.proofs.Common.{◌≡◌, ◌<◌, ap, ◌∙◌, sym, arith, length}
+use Rattle.std.specs.Prelude.{true, false, ◌&&◌, not, nat_le, Option}
 use Rattle.std.proofs.lemmas.Option.{slice_get_within}
 use Rattle.std.proofs.lemmas.Grind.{get_or_default_zero}
 use Rattle.fast_wire.specs.Maps.{bytes_for}
-use Rattle.fast_value.specs.Kinds.{ScalarData, integer_of}
+use Rattle.fast_value.specs.Kinds.{ScalarData}
 use Rattle.fast_value.specs.Limits.{bounds}
 use Rattle.fast_template.specs.Tree.{identifier, message_bits}
 use Rattle.fast_template.specs.Flat.{template_data, instructions_from}

@@ -1,4 +1,4 @@
-use Rattle.std.proofs.Common.{◌≡◌, refl, sym, ap, ◌∙◌}
+use Rattle.std.proofs.Common.{refl, sym, ap, ◌∙◌}
 use Rattle.fast_dict.specs.Dictionary.{fresh}
 use Rattle.fast_dict.specs.Slots.{slots_sized}
 use Rattle.fast_decoder.specs.Cursors.{CursorData, at_rest}

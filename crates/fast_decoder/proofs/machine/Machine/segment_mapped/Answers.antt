@@ -6,7 +6,6 @@ use Rattle.fast_dict.specs.Dictionary.{Dictionary}
 use Rattle.fast_dict.specs.Slots.{slots_dictionary}
 use Rattle.fast_decoder.specs.Grammar.{Grammar, narrow}
 use Rattle.fast_decoder.specs.GrammarReaders.{spare, reader_of}
-use Rattle.fast_decoder.specs.Readers.{Reader}
 use Rattle.fast_decoder.specs.Positions.{set_of, going_on, meaning}
 use Rattle.fast_decoder.proofs.Hanging.{hands_fault, hands_as}
 use Rattle.fast_decoder.proofs.Identifiers.{map_spare, map_judged, narrow-wide, narrow-fits}

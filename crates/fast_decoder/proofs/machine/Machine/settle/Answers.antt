@@ -1,10 +1,10 @@
-use Rattle.std.proofs.Common.{◌≡◌, ℕ, ◌<◌, sym, ap, ◌∙◌, subst}
+use Rattle.std.proofs.Common.{◌≡◌, ℕ, ◌<◌, ap, ◌∙◌, subst}
 use Rattle.std.specs.Prelude.{Result, Ok}
 use Rattle.fast_decoder.specs.declared.faults.FaultCode.{FaultCode}
 use Rattle.fast_decoder.specs.declared.machine.Turn.{Turn}
 use Rattle.fast_decoder.specs.declared.machine.Turn.TheVariants.{Handed}
 use Rattle.fast_decoder.specs.Moving.{events_due}
-use Rattle.fast_decoder.specs.Positions.{set_of, IsTurn, CanTurn, turning, meaning}
+use Rattle.fast_decoder.specs.Positions.{set_of, IsTurn, turning, meaning}
 use Rattle.fast_decoder.proofs.Moves.{onward_handed, fewer_due}
 use Rattle.fast_decoder.proofs.machine.Machine.settle.Goals as goal
 

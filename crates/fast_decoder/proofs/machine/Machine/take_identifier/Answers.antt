@@ -1,4 +1,4 @@
-use Rattle.std.proofs.Common.{◌≡◌, ℕ, ap, ◌∙◌, sym, subst, refl, length, take}
+use Rattle.std.proofs.Common.{ℕ, ap, ◌∙◌, sym, subst, refl, length, take}
 use Rattle.std.specs.Prelude.{List, [], ◌++◌, true}
 use Rattle.std.proofs.lemmas.List.{length-take-le}
 use Rattle.fast_value.specs.Limits.{bounds}
@@ -13,7 +13,7 @@ use Rattle.fast_decoder.specs.Settling.{GivesField}
 use Rattle.fast_decoder.specs.Taking.{Turns, Stays}
 use Rattle.fast_decoder.specs.declared.machine.Waiting.{Waiting}
 use Rattle.fast_decoder.specs.declared.machine.Machine.{Machine}
-use Rattle.fast_decoder.specs.Positions.{set_of, tree_in, behind_map, meaning, meaning_at, CanTake}
+use Rattle.fast_decoder.specs.Positions.{set_of, tree_in, behind_map, meaning_at, CanTake}
 use Rattle.fast_decoder.proofs.Hanging.{hands_as}
 use Rattle.fast_decoder.proofs.Takes.{taken_turns, taken_fault, taken_stays}
 use Rattle.fast_decoder.proofs.Takings.{taken_as}

@@ -1,4 +1,4 @@
-use Rattle.std.proofs.Common.{◌≡◌, ℕ, ◌+◌, ◌<◌, ap, ◌∙◌, sym, subst, arith, refl, length, take, length-append}
+use Rattle.std.proofs.Common.{◌≡◌, ℕ, ◌+◌, ap, ◌∙◌, subst, arith, refl, length, take, length-append}
 use Rattle.std.specs.Prelude.{List, ◌++◌}
 use Rattle.std.proofs.lemmas.List.{length-take-le}
 use Rattle.fast_wire.specs.Maps.{map_limit}
@@ -7,12 +7,11 @@ use Rattle.fast_value.specs.declared.codes.Code.TheVariants.{L3}
 use Rattle.fast_dict.specs.Dictionary.{Dictionary}
 use Rattle.fast_dict.specs.Slots.{slots_dictionary}
 use Rattle.fast_decoder.specs.GrammarReaders.{reader_of}
-use Rattle.fast_decoder.specs.Handing.{due}
 use Rattle.fast_decoder.specs.Machine.{after_bytes}
 use Rattle.fast_decoder.specs.Readers.{Reader}
 use Rattle.fast_decoder.specs.declared.machine.Waiting.{Waiting}
 use Rattle.fast_decoder.specs.declared.machine.Machine.{Machine}
-use Rattle.fast_decoder.specs.Positions.{set_of, tree_in, segment_behind, meaning, meaning_at, CanTake}
+use Rattle.fast_decoder.specs.Positions.{set_of, tree_in, segment_behind, meaning_at, CanTake}
 use Rattle.fast_decoder.proofs.InHand.{entity_then}
 use Rattle.fast_decoder.proofs.Hanging.{hands_as}
 use Rattle.fast_decoder.proofs.Takings.{taken_as, taken_cut, taken_full, taken_whole, due-entity}
