@@ -72,7 +72,7 @@ begun_turns set l m n t c s turns h found below terms frames left map depth =
         joined_room = h.supplied.joined_room;
         node_widths = h.supplied.node_widths;
         template_widths = h.supplied.template_widths;
-        depth = omega (arith, room, depth);
+        depth = depth ∙ room;
         identifier = h.supplied.identifier;
         counted = omega arith;
       };

@@ -16,6 +16,7 @@ use Rattle.fast_decoder.specs.Phrases.{Reached, whole, cut, wrong}
 use Rattle.fast_decoder.specs.Grammar.{Grammar, give, fault, hand, integer, ascii_text, raw, presence_map, narrow}
 use Rattle.fast_decoder.specs.Messages.{begin, State, Found, body_term, template_of, reset_if, message_of, message_behind, message_term, message, SpellsMessage}
 use Rattle.fast_decoder.specs.Streams.{End, between, inside, faulted, SpellsAll, Chain, Stream}
+use Rattle.fast_decoder.specs.Standing.{standing_at}
 use Rattle.fast_decoder.proofs.MessageEvents.{named}
 use Rattle.fast_decoder.proofs.Reading.{reads-first}
 use Rattle.fast_decoder.proofs.Costs.{Paid, paid-phrase, Costs, costs-more, costs-bind, costs-hand, costs-result, costs-field, counted_in, product-body, sum-body}
@@ -147,3 +148,10 @@ module _ (t : Tree) (l : Limits) where
   stream-bound w es inside (u, v, fs, gs, d, h, i, j, k, e) = rw (k, e) (open-bound u v fs gs d cut h i j)
   stream-bound w es (faulted c place) (u, v, rest, fs, gs, d, h, i, n, k, e) = rw (k, e)
       (le_trans (open-bound u v fs gs d (wrong c) h i (fails-at-a-byte d v gs c i)) (mul-le-mul_right M (rw (length-append (u ++ v) rest) (omega arith))))
+
+  -- no more than that for each byte consumed: behind a fault no byte is
+  pub consumed-bound : (w : List ℕ) (es : List EventData) (e : End) → Stream t l w es e → length es ≤ (standing_at w e).consumed * message_cap t l
+  unfolding Stream
+  consumed-bound w es between (d, h) = chain-bound w es d h
+  consumed-bound w es inside (u, v, fs, gs, d, h, i, j, k, e) = rw (k, e) (open-bound u v fs gs d cut h i j)
+  consumed-bound w es (faulted c place) (u, v, rest, fs, gs, d, h, i, n, k, e) = rw (n, e) (open-bound u v fs gs d (wrong c) h i (fails-at-a-byte d v gs c i))

@@ -70,11 +70,11 @@ supplied_like set l m m' h i counted = record {
   some_entry = h.some_entry;
   max_text = ap (λ t. t.max_text) i.terms ∙ h.max_text;
   least_text = h.least_text;
-  text_room = rw i.text h.text_room;
-  joined_room = rw i.joined h.joined_room;
+  text_room = i.text ∙ h.text_room;
+  joined_room = i.joined ∙ h.joined_room;
   node_widths = rw i.widths h.node_widths;
   template_widths = rw i.widths h.template_widths;
-  depth = rw i.depth h.depth;
+  depth = i.depth ∙ h.depth;
   identifier = rw i.identifier h.identifier;
   counted = counted;
 }

@@ -1,5 +1,6 @@
 -- What a contract sees of a decoder, and what leads to it.
-use Rattle.std.specs.Prelude.{◌≡◌, ◌⊎◌, ℕ, ◌+◌, ◌<◌, ◌≤◌, ◌^◌, ◌&&◌, is_none, List, ◌++◌, length, take, Option, Some, None, Result, Ok, Err}
+use Rattle.std.specs.Prelude.{◌≡◌, ◌⊎◌, ℕ, ◌+◌, ◌*◌, ◌<◌, ◌≤◌, ◌^◌, ◌&&◌, is_none, List, ◌++◌, length, take, Option, Some, None, Result, Ok, Err, vec_len}
+use Rattle.fast_wire.specs.Maps.{map_limit}
 use Rattle.fast_value.specs.declared.settings.Limits.{Limits}
 use Rattle.fast_template.specs.Tree.{Tree}
 use Rattle.fast_template.specs.Numbers.{NameLaterNodes}
@@ -11,7 +12,7 @@ use Rattle.fast_decoder.specs.declared.machine.Machine.{Machine}
 use Rattle.fast_decoder.specs.Events.{EventData}
 use Rattle.fast_decoder.specs.Sinks.{Takes, TakesUpTo}
 use Rattle.fast_decoder.specs.Streams.{End, Stream}
-use Rattle.fast_decoder.specs.Standing.{Standing}
+use Rattle.fast_decoder.specs.Standing.{Stored, Standing}
 use Rattle.fast_decoder.specs.Readers.{AreBytes}
 use Rattle.fast_decoder.specs.Running.{Stands, at_fault, reading}
 use Rattle.fast_decoder.specs.Positions.{Set, tree_in, meaning, IsSupplied, IsReady, is_idle}
@@ -71,6 +72,15 @@ IsUncounted (Err f) = f.code ≡ Why.L4
 -- the turns that the decoder's machine took in the last call that made, fed or reset it
 abbrev pub turns : DecoderData → ℕ
 turns d = d.machine.turns.count
+
+-- What a decoder's machine stores: the cells of both scratches, the whole block of the dictionary's texts, the entries, a frame for
+-- each level of nesting, and the cells of a map for the message and for each level, which `IsCursor` of a cursor counts.
+abbrev pub stored_by : Machine → Stored
+stored_by m = record { scratch = m.text.capacity + m.joined.capacity; texts = vec_len m.slots.block; entries = vec_len m.slots.entries; frames = m.cursor.depth; maps = map_limit * (m.cursor.depth + 1) }
+
+-- what a decoder stores
+abbrev pub stored : DecoderData → Stored
+stored d = stored_by d.machine
 
 -- what a decoder says of itself
 abbrev pub standing : DecoderData → Standing

@@ -180,11 +180,11 @@ pub record IsSupplied (set : Set) (l : Limits) (m : Machine) : Type 0 where
   pub some_entry : 1 ≤ set.entries
   pub max_text : (slots_terms m.slots).max_text ≡ l.max_text
   pub least_text : 16 ≤ l.max_text
-  pub text_room : l.max_text ≤ m.text.capacity
-  pub joined_room : l.max_text ≤ m.joined.capacity
+  pub text_room : m.text.capacity ≡ l.max_text
+  pub joined_room : m.joined.capacity ≡ l.max_text
   pub node_widths : AreNodeWidths set.nodes m.widths.nodes.items
   pub template_widths : AreTemplateWidths set.nodes set.templates m.widths.templates.items
-  pub depth : set_depth (tree_in set) ≤ m.cursor.depth
+  pub depth : m.cursor.depth ≡ set_depth (tree_in set)
   pub identifier : field_data m.identifier ≡ identifier
   pub counted : m.counted ≤ l.max_total
 

@@ -1,11 +1,12 @@
 //! The decoder: a machine with its template set, its limits, and the count of its bytes.
 
-ghost use Rattle.std.specs.Prelude.{◌≡◌, ◌≢◌, ◌↔◌, ◌⊎◌, ℕ, ◌+◌, ◌<◌, ◌≤◌, ◌^◌, List, [], ◌∷◌, length, IfOk, IsOk, IsSome, None, Some, Err};
+ghost use Rattle.std.specs.Prelude.{◌≡◌, ◌≢◌, ◌↔◌, ◌⊎◌, ℕ, ◌+◌, ◌*◌, ◌<◌, ◌≤◌, ◌^◌, List, [], ◌∷◌, length, IfOk, IsOk, IsSome, None, Some, Err};
 ghost use Rattle.fast_template.specs.Flat.{tree_of, nodes_of};
+ghost use Rattle.fast_template.specs.Sizes.{message_cap, stored_cap};
 ghost use Rattle.fast_decoder.specs.EntryTexts.{HasLongInitial};
 ghost use Rattle.fast_decoder.specs.Events.{EventData};
-ghost use Rattle.fast_decoder.specs.Standing.{StandsAfter};
-ghost use Rattle.fast_decoder.specs.Decoding.{DecoderData, tree, AreBadLimits, IsUncounted, So, turns, standing, answer, Carried};
+ghost use Rattle.fast_decoder.specs.Standing.{StandsAfter, held};
+ghost use Rattle.fast_decoder.specs.Decoding.{DecoderData, tree, AreBadLimits, IsUncounted, So, turns, stored, standing, answer, Carried};
 
 use crate::events::Sink;
 use crate::faults::{Fault, FaultCode, MakeError};
@@ -58,6 +59,8 @@ impl<'t> Decoder<'t> {
         ensures bad_limits { (result ≡ Err MakeError.BadLimits) ↔ (AreBadLimits limits) }
         ensures long_initial { (result ≡ Err MakeError.InitialTooLong) ↔ (¬ (AreBadLimits limits) × HasLongInitial limits.max_text (nodes_of templates.entry.now)) }
         ensures no_turn { IfOk result (λ d. turns d ≡ 0) }
+        // What it stores is at most the cap of the set.
+        ensures bounded { IfOk result (λ d. held (stored d) ≤ stored_cap (tree d) d.limits) }
     {
         if limits.max_text < MIN_TEXT || limits.max_text > MAX_TEXT {
             return Err(MakeError::BadLimits);
@@ -89,6 +92,7 @@ impl<'t> Decoder<'t> {
         ensures stopped { IsSome self.old.fault → (standing self.new ≡ standing self.old) × (sink.new ≡ sink.old) }
         // L4 comes exactly where the bytes can no longer be counted.
         ensures counted { self.old.fault ≡ None → (IsUncounted result ↔ (2 ^ 64 ≤ self.old.consumed + length piece.now)) }
+        ensures bounded { held (stored self.new) ≤ stored_cap (tree self.new) self.new.limits }
     {
         self.machine.begin_turns();
         if let Some(fault) = self.fault {
@@ -126,6 +130,7 @@ impl<'t> Decoder<'t> {
         ensures same_set { (tree self.new ≡ tree self.old) × (self.new.limits ≡ self.old.limits) }
         ensures stopped { IsSome self.old.fault → (standing self.new ≡ standing self.old) × (sink.new ≡ sink.old) }
         ensures counted { self.old.fault ≡ None → (IsUncounted result ↔ (2 ^ 64 ≤ self.old.consumed + 1)) }
+        ensures bounded { held (stored self.new) ≤ stored_cap (tree self.new) self.new.limits }
     {
         self.feed(&[byte], sink)
     }
@@ -134,6 +139,7 @@ impl<'t> Decoder<'t> {
     pub fn reset(&mut self)
         ensures so { So self.new [] [] }
         ensures no_turn { turns self.new ≡ 0 }
+        ensures bounded { held (stored self.new) ≤ stored_cap (tree self.new) self.new.limits }
         ensures same_set { (tree self.new ≡ tree self.old) × (self.new.limits ≡ self.old.limits) }
     {
         self.machine.reset();
@@ -167,4 +173,18 @@ impl<'t> Decoder<'t> {
 /// its fault, and the number of bytes consumed.
 pub fn so_is_stream()
     ensures { (d : DecoderData) (w : List ℕ) (es : List EventData) → So d w es → StandsAfter (tree d) d.limits w es (standing d) }
+{}
+
+/// The events of what leads to a decoder are no more than the cap of a message for each byte consumed.
+pub fn so_bounds_events()
+    ensures { (d : DecoderData) (w : List ℕ) (es : List EventData) → So d w es → length es ≤ (standing d).consumed * message_cap (tree d) d.limits }
+{}
+
+/// All of a decoder at once, whatever its template set, its limits and the bytes: what leads to it is a stream with these events,
+/// whose end the decoder tells; what it stores is at most the cap of the set; and the events are no more than the cap of a message
+/// for each byte consumed.
+pub fn headline()
+    ensures { (d : DecoderData) (w : List ℕ) (es : List EventData) → So d w es → StandsAfter (tree d) d.limits w es (standing d)
+        × (held (stored d) ≤ stored_cap (tree d) d.limits)
+        × (length es ≤ (standing d).consumed * message_cap (tree d) d.limits) }
 {}

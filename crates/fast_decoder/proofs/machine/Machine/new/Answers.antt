@@ -9,20 +9,17 @@ use Rattle.fast_decoder.proofs.machine.Machine.new.Goals as goal
 
 pub returns-clause-supplied : goal.returns-clause-supplied
 returns-clause-supplied c =
-    let deep : c.in_ok-new.field-0.depth ≡ set_depth (tree_of c.args.templates.now) = ap (λ (x : CursorData). x.depth) c.in_ok-new.ensures ∙ c.depth.ensures.greatest in
-    let text : c.in_ok-new-2.field-0.capacity ≡ c.args.limits.max_text = c.in_ok-new-2.ensures.capacity in
-    let joined : c.in_ok-new-3.field-0.capacity ≡ c.args.limits.max_text = c.in_ok-new-3.ensures.capacity in
     record {
       entries = sym (slots_sized c.in_ok-make_slots.field-0) ∙ ap length c.in_ok-make_slots.ensures.fresh ∙ length-replicate (tree_of c.args.templates.now).entries undefined;
       serves = c.in_ok-make_slots.ensures.serves;
       some_entry = c.args.templates.now.has_identifier;
       max_text = c.in_ok-make_slots.ensures.max_text;
       least_text = c.requires.least;
-      text_room = omega (arith, text);
-      joined_room = omega (arith, joined);
+      text_room = c.in_ok-new-2.ensures.capacity;
+      joined_room = c.in_ok-new-3.ensures.capacity;
       node_widths = c.in_ok-measure.ensures.nodes;
       template_widths = c.in_ok-measure.ensures.templates;
-      depth = omega (arith, deep);
+      depth = ap (λ (x : CursorData). x.depth) c.in_ok-new.ensures ∙ c.depth.ensures.greatest;
       identifier = refl;
       counted = omega arith;
     }
