@@ -25,9 +25,6 @@ use std::{env, fs};
 pub use texts::read_whole;
 pub use words::plan;
 
-/// The status of a call that asks for what is not there.
-const USAGE: u8 = 2;
-
 /// What a call without words stands for.
 const NO_WORDS: [&str; 4] = ["fastcat", "show", "--hex", BUILT_IN];
 
@@ -81,44 +78,45 @@ fn show_from<S: Source>(
     }
 }
 
-/// The template set of a path, or the built-in one. A text in a file is read and not yet understood: there is no set of it.
-fn templates_of(rt: &HostRuntime, path: &str) -> Result<Option<Templates>, RunFault> {
+/// The template set of a path, or the built-in one.
+fn templates_of(rt: &HostRuntime, path: &str) -> Result<Templates, RunFault> {
     if path == BUILT_IN {
-        return Ok(Some(built_in(rt.alloc())?));
+        return built_in(rt.alloc());
     }
     let Ok(file) = fs::open(rt, path) else {
         return Err(RunFault::Read);
     };
     let text = read_whole(rt.alloc(), &mut Watched::new(file))?;
-    match str::from_utf8(&text) {
-        Ok(_) => Ok(None),
-        Err(_) => Err(RunFault::Templates(StaticFault {
+    let read = match str::from_utf8(&text) {
+        Ok(text) => Templates::read(rt.alloc(), text),
+        Err(_) => Err(StaticFault {
             code: StaticCode::S1,
             template: None,
-        })),
+        }),
+    };
+    match read {
+        Ok(templates) => Ok(templates),
+        Err(fault) => Err(refused(fault)),
     }
 }
 
 /// Does what a plan asks for.
-fn carry_out(
-    rt: &HostRuntime,
-    templates: &Templates,
-    plan: &Plan<'_>,
-) -> Result<ShowEnd, RunFault> {
+fn carry_out(rt: &HostRuntime, plan: &Plan<'_>) -> Result<ShowEnd, RunFault> {
+    let templates = templates_of(rt, plan.templates)?;
     match (plan.task, plan.input) {
         (Task::Check, _) => {
             let mut target = Watched::new(rt.stdout());
-            run_check(templates, plan.limits(), &mut target)?;
+            run_check(&templates, plan.limits(), &mut target)?;
             Ok(ShowEnd::Good)
         }
         (Task::Show, None) => {
             let mut reader = Watched::new(rt.stdin());
-            show_from(rt, templates, plan, &mut reader)
+            show_from(rt, &templates, plan, &mut reader)
         }
         (Task::Show, Some(path)) => match fs::open(rt, path) {
             Ok(file) => {
                 let mut reader = Watched::new(file);
-                show_from(rt, templates, plan, &mut reader)
+                show_from(rt, &templates, plan, &mut reader)
             }
             Err(_) => Err(RunFault::Read),
         },
@@ -142,24 +140,10 @@ fn explained(rt: &HostRuntime, error: &Error) -> ExitCode {
     }
 }
 
-/// Runs a plan.
-fn run_plan(rt: &HostRuntime, plan: &Plan<'_>) -> ExitCode {
-    match templates_of(rt, plan.templates) {
-        Ok(Some(templates)) => ended(rt, carry_out(rt, &templates, plan)),
-        Ok(None) => {
-            let _ = eprintln!(rt;
-                "fastcat: no template text in a file is understood yet: write {BUILT_IN}"
-            );
-            ExitCode::from(USAGE)
-        }
-        Err(fault) => ended(rt, Err(fault)),
-    }
-}
-
 /// Runs the command on its words, of which the first is the program's name.
 fn run(rt: &HostRuntime, words: &[&str]) -> ExitCode {
     match plan(rt.alloc(), words) {
-        Ok(plan) => run_plan(rt, &plan),
+        Ok(plan) => ended(rt, carry_out(rt, &plan)),
         Err(error) => explained(rt, &error),
     }
 }
