@@ -8,12 +8,13 @@ pub mod plans;
 pub mod show;
 pub mod texts;
 pub mod unhexer;
+pub mod vectors;
 pub mod words;
 
 pub use check::run_check;
 use clap::Error;
 use clap::error::ErrorKind;
-use fast_template::{FlatTemplate, StaticCode, StaticFault, Templates};
+use fast_template::{StaticCode, StaticFault, Templates};
 use fast_text::{Source, Target, Watched};
 pub use faults::{RunFault, ShowEnd, report};
 pub use plans::{BUILT_IN, Plan, Task};
@@ -23,6 +24,7 @@ use std::io::BufWriter;
 use std::process::ExitCode;
 use std::{env, fs};
 pub use texts::read_whole;
+pub use vectors::built_in;
 pub use words::plan;
 
 /// What a call without words stands for.
@@ -30,27 +32,6 @@ const NO_WORDS: [&str; 4] = ["fastcat", "show", "--hex", BUILT_IN];
 
 /// How often a run reads at most.
 const MAX_READS: u64 = 1 << 40;
-
-/// The built-in template set.
-fn built_in(alloc: Global) -> Result<Templates, RunFault> {
-    let t1 = FlatTemplate {
-        name: "T1",
-        id: 1,
-        fields: &["x"],
-    };
-    match Templates::flat(alloc, &[t1]) {
-        Ok(templates) => Ok(templates),
-        Err(fault) => Err(refused(fault)),
-    }
-}
-
-/// What a run answers where a template text is refused.
-fn refused(fault: StaticFault) -> RunFault {
-    match fault.code {
-        StaticCode::Memory => RunFault::Memory,
-        _ => RunFault::Templates(fault),
-    }
-}
 
 /// Shows what a reader gives on standard output, in large pieces.
 fn show_from<S: Source>(
@@ -81,22 +62,18 @@ fn show_from<S: Source>(
 /// The template set of a path, or the built-in one.
 fn templates_of(rt: &HostRuntime, path: &str) -> Result<Templates, RunFault> {
     if path == BUILT_IN {
-        return built_in(rt.alloc());
+        return Ok(built_in(rt.alloc())?);
     }
     let Ok(file) = fs::open(rt, path) else {
         return Err(RunFault::Read);
     };
     let text = read_whole(rt.alloc(), &mut Watched::new(file))?;
-    let read = match str::from_utf8(&text) {
-        Ok(text) => Templates::read(rt.alloc(), text),
-        Err(_) => Err(StaticFault {
+    match str::from_utf8(&text) {
+        Ok(text) => Ok(Templates::read(rt.alloc(), text)?),
+        Err(_) => Err(RunFault::Templates(StaticFault {
             code: StaticCode::S1,
             template: None,
-        }),
-    };
-    match read {
-        Ok(templates) => Ok(templates),
-        Err(fault) => Err(refused(fault)),
+        })),
     }
 }
 
