@@ -255,7 +255,6 @@ pub fn make_slots(
 mod tests {
     use super::*;
     use fast_dict::Store;
-    use fast_template::FlatTemplate;
     use std::test::Fail;
 
     fn field(kind: Kind, optional: bool, operator: Operator) -> FieldInstruction
@@ -279,19 +278,16 @@ mod tests {
     }
 
     fn flat_set(alloc: Global) -> Result<Templates, Fail> {
-        let list = [
-            FlatTemplate {
-                name: "A",
-                id: 7,
-                fields: &["x", "y"],
-            },
-            FlatTemplate {
-                name: "B",
-                id: 9,
-                fields: &[],
-            },
-        ];
-        Ok(Templates::flat(alloc, &list)?)
+        let text = r#"
+[[template]]
+name = "A"
+id = 7
+fields = [{kind="uInt32", name="x"}, {kind="uInt32", name="y"}]
+[[template]]
+name = "B"
+id = 9
+"#;
+        Ok(Templates::read(alloc, text)?)
     }
 
     #[test]

@@ -23,10 +23,9 @@ use Rattle.fast_template.specs.Tree.{Instruction, Body, end, step, TemplateData}
 use Rattle.fast_template.proofs.BuiltLists.{spread-then}
 use Rattle.fast_template.proofs.BuiltTrees.{after_all, inside, AreNumbered, numbered-then, in_place-numbered, all_inside, long_all, body_among, spread_body, labels_body, named_numbers, tops_between, between_all}
 use Rattle.fast_template.proofs.ChainSizes.{nodes_named, nodes_in-by}
-use Rattle.fast_template.proofs.FlatLabels.{data_labels, same_labels}
 use Rattle.fast_template.proofs.InPlaceSizes.{in_place-nodes}
 use Rattle.fast_template.proofs.Lists.{mapped_get, map_get_back}
-use Rattle.fast_template.proofs.NodeLists.{same_instructions, same_templates}
+use Rattle.fast_template.proofs.NodeLists.{same_instructions, same_templates, data_labels, same_labels}
 
 -- ---- one template more
 

@@ -10,7 +10,7 @@ use Rattle.fast_template.specs.Labels.{labels, body_labels}
 use Rattle.fast_template.specs.NodeData.{ShapeData, a_field as a_field_data, a_decimal, a_group as a_group_data, a_sequence as a_sequence_data, NodeData, instructions_of}
 use Rattle.fast_template.specs.Nodes.{body_of, no_instruction}
 use Rattle.fast_template.specs.Tree.{Label, Instruction, field, parts, group, sequence, Body, end, step}
-use Rattle.fast_template.proofs.FlatLabels.{data_labels}
+use Rattle.fast_template.proofs.NodeLists.{data_labels}
 
 -- the nodes of an instruction, and of a body, have the numbers from one up to another, in preorder
 abbrev mutual

@@ -2,6 +2,7 @@
 use Rattle.std.proofs.Common.{◌≡◌, ℕ, ◌+◌, ◌*◌, ◌≤◌, suc, List, ap, sym, ◌∙◌, length, map, drop, max, min, arith, slice_get, get_or, Some}
 use Rattle.std.proofs.Math.Seq.{drop-cons}
 use Rattle.std.proofs.Math.Nat.{max-zero, min-eq_left}
+use Rattle.std.proofs.lemmas.List.{drop_all}
 use Rattle.std.proofs.lemmas.Option.{slice_get_within, get_or_from_slice_get}
 use Rattle.fast_value.specs.declared.settings.Limits.{Limits}
 use Rattle.fast_template.specs.declared.instructions.Node.{Node}
@@ -9,7 +10,6 @@ use Rattle.fast_template.specs.declared.instructions.Template.{Template}
 use Rattle.fast_template.specs.Tree.{TemplateData}
 use Rattle.fast_template.specs.Flat.{template_data, instructions_from}
 use Rattle.fast_template.specs.Sizes.{greatest, body_depth, event_weights, body_size, body_outer, body_widest}
-use Rattle.fast_template.proofs.FlatLists.{nothing_left}
 use Rattle.fast_template.proofs.Saturation.{stopped_max, max_assoc}
 
 -- the greatest number of templates by their trees
@@ -51,4 +51,4 @@ greatest_kept limit best f ns ts p t found so_far =
 pub greatest_whole : (limit best : ℕ) (f : TemplateData → ℕ) (ns : List Node) (ts : List Template) (p : ℕ) → length ts ≤ p
     → max best (min (greatest_of f ns (drop p ts)) limit) ≡ min (greatest_of f ns ts) limit → best ≡ min (greatest_of f ns ts) limit
 greatest_whole limit best f ns ts p past so_far =
-    sym (max-zero best) ∙ ap (max best) (let e : 0 ≡ min 0 limit = sym (min-eq_left (omega arith)) in e) ∙ ap (λ us. max best (min (greatest_of f ns us) limit)) (sym (nothing_left ts p past)) ∙ so_far
+    sym (max-zero best) ∙ ap (max best) (let e : 0 ≡ min 0 limit = sym (min-eq_left (omega arith)) in e) ∙ ap (λ us. max best (min (greatest_of f ns us) limit)) (sym (drop_all p ts past)) ∙ so_far

@@ -5,11 +5,9 @@ use Rattle.std.specs.Str.{bytes_eq}
 use Rattle.std.proofs.lemmas.Bool.{cases_Bool, false≢true}
 use Rattle.std.proofs.lemmas.Option.{slice_get_within, get_or_from_slice_get}
 use Rattle.fast_template.specs.declared.instructions.Template.{Template}
-use Rattle.fast_template.specs.declared.flat.FlatTemplate.{FlatTemplate}
 use Rattle.fast_template.specs.AsWritten.{DeclaredTemplate}
 use Rattle.fast_template.specs.Built.{outline_of, AreBuilt}
 use Rattle.fast_template.specs.Entries.{Entry}
-use Rattle.fast_template.specs.FlatSets.{flat_outlines, flat_heading}
 use Rattle.fast_template.specs.InPlace.{AreInPlace}
 use Rattle.fast_template.specs.NodeData.{NodeData, TemplateOutline, outline}
 use Rattle.fast_template.specs.Numbers.{number_of_name, number_of_id}
@@ -121,11 +119,3 @@ built_headings all entries nodes ts b = by_outline ts ∙ ap (map outline_headin
     in_place_headings k (d ∷ ds) n m (u ∷ us) (mid, name, id, reset, body, rest) =
         ap (λ s. (s, u.id) ∷ map outline_heading (map outline_of us)) name ∙ ap (λ o. (d.name, o) ∷ map outline_heading (map outline_of us)) id
         ∙ ap (λ hs. declared_heading d ∷ hs) (in_place_headings (suc k) ds mid m us rest)
-
--- the headings of flat templates
-pub flat_headings : (list : List FlatTemplate) (ts : List Template) → map outline ts ≡ flat_outlines 0 list → map heading ts ≡ map declared_heading (map flat_heading list)
-flat_headings list ts e = by_outline ts ∙ ap (map outline_heading) e ∙ outlined 0 list
-  where
-    outlined : (n : ℕ) (list : List FlatTemplate) → map outline_heading (flat_outlines n list) ≡ map declared_heading (map flat_heading list)
-    outlined n [] = refl
-    outlined n (t ∷ list) = ap (λ hs. declared_heading (flat_heading t) ∷ hs) (outlined (n + length t.fields.now) list)

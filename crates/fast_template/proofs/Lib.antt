@@ -1,9 +1,7 @@
 pub mod Lists
 pub mod Measures
 pub mod SetTrees
-pub mod FlatLists
 pub mod NodeLists
-pub mod FlatTrees
 pub mod Walks
 pub mod Bodies
 pub mod Saturation
@@ -22,8 +20,6 @@ pub mod SoundUses
 pub mod SetFaults
 pub mod PlaceLists
 pub mod ReferenceLists
-pub mod FlatLabels
-pub mod FlatUsable
 pub mod UsableFields
 pub mod EntryLists
 pub mod ChainSizes

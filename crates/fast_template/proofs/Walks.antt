@@ -2,7 +2,7 @@
 use Rattle.std.proofs.Common.{◌≡◌, ℕ, ◌+◌, ◌-◌, ◌<◌, ◌≤◌, List, [], ◌∷◌, refl, ap, sym, ◌∙◌, length, drop, slice_get, get_or, Some, suc, zero, arith}
 use Rattle.std.specs.Prelude.{slice_index_or, slice_index}
 use Rattle.std.proofs.lemmas.Option.{slice_get_within, get_or_from_slice_get}
-use Rattle.std.proofs.lemmas.List.{get_or-drop}
+use Rattle.std.proofs.lemmas.List.{get_or-drop, drop_all}
 use Rattle.std.proofs.Math.Seq.{drop-cons}
 use Rattle.fast_template.specs.declared.instructions.Shape.{Shape}
 use Rattle.fast_template.specs.declared.instructions.Shape.TheVariants.{Field, Decimal, Group, Sequence}
@@ -11,7 +11,6 @@ use Rattle.fast_template.specs.declared.sets.Templates.{Templates}
 use Rattle.fast_template.specs.Tree.{Label, Instruction, group, sequence, end, step}
 use Rattle.fast_template.specs.Flat.{nodes_of, label_of, instruction_of, instructions_from, body_of, no_instruction, field_data}
 use Rattle.fast_template.specs.Numbers.{numbers_of, AreBetween}
-use Rattle.fast_template.proofs.FlatLists.{nothing_left}
 
 -- the instructions of the nodes that are left are those that are left
 pub instructions-drop : (own k : ℕ) (ns : List Node) → drop k (instructions_from own ns) ≡ instructions_from (own + k) (drop k ns)
@@ -83,7 +82,7 @@ body_at is ms p n found =
 
 -- a body with no node left
 pub body_at_end : (is : List Instruction) (ms : List ℕ) (p : ℕ) → length ms ≤ p → body_of 0 is (drop p ms) ≡ end
-body_at_end is ms p past = ap (body_of 0 is) (nothing_left ms p past)
+body_at_end is ms p past = ap (body_of 0 is) (drop_all p ms past)
 
 -- as many instructions as nodes
 pub instructions_count : (own : ℕ) (ns : List Node) → length (instructions_from own ns) ≡ length ns

@@ -16,7 +16,6 @@ pub mod Nodes
 pub mod Labels
 pub mod Flat
 pub mod NodeData
-pub mod FlatSets
 pub mod Reading
 pub mod WrittenSets
 pub mod Unwritten

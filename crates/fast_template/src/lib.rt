@@ -11,7 +11,6 @@ mod cycles;
 mod documents;
 mod entries;
 mod extents;
-pub mod flat;
 pub mod instructions;
 mod keys;
 mod names;
@@ -28,7 +27,6 @@ mod uses;
 mod written;
 
 pub use codes::{StaticCode, StaticFault};
-pub use flat::FlatTemplate;
 pub use instructions::{FieldInstruction, Node, Shape, Template};
 pub use operators::Operator;
 pub use sets::Templates;

@@ -50,18 +50,19 @@ impl Templates {
 #[cfg(test)]
 mod tests {
     use super::*;
-    use crate::flat::FlatTemplate;
     use std::test::Fail;
 
     #[test]
-    fn no_entry_of_a_flat_set_holds_texts(rt: HostRuntime) -> Result<(), Fail> {
-        let list = [FlatTemplate {
-            name: "A",
-            id: 1,
-            fields: &["x"],
-        }];
-        let set = Templates::flat(rt.alloc(), &list)?;
-        assert!(rt; !set.holds_text(0));
+    fn entries_of_texts_hold_texts(rt: HostRuntime) -> Result<(), Fail> {
+        let text = r#"
+[[template]]
+name = "A"
+fields = [{kind="uInt32", name="x", op="copy"}, {kind="ascii", name="y", op="copy"}]
+"#;
+        let set = Templates::read(rt.alloc(), text)?;
+        for (entry, is_text) in [(0, false), (1, false), (2, true), (3, false)] {
+            assert_eq!(rt; set.holds_text(entry), is_text);
+        }
         Ok(())
     }
 }

@@ -113,18 +113,22 @@ impl<T: Target> Sink for LineSink<'_, T> {
 mod tests {
     use super::*;
     use crate::streams::ToBytes;
-    use fast_template::FlatTemplate;
     use fast_value::Scalar;
     use std::alloc::Global;
     use std::test::Fail;
 
     fn set(alloc: Global) -> Result<Templates, Fail> {
-        let template = FlatTemplate {
-            name: "T15",
-            id: 15,
-            fields: &["x", "g", "b", "legs", "sym", "px"],
-        };
-        Ok(Templates::flat(alloc, &[template])?)
+        let text = r#"
+[[template]]
+name = "T15"
+id = 15
+fields = [
+    {kind="uInt32", name="x"},
+    {kind="group", name="g", fields=[{kind="bytes", name="b"}]},
+    {kind="sequence", name="legs", fields=[{kind="ascii", name="sym"}, {kind="int32", name="px"}]},
+]
+"#;
+        Ok(Templates::read(alloc, text)?)
     }
 
     fn field(node: u32, value: Scalar<'_>) -> Event<'_> {

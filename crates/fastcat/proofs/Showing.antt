@@ -38,8 +38,8 @@ shown_more t l hex R R' A B H A' B' H' text out (Err Memory) m a b h s = s
 pub refusal_shown : (t : Tree) (l : Limits) (hex : Bool) (R : MakeError → Type 0) (A B H : Type 0) (e : MakeError) → (e ≡ Why.Memory) ⊎ R e → IsShown t l hex R A B H [] [] (Err (refusal_of e))
 refusal_shown t l hex R A B H Why.BadLimits (inl h) = absurd (cc)
 refusal_shown t l hex R A B H Why.BadLimits (inr h) = (refl, refl, h)
-refusal_shown t l hex R A B H Why.NotYet (inl h) = absurd (cc)
-refusal_shown t l hex R A B H Why.NotYet (inr h) = (refl, refl, h)
+refusal_shown t l hex R A B H Why.InitialTooLong (inl h) = absurd (cc)
+refusal_shown t l hex R A B H Why.InitialTooLong (inr h) = (refl, refl, h)
 refusal_shown t l hex R A B H Why.Memory h = (refl, refl)
 
 -- nothing was read

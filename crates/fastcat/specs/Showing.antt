@@ -4,7 +4,8 @@ use Rattle.fast_value.specs.declared.settings.Limits.{Limits}
 use Rattle.fast_value.specs.declared.codes.Code.{Code}
 use Rattle.fast_template.specs.Tree.{Tree}
 use Rattle.fast_template.specs.declared.sets.Templates.{Templates}
-use Rattle.fast_decoder.specs.Positions.{IsFlat, set_of}
+use Rattle.fast_template.specs.Flat.{nodes_of}
+use Rattle.fast_decoder.specs.EntryTexts.{HasLongInitial}
 use Rattle.fast_decoder.specs.Decoding.{AreBadLimits}
 use Rattle.fast_decoder.specs.declared.faults.FaultCode.TheVariants.{Stream as FaultOfStream}
 use Rattle.fast_decoder.specs.declared.faults.MakeError.{MakeError}
@@ -38,13 +39,13 @@ pub record IsStreamOf (t : Tree) (l : Limits) (hex : Bool) (text : List ℕ) (pl
 -- Why no decoder is made, for another cause than memory.
 abbrev pub IsRefusal : Templates → Limits → MakeError → Type 0
 IsRefusal templates l Why.BadLimits = AreBadLimits l
-IsRefusal templates l Why.NotYet = ¬ (IsFlat (set_of templates))
+IsRefusal templates l Why.InitialTooLong = ¬ (AreBadLimits l) × HasLongInitial l.max_text (nodes_of templates)
 IsRefusal templates l Why.Memory = ⊥
 
 -- what a run answers where no decoder is made
 abbrev pub refusal_of : MakeError → RunFault
 refusal_of Why.BadLimits = Make Why.BadLimits
-refusal_of Why.NotYet = Make Why.NotYet
+refusal_of Why.InitialTooLong = Make Why.InitialTooLong
 refusal_of Why.Memory = Memory
 
 -- What was shown of a text that was read, and what the end of the run says of it. The run can say for which cause

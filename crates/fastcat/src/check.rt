@@ -58,7 +58,7 @@ pub fn run_check<T: Target>(
 #[cfg(test)]
 mod tests {
     use super::*;
-    use fast_template::FlatTemplate;
+    use crate::vectors::built_in;
     use fast_text::ToBytes;
     use std::test::Fail;
 
@@ -72,19 +72,40 @@ mod tests {
     const LINES: &str = "templates 2\nnodes 3\nentries 1\ndepth 0\ncap 4\n";
 
     fn set(rt: &HostRuntime) -> Result<Templates, Fail> {
-        let list = [
-            FlatTemplate {
-                name: "A",
-                id: 1,
-                fields: &["x", "y"],
-            },
-            FlatTemplate {
-                name: "B",
-                id: 2,
-                fields: &["x"],
-            },
-        ];
-        Ok(Templates::flat(rt.alloc(), &list)?)
+        let text = r#"
+[[template]]
+name = "A"
+fields = [{kind="uInt32", name="x"}, {kind="uInt32", name="y"}]
+[[template]]
+name = "B"
+fields = [{kind="uInt32", name="x"}]
+"#;
+        Ok(Templates::read(rt.alloc(), text)?)
+    }
+
+    #[test]
+    fn the_built_in_set_in_five_lines(rt: HostRuntime) -> Result<(), Fail> {
+        let set = built_in(rt.alloc())?;
+        let no_elements = Limits {
+            max_total: 0,
+            ..LIMITS
+        };
+        for (limits, lines) in [
+            (
+                LIMITS,
+                "templates 19\nnodes 26\nentries 13\ndepth 1\ncap 4008\n",
+            ),
+            (
+                no_elements,
+                "templates 19\nnodes 26\nentries 13\ndepth 1\ncap 8\n",
+            ),
+        ] {
+            let mut cells = [0; 64];
+            let mut target = ToBytes::new(&mut cells);
+            assert_eq!(rt; run_check(&set, limits, &mut target), Ok(()));
+            assert_eq!(rt; target.bytes(), lines.as_bytes());
+        }
+        Ok(())
     }
 
     #[test]

@@ -27,8 +27,8 @@ fn number_of(cause: &MakeError) -> u8
 {
     match cause {
         MakeError::BadLimits => 1,
+        MakeError::InitialTooLong => 2,
         MakeError::Memory => 4,
-        MakeError::NotYet => 5,
     }
 }
 
@@ -91,6 +91,20 @@ pub enum RunFault {
     Memory,
 }
 
+impl From<StaticFault> for RunFault {
+    ghost use Rattle.std.specs.Prelude.{◌≡◌};
+    ghost use Rattle.fastcat.specs.Report.{refused};
+
+    ghost from_gives = { λ fault answer. answer ≡ refused fault };
+
+    fn from(fault: StaticFault) -> RunFault {
+        match fault.code {
+            StaticCode::Memory => RunFault::Memory,
+            _ => RunFault::Templates(fault),
+        }
+    }
+}
+
 /// Writes the line for standard error, if there is one, and answers the status of the program, also if the write fails.
 pub fn report<T: Target>(ending: &Result<ShowEnd, RunFault>, target: &mut T) -> u8
     ensures { result ≡ status_of ending.now }
@@ -146,6 +160,11 @@ mod tests {
                 Err(RunFault::Make(MakeError::BadLimits)),
                 2,
                 b"fastcat: limits 1\n".as_slice(),
+            ),
+            (
+                Err(RunFault::Make(MakeError::InitialTooLong)),
+                2,
+                b"fastcat: limits 2\n".as_slice(),
             ),
             (
                 Err(RunFault::Read),

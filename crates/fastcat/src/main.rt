@@ -8,12 +8,13 @@ pub mod plans;
 pub mod show;
 pub mod texts;
 pub mod unhexer;
+pub mod vectors;
 pub mod words;
 
 pub use check::run_check;
 use clap::Error;
 use clap::error::ErrorKind;
-use fast_template::{FlatTemplate, StaticCode, StaticFault, Templates};
+use fast_template::{StaticCode, StaticFault, Templates};
 use fast_text::{Source, Target, Watched};
 pub use faults::{RunFault, ShowEnd, report};
 pub use plans::{BUILT_IN, Plan, Task};
@@ -23,37 +24,14 @@ use std::io::BufWriter;
 use std::process::ExitCode;
 use std::{env, fs};
 pub use texts::read_whole;
+pub use vectors::built_in;
 pub use words::plan;
-
-/// The status of a call that asks for what is not there.
-const USAGE: u8 = 2;
 
 /// What a call without words stands for.
 const NO_WORDS: [&str; 4] = ["fastcat", "show", "--hex", BUILT_IN];
 
 /// How often a run reads at most.
 const MAX_READS: u64 = 1 << 40;
-
-/// The built-in template set.
-fn built_in(alloc: Global) -> Result<Templates, RunFault> {
-    let t1 = FlatTemplate {
-        name: "T1",
-        id: 1,
-        fields: &["x"],
-    };
-    match Templates::flat(alloc, &[t1]) {
-        Ok(templates) => Ok(templates),
-        Err(fault) => Err(refused(fault)),
-    }
-}
-
-/// What a run answers where a template text is refused.
-fn refused(fault: StaticFault) -> RunFault {
-    match fault.code {
-        StaticCode::Memory => RunFault::Memory,
-        _ => RunFault::Templates(fault),
-    }
-}
 
 /// Shows what a reader gives on standard output, in large pieces.
 fn show_from<S: Source>(
@@ -81,17 +59,17 @@ fn show_from<S: Source>(
     }
 }
 
-/// The template set of a path, or the built-in one. A text in a file is read and not yet understood: there is no set of it.
-fn templates_of(rt: &HostRuntime, path: &str) -> Result<Option<Templates>, RunFault> {
+/// The template set of a path, or the built-in one.
+fn templates_of(rt: &HostRuntime, path: &str) -> Result<Templates, RunFault> {
     if path == BUILT_IN {
-        return Ok(Some(built_in(rt.alloc())?));
+        return Ok(built_in(rt.alloc())?);
     }
     let Ok(file) = fs::open(rt, path) else {
         return Err(RunFault::Read);
     };
     let text = read_whole(rt.alloc(), &mut Watched::new(file))?;
     match str::from_utf8(&text) {
-        Ok(_) => Ok(None),
+        Ok(text) => Ok(Templates::read(rt.alloc(), text)?),
         Err(_) => Err(RunFault::Templates(StaticFault {
             code: StaticCode::S1,
             template: None,
@@ -100,25 +78,22 @@ fn templates_of(rt: &HostRuntime, path: &str) -> Result<Option<Templates>, RunFa
 }
 
 /// Does what a plan asks for.
-fn carry_out(
-    rt: &HostRuntime,
-    templates: &Templates,
-    plan: &Plan<'_>,
-) -> Result<ShowEnd, RunFault> {
+fn carry_out(rt: &HostRuntime, plan: &Plan<'_>) -> Result<ShowEnd, RunFault> {
+    let templates = templates_of(rt, plan.templates)?;
     match (plan.task, plan.input) {
         (Task::Check, _) => {
             let mut target = Watched::new(rt.stdout());
-            run_check(templates, plan.limits(), &mut target)?;
+            run_check(&templates, plan.limits(), &mut target)?;
             Ok(ShowEnd::Good)
         }
         (Task::Show, None) => {
             let mut reader = Watched::new(rt.stdin());
-            show_from(rt, templates, plan, &mut reader)
+            show_from(rt, &templates, plan, &mut reader)
         }
         (Task::Show, Some(path)) => match fs::open(rt, path) {
             Ok(file) => {
                 let mut reader = Watched::new(file);
-                show_from(rt, templates, plan, &mut reader)
+                show_from(rt, &templates, plan, &mut reader)
             }
             Err(_) => Err(RunFault::Read),
         },
@@ -142,24 +117,10 @@ fn explained(rt: &HostRuntime, error: &Error) -> ExitCode {
     }
 }
 
-/// Runs a plan.
-fn run_plan(rt: &HostRuntime, plan: &Plan<'_>) -> ExitCode {
-    match templates_of(rt, plan.templates) {
-        Ok(Some(templates)) => ended(rt, carry_out(rt, &templates, plan)),
-        Ok(None) => {
-            let _ = eprintln!(rt;
-                "fastcat: no template text in a file is understood yet: write {BUILT_IN}"
-            );
-            ExitCode::from(USAGE)
-        }
-        Err(fault) => ended(rt, Err(fault)),
-    }
-}
-
 /// Runs the command on its words, of which the first is the program's name.
 fn run(rt: &HostRuntime, words: &[&str]) -> ExitCode {
     match plan(rt.alloc(), words) {
-        Ok(plan) => run_plan(rt, &plan),
+        Ok(plan) => ended(rt, carry_out(rt, &plan)),
         Err(error) => explained(rt, &error),
     }
 }

@@ -107,7 +107,7 @@ fn refusal(error: MakeError) -> RunFault
 {
     match error {
         MakeError::Memory => RunFault::Memory,
-        MakeError::BadLimits | MakeError::NotYet => RunFault::Make(error),
+        MakeError::BadLimits | MakeError::InitialTooLong => RunFault::Make(error),
     }
 }
 
@@ -122,6 +122,7 @@ impl<'a> Show<'a> {
         ensures made { IfOk result (λ s. Progress (tree_of templates.entry.now) limits hex s [] [] []) }
         ensures refused { IfErr result (λ e. e ≡ MakeError.Memory ⊎ IsRefusal templates.entry.now limits e) }
         ensures bad_limits { AreBadLimits limits → result ≡ Err MakeError.BadLimits }
+        ensures long_initial { IsRefusal templates.entry.now limits MakeError.InitialTooLong → result ≡ Err MakeError.InitialTooLong }
     {
         let decoder = Decoder::new(alloc, templates, limits)?;
         let unhexer = if hex { Some(Unhexer::new()) } else { None };
@@ -189,6 +190,7 @@ pub fn run_show<S: Source, T: Target>(
     ensures shown { (text out : List ℕ) × (S.left reader.old ≡ option_map (λ xs. text ++ xs) (S.left reader.new)) × Appends (T.written writer.old) (T.written writer.new) out
         × IsShown (tree_of templates.now) limits hex (IsRefusal templates.now limits) (IfSome (S.left reader.new) (λ xs. xs ≡ [])) (IsTrue (S.has_failed reader.new) ⊎ (max_reads ≤ length text)) (IsTrue (T.has_failed writer.new)) text out result }
     ensures bad_limits { AreBadLimits limits → result ≡ Err (RunFault.Make MakeError.BadLimits) }
+    ensures long_initial { IsRefusal templates.now limits MakeError.InitialTooLong → result ≡ Err (RunFault.Make MakeError.InitialTooLong) }
 {
     let mut show = match Show::new(alloc, templates, limits, hex) {
         Ok(show) => show,

@@ -1,7 +1,7 @@
 ghost use Rattle.std.specs.Prelude.{None, false};
 
 use super::*;
-use fast_template::FlatTemplate;
+use crate::vectors::built_in;
 use fast_text::{Failed, FromBytes, ToBytes};
 use fast_value::Code;
 use std::test::Fail;
@@ -30,12 +30,8 @@ const SHORT: Limits = Limits {
 const ROW_1: &str = "message T1\nfield 0 x u 942755\nend message\n";
 
 fn set(alloc: Global) -> Result<Templates, Fail> {
-    let t1 = FlatTemplate {
-        name: "T1",
-        id: 1,
-        fields: &["x"],
-    };
-    Ok(Templates::flat(alloc, &[t1])?)
+    let text = "[[template]]\nname = 'T1'\nid = 1\nfields = [{kind='uInt32', name='x'}]";
+    Ok(Templates::read(alloc, text)?)
 }
 
 fn fault(code: Code, place: u64) -> Result<ShowEnd, RunFault> {
@@ -100,6 +96,135 @@ fn rows_through_show(rt: HostRuntime) -> Result<(), Fail> {
         );
         assert_eq!(rt; end, ending, "of {input}");
         assert_eq!(rt; target.bytes(), shown.as_bytes());
+    }
+    Ok(())
+}
+
+#[test]
+fn streams_of_the_built_in_set(rt: HostRuntime) -> Result<(), Fail> {
+    let templates = built_in(rt.alloc())?;
+    let good = Ok(ShowEnd::Good);
+    let many = "message T2\nfault L2 at 7\n";
+    for (input, ending, shown) in [
+        ("", good, ""),
+        ("C0", Ok(ShowEnd::Truncated(1)), "truncated at 1\n"),
+        (
+            "C0 81",
+            Ok(ShowEnd::Truncated(2)),
+            "message T1\ntruncated at 2\n",
+        ),
+        ("C0 81 39 45 A3", good, ROW_1),
+        ("C0 82 0F 7F 7F 7F FF", fault(Code::L2, 7), many),
+        (
+            "C0 82 0F 7F 7F 7F FF C0 81 39 45 A3",
+            fault(Code::L2, 7),
+            many,
+        ),
+        ("C0 8G", Err(RunFault::BadHex(4)), ""),
+    ] {
+        let mut cells = [0; 512];
+        let mut target = ToBytes::new(&mut cells);
+        let mut source = FromBytes::new(input.as_bytes());
+        let end = run_show(
+            rt.alloc(),
+            &templates,
+            LENIENT,
+            true,
+            100,
+            &mut source,
+            &mut target,
+        );
+        assert_eq!(rt; end, ending, "of {input}");
+        assert_eq!(rt; target.bytes(), shown.as_bytes());
+    }
+    Ok(())
+}
+
+/// A message with a group and a sequence of two elements.
+const NESTED: [u8; 14] = [
+    0xe0, 0x8f, 0x85, 0x82, 0x01, 0xff, 0x83, 0xc0, 0x41, 0xc2, 0x00, 0xe4, 0x80, 0xfe,
+];
+
+/// The lines of `NESTED`.
+const NESTED_LINES: [&str; 16] = [
+    "message T15\n",
+    "field 15 x u 5\n",
+    "group 16 g\n",
+    "field 17 b b 01ff\n",
+    "end group\n",
+    "sequence 18 legs 2\n",
+    "element\n",
+    "field 19 sym a \"AB\"\n",
+    "field 20 px i 100\n",
+    "end element\n",
+    "element\n",
+    "field 19 sym a \"AB\"\n",
+    "field 20 px i 98\n",
+    "end element\n",
+    "end sequence\n",
+    "end message\n",
+];
+
+#[test]
+fn a_nested_message_cut_anywhere(rt: HostRuntime) -> Result<(), Fail> {
+    let templates = built_in(rt.alloc())?;
+    let lines_until = [0, 0, 1, 3, 3, 3, 5, 7, 7, 7, 8, 8, 11, 12, 16];
+    for (len, lines) in lines_until.iter().enumerate() {
+        let mut shown = String::new(rt.alloc());
+        for line in NESTED_LINES.iter().take(*lines) {
+            shown.push_str(line)?;
+        }
+        let ending = if len == 0 || len == 14 {
+            ShowEnd::Good
+        } else {
+            shown.push_str(format!(in rt.alloc(); "truncated at {len}\n")?.as_str())?;
+            ShowEnd::Truncated(len as u64)
+        };
+        let mut cells = [0; 512];
+        let mut target = ToBytes::new(&mut cells);
+        let mut source = FromBytes::new(&NESTED[..len]);
+        let end = run_show(
+            rt.alloc(),
+            &templates,
+            LENIENT,
+            false,
+            100,
+            &mut source,
+            &mut target,
+        );
+        assert_eq!(rt; end, Ok(ending), "of {len} bytes");
+        assert_eq!(rt; target.bytes(), shown.as_bytes());
+    }
+    Ok(())
+}
+
+#[test]
+fn limits_without_a_decoder(rt: HostRuntime) -> Result<(), Fail> {
+    let text =
+        "[[template]]\nname = 'A'\nfields = [{kind='ascii', name='x', op='default', value='12345678901234567'}]";
+    let templates = Templates::read(rt.alloc(), text)?;
+    for (max_text, ending) in [
+        (15, Err(RunFault::Make(MakeError::BadLimits))),
+        (16, Err(RunFault::Make(MakeError::InitialTooLong))),
+        (17, Ok(ShowEnd::Good)),
+    ] {
+        let limits = Limits {
+            max_text,
+            ..LENIENT
+        };
+        let mut target = ToBytes::new(&mut []);
+        let mut source = FromBytes::new(b"");
+        let end = run_show(
+            rt.alloc(),
+            &templates,
+            limits,
+            false,
+            100,
+            &mut source,
+            &mut target,
+        );
+        assert_eq!(rt; end, ending, "with {max_text}");
+        assert!(rt; target.bytes().is_empty());
     }
     Ok(())
 }
