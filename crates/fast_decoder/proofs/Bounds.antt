@@ -1,5 +1,5 @@
 -- What a decoder stores, and what it has handed over, is bounded by its template set and limits.
-use Rattle.std.proofs.Common.{◌≡◌, ◌∙◌, ap, subst, sym, arith}
+use Rattle.std.proofs.Common.{◌≡◌, ◌∙◌, subst, sym, arith}
 use Rattle.std.proofs.Math.Nat.{add-mul}
 use Rattle.std.specs.Prelude.{ℕ, ◌+◌, ◌*◌, ◌≤◌, List, length, vec_len}
 use Rattle.fast_value.specs.declared.settings.Limits.{Limits}
@@ -7,7 +7,7 @@ use Rattle.fast_template.specs.Sizes.{set_depth, message_cap, stored_cap}
 use Rattle.fast_dict.specs.Slots.{slots_dictionary, slots_sized, slots_bounded}
 use Rattle.fast_decoder.specs.declared.machine.Machine.{Machine}
 use Rattle.fast_decoder.specs.Events.{EventData}
-use Rattle.fast_decoder.specs.Standing.{held, Standing, StandsAfter}
+use Rattle.fast_decoder.specs.Standing.{held, Standing}
 use Rattle.fast_decoder.specs.Positions.{Set, tree_in, IsSupplied}
 use Rattle.fast_decoder.specs.Decoding.{DecoderData, tree, So, standing, stored_by, stored}
 use Rattle.fast_decoder.proofs.Bound.{consumed-bound}
@@ -20,9 +20,9 @@ sum t j b e dep H k max km km2 text joined slots depth product = omega (arith, t
 pub stored-bound : (set : Set) (l : Limits) (m : Machine) → IsSupplied set l m → held (stored_by m) ≤ stored_cap (tree_in set) l
 stored-bound set l m h =
     let slots = subst (λ k. vec_len m.slots.block + vec_len m.slots.entries ≤ k * l.max_text + k) (slots_sized m.slots ∙ h.entries)
-        (subst (λ n. vec_len m.slots.block + vec_len m.slots.entries ≤ length (slots_dictionary m.slots) * n + length (slots_dictionary m.slots)) h.max_text (slots_bounded m.slots)) in
+    (subst (λ n. vec_len m.slots.block + vec_len m.slots.entries ≤ length (slots_dictionary m.slots) * n + length (slots_dictionary m.slots)) h.max_text (slots_bounded m.slots)) in
     sum m.text.capacity m.joined.capacity (vec_len m.slots.block) (vec_len m.slots.entries) m.cursor.depth (set_depth (tree_in set)) set.entries l.max_text (set.entries * l.max_text) ((set.entries + 2) * l.max_text)
-        h.text_room h.joined_room slots h.depth (add-mul set.entries 2 l.max_text)
+    h.text_room h.joined_room slots h.depth (add-mul set.entries 2 l.max_text)
 
 -- A decoder that bytes led to stores no more than the cap.
 pub so-bounded : (d : DecoderData) (w : List ℕ) (es : List EventData) → So d w es → held (stored d) ≤ stored_cap (tree d) d.limits

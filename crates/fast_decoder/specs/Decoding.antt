@@ -73,8 +73,10 @@ IsUncounted (Err f) = f.code ≡ Why.L4
 abbrev pub turns : DecoderData → ℕ
 turns d = d.machine.turns.count
 
--- What a decoder's machine stores: the cells of both scratches, the whole block of the dictionary's texts, the entries, a frame for
--- each level of nesting, and the cells of a map for the message and for each level, which `IsCursor` of a cursor counts.
+-- What a decoder's machine stores of a stream: all cells of both scratches, the whole block of the dictionary's texts, the entries, a
+-- frame for each level of nesting, and the cells of one map for the message and for each level: a cursor's model shows only the
+-- maps that have come, and `IsCursor` counts the cells. Not among them are what is fixed whatever the set is, such as the few bytes
+-- of an integer in hand, and what is made once of the set alone, such as the widths.
 abbrev pub stored_by : Machine → Stored
 stored_by m = record { scratch = m.text.capacity + m.joined.capacity; texts = vec_len m.slots.block; entries = vec_len m.slots.entries; frames = m.cursor.depth; maps = map_limit * (m.cursor.depth + 1) }
 

@@ -1,6 +1,5 @@
 use Rattle.std.proofs.Common.{◌≡◌, refl, sym, ap, ◌∙◌, arith, length}
 use Rattle.std.proofs.lemmas.List.{length-replicate}
-use Rattle.fast_template.specs.Sizes.{set_depth}
 use Rattle.fast_template.specs.Flat.{tree_of}
 use Rattle.fast_dict.specs.Dictionary.{undefined}
 use Rattle.fast_dict.specs.Slots.{slots_sized}
