@@ -1,0 +1,144 @@
+//! One run of the decoder over a stream in memory, for callers from C that measure it.
+#![tactic(auto)]
+
+ghost use Rattle.std.specs.Prelude.{◌<◌};
+
+mod sinks;
+
+use crate::sinks::{Check, Count, Tallied};
+use fast_decoder::{Decoder, FaultCode};
+use fast_template::Templates;
+use fast_value::{Code, Limits};
+use std::alloc::Global;
+
+/// The status of a run that ended between two messages.
+const BETWEEN: u64 = 0;
+
+/// The status of a run that ended inside a message.
+const INSIDE: u64 = 1;
+
+/// The status of a run for which no decoder was made.
+const NOT_MADE: u64 = 256;
+
+/// What a run came to.
+#[derive(Clone, Copy)]
+struct Answer {
+    status: u64,
+    consumed: u64,
+    events: u64,
+    sum: u64,
+}
+
+impl Answer {
+    /// The answer where no decoder is made.
+    const NOT_MADE: Answer = Answer {
+        status: NOT_MADE,
+        consumed: 0,
+        events: 0,
+        sum: 0,
+    };
+}
+
+/// The status of a stream at fault, from 2.
+fn status_of(code: FaultCode) -> u64 {
+    match code {
+        FaultCode::Stream(code) => match code {
+            Code::D2 => 2,
+            Code::D4 => 3,
+            Code::D5 => 4,
+            Code::D6 => 5,
+            Code::D7 => 6,
+            Code::D9 => 7,
+            Code::R1 => 8,
+            Code::R2 => 9,
+            Code::R6 => 10,
+            Code::R7 => 11,
+            Code::R8 => 12,
+            Code::R9 => 13,
+            Code::L1 => 14,
+            Code::L2 => 15,
+            Code::L3 => 16,
+            Code::L5 => 17,
+        },
+        FaultCode::L4 => 18,
+        FaultCode::SinkStopped => 19,
+    }
+}
+
+/// Feeds a stream, in pieces of so many bytes, to a decoder.
+fn feed_all<S: Tallied>(decoder: &mut Decoder<'_>, stream: &[u8], piece: usize, sink: &mut S) -> u64
+    requires { 0 < piece }
+{
+    for bytes in stream.chunks(piece) {
+        if let Err(fault) = decoder.feed(bytes, sink) {
+            return status_of(fault.code);
+        }
+    }
+    if decoder.between() { BETWEEN } else { INSIDE }
+}
+
+/// Runs a new decoder over a stream.
+fn run<S: Tallied>(
+    alloc: Global,
+    templates: &[u8],
+    limits: Limits,
+    stream: &[u8],
+    piece: usize,
+    mut sink: S,
+) -> Answer
+    requires { 0 < piece }
+{
+    let Ok(text) = std::str::from_utf8(templates) else {
+        return Answer::NOT_MADE;
+    };
+    let Ok(set) = Templates::read(alloc, text) else {
+        return Answer::NOT_MADE;
+    };
+    let Ok(mut decoder) = Decoder::new(alloc, &set, limits) else {
+        return Answer::NOT_MADE;
+    };
+    let status = feed_all(&mut decoder, stream, piece, &mut sink);
+    let tally = sink.tally();
+    Answer {
+        status,
+        consumed: decoder.consumed(),
+        events: tally.events,
+        sum: tally.sum,
+    }
+}
+
+/// Decodes a stream under a template set, fed in pieces of so many bytes, or in one where `piece` is 0.
+///
+/// Sink 0 counts, and each other takes the checksum. Four numbers are written to `out`, each as eight bytes, the least first:
+/// the status (0 between two messages, 1 inside of one, 2 to 19 at a fault, 256 where no decoder was made), the number of bytes
+/// consumed, the number of events, and the sum.
+#[unsafe(no_mangle)]
+pub extern "C" fn fast_bench_run(
+    alloc: Global,
+    templates: &[u8],
+    stream: &[u8],
+    piece: usize,
+    sink: u32,
+    strict: u32,
+    max_text: u32,
+    max_elements: u32,
+    max_total: u32,
+    out: &mut [u8; 32],
+) {
+    let limits = Limits {
+        strict: strict != 0,
+        max_text: max_text as usize,
+        max_elements,
+        max_total,
+    };
+    let piece = if piece == 0 { usize::MAX } else { piece };
+    let answer = if sink == 0 {
+        run(alloc, templates, limits, stream, piece, Count::new())
+    } else {
+        run(alloc, templates, limits, stream, piece, Check::new())
+    };
+    out[..8].copy_from_slice(&answer.status.to_le_bytes());
+    out[8..16].copy_from_slice(&answer.consumed.to_le_bytes());
+    out[16..24].copy_from_slice(&answer.events.to_le_bytes());
+    out[24..].copy_from_slice(&answer.sum.to_le_bytes());
+}

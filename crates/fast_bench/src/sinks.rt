@@ -1,0 +1,178 @@
+//! Two sinks that use every value, so that nothing of a stream can be left undecoded.
+
+use fast_decoder::{Event, Sink, Stop};
+use fast_value::Scalar;
+
+/// What a sink came to.
+#[derive(Clone, Copy)]
+pub struct Tally {
+    /// The number of events, modulo 2^64.
+    pub events: u64,
+    /// What stands for their values.
+    pub sum: u64,
+}
+
+/// A sink with a tally.
+pub trait Tallied: Sink + Drop {
+    /// The tally of the events that were taken.
+    fn tally(&self) -> Tally;
+}
+
+/// The cheapest sink that uses every value: it counts, and folds numbers and lengths by exclusive or.
+#[derive(Drop)]
+pub struct Count {
+    tally: Tally,
+}
+
+impl Count {
+    /// A sink that has taken nothing.
+    pub fn new() -> Count {
+        Count {
+            tally: Tally { events: 0, sum: 0 },
+        }
+    }
+
+    /// What a value is folded as.
+    fn folded(value: Scalar<'_>) -> u64 {
+        match value {
+            Scalar::U(number) => number,
+            Scalar::I(number) => number.cast_unsigned(),
+            Scalar::Dec { exponent, mantissa } => {
+                mantissa
+                    .cast_unsigned()
+                    .wrapping_add((exponent as i64).cast_unsigned())
+            }
+            Scalar::Ascii(text) => text.len() as u64,
+            Scalar::Unicode(text) => text.len() as u64,
+            Scalar::Bytes(bytes) => bytes.len() as u64,
+        }
+    }
+}
+
+impl Tallied for Count {
+    fn tally(&self) -> Tally {
+        self.tally
+    }
+}
+
+impl Sink for Count {
+    ghost use Rattle.std.specs.Prelude.{◌≡◌, ◌+◌, ◌%◌, ◌^◌};
+
+    ghost takes = { λ old _ new. new.tally.events ≡ (old.tally.events + 1) % 2 ^ 64 };
+
+    ghost stops = { λ _ _ _. ⊥ };
+
+    fn take(&mut self, event: Event<'_>) -> Result<(), Stop> {
+        self.tally.events = self.tally.events.wrapping_add(1);
+        if let Event::Field { node: _, value } = event {
+            self.tally.sum ^= Count::folded(value);
+        }
+        Ok(())
+    }
+}
+
+/// The start of the checksum (FNV-1a, 64 bits).
+const BASIS: u64 = 0xcbf2_9ce4_8422_2325;
+
+/// The factor of the checksum.
+const PRIME: u64 = 0x0000_0100_0000_01b3;
+
+/// Spreads kinds of events and numbers of nodes over a word.
+const SPREAD: u64 = 0x9e37_79b9_7f4a_7c15;
+
+/// The word that stands for a kind of event and a node.
+fn key(kind: u64, node: u32) -> u64 {
+    (node as u64)
+        .wrapping_mul(16)
+        .wrapping_add(kind)
+        .wrapping_mul(SPREAD)
+}
+
+/// At most eight bytes as a word, the first byte lowest.
+fn word_of(bytes: &[u8]) -> u64 {
+    let mut word: u64 = 0;
+    for byte in bytes.iter().rev() {
+        word = (word << 8) | (*byte as u64);
+    }
+    word
+}
+
+/// A sink that takes a checksum (FNV-1a over words of 64 bits) of events and values.
+#[derive(Drop)]
+pub struct Check {
+    tally: Tally,
+}
+
+impl Check {
+    /// A sink that has taken nothing.
+    pub fn new() -> Check {
+        Check {
+            tally: Tally {
+                events: 0,
+                sum: BASIS,
+            },
+        }
+    }
+}
+
+/// The checksum with one more word.
+fn with_word(sum: u64, word: u64) -> u64 {
+    (sum ^ word).wrapping_mul(PRIME)
+}
+
+/// The checksum with a text, eight bytes a word and the last word filled with zeros, behind a word for its length.
+fn with_text(sum: u64, kind: u64, node: u32, text: &[u8]) -> u64 {
+    let mut sum = with_word(sum, key(kind, node).wrapping_add(text.len() as u64));
+    for bytes in text.chunks(8) {
+        sum = with_word(sum, word_of(bytes));
+    }
+    sum
+}
+
+/// The checksum with a field's value.
+fn with_field(sum: u64, node: u32, value: Scalar<'_>) -> u64 {
+    match value {
+        Scalar::U(number) => with_word(sum, key(2, node).wrapping_add(number)),
+        Scalar::I(number) => with_word(sum, key(3, node).wrapping_add(number.cast_unsigned())),
+        Scalar::Dec { exponent, mantissa } => {
+            let sum = with_word(sum, key(4, node).wrapping_add(mantissa.cast_unsigned()));
+            with_word(sum, (exponent as i64).cast_unsigned())
+        }
+        Scalar::Ascii(text) => with_text(sum, 5, node, text),
+        Scalar::Unicode(text) => with_text(sum, 6, node, text),
+        Scalar::Bytes(bytes) => with_text(sum, 7, node, bytes),
+    }
+}
+
+impl Tallied for Check {
+    fn tally(&self) -> Tally {
+        self.tally
+    }
+}
+
+impl Sink for Check {
+    ghost use Rattle.std.specs.Prelude.{◌≡◌, ◌+◌, ◌%◌, ◌^◌};
+
+    ghost takes = { λ old _ new. new.tally.events ≡ (old.tally.events + 1) % 2 ^ 64 };
+
+    ghost stops = { λ _ _ _. ⊥ };
+
+    fn take(&mut self, event: Event<'_>) -> Result<(), Stop> {
+        self.tally.events = self.tally.events.wrapping_add(1);
+        let sum = self.tally.sum;
+        self.tally.sum = match event {
+            Event::MessageStart { template } => with_word(sum, key(1, template)),
+            Event::Field { node, value } => with_field(sum, node, value),
+            Event::GroupStart { node } => with_word(sum, key(8, node)),
+            Event::GroupEnd => with_word(sum, key(9, 0)),
+            Event::SequenceStart { node, count } => {
+                with_word(sum, key(10, node).wrapping_add(count as u64))
+            }
+            Event::ElementStart => with_word(sum, key(11, 0)),
+            Event::ElementEnd => with_word(sum, key(12, 0)),
+            Event::SequenceEnd => with_word(sum, key(13, 0)),
+            Event::MessageEnd => with_word(sum, key(14, 0)),
+        };
+        Ok(())
+    }
+}
