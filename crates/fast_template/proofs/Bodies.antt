@@ -1,5 +1,5 @@
 -- The instruction of a node among nodes that name later ones.
-use Rattle.std.proofs.Common.{◌≡◌, ℕ, suc, ◌+◌, ◌<◌, List, drop, arith, refl, subst, ap, sym, ◌∙◌, length, slice_get, get_or, Some}
+use Rattle.std.proofs.Common.{◌≡◌, ℕ, suc, ◌+◌, ◌<◌, List, drop, arith, refl, subst, ap, ◌∙◌, length, slice_get, get_or, Some}
 use Rattle.std.specs.Prelude.{slice_index, slice_index_or}
 use Rattle.std.proofs.lemmas.List.{get_or_default}
 use Rattle.std.proofs.lemmas.Option.{slice_get_read}

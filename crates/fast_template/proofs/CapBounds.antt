@@ -1,7 +1,6 @@
 -- How great the depth and the cap of a set can be: each node stands in the set once.
-use Rattle.std.proofs.Common.{◌≡◌, ℕ, ◌+◌, ◌*◌, ◌<◌, ◌≤◌, suc, zero, List, [], ◌∷◌, ◌++◌, refl, ap, sym, ◌∙◌, subst, length, map, max, min, arith, length-append, Vec, Global}
-use Rattle.std.specs.Prelude.{flat_map}
-use Rattle.std.proofs.Math.Nat.{le_trans, max-le, mul-le-mul_left, mul-le-mul_right}
+use Rattle.std.proofs.Common.{◌≡◌, ℕ, ◌+◌, ◌*◌, ◌<◌, ◌≤◌, suc, List, [], ◌∷◌, refl, ap, sym, ◌∙◌, subst, length, map, max, arith, length-append}
+use Rattle.std.proofs.Math.Nat.{le_trans, max-le, mul-le-mul_left}
 use Rattle.fast_template.specs.declared.instructions.Node.{Node}
 use Rattle.fast_template.specs.declared.sets.Templates.{Templates}
 use Rattle.fast_template.specs.Tree.{Instruction, field, parts, group, sequence, Body, end, step, TemplateData}

@@ -12,12 +12,12 @@ use Rattle.fast_template.specs.FlatSets.{plain_node, flat_nodes, flat_body, flat
 use Rattle.fast_template.proofs.FlatTrees.{flat_trees}
 
 -- the labels of nodes without their memory
-abbrev data_labels : ℕ → List NodeData → List Label
+abbrev pub data_labels : ℕ → List NodeData → List Label
 data_labels own [] = []
 data_labels own (n ∷ ns) = record { node = own; name = n.name } ∷ data_labels (suc own) ns
 
 -- the labels of nodes are those of what the nodes hold
-same_labels : (own : ℕ) (ns : List Node) → labels_from own ns ≡ data_labels own (map node_data ns)
+pub same_labels : (own : ℕ) (ns : List Node) → labels_from own ns ≡ data_labels own (map node_data ns)
 same_labels own [] = refl
 same_labels own (n ∷ ns) = ap (λ (ls : List Label). label_of own n ∷ ls) (same_labels (suc own) ns)
 

@@ -1,5 +1,5 @@
 -- The greatest number of a list of templates, one template after the other.
-use Rattle.std.proofs.Common.{◌≡◌, ℕ, ◌+◌, ◌*◌, ◌<◌, ◌≤◌, suc, List, refl, ap, sym, ◌∙◌, length, map, drop, max, min, arith, slice_get, get_or, Some}
+use Rattle.std.proofs.Common.{◌≡◌, ℕ, ◌+◌, ◌*◌, ◌≤◌, suc, List, ap, sym, ◌∙◌, length, map, drop, max, min, arith, slice_get, get_or, Some}
 use Rattle.std.proofs.Math.Seq.{drop-cons}
 use Rattle.std.proofs.Math.Nat.{max-zero, min-eq_left}
 use Rattle.std.proofs.lemmas.Option.{slice_get_within, get_or_from_slice_get}

@@ -1,5 +1,5 @@
 -- That a walk down the nodes of a set ends: a body names later nodes than the node that it stands in.
-use Rattle.std.proofs.Common.{◌≡◌, ℕ, ◌<◌, ◌≤◌, ◌+◌, ◌-◌, ◌*◌, List, [], ◌∷◌, refl, sym, subst, length, suc, zero, arith, min, inl, inr}
+use Rattle.std.proofs.Common.{◌≡◌, ℕ, ◌<◌, ◌≤◌, ◌+◌, ◌-◌, ◌*◌, List, [], ◌∷◌, sym, subst, length, suc, zero, arith, min, inl, inr}
 use Rattle.std.specs.Prelude.{slice_index}
 use Rattle.std.proofs.Math.Nat.{min-le_left, min-le_right, min-eq_left, min-eq_right, le_trans}
 use Rattle.std.proofs.lemmas.Bool.{cases_lt}

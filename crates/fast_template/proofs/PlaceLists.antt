@@ -108,11 +108,11 @@ nat_same m n e = grind (arith, nat_tests)
 same_nat : (n : ℕ) → nat_eq n n ≡ true
 same_nat n = grind (arith, nat_tests)
 
-id_is : (id : ℕ) (o : Option ℕ) → is_id id o ≡ true → o ≡ Some id
+pub id_is : (id : ℕ) (o : Option ℕ) → is_id id o ≡ true → o ≡ Some id
 id_is id None e = absurd (false≢true e)
 id_is id (Some n) e = ap Some (sym (nat_same id n e))
 
-is_the_id : (id : ℕ) (o : Option ℕ) → o ≡ Some id → is_id id o ≡ true
+pub is_the_id : (id : ℕ) (o : Option ℕ) → o ≡ Some id → is_id id o ≡ true
 is_the_id id o e = ap (is_id id) e ∙ same_nat id
 
 pub ids_more : (old new : ℕ → Option ℕ) (us : List DeclaredTemplate) (t : DeclaredTemplate) (id k : ℕ) → t.id ≡ Some id → k ≡ length us → ((q : ℕ) → old q ≡ place_of_id q us) → old id ≡ None

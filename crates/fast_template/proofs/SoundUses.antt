@@ -136,7 +136,7 @@ list-append : (ds : List Declared) (d : Declared) → all_uses (list_of (ds ++ d
 list-append [] d = refl
 list-append (e ∷ ds) d = ap (λ us. uses e ++ us) (list-append ds d) ∙ sym (append_assoc (uses e) (all_uses (list_of ds)) (uses d ++ []))
 
-uses_in-more : (fs : List WrittenInstruction) (i : ℕ) (d : WrittenInstruction) → i < length fs → uses_in (take (i + 1) fs) ≡ uses_in (take i fs) ++ uses (instruction_data (get_or fs i d))
+pub uses_in-more : (fs : List WrittenInstruction) (i : ℕ) (d : WrittenInstruction) → i < length fs → uses_in (take (i + 1) fs) ≡ uses_in (take i fs) ++ uses (instruction_data (get_or fs i d))
 uses_in-more fs i d inside =
     ap uses_in (take_more fs i d inside) ∙ ap (λ ds. all_uses (list_of ds)) (map-append instruction_data (take i fs) (get_or fs i d ∷ []))
     ∙ list-append (map instruction_data (take i fs)) (instruction_data (get_or fs i d)) ∙ ap (λ us. uses_in (take i fs) ++ us) (append-nil (uses (instruction_data (get_or fs i d))))

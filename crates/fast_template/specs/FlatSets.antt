@@ -7,7 +7,7 @@ use Rattle.fast_template.specs.declared.operators.Operator.TheVariants.{None as 
 use Rattle.fast_template.specs.declared.flat.FlatTemplate.{FlatTemplate}
 use Rattle.fast_template.specs.declared.codes.StaticCode.{StaticCode}
 use Rattle.fast_template.specs.declared.codes.StaticCode.TheVariants.{S1, C1, C2, C6, Memory}
-use Rattle.fast_template.specs.AsWritten.{IsName}
+use Rattle.fast_template.specs.AsWritten.{IsName, no_more, DeclaredTemplate}
 use Rattle.fast_template.specs.Tree.{FieldData, field, Body, end, step, TemplateData, Tree}
 use Rattle.fast_template.specs.NodeData.{NodeData, a_field, TemplateOutline}
 
@@ -80,3 +80,7 @@ flat_outline n t = record { name = t.name.now; id = Some t.id; reset = false; bo
 abbrev pub flat_outlines : ℕ → List FlatTemplate → List TemplateOutline
 flat_outlines n [] = []
 flat_outlines n (t ∷ ts) = flat_outline n t ∷ flat_outlines (n + length t.fields.now) ts
+
+-- a template as it is written, but for its fields
+abbrev pub flat_heading : FlatTemplate → DeclaredTemplate
+flat_heading t = record { name = t.name.now; id = Some t.id; reset = false; dictionary = []; fields = no_more }

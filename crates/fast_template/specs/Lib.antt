@@ -9,6 +9,7 @@ pub mod Uses
 pub mod InPlace
 pub mod Checked
 pub mod Segments
+pub mod TextFields
 pub mod Refused
 pub mod Numbers
 pub mod Nodes
@@ -26,3 +27,9 @@ pub mod Places
 pub mod References
 pub mod FivePasses
 pub mod Usable
+pub mod Chains
+pub mod EntryKeys
+pub mod Built
+pub mod ReadSets
+pub mod Extents
+pub mod Cycles

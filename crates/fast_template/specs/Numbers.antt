@@ -1,9 +1,11 @@
 -- The numbers by which templates and nodes name nodes, and the identifiers of templates.
-use Rattle.std.specs.Prelude.{◌≡◌, ℕ, ◌<◌, List, [], EachIndex, length, slice_get, slice_index, Some}
+use Rattle.std.specs.Prelude.{◌≡◌, ℕ, ◌<◌, List, [], EachIndex, length, slice_get, slice_index, Option, Some, string_bytes}
+use Rattle.std.specs.Str.{bytes_eq}
 use Rattle.fast_template.specs.declared.instructions.Shape.{Shape}
 use Rattle.fast_template.specs.declared.instructions.Shape.TheVariants.{Field, Decimal, Group, Sequence}
 use Rattle.fast_template.specs.declared.instructions.Node.{Node}
 use Rattle.fast_template.specs.declared.instructions.Template.{Template}
+use Rattle.fast_template.specs.Places.{place, is_id}
 
 -- the nodes that a shape names
 abbrev pub numbers_of : Shape → List ℕ
@@ -31,3 +33,11 @@ NameLaterNodes ns = (n : ℕ) (v : Node) → slice_get ns n ≡ Some v → AreBe
 -- No two templates have one identifier.
 abbrev pub HaveDistinctIds : List Template → Type 0
 HaveDistinctIds ts = (i j id : ℕ) (a b : Template) → slice_get ts i ≡ Some a → slice_get ts j ≡ Some b → a.id ≡ Some id → b.id ≡ Some id → i ≡ j
+
+-- the number of the first template of a name
+abbrev pub number_of_name : List ℕ → List Template → Option ℕ
+number_of_name name ts = place (λ t. bytes_eq name (string_bytes t.name)) 0 ts
+
+-- the number of the first template of an identifier
+abbrev pub number_of_id : ℕ → List Template → Option ℕ
+number_of_id id ts = place (λ t. is_id id t.id) 0 ts

@@ -182,3 +182,36 @@ fn sequence_counts(body: Counts, max_elements: u32) -> Counts
         widest: element.outer.max(element.widest),
     }
 }
+
+#[cfg(test)]
+mod tests {
+    use super::*;
+    use crate::flat::FlatTemplate;
+    use std::test::Fail;
+
+    #[test]
+    fn a_flat_set_has_the_cap_of_its_longest_template(rt: HostRuntime) -> Result<(), Fail> {
+        let list = [
+            FlatTemplate {
+                name: "A",
+                id: 1,
+                fields: &["x", "y", "z"],
+            },
+            FlatTemplate {
+                name: "B",
+                id: 2,
+                fields: &["x"],
+            },
+        ];
+        let limits = Limits {
+            strict: false,
+            max_text: 16,
+            max_elements: 1000,
+            max_total: 1000,
+        };
+        let set = Templates::flat(rt.alloc(), &list)?;
+        assert_eq!(rt; set.depth(), 0);
+        assert_eq!(rt; set.message_cap(limits), 5);
+        Ok(())
+    }
+}

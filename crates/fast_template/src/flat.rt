@@ -5,13 +5,16 @@ ghost use Rattle.std.specs.List.{range_with_len};
 ghost use Rattle.fast_template.specs.AsWritten.{IsName};
 ghost use Rattle.fast_template.specs.Flat.{tree_of};
 ghost use Rattle.fast_template.specs.NodeData.{node_data};
-ghost use Rattle.fast_template.specs.FlatSets.{IsWellNamed, IsFlatSet, HaveDistinctNames, HaveDistinctIds, IsWrong, fields_count, flat_tree, plain_node};
+ghost use Rattle.fast_template.specs.FlatSets.{IsWellNamed, IsFlatSet, HaveDistinctNames, HaveDistinctIds, IsWrong, fields_count, flat_tree, plain_node, flat_heading};
+ghost use Rattle.fast_template.specs.WrittenSets.{written_data};
 
+use crate::checks::{index_ids, index_names};
 use crate::codes::{StaticCode, StaticFault};
 use crate::instructions::{FieldInstruction, Node, Shape, Template};
 use crate::names::is_name;
 use crate::operators::Operator;
 use crate::sets::Templates;
+use crate::written::WrittenTemplate;
 use fast_value::Kind;
 use std::alloc::{AllocError, Global};
 
@@ -178,6 +181,23 @@ fn add_fields(alloc: Global, nodes: &mut Vec<Node>, fields: &[&str]) -> Result<V
     Ok(body)
 }
 
+/// The templates of a list as they are written, but for their fields.
+fn headings(alloc: Global, list: &[FlatTemplate<'_>]) -> Result<Vec<WrittenTemplate>, AllocError>
+    ensures { IfOk result (λ v. map written_data v.items ≡ map flat_heading list.now) }
+{
+    let mut headings = Vec::new(alloc);
+    for FlatTemplate { name, id, .. } in list {
+        headings.push(WrittenTemplate {
+            name: String::from_str(alloc, name)?,
+            id: Some(*id),
+            reset: false,
+            dictionary: String::new(alloc),
+            fields: Vec::new(alloc),
+        })?;
+    }
+    Ok(headings)
+}
+
 /// The set of a list with which nothing is wrong.
 fn build(alloc: Global, list: &[FlatTemplate<'_>]) -> Result<Templates, AllocError>
     requires { IsFlatSet list.now }
@@ -194,10 +214,19 @@ fn build(alloc: Global, list: &[FlatTemplate<'_>]) -> Result<Templates, AllocErr
             body,
         })?;
     }
+    let headings = headings(alloc, list)?;
+    let Ok(names) = index_names(alloc, &headings) else {
+        return Err(AllocError);
+    };
+    let Ok(ids) = index_ids(alloc, &headings) else {
+        return Err(AllocError);
+    };
     Ok(Templates {
         templates,
         nodes,
         entries: 1,
+        names,
+        ids,
     })
 }
 

@@ -1,10 +1,16 @@
 //! Template sets of FAST streams: their text, their checks, and the form that a decoder walks.
 #![tactic(auto)]
 
+mod building;
 mod caps;
+mod chains;
 mod checks;
 pub mod codes;
+mod components;
+mod cycles;
 mod documents;
+mod entries;
+mod extents;
 pub mod flat;
 pub mod instructions;
 mod keys;
@@ -12,9 +18,12 @@ mod names;
 pub mod operators;
 mod passes;
 pub mod queries;
+mod read;
 mod reading;
+mod scopes;
 mod segments;
 pub mod sets;
+mod texts;
 mod uses;
 mod written;
 

@@ -1,6 +1,6 @@
 //! What can be asked of a template set. No query takes memory.
 
-ghost use Rattle.std.specs.Prelude.{◌≡◌, ◌≢◌, ◌≤◌, ◌<◌, ℕ, length, slice_get, Some, IfSome, IfNone, IsTrue, ◌↔◌};
+ghost use Rattle.std.specs.Prelude.{◌≡◌, ◌≢◌, ◌≤◌, ◌<◌, ℕ, length, slice_get, Some, IfSome, IfNone, string_bytes};
 ghost use Rattle.fast_template.specs.declared.instructions.Template.{Template};
 ghost use Rattle.fast_template.specs.Flat.{templates_of, nodes_of, tree_of};
 ghost use Rattle.fast_template.specs.Labels.{template_labels, labels_from};
@@ -11,16 +11,6 @@ ghost use Rattle.fast_template.specs.Numbers.{numbers_of, AreBelow, AreBetween};
 
 use crate::instructions::{Node, Template};
 use crate::sets::Templates;
-
-/// Whether the template has this identifier.
-fn has_id(template: &Template, id: u32) -> bool
-    ensures { IsTrue result ↔ (template.now.id ≡ Some id) }
-{
-    match template.id {
-        Some(own) => own == id,
-        None => false,
-    }
-}
 
 impl Templates {
     /// The number of templates.
@@ -73,11 +63,15 @@ impl Templates {
         ensures none { IfNone result ((j : ℕ) (t : Template) → slice_get (templates_of self.now) j ≡ Some t → t.id ≢ Some id) }
         ensures distinct { HasDistinctIds (tree_of self.now) }
     {
-        for (i, template) in self.templates.iter().enumerate() {
-            if has_id(template, id) {
-                return Some(i as u32);
-            }
-        }
-        None
+        self.ids.get(&id).copied()
+    }
+
+    /// The number of the template with a name.
+    pub fn by_name(&self, name: &str) -> Option<u32>
+        ensures found { IfSome result (λ i. (t : Template) × (slice_get (templates_of self.now) i ≡ Some t) × (string_bytes t.name ≡ name.now)) }
+        ensures first { IfSome result (λ i. (j : ℕ) (t : Template) → j < i → slice_get (templates_of self.now) j ≡ Some t → string_bytes t.name ≢ name.now) }
+        ensures none { IfNone result ((j : ℕ) (t : Template) → slice_get (templates_of self.now) j ≡ Some t → string_bytes t.name ≢ name.now) }
+    {
+        self.names.get(name).copied()
     }
 }

@@ -1,11 +1,13 @@
 //! Checked template sets.
 
-ghost use Rattle.std.specs.Prelude.{◌≤◌, ◌<◌, ◌^◌, length};
+ghost use Rattle.std.specs.Prelude.{◌≡◌, ℕ, List, ◌≤◌, ◌<◌, ◌^◌, length, nat_eq};
+ghost use Rattle.std.specs.HashMap.{get, get_by_text};
 ghost use Rattle.fast_template.specs.Labels.{AreInPreorder};
-ghost use Rattle.fast_template.specs.Numbers.{NameNodes, NameLaterNodes, HaveDistinctIds};
+ghost use Rattle.fast_template.specs.Numbers.{NameNodes, NameLaterNodes, HaveDistinctIds, number_of_name, number_of_id};
 ghost use Rattle.fast_template.specs.Usable.{AreUsable};
 
 use crate::instructions::{Node, Template};
+use std::collections::HashMap;
 
 /// A checked template set. Templates are numbered from 0 in the order of their text; nodes, which are the instructions of
 /// all templates with references in place, from 0 in preorder.
@@ -14,6 +16,8 @@ pub struct Templates {
     pub(crate) templates: Vec<Template>,
     pub(crate) nodes: Vec<Node>,
     pub(crate) entries: u32,
+    pub(crate) names: HashMap<String, u32>,
+    pub(crate) ids: HashMap<u32, u32>,
     ghost few_templates: { length templates.items < 2 ^ 32 },
     ghost few_nodes: { length nodes.items ≤ 65536 },
     ghost has_identifier: { 1 ≤ entries },
@@ -22,4 +26,6 @@ pub struct Templates {
     ghost nodes_usable: { AreUsable entries nodes.items },
     ghost nodes_in_preorder: { AreInPreorder nodes.items templates.items },
     ghost distinct_ids: { HaveDistinctIds templates.items },
+    ghost names_index: { (q : List ℕ) → get_by_text names q ≡ number_of_name q templates.items },
+    ghost ids_index: { (q : ℕ) → get nat_eq ids q ≡ number_of_id q templates.items },
 }

@@ -6,6 +6,10 @@ use Rattle.fast_template.proofs.FlatLists.{nodes_step, count_step, templates_ste
 use Rattle.fast_template.proofs.FlatTrees.{flat_trees, flat_names_nodes, flat_names_later_nodes, flat_distinct_ids}
 use Rattle.fast_template.proofs.FlatLabels.{flat_in_preorder}
 use Rattle.fast_template.proofs.FlatUsable.{flat_usable}
+use Rattle.fast_template.specs.FlatSets.{flat_heading}
+use Rattle.fast_template.specs.Places.{place_of_name, place_of_id}
+use Rattle.fast_template.specs.WrittenSets.{written_data}
+use Rattle.fast_template.proofs.Headings.{same_names, same_ids, flat_headings}
 use Rattle.fast_template.proofs.flat.build.Goals as goal
 
 pub loop-template-preserved : goal.loop-template-preserved
@@ -33,6 +37,10 @@ invariant_of-result c =
     let n = count_done list i (vec_len c.loop-template.nodes) end c.loop-template.invariant.count in
     let k = c.loop-template.nodes.ok in
     let m = templates_count list c.loop-template.templates.items templates in
+    let us = c.loop-template.templates.items in
+    let headings = flat_headings list us templates in
+    let named = ap (map written_data) c.deref.ensures.value ∙ c.in_ok-headings.ensures in
+    let identified = ap (map written_data) c.deref-2.ensures.value ∙ c.in_ok-headings.ensures in
     record {
       few_templates = omega (arith, m, c.requires.few);
       few_nodes = omega (arith, n, k, c.requires.few_nodes);
@@ -42,6 +50,8 @@ invariant_of-result c =
       nodes_usable = flat_usable list c.loop-template.nodes.items nodes;
       nodes_in_preorder = flat_in_preorder list c.loop-template.templates.items c.loop-template.nodes.items nodes templates;
       distinct_ids = flat_distinct_ids list c.loop-template.templates.items c.requires.ids templates;
+      names_index = λ q. c.in-Ok.ensures.index q ∙ ap (place_of_name q) named ∙ same_names us (map flat_heading list) q headings;
+      ids_index = λ q. c.in-Ok-index_ids.ensures.index q ∙ ap (place_of_id q) identified ∙ same_ids us (map flat_heading list) q headings;
     }
 
 pub returns : goal.returns

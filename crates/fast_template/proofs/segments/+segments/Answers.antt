@@ -1,12 +1,11 @@
-use Rattle.std.proofs.Common.{ap, ◌∙◌, drop, sym, length, refl, ◌<◌, subst}
-use Rattle.std.specs.Prelude.{slice_index, slice_index_or, IsTrue, ◌↔◌, true}
+use Rattle.std.proofs.Common.{sym, length, refl, ◌<◌, subst}
+use Rattle.std.specs.Prelude.{slice_index, IsTrue, ◌↔◌, true}
 use Rattle.fast_template.specs.Checked.{IsNarrowInside}
 use Rattle.fast_template.specs.Segments.{IsNarrowSegment}
 use Rattle.fast_template.specs.Sizes.{segment_limit}
-use Rattle.fast_template.specs.Nodes.{no_instruction, body_of, instructions_from}
+use Rattle.fast_template.specs.Nodes.{body_of, instructions_from}
 use Rattle.fast_template.specs.Numbers.{AreBetween}
-use Rattle.fast_template.proofs.Walks.{body_at_end}
-use Rattle.fast_template.proofs.Bodies.{instruction_here, next_instruction, names_later}
+use Rattle.fast_template.proofs.Bodies.{instruction_here, names_later}
 use Rattle.fast_template.proofs.Measures.{left_at_node, left_at_body, smaller_at_node, smaller_at_body, all_below}
 use Rattle.fast_template.proofs.segments.+segments.Goals as goal
 

@@ -1,4 +1,4 @@
-use Rattle.std.proofs.Common.{◌≡◌, ◌∙◌, ◌+◌, ap, sym, refl, drop, length, arith}
+use Rattle.std.proofs.Common.{◌≡◌, ◌∙◌, ◌+◌, ap, sym, refl, drop, arith}
 use Rattle.std.specs.Prelude.{slice_index, slice_index_or}
 use Rattle.std.proofs.Math.Nat.{add_assoc}
 use Rattle.fast_template.specs.Nodes.{body_of, instructions_from, label_of, no_instruction}
@@ -22,4 +22,5 @@ loop-number-preserved c =
     let two = c.bits_used-bits.ensures.few in
     record {
       few = omega (arith, few, two);
-      all = add_assoc b c.bits_used-bits.result (bits_of rest) ∙ ap (λ x. b + (x + bits_of rest)) used ∙ ap (λ x. b + bits_of x) (sym (next_instruction is ms p c.loop-number-test.true)) ∙ c.loop-number.invariant.all }
+      all = add_assoc b c.bits_used-bits.result (bits_of rest) ∙ ap (λ x. b + (x + bits_of rest)) used ∙ ap (λ x. b + bits_of x) (sym (next_instruction is ms p c.loop-number-test.true)) ∙ c.loop-number.invariant.all;
+    }

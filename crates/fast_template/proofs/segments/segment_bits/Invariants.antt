@@ -5,5 +5,6 @@ use Rattle.fast_template.proofs.segments.segment_bits.Given as goal
 
 abbrev pub invariant-loop-number : goal.invariant-loop-number
 invariant-loop-number l = record {
-    few : l.bits ≤ 2 * l.number-index;
-    all : l.bits + bits_of (body_of 0 (instructions_from 0 l.nodes) (drop l.number-index l.body)) ≡ bits_of (body_of 0 (instructions_from 0 l.nodes) l.body) }
+  few : l.bits ≤ 2 * l.number-index;
+  all : l.bits + bits_of (body_of 0 (instructions_from 0 l.nodes) (drop l.number-index l.body)) ≡ bits_of (body_of 0 (instructions_from 0 l.nodes) l.body);
+}

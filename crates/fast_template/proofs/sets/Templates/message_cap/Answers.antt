@@ -1,5 +1,5 @@
-use Rattle.std.proofs.Common.{◌≡◌, ◌≤◌, ◌<◌, ℕ, min, ap, sym, ◌∙◌, refl, subst, length, slice_get, Some, arith}
-use Rattle.std.proofs.Math.Nat.{min-eq_left, le_trans}
+use Rattle.std.proofs.Common.{◌≡◌, ◌<◌, ℕ, min, ap, sym, ◌∙◌, refl, subst, length, slice_get, Some}
+use Rattle.std.proofs.Math.Nat.{min-eq_left}
 use Rattle.std.proofs.lemmas.Option.{slice_get_read}
 use Rattle.fast_template.specs.Flat.{tree_of, body_of, instructions_from}
 use Rattle.fast_template.specs.Numbers.{AreBelow}

@@ -1,0 +1,27 @@
+use Rattle.std.proofs.Common.{sym, refl, subst}
+use Rattle.std.proofs.lemmas.Bool.{false≢true}
+use Rattle.std.proofs.lemmas.List.Elements.{All-more}
+use Rattle.fast_template.specs.TextFields.{IsTextNode}
+use Rattle.fast_template.proofs.Lists.{all_taken}
+use Rattle.fast_template.proofs.sets.Templates.holds_text.Goals as goal
+
+pub returns-then-is_text_node : goal.returns-then-is_text_node
+returns-then-is_text_node c =
+    let d = c.deref-node-items.ensures.value in
+    let inside = rw d at c.loop-node-test.true in
+    let read = rw d at c.node-item.is in
+    ((λ h. (c.loop-node.node-index, c.node-item.result, inside, sym read, c.if-is_text_node.ensures.0 refl)), (λ h. refl))
+
+pub loop-node-preserved : goal.loop-node-preserved
+loop-node-preserved c =
+    let d = c.deref-node-items.ensures.value in
+    let ns = c.args.self.now.nodes.items in
+    let read = rw d at c.node-item.is in
+    All-more (λ v. ¬ (IsTextNode c.args.entry v)) ns c.loop-node.node-index c.node-item.result (rw d at c.loop-node-test.true) c.loop-node.invariant
+    (subst (λ v. ¬ (IsTextNode c.args.entry v)) read (λ e. false≢true (c.if-is_text_node.ensures.1 e)))
+
+pub returns : goal.returns
+returns c =
+    let d = c.deref-node-items.ensures.value in
+    let none = all_taken (λ v. ¬ (IsTextNode c.args.entry v)) c.args.self.now.nodes.items c.loop-node.node-index (rw d at c.loop-node-test.false) c.loop-node.invariant in
+    ((λ h. absurd (false≢true h)), (λ some. absurd (none some.0 some.1 some.2 (subst (IsTextNode c.args.entry) (sym some.3) some.4))))

@@ -1,0 +1,22 @@
+-- Fields whose values are texts, by the dictionary entries that they read and write.
+use Rattle.std.specs.Prelude.{◌≡◌, ℕ, Some}
+use Rattle.fast_value.specs.Kinds.{family, texts}
+use Rattle.fast_template.specs.declared.instructions.Shape.{Shape}
+use Rattle.fast_template.specs.declared.instructions.Shape.TheVariants.{Field, Decimal, Group, Sequence}
+use Rattle.fast_template.specs.declared.instructions.Node.{Node}
+use Rattle.fast_template.specs.Tree.{FieldData}
+use Rattle.fast_template.specs.Nodes.{field_data}
+
+-- the field is an ASCII, Unicode or byte vector field on this entry
+abbrev pub IsTextUnder : ℕ → FieldData → Type 0
+IsTextUnder entry f = (family f.kind ≡ texts) × (f.entry ≡ Some entry)
+
+-- the node is such a field
+abbrev pub IsTextShape : ℕ → Shape → Type 0
+IsTextShape entry (Field f) = IsTextUnder entry (field_data f)
+IsTextShape entry (Decimal e m) = ⊥
+IsTextShape entry (Group optional body) = ⊥
+IsTextShape entry (Sequence length body) = ⊥
+
+abbrev pub IsTextNode : ℕ → Node → Type 0
+IsTextNode entry v = IsTextShape entry v.shape

@@ -1,0 +1,144 @@
+//! Templates that refer to themselves, by way of others or not.
+
+ghost use Rattle.std.specs.Prelude.{◌≡◌, ◌<◌, ◌^◌, ◌++◌, ℕ, List, true, map, length, All, IfOk, IfSome, OnOk};
+ghost use Rattle.std.specs.List.{filter_map};
+ghost use Rattle.std.specs.HashMap.{get_by_text};
+ghost use Rattle.fast_template.specs.AsWritten.{references};
+ghost use Rattle.fast_template.specs.Cycles.{numbers, targets_of, IsReached, IsCyclic, AreWithin};
+ghost use Rattle.fast_template.specs.Places.{place_of_name};
+ghost use Rattle.fast_template.specs.Refused.{StandsAt};
+ghost use Rattle.fast_template.specs.References.{references_in};
+ghost use Rattle.fast_template.specs.WrittenSets.{instruction_data, written_data};
+
+use crate::codes::StaticCode;
+use crate::components::first_in_cycle;
+use crate::written::{WrittenInstruction, WrittenTemplate};
+use std::alloc::{AllocError, Global};
+use std::collections::HashMap;
+
+/// Puts the numbers of the templates that the instructions refer to behind the others.
+#[cycle(targets)]
+fn add_targets(
+    targets: &mut Vec<u32>,
+    names: &HashMap<String, u32>,
+    fields: &[WrittenInstruction],
+) -> Result<(), AllocError>
+    ensures { OnOk result (targets.new.items ≡ targets.old.items ++ filter_map (get_by_text names.now) (references_in fields.now)) }
+{
+    for field in fields {
+        add_target(targets, names, field)?;
+    }
+    Ok(())
+}
+
+/// Puts the numbers of the templates that the instruction refers to behind the others.
+#[cycle(targets)]
+fn add_target(
+    targets: &mut Vec<u32>,
+    names: &HashMap<String, u32>,
+    instruction: &WrittenInstruction,
+) -> Result<(), AllocError>
+    ensures { OnOk result (targets.new.items ≡ targets.old.items ++ filter_map (get_by_text names.now) (references (instruction_data instruction.now))) }
+{
+    match instruction {
+        WrittenInstruction::Scalar { .. } | WrittenInstruction::Parts { .. } => Ok(()),
+        WrittenInstruction::Group { fields, .. } => add_targets(targets, names, fields),
+        WrittenInstruction::Sequence { fields, .. } => add_targets(targets, names, fields),
+        WrittenInstruction::Reference(name) => {
+            if let Some(number) = names.get(name.as_str()) {
+                targets.push(*number)?;
+            }
+            Ok(())
+        }
+    }
+}
+
+/// The numbers of the templates that each template refers to.
+fn graph_of(
+    alloc: Global,
+    names: &HashMap<String, u32>,
+    templates: &[WrittenTemplate],
+) -> Result<Vec<Vec<u32>>, AllocError>
+    ensures { IfOk result (λ v. map numbers v.items ≡ map (targets_of (get_by_text names.now)) (map written_data templates.now)) }
+{
+    let mut graph = Vec::new(alloc);
+    for template in templates {
+        let mut targets = Vec::new(alloc);
+        add_targets(&mut targets, names, &template.fields)?;
+        graph.push(targets)?;
+    }
+    Ok(graph)
+}
+
+/// Follows the references of a template. Whether one of them leads to the start; otherwise those that were not met
+/// before are ahead.
+fn follow(
+    graph: &[Vec<u32>],
+    start: usize,
+    template: usize,
+    met: &mut [bool],
+    ahead: &mut Vec<usize>,
+) -> Result<bool, AllocError>
+    requires within { AreWithin graph.now }
+    requires met { length met.old ≡ length graph.now }
+    requires here { IsReached graph.now start template }
+    requires reached { All (IsReached graph.now start) ahead.old.items }
+    ensures met { length met.new ≡ length graph.now }
+    ensures reached { OnOk result (All (IsReached graph.now start) ahead.new.items) }
+    ensures cyclic { IfOk result (λ b. b ≡ true → IsCyclic graph.now start) }
+{
+    for target in &graph[template] {
+        let target = *target as usize;
+        if target == start {
+            return Ok(true);
+        }
+        if met[target] {
+            continue;
+        }
+        met[target] = true;
+        ahead.push(target)?;
+    }
+    Ok(false)
+}
+
+/// Whether references lead from the template back to it.
+fn is_cyclic(alloc: Global, graph: &[Vec<u32>], start: usize) -> Result<bool, AllocError>
+    requires within { AreWithin graph.now }
+    requires inside { start < length graph.now }
+    ensures { IfOk result (λ b. b ≡ true → IsCyclic graph.now start) }
+{
+    let mut met = vec![in alloc; false; graph.len()]?;
+    let mut ahead = Vec::new(alloc);
+    ahead.push(start)?;
+    // Each template is ahead at most once.
+    for _turn in 0..graph.len() {
+        let Some(template) = ahead.pop() else {
+            return Ok(false);
+        };
+        if follow(graph, start, template, &mut met, &mut ahead)? {
+            return Ok(true);
+        }
+    }
+    Ok(false)
+}
+
+/// The first template that refers to itself, by way of others or not.
+pub(crate) fn first_cyclic(
+    alloc: Global,
+    names: &HashMap<String, u32>,
+    templates: &[WrittenTemplate],
+) -> Result<Option<usize>, AllocError>
+    requires few { length templates.now < 2 ^ 32 }
+    requires index { (q : List ℕ) → get_by_text names.now q ≡ place_of_name q (map written_data templates.now) }
+    ensures { IfOk result (λ o. IfSome o (λ k. (k < 2 ^ 32) × StandsAt (map written_data templates.now) StaticCode.C3 k)) }
+{
+    let graph = graph_of(alloc, names, templates)?;
+    let Some(first) = first_in_cycle(alloc, &graph)? else {
+        return Ok(None);
+    };
+    // The walk proposes the template, and the search shows that it refers to itself.
+    if first < graph.len() && is_cyclic(alloc, &graph, first)? {
+        return Ok(Some(first));
+    }
+    Ok(None)
+}

@@ -1,0 +1,66 @@
+//! Which dictionary entries can have texts.
+
+ghost use Rattle.std.specs.Prelude.{◌≡◌, ◌↔◌, Any, IsTrue};
+ghost use Rattle.fast_template.specs.Flat.{nodes_of};
+ghost use Rattle.fast_template.specs.TextFields.{IsTextUnder, IsTextNode};
+ghost use Rattle.fast_template.specs.Nodes.{field_data};
+
+use crate::instructions::{FieldInstruction, Node, Shape};
+use crate::sets::Templates;
+use fast_value::Kind;
+
+/// Whether a field has texts under this entry.
+fn is_text_under(field: &FieldInstruction, entry: u32) -> bool
+    ensures { IsTrue result ↔ IsTextUnder entry (field_data field.now) }
+{
+    match field.kind {
+        Kind::Ascii | Kind::Unicode | Kind::Bytes => match field.entry {
+            Some(own) => own == entry,
+            None => false,
+        },
+        Kind::UInt32 | Kind::Int32 | Kind::UInt64 | Kind::Int64 | Kind::Decimal => false,
+    }
+}
+
+/// Whether a node is a field that has texts under this entry.
+fn is_text_node(node: &Node, entry: u32) -> bool
+    ensures { IsTrue result ↔ IsTextNode entry node.now }
+{
+    match &node.shape {
+        Shape::Field(field) => is_text_under(field, entry),
+        Shape::Decimal { .. } | Shape::Group { .. } | Shape::Sequence { .. } => false,
+    }
+}
+
+impl Templates {
+    /// Whether a dictionary entry can have a text: whether an ASCII, Unicode or byte vector field reads and writes it.
+    pub fn holds_text(&self, entry: u32) -> bool
+        ensures { IsTrue result ↔ Any (IsTextNode entry) (nodes_of self.now) }
+    {
+        for node in &self.nodes {
+            if is_text_node(node, entry) {
+                return true;
+            }
+        }
+        false
+    }
+}
+
+#[cfg(test)]
+mod tests {
+    use super::*;
+    use crate::flat::FlatTemplate;
+    use std::test::Fail;
+
+    #[test]
+    fn no_entry_of_a_flat_set_holds_texts(rt: HostRuntime) -> Result<(), Fail> {
+        let list = [FlatTemplate {
+            name: "A",
+            id: 1,
+            fields: &["x"],
+        }];
+        let set = Templates::flat(rt.alloc(), &list)?;
+        assert!(rt; !set.holds_text(0));
+        Ok(())
+    }
+}
