@@ -25,7 +25,7 @@ use Rattle.fast_decoder.proofs.Grammars.{bind-assoc, reader-then}
 use Rattle.fast_decoder.proofs.Turning.{waits_on}
 
 -- A term that begins with an integer or a text waits, whatever follows it.
-integer_waits : {A : Type 0} (s : Bool) (range : Range) (nullable : Bool) (c : Code) (g : Option ℤ → Grammar A) → Waits (reader_of s (integer range nullable c g))
+pub integer_waits : {A : Type 0} (s : Bool) (range : Range) (nullable : Bool) (c : Code) (g : Option ℤ → Grammar A) → Waits (reader_of s (integer range nullable c g))
 unfolding integer_reader
 integer_waits s range nullable c g = (_, refl)
 
@@ -33,7 +33,7 @@ ascii_waits : {A : Type 0} (s nullable : Bool) (room : ℕ) (g : Option (List �
 unfolding ascii_text_reader
 ascii_waits s nullable room g = (_, refl)
 
-text_waits : (s : Bool) (kind : Kind) (nullable : Bool) (room : ℕ) → Waits (reader_of s (text kind nullable room))
+pub text_waits : (s : Bool) (kind : Kind) (nullable : Bool) (room : ℕ) → Waits (reader_of s (text kind nullable room))
 text_waits s Ascii nullable room = ascii_waits s nullable room give
 text_waits s UInt32 nullable room = integer_waits s (unsigned_range 32) nullable D2 (sized room)
 text_waits s Int32 nullable room = integer_waits s (unsigned_range 32) nullable D2 (sized room)

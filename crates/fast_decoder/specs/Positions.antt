@@ -278,7 +278,6 @@ pub record IsTurn {S : Type 0} (takes stops : S → EventData → S → Type 0) 
 pub record IsBehindMap (set : Set) (l : Limits) (m : Machine) : Type 0 where
   pub supplied : IsSupplied set l m
   pub map : IsEntity m.cursor.map
-  pub short : length m.cursor.map ≤ map_limit
   pub outermost : m.cursor ≡ record (at_rest m.cursor.depth) { map = m.cursor.map }
   pub unused : m.entity ≡ []
 

@@ -122,9 +122,21 @@ pub fn take_number(
     ensures capacity { joined.new.capacity ≡ joined.old.capacity }
 {
     match stage {
-        Stage::Mantissa(exponent) => settled(take_mantissa(slots, pending, field, exponent, rest, limits)),
-        Stage::MantissaDelta(exponent) => settled(take_mantissa_delta(slots, pending, field, exponent, rest, limits)),
-        Stage::Part(subtraction) => take_part_size(slots, pending, joined, field, subtraction, rest, limits),
+        Stage::Mantissa(exponent) => settled(take_mantissa(
+            slots, pending, field, exponent, rest, limits,
+        )),
+        Stage::MantissaDelta(exponent) => settled(take_mantissa_delta(
+            slots, pending, field, exponent, rest, limits,
+        )),
+        Stage::Part(subtraction) => take_part_size(
+            slots,
+            pending,
+            joined,
+            field,
+            subtraction,
+            rest,
+            limits,
+        ),
         Stage::Vector(_) | Stage::PartVector(..) => Progress::Cut,
     }
 }
@@ -154,9 +166,28 @@ pub fn take_bytes(
     ensures capacity { (scratch.new.capacity ≡ scratch.old.capacity) × (joined.new.capacity ≡ joined.old.capacity) }
 {
     match stage {
-        Stage::Vector(size) => settled(take_vector(slots, scratch, joined, field, size, rest, limits)),
-        Stage::Part(subtraction) => settled(take_part(slots, scratch, joined, field, subtraction, rest, limits)),
-        Stage::PartVector(subtraction, size) => settled(take_part_vector(slots, scratch, joined, field, subtraction, size, rest, limits)),
+        Stage::Vector(size) => settled(take_vector(
+            slots, scratch, joined, field, size, rest, limits,
+        )),
+        Stage::Part(subtraction) => settled(take_part(
+            slots,
+            scratch,
+            joined,
+            field,
+            subtraction,
+            rest,
+            limits,
+        )),
+        Stage::PartVector(subtraction, size) => settled(take_part_vector(
+            slots,
+            scratch,
+            joined,
+            field,
+            subtraction,
+            size,
+            rest,
+            limits,
+        )),
         Stage::Mantissa(_) | Stage::MantissaDelta(_) => Progress::Cut,
     }
 }

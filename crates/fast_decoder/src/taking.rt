@@ -1,8 +1,10 @@
 //! What a machine does with the bytes of a piece: it takes units, and all that they decide.
 
-ghost use Rattle.std.specs.Prelude.{◌≡◌, ◌≢◌, ◌⊎◌, ◌<◌, ◌≤◌, ◌^◌, ◌&&◌, not, nat_le, true, false, ℕ, List, [], length, length as list_length, slice_get, IfSome, IfNone, Err, drop, take, IsTrue, ◌↔◌, IsOk, IfOk, OnOk, Some, None, Ok, slice_index};
+ghost use Rattle.std.specs.Prelude.{◌≡◌, ◌≢◌, ◌⊎◌, ◌<◌, ◌≤◌, ◌^◌, ◌&&◌, not, nat_le, true, false, ℕ, List, [], length, length as list_length, slice_get, IfSome, IfNone, Err, drop, take, IsTrue, ◌↔◌, IsOk, IfOk, OnOk, Some, None, Ok, slice_index, option_map, nat_abs, if◌then◌else◌};
 ghost use Rattle.fast_wire.specs.Entities.{HaveNoStop, IsEntity};
 ghost use Rattle.fast_wire.specs.Maps.{map_limit, bits, first_bit, bytes_for};
+ghost use Rattle.fast_value.specs.Kinds.{integer_of};
+ghost use Rattle.fast_value.specs.Values.{scalar_data};
 ghost use Rattle.fast_value.specs.Limits.{bounds};
 ghost use Rattle.fast_template.specs.Flat.{field_data, nodes_of, templates_of, template_data, instructions_from};
 ghost use Rattle.fast_template.specs.Numbers.{AreBelow};
@@ -14,7 +16,7 @@ ghost use Rattle.fast_decoder.specs.GrammarReaders.{spare, reader_of};
 ghost use Rattle.fast_decoder.specs.Readers.{Reader};
 ghost use Rattle.fast_decoder.specs.EntryTexts.{HasLongInitial};
 ghost use Rattle.fast_decoder.specs.declared.machine.Machine.{Machine};
-ghost use Rattle.fast_dict.specs.Dictionary.{Dictionary};
+ghost use Rattle.fast_dict.specs.Dictionary.{Dictionary, reset};
 ghost use Rattle.fast_decoder.specs.Handing.{Hands, IsTaken, Fed, stood};
 ghost use Rattle.fast_decoder.specs.Settling.{Serves, value_at};
 ghost use Rattle.fast_decoder.specs.Passing.{state_past, identified_then};
@@ -27,7 +29,7 @@ ghost use Rattle.fast_decoder.specs.Positions.{Set, set_of, tree_in, body_in, Is
 use crate::cursor::Cursor;
 use crate::events::{Event, Sink};
 use crate::faults::FaultCode;
-use crate::fields::unsent;
+use crate::fields::{unsent, value_at};
 use crate::layout::{make_slots, measure};
 use crate::machine::{Machine, Turn, Waiting};
 use crate::numbers::take_integer;
@@ -39,10 +41,10 @@ use crate::settling::hand;
 use crate::source::Source;
 use crate::stages::{Stage, Step};
 use crate::turns::Turns;
-use fast_dict::Store;
+use fast_dict::{Slots, Store};
 use fast_dict::operators::integers::integer_of;
-use fast_template::{FieldInstruction, Operator, Shape, Templates};
-use fast_value::{Code, Kind, Limits};
+use fast_template::{FieldInstruction, Operator, Shape, Template, Templates};
+use fast_value::{Code, Kind, Limits, Scalar};
 use fast_wire::{Entity, map_overlong};
 use std::alloc::{AllocError, Global};
 
@@ -84,10 +86,9 @@ impl Taken {
 /// Whether a map has more bytes than a segment of so many bits can use, in strict mode.
 #[inline]
 fn is_too_wide(strict: bool, map_len: usize, bits: usize) -> bool
-    requires { bits < 2 ^ 63 }
     ensures { result ≡ (strict && not (nat_le map_len (bytes_for bits))) }
 {
-    strict && map_len > ((bits + 6) / 7).max(1)
+    strict && map_len > bits.div_ceil(7).max(1)
 }
 
 /// Whether the last of more than seven bits of a map are zero, in strict mode.
@@ -100,16 +101,51 @@ fn is_overlong(strict: bool, map: &[u8]) -> bool
     strict && map_overlong(map)
 }
 
-/// The number of the template with an identifier.
+/// Whether a template has an identifier.
 #[inline]
+fn has_id(template: &Template, id: u128) -> bool
+    ensures { IsTrue result ↔ (template.now.id ≡ Some id) }
+{
+    match template.id {
+        Some(own) => u128::from(own) == id,
+        None => false,
+    }
+}
+
+/// The identifier that a value stands for.
+#[inline]
+fn id_of(value: Option<Scalar<'_>>) -> Option<u128>
+    ensures { result ≡ option_map (λ v. nat_abs (integer_of v)) (option_map scalar_data value.entry) }
+{
+    match value {
+        Some(value) => Some(integer_of(value).unsigned_abs()),
+        None => None,
+    }
+}
+
+/// The number of the template with an identifier.
 fn template_of(templates: &Templates, identifier: Option<u128>) -> Option<u32>
     ensures some { IfSome result (λ i. (id : ℕ) × (t : Template) × (identifier ≡ Some id) × (slice_get (templates_of templates.now) i ≡ Some t) × (t.id ≡ Some id)
         × ((j : ℕ) (u : Template) → j < i → slice_get (templates_of templates.now) j ≡ Some u → u.id ≢ Some id)) }
     ensures none { IfNone result ((id j : ℕ) (t : Template) → identifier ≡ Some id → slice_get (templates_of templates.now) j ≡ Some t → t.id ≢ Some id) }
 {
-    match identifier {
-        Some(id) if id <= u128::from(u32::MAX) => templates.by_id(id as u32),
-        _ => None,
+    let id = identifier?;
+    for number in 0..templates.count() {
+        if has_id(templates.template(number), id) {
+            return Some(number);
+        }
+    }
+    None
+}
+
+/// Forgets all entries but the identifier's, if the template says so.
+#[inline]
+fn reset_if(slots: &mut Slots, resets: bool)
+    ensures entries { slots_dictionary slots.new ≡ (if resets then reset (slots_dictionary slots.old) else slots_dictionary slots.old) }
+    ensures terms { slots_terms slots.new ≡ slots_terms slots.old }
+{
+    if resets {
+        slots.reset();
     }
 }
 
@@ -148,6 +184,7 @@ impl<'t> Machine<'t> {
         sink: &mut S,
     ) -> Result<(), FaultCode>
         requires behind { IsBehindMap (set_of templates.now) limits self.old }
+        requires short { length self.old.cursor.map ≤ map_limit }
         ensures hands { Hands S.takes S.stops
             (mapped_reader (set_of templates.now) limits (slots_dictionary self.old.slots) self.old.cursor.map)
             sink.old result sink.new (meaning (set_of templates.now) limits self.new) }
@@ -163,7 +200,7 @@ impl<'t> Machine<'t> {
         }
         match unsent(&mut self.slots, &self.identifier, false) {
             Err(code) => Err(FaultCode::Stream(code)),
-            Ok(source) => self.identified(templates, limits, source, sink),
+            Ok(source) => self.identified(templates, limits, source, &[], sink),
         }
     }
 
@@ -173,20 +210,19 @@ impl<'t> Machine<'t> {
         templates: &'t Templates,
         limits: Limits,
         source: Source,
+        piece: &[u8],
         sink: &mut S,
     ) -> Result<(), FaultCode>
         requires behind { IsBehindMap (set_of templates.now) limits self.old }
         ensures hands { Hands S.takes S.stops
-            (reader_of limits.strict (identified_then (set_of templates.now) (bounds limits) (value_at source identifier (slots_dictionary self.old.slots) self.old.text.text []) (slots_dictionary self.old.slots) self.old.cursor))
+            (reader_of limits.strict (identified_then (set_of templates.now) (bounds limits) (value_at source identifier (slots_dictionary self.old.slots) self.old.text.text piece.now) (slots_dictionary self.old.slots) self.old.cursor))
             sink.old result sink.new (meaning (set_of templates.now) limits self.new) }
         ensures ready { OnOk result (IsReady (set_of templates.now) limits self.new) }
         ensures supplied { IsSupplied (set_of templates.now) limits self.new }
     {
-        let id = match self.value_of(&self.identifier, source) {
-            Some(value) => Some(integer_of(value).unsigned_abs()),
-            None => None,
-        };
-        let Some(number) = template_of(templates, id) else {
+        let text = self.text.as_slice();
+        let value = value_at(&self.slots, &self.identifier, text, piece, source);
+        let Some(number) = template_of(templates, id_of(value)) else {
             return Err(FaultCode::Stream(Code::D9));
         };
         let width = self.widths.templates[number as usize];
@@ -214,9 +250,7 @@ impl<'t> Machine<'t> {
     {
         hand(sink, Event::MessageStart { template: number })?;
         let template = templates.template(number);
-        if template.reset {
-            self.slots.reset();
-        }
+        reset_if(&mut self.slots, template.reset);
         self.counted = 0;
         self.cursor.use_bit();
         self.cursor.begin(template.body.as_slice());
@@ -250,7 +284,8 @@ impl<'t> Machine<'t> {
             Progress::Cut => Taken::cut(rest),
             Progress::Wrong(code, bytes) => Taken::wrong(code, bytes),
             Progress::Whole(source, bytes) => {
-                let outcome = self.identified(templates, limits, source, sink);
+                let piece = &rest[..bytes];
+                let outcome = self.identified(templates, limits, source, piece, sink);
                 Taken { bytes, outcome }
             }
         }
@@ -295,7 +330,6 @@ impl<'t> Machine<'t> {
         requires map { IsEntity self.old.cursor.map }
         requires short { length self.old.cursor.map ≤ map_limit }
         requires none { self.old.cursor.used ≡ 0 }
-        requires width { width < 2 ^ 63 }
         ensures hands { Hands S.takes S.stops
             (segment_reader (set_of templates.now) limits self.old width)
             sink.old result sink.new (meaning (set_of templates.now) limits self.new) }

@@ -246,6 +246,7 @@ pub fn take_subtraction(
     requires open { HaveNoStop pending.old }
     requires short { length pending.old < 10 }
     ensures unit { (scratch : List ℕ) → IsFieldUnit limits (first_reader limits (field_data field.now) (slots_dictionary slots.old)) (field_data field.now) pending.old rest.now (slots_dictionary slots.old) (slots_dictionary slots.new) scratch result }
+    ensures more { (step : Step) (n : ℕ) → result ≡ Progress.Whole step n → HasBytes step }
     ensures whole { (step : Step) (n : ℕ) → result ≡ Progress.Whole step n → pending.new ≡ [] }
     ensures cut { result ≡ Progress.Cut → (pending.new ≡ pending.old ++ rest.now) × HaveNoStop pending.new × (length pending.new < 10) }
     ensures terms { slots_terms slots.new ≡ slots_terms slots.old }
@@ -275,8 +276,9 @@ fn part_next(slots: &Slots, field: &FieldInstruction, subtraction: i32) -> Resul
     requires serves { Serves (length (slots_dictionary slots.now)) (slots_terms slots.now) (field_data field.now) }
     requires text { family field.now.kind ≡ texts }
     requires delta { field.now.operator ≡ Operator.Delta }
-    ensures { (limits : Limits) (scratch piece : List ℕ) → IsStepped limits (reader_of limits.strict (text_change (bounds limits) (field_data field.now) (previous_at (field_data field.now).entry (slots_dictionary slots.now)) (Some subtraction)))
+    ensures step { (limits : Limits) (scratch piece : List ℕ) → IsStepped limits (reader_of limits.strict (text_change (bounds limits) (field_data field.now) (previous_at (field_data field.now).entry (slots_dictionary slots.now)) (Some subtraction)))
         (field_data field.now) (slots_dictionary slots.now) (slots_dictionary slots.now) scratch piece result }
+    ensures more { IfOk result HasBytes }
 {
     kept(slots, field, subtraction)?;
     Ok(Step::Next(Stage::Part(subtraction)))

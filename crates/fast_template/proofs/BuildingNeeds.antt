@@ -27,20 +27,20 @@ use Rattle.fast_value.specs.declared.kinds.Kind.{Kind}
 
 -- ---- what holds of all of two lists
 
-all_left : {A : Type 0} (P : A → Type 0) (xs ys : List A) → All P (xs ++ ys) → All P xs
+pub all_left : {A : Type 0} (P : A → Type 0) (xs ys : List A) → All P (xs ++ ys) → All P xs
 all_left P xs ys h k d inside =
     let l = length-append xs ys in
     subst P (get_or_append_left xs ys d k inside) (h k d (omega (arith, inside, l)))
 
-all_right : {A : Type 0} (P : A → Type 0) (xs ys : List A) → All P (xs ++ ys) → All P ys
+pub all_right : {A : Type 0} (P : A → Type 0) (xs ys : List A) → All P (xs ++ ys) → All P ys
 all_right P xs ys h k d inside =
     let l = length-append xs ys in
     subst P (get_or-append-add xs ys k d) (h (length xs + k) d (omega (arith, inside, l)))
 
-all_first : {A : Type 0} (P : A → Type 0) (x : A) (xs : List A) → All P (x ∷ xs) → P x
+pub all_first : {A : Type 0} (P : A → Type 0) (x : A) (xs : List A) → All P (x ∷ xs) → P x
 all_first P x xs h = h 0 x (omega arith)
 
-all_but_first : {A : Type 0} (P : A → Type 0) (x : A) (xs : List A) → All P (x ∷ xs) → All P xs
+pub all_but_first : {A : Type 0} (P : A → Type 0) (x : A) (xs : List A) → All P (x ∷ xs) → All P xs
 all_but_first P x xs h k d inside = h (suc k) d (omega (arith, inside))
 
 -- what holds of all uses holds of those of one instruction

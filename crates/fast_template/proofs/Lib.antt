@@ -9,6 +9,7 @@ pub mod Bodies
 pub mod Saturation
 pub mod CapBounds
 pub mod Greatest
+pub mod TextNodes
 pub mod NameTests
 pub mod TableKeys
 pub mod FieldLists
@@ -37,6 +38,7 @@ pub mod Targets
 pub mod CycleLaws
 pub mod BuiltTrees
 pub mod BuiltSets
+pub mod BuiltUsable
 pub mod ReadLaws
 pub mod Headings
 pub mod NoTrees

@@ -1,8 +1,8 @@
 //! Which dictionary entries can have texts.
 
 ghost use Rattle.std.specs.Prelude.{◌≡◌, ◌↔◌, Any, IsTrue};
-ghost use Rattle.fast_template.specs.Flat.{nodes_of};
-ghost use Rattle.fast_template.specs.TextFields.{IsTextUnder, IsTextNode};
+ghost use Rattle.fast_template.specs.Flat.{nodes_of, tree_of};
+ghost use Rattle.fast_template.specs.TextFields.{IsTextUnder, IsTextNode, SetHoldsText};
 ghost use Rattle.fast_template.specs.Nodes.{field_data};
 
 use crate::instructions::{FieldInstruction, Node, Shape};
@@ -35,7 +35,8 @@ fn is_text_node(node: &Node, entry: u32) -> bool
 impl Templates {
     /// Whether a dictionary entry can have a text: whether an ASCII, Unicode or byte vector field reads and writes it.
     pub fn holds_text(&self, entry: u32) -> bool
-        ensures { IsTrue result ↔ Any (IsTextNode entry) (nodes_of self.now) }
+        ensures nodes { IsTrue result ↔ Any (IsTextNode entry) (nodes_of self.now) }
+        ensures tree { IsTrue result ↔ SetHoldsText (tree_of self.now) entry }
     {
         for node in &self.nodes {
             if is_text_node(node, entry) {

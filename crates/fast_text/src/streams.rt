@@ -48,6 +48,12 @@ pub trait Target {
         ensures fails { OnErr result (IsTrue (has_failed self.new)) }
         ensures stays { OnOk result (has_failed self.new ≡ has_failed self.old) };
 
+    /// Hands on what the target still keeps to itself, so that it can be seen. A target that keeps nothing does nothing.
+    fn flush(&mut self) -> Result<(), Failed>
+        ensures kept { written self.new ≡ written self.old }
+        ensures fails { OnErr result (IsTrue (has_failed self.new)) }
+        ensures stays { OnOk result (has_failed self.new ≡ has_failed self.old) };
+
     /// Whether a write has failed.
     fn failed(&self) -> bool
         ensures { result ≡ has_failed self.now };
@@ -162,6 +168,10 @@ impl Target for ToBytes<'_> {
         Ok(count)
     }
 
+    fn flush(&mut self) -> Result<(), Failed> {
+        Ok(())
+    }
+
     fn failed(&self) -> bool {
         self.failed
     }
@@ -217,6 +227,16 @@ impl<W: Write> Target for Watched<W> {
         match self.inner.write(piece) {
             Ok(count) if count > 0 || piece.is_empty() => Ok(count),
             _ => {
+                self.broken = true;
+                Err(Failed)
+            }
+        }
+    }
+
+    fn flush(&mut self) -> Result<(), Failed> {
+        match self.inner.flush() {
+            Ok(()) => Ok(()),
+            Err(_) => {
                 self.broken = true;
                 Err(Failed)
             }
@@ -338,6 +358,7 @@ mod tests {
                 calls,
             });
             assert_eq!(rt; target.write_all(b"ab"), Ok(()));
+            assert_eq!(rt; Target::flush(&mut target), Ok(()));
             assert!(rt; !Target::failed(&target));
             assert_eq!(rt; target.write_all(b"cd"), Err(Failed));
             assert!(rt; Target::failed(&target));

@@ -4,3 +4,6 @@ pub mod Parts
 pub mod Lined
 pub mod Progressing
 pub mod Showing
+pub mod SetLines
+pub mod Commands
+pub mod Given

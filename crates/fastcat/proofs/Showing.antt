@@ -1,6 +1,6 @@
 -- From the rounds of a run to what it has shown.
-use Rattle.std.proofs.Common.{◌≡◌, ◌⊎◌, ℕ, ◌+◌, ◌*◌, ◌<◌, ◌≤◌, ◌^◌, Bool, List, [], ◌++◌, Option, Some, None, Result, Ok, Err, refl, ap, sym, ◌∙◌, inl, inr, length, length-append, arith, append_assoc, append-nil}
-use Rattle.std.specs.Prelude.{IsTrue, option_map, IfSome}
+use Rattle.std.proofs.Common.{◌≡◌, ◌⊎◌, ℕ, ◌+◌, ◌*◌, ◌<◌, ◌≤◌, ◌^◌, Bool, true, List, [], ◌++◌, Option, Some, None, Result, Ok, Err, refl, subst, ap, sym, ◌∙◌, inl, inr, length, length-append, arith, append_assoc, append-nil}
+use Rattle.std.specs.Prelude.{IsTrue, option_map, IfSome, OnErr, is_err}
 use Rattle.fast_value.specs.declared.settings.Limits.{Limits}
 use Rattle.fast_template.specs.Tree.{Tree}
 use Rattle.fast_decoder.specs.declared.faults.MakeError.{MakeError}
@@ -15,8 +15,9 @@ use Rattle.fastcat.specs.declared.show.Show.{Show}
 use Rattle.fastcat.specs.declared.faults.ShowEnd.{ShowEnd}
 use Rattle.fastcat.specs.declared.faults.ShowEnd.TheVariants.{Good, Faulted, Truncated}
 use Rattle.fastcat.specs.declared.faults.RunFault.{RunFault}
-use Rattle.fastcat.specs.declared.faults.RunFault.TheVariants.{Read, Write, BadHex, Make, Memory}
-use Rattle.fastcat.specs.Showing.{IsShown, refusal_of}
+use Rattle.fastcat.specs.declared.faults.RunFault.TheVariants.{Read, Write, BadHex, Templates as Refused, Make, Memory}
+use Rattle.fastcat.specs.Showing.{IsShown, StandsFor, refusal_of}
+use Rattle.fastcat.specs.Closing.{closing}
 use Rattle.fastcat.specs.Progress.{HasRoom, IsTaken, Progress, Change, GoesOn, Ended}
 use Rattle.fastcat.proofs.Lined.{lines-append}
 use Rattle.fastcat.proofs.Progressing.{ends_well, counts_all, stands_for, bytes_fewer}
@@ -30,6 +31,7 @@ shown_more t l hex R R' A B H A' B' H' text out (Err (BadHex n)) m a b h s = (s.
 shown_more t l hex R R' A B H A' B' H' text out (Err Read) m a b h s = (s.0, s.1, s.2, s.3, s.4, s.5, s.6, b s.7)
 shown_more t l hex R R' A B H A' B' H' text out (Err Write) m a b h s = (s.0, s.1, s.2, s.3, s.4, s.5, s.6, s.7, s.8, h s.9)
 shown_more t l hex R R' A B H A' B' H' text out (Err (Make cause)) m a b h s = (s.0, s.1, m cause s.2)
+shown_more t l hex R R' A B H A' B' H' text out (Err (Refused fault)) m a b h s = elim s [ ]
 shown_more t l hex R R' A B H A' B' H' text out (Err Memory) m a b h s = s
 
 -- nothing was read and nothing shown where no decoder is made
@@ -85,6 +87,25 @@ reads_no_more t l hex R s reads AtEnd HasFailed ReadsNoMore left_first left_old 
     let at = stands_for s.unhexer h.text h.bytes p.taken in
     (h.text, lines t h.events, h.read ∙ ap (option_map (λ (xs : List ℕ). h.text ++ xs)) (sym kept), h.written, (at.0, h.bytes, h.events, e.end, record { bytes = rw (← p.hex_is) at.1; stream = e.stream }, e.good, refl, why))
 
+-- where the writer cannot show what it has
+pub not_flushed : (t : Tree) (l : Limits) (hex : Bool) (R : MakeError → Type 0) (s : Show) (reads : ℕ) (AtEnd HasFailed : Type 0) (ReadsNoMore : List ℕ → Type 0) (left_first left_now held holds_old holds : Option (List ℕ)) (h : Round t l hex s reads left_first left_now held holds_old) → holds ≡ holds_old → HasFailed
+    → Run t l hex R AtEnd HasFailed ReadsNoMore left_first left_now held holds (Err Write)
+not_flushed t l hex R s reads AtEnd HasFailed ReadsNoMore left_first left_now held holds_old holds h kept failed =
+    let p = h.progress in
+    let e = ends_well t l s.decoder h.bytes h.events p.set p.limits p.so p.good in
+    let at = stands_for s.unhexer h.text h.bytes p.taken in
+    let stands : StandsFor hex h.text (h.bytes ++ []) at.0 = rw (append-nil, ← p.hex_is) at.1 in (
+      h.text,
+      lines t h.events,
+      h.read,
+      subst (λ o. Appends held o (lines t h.events)) (sym kept) h.written,
+      (at.0, h.bytes, [], h.events, e.end, closing h.bytes e.end, stands, e.stream, refl, failed),
+    )
+
+-- a round, where the writer was flushed
+pub round_flushed : {t : Tree} {l : Limits} {hex : Bool} {s : Show} {reads : ℕ} {left_first left_now held holds_old holds : Option (List ℕ)} → holds ≡ holds_old → Round t l hex s reads left_first left_now held holds_old → Round t l hex s reads left_first left_now held holds
+round_flushed {t} {l} {hex} {s} {reads} {left_first} {left_now} {held} kept h = subst (λ o. Round t l hex s reads left_first left_now held o) (sym kept) h
+
 -- where the run has ended
 pub run_ended : (t : Tree) (l : Limits) (hex : Bool) (R : MakeError → Type 0) (s : Show) (reads : ℕ) (A AtEnd HasFailed : Type 0) (ReadsNoMore : List ℕ → Type 0) (left_first left_old left_now held : Option (List ℕ)) (w : Change) (piece : List ℕ) (r : Result ShowEnd RunFault) (h : Round t l hex s reads left_first left_old held w.held)
     → left_old ≡ option_map (λ (xs : List ℕ). piece ++ xs) left_now → (A → AtEnd) → (IsTrue w.has_failed → HasFailed) → Ended t l hex A (h.text ++ piece) h.events w r
@@ -135,3 +156,8 @@ round_more t l hex s s' reads left_first left_old left_now held w piece h given 
 -- an end behind nothing more
 pub ended_there : {t : Tree} {l : Limits} {hex : Bool} {A : Type 0} {text : List ℕ} {es : List EventData} {w : Change} {r : Result ShowEnd RunFault} → Ended t l hex A text es w r → Ended t l hex A (text ++ []) es w r
 ended_there h = rw append-nil h
+
+-- what holds at an error
+pub at_error : {X E : Type 0} {P : Type 0} (r : Result X E) → is_err r ≡ true → OnErr r P → P
+at_error (Ok x) bad h = absurd (cc)
+at_error (Err e) bad h = h

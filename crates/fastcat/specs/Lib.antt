@@ -3,3 +3,7 @@ pub mod Closing
 pub mod Showing
 pub mod Progress
 pub mod Report
+pub mod Checking
+pub mod Texts
+pub mod Plans
+pub mod Words

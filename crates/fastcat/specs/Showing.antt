@@ -16,7 +16,7 @@ use Rattle.fast_text.specs.Hex.{Unhexed}
 use Rattle.fastcat.specs.declared.faults.ShowEnd.{ShowEnd}
 use Rattle.fastcat.specs.declared.faults.ShowEnd.TheVariants.{Good, Faulted, Truncated}
 use Rattle.fastcat.specs.declared.faults.RunFault.{RunFault}
-use Rattle.fastcat.specs.declared.faults.RunFault.TheVariants.{Read, Write, BadHex, Make, Memory}
+use Rattle.fastcat.specs.declared.faults.RunFault.TheVariants.{Read, Write, BadHex, Templates as Refused, Make, Memory}
 use Rattle.fastcat.specs.Closing.{fault_line, truncated_line, closing}
 
 -- The text stands for the bytes, up to its first bad place if it has one. A text that is not hexadecimal is its bytes.
@@ -62,5 +62,6 @@ IsShown t l hex Refuses AtEnd ReadsNoMore HasFailed text out (Err Read) =
     (place : Option ℕ) × (b : List ℕ) × (es : List EventData) × (e : End) × IsStreamOf t l hex text place b es e × IsGoodEnd e × (out ≡ lines t es) × ReadsNoMore
 IsShown t l hex Refuses AtEnd ReadsNoMore HasFailed text out (Err Write) =
     (place : Option ℕ) × (b later : List ℕ) × (es : List EventData) × (e : End) × (rest : List ℕ) × StandsFor hex text (b ++ later) place × Stream t l b es e × (lines t es ++ closing b e ≡ out ++ rest) × HasFailed
+IsShown t l hex Refuses AtEnd ReadsNoMore HasFailed text out (Err (Refused fault)) = ⊥
 IsShown t l hex Refuses AtEnd ReadsNoMore HasFailed text out (Err (Make cause)) = (text ≡ []) × (out ≡ []) × Refuses cause
 IsShown t l hex Refuses AtEnd ReadsNoMore HasFailed text out (Err Memory) = (text ≡ []) × (out ≡ [])

@@ -1,11 +1,13 @@
 //! How a run ends.
 
 ghost use Rattle.std.specs.Prelude.{◌≡◌};
-ghost use Rattle.fastcat.specs.Report.{status_of, cause_number};
+ghost use Rattle.fastcat.specs.Report.{status_of, cause_number, static_code_text};
 
 use fast_decoder::{Fault, MakeError};
+use fast_template::{StaticCode, StaticFault};
 use fast_text::{LineWriter, Target};
-use std::fmt::Write;
+use std::fmt;
+use std::fmt::{Display, Formatter, Write};
 use thiserror::Error;
 
 /// How `show` ends where it has shown the stream.
@@ -30,6 +32,41 @@ fn number_of(cause: &MakeError) -> u8
     }
 }
 
+/// The name of what is wrong with a template text.
+fn code_name(code: StaticCode) -> &'static str
+    ensures { result.now ≡ static_code_text code }
+{
+    match code {
+        StaticCode::S1 => "S1",
+        StaticCode::S2 => "S2",
+        StaticCode::S3 => "S3",
+        StaticCode::S4 => "S4",
+        StaticCode::S5 => "S5",
+        StaticCode::D8 => "D8",
+        StaticCode::C1 => "C1",
+        StaticCode::C2 => "C2",
+        StaticCode::C3 => "C3",
+        StaticCode::C4 => "C4",
+        StaticCode::C5 => "C5",
+        StaticCode::C6 => "C6",
+        StaticCode::Memory => "Memory",
+    }
+}
+
+/// What is wrong with a template text, and at which template, if at one.
+#[derive(Drop)]
+struct Wrong<'a>(&'a StaticFault);
+
+impl Display for Wrong<'_> {
+    fn fmt<W: Write>(&self, f: &mut Formatter<W>) -> fmt::Result {
+        let fault = self.0;
+        match fault.template {
+            Some(template) => write!(f, "{} in template {template}", code_name(fault.code)),
+            None => write!(f, "{}", code_name(fault.code)),
+        }
+    }
+}
+
 /// Why a run does not do its work.
 #[derive(Clone, Copy, Debug, PartialEq, Eq, Error)]
 pub enum RunFault {
@@ -43,6 +80,9 @@ pub enum RunFault {
     /// its place, or the length of the text.
     #[error("hex at {0}")]
     BadHex(u64),
+    /// The template text is refused, for another cause than memory.
+    #[error("templates {wrong}", wrong = Wrong(.0))]
+    Templates(StaticFault),
     /// There is no decoder with these limits, for another cause than memory.
     #[error("limits {number}", number = number_of(.0))]
     Make(MakeError),
@@ -62,7 +102,7 @@ pub fn report<T: Target>(ending: &Result<ShowEnd, RunFault>, target: &mut T) -> 
             let mut line = LineWriter::new(target);
             let _ = writeln!(line, "fastcat: {fault}");
             match fault {
-                RunFault::Make(_) => 2,
+                RunFault::Templates(_) | RunFault::Make(_) => 2,
                 RunFault::Read | RunFault::Write | RunFault::BadHex(_) | RunFault::Memory => 3,
             }
         }
@@ -86,6 +126,22 @@ mod tests {
             (Ok(ShowEnd::Good), 0, b"".as_slice()),
             (Ok(ShowEnd::Faulted(fault)), 1, b"".as_slice()),
             (Ok(ShowEnd::Truncated(1)), 1, b"".as_slice()),
+            (
+                Err(RunFault::Templates(StaticFault {
+                    code: StaticCode::S2,
+                    template: Some(0),
+                })),
+                2,
+                b"fastcat: templates S2 in template 0\n".as_slice(),
+            ),
+            (
+                Err(RunFault::Templates(StaticFault {
+                    code: StaticCode::S1,
+                    template: None,
+                })),
+                2,
+                b"fastcat: templates S1\n".as_slice(),
+            ),
             (
                 Err(RunFault::Make(MakeError::BadLimits)),
                 2,

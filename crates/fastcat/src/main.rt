@@ -1,67 +1,192 @@
-//! The command fastcat. Today it takes no words: it reads a stream in hexadecimal digits from standard input, and shows it on
-//! standard output.
+//! The command fastcat: shows streams in the FAST encoding as lines, and says how large template sets are.
 #![tactic(auto)]
 
+pub mod check;
 pub mod closing;
 pub mod faults;
+pub mod plans;
 pub mod show;
+pub mod texts;
 pub mod unhexer;
+pub mod words;
 
-use fast_template::{FlatTemplate, StaticFault, Templates};
+pub use check::run_check;
+use clap::Error;
+use clap::error::ErrorKind;
+use fast_template::{FlatTemplate, StaticCode, StaticFault, Templates};
 use fast_text::{Source, Target, Watched};
-use fast_value::Limits;
 pub use faults::{RunFault, ShowEnd, report};
+pub use plans::{BUILT_IN, Plan, Task};
 pub use show::run_show;
-use std::alloc::Global;
-use std::env;
+use std::alloc::{AllocError, Global};
+use std::io::BufWriter;
 use std::process::ExitCode;
+use std::{env, fs};
+pub use texts::read_whole;
+pub use words::plan;
 
-/// The status that a call with words answers.
+/// The status of a call that asks for what is not there.
 const USAGE: u8 = 2;
 
-/// The limits of a run without words.
-const LIMITS: Limits = Limits {
-    strict: false,
-    max_text: 1024,
-    max_elements: 1000,
-    max_total: 1000,
-};
+/// What a call without words stands for.
+const NO_WORDS: [&str; 4] = ["fastcat", "show", "--hex", BUILT_IN];
 
 /// How often a run reads at most.
 const MAX_READS: u64 = 1 << 40;
 
 /// The built-in template set.
-fn built_in(alloc: Global) -> Result<Templates, StaticFault> {
+fn built_in(alloc: Global) -> Result<Templates, RunFault> {
     let t1 = FlatTemplate {
         name: "T1",
         id: 1,
         fields: &["x"],
     };
-    Templates::flat(alloc, &[t1])
-}
-
-/// Shows the stream that the reader gives in hexadecimal digits.
-fn show_digits<S: Source, T: Target>(
-    alloc: Global,
-    reader: &mut S,
-    target: &mut T,
-) -> Result<ShowEnd, RunFault> {
-    match built_in(alloc) {
-        Ok(templates) => run_show(alloc, &templates, LIMITS, true, MAX_READS, reader, target),
-        Err(_) => Err(RunFault::Memory),
+    match Templates::flat(alloc, &[t1]) {
+        Ok(templates) => Ok(templates),
+        Err(fault) => Err(refused(fault)),
     }
 }
 
-fn main(rt: HostRuntime) -> ExitCode {
-    let ending = match env::args(&rt) {
-        Ok(words) if words.len() > 1 => return ExitCode::from(USAGE),
-        Ok(_) => {
-            let mut reader = Watched::new(rt.stdin());
-            let mut target = Watched::new(rt.stdout());
-            show_digits(rt.alloc(), &mut reader, &mut target)
-        }
-        Err(_) => Err(RunFault::Memory),
+/// What a run answers where a template text is refused.
+fn refused(fault: StaticFault) -> RunFault {
+    match fault.code {
+        StaticCode::Memory => RunFault::Memory,
+        _ => RunFault::Templates(fault),
+    }
+}
+
+/// Shows what a reader gives on standard output, in large pieces.
+fn show_from<S: Source>(
+    rt: &HostRuntime,
+    templates: &Templates,
+    plan: &Plan<'_>,
+    reader: &mut S,
+) -> Result<ShowEnd, RunFault> {
+    let Ok(output) = BufWriter::new(rt.alloc(), rt.stdout()) else {
+        return Err(RunFault::Memory);
     };
+    let mut target = Watched::new(output);
+    let ending = run_show(
+        rt.alloc(),
+        templates,
+        plan.limits(),
+        plan.hex,
+        MAX_READS,
+        reader,
+        &mut target,
+    );
+    match Target::flush(&mut target) {
+        Ok(()) => ending,
+        Err(_) => Err(RunFault::Write),
+    }
+}
+
+/// The template set of a path, or the built-in one. A text in a file is read and not yet understood: there is no set of it.
+fn templates_of(rt: &HostRuntime, path: &str) -> Result<Option<Templates>, RunFault> {
+    if path == BUILT_IN {
+        return Ok(Some(built_in(rt.alloc())?));
+    }
+    let Ok(file) = fs::open(rt, path) else {
+        return Err(RunFault::Read);
+    };
+    let text = read_whole(rt.alloc(), &mut Watched::new(file))?;
+    match str::from_utf8(&text) {
+        Ok(_) => Ok(None),
+        Err(_) => Err(RunFault::Templates(StaticFault {
+            code: StaticCode::S1,
+            template: None,
+        })),
+    }
+}
+
+/// Does what a plan asks for.
+fn carry_out(
+    rt: &HostRuntime,
+    templates: &Templates,
+    plan: &Plan<'_>,
+) -> Result<ShowEnd, RunFault> {
+    match (plan.task, plan.input) {
+        (Task::Check, _) => {
+            let mut target = Watched::new(rt.stdout());
+            run_check(templates, plan.limits(), &mut target)?;
+            Ok(ShowEnd::Good)
+        }
+        (Task::Show, None) => {
+            let mut reader = Watched::new(rt.stdin());
+            show_from(rt, templates, plan, &mut reader)
+        }
+        (Task::Show, Some(path)) => match fs::open(rt, path) {
+            Ok(file) => {
+                let mut reader = Watched::new(file);
+                show_from(rt, templates, plan, &mut reader)
+            }
+            Err(_) => Err(RunFault::Read),
+        },
+    }
+}
+
+/// Reports how a run has ended, and gives the status of the program.
+fn ended(rt: &HostRuntime, ending: Result<ShowEnd, RunFault>) -> ExitCode {
     let mut errors = Watched::new(rt.stderr());
     ExitCode::from(report(&ending, &mut errors))
+}
+
+/// Prints the text of a help that was asked for, or of a mistake in the words.
+fn explained(rt: &HostRuntime, error: &Error) -> ExitCode {
+    if error.kind() == ErrorKind::OutOfMemory {
+        return ended(rt, Err(RunFault::Memory));
+    }
+    match error.print(rt) {
+        Ok(()) => ExitCode::from(error.exit_code() as u8),
+        Err(_) => ended(rt, Err(RunFault::Write)),
+    }
+}
+
+/// Runs a plan.
+fn run_plan(rt: &HostRuntime, plan: &Plan<'_>) -> ExitCode {
+    match templates_of(rt, plan.templates) {
+        Ok(Some(templates)) => ended(rt, carry_out(rt, &templates, plan)),
+        Ok(None) => {
+            let _ = eprintln!(rt;
+                "fastcat: no template text in a file is understood yet: write {BUILT_IN}"
+            );
+            ExitCode::from(USAGE)
+        }
+        Err(fault) => ended(rt, Err(fault)),
+    }
+}
+
+/// Runs the command on its words, of which the first is the program's name.
+fn run(rt: &HostRuntime, words: &[&str]) -> ExitCode {
+    match plan(rt.alloc(), words) {
+        Ok(plan) => run_plan(rt, &plan),
+        Err(error) => explained(rt, &error),
+    }
+}
+
+/// The words as they lie in memory.
+fn texts_of<'a>(alloc: Global, words: &'a [String]) -> Result<Vec<&'a str>, AllocError> {
+    let mut texts = Vec::new(alloc);
+    for word in words {
+        texts.push(word.as_str())?;
+    }
+    Ok(texts)
+}
+
+fn main(rt: HostRuntime) -> ExitCode {
+    let alloc = rt.alloc();
+    let words: Vec<String> = match env::args(&rt) {
+        Ok(args) => match args.collect(alloc) {
+            Ok(words) => words,
+            Err(_) => return ended(&rt, Err(RunFault::Memory)),
+        },
+        Err(_) => return ended(&rt, Err(RunFault::Memory)),
+    };
+    if words.len() < 2 {
+        return run(&rt, &NO_WORDS);
+    }
+    match texts_of(rt.alloc(), &words) {
+        Ok(texts) => run(&rt, &texts),
+        Err(_) => ended(&rt, Err(RunFault::Memory)),
+    }
 }

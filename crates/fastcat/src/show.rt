@@ -174,7 +174,8 @@ impl<'a> Show<'a> {
 /// Shows a stream: writes a line for each event, and a line for a fault or for an end inside a message.
 ///
 /// With `hex` the input is hexadecimal digits in pairs, with blanks between them. After `max_reads` reads that gave bytes the
-/// run ends with `RunFault::Read`; at most 4,096 bytes are read at a time.
+/// run ends with `RunFault::Read`; at most 4,096 bytes are read at a time. The writer is flushed before each read, which may
+/// take its time, so that all lines can be seen by then. What it keeps at the end is the caller's to flush.
 pub fn run_show<S: Source, T: Target>(
     alloc: Global,
     templates: &Templates,
@@ -195,6 +196,9 @@ pub fn run_show<S: Source, T: Target>(
     };
     let mut buffer = [0; READ_SIZE];
     for _read in 0..max_reads {
+        if writer.flush().is_err() {
+            return Err(RunFault::Write);
+        }
         let count = match reader.read(&mut buffer) {
             Ok(count) => count,
             Err(_) => return Err(RunFault::Read),

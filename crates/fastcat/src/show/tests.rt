@@ -224,6 +224,10 @@ impl Target for Lines {
         }
     }
 
+    fn flush(&mut self) -> Result<(), Failed> {
+        Ok(())
+    }
+
     fn failed(&self) -> bool {
         false
     }
@@ -250,5 +254,67 @@ fn a_long_stream_is_shown_whole(rt: HostRuntime) -> Result<(), Fail> {
     );
     assert_eq!(rt; ending, Ok(ShowEnd::Good));
     assert_eq!(rt; target.count, 3 * 5001);
+    Ok(())
+}
+
+/// Takes all that is written, and fails at a flush.
+#[derive(Drop)]
+struct Flushed {
+    flushes: u64,
+    fails_at: u64,
+    failed: bool,
+}
+
+impl Target for Flushed {
+    ghost written = { λ _. None };
+
+    ghost has_failed = { λ s. s.failed };
+
+    fn write(&mut self, piece: &[u8]) -> Result<usize, Failed> {
+        Ok(piece.len())
+    }
+
+    fn flush(&mut self) -> Result<(), Failed> {
+        self.flushes = self.flushes.saturating_add(1);
+        if self.flushes == self.fails_at {
+            self.failed = true;
+            return Err(Failed);
+        }
+        Ok(())
+    }
+
+    fn failed(&self) -> bool {
+        self.failed
+    }
+}
+
+#[test]
+fn lines_can_be_seen_before_each_read(rt: HostRuntime) -> Result<(), Fail> {
+    let templates = set(rt.alloc())?;
+    for (fails_at, ending, reads) in [(0, RunFault::Read, 6), (3, RunFault::Write, 2)] {
+        let mut source = Drip {
+            bytes: &[0xc0, 0x81, 0x39, 0x45, 0xa3],
+            reads: 0,
+            fails_at: 0,
+            failed: false,
+        };
+        let mut target = Flushed {
+            flushes: 0,
+            fails_at,
+            failed: false,
+        };
+        let end = run_show(
+            rt.alloc(),
+            &templates,
+            LENIENT,
+            false,
+            6,
+            &mut source,
+            &mut target,
+        );
+        assert_eq!(rt; end, Err(ending));
+        assert_eq!(rt; source.reads, reads);
+        assert_eq!(rt; target.flushes, if fails_at == 0 { 6 } else { 3 });
+    }
     Ok(())
 }

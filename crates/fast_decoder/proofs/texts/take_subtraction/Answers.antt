@@ -44,7 +44,7 @@ returns-in-Whole-Some-default-clause-unit c scratch =
     text_next l g next (first_reader l f old) here f front c.args.rest.now old old scratch n c.in-Whole-Some-default.field-0 c.in-Whole-Some-default.ensures.unit
     c.part_next.result c.answered.result c.answered.ensures
     (subst (λ (x : Option ℤ). IsStepped l (reader_of l.strict (next x)) f old old scratch (take n c.args.rest.now) c.part_next.result)
-    (ap Some (ap (λ (z : ℤ). to_z w32 (of_z w32 z)) is ∙ length_narrow c.in-Whole-Some-default.length in_range) ∙ sym c.in-Whole-Some-default.field-0-is) (c.part_next.ensures l scratch (take n c.args.rest.now)))
+    (ap Some (ap (λ (z : ℤ). to_z w32 (of_z w32 z)) is ∙ length_narrow c.in-Whole-Some-default.length in_range) ∙ sym c.in-Whole-Some-default.field-0-is) (c.part_next.ensures.step l scratch (take n c.args.rest.now)))
 
 pub returns-in-Whole-None-default-clause-unit : goal.returns-in-Whole-None-default-clause-unit
 returns-in-Whole-None-default-clause-unit c scratch =

@@ -2,7 +2,9 @@ use Rattle.std.proofs.Common.{map, subst, sym, ◌∙◌, arith, inr, Some}
 use Rattle.fast_template.specs.Numbers.{NameLaterNodes}
 use Rattle.fast_template.specs.WrittenSets.{written_data}
 use Rattle.fast_template.proofs.BuiltSets.{built_in_preorder, built_names_nodes, built_names_later_nodes, built_distinct_ids, built_few_nodes, built_count}
+use Rattle.fast_template.proofs.BuiltUsable.{built_usable}
 use Rattle.fast_template.specs.NodeData.{node_data}
+use Rattle.fast_template.specs.Usable.{AreUsable}
 use Rattle.fast_template.proofs.Headings.{same_names, same_ids, built_headings}
 use Rattle.std.proofs.lemmas.Result.{err_from_is_err_and}
 use Rattle.toml.specs.Parse.{parse_document}
@@ -47,6 +49,7 @@ invariant_of-result c =
       has_identifier = omega (arith, count);
       templates_name_nodes = built_names_nodes ns us built;
       nodes_name_later_nodes = built_names_later_nodes ns us built;
+      nodes_usable = subst (λ k. AreUsable k ns) (sym count) (built_usable ts c.in-Ok.ensures.entries ns us w.sound built);
       nodes_in_preorder = built_in_preorder ns us built;
       distinct_ids = built_distinct_ids ns us built w.ids;
       names_index = λ q. c.in_ok-set.ensures.names q ∙ same_names us ts q headings;

@@ -1,0 +1,88 @@
+use Rattle.std.proofs.Common.{◌≡◌, ℕ, ap, ◌∙◌, sym, subst, refl, length, take}
+use Rattle.std.specs.Prelude.{List, [], ◌++◌, true}
+use Rattle.std.proofs.lemmas.List.{length-take-le}
+use Rattle.fast_value.specs.Limits.{bounds}
+use Rattle.fast_template.specs.Tree.{FieldData}
+use Rattle.fast_dict.specs.Dictionary.{Dictionary, previous_at}
+use Rattle.fast_dict.specs.Slots.{slots_dictionary}
+use Rattle.fast_decoder.specs.Fields.{field_term}
+use Rattle.fast_decoder.specs.GrammarReaders.{reader_of}
+use Rattle.fast_decoder.specs.Machine.{after_bytes}
+use Rattle.fast_decoder.specs.Readers.{Reader, Stop}
+use Rattle.fast_decoder.specs.Settling.{GivesField}
+use Rattle.fast_decoder.specs.Taking.{Turns, Stays}
+use Rattle.fast_decoder.specs.declared.machine.Waiting.{Waiting}
+use Rattle.fast_decoder.specs.declared.machine.Machine.{Machine}
+use Rattle.fast_decoder.specs.Positions.{set_of, tree_in, behind_map, meaning, meaning_at, CanTake}
+use Rattle.fast_decoder.proofs.Hanging.{hands_as}
+use Rattle.fast_decoder.proofs.Takes.{taken_turns, taken_fault, taken_stays}
+use Rattle.fast_decoder.proofs.Takings.{taken_as}
+use Rattle.fast_decoder.proofs.Reports.{taken_reported}
+use Rattle.fast_decoder.proofs.Identifiers.{identifier_served, identified_by, sent_turns, sent_stops, sent_stays}
+use Rattle.fast_decoder.proofs.machine.Machine.take_identifier.Goals as goal
+
+pub take_integer-requires-clause-serves : goal.take_integer-requires-clause-serves
+take_integer-requires-clause-serves g c = identifier_served (set_of c.args.templates.now) c.args.limits c.args.self.now c.requires.ready.supplied
+
+pub slice_bounds-piece-end : goal.slice_bounds-piece-end
+slice_bounds-piece-end g c = sym (length-take-le c.in-Whole.bytes c.args.rest.now (c.in-Whole.ensures.unit (bounds c.args.limits) []).1)
+
+pub returns-in-Cut-clause-taken : goal.returns-in-Cut-clause-taken
+returns-in-Cut-clause-taken g c =
+    let m : Machine = c.args.self.now in
+    let set = set_of c.args.templates.now in
+    let l = c.args.limits in
+    let d : Dictionary = slots_dictionary m.slots in
+    let rest : List ℕ = c.args.rest.now in
+    let new : Machine = record m { slots = c.take_integer.new.slots; entity = c.take_integer.new.pending } in
+    let (entity, bit, place) = subst (λ (w : Waiting). CanTake w set l m) c.requires.waits c.requires.ready.takes in
+    let (stays, dictionary) = c.in-Cut.ensures.unit (bounds l) [] in
+    let (pending, no_stop, short) = c.in-Cut.ensures.cut refl in
+    let r : Reader Dictionary = reader_of l.strict (behind_map set (bounds l) d m.cursor.map) in
+    taken_reported g.S.Sink.takes g.S.Sink.stops (tree_in set) l rest c.args.sink.now c.args.sink.now c.cut.ensures.bytes c.cut.ensures.outcome
+    (taken_as g.S.Sink.takes g.S.Sink.stops (tree_in set) l rest c.args.sink.now (length rest) _ c.args.sink.now
+    (ap (λ (w : Waiting). meaning_at w set l m) c.requires.waits)
+    (ap (λ (w : Waiting). meaning_at w set l new) c.requires.waits ∙ ap (λ (e : Dictionary). after_bytes (reader_of l.strict (behind_map set (bounds l) e m.cursor.map)) new.entity) dictionary ∙ ap (after_bytes r) pending)
+    (taken_stays g.S.Sink.takes g.S.Sink.stops (tree_in set) l r m.entity rest c.args.sink.now c.requires.some
+    (sent_stays set l.strict (bounds l) d m.cursor.map bit (m.entity ++ rest)
+    (subst (λ (f : FieldData). Stays (reader_of l.strict (field_term (bounds l) f (previous_at f.entry d) true)) (m.entity ++ rest)) c.requires.ready.supplied.identifier stays))))
+
+pub returns-in-Wrong-clause-taken : goal.returns-in-Wrong-clause-taken
+returns-in-Wrong-clause-taken g c =
+    let m : Machine = c.args.self.now in
+    let set = set_of c.args.templates.now in
+    let l = c.args.limits in
+    let d : Dictionary = slots_dictionary m.slots in
+    let rest : List ℕ = c.args.rest.now in
+    let n : ℕ = c.in-Wrong.bytes in
+    let w : List ℕ = m.entity ++ take n rest in
+    let (entity, bit, place) = subst (λ (w : Waiting). CanTake w set l m) c.requires.waits c.requires.ready.takes in
+    let (some, within, turns) = c.in-Wrong.ensures.unit (bounds l) [] in
+    let r : Reader Dictionary = reader_of l.strict (behind_map set (bounds l) d m.cursor.map) in
+    taken_reported g.S.Sink.takes g.S.Sink.stops (tree_in set) l rest c.args.sink.now c.args.sink.now c.wrong.ensures.bytes c.wrong.ensures.outcome
+    (taken_as g.S.Sink.takes g.S.Sink.stops (tree_in set) l rest c.args.sink.now n _ c.args.sink.now
+    (ap (λ (u : Waiting). meaning_at u set l m) c.requires.waits) refl
+    (taken_fault g.S.Sink.takes g.S.Sink.stops (tree_in set) l r m.entity rest n c.in-Wrong.code c.args.sink.now _ some within
+    (sent_stops set l.strict (bounds l) d m.cursor.map bit w c.in-Wrong.code
+    (subst (λ (f : FieldData). Turns (reader_of l.strict (field_term (bounds l) f (previous_at f.entry d) true)) w (Stop c.in-Wrong.code)) c.requires.ready.supplied.identifier turns))))
+
+pub returns-in-Whole-clause-taken : goal.returns-in-Whole-clause-taken
+returns-in-Whole-clause-taken g c =
+    let m : Machine = c.args.self.now in
+    let set = set_of c.args.templates.now in
+    let l = c.args.limits in
+    let d : Dictionary = slots_dictionary m.slots in
+    let rest : List ℕ = c.args.rest.now in
+    let n : ℕ = c.in-Whole.bytes in
+    let w : List ℕ = m.entity ++ take n rest in
+    let (entity, bit, place) = subst (λ (u : Waiting). CanTake u set l m) c.requires.waits c.requires.ready.takes in
+    let (some, within, given) = c.in-Whole.ensures.unit (bounds l) m.text.text in
+    let gives = subst (λ (f : FieldData). GivesField (reader_of l.strict (field_term (bounds l) f (previous_at f.entry d) true)) w f c.in-Whole.source d (slots_dictionary c.take_integer.new.slots) m.text.text (take n rest)) c.requires.ready.supplied.identifier given in
+    let r : Reader Dictionary = reader_of l.strict (behind_map set (bounds l) d m.cursor.map) in
+    taken_as g.S.Sink.takes g.S.Sink.stops (tree_in set) l rest c.args.sink.now n c.identified-outcome.result c.identified-outcome.new.sink
+    (ap (λ (u : Waiting). meaning_at u set l m) c.requires.waits) refl
+    (taken_turns g.S.Sink.takes g.S.Sink.stops (tree_in set) l r m.entity rest n _ c.args.sink.now c.identified-outcome.result c.identified-outcome.new.sink _ some within
+    (sent_turns set l.strict (bounds l) d m.cursor.map bit w gives.outcome gives.turns)
+    (hands_as g.S.Sink.takes g.S.Sink.stops c.args.sink.now c.identified-outcome.result c.identified-outcome.new.sink _
+    (identified_by set l.strict (bounds l) d (slots_dictionary c.take_integer.new.slots) m.cursor gives.outcome _ place gives.settled.value gives.settled.dictionary)
+    c.identified-outcome.ensures.hands))

@@ -1,0 +1,66 @@
+use Rattle.std.proofs.Common.{refl, []}
+use Rattle.fast_value.specs.Limits.{bounds}
+use Rattle.fast_template.specs.Flat.{field_data}
+use Rattle.fast_dict.specs.Slots.{slots_dictionary}
+use Rattle.fast_decoder.specs.Continuations.{sequence_from_then, segment_then, body_then}
+use Rattle.fast_decoder.specs.Positions.{set_of, body_in, tree_in, turning, meaning}
+use Rattle.fast_decoder.proofs.PartTakes.{integer_whole, integer_wrong, integer_cut, length_sees, length_sent, sequence_next, meaning_first, first_cut}
+use Rattle.fast_decoder.proofs.Takes.{taken_by}
+use Rattle.fast_decoder.proofs.FieldTurns.{behind}
+use Rattle.fast_decoder.proofs.ScalarMachines.{serves_dictionary}
+use Rattle.fast_decoder.proofs.machine.Machine.take_length.Goals as goal
+
+pub take_integer-requires-clause-serves : goal.take_integer-requires-clause-serves
+take_integer-requires-clause-serves g c = serves_dictionary (set_of c.args.templates.now) c.args.limits c.args.self.now (field_data c.args.length.now) c.requires.ready.supplied c.requires.serves
+
+pub returns-in-Cut-clause-taken : goal.returns-in-Cut-clause-taken
+returns-in-Cut-clause-taken g c =
+    let takes = g.S.Sink.takes in
+    let stops = g.S.Sink.stops in
+    let set = set_of c.args.templates.now in
+    let l = c.args.limits in
+    let m = c.args.self.now in
+    let f = field_data c.args.length.now in
+    let n = c.args.node in
+    let k = sequence_from_then (bounds l) n (segment_then (body_in set c.args.body.now) (body_then (bounds l) (body_in set c.args.body.now))) (behind set l m) in
+    let sent = length_sent set l m n f c.args.body.now c.requires.ready c.requires.waits c.requires.next in
+    let next = sequence_next set l m n f c.args.body.now c.requires.next in
+    let is = meaning_first set l m c.requires.waits in
+    let a = record m { slots = c.take_integer.new.slots; entity = c.take_integer.new.pending } in
+    let (stays, same) = c.in-Cut.ensures.unit (bounds l) [] in
+    taken_by takes stops (tree_in set) l (meaning set l m) c.args.rest.now c.args.sink.now c.args.sink.now (meaning set l a) c.cut.ensures.bytes c.cut.ensures.outcome
+    (integer_cut takes stops set l m f k (turning set l m) c.args.rest.now sent next is a c.take_integer.new.pending (first_cut set l m c.take_integer.new.slots c.take_integer.new.pending c.requires.waits same) (c.in-Cut.ensures.cut refl).0 c.requires.some stays c.args.sink.now)
+
+pub returns-in-Wrong-clause-taken : goal.returns-in-Wrong-clause-taken
+returns-in-Wrong-clause-taken g c =
+    let takes = g.S.Sink.takes in
+    let stops = g.S.Sink.stops in
+    let set = set_of c.args.templates.now in
+    let l = c.args.limits in
+    let m = c.args.self.now in
+    let f = field_data c.args.length.now in
+    let n = c.args.node in
+    let k = sequence_from_then (bounds l) n (segment_then (body_in set c.args.body.now) (body_then (bounds l) (body_in set c.args.body.now))) (behind set l m) in
+    let sent = length_sent set l m n f c.args.body.now c.requires.ready c.requires.waits c.requires.next in
+    let next = sequence_next set l m n f c.args.body.now c.requires.next in
+    let is = meaning_first set l m c.requires.waits in
+    let a = record m { slots = c.take_integer.new.slots; entity = c.take_integer.new.pending } in
+    taken_by takes stops (tree_in set) l (meaning set l m) c.args.rest.now c.args.sink.now c.args.sink.now (meaning set l a) c.wrong.ensures.bytes c.wrong.ensures.outcome
+    (integer_wrong takes stops set l m f k (turning set l m) c.args.rest.now sent next is (slots_dictionary c.take_integer.new.slots) [] c.in-Wrong.code c.in-Wrong.bytes (c.in-Wrong.ensures.unit (bounds l) []) c.args.sink.now (meaning set l a))
+
+pub returns-in-Whole-clause-taken : goal.returns-in-Whole-clause-taken
+returns-in-Whole-clause-taken g c =
+    let takes = g.S.Sink.takes in
+    let stops = g.S.Sink.stops in
+    let set = set_of c.args.templates.now in
+    let l = c.args.limits in
+    let m = c.args.self.now in
+    let f = field_data c.args.length.now in
+    let n = c.args.node in
+    let k = sequence_from_then (bounds l) n (segment_then (body_in set c.args.body.now) (body_then (bounds l) (body_in set c.args.body.now))) (behind set l m) in
+    let sent = length_sent set l m n f c.args.body.now c.requires.ready c.requires.waits c.requires.next in
+    let next = sequence_next set l m n f c.args.body.now c.requires.next in
+    let is = meaning_first set l m c.requires.waits in
+    integer_whole takes stops set l m f k (turning set l m) c.args.rest.now sent next is (length_sees (bounds l) n (body_in set c.args.body.now) (behind set l m)) c.take_integer.new.slots m.text.text c.in-Whole.source c.in-Whole.bytes (c.in-Whole.ensures.unit (bounds l) m.text.text)
+    c.args.sink.now c.go_on-outcome.result c.go_on-outcome.new.sink (meaning set l c.go_on-outcome.new.self)
+    (c.go_on-outcome.ensures.hands _ c.args.sink.now c.length_known-turn.ensures.turn.moves)

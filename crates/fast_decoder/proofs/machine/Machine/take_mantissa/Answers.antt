@@ -1,0 +1,136 @@
+use Rattle.std.proofs.Common.{refl, sym, [], ◌∙◌, subst, ℤ}
+use mir.Syntax.{w32}
+use Rattle.std.proofs.lemmas.Int.{to_z-of_z}
+use Rattle.fast_value.specs.Limits.{bounds}
+use Rattle.fast_template.specs.Flat.{field_data}
+use Rattle.fast_template.specs.declared.instructions.Shape.TheVariants.{Decimal}
+use Rattle.fast_dict.specs.Slots.{slots_dictionary}
+use Rattle.fast_decoder.specs.Continuations.{handed_then}
+use Rattle.fast_dict.specs.Dictionary.{Dictionary}
+use Rattle.fast_decoder.specs.Grammar.{Grammar}
+use Rattle.fast_decoder.specs.GrammarReaders.{reader_of}
+use Rattle.fast_decoder.specs.Handing.{Hands}
+use Rattle.fast_decoder.specs.Settling.{value_at}
+use Rattle.fast_decoder.specs.Passing.{decimal_then}
+use Rattle.fast_decoder.specs.Messages.{Found, decimal_with}
+use Rattle.fast_decoder.specs.Positions.{set_of, tree_in, meaning, CanTake}
+use Rattle.fast_decoder.specs.declared.machine.Waiting.{Waiting}
+use Rattle.fast_decoder.proofs.Takes.{taken_by}
+use Rattle.fast_decoder.proofs.FieldTurns.{behind, mantissa_from, mantissa_next, serves_known, entry_here}
+use Rattle.fast_decoder.proofs.ScalarMachines.{serves_dictionary}
+use Rattle.fast_decoder.proofs.ScalarSteps.{goes_on_moved}
+use Rattle.fast_decoder.proofs.ScalarNodes.{at_parts_node, mantissa_parts, not_decimal, served_node}
+use Rattle.fast_decoder.proofs.PartTakes.{integer_whole, integer_wrong, integer_cut, mantissa_sees, mantissa_sent, meaning_second, second_cut, second_turn, part_supplied}
+use Rattle.fast_decoder.proofs.machine.Machine.take_mantissa.Goals as goal
+
+pub returns-in_default-shape : goal.returns-in_default-shape
+returns-in_default-shape g c =
+    let set = set_of c.args.templates.now in
+    let m = c.args.self.now in
+    let can = subst (λ (w : Waiting). CanTake w set c.args.limits m) c.requires.waits c.requires.ready.takes in
+    let is_decimal = mantissa_parts set c.args.limits m c.in-Some.number c.node.result.now c.args.templates.now.nodes_name_later_nodes (sym c.next.ensures ∙ c.in-Some.is) c.node.ensures.found can.2 in
+    absurd (not_decimal c.node.result.now.shape is_decimal c.in_default-shape.not-Decimal)
+
+pub take_integer-requires-clause-serves : goal.take_integer-requires-clause-serves
+take_integer-requires-clause-serves g c =
+    let set = set_of c.args.templates.now in
+    let l = c.args.limits in
+    let m = c.args.self.now in
+    let f = field_data c.in-Decimal.mantissa in
+    let n = c.in-Some.number in
+    let served = served_node set l m n c.node.result.now (Decimal c.in-Decimal.exponent c.in-Decimal.mantissa) c.requires.ready.supplied c.node.ensures.found c.in-Decimal.is in
+    serves_dictionary set l m f c.requires.ready.supplied served.1
+
+pub take_integer-requires-clause-sent : goal.take_integer-requires-clause-sent
+take_integer-requires-clause-sent g c =
+    let set = set_of c.args.templates.now in
+    let l = c.args.limits in
+    let m = c.args.self.now in
+    let f = field_data c.in-Decimal.mantissa in
+    let n = c.in-Some.number in
+    let at = at_parts_node set m.cursor n c.node.result.now c.args.templates.now.nodes_name_later_nodes (sym c.next.ensures ∙ c.in-Some.is) c.node.ensures.found c.in-Decimal.exponent c.in-Decimal.mantissa c.in-Decimal.is in
+    let x = c.args.exponent in
+    let sent = mantissa_sent set l m n (field_data c.in-Decimal.exponent) f x c.requires.ready c.requires.waits at in
+    sent.varies
+
+pub finish_decimal-turn-requires-clause-entry : goal.finish_decimal-turn-requires-clause-entry
+finish_decimal-turn-requires-clause-entry g c =
+    let set = set_of c.args.templates.now in
+    let l = c.args.limits in
+    let m = c.args.self.now in
+    let f = field_data c.in-Decimal.mantissa in
+    let n = c.in-Some.number in
+    let served = served_node set l m n c.node.result.now (Decimal c.in-Decimal.exponent c.in-Decimal.mantissa) c.requires.ready.supplied c.node.ensures.found c.in-Decimal.is in
+    let slots = c.take_integer.new.slots in
+    let a = record m { slots = slots; entity = c.take_integer.new.pending } in
+    entry_here set l a f (part_supplied set l m slots c.take_integer.new.pending c.requires.ready c.take_integer.ensures.terms) (serves_known set m slots f c.take_integer.ensures.terms served.1)
+
+pub go_on-outcome-requires-clause-goes_on : goal.go_on-outcome-requires-clause-goes_on
+go_on-outcome-requires-clause-goes_on g c =
+    let set = set_of c.args.templates.now in
+    let l = c.args.limits in
+    let m = c.args.self.now in
+    let slots = c.take_integer.new.slots in
+    let a = record m { slots = slots; entity = c.take_integer.new.pending } in
+    let can = second_turn set l m slots c.take_integer.new.pending c.requires.ready c.take_integer.ensures.terms c.args.exponent c.requires.waits (c.in-Whole.ensures.whole c.in-Whole.source c.in-Whole.bytes refl) in
+    goes_on_moved set l a c.finish_decimal-turn.new.self c.finish_decimal-turn.result can c.finish_decimal-turn.ensures.same c.finish_decimal-turn.ensures.depth c.finish_decimal-turn.ensures.past c.finish_decimal-turn.ensures.on
+
+pub returns-in-Cut-clause-taken : goal.returns-in-Cut-clause-taken
+returns-in-Cut-clause-taken g c =
+    let takes = g.S.Sink.takes in
+    let stops = g.S.Sink.stops in
+    let set = set_of c.args.templates.now in
+    let l = c.args.limits in
+    let m = c.args.self.now in
+    let f = field_data c.in-Decimal.mantissa in
+    let n = c.in-Some.number in
+    let at = at_parts_node set m.cursor n c.node.result.now c.args.templates.now.nodes_name_later_nodes (sym c.next.ensures ∙ c.in-Some.is) c.node.ensures.found c.in-Decimal.exponent c.in-Decimal.mantissa c.in-Decimal.is in
+    let x = c.args.exponent in
+    let sent = mantissa_sent set l m n (field_data c.in-Decimal.exponent) f x c.requires.ready c.requires.waits at in
+    let k : Found → Grammar Dictionary = λ r. handed_then n (behind set l m) (decimal_with x r.0) r.1 in
+    let next = mantissa_next set l m n (field_data c.in-Decimal.exponent) f x at in
+    let is = meaning_second set l m x c.requires.waits in
+    let a = record m { slots = c.take_integer.new.slots; entity = c.take_integer.new.pending } in
+    let (stays, same) = c.in-Cut.ensures.unit (bounds l) [] in
+    taken_by takes stops (tree_in set) l (meaning set l m) c.args.rest.now c.args.sink.now c.args.sink.now (meaning set l a) c.cut-in-Cut.ensures.bytes c.cut-in-Cut.ensures.outcome
+    (integer_cut takes stops set l m f k (mantissa_from set l m x) c.args.rest.now sent next is a c.take_integer.new.pending (second_cut set l m c.take_integer.new.slots c.take_integer.new.pending x c.requires.waits same) (c.in-Cut.ensures.cut refl).0 c.requires.some stays c.args.sink.now)
+
+pub returns-in-Wrong-clause-taken : goal.returns-in-Wrong-clause-taken
+returns-in-Wrong-clause-taken g c =
+    let takes = g.S.Sink.takes in
+    let stops = g.S.Sink.stops in
+    let set = set_of c.args.templates.now in
+    let l = c.args.limits in
+    let m = c.args.self.now in
+    let f = field_data c.in-Decimal.mantissa in
+    let n = c.in-Some.number in
+    let at = at_parts_node set m.cursor n c.node.result.now c.args.templates.now.nodes_name_later_nodes (sym c.next.ensures ∙ c.in-Some.is) c.node.ensures.found c.in-Decimal.exponent c.in-Decimal.mantissa c.in-Decimal.is in
+    let x = c.args.exponent in
+    let sent = mantissa_sent set l m n (field_data c.in-Decimal.exponent) f x c.requires.ready c.requires.waits at in
+    let k : Found → Grammar Dictionary = λ r. handed_then n (behind set l m) (decimal_with x r.0) r.1 in
+    let next = mantissa_next set l m n (field_data c.in-Decimal.exponent) f x at in
+    let is = meaning_second set l m x c.requires.waits in
+    let a = record m { slots = c.take_integer.new.slots; entity = c.take_integer.new.pending } in
+    taken_by takes stops (tree_in set) l (meaning set l m) c.args.rest.now c.args.sink.now c.args.sink.now (meaning set l a) c.wrong.ensures.bytes c.wrong.ensures.outcome
+    (integer_wrong takes stops set l m f k (mantissa_from set l m x) c.args.rest.now sent next is (slots_dictionary c.take_integer.new.slots) [] c.in-Wrong.code c.in-Wrong.bytes (c.in-Wrong.ensures.unit (bounds l) []) c.args.sink.now (meaning set l a))
+
+pub returns-in-Whole-clause-taken : goal.returns-in-Whole-clause-taken
+returns-in-Whole-clause-taken g c =
+    let takes = g.S.Sink.takes in
+    let stops = g.S.Sink.stops in
+    let set = set_of c.args.templates.now in
+    let l = c.args.limits in
+    let m = c.args.self.now in
+    let f = field_data c.in-Decimal.mantissa in
+    let n = c.in-Some.number in
+    let at = at_parts_node set m.cursor n c.node.result.now c.args.templates.now.nodes_name_later_nodes (sym c.next.ensures ∙ c.in-Some.is) c.node.ensures.found c.in-Decimal.exponent c.in-Decimal.mantissa c.in-Decimal.is in
+    let x = c.args.exponent in
+    let sent = mantissa_sent set l m n (field_data c.in-Decimal.exponent) f x c.requires.ready c.requires.waits at in
+    let k : Found → Grammar Dictionary = λ r. handed_then n (behind set l m) (decimal_with x r.0) r.1 in
+    let next = mantissa_next set l m n (field_data c.in-Decimal.exponent) f x at in
+    let is = meaning_second set l m x c.requires.waits in
+    integer_whole takes stops set l m f k (mantissa_from set l m x) c.args.rest.now sent next is (mantissa_sees n x (behind set l m)) c.take_integer.new.slots m.text.text c.in-Whole.source c.in-Whole.bytes (c.in-Whole.ensures.unit (bounds l) m.text.text)
+    c.args.sink.now c.go_on-outcome.result c.go_on-outcome.new.sink (meaning set l c.go_on-outcome.new.self)
+    (subst (λ (y : ℤ). Hands takes stops (reader_of l.strict (decimal_then set (bounds l) n y (value_at c.in-Whole.source f (slots_dictionary c.take_integer.new.slots) m.text.text []) f (slots_dictionary c.take_integer.new.slots) m.counted m.cursor)) c.args.sink.now c.go_on-outcome.result c.go_on-outcome.new.sink (meaning set l c.go_on-outcome.new.self))
+    (to_z-of_z w32 x c.ranges.exponent)
+    (c.go_on-outcome.ensures.hands _ c.args.sink.now (c.finish_decimal-turn.ensures.moves set (bounds l) l.strict (meaning set l c.finish_decimal-turn.new.self))))

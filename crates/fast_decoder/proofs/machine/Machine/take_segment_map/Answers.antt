@@ -1,0 +1,88 @@
+use Rattle.std.proofs.Common.{◌≡◌, ℕ, ◌+◌, ◌<◌, ap, ◌∙◌, sym, subst, arith, refl, length, take, length-append}
+use Rattle.std.specs.Prelude.{List, ◌++◌}
+use Rattle.std.proofs.lemmas.List.{length-take-le}
+use Rattle.fast_wire.specs.Maps.{map_limit}
+use Rattle.fast_value.specs.Limits.{bounds}
+use Rattle.fast_value.specs.declared.codes.Code.TheVariants.{L3}
+use Rattle.fast_dict.specs.Dictionary.{Dictionary}
+use Rattle.fast_dict.specs.Slots.{slots_dictionary}
+use Rattle.fast_decoder.specs.GrammarReaders.{reader_of}
+use Rattle.fast_decoder.specs.Handing.{due}
+use Rattle.fast_decoder.specs.Machine.{after_bytes}
+use Rattle.fast_decoder.specs.Readers.{Reader}
+use Rattle.fast_decoder.specs.declared.machine.Waiting.{Waiting}
+use Rattle.fast_decoder.specs.declared.machine.Machine.{Machine}
+use Rattle.fast_decoder.specs.Positions.{set_of, tree_in, segment_behind, meaning, meaning_at, CanTake}
+use Rattle.fast_decoder.proofs.InHand.{entity_then}
+use Rattle.fast_decoder.proofs.Hanging.{hands_as}
+use Rattle.fast_decoder.proofs.Takings.{taken_as, taken_cut, taken_full, taken_whole, due-entity}
+use Rattle.fast_decoder.proofs.SegmentMaps.{segment_judged, segment-reader, segment_same, segment_of}
+use Rattle.fast_decoder.proofs.Reports.{taken_reported}
+use Rattle.fast_decoder.proofs.machine.Machine.take_segment_map.Goals as goal
+
+pub returns-in-Cut-clause-taken : goal.returns-in-Cut-clause-taken
+returns-in-Cut-clause-taken g c =
+    let m : Machine = c.args.self.now in
+    let set = set_of c.args.templates.now in
+    let l = c.args.limits in
+    let d = slots_dictionary m.slots in
+    let width = c.args.width in
+    let front : List ℕ = m.cursor.map in
+    let rest : List ℕ = c.args.rest.now in
+    let new : Machine = record m { cursor = c.take_map.new.self } in
+    let (no_stop_yet, room, unused, none, placed, wide) = subst (λ (w : Waiting). CanTake w set l m) c.requires.waits c.requires.ready.takes in
+    let (short, no_stop, bytes) = c.in-Cut.ensures.map in
+    let k = segment_judged set l d m.counted m.cursor width in
+    let r : Reader Dictionary = reader_of l.strict (segment_behind set (bounds l) d m.counted m.cursor width) in
+    let same : r ≡ entity_then L3 map_limit k = segment-reader set l d m.counted m.cursor width in
+    taken_reported g.S.Sink.takes g.S.Sink.stops (tree_in set) l rest c.args.sink.now c.args.sink.now c.cut.ensures.bytes c.cut.ensures.outcome
+    (taken_as g.S.Sink.takes g.S.Sink.stops (tree_in set) l rest c.args.sink.now (length rest) _ c.args.sink.now
+    (ap (λ (w : Waiting). meaning_at w set l m) c.requires.waits)
+    (ap (λ (w : Waiting). meaning_at w set l new) c.requires.waits ∙ segment_of set l d m.counted m.cursor width new.cursor c.take_map.ensures.same ∙ ap (after_bytes r) bytes ∙ ap (λ (p : Reader Dictionary). after_bytes p (front ++ rest)) same)
+    (taken_cut g.S.Sink.takes g.S.Sink.stops (tree_in set) l L3 map_limit k (after_bytes r front) front rest (due-entity (tree_in set) l L3 map_limit k r front same no_stop_yet room) c.args.sink.now c.requires.some no_stop short))
+
+pub returns-in-TooLong-clause-taken : goal.returns-in-TooLong-clause-taken
+returns-in-TooLong-clause-taken g c =
+    let m : Machine = c.args.self.now in
+    let set = set_of c.args.templates.now in
+    let l = c.args.limits in
+    let d = slots_dictionary m.slots in
+    let width = c.args.width in
+    let front : List ℕ = m.cursor.map in
+    let rest : List ℕ = c.args.rest.now in
+    let n : ℕ = c.in-TooLong.bytes in
+    let (no_stop_yet, room, unused, none, placed, wide) = subst (λ (w : Waiting). CanTake w set l m) c.requires.waits c.requires.ready.takes in
+    let (some, within, full, no_stop) = c.in-TooLong.ensures.map in
+    let taken : length (take n rest) ≡ n = length-take-le n rest within in
+    let sum : length (front ++ take n rest) ≡ length front + length (take n rest) = length-append front (take n rest) in
+    let all : length (front ++ take n rest) ≡ map_limit = omega (arith, taken, sum, full) in
+    let k = segment_judged set l d m.counted m.cursor width in
+    let r : Reader Dictionary = reader_of l.strict (segment_behind set (bounds l) d m.counted m.cursor width) in
+    let same : r ≡ entity_then L3 map_limit k = segment-reader set l d m.counted m.cursor width in
+    taken_reported g.S.Sink.takes g.S.Sink.stops (tree_in set) l rest c.args.sink.now c.args.sink.now c.wrong.ensures.bytes c.wrong.ensures.outcome
+    (taken_as g.S.Sink.takes g.S.Sink.stops (tree_in set) l rest c.args.sink.now n _ c.args.sink.now
+    (ap (λ (w : Waiting). meaning_at w set l m) c.requires.waits) refl
+    (taken_full g.S.Sink.takes g.S.Sink.stops (tree_in set) l L3 map_limit k (after_bytes r front) front rest (due-entity (tree_in set) l L3 map_limit k r front same no_stop_yet room) n c.args.sink.now _ some within no_stop all))
+
+pub returns-in-Whole-clause-taken : goal.returns-in-Whole-clause-taken
+returns-in-Whole-clause-taken g c =
+    let m : Machine = c.args.self.now in
+    let set = set_of c.args.templates.now in
+    let l = c.args.limits in
+    let d = slots_dictionary m.slots in
+    let width = c.args.width in
+    let front : List ℕ = m.cursor.map in
+    let rest : List ℕ = c.args.rest.now in
+    let n : ℕ = c.in-Whole.bytes in
+    let new : Machine = record m { cursor = c.take_map.new.self } in
+    let (no_stop_yet, room, unused, none, placed, wide) = subst (λ (w : Waiting). CanTake w set l m) c.requires.waits c.requires.ready.takes in
+    let (some, within, short, entity, bytes) = c.in-Whole.ensures.map in
+    let k = segment_judged set l d m.counted m.cursor width in
+    let r : Reader Dictionary = reader_of l.strict (segment_behind set (bounds l) d m.counted m.cursor width) in
+    let same : r ≡ entity_then L3 map_limit k = segment-reader set l d m.counted m.cursor width in
+    taken_as g.S.Sink.takes g.S.Sink.stops (tree_in set) l rest c.args.sink.now n c.segment_mapped-outcome.result c.segment_mapped-outcome.new.sink
+    (ap (λ (w : Waiting). meaning_at w set l m) c.requires.waits) refl
+    (taken_whole g.S.Sink.takes g.S.Sink.stops (tree_in set) l L3 map_limit k (after_bytes r front) front rest (due-entity (tree_in set) l L3 map_limit k r front same no_stop_yet room) n c.args.sink.now c.segment_mapped-outcome.result c.segment_mapped-outcome.new.sink _ some within entity short
+    (hands_as g.S.Sink.takes g.S.Sink.stops c.args.sink.now c.segment_mapped-outcome.result c.segment_mapped-outcome.new.sink _
+    (segment_same set l d m.counted m.cursor width new (front ++ take n rest) c.take_map.ensures.same none bytes refl refl)
+    c.segment_mapped-outcome.ensures.hands))
