@@ -6,6 +6,8 @@ mod sinks;
 mod texts;
 mod worked;
 
+ghost use Rattle.std.specs.Prelude.{◌<◌};
+
 use crate::{Decoder, Event, Fault, FaultCode, Sink, Stop};
 use fast_template::Templates;
 use fast_value::{Code, Limits, Scalar};
@@ -66,21 +68,21 @@ enum End {
 
 /// A stream, and what should come of it.
 #[derive(Clone, Copy, Debug)]
-struct Case {
+struct Case<'b> {
     shows: &'static str,
     limits: Limits,
-    bytes: &'static [u8],
+    bytes: &'b [u8],
     events: &'static [Due],
     end: End,
 }
 
-const fn row(
+const fn row<'b>(
     shows: &'static str,
     limits: Limits,
-    bytes: &'static [u8],
+    bytes: &'b [u8],
     events: &'static [Due],
     end: End,
-) -> Case {
+) -> Case<'b> {
     Case {
         shows,
         limits,
@@ -179,7 +181,7 @@ fn standing_of(decoder: &Decoder<'_>, answer: Result<(), Fault>) -> Standing {
 }
 
 /// What a decoder should say behind a row.
-fn due_of(row: Case) -> Standing {
+fn due_of(row: Case<'_>) -> Standing {
     match row.end {
         End::Wrong(code, place) => {
             let fault = Fault {
@@ -232,7 +234,7 @@ fn push_all<S: Sink>(decoder: &mut Decoder<'_>, bytes: &[u8], sink: &mut S) -> S
 }
 
 /// A row that is fed to a decoder, reset before each time: whole, in pieces, and byte after byte. No memory is taken.
-fn expect_row(rt: &impl Abort, decoder: &mut Decoder<'_>, row: Case) {
+fn expect_row(rt: &impl Abort, decoder: &mut Decoder<'_>, row: Case<'_>) {
     let due = due_of(row);
     for size in [1, 2, 3, 16, 17, 4096] {
         decoder.reset();
@@ -254,7 +256,7 @@ fn expect_row(rt: &impl Abort, decoder: &mut Decoder<'_>, row: Case) {
 }
 
 /// A row that is cut once, at each of its bytes.
-fn expect_row_cut(rt: &impl Abort, decoder: &mut Decoder<'_>, row: Case) {
+fn expect_row_cut(rt: &impl Abort, decoder: &mut Decoder<'_>, row: Case<'_>) {
     let due = due_of(row);
     for cut in 0..row.bytes.len() {
         decoder.reset();
@@ -269,7 +271,7 @@ fn expect_row_cut(rt: &impl Abort, decoder: &mut Decoder<'_>, row: Case) {
 }
 
 /// Each row comes of the template set with this text.
-fn expect_rows(rt: &impl Abort, alloc: Global, text: &str, rows: &[Case]) -> Result<(), Fail> {
+fn expect_rows(rt: &impl Abort, alloc: Global, text: &str, rows: &[Case<'_>]) -> Result<(), Fail> {
     let set = Templates::read(alloc, text)?;
     for row in rows {
         let mut decoder = Decoder::new(alloc, &set, row.limits)?;
