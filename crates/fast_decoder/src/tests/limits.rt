@@ -309,13 +309,14 @@ fn a_wide_segment(rt: HostRuntime) -> Result<(), Fail> {
 fn deep_text(alloc: Global) -> Result<String, AllocError> {
     let mut text = String::new(alloc);
     text.push_str("[[template]]\nname = 'G0'\nfields = [{kind='uInt32', name='x', op='copy'}]\n")?;
+    let mut before = 0;
     for k in 1..=64 {
-        let before = k - 1;
         let id = if k == 64 { "id = 1" } else { "" };
         let template = format!(in alloc;
             "[[template]]\nname = 'G{k}'\n{id}\nfields = [{{kind='group', name='g', fields=[{{kind='ref', name='G{before}'}}]}}, {{kind='uInt32', name='y', op='copy'}}]\n"
         )?;
         text.push_str(template.as_str())?;
+        before = k;
     }
     Ok(text)
 }

@@ -645,6 +645,20 @@ fn vectors(rt: HostRuntime) -> Result<(), Fail> {
             Wrong(Code::D2, 7),
         ),
         row(
+            "a delta whose part is no UTF-8 by itself",
+            LENIENT,
+            &[0xC0, 0x91, 0x80, 0x82, 0xC3, 0xA9, 0x80, 0x81, 0x81, 0xA8],
+            &[
+                Message(16),
+                Unicode(22, &[0xC3, 0xA9]),
+                EndMessage,
+                Message(16),
+                Unicode(22, &[0xC3, 0xA8]),
+                EndMessage,
+            ],
+            Between,
+        ),
+        row(
             "a delta that leaves no UTF-8",
             LENIENT,
             &[0xC0, 0x91, 0x80, 0x82, 0xC3, 0xA9, 0x80, 0x81, 0x80],
@@ -740,4 +754,50 @@ fn events_come_as_soon_as_they_are_decided(rt: HostRuntime) -> Result<(), Fail> 
     }
     assert!(rt; script.is_played() && decoder.between());
     Ok(())
+}
+
+/// Fields whose values need not be sent.
+const INITIAL: &str = r#"
+[[template]]
+name = "numbers"
+id = 1
+fields = [{kind="uInt32", name="c", optional=true, op="constant", value="7"}, {kind="int32", name="d", op="default", value="-3"}, {kind="uInt32", name="e", optional=true, op="default"}]
+[[template]]
+name = "texts"
+id = 2
+fields = [{kind="ascii", name="f", op="default", value="AB"}, {kind="bytes", name="g", op="constant", value="01FF"}]
+"#;
+
+#[test]
+fn initial_values(rt: HostRuntime) -> Result<(), Fail> {
+    let rows = [
+        row(
+            "a constant and defaults, and then values in their place",
+            STRICT,
+            &[0xE0, 0x81, 0x98, 0x82, 0x80],
+            &[
+                Message(0),
+                U(0, 7),
+                I(1, -3),
+                EndMessage,
+                Message(0),
+                I(1, 2),
+                EndMessage,
+            ],
+            Between,
+        ),
+        row(
+            "texts that are not sent",
+            STRICT,
+            &[0xC0, 0x82],
+            &[
+                Message(1),
+                Ascii(3, b"AB"),
+                Bytes(4, &[0x01, 0xFF]),
+                EndMessage,
+            ],
+            Between,
+        ),
+    ];
+    expect_rows(&rt, rt.alloc(), INITIAL, &rows)
 }
