@@ -28,3 +28,6 @@ pub use decoder::Decoder;
 pub use events::{Event, Sink, Stop};
 pub use faults::{Fault, FaultCode, MakeError};
 pub use recorder::{Recorded, Recorder};
+
+#[cfg(test)]
+mod tests;
