@@ -334,17 +334,19 @@ fn the_deepest_groups(rt: HostRuntime) -> Result<(), Fail> {
     for y in 0x81..=0xC0u8 {
         bytes.push(y)?;
     }
-    for size in [1, 4096] {
-        let mut decoder = Decoder::new(alloc, &set, STRICT)?;
-        let mut recorder = Recorder::new(alloc);
-        let heard = feed_pieces(&mut decoder, bytes.as_slice(), size, &mut recorder);
-        assert_eq!(rt; heard.answer, Ok(()));
-        assert!(rt; heard.between);
-        assert_eq!(rt; recorder.events().len(), 195);
-        for (i, event) in recorder.events().iter().enumerate() {
-            assert!(rt; is_due_in_deep(i, event), "event {i}");
-        }
+    let mut decoder = Decoder::new(alloc, &set, STRICT)?;
+    let mut recorder = Recorder::new(alloc);
+    let heard = feed_pieces(&mut decoder, bytes.as_slice(), 1, &mut recorder);
+    assert_eq!(rt; heard.answer, Ok(()));
+    assert!(rt; heard.between);
+    assert_eq!(rt; recorder.events().len(), 195);
+    for (i, event) in recorder.events().iter().enumerate() {
+        assert!(rt; is_due_in_deep(i, event), "event {i}");
     }
+    decoder.reset();
+    let mut whole = Recorder::new(alloc);
+    assert_eq!(rt; decoder.feed(bytes.as_slice(), &mut whole), Ok(()));
+    assert_eq!(rt; whole.events(), recorder.events());
     Ok(())
 }
 
