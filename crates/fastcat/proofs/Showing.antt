@@ -9,7 +9,7 @@ use Rattle.fast_decoder.specs.Events.{EventData}
 use Rattle.fast_decoder.specs.Decoding.{standing}
 use Rattle.fast_text.specs.Lines.{lines}
 use Rattle.fast_text.specs.Streams.{Appends}
-use Rattle.fast_text.proofs.Writing.{appends_both}
+use Rattle.fast_text.proofs.Writing.{appends_none, appends_both}
 use Rattle.fastcat.specs.declared.unhexer.Unhexer.{Unhexer}
 use Rattle.fastcat.specs.declared.show.Show.{Show}
 use Rattle.fastcat.specs.declared.faults.ShowEnd.{ShowEnd}
@@ -72,6 +72,10 @@ pub record Round (t : Tree) (l : Limits) (hex : Bool) (s : Show) (reads : ℕ) (
   pub written : Appends held holds (lines t events)
   pub many : reads ≤ length text
   pub few : length text ≤ 4096 * reads
+
+-- before the first read
+pub no_round : (t : Tree) (l : Limits) (hex : Bool) (s : Show) (left held : Option (List ℕ)) → Progress t l hex s [] [] [] → Round t l hex s 0 left left held held
+no_round t l hex s left held p = record { text = []; bytes = []; events = []; progress = p; read = read_none left; written = appends_none held; many = omega arith; few = omega arith }
 
 -- The run of the contract: what was read, what was written, and what this shows.
 abbrev pub Run : Tree → Limits → Bool → (MakeError → Type 0) → (AtEnd HasFailed : Type 0) → (List ℕ → Type 0) → (left_first left_now held holds : Option (List ℕ)) → Result ShowEnd RunFault → Type 0

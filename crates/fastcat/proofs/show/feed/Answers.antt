@@ -10,4 +10,4 @@ returns-clause-fed g c b es set so =
     let carried = c.feed.ensures.carried b es so in
     let same = fed_same_target g.T.Target.written g.T.Target.has_failed _ old.limits old c.feed.new.self b es c.args.bytes.now c.new-sink.result c.feed.new.sink c.feed.result names set refl c.requires carried ∙ c.new-sink.ensures.same_target in
     let part = λ (ended : g.row.T.Denot) (e : ended ≡ c.feed.new.sink.target.now). fed_by g.T.Target.written g.T.Target.has_failed c.args.writer.now ended (tree_of c.args.templates.now) old.limits old c.feed.new.self b es c.args.bytes.now c.new-sink.result c.feed.new.sink c.feed.result c.new-sink.ensures.as_it_is e names set refl c.requires carried in
-    search (rules, part, same)
+    part _ (search (rules, same))

@@ -3,13 +3,16 @@ use Rattle.std.specs.Prelude.{IsTrue, IfSome}
 use Rattle.fast_template.specs.Flat.{tree_of}
 use Rattle.fast_text.proofs.Writing.{appends_none}
 use Rattle.fastcat.specs.Showing.{IsRefusal}
-use Rattle.fastcat.proofs.Showing.{at_error, not_flushed, round_flushed, refusal_shown, read_none, still_at_end, reads_no_more, run_ended, round_counts, round_more, ended_there}
+use Rattle.fastcat.proofs.Showing.{at_error, not_flushed, round_flushed, refusal_shown, read_none, still_at_end, reads_no_more, no_round, run_ended, round_counts, round_more, ended_there}
 use Rattle.fastcat.proofs.show.run_show.Goals as goal
 
 pub returns-in-Err-clause-shown : goal.returns-in-Err-clause-shown
 returns-in-Err-clause-shown g c =
     let at = refusal_shown (tree_of c.args.templates.now) c.args.limits c.args.hex (IsRefusal c.args.templates.now c.args.limits) _ _ _ c.in-Err.error c.in-Err.ensures.refused in
     ([], [], read_none (g.S.Source.left c.args.reader.now), appends_none (g.T.Target.written c.args.writer.now), rw c.refusal.ensures at)
+
+pub loop-read-init : goal.loop-read-init
+loop-read-init g c = no_round (tree_of c.args.templates.now) c.args.limits c.args.hex c.in-Ok.show (g.S.Source.left c.args.reader.now) (g.T.Target.written c.args.writer.now) c.in-Ok.ensures.made
 
 pub returns-then-is_err-clause-shown : goal.returns-then-is_err-clause-shown
 returns-then-is_err-clause-shown g c =
