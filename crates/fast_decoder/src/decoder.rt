@@ -59,7 +59,7 @@ impl<'t> Decoder<'t> {
         ensures bad_limits { (result ≡ Err MakeError.BadLimits) ↔ (AreBadLimits limits) }
         ensures long_initial { (result ≡ Err MakeError.InitialTooLong) ↔ (¬ (AreBadLimits limits) × HasLongInitial limits.max_text (nodes_of templates.entry.now)) }
         ensures no_turn { IfOk result (λ d. turns d ≡ 0) }
-        // What it stores is at most the cap of the set.
+    // What it stores is at most the cap of the set.
     {
         if limits.max_text < MIN_TEXT || limits.max_text > MAX_TEXT {
             return Err(MakeError::BadLimits);

@@ -104,7 +104,7 @@ fn is_needed(operator: Operator, bit: bool) -> bool
 }
 
 /// What the field's entry holds. Without an entry it is undefined.
-#[inline]
+#[inline(always)]
 pub fn previous<'s>(slots: &'s Slots, field: &FieldInstruction) -> Previous<'s>
     requires within { (e : ℕ) → (field_data field.now).entry ≡ Some e → e < length (slots_dictionary slots.now) }
     ensures { previous_data result ≡ previous_at (field_data field.now).entry (slots_dictionary slots.now) }
@@ -153,7 +153,7 @@ pub fn keep(slots: &mut Slots, field: &FieldInstruction, number: Number) -> Sour
 }
 
 /// The number that the field's entry holds, if it is one of the field's own kind.
-#[inline]
+#[inline(always)]
 pub fn own_number(slots: &Slots, field: &FieldInstruction) -> Option<Number>
     requires within { (e : ℕ) → (field_data field.now).entry ≡ Some e → e < length (slots_dictionary slots.now) }
     ensures { IfSome result (λ n. previous_at (field_data field.now).entry (slots_dictionary slots.now) ≡ assigned field.now.kind (number_data n)) }
@@ -187,6 +187,7 @@ fn number_under(kind: Kind, entry: Entry) -> Option<Number>
 ///
 /// D4 if the previous value is of another type; of a mandatory field D5 if there is neither a previous nor an initial value,
 /// and D6 if the previous value is empty.
+#[inline(always)]
 pub fn unsent(slots: &mut Slots, field: &FieldInstruction, bit: bool) -> Result<Source, Code>
     requires serves { Serves (length (slots_dictionary slots.old)) (slots_terms slots.old) (field_data field.now) }
     requires no_bytes { needs_bytes field.now.operator bit ≡ false }
@@ -206,6 +207,7 @@ pub fn unsent(slots: &mut Slots, field: &FieldInstruction, bit: bool) -> Result<
 }
 
 /// Copy and tail: the previous value. Under an undefined entry the initial value, which the entry then holds.
+#[inline(always)]
 fn copied(slots: &mut Slots, field: &FieldInstruction) -> Result<Source, Code>
     requires serves { Serves (length (slots_dictionary slots.old)) (slots_terms slots.old) (field_data field.now) }
     requires operator { field.now.operator ≢ Operator.Increment }
@@ -288,7 +290,7 @@ fn absent(slots: &mut Slots, field: &FieldInstruction, fault: Code) -> Result<So
 }
 
 /// The value at a source, lent.
-#[inline]
+#[inline(always)]
 pub fn value_at<'x>(
     slots: &'x Slots,
     field: &'x FieldInstruction,

@@ -158,7 +158,7 @@ fn settled(answer: Result<Source, Code>, bytes: usize) -> Progress<Source>
 /// The one unit of an integer field that stands in the stream.
 ///
 /// Nothing changes before the unit is whole, but for the bytes in hand.
-#[inline]
+#[inline(always)]
 pub fn take_integer(
     slots: &mut Slots,
     pending: &mut Entity,
@@ -184,7 +184,7 @@ pub fn take_integer(
 }
 
 /// An integer, or NULL, under no delta.
-#[inline]
+#[inline(always)]
 fn take_integer_item(
     slots: &mut Slots,
     pending: &mut Entity,
@@ -235,7 +235,7 @@ fn mandatory_top(field: &FieldInstruction) -> Option<u64>
 }
 
 /// An unsigned number that is mandatory, under no delta.
-#[inline]
+#[inline(always)]
 fn take_unsigned(
     slots: &mut Slots,
     pending: &mut Entity,
@@ -270,7 +270,7 @@ fn take_unsigned(
 }
 
 /// The delta of an integer, or NULL, which leaves the entry as it is and does not look at it.
-#[inline]
+#[inline(always)]
 fn take_integer_delta(
     slots: &mut Slots,
     pending: &mut Entity,

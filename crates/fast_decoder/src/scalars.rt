@@ -29,7 +29,7 @@ use fast_value::{Kind, Limits};
 use fast_wire::Entity;
 
 /// The first unit of a field that begins with an integer.
-#[inline]
+#[inline(always)]
 pub fn take_first(
     slots: &mut Slots,
     pending: &mut Entity,

@@ -69,7 +69,7 @@ impl<'t> Machine<'t> {
     }
 
     /// Goes past the next instruction, whose field has a value now or none, and hands the value over.
-    #[inline]
+    #[inline(always)]
     pub fn finish<S: Sink>(
         &mut self,
         node: u32,
@@ -494,7 +494,7 @@ impl<'t> Machine<'t> {
     }
 
     /// What is next needs no byte, or the machine waits.
-    #[inline]
+    #[inline(always)]
     fn turn<S: Sink>(
         &mut self,
         templates: &'t Templates,

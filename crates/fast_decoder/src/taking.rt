@@ -360,6 +360,7 @@ impl<'t> Machine<'t> {
     }
 
     /// Takes bytes of the first unit of the next instruction, an integer.
+    #[inline(always)]
     fn take_instruction<S: Sink>(
         &mut self,
         templates: &'t Templates,
@@ -608,7 +609,7 @@ impl<'t> Machine<'t> {
     }
 
     /// What a unit of the next instruction, a field, has come to.
-    #[inline]
+    #[inline(always)]
     fn scalar_taken<S: Sink>(
         &mut self,
         templates: &'t Templates,
@@ -641,7 +642,7 @@ impl<'t> Machine<'t> {
     }
 
     /// A unit of the next instruction, a field, is whole.
-    #[inline]
+    #[inline(always)]
     fn step_on<S: Sink>(
         &mut self,
         templates: &'t Templates,
@@ -694,7 +695,7 @@ impl<'t> Machine<'t> {
     }
 
     /// Goes on behind a turn.
-    #[inline]
+    #[inline(always)]
     fn go_on<S: Sink>(
         &mut self,
         templates: &'t Templates,

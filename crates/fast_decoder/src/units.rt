@@ -35,7 +35,7 @@ pub enum IntegerRange {
 
 /// The integer, or NULL where it may be, that begins with the bytes in hand and goes on with the rest. An integer outside the
 /// range is the fault that is named.
-#[inline]
+#[inline(always)]
 pub fn next_integer(
     pending: &mut Entity,
     rest: &[u8],
@@ -63,7 +63,7 @@ pub fn next_integer(
 }
 
 /// The mandatory integer from 0 to `top` that begins with the bytes in hand and goes on with the rest.
-#[inline]
+#[inline(always)]
 pub fn next_unsigned(pending: &mut Entity, rest: &[u8], strict: bool, top: u64) -> Progress<u64>
     requires open { HaveNoStop pending.old }
     requires short { length pending.old < 10 }
