@@ -59,7 +59,8 @@ impl<'t> Decoder<'t> {
         ensures bad_limits { (result ≡ Err MakeError.BadLimits) ↔ (AreBadLimits limits) }
         ensures long_initial { (result ≡ Err MakeError.InitialTooLong) ↔ (¬ (AreBadLimits limits) × HasLongInitial limits.max_text (nodes_of templates.entry.now)) }
         ensures no_turn { IfOk result (λ d. turns d ≡ 0) }
-    // What it stores is at most the cap of the set.
+        // What it stores is at most the cap of the set.
+        ensures bounded { IfOk result (λ d. held (stored d) ≤ stored_cap (tree d) d.limits) }
     {
         if limits.max_text < MIN_TEXT || limits.max_text > MAX_TEXT {
             return Err(MakeError::BadLimits);
@@ -91,6 +92,7 @@ impl<'t> Decoder<'t> {
         ensures stopped { IsSome self.old.fault → (standing self.new ≡ standing self.old) × (sink.new ≡ sink.old) }
         // L4 comes exactly where the bytes can no longer be counted.
         ensures counted { self.old.fault ≡ None → (IsUncounted result ↔ (2 ^ 64 ≤ self.old.consumed + length piece.now)) }
+        ensures bounded { held (stored self.new) ≤ stored_cap (tree self.new) self.new.limits }
     {
         self.machine.begin_turns();
         if let Some(fault) = self.fault {
@@ -128,6 +130,7 @@ impl<'t> Decoder<'t> {
         ensures same_set { (tree self.new ≡ tree self.old) × (self.new.limits ≡ self.old.limits) }
         ensures stopped { IsSome self.old.fault → (standing self.new ≡ standing self.old) × (sink.new ≡ sink.old) }
         ensures counted { self.old.fault ≡ None → (IsUncounted result ↔ (2 ^ 64 ≤ self.old.consumed + 1)) }
+        ensures bounded { held (stored self.new) ≤ stored_cap (tree self.new) self.new.limits }
     {
         self.feed(&[byte], sink)
     }
@@ -136,6 +139,7 @@ impl<'t> Decoder<'t> {
     pub fn reset(&mut self)
         ensures so { So self.new [] [] }
         ensures no_turn { turns self.new ≡ 0 }
+        ensures bounded { held (stored self.new) ≤ stored_cap (tree self.new) self.new.limits }
         ensures same_set { (tree self.new ≡ tree self.old) × (self.new.limits ≡ self.old.limits) }
     {
         self.machine.reset();

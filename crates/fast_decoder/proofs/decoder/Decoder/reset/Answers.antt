@@ -2,6 +2,7 @@ use Rattle.std.proofs.Common.{refl}
 use Rattle.std.specs.Prelude.{None}
 use Rattle.fast_decoder.specs.Positions.{set_of, IsSupplied, IsFresh}
 use Rattle.fast_decoder.specs.Decoding.{DecoderData}
+use Rattle.fast_decoder.proofs.Bounds.{stored-bound}
 use Rattle.fast_decoder.proofs.Starts.{sound_fresh, so_fresh}
 use Rattle.fast_decoder.proofs.decoder.Decoder.reset.Goals as goal
 
@@ -23,3 +24,6 @@ returns-clause-so c = so_fresh (made c) c.self.invariant.later (supplied c) (fre
 
 pub returns-clause-no_turn : goal.returns-clause-no_turn
 returns-clause-no_turn c = (fresh c).turns
+
+pub returns-clause-bounded : goal.returns-clause-bounded
+returns-clause-bounded c = stored-bound (set_of c.self.inside.templates.now) c.self.inside.limits c.reset.new.self (supplied c)
