@@ -50,6 +50,7 @@ slots_bounded s = let e : length (slots_dictionary s) ≡ length s.entries.items
 -- it has as many entries as it was made for
 pub slots_sized : (s : Slots) → length (slots_dictionary s) ≡ (slots_terms s).entries
 slots_sized s = length-entries s.block.items s.places.items s.entries.items
+
 -- each by its slot
 pub get-entries : (b : List ℕ) (ps : List (Option ℕ)) (es : List Entry) (i : ℕ) → slice_index_or (entries_data b ps es) i undefined ≡ entry_data b (slice_index_or ps i None) (slice_index_or es i Undefined)
 get-entries b [] [] i = refl
