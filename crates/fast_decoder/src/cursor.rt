@@ -159,7 +159,7 @@ impl<'t> Cursor<'t> {
     }
 
     /// The next bit of the innermost segment. Behind the last one stand zeros for ever.
-    #[inline]
+    #[inline(always)]
     pub fn bit(&self) -> bool
         ensures { result ≡ first_bit (bits_left self.now) }
     {
@@ -207,6 +207,7 @@ impl<'t> Cursor<'t> {
     }
 
     /// An element begins, behind which come others, and then what is left of the innermost segment.
+    #[inline(always)]
     pub fn open_element(&mut self, elements: Elements<'t>)
         requires room { length self.old.frames < self.old.depth }
         ensures { self.new ≡ entered self.old (Some (elements_data elements.entry)) elements.entry.body.now }
@@ -215,6 +216,7 @@ impl<'t> Cursor<'t> {
     }
 
     /// A segment begins.
+    #[inline(always)]
     fn enter(&mut self, elements: Option<Elements<'t>>, body: &'t [u32])
         requires room { length self.old.frames < self.old.depth }
         ensures { self.new ≡ entered self.old (option_map elements_data elements.entry) body.entry.now }
@@ -239,6 +241,7 @@ impl<'t> Cursor<'t> {
     }
 
     /// The innermost segment is whole, and the one around it goes on. The answer is what is still to come of a sequence.
+    #[inline(always)]
     pub fn close(&mut self) -> Option<Elements<'t>>
         requires inner { 0 < length self.old.frames }
         ensures { (f : FrameData) (fs : List FrameData) → self.old.frames ≡ f ∷ fs

@@ -116,7 +116,7 @@ pub fn previous<'s>(slots: &'s Slots, field: &FieldInstruction) -> Previous<'s>
 }
 
 /// Assigns a value to the field's entry, if it has one. It wants no memory.
-#[inline]
+#[inline(always)]
 pub fn assign(slots: &mut Slots, field: &FieldInstruction, value: Scalar<'_>)
     requires within { (e : ℕ) → (field_data field.now).entry ≡ Some e → e < length (slots_dictionary slots.old) }
     requires room { (e : ℕ) → (field_data field.now).entry ≡ Some e → IsStorable (slots_terms slots.old) e (scalar_data value) }
@@ -141,7 +141,7 @@ pub fn assign_empty(slots: &mut Slots, field: &FieldInstruction)
 }
 
 /// Keeps a number at the field's entry, if it has one, and says where it stands.
-#[inline]
+#[inline(always)]
 pub fn keep(slots: &mut Slots, field: &FieldInstruction, number: Number) -> Source
     requires within { (e : ℕ) → (field_data field.now).entry ≡ Some e → e < length (slots_dictionary slots.old) }
     ensures value { (d : Dictionary) (scratch piece : List ℕ) → value_at result (field_data field.now) d scratch piece ≡ Some (number_data number) }
@@ -165,7 +165,7 @@ pub fn own_number(slots: &Slots, field: &FieldInstruction) -> Option<Number>
 }
 
 /// The number of an entry under this kind.
-#[inline]
+#[inline(always)]
 fn number_under(kind: Kind, entry: Entry) -> Option<Number>
     ensures { IfSome result (λ n. (text : List ℕ) → with_text entry text ≡ assigned kind (number_data n)) }
 {
@@ -228,6 +228,7 @@ fn copied(slots: &mut Slots, field: &FieldInstruction) -> Result<Source, Code>
 
 /// Increment: one more than the previous value, and behind the greatest of the type the least. Under an undefined entry
 /// the initial value. The entry then holds the value.
+#[inline(always)]
 fn incremented(slots: &mut Slots, field: &FieldInstruction) -> Result<Source, Code>
     requires serves { Serves (length (slots_dictionary slots.old)) (slots_terms slots.old) (field_data field.now) }
     requires operator { field.now.operator ≡ Operator.Increment }

@@ -57,7 +57,7 @@ fn range_on_wire(kind: Kind) -> IntegerRange
 
 /// A number that is sent, or NULL, without an operator and under default, copy and increment: copy and increment keep it at the
 /// field's entry, the others have none.
-#[inline]
+#[inline(always)]
 fn received(slots: &mut Slots, field: &FieldInstruction, item: Option<Number>) -> Source
     requires serves { Serves (length (slots_dictionary slots.old)) (slots_terms slots.old) (field_data field.now) }
     requires numbers { family field.now.kind ≢ texts }
@@ -77,7 +77,7 @@ fn received(slots: &mut Slots, field: &FieldInstruction, item: Option<Number>) -
 }
 
 /// The integer that a delta is added to.
-#[inline]
+#[inline(always)]
 fn base_integer(slots: &Slots, field: &FieldInstruction) -> Result<i128, Code>
     requires within { (e : ℕ) → (field_data field.now).entry ≡ Some e → e < length (slots_dictionary slots.now) }
     ensures { result ≡ base_integer (field_data field.now) (previous_at (field_data field.now).entry (slots_dictionary slots.now)) }
@@ -89,7 +89,7 @@ fn base_integer(slots: &Slots, field: &FieldInstruction) -> Result<i128, Code>
 }
 
 /// An integer behind its delta, which the entry then holds.
-#[inline]
+#[inline(always)]
 fn change_integer(slots: &mut Slots, field: &FieldInstruction, delta: i128) -> Result<Source, Code>
     requires serves { Serves (length (slots_dictionary slots.old)) (slots_terms slots.old) (field_data field.now) }
     ensures decided { IsDecided (integer_step (field_data field.now) (previous_at (field_data field.now).entry (slots_dictionary slots.old)) delta)
@@ -145,7 +145,7 @@ fn exponent(exponent: i128) -> i32
 }
 
 /// What is decided behind so many bytes.
-#[inline]
+#[inline(always)]
 fn settled(answer: Result<Source, Code>, bytes: usize) -> Progress<Source>
     ensures { result ≡ progress_of answer bytes }
 {
@@ -299,6 +299,7 @@ fn take_integer_delta(
 
 /// The first unit of a decimal that stands in the stream: its exponent, or the delta of its exponent. Where there is none the
 /// decimal is absent.
+#[inline(always)]
 pub fn take_exponent(
     slots: &mut Slots,
     pending: &mut Entity,

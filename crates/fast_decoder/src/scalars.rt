@@ -2,9 +2,11 @@
 
 ghost use Rattle.std.specs.Prelude.{◌≡◌, ◌≢◌, ◌<◌, ◌≤◌, true, ℕ, List, [], ◌++◌, length};
 ghost use Rattle.fast_wire.specs.Entities.{HaveNoStop};
+ghost use Rattle.fast_value.specs.Kinds.{family, integers};
 ghost use Rattle.fast_value.specs.Limits.{bounds};
 ghost use Rattle.fast_template.specs.Flat.{field_data};
 ghost use Rattle.fast_dict.specs.Dictionary.{previous_at};
+ghost use Rattle.fast_dict.specs.Operators.{range_of};
 ghost use Rattle.fast_dict.specs.Slots.{slots_dictionary, slots_terms};
 ghost use Rattle.fast_decoder.specs.Fields.{field_term};
 ghost use Rattle.fast_decoder.specs.GrammarReaders.{reader_of};
@@ -27,6 +29,29 @@ use fast_dict::Slots;
 use fast_template::{FieldInstruction, Operator};
 use fast_value::{Kind, Limits};
 use fast_wire::Entity;
+
+/// The only unit of a field of integers.
+#[inline(always)]
+pub fn take_only(
+    slots: &mut Slots,
+    pending: &mut Entity,
+    field: &FieldInstruction,
+    rest: &[u8],
+    limits: Limits,
+) -> Progress<Step>
+    requires serves { Serves (length (slots_dictionary slots.old)) (slots_terms slots.old) (field_data field.now) }
+    requires open { HaveNoStop pending.old }
+    requires short { length pending.old < 10 }
+    requires integers { family field.now.kind ≡ integers (range_of field.now.kind) }
+    requires varies { field.now.operator ≢ Operator.Constant }
+    ensures unit { (scratch : List ℕ) → IsFieldUnit limits (reader_of limits.strict (field_term (bounds limits) (field_data field.now) (previous_at (field_data field.now).entry (slots_dictionary slots.old)) true))
+        (field_data field.now) pending.old rest.now (slots_dictionary slots.old) (slots_dictionary slots.new) scratch result }
+    ensures next { IsNextOf (bounds limits) (field_data field.now) (previous_at (field_data field.now).entry (slots_dictionary slots.old)) result }
+    ensures pending { IsEntityKept pending.old rest.now pending.new result }
+    ensures terms { slots_terms slots.new ≡ slots_terms slots.old }
+{
+    settled(take_integer(slots, pending, field, rest, limits.strict))
+}
 
 /// The first unit of a field that begins with an integer.
 #[inline(always)]
@@ -56,7 +81,7 @@ pub fn take_first(
 {
     match field.kind {
         Kind::UInt32 | Kind::Int32 | Kind::UInt64 | Kind::Int64 => {
-            settled(take_integer(slots, pending, field, rest, limits.strict))
+            take_only(slots, pending, field, rest, limits)
         }
         Kind::Decimal => take_exponent(slots, pending, field, rest, limits),
         Kind::Ascii | Kind::Unicode | Kind::Bytes => match field.operator {
@@ -70,6 +95,7 @@ pub fn take_first(
 }
 
 /// The ASCII text of a field, which is its only unit.
+#[inline(always)]
 pub fn take_first_text(
     slots: &mut Slots,
     scratch: &mut Scratch,
@@ -97,6 +123,7 @@ pub fn take_first_text(
 }
 
 /// A later unit, which is an integer.
+#[inline(always)]
 pub fn take_number(
     slots: &mut Slots,
     pending: &mut Entity,
@@ -193,7 +220,7 @@ pub fn take_bytes(
 }
 
 /// A unit that was the field's last.
-#[inline]
+#[inline(always)]
 fn settled(progress: Progress<Source>) -> Progress<Step>
     ensures { result ≡ settled progress }
 {

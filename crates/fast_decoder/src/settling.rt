@@ -60,7 +60,7 @@ pub fn hand<S: Sink>(sink: &mut S, event: Event<'_>) -> Result<(), FaultCode>
 
 impl<'t> Machine<'t> {
     /// The bit of a field: set, if it uses none.
-    #[inline]
+    #[inline(always)]
     pub fn presence(&self, field: &FieldInstruction) -> bool
         requires { IsMapWhole self.now.cursor.map }
         ensures { (d : Dictionary) (n : ℕ) → result ≡ bit_of (field_data field.now) (state_in d n self.now.cursor) }
@@ -104,7 +104,7 @@ impl<'t> Machine<'t> {
     }
 
     /// A field is next: the machine waits for its first unit, or nothing is sent of it.
-    #[inline]
+    #[inline(always)]
     fn begin_field<S: Sink>(
         &mut self,
         templates: &'t Templates,
@@ -147,7 +147,7 @@ impl<'t> Machine<'t> {
     }
 
     /// The value of a field, lent.
-    #[inline]
+    #[inline(always)]
     pub fn value_of<'x>(&'x self, field: &'x FieldInstruction, source: Source) -> Option<Scalar<'x>>
         requires entry { (e : ℕ) → (field_data field.now).entry ≡ Some e → e < length (slots_dictionary self.now.slots) }
         ensures { option_map scalar_data result ≡ value_at source (field_data field.now) (slots_dictionary self.now.slots) self.now.text.text [] }
@@ -156,7 +156,7 @@ impl<'t> Machine<'t> {
     }
 
     /// The integer that is a field's value, if it has one.
-    #[inline]
+    #[inline(always)]
     pub fn integer_at(&self, field: &FieldInstruction, source: Source) -> Option<i128>
         requires entry { (e : ℕ) → (field_data field.now).entry ≡ Some e → e < length (slots_dictionary self.now.slots) }
         ensures { result ≡ option_map integer_of (value_at source (field_data field.now) (slots_dictionary self.now.slots) self.now.text.text []) }
@@ -179,6 +179,7 @@ impl<'t> Machine<'t> {
     }
 
     /// A decimal by parts is next: the machine waits for its exponent, or nothing is sent of the exponent.
+    #[inline(always)]
     fn begin_decimal<S: Sink>(
         &mut self,
         templates: &'t Templates,
@@ -209,6 +210,7 @@ impl<'t> Machine<'t> {
     }
 
     /// The exponent of the next decimal by parts is known. Without one there is no mantissa either.
+    #[inline(always)]
     pub fn exponent_known<S: Sink>(
         &mut self,
         templates: &'t Templates,
@@ -243,6 +245,7 @@ impl<'t> Machine<'t> {
     }
 
     /// The exponent of the next decimal by parts is known and there: the machine waits for the mantissa, or nothing is sent of it.
+    #[inline(always)]
     fn begin_mantissa<S: Sink>(
         &mut self,
         templates: &'t Templates,
@@ -272,6 +275,7 @@ impl<'t> Machine<'t> {
     }
 
     /// Goes past the next decimal by parts, whose mantissa is known, and hands the decimal over.
+    #[inline(always)]
     pub fn finish_decimal<S: Sink>(
         &mut self,
         node: u32,
@@ -310,6 +314,7 @@ impl<'t> Machine<'t> {
     }
 
     /// A group is next, which may be absent.
+    #[inline(always)]
     fn begin_group<S: Sink>(
         &mut self,
         templates: &'t Templates,
@@ -343,6 +348,7 @@ impl<'t> Machine<'t> {
     }
 
     /// The segment of a group or an element begins, with its map if its instructions use any bits.
+    #[inline(always)]
     fn open_segment(&mut self, width: usize) -> Turn
         requires map { self.old.cursor.map ≡ [] }
         ensures waits { 0 < width → (result ≡ Turn.Waits) × (self.new ≡ record self.old { waiting = Waiting.SegmentMap width }) }
@@ -356,6 +362,7 @@ impl<'t> Machine<'t> {
     }
 
     /// A sequence is next: the machine waits for its length, or nothing is sent of the length.
+    #[inline(always)]
     fn begin_sequence<S: Sink>(
         &mut self,
         templates: &'t Templates,
@@ -386,6 +393,7 @@ impl<'t> Machine<'t> {
     }
 
     /// The length of the next sequence is known. Without one there is no sequence.
+    #[inline(always)]
     pub fn length_known<S: Sink>(
         &mut self,
         templates: &'t Templates,
@@ -425,6 +433,7 @@ impl<'t> Machine<'t> {
     }
 
     /// So many elements of a sequence are still to come: the next one begins, or the sequence is whole.
+    #[inline(always)]
     fn next_element<S: Sink>(
         &mut self,
         templates: &'t Templates,
@@ -457,6 +466,7 @@ impl<'t> Machine<'t> {
     }
 
     /// The innermost segment is whole: a group, an element or the message.
+    #[inline(always)]
     fn close<S: Sink>(
         &mut self,
         templates: &'t Templates,
@@ -544,6 +554,31 @@ impl<'t> Machine<'t> {
                 }
             }
         }
+    }
+
+    /// All that needs no further byte. Where the next instruction is a field that waits for an integer, that is one turn, taken here.
+    #[inline(always)]
+    pub fn settle_on<S: Sink>(
+        &mut self,
+        templates: &'t Templates,
+        limits: Limits,
+        sink: &mut S,
+    ) -> Result<(), FaultCode>
+        requires turn { CanTurn (set_of templates.now) limits self.old }
+        ensures hands { Hands S.takes S.stops (turning (set_of templates.now) limits self.old) sink.old result sink.new (meaning (set_of templates.now) limits self.new) }
+        ensures ready { OnOk result (IsReady (set_of templates.now) limits self.new) }
+        ensures supplied { IsSupplied (set_of templates.now) limits self.new }
+    {
+        if let Some(number) = self.cursor.next() {
+            if let Shape::Field(field) = &templates.node(number).shape {
+                if field.kind != Kind::Ascii && needs_bytes(field, self.presence(field)) {
+                    self.turns = Turns::after(&self.turns);
+                    self.waiting = Waiting::Field;
+                    return Ok(());
+                }
+            }
+        }
+        self.settle(templates, limits, sink)
     }
 }
 

@@ -50,6 +50,7 @@ pub fn finish_absent(slots: &mut Slots, field: &FieldInstruction) -> Source
 }
 
 /// The text is the field's value, which its entry then holds.
+#[inline(always)]
 fn keep(slots: &mut Slots, field: &FieldInstruction, text: &[u8]) -> Result<Source, Code>
     requires serves { Serves (length (slots_dictionary slots.old)) (slots_terms slots.old) (field_data field.now) }
     requires text { family field.now.kind ≡ texts }

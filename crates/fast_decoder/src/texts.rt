@@ -47,7 +47,7 @@ fn answered<T>(answer: Result<T, Code>, bytes: usize) -> Progress<T>
 }
 
 /// The last answer of a field as that of a unit.
-#[inline]
+#[inline(always)]
 fn settled(answer: Result<Source, Code>) -> Result<Step, Code>
     ensures { result ≡ settled answer }
 {

@@ -85,7 +85,7 @@ pub fn next_unsigned(pending: &mut Entity, rest: &[u8], strict: bool, top: u64) 
 
 /// The ASCII text of at most `room` characters, or NULL where it may be, that begins with the bytes in the scratch and goes on
 /// with the rest. A text that is whole stands in the scratch: then the answer is `true`, and `false` for NULL.
-#[inline]
+#[inline(always)]
 pub fn next_ascii(scratch: &mut Scratch, rest: &[u8], room: usize, nullable: bool) -> Progress<bool>
     requires open { ascii_phrase nullable room scratch.old.text [] cut }
     requires fits { room ≤ scratch.old.capacity }
@@ -139,7 +139,7 @@ pub fn next_raw(scratch: &mut Scratch, rest: &[u8], size: usize) -> Progress<Run
 }
 
 /// The first entity as an integer in the range, or NULL where it may be.
-#[inline]
+#[inline(always)]
 fn first_integer(
     bytes: &[u8],
     strict: bool,

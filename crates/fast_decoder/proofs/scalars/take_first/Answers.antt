@@ -7,12 +7,12 @@ use Rattle.fast_dict.specs.Slots.{slots_dictionary}
 use Rattle.fast_decoder.specs.Fields.{field_term}
 use Rattle.fast_decoder.specs.GrammarReaders.{reader_of}
 use Rattle.fast_decoder.specs.Stages.{IsFieldUnit}
-use Rattle.fast_decoder.proofs.ScalarTakes.{unit_settled, next_of_decimal, next_of_text, kept_entity}
+use Rattle.fast_decoder.proofs.ScalarTakes.{next_of_decimal, next_of_text, kept_entity}
 use Rattle.fast_decoder.proofs.scalars.take_first.Goals as goal
 
 pub returns-in-UInt32-clause-unit : goal.returns-in-UInt32-clause-unit
 returns-in-UInt32-clause-unit c =
-    unit_settled _ _ _ _ _ _ _ _ c.take_integer.result c.settled.result c.settled.ensures (c.take_integer.ensures.unit (bounds c.args.limits) c.args.scratch.now.text)
+    c.take_only.ensures.unit c.args.scratch.now.text
 
 pub returns-in-Decimal-clause-unit : goal.returns-in-Decimal-clause-unit
 returns-in-Decimal-clause-unit c = c.take_exponent.ensures.unit c.args.scratch.now.text
