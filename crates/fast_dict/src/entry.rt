@@ -48,7 +48,7 @@ pub enum Entry {
 
 impl Entry {
     /// The entry of a value under a kind, without the bytes of a text.
-    #[inline]
+    #[inline(always)]
     pub fn of(kind: Kind, scalar: Scalar<'_>) -> Entry
         ensures value { with_text result (text_of (scalar_data scalar.entry)) ≡ assigned kind (scalar_data scalar.entry) }
         ensures size { text_length result ≡ length (text_of (scalar_data scalar.entry)) }

@@ -83,7 +83,7 @@ impl Slots {
     }
 
     /// What the entry holds.
-    #[inline]
+    #[inline(always)]
     fn previous(&self, entry: usize) -> Previous<'_>
         requires { entry < vec_len self.now.entries }
         ensures { previous_data result ≡ entry_data self.now.block.items (slice_index_or self.now.places.items entry None)
@@ -151,6 +151,7 @@ impl Slots {
     }
 
     /// Writes a text into the slot of an entry.
+    #[inline(always)]
     fn write_text(&mut self, entry: usize, text: &[u8])
         requires there { entry < vec_len self.old.entries }
         requires fits { length text.now ≤ self.old.max_text }
@@ -204,12 +205,12 @@ impl Store for Slots {
         false
     }
 
-    #[inline]
+    #[inline(always)]
     fn get(&self, entry: usize) -> Previous<'_> {
         self.previous(entry)
     }
 
-    #[inline]
+    #[inline(always)]
     fn set(&mut self, entry: usize, kind: Kind, scalar: Scalar<'_>) -> Result<(), AllocError> {
         self.write_text(entry, bytes_of(scalar));
         self.put(entry, Entry::of(kind, scalar));
@@ -233,7 +234,7 @@ impl Store for Slots {
 }
 
 /// The bytes of a text, none of a number.
-#[inline]
+#[inline(always)]
 fn bytes_of(scalar: Scalar<'_>) -> &[u8]
     ensures { result.now ≡ text_of (scalar_data scalar.entry) }
 {

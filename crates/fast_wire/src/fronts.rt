@@ -29,7 +29,7 @@ pub enum First<T> {
 }
 
 /// The first entity as a mandatory integer from 0 to `top`.
-#[inline]
+#[inline(always)]
 pub fn first_unsigned(bytes: &[u8], strict: bool, top: u64) -> First<u64>
     ensures { IsFirstInt (λ x. Some (pos x)) strict (unsigned_up_to top) false result bytes.now }
 {
@@ -40,7 +40,7 @@ pub fn first_unsigned(bytes: &[u8], strict: bool, top: u64) -> First<u64>
 }
 
 /// The first entity as a nullable integer from 0 to `top`: `None` is NULL.
-#[inline]
+#[inline(always)]
 pub fn first_nullable_unsigned(bytes: &[u8], strict: bool, top: u64) -> First<Option<u64>>
     ensures { IsFirstInt (λ x. option_map pos x) strict (unsigned_up_to top) true result bytes.now }
 {
@@ -51,7 +51,7 @@ pub fn first_nullable_unsigned(bytes: &[u8], strict: bool, top: u64) -> First<Op
 }
 
 /// The first entity as a mandatory integer in two's complement, from `low` to `top`.
-#[inline]
+#[inline(always)]
 pub fn first_signed(bytes: &[u8], strict: bool, low: i128, top: i128) -> First<i128>
     ensures { IsFirstInt (λ x. Some x) strict (signed_between low top) false result bytes.now }
 {
@@ -65,7 +65,7 @@ pub fn first_signed(bytes: &[u8], strict: bool, low: i128, top: i128) -> First<i
 }
 
 /// The first entity as a nullable integer in two's complement, from `low` to `top`: `None` is NULL.
-#[inline]
+#[inline(always)]
 pub fn first_nullable_signed(
     bytes: &[u8],
     strict: bool,
@@ -84,7 +84,7 @@ pub fn first_nullable_signed(
 }
 
 /// `first_unsigned` of a short entity, its number and length known.
-#[inline]
+#[inline(always)]
 fn front_unsigned(bytes: &[u8], sum: u64, len: usize, strict: bool, top: u64) -> First<u64>
     requires { IsShortEntity sum len bytes.now }
     ensures { IsFirstInt (λ x. Some (pos x)) strict (unsigned_up_to top) false result bytes.now }
@@ -94,7 +94,7 @@ fn front_unsigned(bytes: &[u8], sum: u64, len: usize, strict: bool, top: u64) ->
 }
 
 /// `first_nullable_unsigned` of a short entity, its number and length known.
-#[inline]
+#[inline(always)]
 fn front_nullable_unsigned(
     bytes: &[u8],
     sum: u64,
@@ -113,7 +113,7 @@ fn front_nullable_unsigned(
 }
 
 /// `first_signed` of a short entity, its number and length known.
-#[inline]
+#[inline(always)]
 fn front_signed(
     bytes: &[u8],
     sum: u64,
@@ -133,7 +133,7 @@ fn front_signed(
 }
 
 /// `first_nullable_signed` of a short entity, its number and length known.
-#[inline]
+#[inline(always)]
 fn front_nullable_signed(
     bytes: &[u8],
     sum: u64,
