@@ -22,7 +22,8 @@ use Rattle.fast_decoder.specs.Readers.{AreBytes}
 use Rattle.fast_decoder.specs.Running.{Stands, at_fault, run, message_begun, reading, end_of}
 use Rattle.fast_decoder.specs.Positions.{Set, meaning, meaning_at, IsSupplied, IsReady}
 use Rattle.fast_decoder.specs.Handing.{stood, Took, Failed, Stopped, Fed}
-use Rattle.fast_decoder.specs.Decoding.{DecoderData, tree, IsSoundAt, IsFaultAt, IsAt, So, Carries, SinkEnds, CarriesAt}
+use Rattle.fast_decoder.specs.TurnsLeft.{IsWithinMessage}
+use Rattle.fast_decoder.specs.Decoding.{DecoderData, tree, IsSoundAt, IsPaidAt, IsFaultAt, IsAt, So, Carries, SinkEnds, CarriesAt}
 use Rattle.fast_decoder.proofs.Binds.{All-front}
 use Rattle.fast_decoder.proofs.Streams.{at-fault}
 use Rattle.fast_decoder.proofs.Reading.{reading-append, reading-sound}
@@ -100,9 +101,9 @@ front_of w u b h =
 module _ {S : Type 0} (takes stops : S → EventData → S → Type 0) where
   -- All of the piece was taken.
   pub carry_ok : (d : DecoderData) (m m' : Machine) (k : ℕ) (f : Option Fault) (w : List ℕ) (es : List EventData) (piece : List ℕ) (s s' : S) → d.fault ≡ None → f ≡ None → k ≡ length piece
-      → meaning d.set d.limits m ≡ meaning d.set d.limits d.machine → AreBytes piece → IsReady d.set d.limits m' → IsSupplied d.set d.limits m'
+      → meaning d.set d.limits m ≡ meaning d.set d.limits d.machine → AreBytes piece → IsReady d.set d.limits m' → IsSupplied d.set d.limits m' → IsWithinMessage d.set d.limits m'
       → Took takes (tree d) d.limits (stood (meaning d.set d.limits m)) piece s s' (stood (meaning d.set d.limits m')) → So d w es → Carries takes w es piece s (fed_data d m' k f) s'
-  carry_ok d m m' k f w es piece s s' none still all same bytes ready supplied took so =
+  carry_ok d m m' k f w es piece s s' none still all same bytes ready supplied within took so =
       let at = running d w es so none in
       let start : stood (meaning d.set d.limits m) ≡ so.stands = ap stood same ∙ sym at.0 in
       let led : run (message_begun (tree d) d.limits) (length w) so.stands piece ≡ (took.events, stood (meaning d.set d.limits m'))
@@ -110,7 +111,7 @@ module _ {S : Type 0} (takes stops : S → EventData → S → Type 0) where
       record {
         more = took.events;
         so = record {
-          sound = record { later = so.sound.later; supplied = supplied; at = subst (λ (g : Option Fault). IsSoundAt g d.set d.limits m' (d.consumed + k)) (sym still) ready };
+          sound = record { later = so.sound.later; supplied = supplied; at = subst (λ (g : Option Fault). IsSoundAt g d.set d.limits m' (d.consumed + k)) (sym still) ready; paid = subst (λ (g : Option Fault). IsPaidAt g d.set d.limits m') (sym still) within };
           bytes = both_bytes w piece so.bytes bytes;
           stands = stood (meaning d.set d.limits m');
           read = read_behind d w piece es so.stands so.read ∙ ap (λ (x : List EventData × Stands Dictionary). (es ++ x.0, x.1)) led;
@@ -139,7 +140,7 @@ module _ {S : Type 0} (takes stops : S → EventData → S → Type 0) where
       record {
         more = failed.events;
         so = record {
-          sound = record { later = so.sound.later; supplied = supplied; at = refl };
+          sound = record { later = so.sound.later; supplied = supplied; at = refl; paid = tt };
           bytes = both_bytes w piece so.bytes bytes;
           stands = at_fault c (d.consumed + k);
           read = ap (reading (tree d) d.limits) split ∙ read_behind d (w ++ take k piece) (drop k piece) (es ++ failed.events) (at_fault c (d.consumed + k)) front
@@ -210,7 +211,7 @@ module _ {S : Type 0} (takes stops : S → EventData → S → Type 0) where
       record {
         more = [];
         so = record {
-          sound = record { later = so.sound.later; supplied = supplied; at = subst (λ (g : Option Fault). IsSoundAt g d.set d.limits m' d.consumed) (sym e) sound };
+          sound = record { later = so.sound.later; supplied = supplied; at = subst (λ (g : Option Fault). IsSoundAt g d.set d.limits m' d.consumed) (sym e) sound; paid = subst (λ (g : Option Fault). IsPaidAt g d.set d.limits m') (sym e) tt };
           bytes = both_bytes w piece so.bytes bytes;
           stands = at_fault c f.place;
           read = read_behind d w piece es so.stands so.read ∙ ap (λ (x : List EventData × Stands Dictionary). (es ++ x.0, x.1)) stays;

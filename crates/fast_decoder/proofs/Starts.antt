@@ -15,7 +15,8 @@ use Rattle.fast_decoder.specs.Readers.{Done}
 use Rattle.fast_decoder.specs.Running.{at_start}
 use Rattle.fast_decoder.specs.Handing.{stood}
 use Rattle.fast_decoder.specs.Positions.{Set, meaning, meaning_at, map_reader, CanTake, IsSupplied, IsReady, IsFresh}
-use Rattle.fast_decoder.specs.Decoding.{DecoderData, IsSoundAt, IsSound, IsAt, So}
+use Rattle.fast_decoder.specs.Decoding.{DecoderData, IsSoundAt, IsPaidAt, IsSound, IsAt, So}
+use Rattle.fast_decoder.proofs.TurnCounts.{fresh_turns}
 
 none_open : (m : List ℕ) → m ≡ [] → HaveNoStop m
 none_open m e = subst HaveNoStop (sym e) (All-nil (λ b. b < 128))
@@ -47,6 +48,7 @@ sound_fresh d later supplied f none = record {
   later = later;
   supplied = supplied;
   at = subst (λ o. IsSoundAt o d.set d.limits d.machine d.consumed) (sym none) (ready_fresh d.set d.limits d.machine supplied f);
+  paid = subst (λ o. IsPaidAt o d.set d.limits d.machine) (sym none) (fresh_turns d.set d.limits d.machine f);
 }
 
 pub so_fresh : (d : DecoderData) → NameLaterNodes d.set.nodes → IsSupplied d.set d.limits d.machine → IsFresh d.set d.machine → d.consumed ≡ 0 → d.fault ≡ None → So d [] []

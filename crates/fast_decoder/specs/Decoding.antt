@@ -17,6 +17,7 @@ use Rattle.fast_decoder.specs.Readers.{AreBytes}
 use Rattle.fast_decoder.specs.Running.{Stands, at_fault, reading}
 use Rattle.fast_decoder.specs.Positions.{Set, tree_in, meaning, IsSupplied, IsReady, is_idle}
 use Rattle.fast_decoder.specs.Handing.{stood}
+use Rattle.fast_decoder.specs.TurnsLeft.{IsWithinMessage}
 
 -- A decoder: its template set and limits, its machine, the bytes that it has consumed, and its fault.
 pub record DecoderData : Type 0 where
@@ -35,11 +36,17 @@ abbrev pub IsSoundAt : Option Fault → Set → Limits → Machine → ℕ → T
 IsSoundAt None set l m n = IsReady set l m
 IsSoundAt (Some f) set l m n = f.place ≡ n
 
+-- Without a fault, what is left of a message that is begun is within its most turns.
+abbrev pub IsPaidAt : Option Fault → Set → Limits → Machine → Type 0
+IsPaidAt None set l m = IsWithinMessage set l m
+IsPaidAt (Some f) set l m = Unit {0}
+
 -- the decoder is as its functions leave it
 pub record IsSound (d : DecoderData) : Type 0 where
   pub later : NameLaterNodes d.set.nodes
   pub supplied : IsSupplied d.set d.limits d.machine
   pub at : IsSoundAt d.fault d.set d.limits d.machine d.consumed
+  pub paid : IsPaidAt d.fault d.set d.limits d.machine
 
 -- A fault of the stream stands at its place. The other faults are no place in a stream.
 abbrev pub IsFaultAt : FaultCode → ℕ → Stands Dictionary → Type 0

@@ -35,4 +35,5 @@ pub mod Deciding
 pub mod Scalars
 pub mod EntryTexts
 pub mod TextDecisions
+pub mod TurnsLeft
 pub mod Decoding

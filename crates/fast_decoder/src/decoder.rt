@@ -1,8 +1,8 @@
 //! The decoder: a machine with its template set, its limits, and the count of its bytes.
 
-ghost use Rattle.std.specs.Prelude.{◌≡◌, ◌≢◌, ◌↔◌, ◌⊎◌, ℕ, ◌+◌, ◌*◌, ◌<◌, ◌≤◌, ◌^◌, List, [], ◌∷◌, length, IfOk, IsOk, IsSome, None, Some, Err};
+ghost use Rattle.std.specs.Prelude.{◌≡◌, ◌≢◌, ◌↔◌, ◌⊎◌, ℕ, ◌+◌, ◌-◌, ◌*◌, ◌<◌, ◌≤◌, ◌^◌, List, [], ◌∷◌, length, IfOk, IsOk, IsSome, None, Some, Err};
 ghost use Rattle.fast_template.specs.Flat.{tree_of, nodes_of};
-ghost use Rattle.fast_template.specs.Sizes.{message_cap, stored_cap};
+ghost use Rattle.fast_template.specs.Sizes.{message_cap, turn_cap, stored_cap};
 ghost use Rattle.fast_decoder.specs.EntryTexts.{HasLongInitial};
 ghost use Rattle.fast_decoder.specs.Events.{EventData};
 ghost use Rattle.fast_decoder.specs.Standing.{StandsAfter, held};
@@ -93,6 +93,8 @@ impl<'t> Decoder<'t> {
         // L4 comes exactly where the bytes can no longer be counted.
         ensures counted { self.old.fault ≡ None → (IsUncounted result ↔ (2 ^ 64 ≤ self.old.consumed + length piece.now)) }
         ensures bounded { held (stored self.new) ≤ stored_cap (tree self.new) self.new.limits }
+        // The turns of the call are at most the cap of a message and one for each byte that it consumes.
+        ensures turns { turns self.new ≤ (self.new.consumed - self.old.consumed) * (1 + turn_cap (tree self.new) self.new.limits) }
     {
         self.machine.begin_turns();
         if let Some(fault) = self.fault {
@@ -131,6 +133,7 @@ impl<'t> Decoder<'t> {
         ensures stopped { IsSome self.old.fault → (standing self.new ≡ standing self.old) × (sink.new ≡ sink.old) }
         ensures counted { self.old.fault ≡ None → (IsUncounted result ↔ (2 ^ 64 ≤ self.old.consumed + 1)) }
         ensures bounded { held (stored self.new) ≤ stored_cap (tree self.new) self.new.limits }
+        ensures turns { turns self.new ≤ (self.new.consumed - self.old.consumed) * (1 + turn_cap (tree self.new) self.new.limits) }
     {
         self.feed(&[byte], sink)
     }

@@ -20,6 +20,7 @@ ghost use Rattle.fast_decoder.specs.Handing.{Hands};
 ghost use Rattle.fast_decoder.specs.Messages.{signed_of, within_limits};
 ghost use Rattle.fast_decoder.specs.Moving.{Moves};
 ghost use Rattle.fast_decoder.specs.Settling.{Serves, value_at};
+ghost use Rattle.fast_decoder.specs.TurnsLeft.{Way, HasTurns, HasTurnsFrom, HasTurnsBehind, HasTurnsAfter};
 ghost use Rattle.fast_decoder.specs.UnitFronts.{IsAsciiFirst};
 ghost use Rattle.fast_decoder.specs.Passing.{IsPast, value_then, exponent_then, decimal_then, length_then, elements_from};
 ghost use Rattle.fast_decoder.specs.Positions.{Set, set_of, body_in, frames_in, mantissa_then, IsAtField, IsAtParts, IsAtGroup, IsAtSequence, CanTurn, IsTurn, turning, IsSupplied, IsMapWhole, IsReady, bit_of, state_in, going_on, meaning};
@@ -118,6 +119,7 @@ impl<'t> Machine<'t> {
         requires serves { Serves (set_of templates.now).entries (slots_terms self.old.slots) (field_data field.now) }
         ensures turn { IsTurn S.takes S.stops (set_of templates.now) limits (turning (set_of templates.now) limits self.old) sink.old result sink.new self.new }
         ensures past { result ≡ Ok Turn.Silent → self.new.cursor.left ≡ drop 1 self.old.cursor.left }
+        ensures turns { (way : Way) (n : ℕ) → HasTurns way (set_of templates.now) limits 1 n self.old → HasTurnsBehind result way (set_of templates.now) limits n self.new }
     {
         let bit = self.presence(field);
         if needs_bytes(field, bit) {
@@ -195,6 +197,7 @@ impl<'t> Machine<'t> {
         requires mantissa { Serves (set_of templates.now).entries (slots_terms self.old.slots) (field_data mantissa.now) }
         ensures turn { IsTurn S.takes S.stops (set_of templates.now) limits (turning (set_of templates.now) limits self.old) sink.old result sink.new self.new }
         ensures past { result ≡ Ok Turn.Silent → self.new.cursor.left ≡ drop 1 self.old.cursor.left }
+        ensures turns { (way : Way) (n : ℕ) → HasTurns way (set_of templates.now) limits 1 n self.old → HasTurnsBehind result way (set_of templates.now) limits n self.new }
     {
         let bit = self.presence(exponent);
         if needs_bytes(exponent, bit) {
@@ -229,6 +232,7 @@ impl<'t> Machine<'t> {
             (reader_of limits.strict (exponent_then (set_of templates.now) (bounds limits) node (value_at source (field_data exponent.now) (slots_dictionary self.old.slots) self.old.text.text []) (field_data exponent.now) (field_data mantissa.now) (slots_dictionary self.old.slots) self.old.counted self.old.cursor))
             sink.old result sink.new self.new }
         ensures past { result ≡ Ok Turn.Silent → self.new.cursor.left ≡ drop 1 self.old.cursor.left }
+        ensures turns { (way : Way) (n : ℕ) → HasTurns way (set_of templates.now) limits 1 n self.old → HasTurnsBehind result way (set_of templates.now) limits n self.new }
     {
         let value = self.integer_at(exponent, source);
         self.use_bit_of(exponent);
@@ -262,6 +266,7 @@ impl<'t> Machine<'t> {
             (reader_of limits.strict (mantissa_then (bounds limits) (frames_in (set_of templates.now) self.old.cursor.frames) (body_in (set_of templates.now) self.old.cursor.left) (state_in (slots_dictionary self.old.slots) self.old.counted self.old.cursor) exponent))
             sink.old result sink.new self.new }
         ensures past { result ≡ Ok Turn.Silent → self.new.cursor.left ≡ drop 1 self.old.cursor.left }
+        ensures turns { (way : Way) (n : ℕ) → HasTurns way (set_of templates.now) limits 1 n self.old → HasTurnsBehind result way (set_of templates.now) limits n self.new }
     {
         let bit = self.presence(mantissa);
         if needs_bytes(mantissa, bit) {
@@ -331,6 +336,7 @@ impl<'t> Machine<'t> {
         requires node { node < length (set_of templates.now).nodes }
         ensures turn { IsTurn S.takes S.stops (set_of templates.now) limits (turning (set_of templates.now) limits self.old) sink.old result sink.new self.new }
         ensures past { result ≡ Ok Turn.Silent → self.new.cursor.left ≡ drop 1 self.old.cursor.left }
+        ensures turns { (way : Way) (n : ℕ) → HasTurns way (set_of templates.now) limits 1 n self.old → HasTurnsBehind result way (set_of templates.now) limits n self.new }
     {
         if optional {
             let bit = self.cursor.bit();
@@ -380,6 +386,7 @@ impl<'t> Machine<'t> {
         requires node { node < list_length (set_of templates.now).nodes }
         ensures turn { IsTurn S.takes S.stops (set_of templates.now) limits (turning (set_of templates.now) limits self.old) sink.old result sink.new self.new }
         ensures past { result ≡ Ok Turn.Silent → self.new.cursor.left ≡ drop 1 self.old.cursor.left }
+        ensures turns { (way : Way) (n : ℕ) → HasTurns way (set_of templates.now) limits 1 n self.old → HasTurnsBehind result way (set_of templates.now) limits n self.new }
     {
         let bit = self.presence(length);
         if needs_bytes(length, bit) {
@@ -414,6 +421,7 @@ impl<'t> Machine<'t> {
             (reader_of limits.strict (length_then (set_of templates.now) (bounds limits) node (value_at source (field_data length.now) (slots_dictionary self.old.slots) self.old.text.text []) (field_data length.now) body.now (slots_dictionary self.old.slots) self.old.counted self.old.cursor))
             sink.old result sink.new self.new }
         ensures past { result ≡ Ok Turn.Silent → self.new.cursor.left ≡ drop 1 self.old.cursor.left }
+        ensures turns { (way : Way) (n : ℕ) → HasTurns way (set_of templates.now) limits 1 n self.old → HasTurnsBehind result way (set_of templates.now) limits n self.new }
     {
         let claimed = self.integer_at(length, source);
         self.use_bit_of(length);
@@ -451,6 +459,7 @@ impl<'t> Machine<'t> {
             (reader_of limits.strict (elements_from (set_of templates.now) (bounds limits) count body.now (slots_dictionary self.old.slots) self.old.counted self.old.cursor))
             sink.old result sink.new self.new }
         ensures on { result ≢ Ok Turn.Silent }
+        ensures turns { (way : Way) (n : ℕ) → HasTurnsFrom way (set_of templates.now) limits n count body.now self.old → HasTurnsBehind result way (set_of templates.now) limits n self.new }
     {
         if count == 0 {
             hand(sink, Event::SequenceEnd)?;
@@ -477,6 +486,7 @@ impl<'t> Machine<'t> {
         requires end { self.old.cursor.left ≡ [] }
         ensures turn { IsTurn S.takes S.stops (set_of templates.now) limits (turning (set_of templates.now) limits self.old) sink.old result sink.new self.new }
         ensures on { result ≢ Ok Turn.Silent }
+        ensures turns { (way : Way) (n : ℕ) → HasTurns way (set_of templates.now) limits 1 n self.old → HasTurnsBehind result way (set_of templates.now) limits n self.new }
     {
         if self.cursor.is_outermost() {
             hand(sink, Event::MessageEnd)?;
@@ -514,6 +524,7 @@ impl<'t> Machine<'t> {
         requires turn { CanTurn (set_of templates.now) limits self.old }
         ensures turn { IsTurn S.takes S.stops (set_of templates.now) limits (turning (set_of templates.now) limits self.old) sink.old result sink.new self.new }
         ensures past { result ≡ Ok Turn.Silent → (0 < length self.old.cursor.left) × (self.new.cursor.left ≡ drop 1 self.old.cursor.left) }
+        ensures turns { (way : Way) (n : ℕ) → HasTurns way (set_of templates.now) limits 0 n self.old → HasTurnsBehind result way (set_of templates.now) limits n self.new }
     {
         self.turns = Turns::after(&self.turns);
         let Some(number) = self.cursor.next() else {
@@ -544,6 +555,7 @@ impl<'t> Machine<'t> {
         ensures hands { Hands S.takes S.stops (turning (set_of templates.now) limits self.old) sink.old result sink.new (meaning (set_of templates.now) limits self.new) }
         ensures ready { OnOk result (IsReady (set_of templates.now) limits self.new) }
         ensures supplied { IsSupplied (set_of templates.now) limits self.new }
+        ensures turns { (way : Way) (n : ℕ) → HasTurns way (set_of templates.now) limits 0 n self.old → HasTurnsAfter result way (set_of templates.now) limits n self.new }
     {
         'events: loop {
             'silent: loop {

@@ -1,6 +1,6 @@
 //! What a machine does with the bytes of a piece: it takes units, and all that they decide.
 
-ghost use Rattle.std.specs.Prelude.{◌≡◌, ◌≢◌, ◌⊎◌, ◌<◌, ◌≤◌, ◌^◌, ◌&&◌, not, nat_le, true, false, ℕ, List, [], length, length as list_length, slice_get, IfSome, IfNone, Err, drop, take, IsTrue, ◌↔◌, IsOk, IfOk, OnOk, Some, None, Ok, slice_index, option_map, nat_abs, if◌then◌else◌};
+ghost use Rattle.std.specs.Prelude.{◌≡◌, ◌≢◌, ◌⊎◌, ◌+◌, ◌*◌, ◌<◌, ◌≤◌, ◌^◌, ◌&&◌, not, nat_le, true, false, ℕ, List, [], length, length as list_length, slice_get, IfSome, IfNone, Err, drop, take, IsTrue, ◌↔◌, IsOk, IfOk, OnOk, Some, None, Ok, slice_index, option_map, nat_abs, if◌then◌else◌};
 ghost use Rattle.fast_wire.specs.Entities.{HaveNoStop, IsEntity};
 ghost use Rattle.fast_wire.specs.Maps.{map_limit, bits, first_bit, bytes_for};
 ghost use Rattle.fast_value.specs.Kinds.{integer_of, family, integers};
@@ -25,6 +25,7 @@ ghost use Rattle.fast_decoder.specs.Scalars.{IsOfField, IsOfFieldLater, IsScalar
 ghost use Rattle.fast_decoder.specs.UnitFronts.{IsNumberStage};
 ghost use Rattle.fast_decoder.specs.Moving.{Moves};
 ghost use Rattle.fast_decoder.specs.Continuations.{message_of_then};
+ghost use Rattle.fast_decoder.specs.TurnsLeft.{Way, most_by, HasTurns, HasTurnsWaiting, HasTurnsBehind, HasTurnsAfter, turns_begun_at};
 ghost use Rattle.fast_decoder.specs.Positions.{Set, set_of, tree_in, body_in, IsAtField, IsAtParts, IsAtSequence, CanTurn, GoesOn, IsBehindMap, IsSupplied, IsReady, IsFresh, segment_reader, mapped_reader, turning, is_idle, meaning};
 
 use crate::cursor::Cursor;
@@ -191,6 +192,7 @@ impl<'t> Machine<'t> {
             sink.old result.bytes result.outcome sink.new (meaning (set_of templates.now) limits self.new) }
         ensures ready { OnOk result.outcome (IsReady (set_of templates.now) limits self.new) }
         ensures supplied { IsSupplied (set_of templates.now) limits self.new }
+        ensures turns { (way : Way) (n : ℕ) → self.old.turns.count + most_by way (tree_in (set_of templates.now)) limits ≤ n → HasTurnsAfter result.outcome way (set_of templates.now) limits n self.new }
     {
         match self.cursor.take_map(rest) {
             MapFront::Cut => Taken::cut(rest),
@@ -216,6 +218,7 @@ impl<'t> Machine<'t> {
             sink.old result sink.new (meaning (set_of templates.now) limits self.new) }
         ensures ready { OnOk result (IsReady (set_of templates.now) limits self.new) }
         ensures supplied { IsSupplied (set_of templates.now) limits self.new }
+        ensures turns { (way : Way) (n : ℕ) → self.old.turns.count + most_by way (tree_in (set_of templates.now)) limits ≤ n → HasTurnsAfter result way (set_of templates.now) limits n self.new }
     {
         if is_overlong(limits.strict, self.cursor.map()) {
             return Err(FaultCode::Stream(Code::R7));
@@ -245,6 +248,7 @@ impl<'t> Machine<'t> {
             sink.old result sink.new (meaning (set_of templates.now) limits self.new) }
         ensures ready { OnOk result (IsReady (set_of templates.now) limits self.new) }
         ensures supplied { IsSupplied (set_of templates.now) limits self.new }
+        ensures turns { (way : Way) (n : ℕ) → self.old.turns.count + most_by way (tree_in (set_of templates.now)) limits ≤ n → HasTurnsAfter result way (set_of templates.now) limits n self.new }
     {
         let text = self.text.as_slice();
         let value = value_at(&self.slots, &self.identifier, text, piece, source);
@@ -273,6 +277,7 @@ impl<'t> Machine<'t> {
             sink.old result sink.new (meaning (set_of templates.now) limits self.new) }
         ensures ready { OnOk result (IsReady (set_of templates.now) limits self.new) }
         ensures supplied { IsSupplied (set_of templates.now) limits self.new }
+        ensures turns { (way : Way) (n : ℕ) → self.old.turns.count + most_by way (tree_in (set_of templates.now)) limits ≤ n → HasTurnsAfter result way (set_of templates.now) limits n self.new }
     {
         hand(sink, Event::MessageStart { template: number })?;
         let template = templates.template(number);
@@ -299,6 +304,7 @@ impl<'t> Machine<'t> {
             sink.old result.bytes result.outcome sink.new (meaning (set_of templates.now) limits self.new) }
         ensures ready { OnOk result.outcome (IsReady (set_of templates.now) limits self.new) }
         ensures supplied { IsSupplied (set_of templates.now) limits self.new }
+        ensures turns { (way : Way) (n : ℕ) → self.old.turns.count + most_by way (tree_in (set_of templates.now)) limits ≤ n → HasTurnsAfter result.outcome way (set_of templates.now) limits n self.new }
     {
         match take_integer(
             &mut self.slots,
@@ -333,6 +339,7 @@ impl<'t> Machine<'t> {
             sink.old result.bytes result.outcome sink.new (meaning (set_of templates.now) limits self.new) }
         ensures ready { OnOk result.outcome (IsReady (set_of templates.now) limits self.new) }
         ensures supplied { IsSupplied (set_of templates.now) limits self.new }
+        ensures turns { (way : Way) (n : ℕ) → HasTurns way (set_of templates.now) limits 0 n self.old → HasTurnsAfter result.outcome way (set_of templates.now) limits n self.new }
     {
         match self.cursor.take_map(rest) {
             MapFront::Cut => Taken::cut(rest),
@@ -361,6 +368,7 @@ impl<'t> Machine<'t> {
             sink.old result sink.new (meaning (set_of templates.now) limits self.new) }
         ensures ready { OnOk result (IsReady (set_of templates.now) limits self.new) }
         ensures supplied { IsSupplied (set_of templates.now) limits self.new }
+        ensures turns { (way : Way) (n : ℕ) → HasTurns way (set_of templates.now) limits 0 n self.old → HasTurnsAfter result way (set_of templates.now) limits n self.new }
     {
         if is_overlong(limits.strict, self.cursor.map()) {
             return Err(FaultCode::Stream(Code::R7));
@@ -387,6 +395,7 @@ impl<'t> Machine<'t> {
             sink.old result.bytes result.outcome sink.new (meaning (set_of templates.now) limits self.new) }
         ensures ready { OnOk result.outcome (IsReady (set_of templates.now) limits self.new) }
         ensures supplied { IsSupplied (set_of templates.now) limits self.new }
+        ensures turns { (way : Way) (n : ℕ) → HasTurns way (set_of templates.now) limits 1 n self.old → HasTurnsAfter result.outcome way (set_of templates.now) limits n self.new }
     {
         let Some(number) = self.cursor.next() else {
             return Taken::cut(rest);
@@ -474,6 +483,7 @@ impl<'t> Machine<'t> {
             sink.old result.bytes result.outcome sink.new (meaning (set_of templates.now) limits self.new) }
         ensures ready { OnOk result.outcome (IsReady (set_of templates.now) limits self.new) }
         ensures supplied { IsSupplied (set_of templates.now) limits self.new }
+        ensures turns { (way : Way) (n : ℕ) → HasTurns way (set_of templates.now) limits 1 n self.old → HasTurnsAfter result.outcome way (set_of templates.now) limits n self.new }
     {
         match take_integer(
             &mut self.slots,
@@ -518,6 +528,7 @@ impl<'t> Machine<'t> {
             sink.old result.bytes result.outcome sink.new (meaning (set_of templates.now) limits self.new) }
         ensures ready { OnOk result.outcome (IsReady (set_of templates.now) limits self.new) }
         ensures supplied { IsSupplied (set_of templates.now) limits self.new }
+        ensures turns { (way : Way) (n : ℕ) → HasTurns way (set_of templates.now) limits 1 n self.old → HasTurnsAfter result.outcome way (set_of templates.now) limits n self.new }
     {
         match take_integer(
             &mut self.slots,
@@ -552,6 +563,7 @@ impl<'t> Machine<'t> {
             sink.old result.bytes result.outcome sink.new (meaning (set_of templates.now) limits self.new) }
         ensures ready { OnOk result.outcome (IsReady (set_of templates.now) limits self.new) }
         ensures supplied { IsSupplied (set_of templates.now) limits self.new }
+        ensures turns { (way : Way) (n : ℕ) → HasTurns way (set_of templates.now) limits 1 n self.old → HasTurnsAfter result.outcome way (set_of templates.now) limits n self.new }
     {
         let Some(number) = self.cursor.next() else {
             return Taken::cut(rest);
@@ -591,6 +603,7 @@ impl<'t> Machine<'t> {
             sink.old result.bytes result.outcome sink.new (meaning (set_of templates.now) limits self.new) }
         ensures ready { OnOk result.outcome (IsReady (set_of templates.now) limits self.new) }
         ensures supplied { IsSupplied (set_of templates.now) limits self.new }
+        ensures turns { (way : Way) (n : ℕ) → HasTurns way (set_of templates.now) limits 1 n self.old → HasTurnsAfter result.outcome way (set_of templates.now) limits n self.new }
     {
         let Some(number) = self.cursor.next() else {
             return Taken::cut(rest);
@@ -672,6 +685,7 @@ impl<'t> Machine<'t> {
             sink.old result.bytes result.outcome sink.new (meaning (set_of templates.now) limits self.new) }
         ensures ready { OnOk result.outcome (IsReady (set_of templates.now) limits self.new) }
         ensures supplied { IsSupplied (set_of templates.now) limits self.new }
+        ensures turns { (way : Way) (n : ℕ) → IsOfField self.old.waiting → HasTurns way (set_of templates.now) limits 1 n self.old → HasTurnsAfter result.outcome way (set_of templates.now) limits n self.new }
     {
         match progress {
             Progress::Cut => Taken::cut(rest),
@@ -704,6 +718,7 @@ impl<'t> Machine<'t> {
             sink.old result sink.new (meaning (set_of templates.now) limits self.new) }
         ensures ready { OnOk result (IsReady (set_of templates.now) limits self.new) }
         ensures supplied { IsSupplied (set_of templates.now) limits self.new }
+        ensures turns { (way : Way) (n : ℕ) → HasTurns way (set_of templates.now) limits 1 n self.old → HasTurnsAfter result way (set_of templates.now) limits n self.new }
     {
         match step {
             Step::Settled(source) => {
@@ -752,6 +767,7 @@ impl<'t> Machine<'t> {
             → Hands S.takes S.stops r s result sink.new (meaning (set_of templates.now) limits self.new) }
         ensures ready { OnOk result (IsReady (set_of templates.now) limits self.new) }
         ensures supplied { IsSupplied (set_of templates.now) limits self.new }
+        ensures turns { (way : Way) (n : ℕ) → HasTurnsBehind turn way (set_of templates.now) limits n self.old → HasTurnsAfter result way (set_of templates.now) limits n self.new }
     {
         match turn {
             Err(code) => Err(code),
@@ -778,6 +794,8 @@ impl<'t> Machine<'t> {
             sink.old result.bytes result.outcome sink.new (meaning (set_of templates.now) limits self.new) }
         ensures ready { OnOk result.outcome (IsReady (set_of templates.now) limits self.new) }
         ensures supplied { IsSupplied (set_of templates.now) limits self.new }
+        ensures turns { (way : Way) (n : ℕ) → HasTurnsWaiting way (set_of templates.now) limits n self.old
+            → HasTurnsAfter result.outcome way (set_of templates.now) limits (1 + n + turns_begun_at self.old.waiting self.old.cursor.map way (tree_in (set_of templates.now)) limits) self.new }
     {
         self.turns = Turns::after(&self.turns);
         match self.waiting {
@@ -833,6 +851,8 @@ impl<'t> Machine<'t> {
             sink.old result.outcome sink.new (stood (meaning (set_of templates.now) limits self.new)) }
         ensures ready { OnOk result.outcome (IsReady (set_of templates.now) limits self.new) }
         ensures supplied { IsSupplied (set_of templates.now) limits self.new }
+        ensures turns { (way : Way) → self.old.turns.count ≡ 0 → HasTurnsWaiting way (set_of templates.now) limits (most_by way (tree_in (set_of templates.now)) limits) self.old
+            → (self.new.turns.count ≤ result.bytes * (1 + most_by way (tree_in (set_of templates.now)) limits)) × OnOk result.outcome ((k : ℕ) × HasTurnsWaiting way (set_of templates.now) limits k self.new) }
     {
         let mut bytes = 0;
         while bytes < piece.len() {

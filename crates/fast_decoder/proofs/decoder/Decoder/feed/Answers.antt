@@ -5,8 +5,10 @@ use Rattle.fast_decoder.specs.declared.faults.FaultCode.{FaultCode}
 use Rattle.fast_decoder.specs.declared.machine.Machine.{Machine}
 use Rattle.fast_decoder.specs.Handing.{Took, Fed, stood}
 use Rattle.fast_decoder.specs.Positions.{set_of, tree_in, meaning, IsSupplied, IsReady}
+use Rattle.fast_decoder.specs.TurnsLeft.{IsWithinMessage}
 use Rattle.fast_decoder.specs.Decoding.{DecoderData, So, CarriesAt}
 use Rattle.fast_decoder.proofs.Carrying.{meaning-turns, supplied-turns, bytes_of, fed_data, carry_ok, carry_stopped, carry_failed}
+use Rattle.fast_decoder.proofs.Paying.{feed_paid, all_within, feed_turns, sound_on}
 use Rattle.fast_decoder.proofs.decoder.Decoder.feed.Goals as goal
 
 pub returns-in-Some-clause-carried : goal.returns-in-Some-clause-carried
@@ -30,7 +32,9 @@ returns-in-Ok-clause-carried g c = λ w es so.
     = subst (λ (r : Result Unit FaultCode). Fed g.S.Sink.takes g.S.Sink.stops (tree_in inside.set) inside.limits (stood (meaning inside.set inside.limits m)) (take c.take_all-taken.result.bytes c.args.piece.now) c.args.sink.now r c.take_all-taken.new.sink (stood (meaning inside.set inside.limits m'))) c.in-Ok.is c.take_all-taken.ensures.fed in
     let took : Took g.S.Sink.takes (tree_in inside.set) inside.limits (stood (meaning inside.set inside.limits m)) c.args.piece.now c.args.sink.now c.take_all-taken.new.sink (stood (meaning inside.set inside.limits m'))
     = subst (λ (v : List ℕ). Took g.S.Sink.takes (tree_in inside.set) inside.limits (stood (meaning inside.set inside.limits m)) v c.args.sink.now c.take_all-taken.new.sink (stood (meaning inside.set inside.limits m'))) (ap (λ n. take n c.args.piece.now) all ∙ take_all (length c.args.piece.now) c.args.piece.now (omega arith)) fed in
-    carry_ok g.S.Sink.takes g.S.Sink.stops inside m m' c.take_all-taken.result.bytes c.self.inside.fault w es c.args.piece.now c.args.sink.now c.take_all-taken.new.sink c.in_default.is c.in_default.is all same (bytes_of c.args.piece.now c.type_inv.piece) ready c.take_all-taken.ensures.supplied took
+    carry_ok g.S.Sink.takes g.S.Sink.stops inside m m' c.take_all-taken.result.bytes c.self.inside.fault w es c.args.piece.now c.args.sink.now c.take_all-taken.new.sink c.in_default.is c.in_default.is all same (bytes_of c.args.piece.now c.type_inv.piece) ready c.take_all-taken.ensures.supplied
+    (subst (λ (r : Result Unit FaultCode). OnOk r (IsWithinMessage inside.set inside.limits m')) c.in-Ok.is (all_within inside.set inside.limits c.take_all-taken.result.bytes m' c.take_all-taken.result.outcome
+    (feed_paid inside m m' c.take_all-taken.result.bytes c.take_all-taken.result.outcome c.in_default.is c.begin_turns.ensures.same c.begin_turns.ensures.none c.self.invariant c.take_all-taken.ensures.turns))) took
     (subst (λ (d : DecoderData). So d w es) (sym view) so)
 
 pub returns-in-Err-clause-carried : goal.returns-in-Err-clause-carried
@@ -47,3 +51,24 @@ returns-in-Err-clause-carried g c = λ w es so.
     subst (λ (d : DecoderData). CarriesAt g.S.Sink.takes g.S.Sink.stops d w es c.args.piece.now c.args.sink.now c.in-Err.code (c.self.inside.consumed + k) new c.take_all-taken.new.sink) view
     (carry_stopped g.S.Sink.takes g.S.Sink.stops inside m m' k c.in-Err.code w es c.args.piece.now c.args.sink.now c.take_all-taken.new.sink c.in_default.is c.take_all-taken.ensures.within same (bytes_of c.args.piece.now c.type_inv.piece) c.take_all-taken.ensures.supplied fed
     (subst (λ (d : DecoderData). So d w es) (sym view) so))
+
+pub invariant_of-self-in-Ok : goal.invariant_of-self-in-Ok
+invariant_of-self-in-Ok g c =
+    let inside : DecoderData = record { set = set_of c.self.inside.templates.now; limits = c.self.inside.limits; machine = c.self.inside.machine; consumed = c.self.inside.consumed; fault = c.self.inside.fault } in
+    let m' : Machine = c.take_all-taken.new.self in
+    let paid = feed_paid inside c.begin_turns.new.self m' c.take_all-taken.result.bytes c.take_all-taken.result.outcome c.in_default.is c.begin_turns.ensures.same c.begin_turns.ensures.none c.self.invariant c.take_all-taken.ensures.turns in
+    sound_on inside m' c.take_all-taken.result.bytes c.in_default.is c.self.invariant.later c.take_all-taken.ensures.supplied
+    (subst (λ (r : Result Unit FaultCode). OnOk r (IsReady inside.set inside.limits m')) c.in-Ok.is c.take_all-taken.ensures.ready)
+    (subst (λ (r : Result Unit FaultCode). OnOk r (IsWithinMessage inside.set inside.limits m')) c.in-Ok.is (all_within inside.set inside.limits c.take_all-taken.result.bytes m' c.take_all-taken.result.outcome paid))
+
+pub returns-in-Ok-clause-turns : goal.returns-in-Ok-clause-turns
+returns-in-Ok-clause-turns g c =
+    let inside : DecoderData = record { set = set_of c.self.inside.templates.now; limits = c.self.inside.limits; machine = c.self.inside.machine; consumed = c.self.inside.consumed; fault = c.self.inside.fault } in
+    feed_turns inside c.args.self.now c.take_all-taken.result.bytes c.take_all-taken.new.self c.take_all-taken.result.outcome c.self.view_is
+    (feed_paid inside c.begin_turns.new.self c.take_all-taken.new.self c.take_all-taken.result.bytes c.take_all-taken.result.outcome c.in_default.is c.begin_turns.ensures.same c.begin_turns.ensures.none c.self.invariant c.take_all-taken.ensures.turns)
+
+pub returns-in-Err-clause-turns : goal.returns-in-Err-clause-turns
+returns-in-Err-clause-turns g c =
+    let inside : DecoderData = record { set = set_of c.self.inside.templates.now; limits = c.self.inside.limits; machine = c.self.inside.machine; consumed = c.self.inside.consumed; fault = c.self.inside.fault } in
+    feed_turns inside c.args.self.now c.take_all-taken.result.bytes c.take_all-taken.new.self c.take_all-taken.result.outcome c.self.view_is
+    (feed_paid inside c.begin_turns.new.self c.take_all-taken.new.self c.take_all-taken.result.bytes c.take_all-taken.result.outcome c.in_default.is c.begin_turns.ensures.same c.begin_turns.ensures.none c.self.invariant c.take_all-taken.ensures.turns)

@@ -15,6 +15,7 @@ use Rattle.fast_decoder.specs.Positions.{set_of, meaning}
 use Rattle.fast_decoder.proofs.Frames.{begin_message}
 use Rattle.fast_decoder.proofs.Hanging.{hands_halt, hands_next}
 use Rattle.fast_decoder.proofs.Begun.{begun, begun_turns}
+use Rattle.fast_decoder.proofs.TurnCounts.{message_begun}
 use Rattle.fast_decoder.proofs.machine.Machine.begin_message.Goals as goal
 
 pub returns-in_err-hand-clause-hands : goal.returns-in_err-hand-clause-hands
@@ -51,3 +52,11 @@ returns-clause-hands g c t found =
     (ap (λ (x : CursorData). x.left) c.begin.ensures ∙ c.as_slice.ensures.value)
     (ap (λ (x : CursorData). bits_left x) c.begin.ensures ∙ c.use_bit.ensures.bits))
     c.in_ok-hand.ensures c.settle.ensures.hands)
+
+pub returns-clause-turns : goal.returns-clause-turns
+returns-clause-turns g c way n h =
+    let m = c.args.self.now in
+    c.settle.ensures.turns way n
+    (message_begun way (set_of c.args.templates.now) c.args.limits n m.turns.count c.after-self.result.count c.args.number c.template-template.result.now c.begin.new.self h c.template-template.ensures.found c.after-self.ensures
+    (ap (λ (x : CursorData). x.left) c.begin.ensures ∙ c.as_slice.ensures.value)
+    (ap (λ (x : CursorData). x.frames) c.begin.ensures ∙ ap (λ (x : CursorData). x.frames) c.use_bit.ensures.same ∙ ap (λ (x : CursorData). x.frames) c.requires.behind.outermost))

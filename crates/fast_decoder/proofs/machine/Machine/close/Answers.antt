@@ -1,4 +1,4 @@
-use Rattle.std.proofs.Common.{◌≡◌, ap, rules, [], option_map}
+use Rattle.std.proofs.Common.{◌≡◌, ap, refl, rules, [], option_map}
 use Rattle.std.proofs.lemmas.Result.{err_from_is_err_and}
 use Rattle.fast_value.specs.Limits.{bounds}
 use Rattle.fast_dict.specs.Slots.{slots_dictionary}
@@ -9,6 +9,7 @@ use Rattle.fast_decoder.specs.Segments.{elements_data}
 use Rattle.fast_decoder.specs.Passing.{elements_from}
 use Rattle.fast_decoder.specs.Positions.{set_of, turning}
 use Rattle.fast_decoder.proofs.SegmentTurns.{message_end, closed, turn_halt, turn_one, turn_more, turn_end}
+use Rattle.fast_decoder.proofs.TurnCounts.{group_left, element_left, fault_turns}
 use Rattle.fast_decoder.proofs.machine.Machine.close.Goals as goal
 
 pub returns-in_err-hand-clause-turn : goal.returns-in_err-hand-clause-turn
@@ -99,3 +100,28 @@ returns-in_ok-hand-in-Some-clause-turn g c =
     (reader_of c.args.limits.strict (elements_from set (bounds c.args.limits) e.more e.body (slots_dictionary m.slots) m.counted c.close.new.self))
     ElementEnd c.args.sink.now c.hand-in-Some.new.sink c.next_element.result c.next_element.new.sink c.next_element.new.self
     (h.element e (ap (option_map elements_data) c.in-Some.is)) c.in_ok-hand-in-Some.ensures c.next_element.ensures.turn c.next_element.ensures.on
+
+pub returns-in_err-hand-in-None-clause-turns : goal.returns-in_err-hand-in-None-clause-turns
+returns-in_err-hand-in-None-clause-turns g c way n h =
+    let m = c.args.self.now in
+    let r = err_from_is_err_and c.from_residual-in_err-hand-in-None.result c.from_residual-in_err-hand-in-None.ensures.1 in
+    fault_turns way (set_of c.args.templates.now) c.args.limits n m (record m { cursor = c.close.new.self }) c.from_residual-in_err-hand-in-None.result r.0 r.1 refl h
+
+pub returns-in_err-hand-in-Some-clause-turns : goal.returns-in_err-hand-in-Some-clause-turns
+returns-in_err-hand-in-Some-clause-turns g c way n h =
+    let m = c.args.self.now in
+    let r = err_from_is_err_and c.from_residual-in_err-hand-in-Some.result c.from_residual-in_err-hand-in-Some.ensures.1 in
+    fault_turns way (set_of c.args.templates.now) c.args.limits n m (record m { cursor = c.close.new.self }) c.from_residual-in_err-hand-in-Some.result r.0 r.1 refl h
+
+pub returns-in_ok-hand-in-None-clause-turns : goal.returns-in_ok-hand-in-None-clause-turns
+returns-in_ok-hand-in-None-clause-turns g c way n h =
+    let m = c.args.self.now in
+    let inner : ¬ (m.cursor.frames ≡ []) = search rules in
+    group_left way (set_of c.args.templates.now) c.args.limits n m.turns.count m.counted m.cursor c.close.new.self (option_map elements_data c.close.result) c.requires.end inner c.close.ensures (ap (option_map elements_data) c.in-None.is) h
+
+pub returns-in_ok-hand-in-Some-clause-turns : goal.returns-in_ok-hand-in-Some-clause-turns
+returns-in_ok-hand-in-Some-clause-turns g c way n h =
+    let m = c.args.self.now in
+    let inner : ¬ (m.cursor.frames ≡ []) = search rules in
+    c.next_element.ensures.turns way n
+    (element_left way (set_of c.args.templates.now) c.args.limits n m.turns.count m.counted m.cursor c.close.new.self (option_map elements_data c.close.result) (elements_data c.in-Some.elements) c.requires.end inner c.close.ensures (ap (option_map elements_data) c.in-Some.is) h)

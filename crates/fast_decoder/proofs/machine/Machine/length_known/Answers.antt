@@ -1,4 +1,4 @@
-use Rattle.std.proofs.Common.{◌≡◌, ◌∙◌, ◌+◌, ◌≤◌, ap, subst, rules, [], FitsSigned}
+use Rattle.std.proofs.Common.{◌≡◌, ◌∙◌, ◌+◌, ◌≤◌, ap, subst, sym, drop, rules, [], FitsSigned}
 use Rattle.std.specs.Int.{w128}
 use Rattle.std.specs.Prelude.{nat_abs}
 use Rattle.std.proofs.lemmas.Result.{err_from_is_err_and}
@@ -6,6 +6,7 @@ use Rattle.fast_value.specs.Limits.{bounds}
 use Rattle.fast_template.specs.Flat.{field_data}
 use Rattle.fast_dict.specs.Slots.{slots_dictionary}
 use Rattle.fast_decoder.specs.declared.machine.Machine.{Machine}
+use Rattle.fast_decoder.specs.Cursors.{CursorData}
 use Rattle.fast_decoder.specs.Events.{SequenceStart}
 use Rattle.fast_decoder.specs.Messages.{within_limits}
 use Rattle.fast_decoder.specs.Settling.{value_at}
@@ -13,6 +14,7 @@ use Rattle.fast_decoder.specs.Positions.{set_of}
 use Rattle.fast_decoder.proofs.FieldTurns.{entry_here, turn_silent}
 use Rattle.fast_decoder.proofs.LastUnits.{again}
 use Rattle.fast_decoder.proofs.SegmentTurns.{IsBehind, behind_field, counted_still, can_turn_behind, length_from, length_absent, elements_of, length_within, turn_halt, turn_more}
+use Rattle.fast_decoder.proofs.TurnCounts.{length_passed, claim_within}
 use Rattle.fast_decoder.proofs.machine.Machine.length_known.Goals as goal
 
 pub integer_at-claimed-requires : goal.integer_at-claimed-requires
@@ -77,3 +79,19 @@ returns-in_ok-hand-in-Ok-clause-turn g c =
     (length_within set c.args.limits m m' c.args.node v f c.args.body.now c.in-Some.claimed n c.in-Some.ensures
     (c.in-Ok.ensures.count ∙ ap (λ k. within_limits (bounds c.args.limits) k c.unsigned_abs.result) counted ∙ ap (within_limits (bounds c.args.limits) m.counted) (c.unsigned_abs.ensures.value ∙ ap nat_abs (again w128 c.in-Some.claimed fits))) behind)
     c.in_ok-hand-in-Ok.ensures c.next_element.ensures.turn c.next_element.ensures.on
+
+pub returns-in_ok-hand-in-Ok-clause-turns : goal.returns-in_ok-hand-in-Ok-clause-turns
+returns-in_ok-hand-in-Ok-clause-turns g c way k h =
+    let m = c.args.self.now in
+    let set = set_of c.args.templates.now in
+    let mid = c.use_bit_of.new.self in
+    let n = c.in-Ok.count in
+    let (at, number, some, next) = c.requires.next in
+    let counted : mid.counted ≡ m.counted = ap (λ (x : Machine). x.counted) c.use_bit_of.ensures.same in
+    let turns : mid.turns.count ≡ m.turns.count = ap (λ (x : Machine). x.turns.count) c.use_bit_of.ensures.same in
+    let few : m.counted + n ≤ c.args.limits.max_total = subst (λ x. x + n ≤ c.args.limits.max_total) counted c.in-Ok.ensures.total in
+    c.next_element.ensures.turns way k
+    (length_passed way set c.args.limits k m.turns.count mid.turns.count m.counted (mid.counted + n) m.cursor c.advance.new.self at (field_data c.args.length.now) c.args.body.now n next turns (ap (λ x. x + n) counted) few
+    (claim_within c.args.limits mid.counted c.unsigned_abs.result n (sym c.in-Ok.ensures.count))
+    (ap (λ (x : CursorData). x.left) c.advance.ensures ∙ ap (λ (x : Machine). drop 1 x.cursor.left) c.use_bit_of.ensures.same)
+    (ap (λ (x : CursorData). x.frames) c.advance.ensures ∙ ap (λ (x : Machine). x.cursor.frames) c.use_bit_of.ensures.same) h)

@@ -1,10 +1,11 @@
-use Rattle.std.proofs.Common.{◌<◌, ◌-◌, ap, Some, rules}
+use Rattle.std.proofs.Common.{◌<◌, ◌-◌, ap, refl, Some, rules}
 use Rattle.fast_value.specs.Limits.{bounds}
 use Rattle.fast_dict.specs.Slots.{slots_dictionary}
 use Rattle.fast_decoder.specs.Events.{ElementStart}
 use Rattle.fast_decoder.specs.GrammarReaders.{reader_of}
 use Rattle.fast_decoder.specs.Positions.{set_of, body_in, frames_in, state_in}
 use Rattle.fast_decoder.proofs.SegmentTurns.{element_turn, turn_in}
+use Rattle.fast_decoder.proofs.TurnCounts.{element_opened, segment_turns}
 use Rattle.fast_decoder.proofs.machine.Machine.next_element.Goals as goal
 
 pub returns-clause-turn : goal.returns-clause-turn
@@ -18,3 +19,11 @@ returns-clause-turn g c =
     (c.requires.below, c.requires.nested, c.requires.width)
     (ap (reader_of c.args.limits.strict) (element_turn (bounds c.args.limits) (frames_in set m.cursor.frames) c.args.count (body_in set c.args.body.now) (body_in set m.cursor.left) (state_in (slots_dictionary m.slots) m.counted m.cursor) some))
     c.in_ok-hand-2.ensures
+
+pub returns-clause-turns : goal.returns-clause-turns
+returns-clause-turns g c way n h =
+    let m = c.args.self.now in
+    let set = set_of c.args.templates.now in
+    let some : 0 < c.args.count = search rules in
+    segment_turns way set c.args.limits n (record m { cursor = c.open_element.new.self }) c.open_segment.new.self c.open_segment.result c.args.width c.open_segment.ensures.waits c.open_segment.ensures.goes_on
+    (element_opened way set c.args.limits n m.turns.count m.turns.count m.counted m.counted m.cursor c.open_element.new.self c.args.body.now c.args.count c.args.width some refl refl c.open_element.ensures h)

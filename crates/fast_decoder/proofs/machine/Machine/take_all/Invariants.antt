@@ -1,6 +1,8 @@
-use Rattle.std.proofs.Common.{length, take, ◌-◌, ◌≤◌}
+use Rattle.std.proofs.Common.{◌≡◌, length, take, ◌-◌, ◌≤◌}
 use Rattle.fast_decoder.specs.Positions.{set_of, tree_in, meaning, IsReady}
 use Rattle.fast_decoder.specs.Handing.{Took, stood}
+use Rattle.fast_decoder.specs.TurnsLeft.{Way, most_by, HasTurnsWaiting}
+use Rattle.fast_decoder.proofs.TurnCounts.{IsSpent}
 use Rattle.fast_decoder.proofs.machine.Machine.take_all.Given as goal
 
 -- the units so far were taken
@@ -9,6 +11,7 @@ invariant-loop-bytes g l = record {
   within : l.bytes ≤ length l.piece;
   ready : IsReady (set_of l.templates) l.limits l.self;
   took : Took g.S.Sink.takes (tree_in (set_of l.templates)) l.limits (stood (meaning (set_of l.templates) l.limits l.fn.self)) (take l.bytes l.piece) l.fn.sink l.sink (stood (meaning (set_of l.templates) l.limits l.self));
+  turns : (way : Way) → l.fn.self.turns.count ≡ 0 → HasTurnsWaiting way (set_of l.templates) l.limits (most_by way (tree_in (set_of l.templates)) l.limits) l.fn.self → IsSpent way (set_of l.templates) l.limits l.bytes l.self;
 }
 
 abbrev pub decreases-loop-bytes : goal.decreases-loop-bytes
