@@ -580,6 +580,7 @@ impl<'t> Machine<'t> {
         ensures hands { Hands S.takes S.stops (turning (set_of templates.now) limits self.old) sink.old result sink.new (meaning (set_of templates.now) limits self.new) }
         ensures ready { OnOk result (IsReady (set_of templates.now) limits self.new) }
         ensures supplied { IsSupplied (set_of templates.now) limits self.new }
+        ensures turns { (way : Way) (n : ℕ) → HasTurns way (set_of templates.now) limits 0 n self.old → HasTurnsAfter result way (set_of templates.now) limits n self.new }
     {
         if let Some(number) = self.cursor.next() {
             if let Shape::Field(field) = &templates.node(number).shape {

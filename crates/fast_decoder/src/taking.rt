@@ -425,6 +425,7 @@ impl<'t> Machine<'t> {
             sink.old result.bytes result.outcome sink.new (meaning (set_of templates.now) limits self.new) }
         ensures ready { OnOk result.outcome (IsReady (set_of templates.now) limits self.new) }
         ensures supplied { IsSupplied (set_of templates.now) limits self.new }
+        ensures turns { (way : Way) (n : ℕ) → HasTurns way (set_of templates.now) limits 1 n self.old → HasTurnsAfter result.outcome way (set_of templates.now) limits n self.new }
     {
         let Some(number) = self.cursor.next() else {
             return Taken::cut(rest);
@@ -819,6 +820,8 @@ impl<'t> Machine<'t> {
             sink.old result.bytes result.outcome sink.new (meaning (set_of templates.now) limits self.new) }
         ensures ready { OnOk result.outcome (IsReady (set_of templates.now) limits self.new) }
         ensures supplied { IsSupplied (set_of templates.now) limits self.new }
+        ensures turns { (way : Way) (n : ℕ) → HasTurnsWaiting way (set_of templates.now) limits n self.old
+            → HasTurnsAfter result.outcome way (set_of templates.now) limits (n + turns_begun_at self.old.waiting self.old.cursor.map way (tree_in (set_of templates.now)) limits) self.new }
     {
         match self.waiting {
             Waiting::Field => self.take_other(templates, limits, rest, sink),
