@@ -7,10 +7,13 @@ use Rattle.fast_template.specs.Sizes.{set_depth, message_cap, stored_cap}
 use Rattle.fast_dict.specs.Slots.{slots_dictionary, slots_sized, slots_bounded}
 use Rattle.fast_decoder.specs.declared.machine.Machine.{Machine}
 use Rattle.fast_decoder.specs.Events.{EventData}
-use Rattle.fast_decoder.specs.Standing.{held, Standing}
+use Rattle.fast_decoder.specs.Standing.{held, Standing, standing_at}
+use Rattle.fast_decoder.specs.Streams.{End}
+use Rattle.fast_decoder.specs.Begins.{Begins}
 use Rattle.fast_decoder.specs.Positions.{Set, tree_in, IsSupplied}
 use Rattle.fast_decoder.specs.Decoding.{DecoderData, tree, So, standing, stored_by, stored}
 use Rattle.fast_decoder.proofs.Bound.{consumed-bound}
+use Rattle.fast_decoder.proofs.Caps.{stream_begins, begun_bound}
 use Rattle.fast_decoder.proofs.Ends.{so-stream}
 
 sum : (t j b e dep H k max km km2 : ℕ) → t ≡ max → j ≡ max → b + e ≤ km + k → dep ≡ H → km2 ≡ km + 2 * max → t + j + b + e + dep + 146 * (dep + 1) ≤ km2 + k + 147 * (H + 1)
@@ -33,3 +36,10 @@ pub so-events : (d : DecoderData) (w : List ℕ) (es : List EventData) → So d 
 so-events d w es so =
     let (e, stream, ends) = so-stream d w es so in
     subst (λ (s : Standing). length es ≤ s.consumed * message_cap (tree d) d.limits) (sym ends) (consumed-bound (tree d) d.limits w es e stream)
+
+-- Nor more than its cap for each message begun.
+pub so-messages : (d : DecoderData) (w : List ℕ) (es : List EventData) → So d w es → (e : End) × (n : ℕ) × (standing d ≡ standing_at w e) × Begins (tree d) d.limits w e n × (length es ≤ n * message_cap (tree d) d.limits)
+so-messages d w es so =
+    let (e, stream, ends) = so-stream d w es so in
+    let (n, begins) = stream_begins (tree d) d.limits w es e stream in
+    (e, n, ends, begins, begun_bound (tree d) d.limits w es e n stream begins)

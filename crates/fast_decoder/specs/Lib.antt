@@ -36,4 +36,5 @@ pub mod Scalars
 pub mod EntryTexts
 pub mod TextDecisions
 pub mod TurnsLeft
+pub mod Begins
 pub mod Decoding

@@ -5,7 +5,9 @@ ghost use Rattle.fast_template.specs.Flat.{tree_of, nodes_of};
 ghost use Rattle.fast_template.specs.Sizes.{message_cap, turn_cap, stored_cap};
 ghost use Rattle.fast_decoder.specs.EntryTexts.{HasLongInitial};
 ghost use Rattle.fast_decoder.specs.Events.{EventData};
-ghost use Rattle.fast_decoder.specs.Standing.{StandsAfter, held};
+ghost use Rattle.fast_decoder.specs.Streams.{End};
+ghost use Rattle.fast_decoder.specs.Begins.{Begins};
+ghost use Rattle.fast_decoder.specs.Standing.{StandsAfter, standing_at, held};
 ghost use Rattle.fast_decoder.specs.Decoding.{DecoderData, tree, AreBadLimits, IsUncounted, So, turns, stored, standing, answer, Carried};
 
 use crate::events::Sink;
@@ -181,6 +183,13 @@ pub fn so_is_stream()
 /// The events of what leads to a decoder are no more than the cap of a message for each byte consumed.
 pub fn so_bounds_events()
     ensures { (d : DecoderData) (w : List ℕ) (es : List EventData) → So d w es → length es ≤ (standing d).consumed * message_cap (tree d) d.limits }
+{}
+
+/// They are also no more than the cap of a message for each message of which a byte was read: whole ones, and then perhaps one that is
+/// cut short or wrong.
+pub fn so_bounds_messages()
+    ensures { (d : DecoderData) (w : List ℕ) (es : List EventData) → So d w es → (e : End) × (n : ℕ) × (standing d ≡ standing_at w e)
+        × Begins (tree d) d.limits w e n × (length es ≤ n * message_cap (tree d) d.limits) }
 {}
 
 /// All of a decoder at once, whatever its template set, its limits and the bytes: what leads to it is a stream with these events,

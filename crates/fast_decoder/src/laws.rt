@@ -1,18 +1,19 @@
 //! Laws of streams: which bytes spell which messages, where a fault is decided, and what is handed over. They speak of the
 //! definitions alone, over all template sets, limits and bytes.
 
-ghost use Rattle.std.specs.Prelude.{true, ◌++◌, ◌≡◌, ◌≤◌, ◌*◌, ℕ, List, length};
+ghost use Rattle.std.specs.Prelude.{true, ◌++◌, ◌≡◌, ◌≤◌, ◌+◌, ◌*◌, ℕ, List, length, map, max, min};
 ghost use Rattle.fast_value.specs.declared.settings.Limits.{Limits};
 ghost use Rattle.fast_value.specs.Limits.{in_mode};
 ghost use Rattle.fast_value.specs.declared.codes.Code.{Code};
 ghost use Rattle.fast_value.specs.Messages.{MessageData};
-ghost use Rattle.fast_template.specs.Tree.{Tree};
-ghost use Rattle.fast_template.specs.Sizes.{message_cap};
+ghost use Rattle.fast_template.specs.Tree.{Tree, Label, FieldData, sequence, Body};
+ghost use Rattle.fast_template.specs.Sizes.{Weights, event_weights, turn_weights, size, body_size, body_outer, widest, body_widest, greatest, message_cap, turn_cap};
 ghost use Rattle.fast_dict.specs.Dictionary.{Dictionary};
 ghost use Rattle.fast_decoder.specs.Events.{EventData, events};
 ghost use Rattle.fast_decoder.specs.Phrases.{Reached, whole};
 ghost use Rattle.fast_decoder.specs.Messages.{message, SpellsMessage};
 ghost use Rattle.fast_decoder.specs.Streams.{Stream, Chain, End, between, faulted};
+ghost use Rattle.fast_decoder.specs.Begins.{Begins, joined};
 ghost use Rattle.fast_decoder.specs.Readers.{AreBytes};
 ghost use Rattle.fast_decoder.specs.Running.{reading, run, message_begun, end_of};
 
@@ -59,6 +60,40 @@ pub fn message_bound()
 /// A stream hands over no more events than its Bytes times the cap of the set.
 pub fn events_bound()
     ensures { (t : Tree) (l : Limits) (w : List ℕ) (es : List EventData) (e : End) → Stream t l w es e → length es ≤ length w * message_cap t l }
+{}
+
+/// Each stream begins a number of messages: whole ones, and then perhaps one that is cut short or wrong. It hands over no more
+/// events than the cap of the set for each.
+pub fn begun_bound()
+    ensures some { (t : Tree) (l : Limits) (w : List ℕ) (es : List EventData) (e : End) → Stream t l w es e → (n : ℕ) × Begins t l w e n }
+    ensures bound { (t : Tree) (l : Limits) (w : List ℕ) (es : List EventData) (e : End) (n : ℕ) → Stream t l w es e → Begins t l w e n → length es ≤ n * message_cap t l }
+{}
+
+/// The caps of a message, on its events and on its turns, are each the lesser of two numbers: the greatest template where each
+/// sequence has as many elements as one may have, and the greatest without elements but with as many of its widest one as a
+/// message may have.
+pub fn message_caps()
+    ensures events { (t : Tree) (l : Limits) → message_cap t l ≡ min
+        (greatest (map (λ u. 2 + body_size event_weights l u.body) t.templates))
+        (greatest (map (λ u. 2 + body_outer event_weights u.body + l.max_total * body_widest event_weights u.body) t.templates)) }
+    ensures turns { (t : Tree) (l : Limits) → turn_cap t l ≡ min
+        (greatest (map (λ u. 4 + body_size turn_weights l u.body) t.templates))
+        (greatest (map (λ u. 4 + body_outer turn_weights u.body + l.max_total * body_widest turn_weights u.body) t.templates)) }
+{}
+
+/// A body in two parts counts the sum of both, with the elements of its sequences and without, and its widest element is the
+/// wider one of the two.
+pub fn body_parts()
+    ensures size { (u : Weights) (l : Limits) (a b : Body) → body_size u l (joined a b) ≡ body_size u l a + body_size u l b }
+    ensures outer { (u : Weights) (a b : Body) → body_outer u (joined a b) ≡ body_outer u a + body_outer u b }
+    ensures widest { (u : Weights) (a b : Body) → body_widest u (joined a b) ≡ max (body_widest u a) (body_widest u b) }
+{}
+
+/// An element counts at most what its sequence counts, where a sequence may have one; without the elements in it, it counts at
+/// most what the widest one does.
+pub fn element_within()
+    ensures size { (u : Weights) (l : Limits) (at : Label) (f : FieldData) (body : Body) → 1 ≤ l.max_elements → 2 + body_size u l body ≤ size u l (sequence at f body) }
+    ensures widest { (u : Weights) (at : Label) (f : FieldData) (body : Body) → 2 + body_outer u body ≤ widest u (sequence at f body) }
 {}
 
 /// After a fault nothing is read: more Bytes change neither the events nor the end.
