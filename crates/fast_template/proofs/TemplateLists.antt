@@ -1,6 +1,6 @@
 -- The templates of the items of an array, one after the other.
-use Rattle.std.proofs.Common.{◌≡◌, ℕ, ◌+◌, ◌<◌, ◌≤◌, List, [], ◌∷◌, ◌++◌, length, map, drop, get_or, refl, ap, sym, ◌∙◌, arith, suc, Option, Some, None, Bool, true, false, append_assoc, append-nil, ◌≢◌, codes, le-leb, nat_le, ◌&&◌}
-use Rattle.std.proofs.lemmas.List.{map-append, drop_all}
+use Rattle.std.proofs.Common.{◌≡◌, ℕ, ◌+◌, ◌<◌, ◌≤◌, List, [], ◌∷◌, ◌++◌, length, map, drop, get_or, refl, ap, sym, ◌∙◌, arith, suc, Option, Some, None, Bool, true, false, append_assoc, ◌≢◌, codes, le-leb, nat_le, ◌&&◌}
+use Rattle.std.proofs.lemmas.List.{map-append}
 use Rattle.toml.specs.Data.{Data, Items, Members, get_item, get_member, as_array}
 use Rattle.toml.specs.View.{view, items_view, members_view}
 use Rattle.toml.proofs.Views.{items_view-drop, Entry}
@@ -35,12 +35,6 @@ front_more ws w vs i d all inside read before =
     ∙ front_push (map written_data ws) (written_data w) rest
     ∙ ap (λ o. front (map written_data ws) (o >>= (λ t. rest >>= (λ us. Some (t ∷ us))))) (sym read)
     ∙ sym (ap (λ xs. front (map written_data ws) (all_templates xs)) (items_view-drop vs i d inside)) ∙ before
-
--- all items are read
-pub front_ends : (ws : List WrittenTemplate) (vs : List Value) (i : ℕ) (all : Option (List DeclaredTemplate)) → length vs ≤ i
-    → front (map written_data ws) (all_templates (items_view (drop i vs))) ≡ all → all ≡ Some (map written_data ws)
-front_ends ws vs i all end before =
-    sym before ∙ ap (λ us. front (map written_data ws) (all_templates (items_view us))) (drop_all i vs end) ∙ ap Some (append-nil (map written_data ws))
 
 -- as many members as entries
 pub members_count-view : (es : List Entry) → members_count (members_view es) ≡ length es
