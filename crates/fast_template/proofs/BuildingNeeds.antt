@@ -218,10 +218,6 @@ module _ {ts : List DeclaredTemplate} {entries : List Entry} {look : List ℕ �
       let few = c.few in
       can_build_template chain k n t set found (fits_next ts chain name no_more k t c.fits found same) (omega (arith, e, named, few))
 
-  -- a reference that is looked up
-  pub found_reference : (name : List ℕ) (chain n : ℕ) (s : Scope) → IsIndexed look ts entries → CanBuild ts entries chain s (more (reference name) no_more) n → IsSome (look name)
-  found_reference name chain n s set c = subst IsSome (sym (set.index name)) (all_first (λ q. IsSome (place_of_name q ts)) name [] c.known)
-
   -- the template of a name
   pub looked_up : (name : List ℕ) (k : ℕ) → IsIndexed look ts entries → look name ≡ Some k → (t : DeclaredTemplate) × (slice_get ts k ≡ Some t) × (t.name ≡ name)
   looked_up name k set found =

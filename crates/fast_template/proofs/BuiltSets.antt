@@ -51,9 +51,6 @@ spread_push : (us : List TemplateData) (u : TemplateData) → flat_map (λ v. sp
 spread_push [] u = append-nil (spread_all u.body)
 spread_push (v ∷ us) u = ap (λ ns. spread_all v.body ++ ns) (spread_push us u) ∙ sym (append_assoc (spread_all v.body) (flat_map (λ v. spread_all v.body) us) (spread_all u.body))
 
-pub are_built_none : (all : List DeclaredTemplate) (entries : List Entry) → AreBuilt all entries [] [] []
-are_built_none all entries = record { templates = []; in_place = refl; spread_into = refl; named_by = refl }
-
 pub are_built_more : (all : List DeclaredTemplate) (entries : List Entry) (ts : List DeclaredTemplate) (t : DeclaredTemplate) (k : ℕ) (old new : List NodeData) (os : List TemplateOutline) (body : List ℕ) → k ≡ length ts
     → AreBuilt all entries ts old os → IsBuilt all entries nesting_limit (scope_of k t) t.fields old new [] body
     → AreBuilt all entries (ts ++ t ∷ []) new (os ++ record { name = t.name; id = t.id; reset = t.reset; body = body } ∷ [])

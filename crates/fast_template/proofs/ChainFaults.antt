@@ -1,10 +1,12 @@
 -- What the extents of templates show of a set, and what is wrong with one.
 use Rattle.std.proofs.Common.{◌≡◌, ◌≢◌, ℕ, zero, suc, ◌+◌, ◌<◌, ◌≤◌, List, [], ◌∷◌, refl, ap, sym, ◌∙◌, arith, slice_get, get_or, length, take, Option, Some, None, inl, inr}
-use Rattle.std.specs.Prelude.{All, AllPairs, sum_by}
+use Rattle.std.specs.Prelude.{All, AllPairs, IfSome, sum_by}
+use Rattle.std.proofs.lemmas.List.{length-take}
 use Rattle.std.proofs.lemmas.List.Sums.{sum_by-cons}
 use Rattle.std.proofs.lemmas.Option.{slice_get_within, slice_get-get_or}
 use Rattle.fast_template.specs.declared.extents.Extent.{Extent}
-use Rattle.fast_template.specs.declared.codes.StaticCode.TheVariants.{C4, C6}
+use Rattle.fast_template.specs.declared.codes.StaticCode.{StaticCode}
+use Rattle.fast_template.specs.declared.codes.StaticCode.TheVariants.{C3, C4, C6}
 use Rattle.fast_template.specs.declared.codes.StaticFault.{StaticFault}
 use Rattle.fast_template.specs.AsWritten.{DeclaredTemplate, all_uses}
 use Rattle.fast_template.specs.Entries.{Entry, scope_of}
@@ -13,6 +15,7 @@ use Rattle.fast_template.specs.Sizes.{nesting_limit, node_limit}
 use Rattle.fast_template.specs.Sound.{IsSound}
 use Rattle.fast_template.specs.References.{KnowsReferences}
 use Rattle.fast_template.specs.Faults.{IsFaultAt}
+use Rattle.fast_template.specs.Firsts.{AreChained, IsFirstInChains}
 use Rattle.fast_template.specs.InPlace.{AreInPlace}
 use Rattle.fast_template.specs.Refused.{StandsAt}
 use Rattle.fast_template.specs.Chains.{Fits, nodes_in, depth_in}
@@ -166,3 +169,48 @@ pub many_fault : (ts : List DeclaredTemplate) (es : List (Option Extent)) → Al
     → All IsShallow es → (fault : StaticFault) → (k : ℕ) × (fault.code ≡ C6) × (fault.template ≡ Some k) × (k < length es) × (node_limit < sum_by known_nodes (take (suc k) es))
     → IsFaultAt ts fault.code fault.template
 many_fault ts es apart knows sound h shallow fault (k, code, template, inside, many) = rw (code, template) (many_at ts es k apart knows sound h shallow many)
+
+-- ---- what was shown before a fault
+
+-- the templates before one fit, and none is too deep
+chained_before : (ts : List DeclaredTemplate) (es : List (Option Extent)) (k : ℕ) → AreExtents ts (suc nesting_limit) es → All IsShallow (take k es) → AreChained ts (take k ts)
+chained_before ts es k h shallow j d inside =
+    let t = get_or (take k ts) j d in
+    let at = take_get k j ts t (slice_get-get_or (take k ts) j d inside) in
+    let l = length-take k ts in
+    let m = length-take k es in
+    let long = h.long in
+    let (e, at_e, low) = known_at (take k es) j (omega (arith, inside, l, m, long)) shallow in
+    let f = extent_fits ts nesting_limit t e (h.known j t e at (take_get k j es (Some e) at_e)) in
+    let depth : e.depth ≡ capped (depth_in ts nesting_limit t.fields) = f.2 in
+    (f.0, omega (arith, depth, low))
+
+few_counts_before : (all ts : List DeclaredTemplate) (es : List (Option Extent)) (k : ℕ) → CountsOf all ts es → sum_by known_nodes (take k es) ≤ node_limit
+    → sum_by (λ t. nodes_in all nesting_limit t.fields) (take k ts) ≤ sum_by known_nodes (take k es)
+unfolding CountsOf
+few_counts_before all ts es zero h few = omega arith
+few_counts_before all [] [] (suc k) h few = omega arith
+few_counts_before all [] (e ∷ es) (suc k) h few = absurd h
+few_counts_before all (t ∷ ts) [] (suc k) h few = absurd h
+few_counts_before all (t ∷ ts) (e ∷ es) (suc k) (here, rest) few =
+    let c = sum_by-cons known_nodes e (take k es) in
+    let d = sum_by-cons (λ (u : DeclaredTemplate). nodes_in all nesting_limit u.fields) t (take k ts) in
+    let r = few_counts_before all ts es k rest (omega (arith, c, few)) in
+    omega (arith, c, d, r, here, few)
+
+pub cycle_first : (ts : List DeclaredTemplate) (fault : StaticFault) → IfSome fault.template (λ k. fault.code ≡ C3) → IfSome fault.template (IsFirstInChains ts fault.code)
+cycle_first ts fault h = of_code fault.code fault.template h
+  where
+    of_code : (code : StaticCode) (o : Option ℕ) → IfSome o (λ k. code ≡ C3) → IfSome o (IsFirstInChains ts code)
+    of_code code None h = tt
+    of_code code (Some k) h = rw h tt
+
+pub deep_first : (ts : List DeclaredTemplate) (es : List (Option Extent)) → AreExtents ts (suc nesting_limit) es
+    → (fault : StaticFault) → (k : ℕ) × (fault.code ≡ C4) × (fault.template ≡ Some k) × All IsShallow (take k es) → IfSome fault.template (IsFirstInChains ts fault.code)
+deep_first ts es h fault (k, code, template, shallow) = rw (code, template) (chained_before ts es k h shallow)
+
+pub many_first : (ts : List DeclaredTemplate) (es : List (Option Extent)) → AreExtents ts (suc nesting_limit) es → All IsShallow es
+    → (fault : StaticFault) → (k : ℕ) × (fault.code ≡ C6) × (fault.template ≡ Some k) × (sum_by known_nodes (take k es) ≤ node_limit) → IfSome fault.template (IsFirstInChains ts fault.code)
+many_first ts es h shallow fault (k, code, template, few) =
+    let r = few_counts_before ts ts es k (right_counts ts es h shallow) few in
+    rw (code, template) ((λ j d inside. each_fits ts es h shallow j (get_or ts j d) (slice_get-get_or ts j d inside)), omega (arith, r, few))

@@ -24,7 +24,7 @@ none_some : {A : Type 0} {a : A} → None ≡ Some a → ⊥
 none_some h = cc
 
 -- nothing is in an empty list
-in_none : (names : List (List ℕ)) (name : List ℕ) → names ≡ [] → Contains names name → ⊥
+pub in_none : (names : List (List ℕ)) (name : List ℕ) → names ≡ [] → Contains names name → ⊥
 in_none names name none (k, inside, at) =
     let e : length names ≡ 0 = ap length none in
     omega (arith, e, inside)

@@ -15,9 +15,6 @@ use Rattle.fast_template.proofs.Lists.{mapped_get, map_get_back}
 use Rattle.fast_template.proofs.PlaceLists.{placed}
 use Rattle.fast_template.proofs.ReadingPieces.{same_text}
 
-some_is : {A : Type 0} {a b : A} → Some a ≡ Some b → a ≡ b
-some_is h = cc
-
 -- one of the numbers of a template
 pub refers_here : (graph : List (Vec ℕ Global)) (k : ℕ) (row : Vec ℕ Global) (targets : List ℕ) (i : ℕ) → k < length graph → row ≡ get_or graph k row → targets ≡ row.items → i < length targets
     → Refers graph k (get_or targets i 0)

@@ -38,3 +38,4 @@ pub mod BuiltUsable
 pub mod ReadLaws
 pub mod Headings
 pub mod NoTrees
+pub mod Firsts

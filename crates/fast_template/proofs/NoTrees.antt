@@ -33,7 +33,7 @@ read_all : (xs : Items) (ts : List DeclaredTemplate) → WritesTemplates xs ts �
 read_all xs [] h = ap all_templates h
 read_all xs (t ∷ ts) (ms, rest, is, w, others) = ap all_templates is ∙ rw (written_template ms t w, read_all rest ts others) refl
 
-one_set : (document : Members) (ts us : List DeclaredTemplate) → WritesSet document ts → WritesSet document us → ts ≡ us
+pub one_set : (document : Members) (ts us : List DeclaredTemplate) → WritesSet document ts → WritesSet document us → ts ≡ us
 one_set document ts us (xs, is, w, some, few) (ys, is_too, v, some_too, few_too) =
     let same : xs ≡ ys = same_array xs ys (sym is ∙ is_too) in
     some_is (sym (read_all xs ts w) ∙ ap all_templates same ∙ read_all ys us v)
@@ -89,7 +89,7 @@ not_unwritten read C6 template document ts other is w h = h
 -- ---- templates in place
 
 -- what is in place of a template
-in_place_of : (all : List DeclaredTemplate) (entries : List Entry) (k : ℕ) (ts : List DeclaredTemplate) (n m : ℕ) (us : List TemplateData) (i : ℕ) (t : DeclaredTemplate) → AreInPlace all entries k ts n us m
+pub in_place_of : (all : List DeclaredTemplate) (entries : List Entry) (k : ℕ) (ts : List DeclaredTemplate) (n m : ℕ) (us : List TemplateData) (i : ℕ) (t : DeclaredTemplate) → AreInPlace all entries k ts n us m
     → slice_get ts i ≡ Some t → (u : TemplateData) × (a b : ℕ) × (slice_get us i ≡ Some u) × InPlace all entries nesting_limit (scope_of (k + i) t) t.fields a u.body b
 in_place_of all entries k [] n m us i t h found = absurd (cc)
 in_place_of all entries k (s ∷ ts) n m [] i t h found = absurd h
@@ -167,15 +167,15 @@ reach_on ts zero n a b c r s = subst (λ j. Reaches ts j a c) (let e : n ≡ zer
 reach_on ts (suc m) n a b c (mid, t, u, at_a, at_mid, refers, onward) s =
     subst (λ j. Reaches ts j a c) (let e : suc (m + n) ≡ suc m + n = omega arith in e) (mid, t, u, at_a, at_mid, refers, reach_on ts m n mid b c onward s)
 
-abbrev rounds : ℕ → ℕ → ℕ
+abbrev pub rounds : ℕ → ℕ → ℕ
 rounds n zero = 0
 rounds n (suc r) = suc n + rounds n r
 
-many_rounds : (n r : ℕ) → r ≤ rounds n r
+pub many_rounds : (n r : ℕ) → r ≤ rounds n r
 many_rounds n zero = omega arith
 many_rounds n (suc r) = let h = many_rounds n r in omega (arith, h)
 
-reach_round : (ts : List DeclaredTemplate) (n k r : ℕ) → Reaches ts (suc n) k k → Reaches ts (rounds n r) k k
+pub reach_round : (ts : List DeclaredTemplate) (n k r : ℕ) → Reaches ts (suc n) k k → Reaches ts (rounds n r) k k
 reach_round ts n k zero h = refl
 reach_round ts n k (suc r) h = reach_on ts (suc n) (rounds n r) k k k h (reach_round ts n k r h)
 
@@ -198,7 +198,7 @@ same_bit : {es fs : List Entry} {s : Scope} {u : Use} {f g : FieldData} → IsFi
 same_bit {f = f} {g = g} h i = ap one_if (ap (λ o. operator_uses_bit o f.optional) (h.operator ∙ sym i.operator) ∙ ap (operator_uses_bit g.operator) (h.optional ∙ sym i.optional))
 
 -- whatever entries there are, a template's segments have the same bits
-same_bits : {ts : List DeclaredTemplate} {es fs : List Entry} {chain : ℕ} {s : Scope} {ds : DeclaredList} {n m j k : ℕ} {b c : Body} → AllPairs (λ a b. a.name ≢ b.name) ts
+pub same_bits : {ts : List DeclaredTemplate} {es fs : List Entry} {chain : ℕ} {s : Scope} {ds : DeclaredList} {n m j k : ℕ} {b c : Body} → AllPairs (λ a b. a.name ≢ b.name) ts
     → InPlace ts es chain s ds n b m → InPlace ts fs chain s ds j c k → (bits_of b ≡ bits_of c) × (AreNarrowInside b → AreNarrowInside c)
 same_bits apart nothing nothing = (refl, λ h. h)
 same_bits apart (a_field is rest) (a_field is_too rest_too) =
@@ -239,7 +239,7 @@ same_bits {ts = ts} {fs = fs} apart (a_reference {chain = chain} {body = b} {is 
 
 -- ---- sums
 
-sum_of_front : {A : Type 0} (f : A → ℕ) (xs : List A) (k : ℕ) → sum_by f (take k xs) ≤ sum_by f xs
+pub sum_of_front : {A : Type 0} (f : A → ℕ) (xs : List A) (k : ℕ) → sum_by f (take k xs) ≤ sum_by f xs
 sum_of_front f xs zero = omega arith
 sum_of_front f [] (suc k) = omega arith
 sum_of_front f (x ∷ xs) (suc k) =

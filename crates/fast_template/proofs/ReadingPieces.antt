@@ -143,16 +143,6 @@ kind_is s k e0 = elim (named s (codes "uInt32") UInt32 k _ e0) [
   ]
 ]
 
-pub is_kind : (k : Kind) → kind_named (kind_name k) ≡ Some k
-is_kind UInt32 = refl
-is_kind Int32 = refl
-is_kind UInt64 = refl
-is_kind Int64 = refl
-is_kind Decimal = refl
-is_kind Ascii = refl
-is_kind Unicode = refl
-is_kind Bytes = refl
-
 operator_is : (s : List ℕ) (o : Operator) → operator_named s ≡ Some o → s ≡ operator_name o
 operator_is s o e0 = elim (named s (codes "none") no_operator o _ e0) [
   | inl h ↦ h.0 ∙ ap operator_name h.1

@@ -1,53 +1,21 @@
 -- The references of instructions, one instruction after the other.
-use Rattle.std.proofs.Common.{◌≡◌, ◌≢◌, ℕ, ◌+◌, ◌<◌, ◌≤◌, List, [], ◌∷◌, ◌++◌, length, drop, get_or, slice_get, refl, ap, sym, ◌∙◌, arith, suc, Option, Some, None, Bool, true, false, ◌&&◌, string_bytes, rules, String, Vec, Global, inl, inr}
-use Rattle.std.specs.Prelude.{option_map, All, Any, IsSome, is_some}
+use Rattle.std.proofs.Common.{◌≡◌, ◌≢◌, ℕ, List, [], ◌∷◌, slice_get, refl, ap, sym, ◌∙◌, arith, suc, Option, Some, None, Bool, true, false, ◌&&◌, string_bytes, rules, String, Global, inl, inr}
+use Rattle.std.specs.Prelude.{All, Any, IsSome, is_some}
 use Rattle.std.specs.List.{list_all}
 use Rattle.std.specs.Option.{option_copied}
 use Rattle.std.specs.Borrow.{Bor}
 use Rattle.std.specs.Str.{bytes_eq}
 use Rattle.std.proofs.lemmas.Bool.{cases_Bool, false≢true, and_parts}
-use Rattle.std.proofs.lemmas.List.{drop_more, drop_all}
 use Rattle.std.proofs.lemmas.List.Elements.{All-nil, All-cons}
 use Rattle.fast_template.specs.declared.codes.StaticCode.TheVariants.{D8}
-use Rattle.fast_template.specs.declared.written.WrittenOperator.{WrittenOperator}
-use Rattle.fast_template.specs.declared.written.WrittenInstruction.{WrittenInstruction, the_lemmas}
+use Rattle.fast_template.specs.declared.written.WrittenInstruction.{the_lemmas}
 use Rattle.fast_template.specs.declared.written.WrittenInstruction.TheVariants as V
-use Rattle.fast_template.specs.AsWritten.{group, sequence, reference, DeclaredTemplate, references, all_references}
+use Rattle.fast_template.specs.AsWritten.{reference, DeclaredTemplate, references, all_references}
 use Rattle.fast_template.specs.Refused.{StandsAt}
 use Rattle.fast_template.specs.Places.{place_of_name}
-use Rattle.fast_template.specs.References.{references_in}
-use Rattle.fast_template.specs.WrittenSets.{instruction_data, fields_data, operator_data}
+use Rattle.fast_template.specs.WrittenSets.{instruction_data}
 use Rattle.fast_template.proofs.PlaceLists.{no_place}
 use Rattle.fast_template.proofs.ReadingPieces.{text_same}
-
--- a test of all of two lists
-list_all-append : {A : Type 0} (p : A → Bool) (xs ys : List A) → list_all p (xs ++ ys) ≡ (list_all p xs && list_all p ys)
-list_all-append p [] ys = refl
-list_all-append p (x ∷ xs) ys = ap (λ b. p x && b) (list_all-append p xs ys) ∙ assoc (p x) (list_all p xs) (list_all p ys)
-  where
-    assoc : (a b c : Bool) → (a && (b && c)) ≡ ((a && b) && c)
-    assoc true b c = refl
-    assoc false b c = refl
-
--- what is left begins with the references of one instruction
-pub references_left : (p : List ℕ → Bool) (fs : List WrittenInstruction) (i : ℕ) (d : WrittenInstruction) → i < length fs
-    → list_all p (references_in (drop i fs)) ≡ (list_all p (references (instruction_data (get_or fs i d))) && list_all p (references_in (drop (i + 1) fs)))
-references_left p fs i d inside =
-    ap (λ gs. list_all p (references_in gs)) (drop_more fs i d inside) ∙ list_all-append p (references (instruction_data (get_or fs i d))) (references_in (drop (i + 1) fs))
-
--- nothing is left
-pub references_end : (p : List ℕ → Bool) (fs : List WrittenInstruction) (i : ℕ) → length fs ≤ i → list_all p (references_in (drop i fs)) ≡ true
-references_end p fs i end = ap (λ gs. list_all p (references_in gs)) (drop_all i fs end)
-
-pub references_of_group : (name : String Global) (optional : Bool) (fs : Vec WrittenInstruction Global) → references (instruction_data (V.Group name optional fs)) ≡ references_in fs.items
-references_of_group name optional fs =
-    let e : instruction_data (V.Group name optional fs) ≡ group (string_bytes name) optional (fields_data fs.items) = search (rules, the_lemmas) in ap references e
-
-pub references_of_sequence : (name : String Global) (optional : Bool) (own : Option (String Global)) (w : WrittenOperator) (fs : Vec WrittenInstruction Global)
-    → references (instruction_data (V.Sequence name optional own w fs)) ≡ references_in fs.items
-references_of_sequence name optional own w fs =
-    let e : instruction_data (V.Sequence name optional own w fs) ≡ sequence (string_bytes name) optional (option_map string_bytes own) (operator_data w) (fields_data fs.items) = search (rules, the_lemmas) in
-    ap references e
 
 -- what passes everywhere holds everywhere
 pub all_known : (look : List ℕ → Option ℕ) (ts : List DeclaredTemplate) (names : List (List ℕ)) → ((q : List ℕ) → look q ≡ place_of_name q ts) → list_all (λ q. is_some (look q)) names ≡ true

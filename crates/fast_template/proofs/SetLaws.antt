@@ -1,6 +1,6 @@
 -- The templates and the sets that documents write: as they are computed, and as the notation defines them.
 use Rattle.std.proofs.Common.{◌≡◌, ℕ, ◌<◌, ◌≤◌, ◌^◌, ◌⊎◌, inl, inr, List, [], ◌∷◌, length, refl, ap, sym, ◌∙◌, subst, arith, suc, zero, Option, Some, None, true, ◌&&◌, codes, Ordering, Less, Equal, Greater, nat_cmp, nat_lt, nat_le, le-leb}
-use Rattle.std.specs.Prelude.{nat_eq, pos, negsuc}
+use Rattle.std.specs.Prelude.{nat_eq, pos, negsuc, IfSome, IsSome}
 use Rattle.std.specs.Ordering.{match_ordering, is_eq}
 use Rattle.std.specs.Cmp.Lexicographic.{slice_cmp}
 use Rattle.std.proofs.lemmas.Map.Text.{is_eq-slice_cmp}
@@ -9,6 +9,7 @@ use Rattle.std.proofs.lemmas.Bool.Decides.{nat_tests}
 use Rattle.toml.specs.Data.{Data, string, integer, float, boolean, datetime, array, table, Items, no_items, item, Members, no_members, member, get_member, get_item, as_array}
 use Rattle.fast_template.specs.declared.codes.StaticCode.{StaticCode}
 use Rattle.fast_template.specs.AsWritten.{DeclaredTemplate}
+use Rattle.fast_template.specs.Firsts.{IsFirstUnwritten}
 use Rattle.fast_template.specs.Notation.{TextAt, IsDictionary, IdAt, WritesTemplate, WritesTemplates, WritesSet}
 use Rattle.fast_template.specs.Reading.{◌>>=◌, has_only, text_of, flag_of, name_of, id_of, is_dictionary, dictionary_named, dictionary_of, fields_of, template_of, template_in, all_templates, are_tables, are_templates, items_count, members_count, tables_of}
 use Rattle.fast_template.specs.declared.codes.StaticCode.TheVariants.{S1, S2, S3, S4, S5, D8, C1, C2, C3, C4, C5, C6, Memory}
@@ -243,3 +244,22 @@ no_tables read document is none other xs found h =
   where
     none_is_some : {A : Type 0} {x : A} → None ≡ Some x → ⊥
     none_is_some e = cc
+
+-- the tables before it write templates
+pub written_before : (read : Option Members) (document : Members) (xs : Items) → read ≡ Some document → HasTables document xs → (code : StaticCode) (template : Option ℕ)
+    → IfSome template (λ k. (code ≡ S1) × ((j : ℕ) (d : Data) → j < k → get_item j xs ≡ Some d → IsSome (template_in d))) → IfSome template (λ k. (code ≡ S1) × IsFirstUnwritten read k)
+written_before read document xs is h code None first = tt
+written_before read document xs is h code (Some k) (is_code, first) = (
+  is_code,
+  λ other ms ys j is_too tables below found.
+      let same_document : other ≡ document = some_is (sym is_too ∙ is) in
+      let same : ys ≡ xs = same_array ys xs (sym tables.0 ∙ same_document ∙ h.0) in
+      some_template ms (template_of ms) refl (first j (table ms) below (ap (get_item j) (sym same) ∙ found)),
+)
+  where
+    same_array : (xs ys : Items) → member (codes "template") (array xs) no_members ≡ member (codes "template") (array ys) no_members → xs ≡ ys
+    same_array xs ys e = cc
+
+    some_template : (ms : Members) (o : Option DeclaredTemplate) → template_of ms ≡ o → IsSome o → (t : DeclaredTemplate) × WritesTemplate ms t
+    some_template ms None e some = absurd (false≢true some)
+    some_template ms (Some t) e some = (t, template_written ms t e)

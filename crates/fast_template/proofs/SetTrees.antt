@@ -4,11 +4,7 @@ use Rattle.fast_template.specs.declared.sets.Templates.{Templates}
 use Rattle.fast_template.specs.Tree.{HasDistinctIds, TemplateData}
 use Rattle.fast_template.specs.Flat.{tree_of, templates_of, nodes_of, instructions_from, template_data}
 use Rattle.fast_template.specs.declared.instructions.Template.{Template}
-use Rattle.fast_template.proofs.Lists.{mapped_get, map_get_back}
-
--- the tree's template with a number is that of the set
-pub template_found : (s : Templates) (i : ℕ) (t : Template) → slice_get (templates_of s) i ≡ Some t → slice_get (tree_of s).templates i ≡ Some (template_data (instructions_from 0 (nodes_of s)) t)
-template_found s i t found = mapped_get (template_data (instructions_from 0 (nodes_of s))) (templates_of s) i t found
+use Rattle.fast_template.proofs.Lists.{map_get_back}
 
 -- the set's template behind the tree's
 pub template_behind : (s : Templates) (i : ℕ) (u : TemplateData) → slice_get (tree_of s).templates i ≡ Some u → (t : Template) × (slice_get (templates_of s) i ≡ Some t) × (u ≡ template_data (instructions_from 0 (nodes_of s)) t)

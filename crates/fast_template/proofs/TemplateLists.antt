@@ -1,6 +1,6 @@
 -- The templates of the items of an array, one after the other.
-use Rattle.std.proofs.Common.{◌≡◌, ℕ, ◌+◌, ◌<◌, ◌≤◌, List, [], ◌∷◌, ◌++◌, length, map, drop, get_or, refl, ap, sym, ◌∙◌, arith, suc, Option, Some, None, Bool, true, false, append_assoc, append-nil, ◌≢◌, codes, le-leb, nat_le, ◌&&◌}
-use Rattle.std.proofs.lemmas.List.{map-append, drop_all}
+use Rattle.std.proofs.Common.{◌≡◌, ℕ, ◌+◌, ◌<◌, ◌≤◌, List, [], ◌∷◌, ◌++◌, length, map, drop, get_or, refl, ap, sym, ◌∙◌, arith, suc, Option, Some, None, Bool, true, false, append_assoc, ◌≢◌, codes, le-leb, nat_le, ◌&&◌, inl, inr}
+use Rattle.std.proofs.lemmas.List.{map-append}
 use Rattle.toml.specs.Data.{Data, Items, Members, get_item, get_member, as_array}
 use Rattle.toml.specs.View.{view, items_view, members_view}
 use Rattle.toml.proofs.Views.{items_view-drop, Entry}
@@ -12,7 +12,8 @@ use Rattle.fast_template.specs.declared.keys.Unread.{Unread}
 use Rattle.fast_template.specs.declared.keys.Unread.TheVariants.{Shape, Memory}
 use Rattle.fast_template.specs.declared.codes.StaticFault.{StaticFault}
 use Rattle.fast_template.specs.declared.codes.StaticCode.TheVariants.{S1, Memory as NoMemory}
-use Rattle.std.specs.Prelude.{if◌then◌else◌, nat_eq}
+use Rattle.std.specs.Prelude.{if◌then◌else◌, nat_eq, is_some, IfSome, IsSome}
+use Rattle.std.proofs.lemmas.Bool.{cases_lt}
 use Rattle.std.proofs.lemmas.Bool.Decides.{nat_tests}
 use Rattle.fast_template.specs.WrittenSets.{written_data}
 use Rattle.fast_template.specs.declared.written.WrittenTemplate.{WrittenTemplate}
@@ -35,12 +36,6 @@ front_more ws w vs i d all inside read before =
     ∙ front_push (map written_data ws) (written_data w) rest
     ∙ ap (λ o. front (map written_data ws) (o >>= (λ t. rest >>= (λ us. Some (t ∷ us))))) (sym read)
     ∙ sym (ap (λ xs. front (map written_data ws) (all_templates xs)) (items_view-drop vs i d inside)) ∙ before
-
--- all items are read
-pub front_ends : (ws : List WrittenTemplate) (vs : List Value) (i : ℕ) (all : Option (List DeclaredTemplate)) → length vs ≤ i
-    → front (map written_data ws) (all_templates (items_view (drop i vs))) ≡ all → all ≡ Some (map written_data ws)
-front_ends ws vs i all end before =
-    sym before ∙ ap (λ us. front (map written_data ws) (all_templates (items_view us))) (drop_all i vs end) ∙ ap Some (append-nil (map written_data ws))
 
 -- as many members as entries
 pub members_count-view : (es : List Entry) → members_count (members_view es) ≡ length es
@@ -87,3 +82,23 @@ pub unread_fault : (f : Unread) (r : StaticFault) (xs : Items) (k : ℕ) (d : Da
     → get_item k xs ≡ Some d → (f ≡ Shape → template_in d ≡ None) → IsUnread xs r.code r.template
 unread_fault Shape r xs k d shape memory found none = rw (shape refl) (d, found, none refl)
 unread_fault Memory r xs k d shape memory found none = rw (memory refl) tt
+
+-- what was read before it
+pub unread_first : (f : Unread) (r : StaticFault) (k : ℕ) (P : ℕ → Type 0) → (f ≡ Shape → r ≡ record { code = S1; template = Some k }) → (f ≡ Memory → r ≡ record { code = NoMemory; template = None })
+    → P k → IfSome r.template (λ n. (r.code ≡ S1) × P n)
+unread_first Shape r k P shape memory h = rw (shape refl) (refl, h)
+unread_first Memory r k P shape memory h = rw (memory refl) tt
+
+some_is : {A : Type 0} {a b : A} → Some a ≡ Some b → a ≡ b
+some_is h = cc
+
+-- one item more
+pub read_more : (xs : Items) (k : ℕ) (d : Data) (t : DeclaredTemplate) → get_item k xs ≡ Some d → template_in d ≡ Some t → ((j : ℕ) (e : Data) → j < k → get_item j xs ≡ Some e → IsSome (template_in e))
+    → (j : ℕ) (e : Data) → j < k + 1 → get_item j xs ≡ Some e → IsSome (template_in e)
+read_more xs k d t found read before j e below at = elim (cases_lt j k) [
+  | inl h ↦ before j e h at
+  | inr h ↦
+      let here : k ≡ j = omega (arith, h, below) in
+      let same : d ≡ e = some_is (sym found ∙ ap (λ i. get_item i xs) here ∙ at) in
+      ap is_some (ap template_in (sym same) ∙ read)
+]

@@ -1,6 +1,6 @@
 -- From the tests of usable fields to facts.
 use Rattle.std.proofs.Common.{◌≡◌, ℕ, ◌<◌, refl, ap, sym, ◌∙◌, arith, Some}
-use Rattle.std.specs.Prelude.{Bool, true, false, ◌&&◌, not, nat_lt, is_some, Option, None}
+use Rattle.std.specs.Prelude.{Bool, true, false, ◌&&◌, nat_lt, is_some, Option, None}
 use Rattle.std.proofs.lemmas.Bool.{ltb-true}
 use Rattle.fast_value.specs.declared.kinds.Kind.{Kind}
 use Rattle.fast_value.specs.declared.kinds.Kind.TheVariants.{UInt32, Int32, UInt64, Int64, Decimal, Ascii, Unicode, Bytes}

@@ -22,6 +22,7 @@ pub mod Unwritten
 pub mod WrittenReading
 pub mod Sound
 pub mod Faults
+pub mod Firsts
 pub mod Places
 pub mod References
 pub mod FivePasses

@@ -5,7 +5,6 @@ use Rattle.fast_value.specs.declared.kinds.Kind.TheVariants.{UInt32, Int32, Int6
 use Rattle.fast_value.specs.Kinds.{Family, integers, decimals, texts, family}
 use Rattle.fast_template.specs.declared.operators.Operator.{Operator}
 use Rattle.fast_template.specs.declared.operators.Operator.TheVariants.{Tail}
-use Rattle.fast_template.specs.declared.instructions.Shape.{Shape}
 use Rattle.fast_template.specs.declared.instructions.Node.{Node}
 use Rattle.fast_template.specs.Tree.{FieldData}
 use Rattle.fast_template.specs.NodeData.{ShapeData, a_field, a_decimal, a_group, a_sequence, shape_data}

@@ -1,13 +1,14 @@
 //! Chains of references: those that never end, those that are too long, and what they come to, all of it found out
 //! before any reference is put in place.
 
-ghost use Rattle.std.specs.Prelude.{◌≡◌, ◌≢◌, ◌↔◌, ◌<◌, ◌≤◌, ◌^◌, ℕ, suc, List, is_some, map, length, replicate, take, sum_by, All, AllPairs, Some, None, IsTrue, IfOk, IfErr, OnOk};
+ghost use Rattle.std.specs.Prelude.{◌≡◌, ◌≢◌, ◌↔◌, ◌<◌, ◌≤◌, ◌^◌, ℕ, suc, List, is_some, map, length, replicate, take, sum_by, All, AllPairs, Some, None, IsTrue, IfSome, IfOk, IfErr, OnOk};
 ghost use Rattle.std.specs.List.{list_all};
 ghost use Rattle.std.specs.HashMap.{get_by_text};
 ghost use Rattle.fast_template.specs.AsWritten.{all_uses};
 ghost use Rattle.fast_template.specs.Chains.{Fits, nodes_in, depth_in};
 ghost use Rattle.fast_template.specs.Extents.{named_extent, next_extents, known_nodes, AreExtents, IsShallow, IsDeepAt};
 ghost use Rattle.fast_template.specs.Faults.{IsFaultAt};
+ghost use Rattle.fast_template.specs.Firsts.{IsFirstInChains};
 ghost use Rattle.fast_template.specs.Places.{place_of_name};
 ghost use Rattle.fast_template.specs.References.{KnowsReferences};
 ghost use Rattle.fast_template.specs.Sizes.{nesting_limit, node_limit};
@@ -107,6 +108,7 @@ fn check_depths(extents: &[Option<Extent>]) -> Result<(), StaticFault>
     requires { length extents.now < 2 ^ 32 }
     ensures shallow { OnOk result (All IsShallow extents.now) }
     ensures fault { IfErr result (λ e. (k : ℕ) × (e.code ≡ StaticCode.C4) × (e.template ≡ Some k) × IsDeepAt extents.now k) }
+    ensures first { IfErr result (λ e. (k : ℕ) × (e.code ≡ StaticCode.C4) × (e.template ≡ Some k) × All IsShallow (take k extents.now)) }
 {
     for (k, extent) in extents.iter().enumerate() {
         if !is_shallow(*extent) {
@@ -131,6 +133,7 @@ fn check_nodes(extents: &[Option<Extent>]) -> Result<(), StaticFault>
     requires { length extents.now < 2 ^ 32 }
     ensures few { OnOk result (sum_by known_nodes extents.now ≤ node_limit) }
     ensures fault { IfErr result (λ e. (k : ℕ) × (e.code ≡ StaticCode.C6) × (e.template ≡ Some k) × (k < length extents.now) × (node_limit < sum_by known_nodes (take (suc k) extents.now))) }
+    ensures first { IfErr result (λ e. (k : ℕ) × (e.code ≡ StaticCode.C6) × (e.template ≡ Some k) × (sum_by known_nodes (take k extents.now) ≤ node_limit)) }
 {
     let mut room = NODE_LIMIT;
     for (k, extent) in extents.iter().enumerate() {
@@ -154,7 +157,8 @@ fn check_cycles(
 ) -> Result<(), StaticFault>
     requires few { length templates.now < 2 ^ 32 }
     requires index { (q : List ℕ) → get_by_text names.now q ≡ place_of_name q (map written_data templates.now) }
-    ensures { IfErr result (λ e. IsFaultAt (map written_data templates.now) e.code e.template) }
+    ensures fault { IfErr result (λ e. IsFaultAt (map written_data templates.now) e.code e.template) }
+    ensures first { IfErr result (λ e. IfSome e.template (λ k. e.code ≡ StaticCode.C3)) }
 {
     match first_cyclic(alloc, names, templates) {
         Ok(None) => Ok(()),
@@ -178,6 +182,7 @@ pub(crate) fn check_chains(alloc: Global, set: &WrittenSet) -> Result<(), Static
     ensures shallow { OnOk result (All (λ t. depth_in (map written_data set.now.templates.items) nesting_limit t.fields ≤ nesting_limit) (map written_data set.now.templates.items)) }
     ensures few_nodes { OnOk result (sum_by (λ t. nodes_in (map written_data set.now.templates.items) nesting_limit t.fields) (map written_data set.now.templates.items) ≤ node_limit) }
     ensures fault { IfErr result (λ e. IsFaultAt (map written_data set.now.templates.items) e.code e.template) }
+    ensures first { IfErr result (λ e. IfSome e.template (IsFirstInChains (map written_data set.now.templates.items) e.code)) }
 {
     let Ok(extents) = extents_of(alloc, &set.names, &set.templates) else {
         return Err(NO_MEMORY);

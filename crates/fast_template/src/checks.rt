@@ -1,10 +1,11 @@
 //! The passes over a set that is written, each of which looks at the whole set.
 
-ghost use Rattle.std.specs.Prelude.{◌≡◌, ◌≢◌, ◌<◌, ◌^◌, ℕ, List, nat_eq, is_some, map, length, All, AllPairs, Some, IfOk, IfErr, OnOk};
+ghost use Rattle.std.specs.Prelude.{◌≡◌, ◌≢◌, ◌<◌, ◌^◌, ℕ, List, nat_eq, is_some, map, length, take, All, AllPairs, Some, IfSome, IsSome, IfOk, IfErr, OnOk};
 ghost use Rattle.std.specs.List.{list_all};
 ghost use Rattle.std.specs.HashMap.{get, get_by_text};
-ghost use Rattle.fast_template.specs.AsWritten.{all_uses, references};
+ghost use Rattle.fast_template.specs.AsWritten.{all_uses, references, all_references};
 ghost use Rattle.fast_template.specs.Faults.{IsFaultAt, fault_of};
+ghost use Rattle.fast_template.specs.Firsts.{pass_of};
 ghost use Rattle.fast_template.specs.Places.{place_of_name, place_of_id};
 ghost use Rattle.fast_template.specs.References.{references_in, KnowsReferences};
 ghost use Rattle.fast_template.specs.Sound.{IsSound};
@@ -38,6 +39,7 @@ pub(crate) fn check_uses(alloc: Global, templates: &[WrittenTemplate]) -> Result
     requires { length templates.now < 2 ^ 32 }
     ensures sound { OnOk result (All (λ t. All IsSound (all_uses t.fields)) (map written_data templates.now)) }
     ensures fault { IfErr result (λ e. IsFaultAt (map written_data templates.now) e.code e.template) }
+    ensures first { IfErr result (λ e. IfSome e.template (λ k. (pass_of e.code ≡ 3) × All (λ t. All IsSound (all_uses t.fields)) (take k (map written_data templates.now)))) }
 {
     for (k, template) in templates.iter().enumerate() {
         if let Err(code) = check_fields(alloc, &template.fields) {
@@ -56,6 +58,7 @@ pub(crate) fn index_names(
     ensures names { OnOk result (AllPairs (λ a b. a.name ≢ b.name) (map written_data templates.now)) }
     ensures index { IfOk result (λ m. (q : List ℕ) → get_by_text m q ≡ place_of_name q (map written_data templates.now)) }
     ensures fault { IfErr result (λ e. IsFaultAt (map written_data templates.now) e.code e.template) }
+    ensures first { IfErr result (λ e. IfSome e.template (λ k. (e.code ≡ StaticCode.C1) × AllPairs (λ a b. a.name ≢ b.name) (take k (map written_data templates.now)))) }
 {
     let mut names = HashMap::new(alloc);
     for (k, template) in templates.iter().enumerate() {
@@ -81,6 +84,7 @@ pub(crate) fn index_ids(
     ensures ids { OnOk result (AllPairs (λ a b. (id : ℕ) → a.id ≡ Some id → b.id ≢ Some id) (map written_data templates.now)) }
     ensures index { IfOk result (λ m. (q : ℕ) → get nat_eq m q ≡ place_of_id q (map written_data templates.now)) }
     ensures fault { IfErr result (λ e. IsFaultAt (map written_data templates.now) e.code e.template) }
+    ensures first { IfErr result (λ e. IfSome e.template (λ k. (e.code ≡ StaticCode.C2) × AllPairs (λ a b. (id : ℕ) → a.id ≡ Some id → b.id ≢ Some id) (take k (map written_data templates.now)))) }
 {
     let mut ids = HashMap::new(alloc);
     for (k, template) in templates.iter().enumerate() {
@@ -132,6 +136,7 @@ pub(crate) fn check_references(
     requires index { (q : List ℕ) → get_by_text names.now q ≡ place_of_name q (map written_data templates.now) }
     ensures known { OnOk result (KnowsReferences (map written_data templates.now)) }
     ensures fault { IfErr result (λ e. IsFaultAt (map written_data templates.now) e.code e.template) }
+    ensures first { IfErr result (λ e. IfSome e.template (λ k. (e.code ≡ StaticCode.D8) × All (λ t. All (λ name. IsSome (place_of_name name (map written_data templates.now))) (all_references t.fields)) (take k (map written_data templates.now)))) }
 {
     for (k, template) in templates.iter().enumerate() {
         if !are_known(names, &template.fields) {

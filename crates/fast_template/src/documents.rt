@@ -1,9 +1,10 @@
 //! From the text of a template set to the set as it is written: the first pass, whose fault is S1.
 
-ghost use Rattle.std.specs.Prelude.{◌≡◌, ◌<◌, ◌^◌, codes, map, option_map, length, true, Some, None, Err, IfOk, IfErr, IfSome, string_bytes};
-ghost use Rattle.toml.specs.Data.{Members, get_member};
+ghost use Rattle.std.specs.Prelude.{◌≡◌, ◌<◌, ◌^◌, codes, map, option_map, length, true, Some, None, Err, ℕ, IfOk, IfErr, IfSome, IsSome, string_bytes};
+ghost use Rattle.toml.specs.Data.{Data, Members, get_member, get_item};
 ghost use Rattle.toml.specs.Parse.{parse_document};
 ghost use Rattle.toml.specs.View.{view, items_view, table_view};
+ghost use Rattle.fast_template.specs.Firsts.{IsFirstUnwritten};
 ghost use Rattle.fast_template.specs.Notation.{WritesSet};
 ghost use Rattle.fast_template.specs.Reading.{id_of, dictionary_of, template_of, template_in, all_templates, tables_of, are_tables, are_templates};
 ghost use Rattle.fast_template.specs.Unwritten.{IsUnwritten};
@@ -153,6 +154,7 @@ fn templates_in(alloc: Global, items: &[Value]) -> Result<Vec<WrittenTemplate>, 
     requires { length items.now < 2 ^ 32 }
     ensures templates { IfOk result (λ v. all_templates (items_view items.now) ≡ Some (map written_data v.items)) }
     ensures fault { IfErr result (λ e. IsUnread (items_view items.now) e.code e.template) }
+    ensures first { IfErr result (λ e. IfSome e.template (λ k. (e.code ≡ StaticCode.S1) × ((j : ℕ) (d : Data) → j < k → get_item j (items_view items.now) ≡ Some d → IsSome (template_in d)))) }
 {
     let mut templates = Vec::new(alloc);
     for (k, item) in items.iter().enumerate() {
@@ -172,6 +174,7 @@ fn templates_in(alloc: Global, items: &[Value]) -> Result<Vec<WrittenTemplate>, 
 pub(crate) fn read_written(alloc: Global, text: &str) -> Result<Vec<WrittenTemplate>, StaticFault>
     ensures written { IfOk result (λ v. (document : Members) × (parse_document text.now ≡ Some document) × WritesSet document (map written_data v.items)) }
     ensures fault { IfErr result (λ e. IsUnwritten (parse_document text.now) e.code e.template) }
+    ensures first { IfErr result (λ e. IfSome e.template (λ k. (e.code ≡ StaticCode.S1) × IsFirstUnwritten (parse_document text.now) k)) }
 {
     let document = match toml::table_from_str(alloc, text) {
         Ok(document) => document,

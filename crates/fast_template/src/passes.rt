@@ -3,6 +3,7 @@
 ghost use Rattle.std.specs.Prelude.{◌≡◌, ℕ, List, nat_eq, map, IfOk, IfErr};
 ghost use Rattle.std.specs.HashMap.{get, get_by_text};
 ghost use Rattle.toml.specs.Parse.{parse_document};
+ghost use Rattle.fast_template.specs.Firsts.{IsFirstFault};
 ghost use Rattle.fast_template.specs.FivePasses.{IsWellWritten, IsAtFault};
 ghost use Rattle.fast_template.specs.Places.{place_of_name, place_of_id};
 ghost use Rattle.fast_template.specs.WrittenSets.{written_data};
@@ -29,6 +30,7 @@ pub(crate) fn read_set(alloc: Global, text: &str) -> Result<WrittenSet, StaticFa
     ensures names { IfOk result (λ s. (q : List ℕ) → get_by_text s.names q ≡ place_of_name q (map written_data s.templates.items)) }
     ensures ids { IfOk result (λ s. (q : ℕ) → get nat_eq s.ids q ≡ place_of_id q (map written_data s.templates.items)) }
     ensures fault { IfErr result (λ e. IsAtFault (parse_document text.now) e.code e.template) }
+    ensures first { IfErr result (λ e. IsFirstFault (parse_document text.now) e.code e.template) }
 {
     let templates = read_written(alloc, text)?;
     let names = index_names(alloc, &templates)?;

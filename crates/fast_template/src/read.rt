@@ -5,6 +5,7 @@ ghost use Rattle.std.specs.HashMap.{get_by_text};
 ghost use Rattle.toml.specs.Data.{Members};
 ghost use Rattle.toml.specs.Parse.{parse_document};
 ghost use Rattle.fast_template.specs.Checked.{IsTree};
+ghost use Rattle.fast_template.specs.Firsts.{IsFirstFault};
 ghost use Rattle.fast_template.specs.FivePasses.{IsAtFault};
 ghost use Rattle.fast_template.specs.Flat.{tree_of};
 ghost use Rattle.fast_template.specs.ReadSets.{IsChecked, IsSetBuilt};
@@ -44,6 +45,7 @@ impl Templates {
     pub fn read(alloc: Global, text: &str) -> Result<Templates, StaticFault>
         ensures read { IfOk result (λ t. (document : Members) × (parse_document text.now ≡ Some document) × IsTree document (tree_of t)) }
         ensures fault { IfErr result (λ e. IsAtFault (parse_document text.now) e.code e.template) }
+        ensures first { IfErr result (λ e. IsFirstFault (parse_document text.now) e.code e.template) }
         ensures none { IfErr result (λ e. e.code ≢ StaticCode.Memory → (document : Members) (t : Tree) → parse_document text.now ≡ Some document → ¬ (IsTree document t)) }
     {
         let set = read_set(alloc, text)?;

@@ -1,12 +1,13 @@
 use Rattle.std.proofs.Common.{◌≡◌, ◌<◌, ◌≤◌, ℕ, suc, map, length, take, subst, Some}
-use Rattle.std.specs.Prelude.{All, sum_by}
+use Rattle.std.specs.Prelude.{All, IfSome, sum_by}
 use Rattle.std.proofs.lemmas.Result.{on_ok_weaker, IfErr-weaker, err_from_is_err_and}
 use Rattle.fast_template.specs.declared.codes.StaticCode.TheVariants.{C4, C6}
 use Rattle.fast_template.specs.Extents.{known_nodes, AreExtents, IsShallow, IsDeepAt}
 use Rattle.fast_template.specs.Faults.{IsFaultAt}
+use Rattle.fast_template.specs.Firsts.{IsFirstInChains}
 use Rattle.fast_template.specs.Sizes.{nesting_limit, node_limit}
 use Rattle.fast_template.specs.WrittenSets.{written_data}
-use Rattle.fast_template.proofs.ChainFaults.{all_fit, all_shallow, few_nodes, deep_fault, many_fault}
+use Rattle.fast_template.proofs.ChainFaults.{all_fit, all_shallow, few_nodes, deep_fault, many_fault, cycle_first, deep_first, many_first}
 use Rattle.fast_template.proofs.chains.check_chains.Goals as goal
 
 pub returns-in_err-check_depths-clause-fault : goal.returns-in_err-check_depths-clause-fault
@@ -57,3 +58,32 @@ returns-clause-fault c =
     many_fault ts es c.requires.apart c.requires.known c.requires.sound found shallow fault
     (subst (λ xs. (k : ℕ) × (fault.code ≡ C6) × (fault.template ≡ Some k) × (k < length xs) × (node_limit < sum_by known_nodes (take (suc k) xs))) c.deref-4.ensures.value many))
     c.check_nodes.ensures.fault
+
+pub returns-in_err-check_cycles-clause-first : goal.returns-in_err-check_cycles-clause-first
+returns-in_err-check_cycles-clause-first c =
+    let ts = map written_data c.args.set.now.templates.items in
+    let r = err_from_is_err_and c.from_residual.result c.from_residual.ensures.1 in
+    rw (r.1, r.2) (cycle_first ts c.in_err-check_cycles.field-0.0 c.in_err-check_cycles.ensures.first)
+
+pub returns-in_err-check_depths-clause-first : goal.returns-in_err-check_depths-clause-first
+returns-in_err-check_depths-clause-first c =
+    let ts = map written_data c.args.set.now.templates.items in
+    let es = c.in-Ok.extents.items in
+    let found : AreExtents ts (suc nesting_limit) es = subst (λ us. AreExtents (map written_data us) (suc nesting_limit) es) c.deref.ensures.value c.in-Ok.ensures in
+    let fault = c.in_err-check_depths.field-0.0 in
+    let first = subst (λ xs. (k : ℕ) × (fault.code ≡ C4) × (fault.template ≡ Some k) × All IsShallow (take k xs)) c.deref-3.ensures.value c.in_err-check_depths.ensures.first in
+    let r = err_from_is_err_and c.from_residual-in_err-check_depths.result c.from_residual-in_err-check_depths.ensures.1 in
+    rw (r.1, r.2) (deep_first ts es found fault first)
+
+pub returns-clause-first : goal.returns-clause-first
+returns-clause-first c =
+    let ts = map written_data c.args.set.now.templates.items in
+    let es = c.in-Ok.extents.items in
+    let found : AreExtents ts (suc nesting_limit) es = subst (λ us. AreExtents (map written_data us) (suc nesting_limit) es) c.deref.ensures.value c.in-Ok.ensures in
+    let shallow : All IsShallow es = subst (All IsShallow) c.deref-3.ensures.value c.in_ok-check_depths.ensures.shallow in
+    IfErr-weaker c.check_nodes.result
+    (λ fault. (k : ℕ) × (fault.code ≡ C6) × (fault.template ≡ Some k) × (sum_by known_nodes (take k c.deref-4.result.now) ≤ node_limit))
+    (λ fault. IfSome fault.template (IsFirstInChains ts fault.code))
+    (λ fault few.
+    many_first ts es found shallow fault (subst (λ xs. (k : ℕ) × (fault.code ≡ C6) × (fault.template ≡ Some k) × (sum_by known_nodes (take k xs) ≤ node_limit)) c.deref-4.ensures.value few))
+    c.check_nodes.ensures.first

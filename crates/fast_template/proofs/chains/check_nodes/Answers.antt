@@ -11,3 +11,6 @@ returns-then-nodes-room-clause-fault c =
     let next : sum_by known_nodes (take (suc k) c.args.extents.now) ≡ sum_by known_nodes (take (k + 1) c.args.extents.now) = ap (λ n. sum_by known_nodes (take n c.args.extents.now)) (sym (add-one k)) in
     let here = c.known_nodes-nodes.ensures in
     (k, refl, refl, c.loop-k-test.true, omega (arith, more, next, here, c.loop-k.invariant))
+
+pub returns-then-nodes-room-clause-first : goal.returns-then-nodes-room-clause-first
+returns-then-nodes-room-clause-first c = (c.loop-k.k, refl, refl, omega (arith, c.loop-k.invariant))

@@ -1,7 +1,8 @@
-use Rattle.std.proofs.Common.{◌≡◌, map, length, refl, sym, ap, ◌∙◌, true, false}
+use Rattle.std.proofs.Common.{◌≡◌, map, take, length, refl, sym, subst, ap, ◌∙◌, true, false}
 use Rattle.std.specs.Prelude.{All, IsSome, is_some}
 use Rattle.std.specs.List.{list_all}
 use Rattle.std.specs.HashMap.{get_by_text}
+use Rattle.std.proofs.lemmas.List.{take-map}
 use Rattle.std.proofs.lemmas.List.Elements.{All-more, All-map}
 use Rattle.std.proofs.lemmas.Option.{slice_get_read}
 use Rattle.fast_template.specs.AsWritten.{DeclaredTemplate, all_references}
@@ -35,3 +36,10 @@ returns-then-not-are_known-clause-fault c =
     let read = slice_get_read ts (length ts) c.loop-k.k t refl c.loop-k-test.true c.index-templates-k.is in
     let failed : list_all (λ q. is_some (look q)) (references_in t.fields.items) ≡ false = sym (c.if-not-are_known.ensures ∙ ap (λ fs. list_all (λ q. is_some (look q)) (references_in fs)) c.deref.ensures.value) in
     rw c.fault_at.ensures (unknown_at look (map written_data ts) c.loop-k.k (written_data t) c.requires.index (mapped_get written_data ts c.loop-k.k t read) failed)
+
+pub returns-then-not-are_known-clause-first : goal.returns-then-not-are_known-clause-first
+returns-then-not-are_known-clause-first c =
+    let us = c.args.templates.now in
+    let ts = map written_data us in
+    let known = λ (t : DeclaredTemplate). All (λ name. IsSome (place_of_name name ts)) (all_references t.fields) in
+    rw c.fault_at.ensures (refl, subst (All known) (sym (take-map written_data c.loop-k.k us)) (All-map known written_data (take c.loop-k.k us) c.loop-k.invariant))

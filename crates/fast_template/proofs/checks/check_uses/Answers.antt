@@ -1,12 +1,13 @@
-use Rattle.std.proofs.Common.{map, length, refl, subst}
+use Rattle.std.proofs.Common.{map, take, length, refl, sym, subst}
 use Rattle.std.specs.Prelude.{All}
+use Rattle.std.proofs.lemmas.List.{take-map}
 use Rattle.std.proofs.lemmas.List.Elements.{All-more, All-map}
 use Rattle.std.proofs.lemmas.Option.{slice_get_read}
 use Rattle.fast_template.specs.AsWritten.{DeclaredTemplate, all_uses}
 use Rattle.fast_template.specs.Sound.{IsSound, uses_in, HasFault}
 use Rattle.fast_template.specs.WrittenSets.{written_data}
 use Rattle.fast_template.proofs.Lists.{all_taken, mapped_get}
-use Rattle.fast_template.proofs.SetFaults.{uses_fault}
+use Rattle.fast_template.proofs.SetFaults.{uses_fault, first_uses_fault}
 use Rattle.fast_template.proofs.checks.check_uses.Goals as goal
 
 pub loop-k-preserved : goal.loop-k-preserved
@@ -21,6 +22,13 @@ returns-in-Err-clause-fault c =
     let read = slice_get_read ts (length ts) c.loop-k.k t refl c.loop-k-test.true c.index-templates-k.is in
     let fault = subst (λ fs. HasFault c.in-Err.code (uses_in fs)) c.deref.ensures.value c.in-Err.ensures.fault in
     rw c.fault_at.ensures (uses_fault (map written_data ts) c.loop-k.k (written_data t) c.in-Err.code (mapped_get written_data ts c.loop-k.k t read) fault)
+
+pub returns-in-Err-clause-first : goal.returns-in-Err-clause-first
+returns-in-Err-clause-first c =
+    let ts = c.args.templates.now in
+    let fault = subst (λ fs. HasFault c.in-Err.code (uses_in fs)) c.deref.ensures.value c.in-Err.ensures.fault in
+    let before = subst (All (λ t. All IsSound (all_uses t.fields))) (sym (take-map written_data c.loop-k.k ts)) (All-map (λ (t : DeclaredTemplate). All IsSound (all_uses t.fields)) written_data (take c.loop-k.k ts) c.loop-k.invariant) in
+    rw c.fault_at.ensures (first_uses_fault (map written_data ts) c.loop-k.k c.in-Err.code (uses_in c.index-templates-k.result.fields.items) fault before)
 
 pub returns-clause-sound : goal.returns-clause-sound
 returns-clause-sound c =

@@ -36,6 +36,13 @@ returns-then-is_some-clause-fault c =
     let here : place_of_id id (take k (map written_data ts)) ≡ Some j.0 = ap (place_of_id id) (take-map written_data k ts) ∙ sym (c.loop-k.invariant.index id) ∙ j.1 in
     rw c.fault_at.ensures (id_before (map written_data ts) k j.0 id (written_data t) (mapped_get written_data ts k t read) c.in-Some.is here)
 
+pub returns-then-is_some-clause-first : goal.returns-then-is_some-clause-first
+returns-then-is_some-clause-first c =
+    rw c.fault_at.ensures (
+      refl,
+      subst (AllPairs (λ a b. (id : ℕ) → a.id ≡ Some id → b.id ≢ Some id)) (sym (take-map written_data c.loop-k.k c.args.templates.now)) c.loop-k.invariant.ids,
+    )
+
 pub loop-k-preserved : goal.loop-k-preserved
 loop-k-preserved c =
     let ts = c.args.templates.now in

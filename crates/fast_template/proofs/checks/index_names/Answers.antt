@@ -28,6 +28,10 @@ returns-then-is_some-clause-fault c =
     ap (place_of_name (string_bytes t.name)) (take-map written_data k ts) ∙ sym (c.loop-k.invariant.index (string_bytes t.name)) ∙ j.1 in
     rw c.fault_at.ensures (name_before (map written_data ts) k j.0 (written_data t) (mapped_get written_data ts k t read) here)
 
+pub returns-then-is_some-clause-first : goal.returns-then-is_some-clause-first
+returns-then-is_some-clause-first c =
+    rw c.fault_at.ensures (refl, subst (AllPairs (λ a b. a.name ≢ b.name)) (sym (take-map written_data c.loop-k.k c.args.templates.now)) c.loop-k.invariant.names)
+
 pub loop-k-preserved : goal.loop-k-preserved
 loop-k-preserved c =
     let ts = c.args.templates.now in

@@ -10,6 +10,7 @@ use Rattle.std.proofs.lemmas.Result.{err_from_is_err_and}
 use Rattle.toml.specs.Parse.{parse_document}
 use Rattle.fast_template.specs.declared.codes.StaticCode.TheVariants.{C5}
 use Rattle.fast_template.proofs.NoTrees.{no_tree}
+use Rattle.fast_template.proofs.Firsts.{chains_first, first_width, written_first}
 use Rattle.fast_template.proofs.ReadLaws.{tree_read, wide_stands}
 use Rattle.fast_template.proofs.sets.Templates.read.Goals as goal
 
@@ -88,3 +89,24 @@ returns-in-Err-clause-none c other document t is h =
     let f = rw (c.deref.ensures.value, c.deref-2.ensures.value) at c.in-Err.ensures.wide in
     let fault = inr (record { document = w.document; written = ts; reads = w.reads; shape = w.shape; stands = wide_stands ts c.in-Ok.built c.in-Err.template f.0 c.in-Ok.ensures f.1 f.2 }) in
     no_tree (parse_document c.args.text.now) C5 (Some c.in-Err.template) fault other document t is h
+
+pub returns-in_err-check_chains-clause-first : goal.returns-in_err-check_chains-clause-first
+returns-in_err-check_chains-clause-first c =
+    let w = c.in_ok-set.ensures.set in
+    let ts = map written_data c.in_ok-set.set.templates.items in
+    let e = c.in_err-check_chains.field-0.0 in
+    let first = chains_first ts e.code e.template (record { names = w.names; ids = w.ids; sound = w.sound }) w.known c.in_err-check_chains.ensures.first in
+    let r = err_from_is_err_and c.from_residual-in_err-check_chains.result c.from_residual-in_err-check_chains.ensures.1 in
+    rw (r.1, r.2) (written_first (parse_document c.args.text.now) w.document ts e.code e.template w.reads w.shape c.in_err-check_chains.ensures.fault first)
+
+pub returns-in-Err-clause-first : goal.returns-in-Err-clause-first
+returns-in-Err-clause-first c =
+    let w = c.in_ok-set.ensures.set in
+    let ts = map written_data c.in_ok-set.set.templates.items in
+    let k = c.in-Err.template in
+    let f = rw (c.deref.ensures.value, c.deref-2.ensures.value) at c.in-Err.ensures.wide in
+    let narrow = rw (c.deref.ensures.value, c.deref-2.ensures.value) at c.in-Err.ensures.first in
+    let chains = c.in_ok-check_chains.ensures in
+    let first =
+    first_width ts c.in-Ok.built k (record { names = w.names; ids = w.ids; sound = w.sound }) w.known (λ j d inside. (chains.fits j d inside, chains.shallow j d inside)) chains.few_nodes c.in-Ok.ensures narrow in
+    written_first (parse_document c.args.text.now) w.document ts C5 (Some k) w.reads w.shape (wide_stands ts c.in-Ok.built k f.0 c.in-Ok.ensures f.1 f.2) first
