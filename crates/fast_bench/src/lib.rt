@@ -1,4 +1,4 @@
-//! One run of the decoder over a stream in memory, for callers from C that measure it.
+//! One run of the decoder over a stream in memory, for callers from C that measure or test it.
 #![tactic(auto)]
 
 ghost use Rattle.std.specs.Prelude.{◌<◌};
