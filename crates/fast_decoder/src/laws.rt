@@ -22,17 +22,17 @@ pub fn one_answer()
     ensures { (t : Tree) (l : Limits) (w : List ℕ) (es fs : List EventData) (e f : End) → Stream t l w es e → Stream t l w fs f → (es ≡ fs) × (e ≡ f) }
 {}
 
-/// Each stream of Bytes has an answer.
+/// Each stream of bytes has an answer.
 pub fn some_answer()
     ensures { (t : Tree) (l : Limits) (w : List ℕ) → AreBytes w → (es : List EventData) × (e : End) × Stream t l w es e }
 {}
 
-/// What is read from Bytes, byte after byte, is their stream.
+/// What is read from bytes, one after the other, is their stream.
 pub fn reading_is_the_stream()
     ensures { (t : Tree) (l : Limits) (w : List ℕ) → AreBytes w → Stream t l w (reading t l w).0 (end_of (reading t l w).1) }
 {}
 
-/// ByteVector in two pieces: the second is read from where the first has led.
+/// Bytes in two pieces: the second piece is read from where the first has led.
 pub fn reading_in_pieces()
     ensures { (t : Tree) (l : Limits) (w v : List ℕ) → ((reading t l (w ++ v)).0 ≡ (reading t l w).0 ++ (run (message_begun t l) (length w) (reading t l w).1 v).0) × ((reading t l (w ++ v)).1 ≡ (run (message_begun t l) (length w) (reading t l w).1 v).1) }
 {}
@@ -57,7 +57,7 @@ pub fn message_bound()
     ensures { (t : Tree) (l : Limits) (d : Dictionary) (w : List ℕ) (es : List EventData) (r : Reached (MessageData × Dictionary)) → message t l d w es r → length es ≤ message_cap t l }
 {}
 
-/// A stream hands over no more events than its Bytes times the cap of the set.
+/// A stream hands over no more events than its bytes times the cap of the set.
 pub fn events_bound()
     ensures { (t : Tree) (l : Limits) (w : List ℕ) (es : List EventData) (e : End) → Stream t l w es e → length es ≤ length w * message_cap t l }
 {}
@@ -96,7 +96,7 @@ pub fn element_within()
     ensures widest { (u : Weights) (at : Label) (f : FieldData) (body : Body) → 2 + body_outer u body ≤ widest u (sequence at f body) }
 {}
 
-/// After a fault nothing is read: more Bytes change neither the events nor the end.
+/// After a fault nothing is read: more bytes change neither the events nor the end.
 pub fn faults_stay()
     ensures { (t : Tree) (l : Limits) (w v : List ℕ) (es : List EventData) (c : Code) (place : ℕ) → Stream t l w es (faulted c place) → Stream t l (w ++ v) es (faulted c place) }
 {}
