@@ -286,7 +286,7 @@ impl<'t> Machine<'t> {
         self.cursor.use_bit();
         self.cursor.begin(template.body.as_slice());
         self.turns = Turns::after(&self.turns);
-        self.settle(templates, limits, sink)
+        self.settle_on(templates, limits, sink)
     }
 
     /// Takes bytes of the template identifier.
@@ -376,7 +376,7 @@ impl<'t> Machine<'t> {
         if is_too_wide(limits.strict, self.cursor.map_len(), width) {
             return Err(FaultCode::Stream(Code::R8));
         }
-        self.settle(templates, limits, sink)
+        self.settle_on(templates, limits, sink)
     }
 
     /// Takes bytes of the first unit of the next instruction, an integer.

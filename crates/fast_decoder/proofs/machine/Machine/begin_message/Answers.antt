@@ -26,8 +26,8 @@ returns-in_err-hand-clause-hands g c t found =
     (ap (reader_of c.args.limits.strict) (begin_message (bounds c.args.limits) c.args.number (template_data (instructions_from 0 set.nodes) t) (state_past identifier (slots_dictionary c.args.self.now.slots) 0 c.args.self.now.cursor)))
     c.in_err-hand.ensures)
 
-pub settle-requires : goal.settle-requires
-settle-requires g c =
+pub settle_on-requires : goal.settle_on-requires
+settle_on-requires g c =
     record {
       turn = begun_turns (set_of c.args.templates.now) c.args.limits c.args.self.now c.args.number c.template-template.result.now c.begin.new.self c.reset_if.new.slots c.after-self.result c.requires.behind c.template-template.ensures.found c.template-template.ensures.body
           c.reset_if.ensures.terms
@@ -45,18 +45,18 @@ returns-clause-hands g c t found =
     let l = bounds c.args.limits in
     let both : Some c.template-template.result.now ≡ Some t = sym c.template-template.ensures.found ∙ found in
     let same : c.template-template.result.now ≡ t = cc both in
-    subst (λ (u : Template). Hands g.S.Sink.takes g.S.Sink.stops (reader_of strict (message_of_then l c.args.number (template_data (instructions_from 0 set.nodes) u) (state_past identifier d 0 c.args.self.now.cursor))) c.args.sink.now c.settle.result c.settle.new.sink (meaning set c.args.limits c.settle.new.self)) same
-    (hands_next g.S.Sink.takes g.S.Sink.stops c.args.sink.now c.hand.new.sink c.settle.result c.settle.new.sink (meaning set c.args.limits c.settle.new.self)
+    subst (λ (u : Template). Hands g.S.Sink.takes g.S.Sink.stops (reader_of strict (message_of_then l c.args.number (template_data (instructions_from 0 set.nodes) u) (state_past identifier d 0 c.args.self.now.cursor))) c.args.sink.now c.settle_on.result c.settle_on.new.sink (meaning set c.args.limits c.settle_on.new.self)) same
+    (hands_next g.S.Sink.takes g.S.Sink.stops c.args.sink.now c.hand.new.sink c.settle_on.result c.settle_on.new.sink (meaning set c.args.limits c.settle_on.new.self)
     (begun set strict l c.args.number c.template-template.result.now d (slots_dictionary c.reset_if.new.slots) c.args.self.now.cursor c.begin.new.self c.reset_if.ensures.entries
     (ap (λ (x : CursorData). x.frames) c.begin.ensures ∙ ap (λ (x : CursorData). x.frames) c.use_bit.ensures.same ∙ ap (λ (x : CursorData). x.frames) c.requires.behind.outermost)
     (ap (λ (x : CursorData). x.left) c.begin.ensures ∙ c.as_slice.ensures.value)
     (ap (λ (x : CursorData). bits_left x) c.begin.ensures ∙ c.use_bit.ensures.bits))
-    c.in_ok-hand.ensures c.settle.ensures.hands)
+    c.in_ok-hand.ensures c.settle_on.ensures.hands)
 
 pub returns-clause-turns : goal.returns-clause-turns
 returns-clause-turns g c way n h =
     let m = c.args.self.now in
-    c.settle.ensures.turns way n
+    c.settle_on.ensures.turns way n
     (message_begun way (set_of c.args.templates.now) c.args.limits n m.turns.count c.after-self.result.count c.args.number c.template-template.result.now c.begin.new.self h c.template-template.ensures.found c.after-self.ensures
     (ap (λ (x : CursorData). x.left) c.begin.ensures ∙ c.as_slice.ensures.value)
     (ap (λ (x : CursorData). x.frames) c.begin.ensures ∙ ap (λ (x : CursorData). x.frames) c.use_bit.ensures.same ∙ ap (λ (x : CursorData). x.frames) c.requires.behind.outermost))

@@ -39,6 +39,6 @@ returns-clause-hands g c =
     let inside : List ℕ → Grammar Dictionary = λ w. going_on set (bounds c.args.limits) (slots_dictionary c.args.self.now.slots) c.args.self.now.counted (record c.args.self.now.cursor { map = w }) in
     let long : (strict && spare m) ≡ false = ap (λ w. strict && spare w) (sym c.map.ensures) ∙ sym c.is_overlong.ensures ∙ c.if-is_overlong.false in
     let fits : (strict && not (nat_le (length m) (bytes_for c.args.width))) ≡ false = ap (λ n. strict && not (nat_le n (bytes_for c.args.width))) (sym c.map_len.ensures) ∙ sym c.is_too_wide.ensures ∙ c.if-is_too_wide.false in
-    hands_as g.S.Sink.takes g.S.Sink.stops c.args.sink.now c.settle.result c.settle.new.sink (meaning set c.args.limits c.settle.new.self)
+    hands_as g.S.Sink.takes g.S.Sink.stops c.args.sink.now c.settle_on.result c.settle_on.new.sink (meaning set c.args.limits c.settle_on.new.self)
     (map_judged strict m (λ w. reader_of strict (narrow c.args.width w (inside w))) long ∙ narrow-fits strict c.args.width m (inside m) fits)
-    c.settle.ensures.hands
+    c.settle_on.ensures.hands
