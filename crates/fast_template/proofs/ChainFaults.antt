@@ -198,12 +198,13 @@ few_counts_before all (t ∷ ts) (e ∷ es) (suc k) (here, rest) few =
     let r = few_counts_before all ts es k rest (omega (arith, c, few)) in
     omega (arith, c, d, r, here, few)
 
-pub cycle_first : (ts : List DeclaredTemplate) (fault : StaticFault) → IfSome fault.template (λ k. fault.code ≡ C3) → IfSome fault.template (IsFirstInChains ts fault.code)
+pub cycle_first : (ts : List DeclaredTemplate) (fault : StaticFault) → IfSome fault.template (λ k. (fault.code ≡ C3) × ((j : ℕ) → j < k → ¬ (StandsAt ts C3 j)))
+    → IfSome fault.template (IsFirstInChains ts fault.code)
 cycle_first ts fault h = of_code fault.code fault.template h
   where
-    of_code : (code : StaticCode) (o : Option ℕ) → IfSome o (λ k. code ≡ C3) → IfSome o (IsFirstInChains ts code)
+    of_code : (code : StaticCode) (o : Option ℕ) → IfSome o (λ k. (code ≡ C3) × ((j : ℕ) → j < k → ¬ (StandsAt ts C3 j))) → IfSome o (IsFirstInChains ts code)
     of_code code None h = tt
-    of_code code (Some k) h = rw h tt
+    of_code code (Some k) (is, first) = rw is first
 
 pub deep_first : (ts : List DeclaredTemplate) (es : List (Option Extent)) → AreExtents ts (suc nesting_limit) es
     → (fault : StaticFault) → (k : ℕ) × (fault.code ≡ C4) × (fault.template ≡ Some k) × All IsShallow (take k es) → IfSome fault.template (IsFirstInChains ts fault.code)

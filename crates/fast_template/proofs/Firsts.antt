@@ -230,10 +230,10 @@ first_reference ts k w known c j told s =
 known_at : (ts : List DeclaredTemplate) (j : ℕ) → KnowsReferences ts → (t : DeclaredTemplate) → slice_get ts j ≡ Some t → All (λ name. IsSome (place_of_name name ts)) (all_references t.fields)
 known_at ts j known t at = one_of (λ (u : DeclaredTemplate). All (λ name. IsSome (place_of_name name ts)) (all_references u.fields)) ts j t known at
 
-pub first_cycle : (ts : List DeclaredTemplate) (k : ℕ) → AreNamed ts → KnowsReferences ts → IsFirst ts C3 k
-first_cycle ts k w known c j told s =
-    by_pass ts (λ p i. p < 5 → ⊥) (λ i at here. no_name ts w.names i at) (λ i at here. no_id ts w.ids i at) (λ i bad here. bad (all_sound ts i w)) (λ i at here. no_reference ts i (known_at ts i known) at)
-    (λ i at here. omega (arith, here)) (λ i at here. omega (arith, here)) (λ i at here. omega (arith, here)) (λ i at here. omega (arith, here)) c j s told
+pub first_cycle : (ts : List DeclaredTemplate) (k : ℕ) → AreNamed ts → KnowsReferences ts → ((j : ℕ) → j < k → ¬ (StandsAt ts C3 j)) → IsFirst ts C3 k
+first_cycle ts k w known first c j told s =
+    by_pass ts (λ p i. ComesBefore p i 5 k → ⊥) (λ i at here. no_name ts w.names i at) (λ i at here. no_id ts w.ids i at) (λ i bad here. bad (all_sound ts i w))
+    (λ i at here. no_reference ts i (known_at ts i known) at) (λ i at here. first i (earlier 5 i k here) at) (λ i at. later 6 5 i k (omega arith)) (λ i at. later 7 5 i k (omega arith)) (λ i at. later 8 5 i k (omega arith)) c j s told
 
 -- a template before one fits, and is not too deep
 chained_at : (all ts : List DeclaredTemplate) (j : ℕ) → AreChained all ts → (t : DeclaredTemplate) → slice_get ts j ≡ Some t → Fits all nesting_limit t.fields × (depth_in all nesting_limit t.fields ≤ nesting_limit)
@@ -318,7 +318,7 @@ references_first ts code (Some k) w (is, known) = subst (λ c. IsFirst ts c k) (
 
 pub chains_first : (ts : List DeclaredTemplate) (code : StaticCode) (template : Option ℕ) → AreNamed ts → KnowsReferences ts → IfSome template (IsFirstInChains ts code) → IfSome template (IsFirst ts code)
 chains_first ts code None w known h = tt
-chains_first ts C3 (Some k) w known h = first_cycle ts k w known
+chains_first ts C3 (Some k) w known h = first_cycle ts k w known h
 chains_first ts C4 (Some k) w known h = first_depth ts k w known h
 chains_first ts C6 (Some k) w known h = first_many ts k w known h.0 h.1
 chains_first ts S1 (Some k) w known h = absurd h

@@ -39,3 +39,4 @@ pub mod ReadLaws
 pub mod Headings
 pub mod NoTrees
 pub mod Firsts
+pub mod CycleRanks

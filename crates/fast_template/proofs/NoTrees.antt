@@ -131,7 +131,7 @@ references_in_place {ts = ts} {entries = entries} (a_reference {chain = c} {n = 
     All-cons (Leads ts entries (suc c)) name (all_references ds) (c, number, t, n, k, b, refl, found, same, body) (references_in_place rest)
 
 -- a name stands once
-one_of_name : (ts : List DeclaredTemplate) (i j : ℕ) (t u : DeclaredTemplate) → AllPairs (λ a b. a.name ≢ b.name) ts → slice_get ts i ≡ Some t → slice_get ts j ≡ Some u → t.name ≡ u.name → i ≡ j
+pub one_of_name : (ts : List DeclaredTemplate) (i j : ℕ) (t u : DeclaredTemplate) → AllPairs (λ a b. a.name ≢ b.name) ts → slice_get ts i ≡ Some t → slice_get ts j ≡ Some u → t.name ≡ u.name → i ≡ j
 one_of_name ts i j t u apart at_i at_j same = elim (cases_order i j) [
   | inl e ↦ e
   | inr (inl h) ↦ absurd (before i j t u h at_i at_j same)

@@ -1,5 +1,5 @@
 -- References between templates by their numbers.
-use Rattle.std.specs.Prelude.{◌≡◌, ℕ, zero, suc, ◌<◌, List, length, Contains, slice_get, Vec, Option, Some}
+use Rattle.std.specs.Prelude.{◌≡◌, ℕ, zero, suc, ◌<◌, ◌≤◌, Bool, true, nat_lt, List, length, Contains, slice_get, Vec, Option, Some}
 use Rattle.std.specs.Global.{Global}
 use Rattle.std.specs.List.{filter_map}
 use Rattle.fast_template.specs.AsWritten.{DeclaredTemplate, all_references}
@@ -31,6 +31,14 @@ pub record IsReached (graph : List (Vec ℕ Global)) (start : ℕ) (k : ℕ) : T
 pub record IsCyclic (graph : List (Vec ℕ Global)) (k : ℕ) : Type 0 where
   pub more : ℕ
   pub leads : Leads graph (suc more) k k
+
+-- The rank of a template is no greater than this one, and where it is strict it is less.
+abbrev pub LeadsDown : List ℕ → Bool → ℕ → ℕ → Type 0
+LeadsDown ranks strict rank k = (next : ℕ) × (slice_get ranks k ≡ Some next) × (next ≤ rank) × (strict ≡ true → next < rank)
+
+-- No reference leads to a greater rank, and those of the templates before one lead to lesser ones.
+abbrev pub AreRanked : List (Vec ℕ Global) → List ℕ → ℕ → Type 0
+AreRanked graph ranks first = (a b : ℕ) → Refers graph a b → (rank : ℕ) × (slice_get ranks a ≡ Some rank) × LeadsDown ranks (nat_lt a first) rank b
 
 -- All numbers are those of templates.
 abbrev pub AreWithin : List (Vec ℕ Global) → Type 0

@@ -30,10 +30,9 @@ pass_of Memory = 9
 abbrev pub ComesBefore : ℕ → ℕ → ℕ → ℕ → Type 0
 ComesBefore p j n k = (p < n) ⊎ (p ≡ n) × (j < k)
 
--- One fault is told before another: that of an earlier pass, and of one pass that of the earlier template. Less is said
--- where templates refer to themselves: not which of them is told, nor that one is told where a chain is too long.
+-- One fault is told before another: that of an earlier pass, and of one pass that of the earlier template. Less is said of
+-- chains that are too long: they may be told where a template that is no earlier refers to itself.
 abbrev pub IsToldBefore : StaticCode → ℕ → StaticCode → ℕ → Type 0
-IsToldBefore c j C3 k = pass_of c < pass_of C3
 IsToldBefore c j C4 k = (pass_of c < pass_of C3) ⊎ (pass_of c ≤ pass_of C4) × (j < k)
 IsToldBefore c j code k = ComesBefore (pass_of c) j (pass_of code) k
 
@@ -57,7 +56,7 @@ AreChained all ts = All (λ t. Fits all nesting_limit t.fields × (depth_in all 
 
 -- What the passes over chains have shown before a fault of this code at this template.
 abbrev pub IsFirstInChains : List DeclaredTemplate → StaticCode → ℕ → Type 0
-IsFirstInChains ts C3 k = Unit {0}
+IsFirstInChains ts C3 k = (j : ℕ) → j < k → ¬ (StandsAt ts C3 j)
 IsFirstInChains ts C4 k = AreChained ts (take k ts)
 IsFirstInChains ts C6 k = AreChained ts ts × (sum_by (λ t. nodes_in ts nesting_limit t.fields) (take k ts) ≤ node_limit)
 IsFirstInChains ts code k = ⊥

@@ -10,6 +10,7 @@ ghost use Rattle.fast_template.specs.Extents.{named_extent, next_extents, known_
 ghost use Rattle.fast_template.specs.Faults.{IsFaultAt};
 ghost use Rattle.fast_template.specs.Firsts.{IsFirstInChains};
 ghost use Rattle.fast_template.specs.Places.{place_of_name};
+ghost use Rattle.fast_template.specs.Refused.{StandsAt};
 ghost use Rattle.fast_template.specs.References.{KnowsReferences};
 ghost use Rattle.fast_template.specs.Sizes.{nesting_limit, node_limit};
 ghost use Rattle.fast_template.specs.Sound.{IsSound};
@@ -158,7 +159,7 @@ fn check_cycles(
     requires few { length templates.now < 2 ^ 32 }
     requires index { (q : List ℕ) → get_by_text names.now q ≡ place_of_name q (map written_data templates.now) }
     ensures fault { IfErr result (λ e. IsFaultAt (map written_data templates.now) e.code e.template) }
-    ensures first { IfErr result (λ e. IfSome e.template (λ k. e.code ≡ StaticCode.C3)) }
+    ensures first { AllPairs (λ a b. a.name ≢ b.name) (map written_data templates.now) → IfErr result (λ e. IfSome e.template (λ k. (e.code ≡ StaticCode.C3) × ((j : ℕ) → j < k → ¬ (StandsAt (map written_data templates.now) StaticCode.C3 j)))) }
 {
     match first_cyclic(alloc, names, templates) {
         Ok(None) => Ok(()),

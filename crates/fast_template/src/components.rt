@@ -5,8 +5,14 @@ ghost use Rattle.fast_template.specs.Cycles.{AreWithin};
 
 use std::alloc::{AllocError, Global};
 
-/// The mark of a template whose component is closed, behind each place on the stack.
-const CLOSED: usize = usize::MAX;
+/// What a walk finds.
+#[derive(Debug, Drop)]
+pub(crate) struct Components {
+    /// The first template that was found to refer to itself, by way of others or not.
+    pub(crate) first: Option<usize>,
+    /// For each template a number: no reference leads to a greater one, and to the same one only in a component.
+    pub(crate) ranks: Vec<usize>,
+}
 
 /// A template on the path from where the walk began.
 #[derive(Clone, Copy, Debug)]
@@ -23,11 +29,14 @@ struct Step {
 #[derive(Debug, Drop)]
 struct Walk<'a> {
     graph: &'a [Vec<u32>],
-    /// For each template the first place on the stack that it is known to lead to; 0 where it was not met.
+    /// For each template the first place on the stack that it is known to lead to; 0 where it was not met, and the number
+    /// of its component once that is closed.
     lowlinks: Vec<usize>,
     /// The templates that were met and whose components are not closed.
     stack: Vec<usize>,
     path: Vec<Step>,
+    /// The number of the component that was closed last, behind each place on the stack.
+    closed: usize,
     /// The first template that was found to refer to itself, by way of others or not.
     first: Option<usize>,
     ghost graph_within: { AreWithin graph.now },
@@ -49,6 +58,7 @@ impl<'a> Walk<'a> {
             lowlinks: vec![in alloc; 0; graph.len()]?,
             stack: Vec::new(alloc),
             path: Vec::new(alloc),
+            closed: graph.len(),
             first: None,
         })
     }
@@ -141,6 +151,7 @@ impl<'a> Walk<'a> {
     fn close(&mut self, place: usize)
         ensures { self.new.graph ≡ self.old.graph }
     {
+        self.closed = self.closed.saturating_add(1);
         let is_cycle = self.stack.len() > place;
         for _ in place..=self.stack.len() {
             self.close_last(is_cycle);
@@ -154,7 +165,7 @@ impl<'a> Walk<'a> {
         let Some(template) = self.stack.pop() else {
             return;
         };
-        self.lowlinks[template] = CLOSED;
+        self.lowlinks[template] = self.closed;
         if is_cycle {
             self.note(template);
         }
@@ -170,8 +181,8 @@ fn turns_of(graph: &[Vec<u32>]) -> usize {
     turns
 }
 
-/// The first template that refers to itself, by way of others or not.
-pub(crate) fn first_in_cycle(alloc: Global, graph: &[Vec<u32>]) -> Result<Option<usize>, AllocError>
+/// The components of all templates.
+pub(crate) fn components_of(alloc: Global, graph: &[Vec<u32>]) -> Result<Components, AllocError>
     requires { AreWithin graph.now }
 {
     let turns = turns_of(graph);
@@ -186,5 +197,8 @@ pub(crate) fn first_in_cycle(alloc: Global, graph: &[Vec<u32>]) -> Result<Option
             }
         }
     }
-    Ok(walk.first)
+    Ok(Components {
+        first: walk.first,
+        ranks: walk.lowlinks,
+    })
 }

@@ -1,17 +1,17 @@
 //! Templates that refer to themselves, by way of others or not.
 
-ghost use Rattle.std.specs.Prelude.{◌≡◌, ◌<◌, ◌^◌, ◌++◌, ℕ, List, true, map, length, All, IfOk, IfSome, OnOk};
+ghost use Rattle.std.specs.Prelude.{◌≡◌, ◌<◌, ◌^◌, ◌≢◌, ◌++◌, ℕ, List, true, map, length, All, AllPairs, IsTrue, IfOk, IfSome, OnOk};
 ghost use Rattle.std.specs.List.{filter_map};
 ghost use Rattle.std.specs.HashMap.{get_by_text};
 ghost use Rattle.fast_template.specs.AsWritten.{references};
-ghost use Rattle.fast_template.specs.Cycles.{numbers, targets_of, IsReached, IsCyclic, AreWithin};
+ghost use Rattle.fast_template.specs.Cycles.{numbers, targets_of, IsReached, IsCyclic, AreWithin, LeadsDown, AreRanked};
 ghost use Rattle.fast_template.specs.Places.{place_of_name};
 ghost use Rattle.fast_template.specs.Refused.{StandsAt};
 ghost use Rattle.fast_template.specs.References.{references_in};
 ghost use Rattle.fast_template.specs.WrittenSets.{instruction_data, written_data};
 
 use crate::codes::StaticCode;
-use crate::components::first_in_cycle;
+use crate::components::components_of;
 use crate::written::{WrittenInstruction, WrittenTemplate};
 use std::alloc::{AllocError, Global};
 use std::collections::HashMap;
@@ -122,6 +122,37 @@ fn is_cyclic(alloc: Global, graph: &[Vec<u32>], start: usize) -> Result<bool, Al
     Ok(false)
 }
 
+/// Whether references lead to templates of no greater rank, and where it is strict of a lesser one.
+fn lead_down(targets: &[u32], ranks: &[usize], rank: usize, is_strict: bool) -> bool
+    ensures { IsTrue result → All (LeadsDown ranks.now is_strict rank) targets.now }
+{
+    for target in targets {
+        let Some(next) = ranks.get(*target as usize) else {
+            return false;
+        };
+        if *next > rank || is_strict && *next == rank {
+            return false;
+        }
+    }
+    true
+}
+
+/// Whether no reference leads to a template of a greater rank, and none from the templates before the first to one of the
+/// same rank. Then none of those refers to itself, by way of others or not.
+fn are_ranked(graph: &[Vec<u32>], ranks: &[usize], first: usize) -> bool
+    ensures { IsTrue result → AreRanked graph.now ranks.now first }
+{
+    for (k, targets) in graph.iter().enumerate() {
+        let Some(rank) = ranks.get(k) else {
+            return false;
+        };
+        if !lead_down(targets, ranks, *rank, k < first) {
+            return false;
+        }
+    }
+    true
+}
+
 /// The first template that refers to itself, by way of others or not.
 pub(crate) fn first_cyclic(
     alloc: Global,
@@ -130,14 +161,19 @@ pub(crate) fn first_cyclic(
 ) -> Result<Option<usize>, AllocError>
     requires few { length templates.now < 2 ^ 32 }
     requires index { (q : List ℕ) → get_by_text names.now q ≡ place_of_name q (map written_data templates.now) }
-    ensures { IfOk result (λ o. IfSome o (λ k. (k < 2 ^ 32) × StandsAt (map written_data templates.now) StaticCode.C3 k)) }
+    ensures cyclic { IfOk result (λ o. IfSome o (λ k. (k < 2 ^ 32) × StandsAt (map written_data templates.now) StaticCode.C3 k)) }
+    ensures first { AllPairs (λ a b. a.name ≢ b.name) (map written_data templates.now) → IfOk result (λ o. IfSome o (λ k. (j : ℕ) → j < k → ¬ (StandsAt (map written_data templates.now) StaticCode.C3 j))) }
 {
     let graph = graph_of(alloc, names, templates)?;
-    let Some(first) = first_in_cycle(alloc, &graph)? else {
+    let components = components_of(alloc, &graph)?;
+    let Some(first) = components.first else {
         return Ok(None);
     };
-    // The walk proposes the template, and the search shows that it refers to itself.
-    if first < graph.len() && is_cyclic(alloc, &graph, first)? {
+    // The walk proposes the template. Its ranks show that no earlier one refers to itself, and the search that it does.
+    if first >= graph.len() || !are_ranked(&graph, &components.ranks, first) {
+        return Ok(None);
+    }
+    if is_cyclic(alloc, &graph, first)? {
         return Ok(Some(first));
     }
     Ok(None)

@@ -1,10 +1,11 @@
-use Rattle.std.proofs.Common.{◌≡◌, ◌<◌, ◌≤◌, ℕ, suc, map, length, take, subst, Some}
-use Rattle.std.specs.Prelude.{All, IfSome, sum_by}
+use Rattle.std.proofs.Common.{◌≡◌, ◌≢◌, sym, ◌<◌, ◌≤◌, ℕ, suc, map, length, take, subst, Some}
+use Rattle.std.specs.Prelude.{All, AllPairs, IfSome, sum_by}
 use Rattle.std.proofs.lemmas.Result.{on_ok_weaker, IfErr-weaker, err_from_is_err_and}
-use Rattle.fast_template.specs.declared.codes.StaticCode.TheVariants.{C4, C6}
+use Rattle.fast_template.specs.declared.codes.StaticCode.TheVariants.{C3, C4, C6}
 use Rattle.fast_template.specs.Extents.{known_nodes, AreExtents, IsShallow, IsDeepAt}
 use Rattle.fast_template.specs.Faults.{IsFaultAt}
 use Rattle.fast_template.specs.Firsts.{IsFirstInChains}
+use Rattle.fast_template.specs.Refused.{StandsAt}
 use Rattle.fast_template.specs.Sizes.{nesting_limit, node_limit}
 use Rattle.fast_template.specs.WrittenSets.{written_data}
 use Rattle.fast_template.proofs.ChainFaults.{all_fit, all_shallow, few_nodes, deep_fault, many_fault, cycle_first, deep_first, many_first}
@@ -63,7 +64,11 @@ pub returns-in_err-check_cycles-clause-first : goal.returns-in_err-check_cycles-
 returns-in_err-check_cycles-clause-first c =
     let ts = map written_data c.args.set.now.templates.items in
     let r = err_from_is_err_and c.from_residual.result c.from_residual.ensures.1 in
-    rw (r.1, r.2) (cycle_first ts c.in_err-check_cycles.field-0.0 c.in_err-check_cycles.ensures.first)
+    let e = c.in_err-check_cycles.field-0.0 in
+    let same = c.deref-then-not-are_known.ensures.value in
+    let apart = subst (λ us. AllPairs (λ a b. a.name ≢ b.name) (map written_data us)) (sym same) c.requires.apart in
+    let first = subst (λ us. IfSome e.template (λ k. (e.code ≡ C3) × ((j : ℕ) → j < k → ¬ (StandsAt (map written_data us) C3 j)))) same (c.in_err-check_cycles.ensures.first apart) in
+    rw (r.1, r.2) (cycle_first ts e first)
 
 pub returns-in_err-check_depths-clause-first : goal.returns-in_err-check_depths-clause-first
 returns-in_err-check_depths-clause-first c =
