@@ -2,26 +2,24 @@
 use Rattle.std.proofs.Common.{refl, sym, ap, ◌∙◌, subst, arith, inl, inr}
 use Rattle.std.proofs.Math.Nat.{le_refl, le_trans, le-max_left, le-max_right, mul-le-mul_right, mul-le-mul_left, add-mul, suc-mul, mul-zero, min-eq_left, min_comm}
 use Rattle.std.proofs.lemmas.Bool.{leb-true, cases_lt}
-use Rattle.std.specs.Prelude.{◌≡◌, ◌≢◌, ℕ, zero, suc, ◌+◌, ◌*◌, ◌-◌, ◌<◌, ◌≤◌, Bool, true, false, if◌then◌else◌, nat_le, List, [], ◌∷◌, drop, map, slice_get, min, Option, Some, None, Result, Ok, Err, OnOk, is_err}
+use Rattle.std.specs.Prelude.{◌≡◌, ℕ, zero, suc, ◌+◌, ◌*◌, ◌-◌, ◌<◌, ◌≤◌, Bool, true, false, if◌then◌else◌, nat_le, List, [], ◌∷◌, drop, map, slice_get, min, Option, Some, None, Result, Ok, Err, OnOk, is_err}
 use Rattle.fast_value.specs.declared.settings.Limits.{Limits}
 use Rattle.fast_value.specs.Limits.{bounds}
 use Rattle.fast_value.specs.declared.codes.Code.{Code}
 use Rattle.fast_value.specs.declared.codes.Code.TheVariants.{L2, L5}
-use Rattle.fast_template.specs.Tree.{Tree, Label, FieldData, Instruction, field, parts, group, sequence, Body, step, TemplateData}
+use Rattle.fast_template.specs.Tree.{Tree, Label, FieldData, Instruction, sequence, Body, step, TemplateData}
 use Rattle.fast_template.specs.Sizes.{turn_weights, size, body_size, outer, body_outer, widest, body_widest, greatest, product_cap, sum_cap, turn_cap}
 use Rattle.fast_template.specs.declared.instructions.Template.{Template}
 use Rattle.fast_template.specs.Flat.{template_data, instructions_from}
 use Rattle.fast_decoder.specs.declared.faults.FaultCode.{FaultCode}
 use Rattle.fast_decoder.specs.declared.machine.Machine.{Machine}
 use Rattle.fast_decoder.specs.declared.machine.Turn.{Turn}
-use Rattle.fast_decoder.specs.declared.machine.Turn.TheVariants.{Silent, Handed, Waits}
+use Rattle.fast_decoder.specs.declared.machine.Turn.TheVariants.{Handed, Waits}
 use Rattle.fast_decoder.specs.declared.turns.Turns.{Turns}
 use Rattle.fast_decoder.specs.declared.machine.Waiting.{Waiting}
 use Rattle.fast_decoder.specs.declared.machine.Waiting.TheVariants.{Map, Identifier, SegmentMap, Field, Text, Number, Bytes, Mantissa}
 use Rattle.fast_decoder.specs.Cursors.{ElementsData, FrameData, CursorData, entered, left_to}
 use Rattle.fast_decoder.specs.Messages.{within_limits}
-use Rattle.fast_decoder.specs.Passing.{IsPast}
-use Rattle.fast_decoder.specs.Scalars.{IsOfField}
 use Rattle.fast_decoder.specs.Positions.{Set, tree_in, body_in, IsFresh}
 use Rattle.fast_decoder.specs.TurnsLeft.{Way, by_sequence, by_message, most_by, body_turns, AreWithin, elements_turns, AreElementsWithin, frames_turns, AreFramesWithin, turns_left, IsWithinTurns, HasTurns, HasTurnsInMap, HasTurnsAt, HasTurnsWaiting, HasTurnsBehind, HasTurnsAfter, turns_begun, turns_begun_at, IsWithinMessage}
 use Rattle.fast_decoder.proofs.SegmentTurns.{some_frame}
@@ -44,14 +42,6 @@ pub within_next : (way : Way) (w : ℕ) (i : Instruction) (is : Body) → AreWit
 within_next by_sequence w i is h = (tt, tt)
 within_next by_message w i is h = (le_trans (le-max_left (widest turn_weights i) (body_widest turn_weights is)) h, le_trans (le-max_right (widest turn_weights i) (body_widest turn_weights is)) h)
 
-pub group_turns : (way : Way) (l : Limits) (at : Label) (b : Bool) (body : Body) → turns_of way l (group at b body) ≡ 2 + body_turns way l body
-group_turns by_sequence l at b body = refl
-group_turns by_message l at b body = refl
-
-pub group_within : (way : Way) (w : ℕ) (at : Label) (b : Bool) (body : Body) → IsWithin way w (group at b body) → AreWithin way w body
-group_within by_sequence w at b body h = tt
-group_within by_message w at b body h = h
-
 sequence_within : (way : Way) (w : ℕ) (at : Label) (f : FieldData) (body : Body) → IsWithin way w (sequence at f body) → AreWithin way w body
 sequence_within by_sequence w at f body h = tt
 sequence_within by_message w at f body h = le_trans (le-max_right (2 + body_outer turn_weights body) (body_widest turn_weights body)) h
@@ -69,26 +59,6 @@ sequence_turns by_message l w at f body n few h =
   where
     wide : (x z : ℕ) → x ≤ z → 3 + x ≤ 3 + z
     wide x z i = omega (arith, i)
-
--- an instruction has at least a turn
-some_turn : (way : Way) (l : Limits) (i : Instruction) → 1 ≤ turns_of way l i
-some_turn by_sequence l (field at f) = omega arith
-some_turn by_sequence l (parts at e m) = omega arith
-some_turn by_sequence l (group at b body) = one (body_size turn_weights l body)
-  where
-    one : (x : ℕ) → 1 ≤ 2 + x
-    one x = omega arith
-some_turn by_sequence l (sequence at f body) = one (l.max_elements * (2 + body_size turn_weights l body))
-  where
-    one : (x : ℕ) → 1 ≤ 3 + x
-    one x = omega arith
-some_turn by_message l (field at f) = omega arith
-some_turn by_message l (parts at e m) = omega arith
-some_turn by_message l (group at b body) = one (body_outer turn_weights body)
-  where
-    one : (x : ℕ) → 1 ≤ 2 + x
-    one x = omega arith
-some_turn by_message l (sequence at f body) = omega arith
 
 -- The message ends at last.
 some_end : (way : Way) (set : Set) (l : Limits) (fs : List FrameData) → 1 ≤ frames_turns way set l fs
@@ -115,35 +85,6 @@ moved way set l k j n t t' counted counted' c c' h same body frames less = recor
     all : (t y x k j n : ℕ) → y + k ≤ x + j → t + x ≤ n + k → t + y ≤ n + j
     all t y x k j n e i = omega (arith, e, i)
 
--- a turn more
-pub one_turn : (way : Way) (set : Set) (l : Limits) (n t t' counted : ℕ) (c : CursorData) → t' ≡ t + 1 → IsWithinTurns way set l 0 n t counted c → IsWithinTurns way set l 1 n t' counted c
-one_turn way set l n t t' counted c same h = record {
-  each = h.each;
-  body = h.body;
-  frames = h.frames;
-  most = fewer (turns_left way set l h.each counted c) (most_by way (tree_in set) l) h.most;
-  all = rw same (all t (turns_left way set l h.each counted c) n h.all);
-}
-  where
-    fewer : (x m : ℕ) → x ≤ m + 0 → x ≤ m + 1
-    fewer x m i = omega (arith, i)
-
-    all : (t x n : ℕ) → t + x ≤ n + 0 → t + 1 + x ≤ n + 1
-    all t x n i = omega (arith, i)
-
--- a unit more, with a turn that it pays for itself
-pub one_unit : (way : Way) (set : Set) (l : Limits) (k n t t' counted : ℕ) (c : CursorData) → t' ≡ t + 1 → IsWithinTurns way set l k n t counted c → IsWithinTurns way set l k (1 + n) t' counted c
-one_unit way set l k n t t' counted c same h = record {
-  each = h.each;
-  body = h.body;
-  frames = h.frames;
-  most = h.most;
-  all = rw same (all t (turns_left way set l h.each counted c) n k h.all);
-}
-  where
-    all : (t x n k : ℕ) → t + x ≤ n + k → t + 1 + x ≤ 1 + n + k
-    all t x n k i = omega (arith, i)
-
 -- The turns taken are within the number.
 pub turns_taken : (way : Way) (set : Set) (l : Limits) (n t counted : ℕ) (c : CursorData) → IsWithinTurns way set l 1 n t counted c → t ≤ n
 turns_taken way set l n t counted c h = taken t (body_turns way l (body_in set c.left)) (frames_turns way set l c.frames) ((l.max_total - counted) * h.each) n (some_end way set l c.frames) h.all
@@ -157,24 +98,6 @@ none_taken way set l n t counted c h = taken t (turns_left way set l h.each coun
     taken : (t x n : ℕ) → t + x ≤ n + 0 → t ≤ n
     taken t x n j = omega (arith, j)
 
--- The next instruction is passed.
-pub passed : (way : Way) (set : Set) (l : Limits) (n t t' counted counted' : ℕ) (c c' : CursorData) (i : Instruction) → body_in set c.left ≡ step i (body_in set (drop 1 c.left)) → t' ≡ t → counted' ≡ counted
-    → c'.left ≡ drop 1 c.left → c'.frames ≡ c.frames → IsWithinTurns way set l 1 n t counted c → IsWithinTurns way set l 0 n t' counted' c'
-passed way set l n t t' counted counted' c c' i next turns same left frames h =
-    let rest = body_in set (drop 1 c.left) in
-    let within = within_next way h.each i rest (subst (AreWithin way h.each) next h.body) in
-    let less : turns_left way set l h.each counted c ≡ (turns_of way l i + body_turns way l rest) + frames_turns way set l c.frames + (l.max_total - counted) * h.each
-    = ap (λ b. body_turns way l b + frames_turns way set l c.frames + (l.max_total - counted) * h.each) next ∙ ap (λ x. x + frames_turns way set l c.frames + (l.max_total - counted) * h.each) (body_next way l i rest) in
-    let now : turns_left way set l h.each counted' c' ≡ body_turns way l rest + frames_turns way set l c.frames + (l.max_total - counted) * h.each
-    = ap (λ x. body_turns way l (body_in set c'.left) + frames_turns way set l c'.frames + (l.max_total - x) * h.each) same
-    ∙ ap (λ ns. body_turns way l (body_in set ns) + frames_turns way set l c'.frames + (l.max_total - counted) * h.each) left
-    ∙ ap (λ fs. body_turns way l rest + frames_turns way set l fs + (l.max_total - counted) * h.each) frames in
-    moved way set l 1 0 n t t' counted counted' c c' h turns (subst (λ ns. AreWithin way h.each (body_in set ns)) (sym left) within.1) (subst (AreFramesWithin way set h.each) (sym frames) h.frames)
-    (rw (less, now) (fewer (turns_of way l i) (body_turns way l rest) (frames_turns way set l c.frames) ((l.max_total - counted) * h.each) (some_turn way l i)))
-  where
-    fewer : (i b f e : ℕ) → 1 ≤ i → b + f + e + 1 ≤ i + b + f + e + 0
-    fewer i b f e h = omega (arith, h)
-
 -- without instructions
 nothing_left : (way : Way) (set : Set) (l : Limits) → body_turns way l (body_in set []) ≡ 0
 nothing_left by_sequence set l = refl
@@ -183,31 +106,6 @@ nothing_left by_message set l = refl
 nothing_within : (way : Way) (set : Set) (w : ℕ) → AreWithin way w (body_in set [])
 nothing_within by_sequence set w = tt
 nothing_within by_message set w = omega arith
-
--- A group begins.
-pub group_opened : (way : Way) (set : Set) (l : Limits) (n t t' counted counted' : ℕ) (c mid c' : CursorData) (at : Label) (b : Bool) (body : List ℕ) → body_in set c.left ≡ step (group at b (body_in set body)) (body_in set (drop 1 c.left))
-    → t' ≡ t → counted' ≡ counted → mid.left ≡ drop 1 c.left → mid.frames ≡ c.frames → c' ≡ entered mid None body → IsWithinTurns way set l 1 n t counted c → IsWithinTurns way set l 0 n t' counted' c'
-group_opened way set l n t t' counted counted' c mid c' at b body next turns same left frames is h =
-    let rest = body_in set (drop 1 c.left) in
-    let i = group at b (body_in set body) in
-    let within = within_next way h.each i rest (subst (AreWithin way h.each) next h.body) in
-    let less : turns_left way set l h.each counted c ≡ ((2 + body_turns way l (body_in set body)) + body_turns way l rest) + frames_turns way set l c.frames + (l.max_total - counted) * h.each
-    = ap (λ x. body_turns way l x + frames_turns way set l c.frames + (l.max_total - counted) * h.each) next
-    ∙ ap (λ x. x + frames_turns way set l c.frames + (l.max_total - counted) * h.each) (body_next way l i rest)
-    ∙ ap (λ x. (x + body_turns way l rest) + frames_turns way set l c.frames + (l.max_total - counted) * h.each) (group_turns way l at b (body_in set body)) in
-    let now : turns_left way set l h.each counted' c' ≡ body_turns way l (body_in set body) + (1 + body_turns way l rest + 0 + frames_turns way set l c.frames) + (l.max_total - counted) * h.each
-    = ap (turns_left way set l h.each counted') is
-    ∙ ap (λ x. body_turns way l (body_in set body) + (1 + body_turns way l (body_in set mid.left) + 0 + frames_turns way set l mid.frames) + (l.max_total - x) * h.each) same
-    ∙ ap (λ ns. body_turns way l (body_in set body) + (1 + body_turns way l (body_in set ns) + 0 + frames_turns way set l mid.frames) + (l.max_total - counted) * h.each) left
-    ∙ ap (λ fs. body_turns way l (body_in set body) + (1 + body_turns way l rest + 0 + frames_turns way set l fs) + (l.max_total - counted) * h.each) frames in
-    let inside : AreFramesWithin way set h.each (entered mid None body).frames = (subst (λ ns. AreWithin way h.each (body_in set ns)) (sym left) within.1, tt, subst (AreFramesWithin way set h.each) (sym frames) h.frames) in
-    moved way set l 1 0 n t t' counted counted' c c' h turns
-    (subst (λ (x : CursorData). AreWithin way h.each (body_in set x.left)) (sym is) (group_within way h.each at b (body_in set body) within.0))
-    (subst (λ (x : CursorData). AreFramesWithin way set h.each x.frames) (sym is) inside)
-    (rw (less, now) (fewer (body_turns way l (body_in set body)) (body_turns way l rest) (frames_turns way set l c.frames) ((l.max_total - counted) * h.each)))
-  where
-    fewer : (b r f e : ℕ) → b + (1 + r + 0 + f) + e + 1 ≤ ((2 + b) + r) + f + e + 0
-    fewer b r f e = omega arith
 
 -- A sequence of so many elements begins.
 pub length_passed : (way : Way) (set : Set) (l : Limits) (n t t' counted counted' : ℕ) (c c' : CursorData) (at : Label) (f : FieldData) (body : List ℕ) (count : ℕ)
@@ -258,19 +156,6 @@ element_opened way set l n t t' counted counted' c c' body (suc m) width some tu
   where
     fewer : (b r x f e : ℕ) → b + (1 + r + x + f) + e + 1 ≤ 0 + (1 + r + (x + (2 + b)) + f) + e + 0
     fewer b r x f e = omega arith
-
--- No element is left of a sequence.
-pub elements_done : (way : Way) (set : Set) (l : Limits) (n t counted : ℕ) (c : CursorData) (body : List ℕ) (count : ℕ) → IsWithinTurns way set l 1 n t counted (entered c (Some (record { more = count; body = body; width = 0 })) []) → IsWithinTurns way set l 0 n t counted c
-elements_done way set l n t counted c body count h =
-    let b = body_turns way l (body_in set body) in
-    let r = body_turns way l (body_in set c.left) in
-    let fs = frames_turns way set l c.frames in
-    let e = (l.max_total - counted) * h.each in
-    let less : turns_left way set l h.each counted (entered c (Some (record { more = count; body = body; width = 0 })) []) ≡ 0 + (1 + r + count * (2 + b) + fs) + e = ap (λ x. x + (1 + r + count * (2 + b) + fs) + e) (nothing_left way set l) in
-    moved way set l 1 0 n t t counted counted (entered c (Some (record { more = count; body = body; width = 0 })) []) c h refl h.frames.0 h.frames.2 (rw less (fewer r (count * (2 + b)) fs e))
-  where
-    fewer : (r x f e : ℕ) → r + f + e + 1 ≤ 0 + (1 + r + x + f) + e + 0
-    fewer r x f e = omega arith
 
 -- A group ends.
 pub group_closed : (way : Way) (set : Set) (l : Limits) (n t counted : ℕ) (c c' : CursorData) (f : FrameData) (fs : List FrameData) → c.left ≡ [] → c.frames ≡ f ∷ fs → f.elements ≡ None → c' ≡ left_to c f fs
@@ -400,33 +285,6 @@ claim_within l before k m e = by (nat_le k l.max_elements) refl (nat_le (before 
     by true f false g = absurd (cc g)
     by false f b g = absurd (cc g)
 
--- A unit of a field is in hand.
-pub of_field_turns : (way : Way) (set : Set) (l : Limits) (n : ℕ) (m : Machine) (w : Waiting) → IsOfField w → HasTurns way set l 1 n m → HasTurnsAt w way set l n m
-of_field_turns way set l n m Field of h = h
-of_field_turns way set l n m Text of h = h
-of_field_turns way set l n m (Number stage) of h = h
-of_field_turns way set l n m (Bytes stage) of h = h
-of_field_turns way set l n m Map of h = absurd of
-of_field_turns way set l n m Identifier of h = absurd of
-of_field_turns way set l n m (SegmentMap width) of h = absurd of
-of_field_turns way set l n m (Mantissa x) of h = absurd of
-
--- A message's map is in hand.
-pub map_turns : (way : Way) (set : Set) (l : Limits) (n t : ℕ) (map : List ℕ) → t + most_by way (tree_in set) l ≤ n → HasTurnsInMap map way set l n t
-map_turns way set l n t [] h = omega (arith, h)
-map_turns way set l n t (b ∷ w) h = h
-
--- A map is gone on with, or begun.
-pub map_unit : (way : Way) (set : Set) (l : Limits) (n t : ℕ) (map : List ℕ) → HasTurnsInMap map way set l n t → (t + 1) + most_by way (tree_in set) l ≤ 1 + n + turns_begun map way (tree_in set) l
-map_unit way set l n t [] h = more (most_by way (tree_in set) l) t n h
-  where
-    more : (m t n : ℕ) → t ≤ n → (t + 1) + m ≤ 1 + n + m
-    more m t n i = omega (arith, i)
-map_unit way set l n t (b ∷ w) h = more (most_by way (tree_in set) l) t n h
-  where
-    more : (m t n : ℕ) → t + m ≤ n → (t + 1) + m ≤ 1 + n + 0
-    more m t n i = omega (arith, i)
-
 -- Of a machine that counts anew what is left is within the most turns of a message.
 anew : (way : Way) (set : Set) (l : Limits) (k n t t' counted : ℕ) (c : CursorData) → t' ≡ 0 → IsWithinTurns way set l k n t counted c → IsWithinTurns way set l k (most_by way (tree_in set) l) t' counted c
 anew way set l k n t t' counted c none h = record {
@@ -474,16 +332,6 @@ taken_at (Mantissa x) way set l n m h = turns_taken way set l n m.turns.count m.
 
 pub waiting_taken : (way : Way) (set : Set) (l : Limits) (n : ℕ) (m : Machine) → HasTurnsWaiting way set l n m → m.turns.count ≤ n
 waiting_taken way set l n m h = taken_at m.waiting way set l n m h
-
--- A field's value, or that of a decimal, is known, and the machine is past it.
-pub finished : (way : Way) (set : Set) (l : Limits) (n : ℕ) (m m' : Machine) (i : Instruction) (result : Result Turn FaultCode) → body_in set m.cursor.left ≡ step i (body_in set (drop 1 m.cursor.left)) → m' ≡ record m { cursor = m'.cursor }
-    → OnOk result (IsPast m.cursor m'.cursor) → result ≢ Ok Waits → HasTurns way set l 1 n m → HasTurnsBehind result way set l n m'
-finished way set l n m m' i (Ok Waits) next same past on h = absurd (on refl)
-finished way set l n m m' i (Err code) next same past on h = fault_turns way set l n m m' (Err code) code refl (ap (λ (x : Machine). x.turns.count) same) h
-finished way set l n m m' i (Ok Silent) next same past on h =
-    passed way set l n m.turns.count m'.turns.count m.counted m'.counted m.cursor m'.cursor i next (ap (λ (x : Machine). x.turns.count) same) (ap (λ (x : Machine). x.counted) same) (ap (λ (x : CursorData). x.left) past.same) (ap (λ (x : CursorData). x.frames) past.same) h
-finished way set l n m m' i (Ok Handed) next same past on h =
-    passed way set l n m.turns.count m'.turns.count m.counted m'.counted m.cursor m'.cursor i next (ap (λ (x : Machine). x.turns.count) same) (ap (λ (x : Machine). x.counted) same) (ap (λ (x : CursorData). x.left) past.same) (ap (λ (x : CursorData). x.frames) past.same) h
 
 -- More turns are allowed.
 more_within : (way : Way) (set : Set) (l : Limits) (k n n' t counted : ℕ) (c : CursorData) → n ≤ n' → IsWithinTurns way set l k n t counted c → IsWithinTurns way set l k n' t counted c
@@ -608,9 +456,6 @@ all_paid way set l k m (Err code) h = (h, tt)
 pub spent_paid : (way : Way) (set : Set) (l : Limits) (k : ℕ) (m : Machine) → IsSpent way set l k m → (m.turns.count ≤ k * (1 + most_by way (tree_in set) l)) × ((n : ℕ) × HasTurnsWaiting way set l n m)
 spent_paid way set l zero m h = (let e = h.0 in omega (arith, e), (most_by way (tree_in set) l, h.1))
 spent_paid way set l (suc k) m h = (waiting_taken way set l (suc k * (1 + most_by way (tree_in set) l)) m h, (suc k * (1 + most_by way (tree_in set) l), h))
-
-pub none_spent : (way : Way) (set : Set) (l : Limits) (m : Machine) → m.turns.count ≡ 0 → HasTurnsWaiting way set l (most_by way (tree_in set) l) m → IsSpent way set l 0 m
-none_spent way set l m e h = (e, h)
 
 -- Whatever bounds the elements, they have: so the turns are within the bytes times one more than W.
 pub turns_bounded : (t : Tree) (l : Limits) (k turns : ℕ) → ((way : Way) → turns ≤ k * (1 + most_by way t l)) → turns ≤ k * (1 + turn_cap t l)
