@@ -94,7 +94,7 @@ pub(crate) fn judge_unsigned(w: &[u8], n: u128, strict: bool, top: u64) -> Resul
 }
 
 /// What an entity is as a nullable unsigned integer, where `x` is what it means.
-#[inline]
+#[inline(always)]
 pub(crate) fn judge_nullable_unsigned(
     w: &[u8],
     x: Option<u128>,
@@ -121,7 +121,7 @@ pub(crate) fn judge_nullable_unsigned(
 }
 
 /// What an entity that stands for `n` is as a mandatory signed integer.
-#[inline]
+#[inline(always)]
 pub(crate) fn judge_signed(
     w: &[u8],
     n: i128,
@@ -135,6 +135,7 @@ pub(crate) fn judge_signed(
     ensures value { IfOk result (λ x. SpellsInt strict (signed_between low top) false (Some x) w.now) }
     ensures overlong { (result ≡ Err WireFault.R6) ↔ (IsTrue strict × IsOverlong (value (signed_between low top)) w.now) }
     ensures outside { result ≡ Err WireFault.D2 → IsOutside strict (signed_between low top) false w.now }
+    ensures same { IfOk result (λ x. x ≡ n) }
 {
     if is_refused_signed(w, strict) {
         return Err(WireFault::R6);
@@ -146,7 +147,7 @@ pub(crate) fn judge_signed(
 }
 
 /// What an entity is as a nullable signed integer, where `x` is what it means.
-#[inline]
+#[inline(always)]
 pub(crate) fn judge_nullable_signed(
     w: &[u8],
     x: Option<i128>,
@@ -160,6 +161,7 @@ pub(crate) fn judge_nullable_signed(
     ensures value { IfOk result (λ x. SpellsInt strict (signed_between low top) true x w.now) }
     ensures overlong { (result ≡ Err WireFault.R6) ↔ (IsTrue strict × IsOverlong (value (signed_between low top)) w.now) }
     ensures outside { result ≡ Err WireFault.D2 → IsOutside strict (signed_between low top) true w.now }
+    ensures same { IfOk result (λ y. y ≡ x) }
 {
     if is_refused_signed(w, strict) {
         return Err(WireFault::R6);
@@ -201,7 +203,7 @@ fn signed_of(w: &[u8]) -> i128
 }
 
 /// Whether an unsigned integer has a byte too many, in strict mode: a zero in front.
-#[inline]
+#[inline(always)]
 fn is_refused_unsigned(w: &[u8], strict: bool) -> bool
     requires { IsEntity w.now }
     ensures { IsTrue result ↔ (IsTrue strict × IsOverlong (λ v. pos (number v)) w.now) }
@@ -213,7 +215,7 @@ fn is_refused_unsigned(w: &[u8], strict: bool) -> bool
 }
 
 /// Whether a signed integer has a byte too many, in strict mode: seven bits in front that repeat the sign behind them.
-#[inline]
+#[inline(always)]
 fn is_refused_signed(w: &[u8], strict: bool) -> bool
     requires { IsEntity w.now }
     ensures { IsTrue result ↔ (IsTrue strict × IsOverlong signed w.now) }
@@ -225,7 +227,7 @@ fn is_refused_signed(w: &[u8], strict: bool) -> bool
 }
 
 /// Seven bits like the sign bit of `byte`.
-#[inline]
+#[inline(always)]
 fn sign_byte(byte: u8) -> u8
     ensures { result ≡ (if has_sign (byte ∷ []) then 127 else 0) }
 {
@@ -233,7 +235,7 @@ fn sign_byte(byte: u8) -> u8
 }
 
 /// What the nullable form sends as `n`: `None` is NULL.
-#[inline]
+#[inline(always)]
 fn lowered(n: i128) -> Option<i128>
     ensures { Means true n result }
 {
@@ -245,7 +247,7 @@ fn lowered(n: i128) -> Option<i128>
 }
 
 /// Whether an integer lies in a range.
-#[inline]
+#[inline(always)]
 fn is_within(x: i128, low: i128, top: i128) -> bool
     ensures { IsTrue result ↔ IsWithin (signed_between low top) x }
 {

@@ -9,7 +9,7 @@ ghost use Rattle.fast_wire.specs.Words.{word_of, IsShortEntity};
 const STOP_BITS: u64 = 0x8080_8080_8080_8080;
 
 /// The number and the length of the first entity, if it is one byte, or ends within eight bytes that are there.
-#[inline]
+#[inline(always)]
 pub(crate) fn short_entity(bytes: &[u8]) -> Option<(u64, usize)>
     ensures { IfSome result (λ e. IsShortEntity e.0 e.1 bytes.now) }
 {
@@ -20,7 +20,7 @@ pub(crate) fn short_entity(bytes: &[u8]) -> Option<(u64, usize)>
 }
 
 /// The number of the first entity, if it is one byte.
-#[inline]
+#[inline(always)]
 pub(crate) fn one_byte(bytes: &[u8]) -> Option<u64>
     ensures { IfSome result (λ sum. IsShortEntity sum 1 bytes.now) }
 {
@@ -32,7 +32,7 @@ pub(crate) fn one_byte(bytes: &[u8]) -> Option<u64>
 }
 
 /// The number and the length of the first entity, if eight bytes are there and it ends among them.
-#[inline]
+#[inline(always)]
 pub(crate) fn eight_bytes(bytes: &[u8]) -> Option<(u64, usize)>
     ensures { IfSome result (λ e. IsShortEntity e.0 e.1 bytes.now) }
 {
@@ -47,7 +47,7 @@ pub(crate) fn eight_bytes(bytes: &[u8]) -> Option<(u64, usize)>
 }
 
 /// The lower seven bits of each of eight bytes, side by side.
-#[inline]
+#[inline(always)]
 fn packed(word: u64) -> u64
     ensures { (w : List ℕ) → length w ≡ 8 → All (λ byte. byte < 256) w → word ≡ word_of w → result ≡ number w }
 {
@@ -58,7 +58,7 @@ fn packed(word: u64) -> u64
 }
 
 /// The number of a short entity in two's complement.
-#[inline]
+#[inline(always)]
 pub(crate) fn short_signed(w: &[u8], sum: u64) -> i64
     requires entity { IsEntity w.now }
     requires short { length w.now ≤ 8 }
@@ -70,7 +70,7 @@ pub(crate) fn short_signed(w: &[u8], sum: u64) -> i64
 }
 
 /// What the nullable form of an unsigned integer sends as `n`: `None` is NULL.
-#[inline]
+#[inline(always)]
 pub(crate) fn short_lowered(n: u64) -> Option<u128>
     ensures { Means true (pos n) (option_map pos result) }
 {
@@ -81,12 +81,23 @@ pub(crate) fn short_lowered(n: u64) -> Option<u128>
 }
 
 /// What the nullable form of a signed integer sends as `n`: `None` is NULL.
-#[inline]
+#[inline(always)]
 pub(crate) fn short_signed_lowered(n: i64) -> Option<i128>
+    ensures { Means true n result }
+{
+    match lowered(n) {
+        Some(x) => Some(i128::from(x)),
+        None => None,
+    }
+}
+
+/// The same, with as many bits as `n`.
+#[inline(always)]
+pub(crate) fn lowered(n: i64) -> Option<i64>
     ensures { Means true n result }
 {
     if n == 0 {
         return None;
     }
-    Some(i128::from(n - i64::from(n > 0)))
+    Some(n - i64::from(n > 0))
 }
