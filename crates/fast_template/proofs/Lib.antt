@@ -40,3 +40,4 @@ pub mod Headings
 pub mod NoTrees
 pub mod Firsts
 pub mod CycleRanks
+pub mod OpcodeLaws

@@ -33,3 +33,4 @@ pub mod Built
 pub mod ReadSets
 pub mod Extents
 pub mod Cycles
+pub mod Opcodes

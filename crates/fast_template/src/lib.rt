@@ -14,6 +14,7 @@ mod extents;
 pub mod instructions;
 mod keys;
 mod names;
+pub mod opcodes;
 pub mod operators;
 mod passes;
 pub mod queries;
@@ -28,5 +29,6 @@ mod written;
 
 pub use codes::{StaticCode, StaticFault};
 pub use instructions::{FieldInstruction, Node, Shape, Template};
+pub use opcodes::{Opcode, Sending};
 pub use operators::Operator;
 pub use sets::Templates;

@@ -2,14 +2,17 @@
 
 ghost use Rattle.std.specs.Prelude.{◌≡◌, ◌≢◌, ◌≤◌, ◌<◌, ℕ, length, slice_get, Some, IfSome, IfNone, string_bytes};
 ghost use Rattle.fast_template.specs.declared.instructions.Template.{Template};
+ghost use Rattle.fast_template.specs.declared.instructions.Node.{Node};
 ghost use Rattle.fast_template.specs.Flat.{templates_of, nodes_of, tree_of};
 ghost use Rattle.fast_template.specs.Labels.{template_labels, labels_from};
 ghost use Rattle.fast_template.specs.Tree.{HasDistinctIds};
 ghost use Rattle.fast_template.specs.NodeData.{shape_data};
+ghost use Rattle.fast_template.specs.Opcodes.{opcode_of};
 ghost use Rattle.fast_template.specs.Usable.{IsUsableShape};
 ghost use Rattle.fast_template.specs.Numbers.{numbers_of, AreBelow, AreBetween};
 
 use crate::instructions::{Node, Template};
+use crate::opcodes::Opcode;
 use crate::sets::Templates;
 
 impl Templates {
@@ -38,6 +41,7 @@ impl Templates {
     }
 
     /// A template by its number.
+    #[inline]
     pub fn template(&self, i: u32) -> &Template
         requires { i < length (templates_of self.now) }
         ensures found { slice_get (templates_of self.now) i ≡ Some result.now }
@@ -47,6 +51,7 @@ impl Templates {
     }
 
     /// A node by its number.
+    #[inline]
     pub fn node(&self, n: u32) -> &Node
         requires { n < length (nodes_of self.now) }
         ensures found { slice_get (nodes_of self.now) n ≡ Some result.now }
@@ -56,7 +61,17 @@ impl Templates {
         &self.nodes[n as usize]
     }
 
+    /// The opcode of a node.
+    #[inline(always)]
+    pub fn opcode(&self, n: u32) -> Opcode
+        requires { n < length (nodes_of self.now) }
+        ensures { (x : Node) → slice_get (nodes_of self.now) n ≡ Some x → result ≡ opcode_of x.shape }
+    {
+        self.opcodes[n as usize]
+    }
+
     /// The number of the template with an identifier.
+    #[inline]
     pub fn by_id(&self, id: u32) -> Option<u32>
         ensures found { IfSome result (λ i. (t : Template) × (slice_get (templates_of self.now) i ≡ Some t) × (t.id ≡ Some id)) }
         ensures first { IfSome result (λ i. (j : ℕ) (t : Template) → j < i → slice_get (templates_of self.now) j ≡ Some t → t.id ≢ Some id) }

@@ -16,6 +16,7 @@ use crate::building::{Builder, BuiltSet};
 use crate::chains::check_chains;
 use crate::codes::{StaticCode, StaticFault};
 use crate::entries::collect_entries;
+use crate::opcodes::opcodes_of;
 use crate::passes::{WrittenSet, read_set};
 use crate::segments::check_segments;
 use crate::sets::Templates;
@@ -62,9 +63,16 @@ impl Templates {
                 template: Some(template),
             });
         }
+        let Ok(opcodes) = opcodes_of(alloc, &built.nodes) else {
+            return Err(StaticFault {
+                code: StaticCode::Memory,
+                template: None,
+            });
+        };
         Ok(Templates {
             templates: built.templates,
             nodes: built.nodes,
+            opcodes,
             entries: built.entries,
             names: set.names,
             ids: set.ids,

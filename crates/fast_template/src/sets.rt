@@ -4,9 +4,11 @@ ghost use Rattle.std.specs.Prelude.{◌≡◌, ℕ, List, ◌≤◌, ◌<◌, �
 ghost use Rattle.std.specs.HashMap.{get, get_by_text};
 ghost use Rattle.fast_template.specs.Labels.{AreInPreorder};
 ghost use Rattle.fast_template.specs.Numbers.{NameNodes, NameLaterNodes, HaveDistinctIds, number_of_name, number_of_id};
+ghost use Rattle.fast_template.specs.Opcodes.{opcodes_of};
 ghost use Rattle.fast_template.specs.Usable.{AreUsable};
 
 use crate::instructions::{Node, Template};
+use crate::opcodes::Opcode;
 use std::collections::HashMap;
 
 /// A checked template set. Templates are numbered from 0 in the order of their text; nodes, which are the instructions of
@@ -15,6 +17,7 @@ use std::collections::HashMap;
 pub struct Templates {
     pub(crate) templates: Vec<Template>,
     pub(crate) nodes: Vec<Node>,
+    pub(crate) opcodes: Vec<Opcode>,
     pub(crate) entries: u32,
     pub(crate) names: HashMap<String, u32>,
     pub(crate) ids: HashMap<u32, u32>,
@@ -25,6 +28,7 @@ pub struct Templates {
     ghost nodes_name_later_nodes: { NameLaterNodes nodes.items },
     ghost nodes_usable: { AreUsable entries nodes.items },
     ghost nodes_in_preorder: { AreInPreorder nodes.items templates.items },
+    ghost nodes_have_opcodes: { opcodes.items ≡ opcodes_of nodes.items },
     ghost distinct_ids: { HaveDistinctIds templates.items },
     ghost names_index: { (q : List ℕ) → get_by_text names q ≡ number_of_name q templates.items },
     ghost ids_index: { (q : ℕ) → get nat_eq ids q ≡ number_of_id q templates.items },

@@ -1,5 +1,6 @@
-use Rattle.std.proofs.Common.{map, subst, sym, ◌∙◌, arith, inr, Some}
+use Rattle.std.proofs.Common.{map, subst, sym, ap, ◌∙◌, arith, inr, Some}
 use Rattle.fast_template.specs.Numbers.{NameLaterNodes}
+use Rattle.fast_template.specs.Opcodes.{opcodes_of}
 use Rattle.fast_template.specs.WrittenSets.{written_data}
 use Rattle.fast_template.proofs.BuiltSets.{built_in_preorder, built_names_nodes, built_names_later_nodes, built_distinct_ids, built_few_nodes, built_count}
 use Rattle.fast_template.proofs.BuiltUsable.{built_usable}
@@ -52,6 +53,7 @@ invariant_of-result c =
       nodes_name_later_nodes = built_names_later_nodes ns us built;
       nodes_usable = subst (λ k. AreUsable k ns) (sym count) (built_usable ts c.in-Ok.ensures.entries ns us w.sound built);
       nodes_in_preorder = built_in_preorder ns us built;
+      nodes_have_opcodes = c.in-Ok-opcodes_of.ensures ∙ ap opcodes_of c.deref-3.ensures.value;
       distinct_ids = built_distinct_ids ns us built w.ids;
       names_index = λ q. c.in_ok-set.ensures.names q ∙ same_names us ts q headings;
       ids_index = λ q. c.in_ok-set.ensures.ids q ∙ same_ids us ts q headings;
