@@ -1,6 +1,6 @@
 -- What the entries of a block store hold, entry by entry.
 use Rattle.std.proofs.Common.{◌≡◌, ℕ, ◌-◌, ◌++◌, ◌<◌, ◌≤◌, List, [], ◌∷◌, length, refl, ap, sym, ◌∙◌, arith}
-use Rattle.std.specs.Prelude.{vec_len, IsTrue, take, zero, suc, ◌≢◌, Option, None, slice_index_or, slice_set, replicate}
+use Rattle.std.specs.Prelude.{vec_len, IsTrue, take, drop, zero, suc, ◌≢◌, Option, Some, None, slice_index_or, slice_set, replicate}
 use native.Mathlib.Numerals.{sub-one}
 use Rattle.fast_value.specs.Kinds.{ScalarData, U, I, Dec, AsciiText, UnicodeText, ByteVector, text_of}
 use Rattle.fast_dict.specs.Stores.{Terms, IsStorable}
@@ -62,6 +62,11 @@ pub put-entries : (b b' : List ℕ) (ps : List (Option ℕ)) (es : List Entry) (
 put-entries b b' ps es i room e p others fits h =
     let same : (j : ℕ) → j ≢ i → entry_data b' (slice_index_or ps j None) (slice_index_or es j Undefined) ≡ entry_data b (slice_index_or ps j None) (slice_index_or es j Undefined) = λ j n. ap (with_text (slice_index_or es j Undefined)) (others j (text_length (slice_index_or es j Undefined)) n (fits j)) in
     set-entries b b' ps es i e same ∙ ap (slice_set (entries_data b ps es) i) h
+
+-- An entry without a text is the same whatever its slot holds.
+pub number-entry : (b : List ℕ) (p : Option ℕ) (e : Entry) → text_length e ≡ 0 → entry_data b p e ≡ with_text e []
+number-entry b None e h = refl
+number-entry b (Some place) e h = ap (λ n. with_text e (take n (drop place b))) h
 
 -- the number of an entry, among those of the store
 pub place_of_entry : (s : Slots) (i : ℕ) → i < length (slots_dictionary s) → i < vec_len s.entries

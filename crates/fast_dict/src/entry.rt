@@ -76,7 +76,7 @@ impl Entry {
     }
 
     /// The entry of an unsigned number under a kind.
-    #[inline]
+    #[inline(always)]
     fn of_unsigned(kind: Kind, number: u64) -> Entry
         ensures value { with_text result [] ≡ assigned kind (U number) }
         ensures size { text_length result ≡ 0 }
@@ -89,7 +89,7 @@ impl Entry {
     }
 
     /// The entry of a signed number under a kind.
-    #[inline]
+    #[inline(always)]
     fn of_signed(kind: Kind, number: i64) -> Entry
         ensures value { with_text result [] ≡ assigned kind (I number) }
         ensures size { text_length result ≡ 0 }

@@ -31,8 +31,8 @@ pub struct Slots {
 }
 
 impl Slots {
-    ghost use Rattle.std.specs.Prelude.{◌≡◌, ◌≢◌, ℕ, List, ◌<◌, ◌≤◌, length, false, slice_index_or, slice_set, vec_len, None, IsTrue, IfOk};
-    ghost use Rattle.fast_dict.specs.Dictionary.{fresh, previous_at};
+    ghost use Rattle.std.specs.Prelude.{◌≡◌, ◌≢◌, ℕ, List, [], ◌<◌, ◌≤◌, length, false, slice_index_or, slice_set, vec_len, None, IsTrue, IfOk};
+    ghost use Rattle.fast_dict.specs.Dictionary.{fresh, previous_at, write_at};
     ghost use Rattle.fast_dict.specs.Entry.{text_length, with_text};
     ghost use Rattle.fast_dict.specs.Previous.{previous_data};
     ghost use Rattle.fast_dict.specs.Slots.{slots_dictionary, slots_terms, text_in, entry_data};
@@ -64,7 +64,7 @@ impl Slots {
 
     /// The entry without the bytes of a text. One look at the variant tells a number of the field's own type from all
     /// else, which [`Store::get`] then tells apart.
-    #[inline]
+    #[inline(always)]
     pub fn held(&self, entry: usize) -> Entry
         requires { entry < length (slots_dictionary self.now) }
         ensures { (text : List ℕ) × (with_text result text ≡ previous_at (Some entry) (slots_dictionary self.now)) }
@@ -72,8 +72,20 @@ impl Slots {
         self.entry(entry)
     }
 
+    /// Keeps a number at the entry, under the kind that `held` names. Unlike [`Store::set`] it looks neither at the kind
+    /// nor for a text.
+    #[inline(always)]
+    pub fn set_number(&mut self, entry: usize, held: Entry)
+        requires there { entry < length (slots_dictionary self.old) }
+        requires number { text_length held ≡ 0 }
+        ensures entry { slots_dictionary self.new ≡ write_at (Some entry) (with_text held []) (slots_dictionary self.old) }
+        ensures same { slots_terms self.new ≡ slots_terms self.old }
+    {
+        self.put(entry, held);
+    }
+
     /// The entry without the bytes of its text.
-    #[inline]
+    #[inline(always)]
     fn entry(&self, entry: usize) -> Entry
         requires { entry < vec_len self.now.entries }
         ensures value { result ≡ slice_index_or self.now.entries.items entry Undefined }
@@ -126,7 +138,7 @@ impl Slots {
     }
 
     /// Puts the entry in its place, without the bytes of its text.
-    #[inline]
+    #[inline(always)]
     fn put(&mut self, entry: usize, held: Entry)
         requires there { entry < vec_len self.old.entries }
         requires fits { text_length held ≤ self.old.max_text }
@@ -217,7 +229,7 @@ impl Store for Slots {
         Ok(())
     }
 
-    #[inline]
+    #[inline(always)]
     fn set_empty(&mut self, entry: usize) {
         self.put(entry, Entry::Empty);
     }

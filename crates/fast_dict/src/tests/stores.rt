@@ -73,6 +73,15 @@ const AFTER_RESET: [Previous<'static>; 5] = [
     Previous::Undefined,
 ];
 
+/// What they hold after the commands and a number at entry 4, which was empty.
+const AFTER_NUMBER: [Previous<'static>; 5] = [
+    Previous::Assigned(Kind::UInt32, Scalar::U(7)),
+    Previous::Assigned(Kind::Bytes, Scalar::Bytes(b"0123456789ABCDEF")),
+    Previous::Assigned(Kind::Int64, Scalar::I(-5)),
+    Previous::Assigned(Kind::Unicode, Scalar::Unicode(b"\xC3\xA9")),
+    Previous::Assigned(Kind::Int32, Scalar::I(-9)),
+];
+
 /// Whether each entry holds what is wanted.
 fn holds<D: Store>(store: &D, wanted: &[Previous<'_>]) -> bool {
     if store.entries() != wanted.len() {
@@ -117,6 +126,12 @@ fn holds_uint32(store: &Slots, entry: usize, wanted: u64) -> bool {
     }
 }
 
+/// Keeps a number under an int32.
+fn set_int32(rt: &impl Abort, store: &mut Slots, entry: usize, number: i64) {
+    assert!(rt; entry < store.entries());
+    store.set_number(entry, Entry::Int32(number));
+}
+
 #[test]
 fn lists(rt: HostRuntime) -> Result<(), Fail> {
     let mut store = Lists::new(rt.alloc(), 5, 16)?;
@@ -137,6 +152,8 @@ fn slots(rt: HostRuntime) -> Result<(), Fail> {
     assert!(rt; !holds_uint32(&store, 0, 7));
     carries_out(&rt, &mut store, &COMMANDS);
     assert!(rt; holds_uint32(&store, 0, 7));
+    set_int32(&rt, &mut store, 4, -9);
+    assert!(rt; holds(&store, &AFTER_NUMBER));
     assert!(rt; !store.can_refuse());
     assert_eq!(rt; store.max_text(), 16);
     Ok(())
