@@ -23,7 +23,7 @@ pub quiet_behind : {A : Type 0} (r : Reader A) (u v : List ℕ) → Quiet r (u +
 quiet_behind r [] v h = h
 quiet_behind r (b ∷ u) v h = quiet_behind (after_byte r b) u v h.1
 
-waits_first : {A : Type 0} (r : Reader A) (w : List ℕ) → 0 < length w → Quiet r w → Waits r
+pub waits_first : {A : Type 0} (r : Reader A) (w : List ℕ) → 0 < length w → Quiet r w → Waits r
 waits_first r [] h q = absurd (omega (arith, h))
 waits_first r (b ∷ w) h q = q.0
 

@@ -2,20 +2,21 @@
 use Rattle.std.proofs.Common.{refl, sym, ap, ◌∙◌, subst, arith, inl, inr}
 use Rattle.std.proofs.Math.Nat.{le_refl, le_trans, le-max_left, le-max_right, mul-le-mul_right, mul-le-mul_left, add-mul, suc-mul, mul-zero, min-eq_left, min_comm}
 use Rattle.std.proofs.lemmas.Bool.{leb-true, cases_lt}
-use Rattle.std.specs.Prelude.{◌≡◌, ℕ, zero, suc, ◌+◌, ◌*◌, ◌-◌, ◌<◌, ◌≤◌, Bool, true, false, if◌then◌else◌, nat_le, List, [], ◌∷◌, drop, map, slice_get, min, Option, Some, None, Result, Ok, Err, OnOk, is_err}
+use Rattle.std.specs.Prelude.{◌≡◌, ◌≢◌, ℕ, zero, suc, ◌+◌, ◌*◌, ◌-◌, ◌<◌, ◌≤◌, Bool, true, false, if◌then◌else◌, nat_le, List, [], ◌∷◌, drop, map, slice_get, min, Option, Some, None, Result, Ok, Err, OnOk, is_err}
 use Rattle.fast_value.specs.declared.settings.Limits.{Limits}
 use Rattle.fast_value.specs.Limits.{bounds}
 use Rattle.fast_value.specs.declared.codes.Code.{Code}
 use Rattle.fast_value.specs.declared.codes.Code.TheVariants.{L2, L5}
-use Rattle.fast_template.specs.Tree.{Tree, Label, FieldData, Instruction, sequence, Body, step, TemplateData}
+use Rattle.fast_template.specs.Tree.{Tree, Label, FieldData, Instruction, field, parts, group, sequence, Body, step, TemplateData}
 use Rattle.fast_template.specs.Sizes.{turn_weights, size, body_size, outer, body_outer, widest, body_widest, greatest, product_cap, sum_cap, turn_cap}
 use Rattle.fast_template.specs.declared.instructions.Template.{Template}
 use Rattle.fast_template.specs.Flat.{template_data, instructions_from}
 use Rattle.fast_decoder.specs.declared.faults.FaultCode.{FaultCode}
 use Rattle.fast_decoder.specs.declared.machine.Machine.{Machine}
 use Rattle.fast_decoder.specs.declared.machine.Turn.{Turn}
-use Rattle.fast_decoder.specs.declared.machine.Turn.TheVariants.{Handed, Waits}
+use Rattle.fast_decoder.specs.declared.machine.Turn.TheVariants.{Silent, Handed, Waits}
 use Rattle.fast_decoder.specs.declared.turns.Turns.{Turns}
+use Rattle.fast_decoder.specs.Passing.{IsPast}
 use Rattle.fast_decoder.specs.declared.machine.Waiting.{Waiting}
 use Rattle.fast_decoder.specs.declared.machine.Waiting.TheVariants.{Map, Identifier, SegmentMap, Field, Text, Number, Bytes, Mantissa}
 use Rattle.fast_decoder.specs.Cursors.{ElementsData, FrameData, CursorData, entered, left_to}
@@ -272,9 +273,70 @@ pub segment_turns : (way : Way) (set : Set) (l : Limits) (n : ℕ) (m m' : Machi
 segment_turns way set l n m m' turn zero waits goes h = let (is, same) = goes refl in rw (is, same) h
 segment_turns way set l n m m' turn (suc width) waits goes h = let (is, same) = waits (omega arith) in rw (is, same) h
 
+-- an instruction has at least a turn
+some_turn : (way : Way) (l : Limits) (i : Instruction) → 1 ≤ turns_of way l i
+some_turn by_sequence l (field at f) = omega arith
+some_turn by_sequence l (parts at e m) = omega arith
+some_turn by_sequence l (group at b body) = one (body_size turn_weights l body)
+  where
+    one : (x : ℕ) → 1 ≤ 2 + x
+    one x = omega arith
+some_turn by_sequence l (sequence at f body) = one (l.max_elements * (2 + body_size turn_weights l body))
+  where
+    one : (x : ℕ) → 1 ≤ 3 + x
+    one x = omega arith
+some_turn by_message l (field at f) = omega arith
+some_turn by_message l (parts at e m) = omega arith
+some_turn by_message l (group at b body) = one (body_outer turn_weights body)
+  where
+    one : (x : ℕ) → 1 ≤ 2 + x
+    one x = omega arith
+some_turn by_message l (sequence at f body) = omega arith
+
+-- a unit more, with a turn that it pays for itself
+pub one_unit : (way : Way) (set : Set) (l : Limits) (k n t t' counted : ℕ) (c : CursorData) → t' ≡ t + 1 → IsWithinTurns way set l k n t counted c → IsWithinTurns way set l k (1 + n) t' counted c
+one_unit way set l k n t t' counted c same h = record {
+  each = h.each;
+  body = h.body;
+  frames = h.frames;
+  most = h.most;
+  all = rw same (all t (turns_left way set l h.each counted c) n k h.all);
+}
+  where
+    all : (t x n k : ℕ) → t + x ≤ n + k → t + 1 + x ≤ 1 + n + k
+    all t x n k i = omega (arith, i)
+
+-- The next instruction is passed.
+pub passed : (way : Way) (set : Set) (l : Limits) (n t t' counted counted' : ℕ) (c c' : CursorData) (i : Instruction) → body_in set c.left ≡ step i (body_in set (drop 1 c.left)) → t' ≡ t → counted' ≡ counted
+    → c'.left ≡ drop 1 c.left → c'.frames ≡ c.frames → IsWithinTurns way set l 1 n t counted c → IsWithinTurns way set l 0 n t' counted' c'
+passed way set l n t t' counted counted' c c' i next turns same left frames h =
+    let rest = body_in set (drop 1 c.left) in
+    let within = within_next way h.each i rest (subst (AreWithin way h.each) next h.body) in
+    let less : turns_left way set l h.each counted c ≡ (turns_of way l i + body_turns way l rest) + frames_turns way set l c.frames + (l.max_total - counted) * h.each
+    = ap (λ b. body_turns way l b + frames_turns way set l c.frames + (l.max_total - counted) * h.each) next ∙ ap (λ x. x + frames_turns way set l c.frames + (l.max_total - counted) * h.each) (body_next way l i rest) in
+    let now : turns_left way set l h.each counted' c' ≡ body_turns way l rest + frames_turns way set l c.frames + (l.max_total - counted) * h.each
+    = ap (λ x. body_turns way l (body_in set c'.left) + frames_turns way set l c'.frames + (l.max_total - x) * h.each) same
+    ∙ ap (λ ns. body_turns way l (body_in set ns) + frames_turns way set l c'.frames + (l.max_total - counted) * h.each) left
+    ∙ ap (λ fs. body_turns way l rest + frames_turns way set l fs + (l.max_total - counted) * h.each) frames in
+    moved way set l 1 0 n t t' counted counted' c c' h turns (subst (λ ns. AreWithin way h.each (body_in set ns)) (sym left) within.1) (subst (AreFramesWithin way set h.each) (sym frames) h.frames)
+    (rw (less, now) (fewer (turns_of way l i) (body_turns way l rest) (frames_turns way set l c.frames) ((l.max_total - counted) * h.each) (some_turn way l i)))
+  where
+    fewer : (i b f e : ℕ) → 1 ≤ i → b + f + e + 1 ≤ i + b + f + e + 0
+    fewer i b f e h = omega (arith, h)
+
 -- A fault ends a turn that is counted.
 pub fault_turns : (way : Way) (set : Set) (l : Limits) (n : ℕ) (m m' : Machine) (result : Result Turn FaultCode) (code : FaultCode) → result ≡ Err code → m'.turns.count ≡ m.turns.count → HasTurns way set l 1 n m → HasTurnsBehind result way set l n m'
 fault_turns way set l n m m' result code is same h = rw (is, same) (turns_taken way set l n m.turns.count m.counted m.cursor h)
+
+-- A field's value, or that of a decimal, is known, and the machine is past it.
+pub finished : (way : Way) (set : Set) (l : Limits) (n : ℕ) (m m' : Machine) (i : Instruction) (result : Result Turn FaultCode) → body_in set m.cursor.left ≡ step i (body_in set (drop 1 m.cursor.left)) → m' ≡ record m { cursor = m'.cursor }
+    → OnOk result (IsPast m.cursor m'.cursor) → result ≢ Ok Waits → HasTurns way set l 1 n m → HasTurnsBehind result way set l n m'
+finished way set l n m m' i (Ok Waits) next same past on h = absurd (on refl)
+finished way set l n m m' i (Err code) next same past on h = fault_turns way set l n m m' (Err code) code refl (ap (λ (x : Machine). x.turns.count) same) h
+finished way set l n m m' i (Ok Silent) next same past on h =
+    passed way set l n m.turns.count m'.turns.count m.counted m'.counted m.cursor m'.cursor i next (ap (λ (x : Machine). x.turns.count) same) (ap (λ (x : Machine). x.counted) same) (ap (λ (x : CursorData). x.left) past.same) (ap (λ (x : CursorData). x.frames) past.same) h
+finished way set l n m m' i (Ok Handed) next same past on h =
+    passed way set l n m.turns.count m'.turns.count m.counted m'.counted m.cursor m'.cursor i next (ap (λ (x : Machine). x.turns.count) same) (ap (λ (x : Machine). x.counted) same) (ap (λ (x : CursorData). x.left) past.same) (ap (λ (x : CursorData). x.frames) past.same) h
 
 -- The elements that a length claims are within the limit of a sequence.
 pub claim_within : (l : Limits) (before k m : ℕ) → within_limits (bounds l) before k ≡ Ok m → m ≤ l.max_elements

@@ -19,6 +19,7 @@ pub mod Running
 pub mod Frames
 pub mod Machine
 pub mod Positions
+pub mod Quick
 pub mod Taking
 pub mod Settling
 pub mod Stages

@@ -166,7 +166,7 @@ pub fn own_number(slots: &Slots, field: &FieldInstruction) -> Option<Number>
 
 /// The number of an entry under this kind.
 #[inline(always)]
-fn number_under(kind: Kind, entry: Entry) -> Option<Number>
+pub fn number_under(kind: Kind, entry: Entry) -> Option<Number>
     ensures { IfSome result (λ n. (text : List ℕ) → with_text entry text ≡ assigned kind (number_data n)) }
 {
     match (kind, entry) {

@@ -1,0 +1,71 @@
+-- What the quick way of a machine takes.
+use Rattle.std.proofs.Common.{refl, sym, ap, ◌∙◌, subst, arith}
+use Rattle.std.specs.Prelude.{◌≡◌, ◌≢◌, ℕ, ◌<◌, ◌≤◌, Bool, true, false, List, [], ◌++◌, length, take, Result, Ok, Err}
+use Rattle.std.proofs.lemmas.List.{length-take-le}
+use Rattle.fast_value.specs.declared.settings.Limits.{Limits}
+use Rattle.fast_dict.specs.Dictionary.{Dictionary}
+use Rattle.fast_decoder.specs.declared.faults.FaultCode.{FaultCode}
+use Rattle.fast_decoder.specs.Events.{EventData}
+use Rattle.fast_decoder.specs.Readers.{Reader}
+use Rattle.fast_decoder.specs.Machine.{after_bytes}
+use Rattle.fast_decoder.specs.Handing.{due, Hands, IsTaken}
+use Rattle.fast_decoder.specs.Taking.{Waits, Quiet, Turns}
+use Rattle.fast_decoder.specs.Moving.{Moves}
+use Rattle.fast_decoder.specs.Quick.{IsTakenTo}
+use Rattle.fast_decoder.specs.Positions.{Set, tree_in, CanTake, CanTurn, IsReady, IsTurn, turning, meaning}
+use Rattle.fast_decoder.specs.declared.machine.Machine.{Machine}
+use Rattle.fast_decoder.specs.declared.machine.Waiting.{Waiting}
+use Rattle.fast_decoder.specs.declared.machine.Waiting.TheVariants.{Field}
+use Rattle.fast_decoder.specs.declared.machine.Turn.{Turn}
+use Rattle.fast_decoder.specs.declared.machine.Turn.TheVariants.{Handed, Waits as TurnWaits}
+use Rattle.fast_decoder.proofs.Takes.{quiet_behind, waits_first}
+use Rattle.fast_decoder.proofs.Takings.{due-waits}
+use Rattle.fast_decoder.proofs.Turning.{after_run}
+use Rattle.fast_decoder.proofs.Moves.{hands_turned}
+
+module _ {S : Type 0} (takes stops : S → EventData → S → Type 0) (set : Set) (l : Limits) where
+  -- Some bytes lead the reader to another one, of which a turn is taken.
+  pub taken_to : (r : Reader Dictionary) (front rest : List ℕ) (n : ℕ) (q : Reader Dictionary) (s : S) (result : Result Turn FaultCode) (s' : S) (m : Machine) → 0 < n → n ≤ length rest
+      → Turns r (front ++ take n rest) q → IsTurn takes stops set l q s result s' m → IsTakenTo takes stops set l (after_bytes r front) rest s n result s' m
+  taken_to r front rest n q s result s' m some within h i =
+      let len : length (take n rest) ≡ n = length-take-le n rest within in
+      let quiet : Quiet (after_bytes r front) (take n rest) = quiet_behind r front (take n rest) h.quiet in
+      let w : Waits (after_bytes r front) = waits_first (after_bytes r front) (take n rest) (omega (arith, len, some)) quiet in
+      let same : due (tree_in set) l (after_bytes r front) ≡ after_bytes r front = due-waits (tree_in set) l (after_bytes r front) w in
+      record {
+        some = some;
+        within = within;
+        quiet = subst (λ (p : Reader Dictionary). Quiet p (take n rest)) (sym same) quiet;
+        turn = subst (λ (p : Reader Dictionary). IsTurn takes stops set l p s result s' m)
+            (sym (ap (λ (p : Reader Dictionary). after_bytes p (take n rest)) same ∙ sym (after_run r front (take n rest)) ∙ h.becomes)) i;
+      }
+
+  -- Behind a turn that handed something over comes one at whose end the machine waits.
+  pub turn_behind : (r : Reader Dictionary) (s s' : S) (m m' : Machine) → Moves takes stops r s (Ok Handed) s' (turning set l m) (meaning set l m) → IsTurn takes stops set l (turning set l m) s' (Ok TurnWaits) s' m'
+      → IsTurn takes stops set l r s (Ok TurnWaits) s' m'
+  turn_behind r s s' m m' h i = record {
+    moves = hands_turned takes stops r (turning set l m) (meaning set l m) s Handed s' (Ok tt) s' (meaning set l m') (λ e. absurd (cc e)) h i.moves;
+    supplied = i.supplied;
+    goes_on = i.goes_on;
+  }
+
+  -- What was taken, and all that needs no byte behind it.
+  pub taken_on : (from : Reader Dictionary) (rest : List ℕ) (s : S) (n : ℕ) (result : Result Turn FaultCode) (s' : S) (m : Machine) (o : Result Unit FaultCode) (s'' : S) (to : Reader Dictionary)
+      → IsTakenTo takes stops set l from rest s n result s' m
+      → ((r : Reader Dictionary) (t : S) → Moves takes stops r t result s' (turning set l m) (meaning set l m) → Hands takes stops r t o s'' to)
+      → IsTaken takes stops (tree_in set) l from rest s n o s'' to
+  taken_on from rest s n result s' m o s'' to h on = record {
+    some = h.some;
+    within = h.within;
+    quiet = h.quiet;
+    hands = on (after_bytes (due (tree_in set) l from) (take n rest)) s h.turn.moves;
+  }
+
+-- A machine that waits for the first integer of a field, none of whose bytes has come, stands between two units.
+pub can_take_field : (set : Set) (l : Limits) (m : Machine) → m.waiting ≡ Field → IsReady set l m → CanTake Field set l m
+can_take_field set l m waits ready = subst (λ (w : Waiting). CanTake w set l m) waits ready.takes
+
+pub can_turn_field : (set : Set) (l : Limits) (m : Machine) → m.waiting ≡ Field → IsReady set l m → m.entity ≡ [] → CanTurn set l m
+can_turn_field set l m waits ready none =
+    let can = can_take_field set l m waits ready in
+    record { supplied = ready.supplied; placed = can.0; mapped = can.1; unused = none }

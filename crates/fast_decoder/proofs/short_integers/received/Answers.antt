@@ -1,0 +1,27 @@
+-- Both by the operator.
+use Rattle.std.proofs.Common.{◌≢◌, rules, ap}
+use Rattle.std.specs.Prelude.{true, Ok}
+use Rattle.fast_value.specs.Kinds.{family, texts}
+use Rattle.fast_decoder.specs.declared.source.Source.TheVariants as From
+use Rattle.fast_template.specs.Flat.{field_data}
+use Rattle.fast_dict.specs.Dictionary.{previous_at}
+use Rattle.fast_dict.specs.Operators.{decide}
+use Rattle.fast_dict.specs.Slots.{slots_dictionary}
+use Rattle.fast_decoder.specs.Deciding.{number_data, sent_number}
+use Rattle.fast_decoder.proofs.Deciding.{decided_as, value_decided, null_decided}
+use Rattle.fast_decoder.proofs.ShortIntegers.{no_texts}
+use Rattle.fast_decoder.proofs.short_integers.received.Goals as goal
+
+pub returns-in-Some-clause-decided : goal.returns-in-Some-clause-decided
+returns-in-Some-clause-decided c =
+    let f = field_data c.args.field.now in
+    let old = slots_dictionary c.args.slots.now in
+    decided_as f old (slots_dictionary c.keep_integer.new.slots) (Ok c.keep_integer.result) (ap (λ x. decide f (previous_at f.entry old) true (sent_number x)) c.in-Some.is)
+    (value_decided f c.requires.serves (no_texts f c.requires.integers) old (slots_dictionary c.keep_integer.new.slots) (number_data c.in-Some.number) c.keep_integer.result c.requires.no_delta c.requires.no_constant c.keep_integer.ensures.entry c.keep_integer.ensures.value)
+
+pub returns-in-None-clause-decided : goal.returns-in-None-clause-decided
+returns-in-None-clause-decided c =
+    let f = field_data c.args.field.now in
+    let old = slots_dictionary c.args.slots.now in
+    decided_as f old (slots_dictionary c.assign_empty.new.slots) (Ok From.Absent) (ap (λ x. decide f (previous_at f.entry old) true (sent_number x)) c.in-None.is)
+    (null_decided f c.requires.serves (no_texts f c.requires.integers) old (slots_dictionary c.assign_empty.new.slots) c.requires.no_delta c.requires.no_constant c.assign_empty.ensures.entry)

@@ -1,0 +1,359 @@
+//! The quick way of a machine: units that stand whole in the piece and are of the most common forms, which an opcode names. All
+//! else is left to the general way; the quick way has changed nothing then.
+
+ghost use Rattle.std.specs.Prelude.{◌≡◌, ◌≢◌, ◌+◌, ◌<◌, ℕ, true, [], length, slice_get, Ok, Some, IfSome, IfNone};
+ghost use Rattle.fast_value.specs.Kinds.{family, integers};
+ghost use Rattle.fast_template.specs.Opcodes.{sending_operator, is_nullable, opcode_sending, IsSentAs};
+ghost use Rattle.fast_template.specs.Tree.{FieldData, operator_uses_bit};
+ghost use Rattle.fast_template.specs.declared.instructions.FieldInstruction.{FieldInstruction};
+ghost use Rattle.fast_template.specs.declared.instructions.Node.{Node};
+ghost use Rattle.fast_dict.specs.Dictionary.{Dictionary};
+ghost use Rattle.fast_dict.specs.Operators.{range_of};
+ghost use Rattle.fast_dict.specs.Slots.{slots_dictionary};
+ghost use Rattle.fast_decoder.specs.Readers.{Reader};
+ghost use Rattle.fast_decoder.specs.Moving.{Moves};
+ghost use Rattle.fast_decoder.specs.Segments.{first_node};
+ghost use Rattle.fast_decoder.specs.UnitFronts.{IsSent, IsAsciiFirst};
+ghost use Rattle.fast_decoder.specs.Quick.{IsTakenTo};
+ghost use Rattle.fast_decoder.specs.Positions.{set_of, tree_in, state_in, bit_of, GoesOn, IsAtField, IsMapWhole, IsPlaced, IsReady, IsSupplied, IsTurn, meaning, turning};
+ghost use Rattle.fast_decoder.specs.TurnsLeft.{Way, HasTurns, HasTurnsBehind, HasTurnsWaiting, turns_begun_at};
+
+use crate::events::Sink;
+use crate::faults::FaultCode;
+use crate::machine::{Machine, Turn, Waiting};
+use crate::short_integers::quick_integer;
+use crate::turns::Turns;
+use fast_template::{Opcode, Operator, Sending, Shape, Templates};
+use fast_value::{Kind, Limits};
+
+/// A unit that was taken, and the turn behind it.
+#[derive(Clone, Copy, Debug)]
+pub struct Quick {
+    /// The bytes of the unit.
+    pub bytes: usize,
+    /// How the turn ended.
+    pub turn: Result<Turn, FaultCode>,
+}
+
+/// Whether a field that stands so uses a presence bit.
+#[inline(always)]
+fn has_bit(sending: Sending) -> bool
+    ensures { result ≡ operator_uses_bit (sending_operator sending) (is_nullable sending) }
+{
+    match sending {
+        Sending::Plain | Sending::NullablePlain | Sending::Delta | Sending::NullableDelta => false,
+        Sending::Default
+        | Sending::NullableDefault
+        | Sending::Copy
+        | Sending::NullableCopy
+        | Sending::Increment
+        | Sending::NullableIncrement => true,
+    }
+}
+
+/// The operator of a field that stands so.
+#[inline(always)]
+fn operator_of(sending: Sending) -> Operator
+    ensures { result ≡ sending_operator sending }
+{
+    match sending {
+        Sending::Plain | Sending::NullablePlain => Operator::None,
+        Sending::Default | Sending::NullableDefault => Operator::Default,
+        Sending::Copy | Sending::NullableCopy => Operator::Copy,
+        Sending::Increment | Sending::NullableIncrement => Operator::Increment,
+        Sending::Delta | Sending::NullableDelta => Operator::Delta,
+    }
+}
+
+/// Whether a field that stands so may be absent.
+#[inline(always)]
+fn nullable(sending: Sending) -> bool
+    ensures { result ≡ is_nullable sending }
+{
+    match sending {
+        Sending::Plain | Sending::Default | Sending::Copy | Sending::Increment | Sending::Delta =>
+            false,
+        Sending::NullablePlain
+        | Sending::NullableDefault
+        | Sending::NullableCopy
+        | Sending::NullableIncrement
+        | Sending::NullableDelta => true,
+    }
+}
+
+/// How the field behind an opcode stands in the stream, if it is one of integers.
+#[inline(always)]
+fn sending_of(opcode: Opcode) -> Option<Sending>
+    ensures { result ≡ opcode_sending opcode }
+{
+    match opcode {
+        Opcode::UInt32(sending) => Some(sending),
+        Opcode::Int32(sending) => Some(sending),
+        Opcode::UInt64(sending) => Some(sending),
+        Opcode::Int64(sending) => Some(sending),
+        Opcode::Other => None,
+    }
+}
+
+impl<'t> Machine<'t> {
+    /// Whether the next instruction is a field of integers that stands in the stream.
+    #[inline(always)]
+    fn next_waits(&self, templates: &Templates) -> bool
+        requires placed { IsPlaced (set_of templates.now) self.now.cursor }
+        requires mapped { IsMapWhole self.now.cursor.map }
+        ensures { result ≡ true → (n : ℕ) × (f : FieldData) × IsAtField (set_of templates.now) self.now.cursor n f × ¬ (IsAsciiFirst f)
+            × IsSent f (bit_of f (state_in (slots_dictionary self.now.slots) self.now.counted self.now.cursor)) }
+    {
+        let Some(number) = self.cursor.next() else {
+            return false;
+        };
+        match sending_of(templates.opcode(number)) {
+            Some(sending) => !has_bit(sending) || self.cursor.bit(),
+            None => false,
+        }
+    }
+
+    /// Behind a turn: if the next instruction is a field of integers that stands in the stream, the machine waits for it.
+    #[inline(always)]
+    fn wait_if<S: Sink>(
+        &mut self,
+        templates: &Templates,
+        limits: Limits,
+        turn: Result<Turn, FaultCode>,
+        sink: &mut S,
+    ) -> Result<Turn, FaultCode>
+        requires goes_on { GoesOn (set_of templates.now) limits self.old turn }
+        requires supplied { IsSupplied (set_of templates.now) limits self.old }
+        requires on { turn ≢ Ok Turn.Waits }
+        ensures turn { (r : Reader Dictionary) (s : S) → Moves S.takes S.stops r s turn sink.old (turning (set_of templates.now) limits self.old) (meaning (set_of templates.now) limits self.old)
+            → IsTurn S.takes S.stops (set_of templates.now) limits r s result sink.new self.new }
+        ensures turns { (way : Way) (n : ℕ) → HasTurnsBehind turn way (set_of templates.now) limits n self.old → HasTurnsBehind result way (set_of templates.now) limits n self.new }
+    {
+        match turn {
+            Err(code) => Err(code),
+            Ok(turn) => match turn {
+                Turn::Handed => {
+                    if self.next_waits(templates) {
+                        self.turns = Turns::after(&self.turns);
+                        self.waiting = Waiting::Field;
+                        return Ok(Turn::Waits);
+                    }
+                    Ok(Turn::Handed)
+                }
+                Turn::Silent => Ok(Turn::Silent),
+                Turn::Waits => Ok(Turn::Waits),
+            },
+        }
+    }
+
+    /// Takes the unit of the next instruction, a field of integers of a known kind that stands in the stream in a known way.
+    #[inline(always)]
+    fn take_sent<S: Sink>(
+        &mut self,
+        templates: &'t Templates,
+        limits: Limits,
+        number: u32,
+        kind: Kind,
+        sending: Sending,
+        rest: &[u8],
+        sink: &mut S,
+    ) -> Option<Quick>
+        requires waits { self.old.waiting ≡ Waiting.Field }
+        requires ready { IsReady (set_of templates.now) limits self.old }
+        requires none { self.old.entity ≡ [] }
+        requires next { first_node self.old.cursor.left ≡ Some number }
+        requires within { number < length (set_of templates.now).nodes }
+        requires integers { family kind ≡ integers (range_of kind) }
+        requires field { (x : Node) → slice_get (set_of templates.now).nodes number ≡ Some x → (f : FieldInstruction) × (x.shape ≡ Shape.Field f) × IsSentAs f kind sending }
+        ensures none { IfNone result ((self.new ≡ self.old) × (sink.new ≡ sink.old)) }
+        ensures taken { IfSome result (λ q. IsTakenTo S.takes S.stops (set_of templates.now) limits (meaning (set_of templates.now) limits self.old) rest.now sink.old q.bytes q.turn sink.new self.new) }
+        ensures turns { (way : Way) (n : ℕ) → HasTurns way (set_of templates.now) limits 1 n self.old → IfSome result (λ q. HasTurnsBehind q.turn way (set_of templates.now) limits (1 + n) self.new) }
+    {
+        let Shape::Field(field) = &templates.node(number).shape else {
+            return None;
+        };
+        let (source, bytes) = quick_integer(
+            &mut self.slots,
+            field,
+            kind,
+            nullable(sending),
+            operator_of(sending),
+            rest,
+            limits.strict,
+        )?;
+        self.turns = Turns::after(&self.turns);
+        let turn = self.finish(number, field, source, &rest[..bytes], sink);
+        let turn = self.wait_if(templates, limits, turn, sink);
+        Some(Quick { bytes, turn })
+    }
+
+    /// The same, with an arm of its own for each way.
+    #[inline(always)]
+    fn take_kind<S: Sink>(
+        &mut self,
+        templates: &'t Templates,
+        limits: Limits,
+        number: u32,
+        kind: Kind,
+        sending: Sending,
+        rest: &[u8],
+        sink: &mut S,
+    ) -> Option<Quick>
+        requires waits { self.old.waiting ≡ Waiting.Field }
+        requires ready { IsReady (set_of templates.now) limits self.old }
+        requires none { self.old.entity ≡ [] }
+        requires next { first_node self.old.cursor.left ≡ Some number }
+        requires within { number < length (set_of templates.now).nodes }
+        requires integers { family kind ≡ integers (range_of kind) }
+        requires field { (x : Node) → slice_get (set_of templates.now).nodes number ≡ Some x → (f : FieldInstruction) × (x.shape ≡ Shape.Field f) × IsSentAs f kind sending }
+        ensures none { IfNone result ((self.new ≡ self.old) × (sink.new ≡ sink.old)) }
+        ensures taken { IfSome result (λ q. IsTakenTo S.takes S.stops (set_of templates.now) limits (meaning (set_of templates.now) limits self.old) rest.now sink.old q.bytes q.turn sink.new self.new) }
+        ensures turns { (way : Way) (n : ℕ) → HasTurns way (set_of templates.now) limits 1 n self.old → IfSome result (λ q. HasTurnsBehind q.turn way (set_of templates.now) limits (1 + n) self.new) }
+    {
+        match sending {
+            Sending::Plain => {
+                self.take_sent(templates, limits, number, kind, Sending::Plain, rest, sink)
+            }
+            Sending::NullablePlain => {
+                self.take_sent(
+                    templates,
+                    limits,
+                    number,
+                    kind,
+                    Sending::NullablePlain,
+                    rest,
+                    sink,
+                )
+            }
+            Sending::Default => {
+                self.take_sent(
+                    templates,
+                    limits,
+                    number,
+                    kind,
+                    Sending::Default,
+                    rest,
+                    sink,
+                )
+            }
+            Sending::NullableDefault => {
+                self.take_sent(
+                    templates,
+                    limits,
+                    number,
+                    kind,
+                    Sending::NullableDefault,
+                    rest,
+                    sink,
+                )
+            }
+            Sending::Copy => {
+                self.take_sent(templates, limits, number, kind, Sending::Copy, rest, sink)
+            }
+            Sending::NullableCopy => {
+                self.take_sent(
+                    templates,
+                    limits,
+                    number,
+                    kind,
+                    Sending::NullableCopy,
+                    rest,
+                    sink,
+                )
+            }
+            Sending::Increment => {
+                self.take_sent(
+                    templates,
+                    limits,
+                    number,
+                    kind,
+                    Sending::Increment,
+                    rest,
+                    sink,
+                )
+            }
+            Sending::NullableIncrement => {
+                self.take_sent(
+                    templates,
+                    limits,
+                    number,
+                    kind,
+                    Sending::NullableIncrement,
+                    rest,
+                    sink,
+                )
+            }
+            Sending::Delta => {
+                self.take_sent(templates, limits, number, kind, Sending::Delta, rest, sink)
+            }
+            Sending::NullableDelta => {
+                self.take_sent(
+                    templates,
+                    limits,
+                    number,
+                    kind,
+                    Sending::NullableDelta,
+                    rest,
+                    sink,
+                )
+            }
+        }
+    }
+
+    /// Takes the unit of the next instruction, if it is a field of integers.
+    #[inline(always)]
+    fn take_integer<S: Sink>(
+        &mut self,
+        templates: &'t Templates,
+        limits: Limits,
+        rest: &[u8],
+        sink: &mut S,
+    ) -> Option<Quick>
+        requires waits { self.old.waiting ≡ Waiting.Field }
+        requires ready { IsReady (set_of templates.now) limits self.old }
+        ensures none { IfNone result ((self.new ≡ self.old) × (sink.new ≡ sink.old)) }
+        ensures taken { IfSome result (λ q. IsTakenTo S.takes S.stops (set_of templates.now) limits (meaning (set_of templates.now) limits self.old) rest.now sink.old q.bytes q.turn sink.new self.new) }
+        ensures turns { (way : Way) (n : ℕ) → HasTurns way (set_of templates.now) limits 1 n self.old → IfSome result (λ q. HasTurnsBehind q.turn way (set_of templates.now) limits (1 + n) self.new) }
+    {
+        if !self.entity.is_empty() {
+            return None;
+        }
+        let number = self.cursor.next()?;
+        match templates.opcode(number) {
+            Opcode::UInt32(sending) => {
+                self.take_kind(templates, limits, number, Kind::UInt32, sending, rest, sink)
+            }
+            Opcode::Int32(sending) => {
+                self.take_kind(templates, limits, number, Kind::Int32, sending, rest, sink)
+            }
+            Opcode::UInt64(sending) => {
+                self.take_kind(templates, limits, number, Kind::UInt64, sending, rest, sink)
+            }
+            Opcode::Int64(sending) => {
+                self.take_kind(templates, limits, number, Kind::Int64, sending, rest, sink)
+            }
+            Opcode::Other => None,
+        }
+    }
+
+    /// Takes the unit that the machine waits for, if it is one for the quick way.
+    #[inline(always)]
+    pub fn take_quickly<S: Sink>(
+        &mut self,
+        templates: &'t Templates,
+        limits: Limits,
+        rest: &[u8],
+        sink: &mut S,
+    ) -> Option<Quick>
+        requires ready { IsReady (set_of templates.now) limits self.old }
+        ensures none { IfNone result ((self.new ≡ self.old) × (sink.new ≡ sink.old)) }
+        ensures taken { IfSome result (λ q. IsTakenTo S.takes S.stops (set_of templates.now) limits (meaning (set_of templates.now) limits self.old) rest.now sink.old q.bytes q.turn sink.new self.new) }
+        ensures turns { (way : Way) (n : ℕ) → HasTurnsWaiting way (set_of templates.now) limits n self.old
+            → IfSome result (λ q. HasTurnsBehind q.turn way (set_of templates.now) limits (1 + n + turns_begun_at self.old.waiting self.old.cursor.map way (tree_in (set_of templates.now)) limits) self.new) }
+    {
+        match self.waiting {
+            Waiting::Field => self.take_integer(templates, limits, rest, sink),
+            _ => None,
+        }
+    }
+}
