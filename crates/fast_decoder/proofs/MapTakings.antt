@@ -1,6 +1,6 @@
 -- A map that goes on with the bytes of a piece, in cells among others.
-use Rattle.std.proofs.Common.{sym, ap, subst, ◌∙◌, arith}
-use Rattle.std.specs.Prelude.{◌≡◌, ℕ, ◌+◌, List, ◌++◌, length, take}
+use Rattle.std.proofs.Common.{refl, sym, ap, subst, ◌∙◌, arith, get_or}
+use Rattle.std.specs.Prelude.{◌≡◌, ℕ, ◌+◌, ◌<◌, ◌≤◌, List, [], ◌∷◌, ◌++◌, length, take}
 use Rattle.std.proofs.lemmas.List.{length-append, length-take-le}
 use Rattle.fast_wire.specs.Entities.{HaveNoStop, IsEntity}
 use Rattle.fast_decoder.specs.declared.pending.MapFront.{MapFront}
@@ -32,3 +32,9 @@ taken-cut front cells rest after old now len start r is same count filled next =
     let front-is : take len cells ++ rest ≡ front ++ rest = ap (λ w. w ++ rest) same in
     subst (IsMapTaken front rest (map_at now start (len + length rest))) (sym is)
     (omega (arith, sum), subst HaveNoStop front-is no_stop, filled.inner (len + length rest) (omega arith) ∙ bytes ∙ front-is)
+
+-- The first byte of the piece is the whole map.
+pub taken-first : (front rest map : List ℕ) → front ≡ [] → 0 < length rest → 128 ≤ get_or rest 0 0 → map ≡ get_or rest 0 0 ∷ [] → IsMapTaken front rest map (Whole 1)
+taken-first front [] map none some stop is = absurd (omega (arith, some))
+taken-first front (b ∷ rest) map none some stop is =
+    subst (λ w. IsMapTaken w (b ∷ rest) map (Whole 1)) (sym none) (omega arith, omega arith, omega arith, ([], b, refl, λ k d h. absurd (omega (arith, h)), stop), is)

@@ -1,9 +1,7 @@
 -- The segments that the fields of a cursor hold.
 use Rattle.std.proofs.Common.{refl, sym, ap, subst, ◌∙◌, arith, get_or, set, Global, Vec}
-use Rattle.std.specs.Prelude.{◌≡◌, ℕ, suc, ◌+◌, ◌*◌, ◌<◌, ◌≤◌, ◌-◌, List, [], ◌∷◌, ◌++◌, length, take, drop, Option, option_map}
-use Rattle.std.specs.List.{All}
+use Rattle.std.specs.Prelude.{◌≡◌, ℕ, zero, suc, ◌+◌, ◌*◌, ◌<◌, ◌≤◌, ◌-◌, List, [], ◌∷◌, ◌++◌, length, take, drop, Option, option_map}
 use Rattle.std.proofs.lemmas.List.{drop-take, take-take, take_more, take_more_set, length-take, length-take-le, length-drop, length-append, take_at, drop_at, take-append-le, with_items_is}
-use Rattle.std.proofs.lemmas.List.Elements.{All-head, All-tail, All-push}
 use Rattle.std.specs.Vec.{with_items}
 use borrow.Rule.Slice.PartMut.{put_mid, post_of}
 use Rattle.fast_wire.specs.Maps.{map_limit}
@@ -11,11 +9,8 @@ use Rattle.fast_decoder.specs.Cursors.{FrameData, CursorData, entered, left_to}
 use Rattle.fast_decoder.specs.declared.cursor.Elements.{Elements}
 use Rattle.fast_decoder.specs.declared.cursor.Frame.{Frame}
 use Rattle.fast_decoder.specs.declared.cursor.Cursor.TheInside.{Inside}
-use Rattle.fast_decoder.specs.Segments.{map_at, frame_data, frames_on, IsPlace, elements_data, used_bits, cursor_data, IsCursor}
-
--- the place in a frame's map
-abbrev pub IsHeld : Frame → Type 0
-IsHeld f = IsPlace f.map
+use Rattle.fast_decoder.specs.MapPlaces.{used_bits, IsPlace}
+use Rattle.fast_decoder.specs.Segments.{map_at, frame_data, frames_on, ArePlaces, elements_data, cursor_data, IsCursor}
 
 -- each frame is there
 pub length-frames : (cells : List ℕ) (start : ℕ) (fs : List Frame) (outer : List FrameData) → length (frames_on cells start fs outer) ≡ length fs + length outer
@@ -37,15 +32,37 @@ map-within cells others start len n h e =
     sym (drop-take start len cells) ∙ ap (drop start) same ∙ drop-take start len others
 
 -- Frames don't change with the cells behind theirs.
-pub frames-within : (cells others : List ℕ) (start : ℕ) (fs : List Frame) (outer : List FrameData) (n : ℕ) → All IsHeld fs → start + map_limit * length fs ≤ n → take n cells ≡ take n others
+pub frames-within : (cells others : List ℕ) (start : ℕ) (fs : List Frame) (outer : List FrameData) (n : ℕ) → ArePlaces cells start fs → start + map_limit * length fs ≤ n → take n cells ≡ take n others
     → frames_on cells start fs outer ≡ frames_on others start fs outer
 frames-within cells others start [] outer n short h e = refl
 frames-within cells others start (f ∷ fs) outer n short h e =
-    let here : f.map.len ≤ map_limit = (All-head IsHeld f fs short).short in
+    let here : f.map.len ≤ map_limit = short.0.counted.short in
     let same : map_at cells start f.map.len ≡ map_at others start f.map.len = map-within cells others start f.map.len n (omega arith) e in
     let front : frame_data cells start f ≡ frame_data others start f = cc in
     ap (λ d. frames_on cells (start + map_limit) fs (d ∷ outer)) front
-    ∙ frames-within cells others (start + map_limit) fs (frame_data others start f ∷ outer) n (All-tail IsHeld f fs short) (omega arith) e
+    ∙ frames-within cells others (start + map_limit) fs (frame_data others start f ∷ outer) n short.1 (omega arith) e
+
+-- Nor do their places.
+pub places-within : (cells others : List ℕ) (start : ℕ) (fs : List Frame) (n : ℕ) → ArePlaces cells start fs → start + map_limit * length fs ≤ n → take n cells ≡ take n others → ArePlaces others start fs
+places-within cells others start [] n short h e = tt
+places-within cells others start (f ∷ fs) n short h e =
+    let here : f.map.len ≤ map_limit = short.0.counted.short in
+    let same : map_at cells start f.map.len ≡ map_at others start f.map.len = map-within cells others start f.map.len n (omega arith) e in
+    (subst (λ m. IsPlace m f.map) same short.0, places-within cells others (start + map_limit) fs n short.1 (omega arith) e)
+
+-- The last frame's place is the innermost one's.
+pub places-push : (cells : List ℕ) (start : ℕ) (fs : List Frame) (f : Frame) → ArePlaces cells start fs → IsPlace (map_at cells (start + map_limit * length fs) f.map.len) f.map → ArePlaces cells start (fs ++ f ∷ [])
+places-push cells start [] f all h = let e : start + map_limit * 0 ≡ start = omega arith in (subst (λ n. IsPlace (map_at cells n f.map.len) f.map) e h, tt)
+places-push cells start (g ∷ gs) f all h =
+    let e : start + map_limit * suc (length gs) ≡ start + map_limit + map_limit * length gs = omega arith in
+    (all.0, places-push cells (start + map_limit) gs f all.1 (subst (λ n. IsPlace (map_at cells n f.map.len) f.map) e h))
+
+pub places-pop : (cells : List ℕ) (start : ℕ) (fs : List Frame) (f : Frame) → ArePlaces cells start (fs ++ f ∷ []) → ArePlaces cells start fs × IsPlace (map_at cells (start + map_limit * length fs) f.map.len) f.map
+places-pop cells start [] f all = let e : start ≡ start + map_limit * 0 = omega arith in (tt, subst (λ n. IsPlace (map_at cells n f.map.len) f.map) e all.0)
+places-pop cells start (g ∷ gs) f all =
+    let e : start + map_limit + map_limit * length gs ≡ start + map_limit * suc (length gs) = omega arith in
+    let (behind, last) = places-pop cells (start + map_limit) gs f all.1 in
+    ((all.0, behind), subst (λ n. IsPlace (map_at cells n f.map.len) f.map) e last)
 
 -- no more bytes than have come
 pub length-map : (cells : List ℕ) (start len : ℕ) → length (map_at cells start len) ≤ len
@@ -70,8 +87,11 @@ frames-more cells fs n start f h e =
     let place : 0 + map_limit * length (take n fs) ≡ start = omega arith in
     ap (λ l. frames_on cells 0 l []) (take_more_set fs n f h) ∙ frames-push cells 0 (take n fs) f [] ∙ ap (λ k. frame_data cells k f ∷ frames_on cells 0 (take n fs) []) place
 
-pub around-more : (fs : List Frame) (n : ℕ) (f : Frame) → n < length fs → All IsHeld (take n fs) → IsHeld f → All IsHeld (take (n + 1) (set fs n f))
-around-more fs n f h around short = subst (All IsHeld) (sym (take_more_set fs n f h)) (All-push IsHeld (take n fs) f around short)
+pub places-more : (cells : List ℕ) (fs : List Frame) (n start : ℕ) (f : Frame) → n < length fs → start ≡ map_limit * n → ArePlaces cells 0 (take n fs) → IsPlace (map_at cells start f.map.len) f.map → ArePlaces cells 0 (take (n + 1) (set fs n f))
+places-more cells fs n start f h e all here =
+    let len : length (take n fs) ≡ n = length-take-le n fs (omega arith) in
+    let place : start ≡ 0 + map_limit * length (take n fs) = omega arith in
+    subst (ArePlaces cells 0) (sym (take_more_set fs n f h)) (places-push cells 0 (take n fs) f all (subst (λ k. IsPlace (map_at cells k f.map.len) f.map) place here))
 
 -- A segment begins where a frame is written.
 pub entered-is : (i : Inside) (d : CursorData) (elements : Option Elements) (body : List ℕ) (f : Frame) (depth : ℕ) → IsCursor i → cursor_data i ≡ d → i.level < length i.frames.items → depth ≡ length i.frames.items
@@ -92,6 +112,13 @@ frames-less cells fs n start f h e is =
     let place : 0 + map_limit * length (take n fs) ≡ start = omega arith in
     ap (λ l. frames_on cells 0 l []) (take_more fs n f h ∙ ap (λ g. take n fs ++ g ∷ []) (sym is))
     ∙ frames-push cells 0 (take n fs) f [] ∙ ap (λ k. frame_data cells k f ∷ frames_on cells 0 (take n fs) []) place
+
+pub places-less : (cells : List ℕ) (fs : List Frame) (n start : ℕ) (f : Frame) → n < length fs → start ≡ map_limit * n → f ≡ get_or fs n f → ArePlaces cells 0 (take (n + 1) fs) → ArePlaces cells 0 (take n fs) × IsPlace (map_at cells start f.map.len) f.map
+places-less cells fs n start f h e is all =
+    let len : length (take n fs) ≡ n = length-take-le n fs (omega arith) in
+    let place : 0 + map_limit * length (take n fs) ≡ start = omega arith in
+    let (below, last) = places-pop cells 0 (take n fs) f (subst (ArePlaces cells 0) (take_more fs n f h ∙ ap (λ g. take n fs ++ g ∷ []) (sym is)) all) in
+    (below, subst (λ k. IsPlace (map_at cells k f.map.len) f.map) place last)
 
 -- The innermost segment is whole, and what its frame says goes on.
 pub left-is : (i : Inside) (d : CursorData) (r : Frame) (n : ℕ) → IsCursor i → cursor_data i ≡ d → i.level ≡ n + 1 → r ≡ get_or i.frames.items n r → (f : FrameData) (fs : List FrameData) → d.frames ≡ f ∷ fs
@@ -131,15 +158,23 @@ filled maps old cells start k same size h len =
     }
 
 -- Only the innermost map has changed.
-pub only-map : (i : Inside) (d : CursorData) (cells now map : List ℕ) → IsCursor i → cursor_data i ≡ d → IsFilled i.maps.items i.start cells now
-    → record { frames = frames_on now 0 (take i.level i.frames.items) []; left = i.left.now; map = map; used = used_bits i.map; depth = length i.frames.items } ≡ record d { map = map }
-only-map i d cells now map s e f =
+pub only-map : (i : Inside) (d : CursorData) (now map : List ℕ) (used : ℕ) → IsCursor i → cursor_data i ≡ d → take i.start now ≡ take i.start i.maps.items → used ≡ used_bits i.map
+    → record { frames = frames_on now 0 (take i.level i.frames.items) []; left = i.left.now; map = map; used = used; depth = length i.frames.items } ≡ record d { map = map }
+only-map i d now map used s e before same =
     let len : length (take i.level i.frames.items) ≡ i.level = length-take-le i.level i.frames.items s.within in
     let starts : i.start ≡ map_limit * i.level = s.starts in
     let frames : frames_on now 0 (take i.level i.frames.items) [] ≡ frames_on i.maps.items 0 (take i.level i.frames.items) []
-    = frames-within now i.maps.items 0 (take i.level i.frames.items) [] i.start s.around (omega arith) f.before in
-    ap (λ fs. record { frames = fs; left = i.left.now; map = map; used = used_bits i.map; depth = length i.frames.items }) frames
+    = sym (frames-within i.maps.items now 0 (take i.level i.frames.items) [] i.start s.around (omega arith) (sym before)) in
+    ap (λ n. record { frames = frames_on now 0 (take i.level i.frames.items) []; left = i.left.now; map = map; used = n; depth = length i.frames.items }) same
+    ∙ ap (λ fs. record { frames = fs; left = i.left.now; map = map; used = used_bits i.map; depth = length i.frames.items }) frames
     ∙ ap (λ (c : CursorData). record c { map = map }) e
+
+-- The places of the frames are the same.
+pub only-places : (i : Inside) (now : List ℕ) → IsCursor i → take i.start now ≡ take i.start i.maps.items → ArePlaces now 0 (take i.level i.frames.items)
+only-places i now s before =
+    let len : length (take i.level i.frames.items) ≡ i.level = length-take-le i.level i.frames.items s.within in
+    let starts : i.start ≡ map_limit * i.level = s.starts in
+    places-within i.maps.items now 0 (take i.level i.frames.items) i.start s.around (omega arith) (sym before)
 
 -- The cells of the innermost map are there.
 pub cells-there : (i : Inside) → IsCursor i → i.start + map_limit ≤ length i.maps.items
@@ -148,13 +183,13 @@ cells-there i s = let within = s.within in let starts = s.starts in let cells = 
 -- the bytes of the innermost map, where its cells were lent
 pub map-lent : (i : Inside) (d : CursorData) (old : List ℕ) (k : ℕ) → IsCursor i → cursor_data i ≡ d → old ≡ i.maps.items → k ≡ map_limit → take i.map.len (take k (drop i.start old)) ≡ d.map
 map-lent i d old k s e same size =
-    let short : i.map.len ≤ k = let h = s.place.short in omega arith in
+    let short : i.map.len ≤ k = let h = s.place.counted.short in omega arith in
     take-take i.map.len k (drop i.start old) short ∙ ap (λ l. map_at l i.start i.map.len) same ∙ ap (λ (c : CursorData). c.map) e
 
 pub map-count : (i : Inside) (d : CursorData) → IsCursor i → cursor_data i ≡ d → length d.map ≡ i.map.len
 map-count i d s e =
     let there : i.start + map_limit ≤ length i.maps.items = cells-there i s in
-    let short : i.map.len ≤ map_limit = s.place.short in
+    let short : i.map.len ≤ map_limit = s.place.counted.short in
     let behind = length-drop i.start i.maps.items in
     ap (λ (c : CursorData). length c.map) (sym e) ∙ length-take-le i.map.len (drop i.start i.maps.items) (omega (arith, behind))
 
@@ -167,3 +202,28 @@ map-back i old cells k s same size len =
     let behind : length (drop i.start old) ≡ length old - i.start = length-drop i.start old in
     let lent : length (take k (drop i.start old)) ≡ k = length-take-le k (drop i.start old) (omega arith) in
     filled i.maps old cells i.start k same size (omega arith) (omega arith)
+
+-- One cell is written, in which the innermost map begins.
+pub one-before : (cells : List ℕ) (start b : ℕ) → start < length cells → take start (set cells start b) ≡ take start cells
+one-before cells start b h =
+    let len : length (take start cells) ≡ start = length-take-le start cells (omega arith) in
+    sym (take-take start (start + 1) (set cells start b) (omega arith)) ∙ ap (take start) (take_more_set cells start b h) ∙ take_at (take start cells) (b ∷ []) start len
+
+pub one-inner : (cells : List ℕ) (start b : ℕ) → start < length cells → map_at (set cells start b) start 1 ≡ b ∷ []
+one-inner cells start b h =
+    let len : length (take start cells) ≡ start = length-take-le start cells (omega arith) in
+    sym (drop-take start 1 (set cells start b)) ∙ ap (drop start) (take_more_set cells start b h) ∙ drop_at (take start cells) (b ∷ []) start len
+
+-- As many bytes as there are of a map.
+take-counted : (n : ℕ) (w : List ℕ) → take (length (take n w)) w ≡ take n w
+take-counted zero w = refl
+take-counted (suc n) [] = refl
+take-counted (suc n) (x ∷ w) = ap (λ t. x ∷ t) (take-counted n w)
+
+-- the map in cells that were lent again
+pub map-read : (old now : List ℕ) (start a n len : ℕ) → old ≡ now → len ≡ length (take (start + a + n - start) (drop start old)) → (map_at now start len ≡ map_at now start (a + n)) × (take (start + a + n - start) (drop start old) ≡ map_at now start len)
+map-read old now start a n len same e =
+    let k : start + a + n - start ≡ a + n = omega arith in
+    let read : take (start + a + n - start) (drop start old) ≡ map_at now start (a + n) = ap (λ l. take (start + a + n - start) (drop start l)) same ∙ ap (map_at now start) k in
+    let here : map_at now start len ≡ map_at now start (a + n) = ap (map_at now start) (e ∙ ap length read) ∙ take-counted (a + n) (drop start now) in
+    (here, read ∙ sym here)

@@ -25,6 +25,7 @@ pub mod Settling
 pub mod Stages
 pub mod Cursors
 pub mod Serving
+pub mod MapPlaces
 pub mod Segments
 pub mod MapTaking
 pub mod Scratches

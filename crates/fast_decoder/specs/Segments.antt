@@ -1,10 +1,9 @@
 -- What the fields of a cursor mean.
-use Rattle.std.specs.Prelude.{◌≡◌, ℕ, ◌+◌, ◌-◌, ◌*◌, ◌≤◌, List, [], ◌∷◌, take, drop, length, Option, Some, None, option_map}
-use Rattle.std.specs.List.{All}
+use Rattle.std.specs.Prelude.{◌≡◌, ℕ, ◌+◌, ◌*◌, ◌≤◌, List, [], ◌∷◌, take, drop, length, Option, Some, None, option_map}
 use Rattle.fast_wire.specs.Maps.{map_limit}
 use Rattle.fast_decoder.specs.Cursors.{ElementsData, FrameData, CursorData}
+use Rattle.fast_decoder.specs.MapPlaces.{used_bits, IsPlace}
 use Rattle.fast_decoder.specs.declared.cursor.Elements.{Elements}
-use Rattle.fast_decoder.specs.declared.cursor.MapPlace.{MapPlace}
 use Rattle.fast_decoder.specs.declared.cursor.Frame.{Frame}
 use Rattle.fast_decoder.specs.declared.cursor.Cursor.TheInside.{Inside}
 
@@ -21,10 +20,6 @@ first_node (node ∷ nodes) = Some node
 abbrev pub map_at : List ℕ → ℕ → ℕ → List ℕ
 map_at cells start len = take len (drop start cells)
 
--- the bits before the next one
-abbrev pub used_bits : MapPlace → ℕ
-used_bits p = 7 * p.byte + (6 - p.shift)
-
 -- a frame, whose map's cells begin at a place
 abbrev pub frame_data : List ℕ → ℕ → Frame → FrameData
 frame_data cells start f = record { after = f.after.now; map = map_at cells start f.map.len; used = used_bits f.map; elements = option_map elements_data f.elements }
@@ -34,10 +29,10 @@ abbrev pub frames_on : List ℕ → ℕ → List Frame → List FrameData → Li
 frames_on cells start [] outer = outer
 frames_on cells start (f ∷ fs) outer = frames_on cells (start + map_limit) fs (frame_data cells start f ∷ outer)
 
--- The map is not too long, and the next bit is one of the seven of its byte.
-pub record IsPlace (p : MapPlace) : Type 0 where
-  pub short : p.len ≤ map_limit
-  pub bit : p.shift ≤ 6
+-- The frames' places, the outermost first: the cells of the first one's map begin at the place.
+abbrev pub ArePlaces : List ℕ → ℕ → List Frame → Type 0
+ArePlaces cells start [] = Unit {0}
+ArePlaces cells start (f ∷ fs) = IsPlace (map_at cells start f.map.len) f.map × ArePlaces cells (start + map_limit) fs
 
 -- the cursor
 abbrev pub cursor_data : Inside → CursorData
@@ -54,5 +49,5 @@ pub record IsCursor (c : Inside) : Type 0 where
   pub within : c.level ≤ length c.frames.items
   pub cells : length c.maps.items ≡ map_limit * (length c.frames.items + 1)
   pub starts : c.start ≡ map_limit * c.level
-  pub place : IsPlace c.map
-  pub around : All (λ (f : Frame). IsPlace f.map) (take c.level c.frames.items)
+  pub place : IsPlace (map_at c.maps.items c.start c.map.len) c.map
+  pub around : ArePlaces c.maps.items 0 (take c.level c.frames.items)

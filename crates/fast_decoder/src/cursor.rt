@@ -7,6 +7,7 @@ ghost use Rattle.fast_decoder.specs.Cursors.{CursorData, FrameData, bits_left, a
 ghost use Rattle.fast_decoder.specs.Segments.{elements_data, first_node};
 ghost use Rattle.fast_decoder.specs.MapTaking.{IsMapTaken};
 
+use crate::map_place::{MapPlace, NO_MAP};
 use crate::pending::{MapFront, next_map};
 use fast_wire::MAP_LIMIT;
 use std::alloc::{AllocError, Global};
@@ -22,22 +23,6 @@ pub struct Elements<'t> {
     /// The bits that each uses.
     pub width: usize,
 }
-
-/// How many bytes of a segment's map have come, and which bit is the next one.
-#[derive(Clone, Copy)]
-struct MapPlace {
-    len: usize,
-    // the byte that has the next bit, and how many bits of it are behind that one
-    byte: usize,
-    shift: u8,
-}
-
-/// The place in a map that has not come.
-const NO_MAP: MapPlace = MapPlace {
-    len: 0,
-    byte: 0,
-    shift: 6,
-};
 
 /// The segment around an open group or element.
 #[derive(Clone, Copy)]
@@ -108,10 +93,11 @@ impl<'t> Cursor<'t> {
         self.level = 0;
         self.start = 0;
         self.left = &[];
-        self.clear_map();
+        self.map = NO_MAP;
     }
 
     /// The instructions of a message's template are to come.
+    #[inline(always)]
     pub fn begin(&mut self, body: &'t [u32])
         ensures { self.new ≡ record self.old { left = body.entry.now } }
     {
@@ -119,23 +105,47 @@ impl<'t> Cursor<'t> {
     }
 
     /// Takes the bytes of the innermost segment's map that a piece goes on with.
+    #[inline(always)]
     pub fn take_map(&mut self, rest: &[u8]) -> MapFront
         requires open { HaveNoStop self.old.map }
         requires room { length self.old.map < map_limit }
         ensures map { IsMapTaken self.old.map rest.now self.new.map result }
         ensures same { self.new ≡ record self.old { map = self.new.map } }
     {
-        let cells = &mut self.maps[self.start..self.start + MAP_LIMIT];
-        let front = next_map(cells, self.map.len, rest);
-        match front {
-            MapFront::Whole(bytes) => self.map.len += bytes,
-            MapFront::TooLong(_) => {}
-            MapFront::Cut => self.map.len += rest.len(),
+        if self.map.len == 0 && !rest.is_empty() {
+            let byte = rest[0];
+            if byte >= 128 {
+                self.maps[self.start] = byte;
+                self.map = MapPlace::of_byte(byte);
+                return MapFront::Whole(1);
+            }
         }
+        self.take_more(rest)
+    }
+
+    /// The same, whether or not bytes of the map have come, and whether one byte or more of the piece are the map's.
+    #[inline(never)]
+    fn take_more(&mut self, rest: &[u8]) -> MapFront
+        requires open { HaveNoStop self.old.map }
+        requires room { length self.old.map < map_limit }
+        ensures map { IsMapTaken self.old.map rest.now self.new.map result }
+        ensures same { self.new ≡ record self.old { map = self.new.map } }
+    {
+        let len = usize::from(self.map.len);
+        let cells = &mut self.maps[self.start..self.start + MAP_LIMIT];
+        let front = next_map(cells, len, rest);
+        let taken = match front {
+            MapFront::Whole(bytes) => bytes,
+            MapFront::TooLong(_) => 0,
+            MapFront::Cut => rest.len(),
+        };
+        let map = &self.maps[self.start..self.start + len + taken];
+        self.map = self.map.in_map(map);
         front
     }
 
     /// The innermost segment has no map.
+    #[inline(always)]
     pub fn clear_map(&mut self)
         ensures { self.new ≡ record self.old { map = []; used = 0 } }
     {
@@ -147,15 +157,15 @@ impl<'t> Cursor<'t> {
     pub fn map(&self) -> &[u8]
         ensures { result.now ≡ self.now.map }
     {
-        &self.maps[self.start..self.start + self.map.len]
+        &self.maps[self.start..self.start + usize::from(self.map.len)]
     }
 
     /// How many they are.
-    #[inline]
+    #[inline(always)]
     pub fn map_len(&self) -> usize
         ensures { result ≡ length self.now.map }
     {
-        self.map.len
+        usize::from(self.map.len)
     }
 
     /// The next bit of the innermost segment. Behind the last one stand zeros for ever.
@@ -163,26 +173,24 @@ impl<'t> Cursor<'t> {
     pub fn bit(&self) -> bool
         ensures { result ≡ first_bit (bits_left self.now) }
     {
-        let place = self.map;
-        place.byte < place.len && (self.maps[self.start + place.byte] >> place.shift) % 2 == 1
+        self.map.word >= 0x8000_0000_0000_0000
     }
 
     /// Uses the next bit.
-    #[inline]
+    #[inline(always)]
     pub fn use_bit(&mut self)
         ensures bits { bits_left self.new ≡ later_bits (bits_left self.old) }
         ensures same { self.new ≡ record self.old { used = self.new.used } }
     {
-        if self.map.shift > 0 {
-            self.map.shift -= 1;
-        } else {
-            self.map.shift = 6;
-            self.map.byte = self.map.byte.saturating_add(1);
+        self.map.word <<= 1;
+        self.map.left -= 1;
+        if self.map.left == 0 {
+            self.map = self.map.refilled(&self.maps, self.start);
         }
     }
 
     /// The next instruction's node, if one is left of the innermost segment.
-    #[inline]
+    #[inline(always)]
     pub fn next(&self) -> Option<u32>
         ensures { result ≡ first_node self.now.left }
     {
@@ -190,7 +198,7 @@ impl<'t> Cursor<'t> {
     }
 
     /// The next instruction is whole.
-    #[inline]
+    #[inline(always)]
     pub fn advance(&mut self)
         requires { 0 < length self.old.left }
         ensures { self.new ≡ record self.old { left = drop 1 self.old.left } }

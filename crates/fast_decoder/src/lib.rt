@@ -9,6 +9,7 @@ pub mod fields;
 pub mod laws;
 pub mod layout;
 mod machine;
+mod map_place;
 pub mod numbers;
 mod pending;
 pub mod progress;

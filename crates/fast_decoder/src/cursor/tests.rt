@@ -113,3 +113,24 @@ fn maps_are_taken(rt: HostRuntime) -> Result<(), Fail> {
     assert_eq!(rt; cursor.next(), Some(9));
     Ok(())
 }
+
+#[test]
+fn bits_of_a_long_map(rt: HostRuntime) -> Result<(), Fail> {
+    let mut cursor = Cursor::new(rt.alloc(), 1)?;
+    let map = [
+        0x40, 0, 0, 0, 0, 0, 0, 0x01, 0x41, 0, 0, 0, 0, 0, 0, 0x01, 0xC0,
+    ];
+    take_bytes(&rt, &mut cursor, &map);
+    use_bits(&rt, &mut cursor, &[1]);
+    use_bits(&rt, &mut cursor, &[0; 54]);
+    use_bits(&rt, &mut cursor, &[1, 1, 0]);
+    cursor.open_group(&[]);
+    use_bits(&rt, &mut cursor, &[0; 60]);
+    assert!(rt; cursor.close().is_none());
+    use_bits(&rt, &mut cursor, &[0, 0, 0, 0, 1]);
+    use_bits(&rt, &mut cursor, &[0; 48]);
+    use_bits(&rt, &mut cursor, &[1, 1]);
+    // Behind the last bit stand zeros for ever.
+    use_bits(&rt, &mut cursor, &[0; 2000]);
+    Ok(())
+}

@@ -1,7 +1,8 @@
 use Rattle.std.proofs.Common.{refl, ◌≡◌, ◌<◌, arith, length}
 use Rattle.std.proofs.lemmas.List.{length-set}
 use Rattle.fast_decoder.specs.declared.cursor.Frame.{Frame}
-use Rattle.fast_decoder.proofs.Segments.{has-room, around-more, entered-is}
+use Rattle.fast_decoder.proofs.Segments.{has-room, places-more, entered-is}
+use Rattle.fast_decoder.proofs.MapWords.{place-none}
 use Rattle.fast_decoder.proofs.cursor.Cursor.enter.Goals as goal
 
 pub index_mut-requires : goal.index_mut-requires
@@ -19,8 +20,8 @@ invariant_of-self c =
       within = omega (arith, same);
       cells = omega (arith, same);
       starts = omega arith;
-      place = record { short = omega arith; bit = omega arith };
-      around = around-more c.self.inside.frames.items c.self.inside.level f room c.self.invariant.around c.self.invariant.place;
+      place = place-none;
+      around = places-more c.self.inside.maps.items c.self.inside.frames.items c.self.inside.level c.self.inside.start f room c.self.invariant.starts c.self.invariant.around c.self.invariant.place;
     }
 
 pub returns : goal.returns

@@ -1,48 +1,48 @@
-use Rattle.std.proofs.Common.{◌≡◌, arith, ◌-◌, ◌+◌}
-use Rattle.fast_decoder.proofs.Segments.{only-map, map-lent, map-count, map-back}
-use Rattle.fast_decoder.proofs.MapTakings.{taken-whole, taken-full, taken-cut}
+use Rattle.std.proofs.Common.{◌≡◌, ◌<◌, ◌≤◌, ◌∙◌, [], ◌∷◌, List, ℕ, ap, sym, subst, arith, rules, length, length-set, get_or, set, ◌+◌}
+use Rattle.fast_wire.specs.Maps.{map_limit}
+use Rattle.fast_decoder.specs.Cursors.{CursorData}
+use Rattle.fast_decoder.specs.MapPlaces.{used_bits, IsPlace}
+use Rattle.fast_decoder.specs.Segments.{map_at}
+use Rattle.fast_decoder.proofs.Segments.{cells-there, only-map, only-places, one-before, one-inner}
+use Rattle.fast_decoder.proofs.MapTakings.{taken-first}
 use Rattle.fast_decoder.proofs.cursor.Cursor.take_map.Goals as goal
 
-pub returns-in-Whole-clause-map : goal.returns-in-Whole-clause-map
-returns-in-Whole-clause-map c =
-    let k : c.self.inside.start + 146 - c.self.inside.start ≡ 146 = omega arith in
-    taken-whole c.args.self.now.map _ c.args.rest.now c.next_map-front.new.cells c.self.inside.maps.items _ c.self.inside.map.len c.in-Whole.bytes c.self.inside.start
-    (map-lent c.self.inside c.args.self.now c.deref_mut.result.now _ c.self.invariant c.self.view_is c.deref_mut.ensures.value k)
-    (map-count c.self.inside c.args.self.now c.self.invariant c.self.view_is)
-    (map-back c.self.inside c.deref_mut.result.now c.next_map-front.new.cells _ c.self.invariant c.deref_mut.ensures.value k c.next_map-front.auto.cells)
-    c.in-Whole.ensures
+pub invariant_of-self : goal.invariant_of-self
+invariant_of-self c =
+    let cells : List ℕ = c.self.inside.maps.items in
+    let start : ℕ = c.self.inside.start in
+    let b : ℕ = get_or c.args.rest.now 0 0 in
+    let there : start + map_limit ≤ length cells = cells-there c.self.inside c.self.invariant in
+    let here : b ∷ [] ≡ map_at (set cells start b) start c.of_byte-self-inside.result.len
+    = sym (ap (map_at (set cells start b) start) c.of_byte-self-inside.ensures.len ∙ one-inner cells start b (omega arith)) in
+    record {
+      within = c.self.invariant.within;
+      cells = length-set cells start b ∙ c.self.invariant.cells;
+      starts = c.self.invariant.starts;
+      place = subst (λ m. IsPlace m c.of_byte-self-inside.result) here c.of_byte-self-inside.ensures.place;
+      around = only-places c.self.inside (set cells start b) c.self.invariant (one-before cells start b (omega arith));
+    }
 
-pub returns-in-Whole-clause-same : goal.returns-in-Whole-clause-same
-returns-in-Whole-clause-same c =
-    let k : c.self.inside.start + 146 - c.self.inside.start ≡ 146 = omega arith in
-    only-map c.self.inside c.args.self.now c.next_map-front.new.cells _ _ c.self.invariant c.self.view_is
-    (map-back c.self.inside c.deref_mut.result.now c.next_map-front.new.cells _ c.self.invariant c.deref_mut.ensures.value k c.next_map-front.auto.cells)
+pub returns-then-byte-ge128-clause-map : goal.returns-then-byte-ge128-clause-map
+returns-then-byte-ge128-clause-map c =
+    let cells : List ℕ = c.self.inside.maps.items in
+    let start : ℕ = c.self.inside.start in
+    let b : ℕ = get_or c.args.rest.now 0 0 in
+    let there : start + map_limit ≤ length cells = cells-there c.self.inside c.self.invariant in
+    let len : c.self.inside.map.len ≡ 0 = search (rules, c.if-self-eq0.true) in
+    let none : c.args.self.now.map ≡ [] = ap (λ (d : CursorData). d.map) (sym c.self.view_is) ∙ ap (map_at cells start) len in
+    let some : 0 < length c.args.rest.now = search rules in
+    let stop : 128 ≤ b = search (rules, c.if-byte-ge128.true) in
+    taken-first c.args.self.now.map c.args.rest.now _ none some stop
+    (ap (map_at (set cells start b) start) c.of_byte-self-inside.ensures.len ∙ one-inner cells start b (omega arith))
 
-pub returns-in-TooLong-clause-map : goal.returns-in-TooLong-clause-map
-returns-in-TooLong-clause-map c =
-    let k : c.self.inside.start + 146 - c.self.inside.start ≡ 146 = omega arith in
-    taken-full c.args.self.now.map _ c.args.rest.now c.next_map-front.new.cells _ c.self.inside.map.len _ _ c.in-TooLong.is
-    (map-lent c.self.inside c.args.self.now c.deref_mut.result.now _ c.self.invariant c.self.view_is c.deref_mut.ensures.value k)
-    (map-count c.self.inside c.args.self.now c.self.invariant c.self.view_is)
-    c.in-TooLong.ensures
-
-pub returns-in-TooLong-clause-same : goal.returns-in-TooLong-clause-same
-returns-in-TooLong-clause-same c =
-    let k : c.self.inside.start + 146 - c.self.inside.start ≡ 146 = omega arith in
-    only-map c.self.inside c.args.self.now c.next_map-front.new.cells _ _ c.self.invariant c.self.view_is
-    (map-back c.self.inside c.deref_mut.result.now c.next_map-front.new.cells _ c.self.invariant c.deref_mut.ensures.value k c.next_map-front.auto.cells)
-
-pub returns-in-Cut-clause-map : goal.returns-in-Cut-clause-map
-returns-in-Cut-clause-map c =
-    let k : c.self.inside.start + 146 - c.self.inside.start ≡ 146 = omega arith in
-    taken-cut c.args.self.now.map _ c.args.rest.now c.next_map-front.new.cells c.self.inside.maps.items _ c.self.inside.map.len c.self.inside.start _ c.in-Cut.is
-    (map-lent c.self.inside c.args.self.now c.deref_mut.result.now _ c.self.invariant c.self.view_is c.deref_mut.ensures.value k)
-    (map-count c.self.inside c.args.self.now c.self.invariant c.self.view_is)
-    (map-back c.self.inside c.deref_mut.result.now c.next_map-front.new.cells _ c.self.invariant c.deref_mut.ensures.value k c.next_map-front.auto.cells)
-    c.in-Cut.ensures
-
-pub returns-in-Cut-clause-same : goal.returns-in-Cut-clause-same
-returns-in-Cut-clause-same c =
-    let k : c.self.inside.start + 146 - c.self.inside.start ≡ 146 = omega arith in
-    only-map c.self.inside c.args.self.now c.next_map-front.new.cells _ _ c.self.invariant c.self.view_is
-    (map-back c.self.inside c.deref_mut.result.now c.next_map-front.new.cells _ c.self.invariant c.deref_mut.ensures.value k c.next_map-front.auto.cells)
+pub returns-then-byte-ge128-clause-same : goal.returns-then-byte-ge128-clause-same
+returns-then-byte-ge128-clause-same c =
+    let cells : List ℕ = c.self.inside.maps.items in
+    let start : ℕ = c.self.inside.start in
+    let b : ℕ = get_or c.args.rest.now 0 0 in
+    let there : start + map_limit ≤ length cells = cells-there c.self.inside c.self.invariant in
+    let len : c.self.inside.map.len ≡ 0 = search (rules, c.if-self-eq0.true) in
+    let none : c.self.inside.map.end ≡ 0 = c.self.invariant.place.counted.none len in
+    let used : used_bits c.of_byte-self-inside.result ≡ used_bits c.self.inside.map = let e = c.of_byte-self-inside.ensures.used in omega arith in
+    only-map c.self.inside c.args.self.now (set cells start b) _ (used_bits c.of_byte-self-inside.result) c.self.invariant c.self.view_is (one-before cells start b (omega arith)) used
