@@ -545,6 +545,7 @@ impl<'t> Machine<'t> {
     }
 
     /// All that needs no further byte.
+    #[inline(never)]
     pub fn settle<S: Sink>(
         &mut self,
         templates: &'t Templates,

@@ -3,7 +3,7 @@
 ghost use Rattle.std.specs.Prelude.{◌≡◌, ◌≢◌, ◌⊎◌, ◌+◌, ◌*◌, ◌<◌, ◌≤◌, ◌^◌, ◌&&◌, not, nat_le, true, false, ℕ, List, [], length, length as list_length, slice_get, IfSome, IfNone, Err, drop, take, IsTrue, ◌↔◌, IsOk, IfOk, OnOk, Some, None, Ok, slice_index, option_map, nat_abs, if◌then◌else◌};
 ghost use Rattle.fast_wire.specs.Entities.{HaveNoStop, IsEntity};
 ghost use Rattle.fast_wire.specs.Maps.{map_limit, bits, first_bit, bytes_for};
-ghost use Rattle.fast_value.specs.Kinds.{integer_of, family, integers};
+ghost use Rattle.fast_value.specs.Kinds.{integer_of};
 ghost use Rattle.fast_value.specs.Values.{scalar_data};
 ghost use Rattle.fast_value.specs.Limits.{bounds};
 ghost use Rattle.fast_template.specs.Flat.{field_data, nodes_of, templates_of, template_data, instructions_from};
@@ -17,7 +17,6 @@ ghost use Rattle.fast_decoder.specs.Readers.{Reader};
 ghost use Rattle.fast_decoder.specs.EntryTexts.{HasLongInitial};
 ghost use Rattle.fast_decoder.specs.declared.machine.Machine.{Machine};
 ghost use Rattle.fast_dict.specs.Dictionary.{Dictionary, reset};
-ghost use Rattle.fast_dict.specs.Operators.{range_of};
 ghost use Rattle.fast_decoder.specs.Handing.{Hands, IsTaken, Fed, stood};
 ghost use Rattle.fast_decoder.specs.Settling.{Serves, value_at};
 ghost use Rattle.fast_decoder.specs.Passing.{state_past, identified_then};
@@ -37,7 +36,7 @@ use crate::machine::{Machine, Turn, Waiting};
 use crate::numbers::take_integer;
 use crate::pending::MapFront;
 use crate::progress::Progress;
-use crate::scalars::{take_bytes, take_first, take_first_text, take_number, take_only};
+use crate::scalars::{take_bytes, take_first, take_first_text, take_number};
 use crate::scratch::Scratch;
 use crate::settling::hand;
 use crate::source::Source;
@@ -152,17 +151,6 @@ fn template_beyond(templates: &Templates, id: u128) -> Option<u32>
         }
     }
     None
-}
-
-/// Whether a kind is one of integers.
-#[inline]
-fn is_integer(kind: Kind) -> bool
-    ensures { result ≡ true → family kind ≡ integers (range_of kind) }
-{
-    match kind {
-        Kind::UInt32 | Kind::Int32 | Kind::UInt64 | Kind::Int64 => true,
-        Kind::Decimal | Kind::Ascii | Kind::Unicode | Kind::Bytes => false,
-    }
 }
 
 /// Forgets all entries but the identifier's, if the template says so.
@@ -380,37 +368,6 @@ impl<'t> Machine<'t> {
     }
 
     /// Takes bytes of the first unit of the next instruction, an integer.
-    #[inline(always)]
-    fn take_instruction<S: Sink>(
-        &mut self,
-        templates: &'t Templates,
-        limits: Limits,
-        rest: &[u8],
-        sink: &mut S,
-    ) -> Taken
-        requires waits { self.old.waiting ≡ Waiting.Field }
-        requires ready { IsReady (set_of templates.now) limits self.old }
-        requires some { 0 < length rest.now }
-        ensures taken { IsTaken S.takes S.stops (tree_in (set_of templates.now)) limits (meaning (set_of templates.now) limits self.old) rest.now
-            sink.old result.bytes result.outcome sink.new (meaning (set_of templates.now) limits self.new) }
-        ensures ready { OnOk result.outcome (IsReady (set_of templates.now) limits self.new) }
-        ensures supplied { IsSupplied (set_of templates.now) limits self.new }
-        ensures turns { (way : Way) (n : ℕ) → HasTurns way (set_of templates.now) limits 1 n self.old → HasTurnsAfter result.outcome way (set_of templates.now) limits n self.new }
-    {
-        let Some(number) = self.cursor.next() else {
-            return Taken::cut(rest);
-        };
-        match &templates.node(number).shape {
-            Shape::Field(field) if is_integer(field.kind) => {
-                let progress = take_only(&mut self.slots, &mut self.entity, field, rest, limits);
-                self.scalar_taken(templates, limits, number, field, progress, rest, sink)
-            }
-            _ => self.take_other(templates, limits, rest, sink),
-        }
-    }
-
-    /// Takes bytes of the first unit of the next instruction, an integer: the general way.
-    #[inline(never)]
     fn take_other<S: Sink>(
         &mut self,
         templates: &'t Templates,
@@ -775,13 +732,13 @@ impl<'t> Machine<'t> {
             Ok(turn) => match turn {
                 Turn::Waits => Ok(()),
                 Turn::Silent => self.settle(templates, limits, sink),
-                Turn::Handed => self.settle_on(templates, limits, sink),
+                Turn::Handed => self.settle(templates, limits, sink),
             },
         }
     }
 
-    /// Takes one unit, or as much of it as there is.
-    #[inline]
+    /// Takes one unit, or as much of it as there is, in the general way.
+    #[inline(never)]
     fn take_unit<S: Sink>(
         &mut self,
         templates: &'t Templates,
@@ -799,14 +756,11 @@ impl<'t> Machine<'t> {
             → HasTurnsAfter result.outcome way (set_of templates.now) limits (1 + n + turns_begun_at self.old.waiting self.old.cursor.map way (tree_in (set_of templates.now)) limits) self.new }
     {
         self.turns = Turns::after(&self.turns);
-        match self.waiting {
-            Waiting::Field => self.take_instruction(templates, limits, rest, sink),
-            _ => self.take_awaited(templates, limits, rest, sink),
-        }
+        self.take_awaited(templates, limits, rest, sink)
     }
 
     /// Takes bytes of the unit that the machine waits for.
-    #[inline(never)]
+    #[inline(always)]
     fn take_awaited<S: Sink>(
         &mut self,
         templates: &'t Templates,
@@ -859,7 +813,16 @@ impl<'t> Machine<'t> {
     {
         let mut bytes = 0;
         while bytes < piece.len() {
-            let taken = self.take_unit(templates, limits, &piece[bytes..], sink);
+            let rest = &piece[bytes..];
+            if let Some(quick) = self.take_quickly(templates, limits, rest, sink) {
+                bytes += quick.bytes;
+                let outcome = self.go_on(templates, limits, quick.turn, sink);
+                if outcome.is_err() {
+                    return Taken { bytes, outcome };
+                }
+                continue;
+            }
+            let taken = self.take_unit(templates, limits, rest, sink);
             bytes += taken.bytes;
             if taken.outcome.is_err() {
                 return Taken {

@@ -14,5 +14,5 @@ returns-in-Handed-clause-hands g c r s m =
     let on = turning set c.args.limits c.args.self.now in
     let waits = meaning set c.args.limits c.args.self.now in
     let turn : c.args.turn ≡ Ok Handed = c.in-Ok.is ∙ ap Ok c.in-Handed.is in
-    hands_turned g.S.Sink.takes g.S.Sink.stops r on waits s Handed c.args.sink.now c.settle_on.result c.settle_on.new.sink (meaning set c.args.limits c.settle_on.new.self) (λ e. absurd (cc e))
-    (subst (λ (t : Result Turn FaultCode). Moves g.S.Sink.takes g.S.Sink.stops r s t c.args.sink.now on waits) turn m) c.settle_on.ensures.hands
+    hands_turned g.S.Sink.takes g.S.Sink.stops r on waits s Handed c.args.sink.now c.settle-in-Handed.result c.settle-in-Handed.new.sink (meaning set c.args.limits c.settle-in-Handed.new.self) (λ e. absurd (cc e))
+    (subst (λ (t : Result Turn FaultCode). Moves g.S.Sink.takes g.S.Sink.stops r s t c.args.sink.now on waits) turn m) c.settle-in-Handed.ensures.hands
