@@ -255,6 +255,3 @@ impl<'t> Cursor<'t> {
         frame.elements
     }
 }
-
-#[cfg(test)]
-mod tests;

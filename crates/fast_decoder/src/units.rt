@@ -21,9 +21,6 @@ use fast_wire::{
     read_unsigned,
 };
 
-#[cfg(test)]
-mod tests;
-
 /// The integers that an entity may stand for, and whether it is read in two's complement.
 #[derive(Clone, Copy, Debug, PartialEq, Eq)]
 pub enum IntegerRange {

@@ -1,10 +1,13 @@
 //! The limits of a decoder, and streams that come near them.
 
+ghost use Rattle.std.specs.Prelude.{◌<◌};
+
 use super::Due::*;
 use super::End::{Between, Inside, Wrong};
 use super::worked::WORKED;
-use super::{LENIENT, STRICT, expect_rows, feed_pieces, row};
-use crate::{Decoder, MakeError, Recorded, Recorder};
+use super::{LENIENT, Row, STRICT, expect_rows, feed_pieces};
+use fast_decoder::layout::has_long_initial;
+use fast_decoder::{Decoder, MakeError, Recorded, Recorder};
 use fast_template::Templates;
 use fast_value::{Code, Limits, Value};
 use std::alloc::{AllocError, Global};
@@ -80,6 +83,23 @@ fn initial_texts_are_within_the_limit(rt: HostRuntime) {
     }
 }
 
+/// A text of four characters as initial value.
+const FOUR: &str =
+    "[[template]]\nname = 'T'\nfields = [{kind='ascii', name='f', op='default', value='ABCD'}]";
+
+/// A number as initial value.
+const FIVE_AS_VALUE: &str =
+    "[[template]]\nname = 'T'\nfields = [{kind='uInt32', name='f', op='default', value='5'}]";
+
+#[test]
+fn an_initial_value_may_have_the_greatest_length(rt: HostRuntime) -> Result<(), Fail> {
+    let text = Templates::read(rt.alloc(), FOUR)?;
+    assert!(rt; has_long_initial(&text, 3) && !has_long_initial(&text, 4));
+    let number = Templates::read(rt.alloc(), FIVE_AS_VALUE)?;
+    assert!(rt; !has_long_initial(&number, 0));
+    Ok(())
+}
+
 #[test]
 fn every_number_of_elements_may_be_allowed(rt: HostRuntime) {
     let limits = Limits {
@@ -90,137 +110,149 @@ fn every_number_of_elements_may_be_allowed(rt: HostRuntime) {
     assert_eq!(rt; make_error(rt.alloc(), NESTED, limits), None);
 }
 
+/// A message of a thousand elements of `CONSTANTS`.
+const THOUSAND: &[u8] = &[0xC0, 0x82, 0x07, 0xE8];
+
+/// Whether the message of a thousand elements has this event at this place.
+fn is_due_in_thousand(place: usize, event: &Recorded) -> bool {
+    match event {
+        Recorded::MessageStart { template } => place == 0 && *template == 0,
+        Recorded::SequenceStart { node, count } => place == 1 && *node == 0 && *count == 1000,
+        Recorded::SequenceEnd => place == 3002,
+        Recorded::MessageEnd => place == 3003,
+        Recorded::ElementStart => place % 3 == 2 && is_within_thousand(place),
+        Recorded::Field {
+            node: 1,
+            value: Value::U(7),
+        } => place % 3 == 0 && is_within_thousand(place),
+        Recorded::ElementEnd => place % 3 == 1 && is_within_thousand(place),
+        _ => false,
+    }
+}
+
+/// Whether the place is behind the start of the sequence, and before its end.
+fn is_within_thousand(place: usize) -> bool {
+    1 < place && place < 3002
+}
+
 #[test]
 fn a_thousand_elements_of_four_bytes(rt: HostRuntime) -> Result<(), Fail> {
     let alloc = rt.alloc();
     let set = Templates::read(alloc, CONSTANTS)?;
     let mut decoder = Decoder::new(alloc, &set, STRICT)?;
     let mut recorder = Recorder::new(alloc);
-    let bytes = [0xC0, 0x82, 0x07, 0xE8];
     for _ in 0..2 {
-        assert_eq!(rt; decoder.feed(&bytes, &mut recorder), Ok(()));
-        assert!(rt; decoder.between());
+        let answer = decoder.feed(THOUSAND, &mut recorder);
+        assert!(rt; answer.is_ok() && decoder.between());
     }
     assert_eq!(rt; recorder.events().len(), 6008);
-    let start = Recorded::SequenceStart {
-        node: 0,
-        count: 1000,
-    };
-    let field = Recorded::Field {
-        node: 1,
-        value: Value::U(7),
-    };
     for message in recorder.events().chunks(3004) {
         for (i, event) in message.iter().enumerate() {
-            let due = match i {
-                0 => Recorded::MessageStart { template: 0 } == *event,
-                1 => start == *event,
-                3002 => Recorded::SequenceEnd == *event,
-                3003 => Recorded::MessageEnd == *event,
-                _ if i % 3 == 2 => Recorded::ElementStart == *event,
-                _ if i % 3 == 0 => field == *event,
-                _ => Recorded::ElementEnd == *event,
-            };
-            assert!(rt; due, "event {i}");
+            assert!(rt; is_due_in_thousand(i, event), "event {i}");
         }
     }
     Ok(())
 }
 
-/// At most so many elements of a sequence, and of a message.
-const fn few(max_elements: u32, max_total: u32) -> Limits {
-    Limits {
-        max_elements,
-        max_total,
-        ..LENIENT
-    }
-}
+/// At most five elements of a message.
+const FIVE: Limits = Limits {
+    max_total: 5,
+    ..LENIENT
+};
+
+const ELEMENTS_WITHIN_ONE_LIMIT: &[Row<'static>] = &[
+    Row(
+        "one element more than a message may have",
+        Limits {
+            max_total: 999,
+            ..LENIENT
+        },
+        THOUSAND,
+        &[Message(0)],
+        Wrong(Code::L5, 4),
+    ),
+    Row(
+        "one element more than a sequence may have",
+        Limits {
+            max_elements: 999,
+            max_total: 999,
+            ..LENIENT
+        },
+        THOUSAND,
+        &[Message(0)],
+        Wrong(Code::L2, 4),
+    ),
+    Row(
+        "no element at all",
+        Limits {
+            max_elements: 0,
+            max_total: 0,
+            ..LENIENT
+        },
+        &[0xC0, 0x82, 0x80],
+        &[Message(0), Sequence(0, 0), EndSequence, EndMessage],
+        Between,
+    ),
+];
 
 #[test]
 fn elements_within_one_limit(rt: HostRuntime) -> Result<(), Fail> {
-    let thousand = [0xC0, 0x82, 0x07, 0xE8];
-    let rows = [
-        row(
-            "one element more than a message may have",
-            few(1000, 999),
-            &thousand,
-            &[Message(0)],
-            Wrong(Code::L5, 4),
-        ),
-        row(
-            "one element more than a sequence may have",
-            few(999, 999),
-            &thousand,
-            &[Message(0)],
-            Wrong(Code::L2, 4),
-        ),
-        row(
-            "no element at all",
-            few(0, 0),
-            &[0xC0, 0x82, 0x80],
-            &[Message(0), Sequence(0, 0), EndSequence, EndMessage],
-            Between,
-        ),
-    ];
-    expect_rows(&rt, rt.alloc(), CONSTANTS, &rows)
+    expect_rows(&rt, rt.alloc(), CONSTANTS, ELEMENTS_WITHIN_ONE_LIMIT)
 }
+
+const ELEMENTS_COUNT_TOGETHER: &[Row<'static>] = &[
+    Row(
+        "two elements of one element each",
+        FIVE,
+        &[0xC0, 0x81, 0x82, 0x81, 0x81],
+        &[
+            Message(0),
+            Sequence(0, 2),
+            Element,
+            Sequence(1, 1),
+            Element,
+            U(2, 7),
+            EndElement,
+            EndSequence,
+            EndElement,
+            Element,
+            Sequence(1, 1),
+            Element,
+            U(2, 7),
+            EndElement,
+            EndSequence,
+            EndElement,
+            EndSequence,
+            EndMessage,
+        ],
+        Between,
+    ),
+    Row(
+        "two elements of two elements each",
+        FIVE,
+        &[0xC0, 0x81, 0x82, 0x82, 0x82],
+        &[
+            Message(0),
+            Sequence(0, 2),
+            Element,
+            Sequence(1, 2),
+            Element,
+            U(2, 7),
+            EndElement,
+            Element,
+            U(2, 7),
+            EndElement,
+            EndSequence,
+            EndElement,
+            Element,
+        ],
+        Wrong(Code::L5, 5),
+    ),
+];
 
 #[test]
 fn elements_of_a_message_count_together(rt: HostRuntime) -> Result<(), Fail> {
-    let limits = Limits {
-        max_total: 5,
-        ..LENIENT
-    };
-    let rows = [
-        row(
-            "two elements of one element each",
-            limits,
-            &[0xC0, 0x81, 0x82, 0x81, 0x81],
-            &[
-                Message(0),
-                Sequence(0, 2),
-                Element,
-                Sequence(1, 1),
-                Element,
-                U(2, 7),
-                EndElement,
-                EndSequence,
-                EndElement,
-                Element,
-                Sequence(1, 1),
-                Element,
-                U(2, 7),
-                EndElement,
-                EndSequence,
-                EndElement,
-                EndSequence,
-                EndMessage,
-            ],
-            Between,
-        ),
-        row(
-            "two elements of two elements each",
-            limits,
-            &[0xC0, 0x81, 0x82, 0x82, 0x82],
-            &[
-                Message(0),
-                Sequence(0, 2),
-                Element,
-                Sequence(1, 2),
-                Element,
-                U(2, 7),
-                EndElement,
-                Element,
-                U(2, 7),
-                EndElement,
-                EndSequence,
-                EndElement,
-                Element,
-            ],
-            Wrong(Code::L5, 5),
-        ),
-    ];
-    expect_rows(&rt, rt.alloc(), NESTED, &rows)
+    expect_rows(&rt, rt.alloc(), NESTED, ELEMENTS_COUNT_TOGETHER)
 }
 
 #[test]
@@ -228,15 +260,15 @@ fn the_longest_maps(rt: HostRuntime) -> Result<(), Fail> {
     let mut stopped = [0; 146];
     stopped[145] = 0x80;
     let rows = [
-        row("145 bytes of a map", LENIENT, &[0; 145], &[], Inside),
-        row(
+        Row("145 bytes of a map", LENIENT, &[0; 145], &[], Inside),
+        Row(
             "146 bytes without a stop bit",
             LENIENT,
             &[0; 146],
             &[],
             Wrong(Code::L3, 146),
         ),
-        row(
+        Row(
             "146 bytes of which the last stops",
             LENIENT,
             &stopped,
@@ -254,7 +286,7 @@ fn the_longest_map_of_an_element(rt: HostRuntime) -> Result<(), Fail> {
     for (cell, byte) in endless.iter_mut().zip([0xC0, 0x8F, 0x85, 0x82]) {
         *cell = byte;
     }
-    let rows = [row(
+    let rows = [Row(
         "146 bytes without a stop bit",
         LENIENT,
         &endless,
@@ -276,33 +308,33 @@ fn wide_text(alloc: Global) -> Result<String, AllocError> {
     Ok(text)
 }
 
+/// The identifier's bit, those of f0 to f298, and that of f299 in the last bit of 43 bytes.
+const LAST_OF_WIDE: &[u8] = &[
+    0x40, 0, 0, 0, 0, 0, 0, 0, 0, 0, 0, 0, 0, 0, 0, 0, 0, 0, 0, 0, 0, 0, 0, 0, 0, 0, 0, 0, 0, 0, 0,
+    0, 0, 0, 0, 0, 0, 0, 0, 0, 0, 0, 0x81, 0x81, 0x86,
+];
+
+const A_WIDE_SEGMENT: &[Row<'static>] = &[
+    Row(
+        "no field",
+        STRICT,
+        &[0xC0, 0x81],
+        &[Message(0), EndMessage],
+        Between,
+    ),
+    Row(
+        "the last field alone",
+        STRICT,
+        LAST_OF_WIDE,
+        &[Message(0), U(299, 5), EndMessage],
+        Between,
+    ),
+];
+
 #[test]
 fn a_wide_segment(rt: HostRuntime) -> Result<(), Fail> {
-    let alloc = rt.alloc();
-    let text = wide_text(alloc)?;
-    let mut last = [0; 45];
-    // The identifier's bit, then those of f0 to f298, and f299 in the last bit of 43 bytes.
-    last[0] = 0x40;
-    last[42] = 0x81;
-    last[43] = 0x81;
-    last[44] = 0x86;
-    let rows = [
-        row(
-            "no field",
-            STRICT,
-            &[0xC0, 0x81],
-            &[Message(0), EndMessage],
-            Between,
-        ),
-        row(
-            "the last field alone",
-            STRICT,
-            &last,
-            &[Message(0), U(299, 5), EndMessage],
-            Between,
-        ),
-    ];
-    expect_rows(&rt, alloc, text.as_str(), &rows)
+    let text = wide_text(rt.alloc())?;
+    expect_rows(&rt, rt.alloc(), text.as_str(), A_WIDE_SEGMENT)
 }
 
 /// Groups in one another, 64 of them: each has a group and a field y but the innermost, which has a field x.
@@ -321,12 +353,8 @@ fn deep_text(alloc: Global) -> Result<String, AllocError> {
     Ok(text)
 }
 
-/// The maps of outer groups are there again behind the inner ones.
-#[test]
-fn the_deepest_groups(rt: HostRuntime) -> Result<(), Fail> {
-    let alloc = rt.alloc();
-    let text = deep_text(alloc)?;
-    let set = Templates::read(alloc, text.as_str())?;
+/// A message of the groups in one another: maps of one bit each, x, and the fields y from the innermost on.
+fn deep_bytes(alloc: Global) -> Result<Vec<u8>, AllocError> {
     let mut bytes = Vec::new(alloc);
     bytes.extend_from_slice(&[0xE0, 0x81])?;
     bytes.extend_from_slice(&[0xC0; 64])?;
@@ -334,19 +362,42 @@ fn the_deepest_groups(rt: HostRuntime) -> Result<(), Fail> {
     for y in 0x81..=0xC0u8 {
         bytes.push(y)?;
     }
-    let mut decoder = Decoder::new(alloc, &set, STRICT)?;
-    let mut recorder = Recorder::new(alloc);
-    let heard = feed_pieces(&mut decoder, bytes.as_slice(), 1, &mut recorder);
-    assert_eq!(rt; heard.answer, Ok(()));
-    assert!(rt; heard.between);
-    assert_eq!(rt; recorder.events().len(), 195);
-    for (i, event) in recorder.events().iter().enumerate() {
-        assert!(rt; is_due_in_deep(i, event), "event {i}");
+    Ok(bytes)
+}
+
+/// Whether the events are those of the message of 64 groups.
+fn are_due_in_deep(events: &[Recorded]) -> bool {
+    for (i, event) in events.iter().enumerate() {
+        if !is_due_in_deep(i, event) {
+            return false;
+        }
     }
+    events.len() == 195
+}
+
+/// Whether the recorder keeps the events of the message of 64 groups, fed to a decoder in pieces of this size.
+fn is_kept(decoder: &mut Decoder<'_>, bytes: &[u8], size: usize, recorder: &mut Recorder) -> bool
+    requires { 0 < size }
+{
     decoder.reset();
+    let heard = feed_pieces(decoder, bytes, size, recorder);
+    heard.answer.is_ok() && heard.between && are_due_in_deep(recorder.events())
+}
+
+/// The maps of outer groups are there again behind the inner ones.
+#[test]
+fn the_deepest_groups(rt: HostRuntime) -> Result<(), Fail> {
+    let alloc = rt.alloc();
+    let text = deep_text(alloc)?;
+    let bytes = deep_bytes(alloc)?;
+    let set = Templates::read(alloc, text.as_str())?;
+    let mut decoder = Decoder::new(alloc, &set, STRICT)?;
+    let mut by_bytes = Recorder::new(alloc);
     let mut whole = Recorder::new(alloc);
-    assert_eq!(rt; decoder.feed(bytes.as_slice(), &mut whole), Ok(()));
-    assert_eq!(rt; whole.events(), recorder.events());
+    let is_kept_by_bytes = is_kept(&mut decoder, bytes.as_slice(), 1, &mut by_bytes);
+    let is_kept_whole = is_kept(&mut decoder, bytes.as_slice(), 4096, &mut whole);
+    assert!(rt; is_kept_by_bytes && is_kept_whole);
+    assert!(rt; whole.events() == by_bytes.events());
     Ok(())
 }
 

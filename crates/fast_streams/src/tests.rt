@@ -2,13 +2,16 @@
 
 mod faults;
 mod limits;
+mod maps;
+mod numbers;
 mod sinks;
 mod texts;
+mod units;
 mod worked;
 
 ghost use Rattle.std.specs.Prelude.{◌<◌};
 
-use crate::{Decoder, Event, Fault, FaultCode, Sink, Stop};
+use fast_decoder::{Decoder, Event, Fault, FaultCode, MakeError, Sink, Stop};
 use fast_template::Templates;
 use fast_value::{Code, Limits, Scalar};
 use std::alloc::Global;
@@ -35,7 +38,7 @@ const SHORT: Limits = Limits {
 };
 
 /// An event that a stream should give. Numbers come first: of a template or of a node.
-#[derive(Clone, Copy, Debug)]
+#[derive(Clone, Copy)]
 enum Due {
     Message(u32),
     U(u32, u64),
@@ -56,7 +59,7 @@ enum Due {
 }
 
 /// How a stream should end.
-#[derive(Clone, Copy, Debug, PartialEq)]
+#[derive(Clone, Copy, PartialEq)]
 enum End {
     /// Between two messages.
     Between,
@@ -66,31 +69,9 @@ enum End {
     Wrong(Code, u64),
 }
 
-/// A stream, and what should come of it.
-#[derive(Clone, Copy, Debug)]
-struct Case<'b> {
-    shows: &'static str,
-    limits: Limits,
-    bytes: &'b [u8],
-    events: &'static [Due],
-    end: End,
-}
-
-const fn row<'b>(
-    shows: &'static str,
-    limits: Limits,
-    bytes: &'b [u8],
-    events: &'static [Due],
-    end: End,
-) -> Case<'b> {
-    Case {
-        shows,
-        limits,
-        bytes,
-        events,
-        end,
-    }
-}
+/// A stream, and what should come of it: what it shows, the limits, the bytes, the events and the end.
+#[derive(Clone, Copy)]
+struct Row<'b>(&'static str, Limits, &'b [u8], &'static [Due], End);
 
 /// Whether an event is the one that is due.
 fn is_due(due: Due, event: Event<'_>) -> bool {
@@ -163,7 +144,7 @@ impl Sink for Script {
 }
 
 /// What a decoder says after it was fed.
-#[derive(Clone, Copy, Debug, PartialEq)]
+#[derive(Clone, Copy, PartialEq)]
 struct Standing {
     answer: Result<(), Fault>,
     fault: Option<Fault>,
@@ -180,9 +161,9 @@ fn standing_of(decoder: &Decoder<'_>, answer: Result<(), Fault>) -> Standing {
     }
 }
 
-/// What a decoder should say behind a row.
-fn due_of(row: Case<'_>) -> Standing {
-    match row.end {
+/// What a decoder should say behind the bytes of a row.
+fn due_of(bytes: &[u8], end: End) -> Standing {
+    match end {
         End::Wrong(code, place) => {
             let fault = Fault {
                 code: FaultCode::Stream(code),
@@ -199,7 +180,7 @@ fn due_of(row: Case<'_>) -> Standing {
             answer: Ok(()),
             fault: None,
             between: end == End::Between,
-            consumed: row.bytes.len() as u64,
+            consumed: bytes.len() as u64,
         },
     }
 }
@@ -233,50 +214,90 @@ fn push_all<S: Sink>(decoder: &mut Decoder<'_>, bytes: &[u8], sink: &mut S) -> S
     standing_of(decoder, answer)
 }
 
-/// A row that is fed to a decoder, reset before each time: whole, in pieces, and byte after byte. No memory is taken.
-fn expect_row(rt: &impl Abort, decoder: &mut Decoder<'_>, row: Case<'_>) {
-    let due = due_of(row);
-    for size in [1, 2, 3, 16, 17, 4096] {
-        decoder.reset();
-        let mut script = Script::of(row.events);
-        let heard = feed_pieces(decoder, row.bytes, size, &mut script);
-        assert_eq!(rt; heard, due, "{}", row.shows);
-        assert!(rt; script.is_played(), "{}", row.shows);
-        if due.fault.is_some() {
-            let again = decoder.feed(&[0xC0, 0x81, 0x81], &mut script);
-            assert_eq!(rt; standing_of(decoder, again), due, "{}", row.shows);
-            assert!(rt; script.is_played(), "{}", row.shows);
-        }
+/// Feeds the bytes in two pieces, as far as there is no fault.
+fn feed_cut<S: Sink>(
+    decoder: &mut Decoder<'_>,
+    bytes: &[u8],
+    cut: usize,
+    sink: &mut S,
+) -> Standing {
+    let (front, rest) = bytes.split_at(cut.min(bytes.len()));
+    let mut answer = decoder.feed(front, sink);
+    if answer.is_ok() {
+        answer = decoder.feed(rest, sink);
     }
+    standing_of(decoder, answer)
+}
+
+/// Whether the row comes of its bytes in pieces of this size, and what is fed behind a fault changes nothing.
+fn is_played_in_pieces(decoder: &mut Decoder<'_>, row: Row<'_>, size: usize) -> bool
+    requires { 0 < size }
+{
+    let Row(_, _, bytes, events, end) = row;
+    let due = due_of(bytes, end);
+    let mut script = Script::of(events);
     decoder.reset();
-    let mut script = Script::of(row.events);
-    let heard = push_all(decoder, row.bytes, &mut script);
-    assert_eq!(rt; heard, due, "{}", row.shows);
-    assert!(rt; script.is_played(), "{}", row.shows);
+    let heard = feed_pieces(decoder, bytes, size, &mut script);
+    let is_played = heard == due && script.is_played();
+    if due.fault.is_none() {
+        return is_played;
+    }
+    let again = decoder.feed(&[0xC0, 0x81, 0x81], &mut script);
+    is_played && standing_of(decoder, again) == due && script.is_played()
+}
+
+/// Whether the row comes of its bytes one after the other.
+fn is_played_by_bytes(decoder: &mut Decoder<'_>, row: Row<'_>) -> bool {
+    let Row(_, _, bytes, events, end) = row;
+    let mut script = Script::of(events);
+    decoder.reset();
+    push_all(decoder, bytes, &mut script) == due_of(bytes, end) && script.is_played()
+}
+
+/// Whether the row comes of its bytes in two pieces.
+fn is_played_cut(decoder: &mut Decoder<'_>, row: Row<'_>, cut: usize) -> bool {
+    let Row(_, _, bytes, events, end) = row;
+    let mut script = Script::of(events);
+    decoder.reset();
+    feed_cut(decoder, bytes, cut, &mut script) == due_of(bytes, end) && script.is_played()
+}
+
+/// A row that is fed to a decoder, reset before each time: whole, in pieces, and byte after byte. No memory is taken.
+fn expect_row(rt: &impl Abort, decoder: &mut Decoder<'_>, row: Row<'_>) {
+    for size in [1, 2, 3, 16, 17, 4096] {
+        let is_played = is_played_in_pieces(decoder, row, size);
+        assert!(rt; is_played, "{} by {size}", row.0);
+    }
+    let is_played = is_played_by_bytes(decoder, row);
+    assert!(rt; is_played, "{} by push", row.0);
 }
 
 /// A row that is cut once, at each of its bytes.
-fn expect_row_cut(rt: &impl Abort, decoder: &mut Decoder<'_>, row: Case<'_>) {
-    let due = due_of(row);
-    for cut in 0..row.bytes.len() {
-        decoder.reset();
-        let mut script = Script::of(row.events);
-        let mut answer = decoder.feed(&row.bytes[..cut], &mut script);
-        if answer.is_ok() {
-            answer = decoder.feed(&row.bytes[cut..], &mut script);
-        }
-        assert_eq!(rt; standing_of(decoder, answer), due, "{}", row.shows);
-        assert!(rt; script.is_played(), "{}", row.shows);
+fn expect_row_cut(rt: &impl Abort, decoder: &mut Decoder<'_>, row: Row<'_>) {
+    for cut in 0..row.2.len() {
+        let is_played = is_played_cut(decoder, row, cut);
+        assert!(rt; is_played, "{} cut at {cut}", row.0);
     }
 }
 
+/// A row comes of the template set.
+fn expect_of(
+    rt: &impl Abort,
+    alloc: Global,
+    set: &Templates,
+    row: Row<'_>,
+) -> Result<(), MakeError> {
+    let mut decoder = Decoder::new(alloc, set, row.1)?;
+    expect_row(rt, &mut decoder, row);
+    expect_row_cut(rt, &mut decoder, row);
+    Ok(())
+}
+
 /// Each row comes of the template set with this text.
-fn expect_rows(rt: &impl Abort, alloc: Global, text: &str, rows: &[Case<'_>]) -> Result<(), Fail> {
+fn expect_rows(rt: &impl Abort, alloc: Global, text: &str, rows: &[Row<'_>]) -> Result<(), Fail> {
     let set = Templates::read(alloc, text)?;
     for row in rows {
-        let mut decoder = Decoder::new(alloc, &set, row.limits)?;
-        expect_row(rt, &mut decoder, *row);
-        expect_row_cut(rt, &mut decoder, *row);
+        expect_of(rt, alloc, &set, *row)?;
     }
     Ok(())
 }
