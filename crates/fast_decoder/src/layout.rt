@@ -20,7 +20,7 @@ use fast_value::{Kind, Value};
 use std::alloc::{AllocError, Global};
 
 /// How many bits of a presence map segments use at most.
-#[derive(Debug, Drop)]
+#[derive(Drop)]
 pub struct Widths {
     /// Of the body of each node, by the node's number.
     pub nodes: Vec<usize>,
