@@ -1,12 +1,12 @@
 //! The two dictionaries under the same commands.
 
 use super::is_same_previous;
-use crate::commands::{StoreCommand, can_run, run};
-use crate::entry::Entry;
-use crate::lists::Lists;
-use crate::previous::Previous;
-use crate::slots::Slots;
-use crate::store::Store;
+use fast_dict::commands::{StoreCommand, can_run, run};
+use fast_dict::entry::Entry;
+use fast_dict::lists::Lists;
+use fast_dict::previous::Previous;
+use fast_dict::slots::Slots;
+use fast_dict::store::Store;
 use fast_value::{Kind, Scalar};
 use std::process::Abort;
 use std::test::Fail;

@@ -1,8 +1,8 @@
 //! Fields one after the other, each under what the one before left in the entry.
 
 use super::{Failed, answer, instruction, is_same_answer};
-use crate::operators::{Outcome, Sent, sized};
-use crate::previous::Previous;
+use fast_dict::operators::{Outcome, Sent, sized};
+use fast_dict::previous::Previous;
 use fast_template::{FieldInstruction, Operator};
 use fast_value::{Code, Kind, Scalar};
 use std::alloc::{AllocError, Global};

@@ -1,10 +1,10 @@
 //! What an encoder sends.
 
 use super::instruction;
-use crate::operators::Sent;
-use crate::previous::Previous;
-use crate::rule::choose;
-use crate::rule::common::is_same;
+use fast_dict::operators::Sent;
+use fast_dict::previous::Previous;
+use fast_dict::rule::choose;
+use fast_dict::rule::common::is_same;
 use fast_template::Operator;
 use fast_value::{Kind, Scalar};
 use std::alloc::{AllocError, Global};

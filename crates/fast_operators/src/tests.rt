@@ -6,12 +6,12 @@ mod sending;
 mod stores;
 mod table;
 
-use crate::operators::texts::text_of;
-use crate::operators::{
+use fast_dict::operators::texts::text_of;
+use fast_dict::operators::{
     Kept, Outcome, Sent, decide, joined, needs_join, subtract, tail_base, tail_keeps,
 };
-use crate::previous::Previous;
-use crate::rule::common::{is_same, is_same_value};
+use fast_dict::previous::Previous;
+use fast_dict::rule::common::{is_same, is_same_value};
 use fast_template::{FieldInstruction, Operator};
 use fast_value::{Code, Scalar, Value};
 use std::alloc::{AllocError, Global};
