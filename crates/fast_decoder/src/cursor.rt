@@ -263,6 +263,3 @@ impl<'t> Cursor<'t> {
         frame.elements
     }
 }
-
-#[cfg(test)]
-mod tests;

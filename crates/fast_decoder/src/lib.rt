@@ -31,6 +31,3 @@ pub use decoder::Decoder;
 pub use events::{Event, Sink, Stop};
 pub use faults::{Fault, FaultCode, MakeError};
 pub use recorder::{Recorded, Recorder};
-
-#[cfg(test)]
-mod tests;

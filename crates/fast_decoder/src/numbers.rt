@@ -461,6 +461,3 @@ pub fn take_mantissa_delta(
         Progress::Cut => Progress::Cut,
     }
 }
-
-#[cfg(test)]
-mod tests;

@@ -8,7 +8,7 @@ ghost use Rattle.fast_decoder.specs.Pending.{IsNextMap};
 use fast_wire::{MapStep, map_push};
 
 /// What the bytes of a piece make of a presence map, and how many of them decide it.
-#[derive(Clone, Copy, Debug, PartialEq, Eq)]
+#[derive(Clone, Copy)]
 pub enum MapFront {
     /// These many bytes make it whole.
     Whole(usize),

@@ -3,7 +3,7 @@
 use fast_value::Code;
 
 /// What the bytes in hand and those of a piece make of a unit.
-#[derive(Clone, Copy, Debug)]
+#[derive(Clone, Copy)]
 pub enum Progress<T> {
     /// So many bytes of the piece make it whole, and this is what it gives.
     Whole(T, usize),

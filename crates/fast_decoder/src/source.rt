@@ -1,7 +1,7 @@
 //! Where the value of a field stands once the field is whole.
 
 /// Where a value stands. A number is at hand; a text is lent from where it was read or is kept.
-#[derive(Clone, Copy, Debug)]
+#[derive(Clone, Copy)]
 pub enum Source {
     /// There is no value.
     Absent,

@@ -18,7 +18,7 @@ pub enum Stage {
 }
 
 /// What a unit has decided.
-#[derive(Clone, Copy, Debug)]
+#[derive(Clone, Copy)]
 pub enum Step {
     /// The field is whole, and this is where its value stands.
     Settled(Source),

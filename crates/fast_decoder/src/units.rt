@@ -21,11 +21,8 @@ use fast_wire::{
     read_unsigned,
 };
 
-#[cfg(test)]
-mod tests;
-
 /// The integers that an entity may stand for, and whether it is read in two's complement.
-#[derive(Clone, Copy, Debug, PartialEq, Eq)]
+#[derive(Clone, Copy)]
 pub enum IntegerRange {
     /// The integers from 0 to this one.
     Unsigned(u64),
@@ -109,7 +106,7 @@ pub fn next_ascii(scratch: &mut Scratch, rest: &[u8], room: usize, nullable: boo
 }
 
 /// Where the bytes of a run stand that is whole.
-#[derive(Clone, Copy, Debug, PartialEq, Eq)]
+#[derive(Clone, Copy)]
 pub enum Run {
     /// In the piece.
     Piece,

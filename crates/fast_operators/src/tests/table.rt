@@ -1,0 +1,239 @@
+//! The table of the operators, at each kind.
+
+use super::rows::{Presence, ROWS, Row, Sample, Start, Then, Way};
+use super::{Failed, answer, instruction, is_same_answer};
+use fast_dict::operators::{Outcome, Sent};
+use fast_dict::previous::Previous;
+use fast_template::{FieldInstruction, Operator};
+use fast_value::{Kind, Scalar};
+use std::alloc::{AllocError, Global};
+use std::test::Fail;
+
+/// The values of one kind that stand for those of the rows.
+#[derive(Clone, Copy)]
+struct Samples {
+    kind: Kind,
+    /// A previous value of another type.
+    other: Previous<'static>,
+    initial: Scalar<'static>,
+    previous: Scalar<'static>,
+    sent: Scalar<'static>,
+    raised: Scalar<'static>,
+    delta: Sent<'static>,
+    /// The delta on the previous value, on the initial value, on 0 or the empty text.
+    changed: [Scalar<'static>; 3],
+    /// The sent value as a tail, in the same order.
+    replaced: [Scalar<'static>; 3],
+}
+
+/// Whether an operator suits a kind.
+fn suits(operator: Operator, kind: Kind) -> bool {
+    match kind {
+        Kind::UInt32 | Kind::Int32 | Kind::UInt64 | Kind::Int64 => operator != Operator::Tail,
+        Kind::Decimal => operator != Operator::Tail && operator != Operator::Increment,
+        Kind::Ascii | Kind::Unicode | Kind::Bytes => operator != Operator::Increment,
+    }
+}
+
+/// A value of the samples, under an operator.
+fn sample(samples: &Samples, operator: Operator, which: Sample) -> Scalar<'static> {
+    let [on_previous, on_initial, on_nothing] = if operator == Operator::Tail {
+        samples.replaced
+    } else {
+        samples.changed
+    };
+    match which {
+        Sample::Sent => samples.sent,
+        Sample::Initial => samples.initial,
+        Sample::Previous => samples.previous,
+        Sample::Raised => samples.raised,
+        Sample::OnPrevious => on_previous,
+        Sample::OnInitial => on_initial,
+        Sample::OnNothing => on_nothing,
+    }
+}
+
+/// What is wanted of a row.
+fn wanted(
+    samples: &Samples,
+    operator: Operator,
+    previous: Previous<'static>,
+    then: Then,
+) -> Result<Outcome<'static>, Failed> {
+    match then {
+        Then::Kept(which) => {
+            let value = sample(samples, operator, which);
+            Ok(Outcome {
+                value: Some(value),
+                next: Previous::Assigned(samples.kind, value),
+            })
+        }
+        Then::Given(which) => Ok(Outcome {
+            value: Some(sample(samples, operator, which)),
+            next: previous,
+        }),
+        Then::AsItWas => Ok(Outcome {
+            value: None,
+            next: previous,
+        }),
+        Then::Emptied => Ok(Outcome {
+            value: None,
+            next: Previous::Empty,
+        }),
+        Then::Fault(code) => Err(Failed::Fault(code)),
+    }
+}
+
+/// Whether a row stands at a kind, whatever the entry holds.
+fn stands(alloc: Global, samples: &Samples, row: Row) -> Result<bool, AllocError> {
+    let (operator, presence, start, way, thens) = row;
+    let initial = match start {
+        Start::With => Some(samples.initial),
+        Start::Without => None,
+    };
+    let optional = presence == Presence::Optional;
+    let field = instruction(alloc, operator, samples.kind, optional, initial)?;
+    let (undefined, empty, same, other) = thens;
+    let kept = Previous::Assigned(samples.kind, samples.previous);
+    Ok(
+        gives(alloc, samples, &field, way, Previous::Undefined, undefined)
+            && gives(alloc, samples, &field, way, Previous::Empty, empty)
+            && gives(alloc, samples, &field, way, kept, same)
+            && gives(alloc, samples, &field, way, samples.other, other),
+    )
+}
+
+/// Whether the field gives what is wanted under a previous value.
+fn gives(
+    alloc: Global,
+    samples: &Samples,
+    field: &FieldInstruction,
+    way: Way,
+    previous: Previous<'static>,
+    then: Then,
+) -> bool {
+    let sent = match way {
+        Way::Unsent | Way::Set => Sent::Nothing,
+        Way::Null => Sent::Null,
+        Way::Item if field.operator == Operator::Delta => samples.delta,
+        Way::Item => Sent::Value(samples.sent),
+    };
+    let mut buffer = Vec::new(alloc);
+    let given = answer(field, previous, way != Way::Unsent, sent, &mut buffer);
+    is_same_answer(given, wanted(samples, field.operator, previous, then))
+}
+
+/// Whether each row that suits the kind stands.
+fn all_stand(alloc: Global, samples: &Samples) -> Result<bool, AllocError> {
+    for row in &ROWS {
+        let (operator, ..) = *row;
+        if suits(operator, samples.kind) && !stands(alloc, samples, *row)? {
+            return Ok(false);
+        }
+    }
+    Ok(true)
+}
+
+/// The samples of a kind of unsigned integers.
+fn unsigned(kind: Kind) -> Samples {
+    let changed = [Scalar::U(8), Scalar::U(10), Scalar::U(3)];
+    Samples {
+        kind,
+        other: Previous::Assigned(Kind::Int32, Scalar::I(5)),
+        initial: Scalar::U(7),
+        previous: Scalar::U(5),
+        sent: Scalar::U(9),
+        raised: Scalar::U(6),
+        delta: Sent::IntegerDelta(3),
+        changed,
+        replaced: changed,
+    }
+}
+
+/// The samples of a kind of signed integers.
+fn signed(kind: Kind) -> Samples {
+    let changed = [Scalar::I(-8), Scalar::I(4), Scalar::I(-3)];
+    Samples {
+        kind,
+        other: Previous::Assigned(Kind::UInt32, Scalar::U(5)),
+        initial: Scalar::I(7),
+        previous: Scalar::I(-5),
+        sent: Scalar::I(-9),
+        raised: Scalar::I(-4),
+        delta: Sent::IntegerDelta(-3),
+        changed,
+        replaced: changed,
+    }
+}
+
+/// A decimal.
+fn decimal(exponent: i32, mantissa: i64) -> Scalar<'static> {
+    Scalar::Dec { exponent, mantissa }
+}
+
+/// The samples of decimals.
+fn decimals() -> Samples {
+    let changed = [decimal(1, 12), decimal(3, 4), decimal(2, -3)];
+    Samples {
+        kind: Kind::Decimal,
+        other: Previous::Assigned(Kind::Int64, Scalar::I(5)),
+        initial: decimal(1, 7),
+        previous: decimal(-1, 15),
+        sent: decimal(0, -942),
+        raised: decimal(0, 0),
+        delta: Sent::DecimalDelta(2, -3),
+        changed,
+        replaced: changed,
+    }
+}
+
+/// A text of a kind.
+fn text(kind: Kind, bytes: &'static [u8]) -> Scalar<'static> {
+    match kind {
+        Kind::Unicode => Scalar::Unicode(bytes),
+        Kind::Bytes => Scalar::Bytes(bytes),
+        _ => Scalar::Ascii(bytes),
+    }
+}
+
+/// The samples of a kind of texts.
+fn texts(kind: Kind, other: Kind) -> Samples {
+    Samples {
+        kind,
+        other: Previous::Assigned(other, text(other, b"ABCDE")),
+        initial: text(kind, b"ABC"),
+        previous: text(kind, b"ABCDE"),
+        sent: text(kind, b"XY"),
+        raised: text(kind, b""),
+        delta: Sent::TextDelta(-1, b"XY"),
+        changed: [
+            text(kind, b"XYABCDE"),
+            text(kind, b"XYABC"),
+            text(kind, b"XY"),
+        ],
+        replaced: [text(kind, b"ABCXY"), text(kind, b"AXY"), text(kind, b"XY")],
+    }
+}
+
+#[test]
+fn integers(rt: HostRuntime) -> Result<(), Fail> {
+    assert!(rt; all_stand(rt.alloc(), &unsigned(Kind::UInt32))?);
+    assert!(rt; all_stand(rt.alloc(), &unsigned(Kind::UInt64))?);
+    assert!(rt; all_stand(rt.alloc(), &signed(Kind::Int32))?);
+    assert!(rt; all_stand(rt.alloc(), &signed(Kind::Int64))?);
+    Ok(())
+}
+
+#[test]
+fn scaled(rt: HostRuntime) -> Result<(), Fail> {
+    assert!(rt; all_stand(rt.alloc(), &decimals())?);
+    Ok(())
+}
+
+#[test]
+fn strings(rt: HostRuntime) -> Result<(), Fail> {
+    assert!(rt; all_stand(rt.alloc(), &texts(Kind::Ascii, Kind::Unicode))?);
+    assert!(rt; all_stand(rt.alloc(), &texts(Kind::Unicode, Kind::Bytes))?);
+    assert!(rt; all_stand(rt.alloc(), &texts(Kind::Bytes, Kind::Ascii))?);
+    Ok(())
+}
