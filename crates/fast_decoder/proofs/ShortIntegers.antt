@@ -1,6 +1,6 @@
 -- Fields of integers in the quick way.
-use Rattle.std.proofs.Common.{refl, sym, ap, ◌∙◌, subst}
-use Rattle.std.specs.Prelude.{◌≡◌, ◌≢◌, ℕ, Bool, true, List, [], ℤ, Option, Result, Ok}
+use Rattle.std.proofs.Common.{refl, sym, ap, ◌∙◌, subst, inl, inr}
+use Rattle.std.specs.Prelude.{◌≡◌, ◌≢◌, ◌⊎◌, ℕ, Bool, true, false, List, [], ℤ, Option, Result, Ok}
 use Rattle.fast_wire.specs.Fronts.{IsFirstInt}
 use Rattle.fast_wire.specs.Integers.{delta_range}
 use Rattle.fast_wire.specs.declared.fronts.First.TheVariants as First
@@ -9,7 +9,9 @@ use Rattle.fast_value.specs.declared.codes.Code.TheVariants.{D2}
 use Rattle.fast_value.specs.declared.kinds.Kind.{Kind}
 use Rattle.fast_value.specs.Kinds.{family, integers, texts}
 use Rattle.fast_value.specs.Limits.{Bounds}
+use Rattle.fast_template.specs.declared.operators.Operator.{Operator}
 use Rattle.fast_template.specs.declared.operators.Operator.TheVariants as Op
+use Rattle.fast_template.specs.Entries.{keeps_value}
 use Rattle.fast_template.specs.Tree.{FieldData}
 use Rattle.fast_dict.specs.Dictionary.{Dictionary, previous_at}
 use Rattle.fast_dict.specs.Operators.{decide, range_of, Outcome, Sent}
@@ -57,3 +59,8 @@ delta_unit b strict l f rest old new scratch x n d source be is delta given same
     (ap (reader_of strict) (integer_delta_field l f p (range_of f.kind) is delta))
     f [] rest old new scratch x n d (Ok source) same decided
     (first_whole (λ y. y) strict delta_range f.optional D2 [] rest x n refl first)
+
+-- A field without an operator, or under default, keeps no value.
+pub keeps_none : (o o' : Operator) → o ≡ o' → (o ≡ Op.None) ⊎ (o ≡ Op.Default) → keeps_value o' ≡ false
+keeps_none o o' same (inl e) = ap keeps_value (sym same ∙ e)
+keeps_none o o' same (inr e) = ap keeps_value (sym same ∙ e)

@@ -113,6 +113,17 @@ impl<'t> Machine<'t> {
         }
     }
 
+    /// Waits for the first unit of the next instruction. Most often the machine does so already, and nothing is written then.
+    #[inline(always)]
+    fn wait_for_field(&mut self)
+        ensures { self.new ≡ record self.old { waiting = Waiting.Field } }
+    {
+        match self.waiting {
+            Waiting::Field => {}
+            _ => self.waiting = Waiting::Field,
+        }
+    }
+
     /// Behind a turn: if the next instruction is a field of integers that stands in the stream, the machine waits for it.
     #[inline(always)]
     fn wait_if<S: Sink>(
@@ -135,7 +146,7 @@ impl<'t> Machine<'t> {
                 Turn::Handed => {
                     if self.next_waits(templates) {
                         self.turns = Turns::after(&self.turns);
-                        self.waiting = Waiting::Field;
+                        self.wait_for_field();
                         return Ok(Turn::Waits);
                     }
                     Ok(Turn::Handed)
@@ -170,7 +181,7 @@ impl<'t> Machine<'t> {
         ensures turns { (way : Way) (n : ℕ) → HasTurns way (set_of templates.now) limits 1 n self.old → IfSome result (λ q. HasTurnsBehind q.turn way (set_of templates.now) limits (1 + n) self.new) }
     {
         let Shape::Field(field) = &templates.node(number).shape else {
-            return None;
+            unreachable!()
         };
         let (source, bytes) = quick_integer(
             &mut self.slots,
@@ -182,7 +193,8 @@ impl<'t> Machine<'t> {
             limits.strict,
         )?;
         self.turns = Turns::after(&self.turns);
-        let turn = self.finish(number, field, source, &rest[..bytes], sink);
+        let piece = &rest[..bytes];
+        let turn = self.finish_by(number, field, has_bit(sending), source, piece, sink);
         let turn = self.wait_if(templates, limits, turn, sink);
         Some(Quick { bytes, turn })
     }

@@ -89,6 +89,31 @@ impl<'t> Machine<'t> {
         ensures depth { self.new.cursor.depth ≡ self.old.cursor.depth }
         ensures on { result ≢ Ok Turn.Waits }
     {
+        self.finish_by(node, field, uses_bit(field), source, piece, sink)
+    }
+
+    /// The same, where it is known whether the field uses a presence bit.
+    #[inline(always)]
+    pub fn finish_by<S: Sink>(
+        &mut self,
+        node: u32,
+        field: &FieldInstruction,
+        has_bit: bool,
+        source: Source,
+        piece: &[u8],
+        sink: &mut S,
+    ) -> Result<Turn, FaultCode>
+        requires bit { has_bit ≡ uses_bit (field_data field.now) }
+        requires left { 0 < length self.old.cursor.left }
+        requires entry { (e : ℕ) → (field_data field.now).entry ≡ Some e → e < length (slots_dictionary self.old.slots) }
+        ensures moves { (set : Set) (l : Bounds) (strict : Bool) (waits : Reader Dictionary) → Moves S.takes S.stops
+            (reader_of strict (value_then set l node (value_at source (field_data field.now) (slots_dictionary self.old.slots) self.old.text.text piece.now) (field_data field.now) (slots_dictionary self.old.slots) self.old.counted self.old.cursor))
+            sink.old result sink.new (reader_of strict (going_on set l (slots_dictionary self.new.slots) self.new.counted self.new.cursor)) waits }
+        ensures past { OnOk result (IsPast self.old.cursor self.new.cursor) }
+        ensures same { self.new ≡ record self.old { cursor = self.new.cursor } }
+        ensures depth { self.new.cursor.depth ≡ self.old.cursor.depth }
+        ensures on { result ≢ Ok Turn.Waits }
+    {
         let value = value_at(&self.slots, field, self.text.as_slice(), piece, source);
         let turn = match value {
             Some(value) => {
@@ -97,7 +122,7 @@ impl<'t> Machine<'t> {
             }
             None => Turn::Silent,
         };
-        if uses_bit(field) {
+        if has_bit {
             self.cursor.use_bit();
         }
         self.cursor.advance();

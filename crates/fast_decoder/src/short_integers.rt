@@ -123,10 +123,17 @@ fn keep_integer(slots: &mut Slots, field: &FieldInstruction, kind: Kind, number:
     number.source()
 }
 
-/// An integer that is sent, or NULL, under no delta.
+/// An integer that is sent, or NULL, under no delta: copy and increment keep it at the field's entry, the others have none.
 #[inline(always)]
-fn received(slots: &mut Slots, field: &FieldInstruction, kind: Kind, item: Option<Number>) -> Source
+fn received(
+    slots: &mut Slots,
+    field: &FieldInstruction,
+    kind: Kind,
+    operator: Operator,
+    item: Option<Number>,
+) -> Source
     requires kind { kind ≡ field.now.kind }
+    requires operator { operator ≡ field.now.operator }
     requires serves { Serves (length (slots_dictionary slots.old)) (slots_terms slots.old) (field_data field.now) }
     requires integers { family field.now.kind ≡ integers (range_of field.now.kind) }
     requires no_delta { field.now.operator ≢ Operator.Delta }
@@ -135,12 +142,18 @@ fn received(slots: &mut Slots, field: &FieldInstruction, kind: Kind, item: Optio
         (field_data field.now) (slots_dictionary slots.old) (slots_dictionary slots.new) (Ok result) }
     ensures terms { slots_terms slots.new ≡ slots_terms slots.old }
 {
-    match item {
-        Some(number) => keep_integer(slots, field, kind, number),
-        None => {
-            assign_empty(slots, field);
-            Source::Absent
-        }
+    match operator {
+        Operator::None | Operator::Default => match item {
+            Some(number) => number.source(),
+            None => Source::Absent,
+        },
+        _ => match item {
+            Some(number) => keep_integer(slots, field, kind, number),
+            None => {
+                assign_empty(slots, field);
+                Source::Absent
+            }
+        },
     }
 }
 
@@ -151,11 +164,13 @@ fn quick_item(
     field: &FieldInstruction,
     kind: Kind,
     optional: bool,
+    operator: Operator,
     rest: &[u8],
     strict: bool,
 ) -> Option<(Source, usize)>
     requires kind { kind ≡ field.now.kind }
     requires optional { optional ≡ field.now.optional }
+    requires operator { operator ≡ field.now.operator }
     requires serves { Serves (length (slots_dictionary slots.old)) (slots_terms slots.old) (field_data field.now) }
     requires integers { family field.now.kind ≡ integers (range_of field.now.kind) }
     requires no_delta { field.now.operator ≢ Operator.Delta }
@@ -166,7 +181,7 @@ fn quick_item(
     ensures terms { slots_terms slots.new ≡ slots_terms slots.old }
 {
     let (item, bytes) = quick_number(kind, optional, rest, strict)?;
-    Some((received(slots, field, kind, item), bytes))
+    Some((received(slots, field, kind, operator, item), bytes))
 }
 
 /// The delta that begins a piece, or NULL where it may be, with its length.
@@ -255,6 +270,6 @@ pub fn quick_integer(
 {
     match operator {
         Operator::Delta => quick_delta(slots, field, kind, optional, rest, strict),
-        _ => quick_item(slots, field, kind, optional, rest, strict),
+        _ => quick_item(slots, field, kind, optional, operator, rest, strict),
     }
 }

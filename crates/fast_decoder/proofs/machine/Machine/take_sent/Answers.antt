@@ -29,11 +29,11 @@ quick_integer-requires-clause-serves g c =
     serves_here (set_of c.args.templates.now) c.args.limits c.args.self.now (field_data c.in-Field.field) c.requires.ready.supplied
     (served_node (set_of c.args.templates.now) c.args.limits c.args.self.now c.args.number c.node.result.now (Field c.in-Field.field) c.requires.ready.supplied c.node.ensures.found c.in-Field.is)
 
-pub slice_bounds-finish-end : goal.slice_bounds-finish-end
-slice_bounds-finish-end g c = sym (length-take-le c.in_ok-source.bytes c.args.rest.now (c.in_ok-source.ensures.unit (bounds c.args.limits) []).1)
+pub slice_bounds-piece-end : goal.slice_bounds-piece-end
+slice_bounds-piece-end g c = sym (length-take-le c.in_ok-source.bytes c.args.rest.now (c.in_ok-source.ensures.unit (bounds c.args.limits) []).1)
 
-pub finish-turn-requires-clause-entry : goal.finish-turn-requires-clause-entry
-finish-turn-requires-clause-entry g c =
+pub finish_by-turn-requires-clause-entry : goal.finish_by-turn-requires-clause-entry
+finish_by-turn-requires-clause-entry g c =
     entry_known (set_of c.args.templates.now) c.args.limits c.args.self.now c.quick_integer.new.slots (field_data c.in-Field.field) (can_turn_field (set_of c.args.templates.now) c.args.limits c.args.self.now c.requires.waits c.requires.ready c.requires.none) c.quick_integer.ensures.terms
     (served_node (set_of c.args.templates.now) c.args.limits c.args.self.now c.args.number c.node.result.now (Field c.in-Field.field) c.requires.ready.supplied c.node.ensures.found c.in-Field.is)
 
@@ -43,9 +43,9 @@ wait_if-turn-requires-clause-goes_on g c =
     let l = c.args.limits in
     let m = record c.args.self.now { slots = c.quick_integer.new.slots } in
     let can = can_turn_slots set l c.args.self.now c.quick_integer.new.slots (can_turn_field (set_of c.args.templates.now) c.args.limits c.args.self.now c.requires.waits c.requires.ready c.requires.none) c.quick_integer.ensures.terms in
-    goes_on_moved set l (record m { turns = c.after-self.result }) c.finish-turn.new.self c.finish-turn.result
+    goes_on_moved set l (record m { turns = c.after-self.result }) c.finish_by-turn.new.self c.finish_by-turn.result
     (record { supplied = supplied-turns set l m c.after-self.result can.supplied; placed = can.placed; mapped = can.mapped; unused = can.unused })
-    c.finish-turn.ensures.same c.finish-turn.ensures.depth c.finish-turn.ensures.past c.finish-turn.ensures.on
+    c.finish_by-turn.ensures.same c.finish_by-turn.ensures.depth c.finish_by-turn.ensures.past c.finish_by-turn.ensures.on
 
 pub returns-clause-taken : goal.returns-clause-taken
 returns-clause-taken g c =
@@ -62,7 +62,7 @@ returns-clause-taken g c =
     (sym (meaning_field set l m c.requires.waits c.requires.none))
     (taken_to g.S.Sink.takes g.S.Sink.stops set l (turning set l m) [] rest n _ c.args.sink.now c.wait_if-turn.result c.wait_if-turn.new.sink c.wait_if-turn.new.self unit.0 unit.1 unit.2
     (c.wait_if-turn.ensures.turn (reader_of l.strict (value_then set (bounds l) c.args.number (value_at c.in_ok-source.source f (slots_dictionary slots) m.text.text (take n rest)) f (slots_dictionary slots) m.counted m.cursor)) c.args.sink.now
-    (c.finish-turn.ensures.moves set (bounds l) l.strict (meaning set l c.finish-turn.new.self))))
+    (c.finish_by-turn.ensures.moves set (bounds l) l.strict (meaning set l c.finish_by-turn.new.self))))
 
 pub returns-clause-turns : goal.returns-clause-turns
 returns-clause-turns g c way n h =
@@ -72,5 +72,5 @@ returns-clause-turns g c way n h =
     let a = record m { slots = c.quick_integer.new.slots; turns = c.after-self.result } in
     let at : IsAtField set m.cursor c.args.number (field_data c.in-Field.field) = field_head c.args.templates.now m.cursor c.args.number c.node.result.now c.requires.next c.node.ensures.found c.in-Field.field c.in-Field.is in
     c.wait_if-turn.ensures.turns way (1 + n)
-    (finished way set l (1 + n) a c.finish-turn.new.self _ c.finish-turn.result at.3 c.finish-turn.ensures.same c.finish-turn.ensures.past c.finish-turn.ensures.on
+    (finished way set l (1 + n) a c.finish_by-turn.new.self _ c.finish_by-turn.result at.3 c.finish_by-turn.ensures.same c.finish_by-turn.ensures.past c.finish_by-turn.ensures.on
     (one_unit way set l 1 n m.turns.count a.turns.count m.counted m.cursor c.after-self.ensures h))

@@ -3,10 +3,12 @@ use Rattle.std.proofs.Common.{refl, sym, ap, ◌∙◌, subst}
 use Rattle.std.specs.Prelude.{◌≡◌, Result, Ok}
 use Rattle.fast_decoder.specs.declared.faults.FaultCode.{FaultCode}
 use Rattle.fast_decoder.specs.declared.machine.Turn.{Turn}
+use Rattle.fast_decoder.specs.declared.machine.Machine.{Machine}
 use Rattle.fast_decoder.specs.declared.machine.Turn.TheVariants.{Handed}
+use Rattle.fast_decoder.specs.declared.machine.Turn.TheVariants as Turn
 use Rattle.fast_decoder.specs.declared.machine.Waiting.TheVariants as Waiting
 use Rattle.fast_decoder.specs.Moving.{Moves}
-use Rattle.fast_decoder.specs.Positions.{set_of, CanTurn, GoesOn, turning, meaning}
+use Rattle.fast_decoder.specs.Positions.{set_of, CanTurn, GoesOn, IsTurn, turning, meaning}
 use Rattle.fast_decoder.proofs.Carrying.{supplied-turns}
 use Rattle.fast_decoder.proofs.FieldTurns.{field_waits}
 use Rattle.fast_decoder.proofs.Quick.{turn_behind}
@@ -21,8 +23,9 @@ returns-then-next_waits-clause-turn g c r s h =
     let handed : c.args.turn ≡ Ok Handed = c.in-Ok.is ∙ ap Ok c.in-Handed.is in
     let can : CanTurn set l m0 = subst (λ (t : Result Turn FaultCode). GoesOn set l m0 t) handed c.requires.goes_on in
     let (n, f, at, other, sent) = c.next_waits.ensures c.if-next_waits.true in
-    turn_behind g.S.Sink.takes g.S.Sink.stops set l r s c.args.sink.now m (record m { waiting = Waiting.Field })
+    subst (λ (x : Machine). IsTurn g.S.Sink.takes g.S.Sink.stops set l r s (Ok Turn.Waits) c.args.sink.now x) (sym c.wait_for_field.ensures)
+    (turn_behind g.S.Sink.takes g.S.Sink.stops set l r s c.args.sink.now m (record m { waiting = Waiting.Field })
     (subst (λ (t : Result Turn FaultCode). Moves g.S.Sink.takes g.S.Sink.stops r s t c.args.sink.now (turning set l m0) (meaning set l m0)) handed h)
     (field_waits g.S.Sink.takes g.S.Sink.stops set l c.args.sink.now m (record m { waiting = Waiting.Field }) n f
     (record { supplied = supplied-turns set l m0 c.after-self.result can.supplied; placed = can.placed; mapped = can.mapped; unused = can.unused })
-    at sent refl refl (λ ascii. absurd (other ascii)) (λ e. refl))
+    at sent refl refl (λ ascii. absurd (other ascii)) (λ e. refl)))
