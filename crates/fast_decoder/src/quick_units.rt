@@ -126,7 +126,7 @@ impl<'t> Machine<'t> {
 
     /// Behind a turn: if the next instruction is a field of integers that stands in the stream, the machine waits for it.
     #[inline(always)]
-    fn wait_if<S: Sink>(
+    pub fn wait_if<S: Sink>(
         &mut self,
         templates: &Templates,
         limits: Limits,
@@ -365,6 +365,9 @@ impl<'t> Machine<'t> {
     {
         match self.waiting {
             Waiting::Field => self.take_integer(templates, limits, rest, sink),
+            Waiting::Mantissa(exponent) => {
+                self.take_short_mantissa(templates, limits, exponent, rest, sink)
+            }
             _ => None,
         }
     }
