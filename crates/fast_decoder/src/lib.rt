@@ -13,6 +13,7 @@ mod map_place;
 pub mod numbers;
 mod pending;
 pub mod progress;
+pub mod quick_turns;
 pub mod quick_units;
 pub mod recorder;
 pub mod scalars;
