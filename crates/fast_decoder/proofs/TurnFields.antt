@@ -1,14 +1,16 @@
 -- Fields of integers behind opcodes, at a machine that takes no byte.
-use Rattle.std.proofs.Common.{sym, ap, ◌∙◌, subst}
-use Rattle.std.specs.Prelude.{◌≡◌, ◌≢◌, ℕ, ◌<◌, Bool, true, length, slice_get, Some, if◌then◌else◌}
+use Rattle.std.proofs.Common.{refl, sym, ap, ◌∙◌, subst}
+use Rattle.std.specs.Prelude.{◌≡◌, ◌≢◌, ℕ, ◌<◌, Bool, true, false, length, slice_get, Some, if◌then◌else◌}
 use Rattle.fast_wire.specs.Maps.{first_bit}
 use Rattle.fast_value.specs.declared.kinds.Kind.{Kind}
 use Rattle.fast_value.specs.declared.kinds.Kind.TheVariants.{Ascii}
 use Rattle.fast_value.specs.Kinds.{family, integers}
 use Rattle.fast_template.specs.declared.instructions.FieldInstruction.{FieldInstruction}
 use Rattle.fast_template.specs.declared.instructions.Node.{Node}
+use Rattle.fast_template.specs.declared.instructions.Shape.{Shape}
 use Rattle.fast_template.specs.declared.instructions.Shape.TheVariants.{Field}
 use Rattle.fast_template.specs.declared.opcodes.Sending.{Sending}
+use Rattle.fast_template.specs.declared.opcodes.Sending.TheVariants as As
 use Rattle.fast_template.specs.declared.operators.Operator.TheVariants.{Constant}
 use Rattle.fast_template.specs.declared.sets.Templates.{Templates}
 use Rattle.fast_template.specs.Flat.{field_data}
@@ -16,6 +18,7 @@ use Rattle.fast_template.specs.Opcodes.{sending_operator, is_nullable, IsSentAs}
 use Rattle.fast_template.specs.Tree.{operator_uses_bit}
 use Rattle.fast_dict.specs.Operators.{range_of}
 use Rattle.fast_decoder.specs.Cursors.{CursorData}
+use Rattle.fast_decoder.specs.Deciding.{needs_bytes}
 use Rattle.fast_decoder.specs.Fields.{field_term}
 use Rattle.fast_decoder.specs.Messages.{State}
 use Rattle.fast_decoder.specs.Segments.{first_node}
@@ -45,6 +48,13 @@ sent_with f k s st b is e t = record {
   as_sent = λ l p. ap (field_term l (field_data f) p) (sym e ∙ t);
 }
 
+-- The field of a shape is the one that is named.
+one_field : (f g : FieldInstruction) → Field f ≡ Field g → f ≡ g
+one_field f g e = cc e
+
+pub sent_as_named : (f : FieldInstruction) (k : Kind) (s : Sending) (shape : Shape) → shape ≡ Field f → ((g : FieldInstruction) × (shape ≡ Field g) × IsSentAs g k s) → IsSentAs f k s
+sent_as_named f k s shape e (g, i, is) = subst (λ x. IsSentAs x k s) (one_field g f (sym i ∙ e)) is
+
 -- The field at the cursor.
 pub field_at : (t : Templates) (c : CursorData) (n : ℕ) (k : Kind) (s : Sending) → first_node c.left ≡ Some n → n < length t.nodes.items
     → ((x : Node) → slice_get t.nodes.items n ≡ Some x → (f : FieldInstruction) × (x.shape ≡ Field f) × IsSentAs f k s)
@@ -53,3 +63,16 @@ field_at t c n k s first within named =
     let (v, found) = node_here t c n first within in
     let (f, shape, is) = named v found in
     (f, field_head t c n v first found f shape, is)
+
+-- A field of which nothing is sent does not stand in the stream.
+pub stands_not : (s : Sending) (b : Bool) → (if operator_uses_bit (sending_operator s) (is_nullable s) then b else true) ≡ false → needs_bytes (sending_operator s) false ≡ false
+stands_not As.Plain b e = absurd (cc e)
+stands_not As.NullablePlain b e = absurd (cc e)
+stands_not As.Default b e = refl
+stands_not As.NullableDefault b e = refl
+stands_not As.Copy b e = refl
+stands_not As.NullableCopy b e = refl
+stands_not As.Increment b e = refl
+stands_not As.NullableIncrement b e = refl
+stands_not As.Delta b e = absurd (cc e)
+stands_not As.NullableDelta b e = absurd (cc e)
