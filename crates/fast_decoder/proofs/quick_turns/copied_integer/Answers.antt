@@ -1,5 +1,5 @@
 -- The number of the entry.
-use Rattle.std.proofs.Common.{◌≢◌, sym, ◌∙◌, refl, subst, false, Ok}
+use Rattle.std.proofs.Common.{◌≢◌, sym, refl, subst, false, Ok}
 use Rattle.fast_template.specs.Flat.{field_data}
 use Rattle.fast_template.specs.declared.operators.Operator.TheVariants as Op
 use Rattle.fast_dict.specs.Dictionary.{previous_at}
