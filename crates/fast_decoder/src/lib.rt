@@ -14,6 +14,7 @@ pub mod numbers;
 mod pending;
 pub mod progress;
 pub mod quick_decimals;
+pub mod quick_turns;
 pub mod quick_units;
 pub mod recorder;
 pub mod scalars;

@@ -1,0 +1,18 @@
+-- The instruction behind the number.
+use Rattle.fast_decoder.proofs.Heads.{field_head, parts_head, group_head, sequence_head}
+use Rattle.fast_decoder.proofs.machine.Machine.begin_other.Goals as goal
+
+pub begin_field-requires-clause-next : goal.begin_field-requires-clause-next
+begin_field-requires-clause-next g c = field_head c.args.templates.now c.args.self.now.cursor c.args.number c.node.result.now c.requires.next c.node.ensures.found c.in-Field.field c.in-Field.is
+
+pub begin_decimal-requires-clause-next : goal.begin_decimal-requires-clause-next
+begin_decimal-requires-clause-next g c =
+    parts_head c.args.templates.now c.args.self.now.cursor c.args.number c.node.result.now c.requires.next c.node.ensures.found c.in-Decimal.exponent c.in-Decimal.mantissa c.in-Decimal.is
+
+pub begin_group-requires-clause-next : goal.begin_group-requires-clause-next
+begin_group-requires-clause-next g c =
+    group_head c.args.templates.now c.args.self.now.cursor c.args.number c.node.result.now c.requires.next c.node.ensures.found c.in-Group.optional c.in-Group.body c.as_slice.result.now c.in-Group.is c.as_slice.ensures.value
+
+pub begin_sequence-requires-clause-next : goal.begin_sequence-requires-clause-next
+begin_sequence-requires-clause-next g c =
+    sequence_head c.args.templates.now c.args.self.now.cursor c.args.number c.node.result.now c.requires.next c.node.ensures.found c.in-Sequence.length c.in-Sequence.body c.as_slice-in-Sequence.result.now c.in-Sequence.is c.as_slice-in-Sequence.ensures.value
