@@ -13,6 +13,7 @@ mod map_place;
 pub mod numbers;
 mod pending;
 pub mod progress;
+mod quick_starts;
 pub mod quick_units;
 pub mod recorder;
 pub mod scalars;

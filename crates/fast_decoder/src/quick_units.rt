@@ -115,7 +115,7 @@ impl<'t> Machine<'t> {
 
     /// Behind a turn: if the next instruction is a field of integers that stands in the stream, the machine waits for it.
     #[inline(always)]
-    fn wait_if<S: Sink>(
+    pub fn wait_if<S: Sink>(
         &mut self,
         templates: &Templates,
         limits: Limits,
@@ -131,18 +131,14 @@ impl<'t> Machine<'t> {
     {
         match turn {
             Err(code) => Err(code),
-            Ok(turn) => match turn {
-                Turn::Handed => {
-                    if self.next_waits(templates) {
-                        self.turns = Turns::after(&self.turns);
-                        self.waiting = Waiting::Field;
-                        return Ok(Turn::Waits);
-                    }
-                    Ok(Turn::Handed)
+            Ok(turn) => {
+                if self.next_waits(templates) {
+                    self.turns = Turns::after(&self.turns);
+                    self.waiting = Waiting::Field;
+                    return Ok(Turn::Waits);
                 }
-                Turn::Silent => Ok(Turn::Silent),
-                Turn::Waits => Ok(Turn::Waits),
-            },
+                Ok(turn)
+            }
         }
     }
 
@@ -353,6 +349,7 @@ impl<'t> Machine<'t> {
     {
         match self.waiting {
             Waiting::Field => self.take_integer(templates, limits, rest, sink),
+            Waiting::SegmentMap(_) => self.open_quickly(templates, limits, rest, sink),
             _ => None,
         }
     }

@@ -1,7 +1,6 @@
 -- Both by the operator.
-use Rattle.std.proofs.Common.{◌≢◌, rules, ap}
+use Rattle.std.proofs.Common.{ap}
 use Rattle.std.specs.Prelude.{true, Ok}
-use Rattle.fast_value.specs.Kinds.{family, texts}
 use Rattle.fast_decoder.specs.declared.source.Source.TheVariants as From
 use Rattle.fast_template.specs.Flat.{field_data}
 use Rattle.fast_dict.specs.Dictionary.{previous_at}
