@@ -54,9 +54,9 @@ begun set s l n t d d' c c' dictionary frames left bits =
     ∙ ap (λ fs. Emit (MessageStart n) (reader_of s (resume l (frames_in set fs) (body_in set c'.left) (state_in d' 0 c')))) (sym frames)
 
 -- The machine can turn.
-pub begun_turns : (set : Set) (l : Limits) (m : Machine) (n : ℕ) (t : Template) (c : CursorData) (s : Slots) (turns : Turns) → IsBehindMap set l m → slice_get set.templates n ≡ Some t → AreBelow (length set.nodes) t.body.items
-    → slots_terms s ≡ slots_terms m.slots → c.frames ≡ [] → c.left ≡ t.body.items → c.map ≡ m.cursor.map → c.depth ≡ m.cursor.depth → CanTurn set l (record m { cursor = c; slots = s; counted = 0; turns = turns })
-begun_turns set l m n t c s turns h found below terms frames left map depth =
+pub begun_turns : (set : Set) (l : Limits) (m : Machine) (n : ℕ) (t : Template) (c : CursorData) (s : Slots) (turns : Turns) (latest : ℕ) → IsBehindMap set l m → slice_get set.templates n ≡ Some t → AreBelow (length set.nodes) t.body.items
+    → slots_terms s ≡ slots_terms m.slots → c.frames ≡ [] → c.left ≡ t.body.items → c.map ≡ m.cursor.map → c.depth ≡ m.cursor.depth → CanTurn set l (record m { cursor = c; slots = s; counted = 0; turns = turns; latest = latest })
+begun_turns set l m n t c s turns latest h found below terms frames left map depth =
     let deep = no_deeper (instructions_from 0 set.nodes) set.templates n t found in
     let room = h.supplied.depth in
     let none : length c.frames ≡ 0 = ap length frames in

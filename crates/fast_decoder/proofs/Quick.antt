@@ -1,6 +1,6 @@
 -- What the quick way of a machine takes.
 use Rattle.std.proofs.Common.{refl, sym, ap, ◌∙◌, subst, arith}
-use Rattle.std.specs.Prelude.{◌≡◌, ◌≢◌, ℕ, ◌<◌, ◌≤◌, Bool, true, false, List, [], ◌++◌, length, take, Result, Ok, Err}
+use Rattle.std.specs.Prelude.{◌≡◌, ℕ, ◌<◌, ◌≤◌, List, [], ◌++◌, length, take, Result, Ok}
 use Rattle.std.proofs.lemmas.List.{length-take-le}
 use Rattle.fast_value.specs.declared.settings.Limits.{Limits}
 use Rattle.fast_dict.specs.Dictionary.{Dictionary}
@@ -12,12 +12,13 @@ use Rattle.fast_decoder.specs.Handing.{due, Hands, IsTaken}
 use Rattle.fast_decoder.specs.Taking.{Waits, Quiet, Turns}
 use Rattle.fast_decoder.specs.Moving.{Moves}
 use Rattle.fast_decoder.specs.Quick.{IsTakenTo}
-use Rattle.fast_decoder.specs.Positions.{Set, tree_in, CanTake, CanTurn, IsReady, IsTurn, turning, meaning}
+use Rattle.fast_decoder.specs.Positions.{Set, tree_in, CanTake, CanTurn, GoesOn, IsReady, IsTurn, turning, meaning}
+use Rattle.fast_decoder.specs.TurnsLeft.{Way, HasTurns, HasTurnsBehind}
 use Rattle.fast_decoder.specs.declared.machine.Machine.{Machine}
 use Rattle.fast_decoder.specs.declared.machine.Waiting.{Waiting}
 use Rattle.fast_decoder.specs.declared.machine.Waiting.TheVariants.{Field}
 use Rattle.fast_decoder.specs.declared.machine.Turn.{Turn}
-use Rattle.fast_decoder.specs.declared.machine.Turn.TheVariants.{Handed, Waits as TurnWaits}
+use Rattle.fast_decoder.specs.declared.machine.Turn.TheVariants.{Silent, Handed, Waits as TurnWaits}
 use Rattle.fast_decoder.proofs.Takes.{quiet_behind, waits_first}
 use Rattle.fast_decoder.proofs.Takings.{due-waits}
 use Rattle.fast_decoder.proofs.Turning.{after_run}
@@ -40,11 +41,11 @@ module _ {S : Type 0} (takes stops : S → EventData → S → Type 0) (set : Se
             (sym (ap (λ (p : Reader Dictionary). after_bytes p (take n rest)) same ∙ sym (after_run r front (take n rest)) ∙ h.becomes)) i;
       }
 
-  -- Behind a turn that handed something over comes one at whose end the machine waits.
-  pub turn_behind : (r : Reader Dictionary) (s s' : S) (m m' : Machine) → Moves takes stops r s (Ok Handed) s' (turning set l m) (meaning set l m) → IsTurn takes stops set l (turning set l m) s' (Ok TurnWaits) s' m'
+  -- Behind a turn that goes on comes one at whose end the machine waits.
+  pub turn_behind : (r on waits : Reader Dictionary) (s s' : S) (turn : Turn) (m' : Machine) → (turn ≡ TurnWaits → ⊥) → Moves takes stops r s (Ok turn) s' on waits → IsTurn takes stops set l on s' (Ok TurnWaits) s' m'
       → IsTurn takes stops set l r s (Ok TurnWaits) s' m'
-  turn_behind r s s' m m' h i = record {
-    moves = hands_turned takes stops r (turning set l m) (meaning set l m) s Handed s' (Ok tt) s' (meaning set l m') (λ e. absurd (cc e)) h i.moves;
+  turn_behind r on waits s s' turn m' go h i = record {
+    moves = hands_turned takes stops r on waits s turn s' (Ok tt) s' (meaning set l m') go h i.moves;
     supplied = i.supplied;
     goes_on = i.goes_on;
   }
@@ -69,3 +70,14 @@ pub can_turn_field : (set : Set) (l : Limits) (m : Machine) → m.waiting ≡ Fi
 can_turn_field set l m waits ready none =
     let can = can_take_field set l m waits ready in
     record { supplied = ready.supplied; placed = can.0; mapped = can.1; unused = none }
+
+-- Behind a turn that goes on the machine is between two units, with the turns that are left.
+pub can_turn_on : (set : Set) (l : Limits) (m : Machine) (turn : Turn) → (turn ≡ TurnWaits → ⊥) → GoesOn set l m (Ok turn) → CanTurn set l m
+can_turn_on set l m Silent on h = h
+can_turn_on set l m Handed on h = h
+can_turn_on set l m TurnWaits on h = absurd (on refl)
+
+pub turns_on : (way : Way) (set : Set) (l : Limits) (n : ℕ) (m : Machine) (turn : Turn) → (turn ≡ TurnWaits → ⊥) → HasTurnsBehind (Ok turn) way set l n m → HasTurns way set l 0 n m
+turns_on way set l n m Silent on h = h
+turns_on way set l n m Handed on h = h
+turns_on way set l n m TurnWaits on h = absurd (on refl)

@@ -1,6 +1,6 @@
 //! Where a decoder is in a message: the open segments, and what is left of each.
 
-ghost use Rattle.std.specs.Prelude.{◌≡◌, ◌↔◌, ◌<◌, List, [], ◌∷◌, length, drop, IfOk, IsTrue, Some, None, option_map};
+ghost use Rattle.std.specs.Prelude.{◌≡◌, ◌↔◌, ◌<◌, true, false, List, [], ◌∷◌, length, drop, IfOk, IsTrue, Some, None, option_map};
 ghost use Rattle.fast_wire.specs.Entities.{HaveNoStop};
 ghost use Rattle.fast_wire.specs.Maps.{map_limit, first_bit, later_bits};
 ghost use Rattle.fast_decoder.specs.Cursors.{CursorData, FrameData, bits_left, at_rest, entered, left_to};
@@ -112,15 +112,29 @@ impl<'t> Cursor<'t> {
         ensures map { IsMapTaken self.old.map rest.now self.new.map result }
         ensures same { self.new ≡ record self.old { map = self.new.map } }
     {
+        if self.take_byte(rest) {
+            return MapFront::Whole(1);
+        }
+        self.take_more(rest)
+    }
+
+    /// Takes a map of one byte, if none of its bytes has come and the piece goes on with it.
+    #[inline(always)]
+    pub fn take_byte(&mut self, rest: &[u8]) -> bool
+        ensures none { result ≡ true → self.old.map ≡ [] }
+        ensures map { result ≡ true → IsMapTaken self.old.map rest.now self.new.map (MapFront.Whole 1) }
+        ensures same { self.new ≡ record self.old { map = self.new.map } }
+        ensures left { result ≡ false → self.new ≡ self.old }
+    {
         if self.map.len == 0 && !rest.is_empty() {
             let byte = rest[0];
             if byte >= 128 {
                 self.maps[self.start] = byte;
                 self.map = MapPlace::of_byte(byte);
-                return MapFront::Whole(1);
+                return true;
             }
         }
-        self.take_more(rest)
+        false
     }
 
     /// The same, whether or not bytes of the map have come, and whether one byte or more of the piece are the map's.

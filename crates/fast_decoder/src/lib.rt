@@ -15,6 +15,7 @@ mod pending;
 pub mod progress;
 pub mod quick_decimals;
 pub mod quick_turns;
+mod quick_starts;
 pub mod quick_units;
 pub mod recorder;
 pub mod scalars;

@@ -69,4 +69,6 @@ pub struct Machine<'t> {
     pub identifier: FieldInstruction,
     /// The turns of the last call.
     pub turns: Turns,
+    /// The number of the last message's template, which the next one most likely has.
+    pub latest: u32,
 }

@@ -142,18 +142,14 @@ impl<'t> Machine<'t> {
     {
         match turn {
             Err(code) => Err(code),
-            Ok(turn) => match turn {
-                Turn::Handed => {
-                    if self.next_waits(templates) {
-                        self.turns = Turns::after(&self.turns);
-                        self.wait_for_field();
-                        return Ok(Turn::Waits);
-                    }
-                    Ok(Turn::Handed)
+            Ok(turn) => {
+                if self.next_waits(templates) {
+                    self.turns = Turns::after(&self.turns);
+                    self.wait_for_field();
+                    return Ok(Turn::Waits);
                 }
-                Turn::Silent => Ok(Turn::Silent),
-                Turn::Waits => Ok(Turn::Waits),
-            },
+                Ok(turn)
+            }
         }
     }
 
@@ -368,6 +364,7 @@ impl<'t> Machine<'t> {
             Waiting::Mantissa(exponent) => {
                 self.take_short_mantissa(templates, limits, exponent, rest, sink)
             }
+            Waiting::SegmentMap(_) => self.open_quickly(templates, limits, rest, sink),
             _ => None,
         }
     }

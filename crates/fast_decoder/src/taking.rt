@@ -124,14 +124,17 @@ fn id_of(value: Option<Scalar<'_>>) -> Option<u128>
     }
 }
 
-/// The number of the template with an identifier.
+/// The number of the template with an identifier, which is most likely the latest one's.
 #[inline]
-fn template_of(templates: &Templates, identifier: Option<u128>) -> Option<u32>
+fn template_of(templates: &Templates, identifier: Option<u128>, latest: u32) -> Option<u32>
     ensures some { IfSome result (λ i. (id : ℕ) × (t : Template) × (identifier ≡ Some id) × (slice_get (templates_of templates.now) i ≡ Some t) × (t.id ≡ Some id)
         × ((j : ℕ) (u : Template) → j < i → slice_get (templates_of templates.now) j ≡ Some u → u.id ≢ Some id)) }
     ensures none { IfNone result ((id j : ℕ) (t : Template) → identifier ≡ Some id → slice_get (templates_of templates.now) j ≡ Some t → t.id ≢ Some id) }
 {
     let id = identifier?;
+    if latest < templates.count() && has_id(templates.template(latest), id) {
+        return Some(latest);
+    }
     if id > u128::from(u32::MAX) {
         return template_beyond(templates, id);
     }
@@ -240,7 +243,7 @@ impl<'t> Machine<'t> {
     {
         let text = self.text.as_slice();
         let value = value_at(&self.slots, &self.identifier, text, piece, source);
-        let Some(number) = template_of(templates, id_of(value)) else {
+        let Some(number) = template_of(templates, id_of(value), self.latest) else {
             return Err(FaultCode::Stream(Code::D9));
         };
         let width = self.widths.templates[number as usize];
@@ -271,6 +274,7 @@ impl<'t> Machine<'t> {
         let template = templates.template(number);
         reset_if(&mut self.slots, template.reset);
         self.counted = 0;
+        self.latest = number;
         self.cursor.use_bit();
         self.cursor.begin(template.body.as_slice());
         self.turns = Turns::after(&self.turns);
@@ -869,6 +873,7 @@ impl<'t> Machine<'t> {
                 entry: Some(0),
             },
             turns: Turns::none(),
+            latest: 0,
         })
     }
 

@@ -1,5 +1,5 @@
 -- The sum is kept.
-use Rattle.std.proofs.Common.{◌≡◌, ◌∙◌, ◌+ℤ◌, rules, sym, ap, Ok, Some}
+use Rattle.std.proofs.Common.{◌≡◌, ◌∙◌, ◌+ℤ◌, rules, sym, ap, Ok}
 use Rattle.fast_value.specs.Kinds.{value_of_integer, integer_of}
 use Rattle.fast_value.specs.declared.codes.Code.TheVariants.{D2}
 use Rattle.fast_template.specs.Flat.{field_data}

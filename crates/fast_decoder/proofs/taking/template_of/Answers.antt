@@ -1,5 +1,18 @@
+use Rattle.std.proofs.Common.{refl, arith, ◌≡◌}
 use Rattle.fast_decoder.proofs.Answered.{some_as, some_both}
 use Rattle.fast_decoder.proofs.taking.template_of.Goals as goal
+
+pub returns-then-has_id-clause-some : goal.returns-then-has_id-clause-some
+returns-then-has_id-clause-some c =
+    let own = c.if-has_id.ensures.0 refl in (
+      c.in_ok-id.id,
+      c.template.result.now,
+      c.in_ok-id.was,
+      c.template.ensures.found,
+      own,
+      λ j u before found its.
+          (let same : j ≡ c.args.latest = c.args.templates.now.distinct_ids j c.args.latest c.in_ok-id.id u c.template.result.now found c.template.ensures.found its own in omega (arith, before, same)),
+    )
 
 pub returns-then-id-from-clause-some : goal.returns-then-id-from-clause-some
 returns-then-id-from-clause-some c = some_as c.template_beyond.result (λ i h. (c.in_ok-id.id, h.0, c.in_ok-id.was, h.1, h.2, h.3)) c.template_beyond.ensures.some

@@ -29,7 +29,7 @@ returns-in_err-hand-clause-hands g c t found =
 pub settle_on-requires : goal.settle_on-requires
 settle_on-requires g c =
     record {
-      turn = begun_turns (set_of c.args.templates.now) c.args.limits c.args.self.now c.args.number c.template-template.result.now c.begin.new.self c.reset_if.new.slots c.after-self.result c.requires.behind c.template-template.ensures.found c.template-template.ensures.body
+      turn = begun_turns (set_of c.args.templates.now) c.args.limits c.args.self.now c.args.number c.template-template.result.now c.begin.new.self c.reset_if.new.slots c.after-self.result c.args.number c.requires.behind c.template-template.ensures.found c.template-template.ensures.body
           c.reset_if.ensures.terms
           (ap (λ (x : CursorData). x.frames) c.begin.ensures ∙ ap (λ (x : CursorData). x.frames) c.use_bit.ensures.same ∙ ap (λ (x : CursorData). x.frames) c.requires.behind.outermost)
           (ap (λ (x : CursorData). x.left) c.begin.ensures ∙ c.as_slice.ensures.value)

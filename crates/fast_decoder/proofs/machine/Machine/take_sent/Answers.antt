@@ -1,5 +1,5 @@
 -- A whole unit of a field of integers, and the turn behind it.
-use Rattle.std.proofs.Common.{refl, sym, ap, ◌∙◌, subst, [], take, ◌++◌, ◌+◌}
+use Rattle.std.proofs.Common.{sym, subst, [], take, ◌+◌}
 use Rattle.std.proofs.lemmas.List.{length-take-le}
 use Rattle.fast_value.specs.Limits.{bounds}
 use Rattle.fast_dict.specs.Dictionary.{Dictionary}

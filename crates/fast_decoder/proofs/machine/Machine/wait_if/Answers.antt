@@ -1,17 +1,16 @@
--- The turn that waits, behind the one that handed something over.
+-- The turn that waits, behind the one that goes on.
 use Rattle.std.proofs.Common.{refl, sym, ap, ◌∙◌, subst}
-use Rattle.std.specs.Prelude.{◌≡◌, Result, Ok}
+use Rattle.std.specs.Prelude.{Result, Ok}
 use Rattle.fast_decoder.specs.declared.faults.FaultCode.{FaultCode}
 use Rattle.fast_decoder.specs.declared.machine.Turn.{Turn}
 use Rattle.fast_decoder.specs.declared.machine.Machine.{Machine}
-use Rattle.fast_decoder.specs.declared.machine.Turn.TheVariants.{Handed}
 use Rattle.fast_decoder.specs.declared.machine.Turn.TheVariants as Turn
 use Rattle.fast_decoder.specs.declared.machine.Waiting.TheVariants as Waiting
 use Rattle.fast_decoder.specs.Moving.{Moves}
 use Rattle.fast_decoder.specs.Positions.{set_of, CanTurn, GoesOn, IsTurn, turning, meaning}
 use Rattle.fast_decoder.proofs.Carrying.{supplied-turns}
 use Rattle.fast_decoder.proofs.FieldTurns.{field_waits}
-use Rattle.fast_decoder.proofs.Quick.{turn_behind}
+use Rattle.fast_decoder.proofs.Quick.{turn_behind, can_turn_on}
 use Rattle.fast_decoder.proofs.machine.Machine.wait_if.Goals as goal
 
 pub returns-then-next_waits-clause-turn : goal.returns-then-next_waits-clause-turn
@@ -20,12 +19,12 @@ returns-then-next_waits-clause-turn g c r s h =
     let l = c.args.limits in
     let m0 = c.args.self.now in
     let m = record m0 { turns = c.after-self.result } in
-    let handed : c.args.turn ≡ Ok Handed = c.in-Ok.is ∙ ap Ok c.in-Handed.is in
-    let can : CanTurn set l m0 = subst (λ (t : Result Turn FaultCode). GoesOn set l m0 t) handed c.requires.goes_on in
+    let turn : Turn = c.in-Ok.turn in
+    let can : CanTurn set l m0 = can_turn_on set l m0 turn (λ e. c.requires.on (c.in-Ok.is ∙ ap Ok e)) (subst (λ (t : Result Turn FaultCode). GoesOn set l m0 t) c.in-Ok.is c.requires.goes_on) in
     let (n, f, at, other, sent) = c.next_waits.ensures c.if-next_waits.true in
     subst (λ (x : Machine). IsTurn g.S.Sink.takes g.S.Sink.stops set l r s (Ok Turn.Waits) c.args.sink.now x) (sym c.wait_for_field.ensures)
-    (turn_behind g.S.Sink.takes g.S.Sink.stops set l r s c.args.sink.now m (record m { waiting = Waiting.Field })
-    (subst (λ (t : Result Turn FaultCode). Moves g.S.Sink.takes g.S.Sink.stops r s t c.args.sink.now (turning set l m0) (meaning set l m0)) handed h)
+    (turn_behind g.S.Sink.takes g.S.Sink.stops set l r (turning set l m0) (meaning set l m0) s c.args.sink.now turn (record m { waiting = Waiting.Field }) (λ e. c.requires.on (c.in-Ok.is ∙ ap Ok e))
+    (subst (λ (t : Result Turn FaultCode). Moves g.S.Sink.takes g.S.Sink.stops r s t c.args.sink.now (turning set l m0) (meaning set l m0)) c.in-Ok.is h)
     (field_waits g.S.Sink.takes g.S.Sink.stops set l c.args.sink.now m (record m { waiting = Waiting.Field }) n f
     (record { supplied = supplied-turns set l m0 c.after-self.result can.supplied; placed = can.placed; mapped = can.mapped; unused = can.unused })
     at sent refl refl (λ ascii. absurd (other ascii)) (λ e. refl)))

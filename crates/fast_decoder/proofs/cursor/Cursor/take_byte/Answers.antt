@@ -5,7 +5,7 @@ use Rattle.fast_decoder.specs.MapPlaces.{used_bits, IsPlace}
 use Rattle.fast_decoder.specs.Segments.{map_at}
 use Rattle.fast_decoder.proofs.Segments.{cells-there, only-map, only-places, one-before, one-inner}
 use Rattle.fast_decoder.proofs.MapTakings.{taken-first}
-use Rattle.fast_decoder.proofs.cursor.Cursor.take_map.Goals as goal
+use Rattle.fast_decoder.proofs.cursor.Cursor.take_byte.Goals as goal
 
 pub invariant_of-self : goal.invariant_of-self
 invariant_of-self c =
@@ -24,7 +24,7 @@ invariant_of-self c =
     }
 
 pub returns-then-byte-ge128-clause-map : goal.returns-then-byte-ge128-clause-map
-returns-then-byte-ge128-clause-map c =
+returns-then-byte-ge128-clause-map c is =
     let cells : List ℕ = c.self.inside.maps.items in
     let start : ℕ = c.self.inside.start in
     let b : ℕ = get_or c.args.rest.now 0 0 in
@@ -35,6 +35,11 @@ returns-then-byte-ge128-clause-map c =
     let stop : 128 ≤ b = search (rules, c.if-byte-ge128.true) in
     taken-first c.args.self.now.map c.args.rest.now _ none some stop
     (ap (map_at (set cells start b) start) c.of_byte-self-inside.ensures.len ∙ one-inner cells start b (omega arith))
+
+pub returns-then-byte-ge128-clause-none : goal.returns-then-byte-ge128-clause-none
+returns-then-byte-ge128-clause-none c is =
+    let len : c.self.inside.map.len ≡ 0 = search (rules, c.if-self-eq0.true) in
+    ap (λ (d : CursorData). d.map) (sym c.self.view_is) ∙ ap (map_at c.self.inside.maps.items c.self.inside.start) len
 
 pub returns-then-byte-ge128-clause-same : goal.returns-then-byte-ge128-clause-same
 returns-then-byte-ge128-clause-same c =
