@@ -253,7 +253,7 @@ fn incremented(slots: &mut Slots, field: &FieldInstruction) -> Result<Source, Co
 
 /// One more, and behind the greatest value of the kind the least.
 #[inline]
-pub fn next_number(kind: Kind, value: Scalar<'_>) -> Number
+fn next_number(kind: Kind, value: Scalar<'_>) -> Number
     ensures { number_data result ≡ value_of_integer kind (incremented (range_of kind) (integer_of (scalar_data value.entry))) }
 {
     Number::of_integer(kind, integer_of(next_integer(kind, value)))

@@ -14,7 +14,6 @@ pub mod numbers;
 mod pending;
 pub mod progress;
 pub mod quick_decimals;
-pub mod quick_turns;
 mod quick_starts;
 pub mod quick_units;
 pub mod recorder;

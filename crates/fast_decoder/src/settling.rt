@@ -15,7 +15,6 @@ ghost use Rattle.fast_dict.specs.Slots.{slots_dictionary, slots_terms};
 ghost use Rattle.fast_decoder.specs.Cursors.{bits_left};
 ghost use Rattle.fast_decoder.specs.Handed.{event_data};
 ghost use Rattle.fast_decoder.specs.GrammarReaders.{reader_of};
-ghost use Rattle.fast_decoder.specs.Segments.{first_node};
 ghost use Rattle.fast_decoder.specs.Readers.{Reader};
 ghost use Rattle.fast_decoder.specs.Handing.{Hands};
 ghost use Rattle.fast_decoder.specs.Messages.{signed_of, within_limits};
@@ -34,7 +33,7 @@ use crate::machine::{Machine, Turn, Waiting};
 use crate::source::Source;
 use crate::turns::Turns;
 use fast_dict::operators::integers::integer_of;
-use fast_template::{FieldInstruction, Opcode, Operator, Shape, Templates};
+use fast_template::{FieldInstruction, Operator, Shape, Templates};
 use fast_value::{Code, Kind, Limits, Scalar};
 
 /// Whether a field uses a presence bit.
@@ -539,36 +538,6 @@ impl<'t> Machine<'t> {
         }
     }
 
-    /// An instruction is next, of any shape.
-    #[inline(never)]
-    pub fn begin_other<S: Sink>(
-        &mut self,
-        templates: &'t Templates,
-        limits: Limits,
-        number: u32,
-        sink: &mut S,
-    ) -> Result<Turn, FaultCode>
-        requires turn { CanTurn (set_of templates.now) limits self.old }
-        requires next { first_node self.old.cursor.left ≡ Some number }
-        requires within { number < length (set_of templates.now).nodes }
-        ensures turn { IsTurn S.takes S.stops (set_of templates.now) limits (turning (set_of templates.now) limits self.old) sink.old result sink.new self.new }
-        ensures past { result ≡ Ok Turn.Silent → self.new.cursor.left ≡ drop 1 self.old.cursor.left }
-        ensures turns { (way : Way) (n : ℕ) → HasTurns way (set_of templates.now) limits 1 n self.old → HasTurnsBehind result way (set_of templates.now) limits n self.new }
-    {
-        match &templates.node(number).shape {
-            Shape::Field(field) => self.begin_field(templates, limits, number, field, sink),
-            Shape::Decimal { exponent, mantissa } => {
-                self.begin_decimal(templates, limits, number, exponent, mantissa, sink)
-            }
-            Shape::Group { optional, body } => {
-                self.begin_group(templates, limits, number, *optional, body.as_slice(), sink)
-            }
-            Shape::Sequence { length, body } => {
-                self.begin_sequence(templates, limits, number, length, body.as_slice(), sink)
-            }
-        }
-    }
-
     /// What is next needs no byte, or the machine waits.
     #[inline(always)]
     fn turn<S: Sink>(
@@ -586,20 +555,17 @@ impl<'t> Machine<'t> {
         let Some(number) = self.cursor.next() else {
             return self.close(templates, limits, sink);
         };
-        match templates.opcode(number) {
-            Opcode::UInt32(sending) => {
-                self.begin_integer(templates, limits, number, Kind::UInt32, sending, sink)
+        match &templates.node(number).shape {
+            Shape::Field(field) => self.begin_field(templates, limits, number, field, sink),
+            Shape::Decimal { exponent, mantissa } => {
+                self.begin_decimal(templates, limits, number, exponent, mantissa, sink)
             }
-            Opcode::Int32(sending) => {
-                self.begin_integer(templates, limits, number, Kind::Int32, sending, sink)
+            Shape::Group { optional, body } => {
+                self.begin_group(templates, limits, number, *optional, body.as_slice(), sink)
             }
-            Opcode::UInt64(sending) => {
-                self.begin_integer(templates, limits, number, Kind::UInt64, sending, sink)
+            Shape::Sequence { length, body } => {
+                self.begin_sequence(templates, limits, number, length, body.as_slice(), sink)
             }
-            Opcode::Int64(sending) => {
-                self.begin_integer(templates, limits, number, Kind::Int64, sending, sink)
-            }
-            Opcode::Other => self.begin_other(templates, limits, number, sink),
         }
     }
 

@@ -110,12 +110,7 @@ fn signed_number(
 
 /// Keeps an integer at the field's entry, if it has one, and says where it stands.
 #[inline(always)]
-pub fn keep_integer(
-    slots: &mut Slots,
-    field: &FieldInstruction,
-    kind: Kind,
-    number: Number,
-) -> Source
+fn keep_integer(slots: &mut Slots, field: &FieldInstruction, kind: Kind, number: Number) -> Source
     requires kind { kind ≡ field.now.kind }
     requires within { (e : ℕ) → (field_data field.now).entry ≡ Some e → e < length (slots_dictionary slots.old) }
     ensures value { (d : Dictionary) (scratch piece : List ℕ) → value_at result (field_data field.now) d scratch piece ≡ Some (number_data number) }

@@ -1,16 +1,24 @@
--- The field that the opcode names.
+use Rattle.fast_decoder.proofs.Heads.{node_within, field_head, parts_head, group_head, sequence_head}
 use Rattle.std.proofs.Common.{sym, ◌∙◌}
-use Rattle.fast_template.proofs.OpcodeLaws.{uint32_field, int32_field, uint64_field, int64_field}
 use Rattle.fast_decoder.proofs.machine.Machine.turn.Goals as goal
 
-pub begin_integer-requires-clause-field : goal.begin_integer-requires-clause-field
-begin_integer-requires-clause-field g c x found = uint32_field x.shape c.in-UInt32.sending (sym (c.opcode.ensures x found) ∙ c.in-UInt32.is)
+pub begin_field-requires-clause-next : goal.begin_field-requires-clause-next
+begin_field-requires-clause-next g c = field_head c.args.templates.now c.args.self.now.cursor c.in-Some.number c.node.result.now (sym c.next.ensures ∙ c.in-Some.is) c.node.ensures.found c.in-Field.field c.in-Field.is
 
-pub begin_integer-requires-in-Int32-clause-field : goal.begin_integer-requires-in-Int32-clause-field
-begin_integer-requires-in-Int32-clause-field g c x found = int32_field x.shape c.in-Int32.sending (sym (c.opcode.ensures x found) ∙ c.in-Int32.is)
+pub begin_decimal-requires-clause-next : goal.begin_decimal-requires-clause-next
+begin_decimal-requires-clause-next g c =
+    parts_head c.args.templates.now c.args.self.now.cursor c.in-Some.number c.node.result.now (sym c.next.ensures ∙ c.in-Some.is) c.node.ensures.found c.in-Decimal.exponent c.in-Decimal.mantissa c.in-Decimal.is
 
-pub begin_integer-requires-in-UInt64-clause-field : goal.begin_integer-requires-in-UInt64-clause-field
-begin_integer-requires-in-UInt64-clause-field g c x found = uint64_field x.shape c.in-UInt64.sending (sym (c.opcode.ensures x found) ∙ c.in-UInt64.is)
+pub begin_group-requires-clause-next : goal.begin_group-requires-clause-next
+begin_group-requires-clause-next g c =
+    group_head c.args.templates.now c.args.self.now.cursor c.in-Some.number c.node.result.now (sym c.next.ensures ∙ c.in-Some.is) c.node.ensures.found c.in-Group.optional c.in-Group.body c.as_slice.result.now c.in-Group.is c.as_slice.ensures.value
 
-pub begin_integer-requires-in-Int64-clause-field : goal.begin_integer-requires-in-Int64-clause-field
-begin_integer-requires-in-Int64-clause-field g c x found = int64_field x.shape c.in-Int64.sending (sym (c.opcode.ensures x found) ∙ c.in-Int64.is)
+pub begin_group-requires-clause-node : goal.begin_group-requires-clause-node
+begin_group-requires-clause-node g c = node_within c.args.templates.now c.args.self.now.cursor c.in-Some.number c.node.result.now (sym c.next.ensures ∙ c.in-Some.is) c.node.ensures.found
+
+pub begin_sequence-requires-clause-next : goal.begin_sequence-requires-clause-next
+begin_sequence-requires-clause-next g c =
+    sequence_head c.args.templates.now c.args.self.now.cursor c.in-Some.number c.node.result.now (sym c.next.ensures ∙ c.in-Some.is) c.node.ensures.found c.in-Sequence.length c.in-Sequence.body c.as_slice-in-Sequence.result.now c.in-Sequence.is c.as_slice-in-Sequence.ensures.value
+
+pub begin_sequence-requires-clause-node : goal.begin_sequence-requires-clause-node
+begin_sequence-requires-clause-node g c = node_within c.args.templates.now c.args.self.now.cursor c.in-Some.number c.node.result.now (sym c.next.ensures ∙ c.in-Some.is) c.node.ensures.found
