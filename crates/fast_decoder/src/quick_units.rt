@@ -349,6 +349,7 @@ impl<'t> Machine<'t> {
     {
         match self.waiting {
             Waiting::Field => self.take_integer(templates, limits, rest, sink),
+            Waiting::Map => self.begin_quickly(templates, limits, rest, sink),
             Waiting::SegmentMap(_) => self.open_quickly(templates, limits, rest, sink),
             _ => None,
         }
