@@ -6,7 +6,10 @@ use Rattle.fast_value.specs.declared.settings.Limits.{Limits}
 use Rattle.fast_dict.specs.Dictionary.{Dictionary}
 use Rattle.fast_decoder.specs.declared.faults.FaultCode.{FaultCode}
 use Rattle.fast_decoder.specs.Events.{EventData}
-use Rattle.fast_decoder.specs.Readers.{Reader}
+use Rattle.fast_value.specs.Limits.{bounds}
+use Rattle.fast_decoder.specs.GrammarReaders.{reader_of}
+use Rattle.fast_decoder.specs.Continuations.{message_then}
+use Rattle.fast_decoder.specs.Readers.{Reader, Done}
 use Rattle.fast_decoder.specs.Machine.{after_bytes}
 use Rattle.fast_decoder.specs.Handing.{due, Hands, IsTaken}
 use Rattle.fast_decoder.specs.Taking.{Waits, Quiet, Turns}
@@ -40,6 +43,16 @@ module _ {S : Type 0} (takes stops : S → EventData → S → Type 0) (set : Se
         turn = subst (λ (p : Reader Dictionary). IsTurn takes stops set l p s result s' m)
             (sym (ap (λ (p : Reader Dictionary). after_bytes p (take n rest)) same ∙ sym (after_run r front (take n rest)) ∙ h.becomes)) i;
       }
+
+  -- The same where no message is begun.
+  pub begun_to : (from : Reader Dictionary) (d : Dictionary) (rest : List ℕ) (n : ℕ) (q : Reader Dictionary) (s : S) (result : Result Turn FaultCode) (s' : S) (m : Machine) → from ≡ Done d → 0 < n → n ≤ length rest
+      → Turns (reader_of l.strict (message_then (tree_in set) (bounds l) d)) (take n rest) q → IsTurn takes stops set l q s result s' m → IsTakenTo takes stops set l from rest s n result s' m
+  begun_to from d rest n q s result s' m is some within h i = rw is (record {
+    some = some;
+    within = within;
+    quiet = h.quiet;
+    turn = subst (λ (p : Reader Dictionary). IsTurn takes stops set l p s result s' m) (sym h.becomes) i;
+  })
 
   -- Behind a turn that goes on comes one at whose end the machine waits.
   pub turn_behind : (r on waits : Reader Dictionary) (s s' : S) (turn : Turn) (m' : Machine) → (turn ≡ TurnWaits → ⊥) → Moves takes stops r s (Ok turn) s' on waits → IsTurn takes stops set l on s' (Ok TurnWaits) s' m'

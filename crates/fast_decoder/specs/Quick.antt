@@ -1,5 +1,5 @@
 -- What a machine takes in the quick way: a whole unit, and the turn behind it.
-use Rattle.std.specs.Prelude.{◌≡◌, ℕ, ◌<◌, ◌≤◌, List, length, take, Result}
+use Rattle.std.specs.Prelude.{ℕ, ◌<◌, ◌≤◌, List, length, take, Result}
 use Rattle.fast_value.specs.declared.settings.Limits.{Limits}
 use Rattle.fast_dict.specs.Dictionary.{Dictionary}
 use Rattle.fast_decoder.specs.Events.{EventData}

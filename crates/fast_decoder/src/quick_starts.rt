@@ -1,14 +1,21 @@
 //! The quick way of presence maps of one byte.
 
-ghost use Rattle.std.specs.Prelude.{◌≡◌, ◌+◌, ℕ, IfSome, IfNone};
+ghost use Rattle.std.specs.Prelude.{◌≡◌, ◌≢◌, ◌+◌, ◌<◌, ℕ, length, slice_get, Some, IfSome, IfNone};
+ghost use Rattle.fast_value.specs.declared.kinds.Kind.{Kind};
+ghost use Rattle.fast_value.specs.Kinds.{U};
+ghost use Rattle.fast_template.specs.Flat.{templates_of};
+ghost use Rattle.fast_template.specs.declared.instructions.Template.{Template};
+ghost use Rattle.fast_dict.specs.Dictionary.{assigned, previous_at};
+ghost use Rattle.fast_dict.specs.Slots.{slots_dictionary};
 ghost use Rattle.fast_decoder.specs.Quick.{IsTakenTo};
-ghost use Rattle.fast_decoder.specs.Positions.{set_of, IsReady, meaning};
-ghost use Rattle.fast_decoder.specs.TurnsLeft.{Way, HasTurns, HasTurnsBehind};
+ghost use Rattle.fast_decoder.specs.Positions.{set_of, tree_in, IsReady, meaning};
+ghost use Rattle.fast_decoder.specs.TurnsLeft.{Way, HasTurns, HasTurnsInMap, HasTurnsBehind, turns_begun};
 
 use crate::events::Sink;
 use crate::machine::{Machine, Turn, Waiting};
 use crate::quick_units::Quick;
 use crate::turns::Turns;
+use fast_dict::Entry;
 use fast_template::Templates;
 use fast_value::Limits;
 
@@ -33,6 +40,54 @@ impl<'t> Machine<'t> {
         }
         self.turns = Turns::after(&self.turns);
         let turn = self.wait_if(templates, limits, Ok(Turn::Silent), sink);
+        Some(Quick { bytes: 1, turn })
+    }
+
+    /// The number of the latest template, if it has the identifier that the identifier's entry holds.
+    #[inline(always)]
+    fn latest_again(&self, templates: &Templates) -> Option<u32>
+        requires some { 0 < length (slots_dictionary self.now.slots) }
+        ensures { IfSome result (λ i. (id : ℕ) × (t : Template) × (previous_at (Some 0) (slots_dictionary self.now.slots) ≡ assigned Kind.UInt32 (U id)) × (slice_get (templates_of templates.now) i ≡ Some t) × (t.id ≡ Some id)
+            × ((j : ℕ) (u : Template) → j < i → slice_get (templates_of templates.now) j ≡ Some u → u.id ≢ Some id)) }
+    {
+        let Entry::UInt32(held) = self.slots.held(0) else {
+            return None;
+        };
+        if self.latest >= templates.count() {
+            return None;
+        }
+        match templates.template(self.latest).id {
+            Some(id) if u64::from(id) == held => Some(self.latest),
+            _ => None,
+        }
+    }
+
+    /// Takes the presence map of a message, if it is one byte, no identifier stands behind it, and the template is the latest one.
+    #[inline(always)]
+    pub fn begin_quickly<S: Sink>(
+        &mut self,
+        templates: &'t Templates,
+        limits: Limits,
+        rest: &[u8],
+        sink: &mut S,
+    ) -> Option<Quick>
+        requires waits { self.old.waiting ≡ Waiting.Map }
+        requires ready { IsReady (set_of templates.now) limits self.old }
+        ensures none { IfNone result ((self.new ≡ self.old) × (sink.new ≡ sink.old)) }
+        ensures taken { IfSome result (λ q. IsTakenTo S.takes S.stops (set_of templates.now) limits (meaning (set_of templates.now) limits self.old) rest.now sink.old q.bytes q.turn sink.new self.new) }
+        ensures turns { (way : Way) (n : ℕ) → HasTurnsInMap self.old.cursor.map way (set_of templates.now) limits n self.old.turns.count
+            → IfSome result (λ q. HasTurnsBehind q.turn way (set_of templates.now) limits (1 + n + turns_begun self.old.cursor.map way (tree_in (set_of templates.now)) limits) self.new) }
+    {
+        if rest.is_empty() || rest[0] < 0x80 || rest[0] >= 0xc0 {
+            return None;
+        }
+        let number = self.latest_again(templates)?;
+        if !self.cursor.take_byte(rest) {
+            return None;
+        }
+        self.turns = Turns::after(&self.turns);
+        let turn = self.start_message(templates, limits, number, sink);
+        let turn = self.wait_if(templates, limits, turn, sink);
         Some(Quick { bytes: 1, turn })
     }
 }

@@ -364,6 +364,7 @@ impl<'t> Machine<'t> {
             Waiting::Mantissa(exponent) => {
                 self.take_short_mantissa(templates, limits, exponent, rest, sink)
             }
+            Waiting::Map => self.begin_quickly(templates, limits, rest, sink),
             Waiting::SegmentMap(_) => self.open_quickly(templates, limits, rest, sink),
             _ => None,
         }

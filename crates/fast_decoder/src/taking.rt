@@ -25,7 +25,7 @@ ghost use Rattle.fast_decoder.specs.UnitFronts.{IsNumberStage};
 ghost use Rattle.fast_decoder.specs.Moving.{Moves};
 ghost use Rattle.fast_decoder.specs.Continuations.{message_of_then};
 ghost use Rattle.fast_decoder.specs.TurnsLeft.{Way, most_by, HasTurns, HasTurnsWaiting, HasTurnsBehind, HasTurnsAfter, turns_begun_at};
-ghost use Rattle.fast_decoder.specs.Positions.{Set, set_of, tree_in, body_in, IsAtField, IsAtParts, IsAtSequence, CanTurn, GoesOn, IsBehindMap, IsSupplied, IsReady, IsFresh, segment_reader, mapped_reader, turning, is_idle, meaning};
+ghost use Rattle.fast_decoder.specs.Positions.{Set, set_of, tree_in, body_in, IsAtField, IsAtParts, IsAtSequence, CanTurn, GoesOn, IsBehindMap, IsSupplied, IsReady, IsTurn, IsFresh, segment_reader, mapped_reader, turning, is_idle, meaning};
 
 use crate::cursor::Cursor;
 use crate::events::{Event, Sink};
@@ -270,6 +270,31 @@ impl<'t> Machine<'t> {
         ensures supplied { IsSupplied (set_of templates.now) limits self.new }
         ensures turns { (way : Way) (n : ℕ) → self.old.turns.count + most_by way (tree_in (set_of templates.now)) limits ≤ n → HasTurnsAfter result way (set_of templates.now) limits n self.new }
     {
+        match self.start_message(templates, limits, number, sink) {
+            Err(code) => Err(code),
+            Ok(_) => self.settle_on(templates, limits, sink),
+        }
+    }
+
+    /// The first event of a message of a template, behind which its instructions are to come.
+    #[inline(always)]
+    pub fn start_message<S: Sink>(
+        &mut self,
+        templates: &'t Templates,
+        limits: Limits,
+        number: u32,
+        sink: &mut S,
+    ) -> Result<Turn, FaultCode>
+        requires behind { IsBehindMap (set_of templates.now) limits self.old }
+        requires number { number < length (set_of templates.now).templates }
+        ensures turn { (t : Template) → slice_get (set_of templates.now).templates number ≡ Some t → IsTurn S.takes S.stops (set_of templates.now) limits
+            (reader_of limits.strict (message_of_then (bounds limits) number (template_data (instructions_from 0 (set_of templates.now).nodes) t) (state_past identifier (slots_dictionary self.old.slots) 0 self.old.cursor)))
+            sink.old result sink.new self.new }
+        ensures goes_on { GoesOn (set_of templates.now) limits self.new result }
+        ensures supplied { IsSupplied (set_of templates.now) limits self.new }
+        ensures on { result ≢ Ok Turn.Waits }
+        ensures turns { (way : Way) (n : ℕ) → self.old.turns.count + most_by way (tree_in (set_of templates.now)) limits ≤ n → HasTurnsBehind result way (set_of templates.now) limits n self.new }
+    {
         hand(sink, Event::MessageStart { template: number })?;
         let template = templates.template(number);
         reset_if(&mut self.slots, template.reset);
@@ -278,7 +303,7 @@ impl<'t> Machine<'t> {
         self.cursor.use_bit();
         self.cursor.begin(template.body.as_slice());
         self.turns = Turns::after(&self.turns);
-        self.settle_on(templates, limits, sink)
+        Ok(Turn::Handed)
     }
 
     /// Takes bytes of the template identifier.

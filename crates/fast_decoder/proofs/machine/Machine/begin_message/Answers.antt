@@ -1,62 +1,56 @@
-use Rattle.std.proofs.Common.{◌≡◌, ap, sym, ◌∙◌, subst}
-use Rattle.std.specs.Prelude.{Some}
-use Rattle.std.proofs.lemmas.Result.{err_from_is_err_and}
-use Rattle.fast_template.specs.declared.instructions.Template.{Template}
-use Rattle.fast_template.specs.Flat.{template_data, instructions_from}
+use Rattle.std.proofs.Common.{◌≡◌, ◌≢◌, ap, ◌∙◌, subst}
+use Rattle.std.specs.Prelude.{Result, Ok, Err}
 use Rattle.fast_template.specs.Tree.{identifier}
+use Rattle.fast_template.specs.Flat.{template_data, instructions_from}
 use Rattle.fast_value.specs.Limits.{bounds}
 use Rattle.fast_dict.specs.Slots.{slots_dictionary}
-use Rattle.fast_decoder.specs.Cursors.{CursorData, bits_left}
 use Rattle.fast_decoder.specs.GrammarReaders.{reader_of}
-use Rattle.fast_decoder.specs.Handing.{Hands}
 use Rattle.fast_decoder.specs.Passing.{state_past}
 use Rattle.fast_decoder.specs.Continuations.{message_of_then}
-use Rattle.fast_decoder.specs.Positions.{set_of, meaning}
-use Rattle.fast_decoder.proofs.Frames.{begin_message}
-use Rattle.fast_decoder.proofs.Hanging.{hands_halt, hands_next}
-use Rattle.fast_decoder.proofs.Begun.{begun, begun_turns}
-use Rattle.fast_decoder.proofs.TurnCounts.{message_begun}
+use Rattle.fast_decoder.specs.Moving.{Moves}
+use Rattle.fast_decoder.specs.Readers.{Reader}
+use Rattle.fast_decoder.specs.TurnsLeft.{HasTurnsBehind}
+use Rattle.fast_decoder.specs.Positions.{set_of, meaning, turning, GoesOn}
+use Rattle.fast_decoder.specs.declared.faults.FaultCode.{FaultCode}
+use Rattle.fast_decoder.specs.declared.machine.Turn.{Turn}
+use Rattle.fast_decoder.proofs.Moves.{hands_turned}
+use Rattle.fast_decoder.proofs.Quick.{can_turn_on, turns_on}
 use Rattle.fast_decoder.proofs.machine.Machine.begin_message.Goals as goal
 
-pub returns-in_err-hand-clause-hands : goal.returns-in_err-hand-clause-hands
-returns-in_err-hand-clause-hands g c t found =
+pub returns-in-Err-clause-hands : goal.returns-in-Err-clause-hands
+returns-in-Err-clause-hands g c t found =
     let set = set_of c.args.templates.now in
-    let (code, is, same) = err_from_is_err_and c.from_residual.result c.from_residual.ensures.1 in
-    rw (is, same) (hands_halt g.S.Sink.takes g.S.Sink.stops c.args.sink.now c.in_err-hand.field-0.0 c.hand.new.sink (meaning set c.args.limits c.args.self.now)
-    (ap (reader_of c.args.limits.strict) (begin_message (bounds c.args.limits) c.args.number (template_data (instructions_from 0 set.nodes) t) (state_past identifier (slots_dictionary c.args.self.now.slots) 0 c.args.self.now.cursor)))
-    c.in_err-hand.ensures)
+    let l = c.args.limits in
+    let m = c.start_message.new.self in
+    let r = reader_of l.strict (message_of_then (bounds l) c.args.number (template_data (instructions_from 0 set.nodes) t) (state_past identifier (slots_dictionary c.args.self.now.slots) 0 c.args.self.now.cursor)) in
+    subst (λ (x : Result Turn FaultCode). Moves g.S.Sink.takes g.S.Sink.stops r c.args.sink.now x c.start_message.new.sink (turning set l m) (meaning set l m)) c.in-Err.is (c.start_message.ensures.turn t found).moves (meaning set l m)
 
 pub settle_on-requires : goal.settle_on-requires
 settle_on-requires g c =
-    record {
-      turn = begun_turns (set_of c.args.templates.now) c.args.limits c.args.self.now c.args.number c.template-template.result.now c.begin.new.self c.reset_if.new.slots c.after-self.result c.args.number c.requires.behind c.template-template.ensures.found c.template-template.ensures.body
-          c.reset_if.ensures.terms
-          (ap (λ (x : CursorData). x.frames) c.begin.ensures ∙ ap (λ (x : CursorData). x.frames) c.use_bit.ensures.same ∙ ap (λ (x : CursorData). x.frames) c.requires.behind.outermost)
-          (ap (λ (x : CursorData). x.left) c.begin.ensures ∙ c.as_slice.ensures.value)
-          (ap (λ (x : CursorData). x.map) c.begin.ensures ∙ ap (λ (x : CursorData). x.map) c.use_bit.ensures.same)
-          (ap (λ (x : CursorData). x.depth) c.begin.ensures ∙ ap (λ (x : CursorData). x.depth) c.use_bit.ensures.same);
-    }
-
-pub returns-clause-hands : goal.returns-clause-hands
-returns-clause-hands g c t found =
     let set = set_of c.args.templates.now in
-    let d = slots_dictionary c.args.self.now.slots in
-    let strict = c.args.limits.strict in
-    let l = bounds c.args.limits in
-    let both : Some c.template-template.result.now ≡ Some t = sym c.template-template.ensures.found ∙ found in
-    let same : c.template-template.result.now ≡ t = cc both in
-    subst (λ (u : Template). Hands g.S.Sink.takes g.S.Sink.stops (reader_of strict (message_of_then l c.args.number (template_data (instructions_from 0 set.nodes) u) (state_past identifier d 0 c.args.self.now.cursor))) c.args.sink.now c.settle_on.result c.settle_on.new.sink (meaning set c.args.limits c.settle_on.new.self)) same
-    (hands_next g.S.Sink.takes g.S.Sink.stops c.args.sink.now c.hand.new.sink c.settle_on.result c.settle_on.new.sink (meaning set c.args.limits c.settle_on.new.self)
-    (begun set strict l c.args.number c.template-template.result.now d (slots_dictionary c.reset_if.new.slots) c.args.self.now.cursor c.begin.new.self c.reset_if.ensures.entries
-    (ap (λ (x : CursorData). x.frames) c.begin.ensures ∙ ap (λ (x : CursorData). x.frames) c.use_bit.ensures.same ∙ ap (λ (x : CursorData). x.frames) c.requires.behind.outermost)
-    (ap (λ (x : CursorData). x.left) c.begin.ensures ∙ c.as_slice.ensures.value)
-    (ap (λ (x : CursorData). bits_left x) c.begin.ensures ∙ c.use_bit.ensures.bits))
-    c.in_ok-hand.ensures c.settle_on.ensures.hands)
+    let l = c.args.limits in
+    let m = c.start_message.new.self in
+    record { turn = can_turn_on set l m c.in-Ok.field-0 (λ e. c.start_message.ensures.on (c.in-Ok.is ∙ ap Ok e)) (subst (λ (x : Result Turn FaultCode). GoesOn set l m x) c.in-Ok.is c.start_message.ensures.goes_on) }
 
-pub returns-clause-turns : goal.returns-clause-turns
-returns-clause-turns g c way n h =
-    let m = c.args.self.now in
+pub returns-in-Ok-clause-hands : goal.returns-in-Ok-clause-hands
+returns-in-Ok-clause-hands g c t found =
+    let set = set_of c.args.templates.now in
+    let l = c.args.limits in
+    let m = c.start_message.new.self in
+    let r = reader_of l.strict (message_of_then (bounds l) c.args.number (template_data (instructions_from 0 set.nodes) t) (state_past identifier (slots_dictionary c.args.self.now.slots) 0 c.args.self.now.cursor)) in
+    hands_turned g.S.Sink.takes g.S.Sink.stops r (turning set l m) (meaning set l m) c.args.sink.now c.in-Ok.field-0 c.start_message.new.sink c.settle_on.result c.settle_on.new.sink (meaning set l c.settle_on.new.self)
+    (λ e. c.start_message.ensures.on (c.in-Ok.is ∙ ap Ok e))
+    (subst (λ (x : Result Turn FaultCode). Moves g.S.Sink.takes g.S.Sink.stops r c.args.sink.now x c.start_message.new.sink (turning set l m) (meaning set l m)) c.in-Ok.is (c.start_message.ensures.turn t found).moves)
+    c.settle_on.ensures.hands
+
+pub returns-in-Err-clause-turns : goal.returns-in-Err-clause-turns
+returns-in-Err-clause-turns g c way n h =
+    subst (λ (x : Result Turn FaultCode). HasTurnsBehind x way (set_of c.args.templates.now) c.args.limits n c.start_message.new.self) c.in-Err.is (c.start_message.ensures.turns way n h)
+
+pub returns-in-Ok-clause-turns : goal.returns-in-Ok-clause-turns
+returns-in-Ok-clause-turns g c way n h =
+    let set = set_of c.args.templates.now in
+    let l = c.args.limits in
     c.settle_on.ensures.turns way n
-    (message_begun way (set_of c.args.templates.now) c.args.limits n m.turns.count c.after-self.result.count c.args.number c.template-template.result.now c.begin.new.self h c.template-template.ensures.found c.after-self.ensures
-    (ap (λ (x : CursorData). x.left) c.begin.ensures ∙ c.as_slice.ensures.value)
-    (ap (λ (x : CursorData). x.frames) c.begin.ensures ∙ ap (λ (x : CursorData). x.frames) c.use_bit.ensures.same ∙ ap (λ (x : CursorData). x.frames) c.requires.behind.outermost))
+    (turns_on way set l n c.start_message.new.self c.in-Ok.field-0 (λ e. c.start_message.ensures.on (c.in-Ok.is ∙ ap Ok e))
+    (subst (λ (x : Result Turn FaultCode). HasTurnsBehind x way set l n c.start_message.new.self) c.in-Ok.is (c.start_message.ensures.turns way n h)))
