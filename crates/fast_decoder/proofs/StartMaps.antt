@@ -1,6 +1,6 @@
 -- The presence map of a message that is one byte, without an identifier behind it.
 use Rattle.std.proofs.Common.{refl, sym, ap, ◌∙◌, subst, arith, get_or}
-use Rattle.std.specs.Prelude.{◌≡◌, ◌≢◌, ℕ, ◌+◌, ◌*◌, ◌/◌, ◌%◌, ◌^◌, ◌<◌, ◌≤◌, Bool, true, false, nat_eq, List, [], ◌∷◌, ◌++◌, length, take, slice_get, Some, Ok}
+use Rattle.std.specs.Prelude.{◌≡◌, ◌≢◌, ℕ, ◌+◌, ◌/◌, ◌%◌, ◌^◌, ◌<◌, ◌≤◌, false, nat_eq, List, [], ◌∷◌, length, take, slice_get, Some, Ok}
 use Rattle.fast_wire.specs.Maps.{map_limit, bits, first_bit}
 use Rattle.fast_value.specs.Kinds.{U}
 use Rattle.fast_value.specs.Limits.{bounds}
@@ -21,7 +21,6 @@ use Rattle.fast_decoder.specs.MapTaking.{IsMapTaken}
 use Rattle.fast_decoder.specs.Messages.{State, begin}
 use Rattle.fast_decoder.specs.Continuations.{message_then, message_behind_then, message_of_then}
 use Rattle.fast_decoder.specs.Passing.{state_past}
-use Rattle.fast_decoder.specs.Readers.{Reader}
 use Rattle.fast_decoder.specs.Taking.{Turns}
 use Rattle.fast_decoder.specs.Positions.{Set, tree_in, behind_map, mapped_reader, CanTake, IsBehindMap, IsReady}
 use Rattle.fast_decoder.specs.TurnsLeft.{Way, most_by, HasTurnsInMap, turns_begun}

@@ -1,5 +1,5 @@
-use Rattle.std.proofs.Common.{◌≡◌, ◌≢◌, ap, ◌∙◌, subst}
-use Rattle.std.specs.Prelude.{Result, Ok, Err}
+use Rattle.std.proofs.Common.{ap, ◌∙◌, subst}
+use Rattle.std.specs.Prelude.{Result, Ok}
 use Rattle.fast_template.specs.Tree.{identifier}
 use Rattle.fast_template.specs.Flat.{template_data, instructions_from}
 use Rattle.fast_value.specs.Limits.{bounds}
@@ -8,7 +8,6 @@ use Rattle.fast_decoder.specs.GrammarReaders.{reader_of}
 use Rattle.fast_decoder.specs.Passing.{state_past}
 use Rattle.fast_decoder.specs.Continuations.{message_of_then}
 use Rattle.fast_decoder.specs.Moving.{Moves}
-use Rattle.fast_decoder.specs.Readers.{Reader}
 use Rattle.fast_decoder.specs.TurnsLeft.{HasTurnsBehind}
 use Rattle.fast_decoder.specs.Positions.{set_of, meaning, turning, GoesOn}
 use Rattle.fast_decoder.specs.declared.faults.FaultCode.{FaultCode}

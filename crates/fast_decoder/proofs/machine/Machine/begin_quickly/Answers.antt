@@ -1,5 +1,5 @@
 -- A map of one byte, the first event of the message, and the turn behind it.
-use Rattle.std.proofs.Common.{◌≡◌, ◌<◌, ◌≤◌, ◌+◌, refl, sym, ap, ◌∙◌, subst, arith, rules, length, get_or}
+use Rattle.std.proofs.Common.{◌≡◌, ◌<◌, ◌≤◌, ◌+◌, ap, ◌∙◌, arith, rules, get_or}
 use Rattle.std.proofs.lemmas.Option.{slice_get_within}
 use Rattle.fast_value.specs.Limits.{bounds}
 use Rattle.fast_template.specs.Tree.{identifier}
