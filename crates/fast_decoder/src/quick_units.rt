@@ -195,119 +195,6 @@ impl<'t> Machine<'t> {
         Some(Quick { bytes, turn })
     }
 
-    /// The same, with an arm of its own for each way.
-    #[inline(always)]
-    fn take_kind<S: Sink>(
-        &mut self,
-        templates: &'t Templates,
-        limits: Limits,
-        number: u32,
-        kind: Kind,
-        sending: Sending,
-        rest: &[u8],
-        sink: &mut S,
-    ) -> Option<Quick>
-        requires waits { self.old.waiting ≡ Waiting.Field }
-        requires ready { IsReady (set_of templates.now) limits self.old }
-        requires none { self.old.entity ≡ [] }
-        requires next { first_node self.old.cursor.left ≡ Some number }
-        requires within { number < length (set_of templates.now).nodes }
-        requires integers { family kind ≡ integers (range_of kind) }
-        requires field { (x : Node) → slice_get (set_of templates.now).nodes number ≡ Some x → (f : FieldInstruction) × (x.shape ≡ Shape.Field f) × IsSentAs f kind sending }
-        ensures none { IfNone result ((self.new ≡ self.old) × (sink.new ≡ sink.old)) }
-        ensures taken { IfSome result (λ q. IsTakenTo S.takes S.stops (set_of templates.now) limits (meaning (set_of templates.now) limits self.old) rest.now sink.old q.bytes q.turn sink.new self.new) }
-        ensures turns { (way : Way) (n : ℕ) → HasTurns way (set_of templates.now) limits 1 n self.old → IfSome result (λ q. HasTurnsBehind q.turn way (set_of templates.now) limits (1 + n) self.new) }
-    {
-        match sending {
-            Sending::Plain => {
-                self.take_sent(templates, limits, number, kind, Sending::Plain, rest, sink)
-            }
-            Sending::NullablePlain => {
-                self.take_sent(
-                    templates,
-                    limits,
-                    number,
-                    kind,
-                    Sending::NullablePlain,
-                    rest,
-                    sink,
-                )
-            }
-            Sending::Default => {
-                self.take_sent(
-                    templates,
-                    limits,
-                    number,
-                    kind,
-                    Sending::Default,
-                    rest,
-                    sink,
-                )
-            }
-            Sending::NullableDefault => {
-                self.take_sent(
-                    templates,
-                    limits,
-                    number,
-                    kind,
-                    Sending::NullableDefault,
-                    rest,
-                    sink,
-                )
-            }
-            Sending::Copy => {
-                self.take_sent(templates, limits, number, kind, Sending::Copy, rest, sink)
-            }
-            Sending::NullableCopy => {
-                self.take_sent(
-                    templates,
-                    limits,
-                    number,
-                    kind,
-                    Sending::NullableCopy,
-                    rest,
-                    sink,
-                )
-            }
-            Sending::Increment => {
-                self.take_sent(
-                    templates,
-                    limits,
-                    number,
-                    kind,
-                    Sending::Increment,
-                    rest,
-                    sink,
-                )
-            }
-            Sending::NullableIncrement => {
-                self.take_sent(
-                    templates,
-                    limits,
-                    number,
-                    kind,
-                    Sending::NullableIncrement,
-                    rest,
-                    sink,
-                )
-            }
-            Sending::Delta => {
-                self.take_sent(templates, limits, number, kind, Sending::Delta, rest, sink)
-            }
-            Sending::NullableDelta => {
-                self.take_sent(
-                    templates,
-                    limits,
-                    number,
-                    kind,
-                    Sending::NullableDelta,
-                    rest,
-                    sink,
-                )
-            }
-        }
-    }
-
     /// Takes the unit of the next instruction, if it is a field of integers.
     #[inline(always)]
     fn take_integer<S: Sink>(
@@ -329,16 +216,16 @@ impl<'t> Machine<'t> {
         let number = self.cursor.next()?;
         match templates.opcode(number) {
             Opcode::UInt32(sending) => {
-                self.take_kind(templates, limits, number, Kind::UInt32, sending, rest, sink)
+                self.take_sent(templates, limits, number, Kind::UInt32, sending, rest, sink)
             }
             Opcode::Int32(sending) => {
-                self.take_kind(templates, limits, number, Kind::Int32, sending, rest, sink)
+                self.take_sent(templates, limits, number, Kind::Int32, sending, rest, sink)
             }
             Opcode::UInt64(sending) => {
-                self.take_kind(templates, limits, number, Kind::UInt64, sending, rest, sink)
+                self.take_sent(templates, limits, number, Kind::UInt64, sending, rest, sink)
             }
             Opcode::Int64(sending) => {
-                self.take_kind(templates, limits, number, Kind::Int64, sending, rest, sink)
+                self.take_sent(templates, limits, number, Kind::Int64, sending, rest, sink)
             }
             Opcode::Other => None,
         }
