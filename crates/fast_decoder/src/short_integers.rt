@@ -62,7 +62,7 @@ fn quick_number(
 }
 
 /// The same for a kind of unsigned integers.
-#[inline(always)]
+#[inline]
 fn unsigned_number(
     kind: Kind,
     optional: bool,
@@ -85,7 +85,7 @@ fn unsigned_number(
 }
 
 /// The same for a kind of signed integers.
-#[inline(always)]
+#[inline]
 fn signed_number(
     kind: Kind,
     optional: bool,
