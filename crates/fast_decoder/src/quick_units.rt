@@ -153,7 +153,7 @@ impl<'t> Machine<'t> {
         }
     }
 
-    /// Takes the unit of the next instruction, a field of integers of a known kind that stands in the stream in a known way.
+    /// Takes the unit of the next instruction, a field of integers of this kind that stands in the stream so.
     #[inline(always)]
     fn take_sent<S: Sink>(
         &mut self,

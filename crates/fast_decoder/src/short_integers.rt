@@ -1,5 +1,5 @@
 //! Fields of integers in the quick way: one short entity, and what it leaves in the dictionary. Kind, operator and presence are
-//! parameters that each call knows beforehand, so that the compiler makes one piece of code of each.
+//! parameters, as an opcode has told them, so that the field is looked at for its entry alone.
 //!
 //! `None` stands for all else, faults included: nothing has changed then, and the general way finds out.
 
