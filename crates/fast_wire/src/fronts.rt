@@ -14,7 +14,8 @@ use crate::reads::{
     read_nullable_signed, read_nullable_unsigned, read_signed, read_unsigned,
 };
 use crate::words::{
-    eight_bytes, one_byte, short_entity, short_lowered, short_signed, short_signed_lowered,
+    ShortEntity, eight_bytes, one_byte, short_entity, short_lowered, short_signed,
+    short_signed_lowered,
 };
 
 /// What a slice begins with.
@@ -34,7 +35,7 @@ pub fn first_unsigned(bytes: &[u8], strict: bool, top: u64) -> First<u64>
     ensures { IsFirstInt (λ x. Some (pos x)) strict (unsigned_up_to top) false result bytes.now }
 {
     match short_entity(bytes) {
-        Some((sum, len)) => front_unsigned(bytes, sum, len, strict, top),
+        Some(ShortEntity { number: sum, len }) => front_unsigned(bytes, sum, len, strict, top),
         None => long_unsigned(bytes, strict, top),
     }
 }
@@ -45,7 +46,9 @@ pub fn first_nullable_unsigned(bytes: &[u8], strict: bool, top: u64) -> First<Op
     ensures { IsFirstInt (λ x. option_map pos x) strict (unsigned_up_to top) true result bytes.now }
 {
     match short_entity(bytes) {
-        Some((sum, len)) => front_nullable_unsigned(bytes, sum, len, strict, top),
+        Some(ShortEntity { number: sum, len }) => front_nullable_unsigned(
+            bytes, sum, len, strict, top,
+        ),
         None => long_nullable_unsigned(bytes, strict, top),
     }
 }

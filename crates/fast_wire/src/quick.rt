@@ -1,69 +1,84 @@
-//! The first entity of a slice as an integer, where the entity is short: of one byte, or ended among eight bytes that are there.
+//! Short entities as integers. That is all but every integer of a stream.
 //!
-//! That is all but every integer of a stream. The functions answer `None` for all others and for what is no such integer,
-//! which [`first_unsigned`](crate::first_unsigned) and its kin then tell apart, so nothing here calls out of line.
+//! The functions answer `None` where the entity is no such integer, which [`first_unsigned`](crate::first_unsigned) and its kin
+//! then tell apart, so nothing here calls out of line.
 
 ghost use Rattle.std.specs.Prelude.{◌≡◌, Some, pos, true, false, option_map, IfSome};
 ghost use Rattle.fast_wire.specs.Integers.{unsigned_up_to, signed_between};
 ghost use Rattle.fast_wire.specs.Fronts.{IsFirstInt};
+ghost use Rattle.fast_wire.specs.Words.{IsShortEntity};
 ghost use Rattle.fast_wire.specs.declared.fronts.First.TheVariants.{Whole};
 
 use crate::reads::{judge_nullable_signed, judge_nullable_unsigned, judge_signed, judge_unsigned};
-use crate::words::{lowered, short_entity, short_lowered, short_signed};
+use crate::words::{ShortEntity, lowered, short_lowered, short_signed};
 
-/// The first entity as a mandatory integer from 0 to `top`, with its length.
+/// The first entity as a mandatory integer from 0 to `top`.
 #[inline(always)]
-pub fn quick_unsigned(bytes: &[u8], strict: bool, top: u64) -> Option<(u64, usize)>
-    ensures { IfSome result (λ r. IsFirstInt (λ x. Some (pos x)) strict (unsigned_up_to top) false (Whole r.0 r.1) bytes.now) }
+pub fn quick_unsigned(bytes: &[u8], entity: ShortEntity, strict: bool, top: u64) -> Option<u64>
+    requires first { IsShortEntity entity.number entity.len bytes.now }
+    ensures { IfSome result (λ x. IsFirstInt (λ y. Some (pos y)) strict (unsigned_up_to top) false (Whole x entity.len) bytes.now) }
 {
-    let (sum, len) = short_entity(bytes)?;
-    match judge_unsigned(&bytes[..len], u128::from(sum), strict, top) {
-        Ok(number) => Some((number, len)),
+    let w = &bytes[..entity.len];
+    match judge_unsigned(w, u128::from(entity.number), strict, top) {
+        Ok(number) => Some(number),
         Err(_) => None,
     }
 }
 
-/// The first entity as a nullable integer from 0 to `top`, with its length: `None` in it is NULL.
+/// The first entity as a nullable integer from 0 to `top`: `None` in the answer is NULL.
 #[inline(always)]
-pub fn quick_nullable_unsigned(bytes: &[u8], strict: bool, top: u64) -> Option<(Option<u64>, usize)>
-    ensures { IfSome result (λ r. IsFirstInt (λ x. option_map pos x) strict (unsigned_up_to top) true (Whole r.0 r.1) bytes.now) }
-{
-    let (sum, len) = short_entity(bytes)?;
-    match judge_nullable_unsigned(&bytes[..len], short_lowered(sum), strict, top) {
-        Ok(number) => Some((number, len)),
-        Err(_) => None,
-    }
-}
-
-/// The first entity as a mandatory integer in two's complement, from `low` to `top`, with its length.
-#[inline(always)]
-pub fn quick_signed(bytes: &[u8], strict: bool, low: i128, top: i128) -> Option<(i64, usize)>
-    ensures { IfSome result (λ r. IsFirstInt (λ x. Some x) strict (signed_between low top) false (Whole r.0 r.1) bytes.now) }
-{
-    let (sum, len) = short_entity(bytes)?;
-    let w = &bytes[..len];
-    let number = short_signed(w, sum);
-    match judge_signed(w, i128::from(number), strict, low, top) {
-        Ok(_) => Some((number, len)),
-        Err(_) => None,
-    }
-}
-
-/// The first entity as a nullable integer in two's complement, from `low` to `top`, with its length: `None` in it is NULL.
-#[inline(always)]
-pub fn quick_nullable_signed(
+pub fn quick_nullable_unsigned(
     bytes: &[u8],
+    entity: ShortEntity,
+    strict: bool,
+    top: u64,
+) -> Option<Option<u64>>
+    requires first { IsShortEntity entity.number entity.len bytes.now }
+    ensures { IfSome result (λ x. IsFirstInt (λ y. option_map pos y) strict (unsigned_up_to top) true (Whole x entity.len) bytes.now) }
+{
+    let w = &bytes[..entity.len];
+    match judge_nullable_unsigned(w, short_lowered(entity.number), strict, top) {
+        Ok(number) => Some(number),
+        Err(_) => None,
+    }
+}
+
+/// The first entity as a mandatory integer in two's complement, from `low` to `top`.
+#[inline(always)]
+pub fn quick_signed(
+    bytes: &[u8],
+    entity: ShortEntity,
     strict: bool,
     low: i128,
     top: i128,
-) -> Option<(Option<i64>, usize)>
-    ensures { IfSome result (λ r. IsFirstInt (λ x. x) strict (signed_between low top) true (Whole r.0 r.1) bytes.now) }
+) -> Option<i64>
+    requires first { IsShortEntity entity.number entity.len bytes.now }
+    ensures { IfSome result (λ x. IsFirstInt (λ y. Some y) strict (signed_between low top) false (Whole x entity.len) bytes.now) }
 {
-    let (sum, len) = short_entity(bytes)?;
-    let w = &bytes[..len];
-    let number = lowered(short_signed(w, sum));
+    let w = &bytes[..entity.len];
+    let number = short_signed(w, entity.number);
+    match judge_signed(w, i128::from(number), strict, low, top) {
+        Ok(_) => Some(number),
+        Err(_) => None,
+    }
+}
+
+/// The first entity as a nullable integer in two's complement, from `low` to `top`: `None` in the answer is NULL.
+#[inline(always)]
+pub fn quick_nullable_signed(
+    bytes: &[u8],
+    entity: ShortEntity,
+    strict: bool,
+    low: i128,
+    top: i128,
+) -> Option<Option<i64>>
+    requires first { IsShortEntity entity.number entity.len bytes.now }
+    ensures { IfSome result (λ x. IsFirstInt (λ y. y) strict (signed_between low top) true (Whole x entity.len) bytes.now) }
+{
+    let w = &bytes[..entity.len];
+    let number = lowered(short_signed(w, entity.number));
     match judge_nullable_signed(w, widened(number), strict, low, top) {
-        Ok(_) => Some((number, len)),
+        Ok(_) => Some(number),
         Err(_) => None,
     }
 }

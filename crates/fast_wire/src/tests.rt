@@ -37,6 +37,27 @@ fn followed(bytes: &[u8]) -> ArrayVec<u8, 24> {
     all
 }
 
+/// What the quick functions answer for an entity of so many bytes: its integer, if it has one and is short.
+fn quick_answer<T: Copy>(want: Result<T, WireFault>, len: usize) -> Option<T> {
+    match want {
+        Ok(number) if len <= 8 => Some(number),
+        _ => None,
+    }
+}
+
+/// An answer of the quick functions with more bits.
+fn widened(answer: Option<i64>) -> Option<i128> {
+    Some(i128::from(answer?))
+}
+
+/// The same of one that may be NULL.
+fn widened_or_null(answer: Option<Option<i64>>) -> Option<Option<i128>> {
+    match answer? {
+        Some(number) => Some(Some(i128::from(number))),
+        None => Some(None),
+    }
+}
+
 fn unsigned_row(
     rt: &impl Abort,
     bytes: &[u8],
@@ -55,6 +76,12 @@ fn unsigned_row(
         first,
         "behind {bytes:?}"
     );
+    let all = followed(bytes);
+    let quick = match short_entity(all.as_slice()) {
+        Some(short) => quick_unsigned(all.as_slice(), short, strict, top),
+        None => None,
+    };
+    assert_eq!(rt; quick, quick_answer(want, len), "quickly at {bytes:?}");
     if let Some(w) = entity(bytes) {
         assert_eq!(rt;
             read_unsigned(w.as_slice(), strict, top),
@@ -86,6 +113,12 @@ fn nullable_unsigned_row(
         first,
         "behind {bytes:?}"
     );
+    let all = followed(bytes);
+    let quick = match short_entity(all.as_slice()) {
+        Some(short) => quick_nullable_unsigned(all.as_slice(), short, strict, top),
+        None => None,
+    };
+    assert_eq!(rt; quick, quick_answer(want, len), "quickly at {bytes:?}");
     if let Some(w) = entity(bytes) {
         assert_eq!(rt;
             read_nullable_unsigned(w.as_slice(), strict, top),
@@ -111,6 +144,12 @@ fn signed_row(rt: &impl Abort, bytes: &[u8], strict: bool, want: Result<i128, Wi
         first,
         "behind {bytes:?}"
     );
+    let all = followed(bytes);
+    let quick = match short_entity(all.as_slice()) {
+        Some(short) => widened(quick_signed(all.as_slice(), short, strict, I64_LOW, I64_TOP)),
+        None => None,
+    };
+    assert_eq!(rt; quick, quick_answer(want, len), "quickly at {bytes:?}");
     if let Some(w) = entity(bytes) {
         assert_eq!(rt;
             read_signed(w.as_slice(), strict, I64_LOW, I64_TOP),
@@ -141,6 +180,18 @@ fn nullable_signed_row(
         first,
         "behind {bytes:?}"
     );
+    let all = followed(bytes);
+    let quick = match short_entity(all.as_slice()) {
+        Some(short) => widened_or_null(quick_nullable_signed(
+            all.as_slice(),
+            short,
+            strict,
+            I64_LOW,
+            I64_TOP,
+        )),
+        None => None,
+    };
+    assert_eq!(rt; quick, quick_answer(want, len), "quickly at {bytes:?}");
     if let Some(w) = entity(bytes) {
         assert_eq!(rt;
             read_nullable_signed(w.as_slice(), strict, I64_LOW, I64_TOP),

@@ -8,15 +8,25 @@ ghost use Rattle.fast_wire.specs.Words.{word_of, IsShortEntity};
 /// The stop bits of eight bytes.
 const STOP_BITS: u64 = 0x8080_8080_8080_8080;
 
-/// The number and the length of the first entity, if it is one byte, or ends within eight bytes that are there.
+/// An entity of at most eight bytes.
+#[derive(Clone, Copy, Debug)]
+pub struct ShortEntity {
+    /// The number that the lower seven bits of its bytes make up.
+    pub number: u64,
+    /// How many bytes it has.
+    pub len: usize,
+}
+
+/// The first entity, if it is one byte, or ends within eight bytes that are there.
 #[inline(always)]
-pub(crate) fn short_entity(bytes: &[u8]) -> Option<(u64, usize)>
-    ensures { IfSome result (λ e. IsShortEntity e.0 e.1 bytes.now) }
+pub fn short_entity(bytes: &[u8]) -> Option<ShortEntity>
+    ensures { IfSome result (λ e. IsShortEntity e.number e.len bytes.now) }
 {
-    match one_byte(bytes) {
-        Some(sum) => Some((sum, 1)),
-        None => eight_bytes(bytes),
+    if let Some(number) = one_byte(bytes) {
+        return Some(ShortEntity { number, len: 1 });
     }
+    let (number, len) = eight_bytes(bytes)?;
+    Some(ShortEntity { number, len })
 }
 
 /// The number of the first entity, if it is one byte.
