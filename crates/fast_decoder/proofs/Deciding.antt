@@ -1,6 +1,6 @@
 -- What is decided for a field, case by case.
 use Rattle.std.proofs.Common.{refl, sym, ap, ◌∙◌, subst}
-use Rattle.std.specs.Prelude.{◌≡◌, ◌≢◌, ℕ, zero, suc, Bool, true, false, List, [], ◌∷◌, slice_index_or, slice_set, is_some, ℤ, pos, negsuc, ◌+ℤ◌, if◌then◌else◌, Option, Some, None, Result, Ok, Err}
+use Rattle.std.specs.Prelude.{◌≡◌, ◌≢◌, ℕ, zero, suc, Bool, true, false, List, [], ◌∷◌, slice_index_or, slice_set, is_some, ℤ, pos, negsuc, ◌+ℤ◌, if◌then◌else◌, Option, Some, None, option_map, Result, Ok, Err}
 use Rattle.fast_value.specs.declared.kinds.Kind.{Kind}
 use Rattle.fast_value.specs.declared.kinds.Kind.TheVariants.{UInt32, Int32, UInt64, Int64, Decimal, Ascii, Unicode, Bytes}
 use Rattle.fast_value.specs.declared.codes.Code.{Code}
@@ -19,11 +19,30 @@ use Rattle.fast_decoder.specs.Settling.{Serves, value_in, value_at, IsSettled}
 use Rattle.fast_value.specs.Limits.{Bounds}
 use Rattle.fast_decoder.specs.Grammar.{of_result}
 use Rattle.fast_decoder.specs.Fields.{not_sent, field_by, field_term}
-use Rattle.fast_decoder.specs.Deciding.{needs_bytes, base_integer, IsDecided}
+use Rattle.fast_decoder.specs.Deciding.{needs_bytes, number_data, source_of, base_integer, IsDecided}
+use Rattle.fast_decoder.specs.declared.fields.Number.{Number}
+use Rattle.fast_decoder.specs.declared.fields.Number.TheVariants as As
 
 -- by another name of what is decided
 pub decided_as : (f : FieldData) (old new : Dictionary) (a : Result Source Code) {r r' : Result Outcome Code} → r ≡ r' → IsDecided r' f old new a → IsDecided r f old new a
 decided_as f old new a {r} {r'} e h = subst (λ x. IsDecided x f old new a) (sym e) h
+
+-- A number at hand is the value where it stands, and NULL is none.
+pub item_value : (item : Option Number) (f : FieldData) (d : Dictionary) (scratch piece : List ℕ) → value_at (source_of item) f d scratch piece ≡ option_map number_data item
+item_value None f d scratch piece = refl
+item_value (Some (As.Unsigned n)) f d scratch piece = refl
+item_value (Some (As.Signed x)) f d scratch piece = refl
+item_value (Some (As.Decimal e m)) f d scratch piece = refl
+
+-- Where a number stands whatever the field, it is at hand.
+pub source_at : (n : Number) (source : Source) → ((f : FieldData) (d : Dictionary) (scratch piece : List ℕ) → value_at source f d scratch piece ≡ Some (number_data n)) → source ≡ source_of (Some n)
+source_at n source h = by n source (h (record { kind = Ascii; optional = false; operator = Op.None; initial = None; entry = None }) [] [] [])
+  where
+    by : (n : Number) (source : Source) → value_at source (record { kind = Ascii; optional = false; operator = Op.None; initial = None; entry = None }) [] [] [] ≡ Some (number_data n) → source ≡ source_of (Some n)
+    by (As.Unsigned n) (From.Unsigned m) e = cc e
+    by (As.Signed x) (From.Signed y) e = cc e
+    by (As.Decimal e m) (From.Decimal i j) h = cc h
+    by n source e = absurd (cc e)
 
 -- To write what is there changes nothing.
 set_same : (d : Dictionary) (e : ℕ) → slice_set d e (slice_index_or d e undefined) ≡ d

@@ -1,6 +1,6 @@
 -- Fields of integers in the quick way.
 use Rattle.std.proofs.Common.{refl, sym, ap, ◌∙◌, subst, inl, inr}
-use Rattle.std.specs.Prelude.{◌≡◌, ◌≢◌, ◌⊎◌, ℕ, Bool, true, false, List, [], ℤ, Option, Result, Ok}
+use Rattle.std.specs.Prelude.{◌≡◌, ◌≢◌, ◌⊎◌, ℕ, Bool, true, false, List, [], ℤ, Option, Some, None, Result, Ok}
 use Rattle.fast_wire.specs.Fronts.{IsFirstInt}
 use Rattle.fast_wire.specs.Integers.{delta_range}
 use Rattle.fast_wire.specs.declared.fronts.First.TheVariants as First
@@ -13,15 +13,18 @@ use Rattle.fast_template.specs.declared.operators.Operator.{Operator}
 use Rattle.fast_template.specs.declared.operators.Operator.TheVariants as Op
 use Rattle.fast_template.specs.Entries.{keeps_value}
 use Rattle.fast_template.specs.Tree.{FieldData}
-use Rattle.fast_dict.specs.Dictionary.{Dictionary, previous_at}
+use Rattle.fast_dict.specs.Dictionary.{Dictionary, PreviousData, empty, assigned, previous_at, write_at}
+use Rattle.fast_dict.specs.Stores.{Terms}
 use Rattle.fast_dict.specs.Operators.{decide, range_of, Outcome, Sent}
 use Rattle.fast_decoder.specs.Fields.{field_term, sent_integer, integer_change}
 use Rattle.fast_decoder.specs.Grammar.{give, integer, of_result}
 use Rattle.fast_decoder.specs.GrammarReaders.{reader_of}
-use Rattle.fast_decoder.specs.Settling.{IsLastUnit}
-use Rattle.fast_decoder.specs.Deciding.{IsDecided}
+use Rattle.fast_decoder.specs.Settling.{Serves, IsLastUnit}
+use Rattle.fast_decoder.specs.Deciding.{number_data, sent_number, source_of, IsDecided}
+use Rattle.fast_decoder.specs.declared.fields.Number.{Number}
 use Rattle.fast_decoder.specs.declared.source.Source.{Source}
 use Rattle.fast_decoder.specs.declared.progress.Progress.TheVariants.{Whole}
+use Rattle.fast_decoder.proofs.Deciding.{value_decided, null_decided, item_value}
 use Rattle.fast_decoder.proofs.LastUnits.{behind_integer, integer_here, integer_delta_field, last_unit}
 use Rattle.fast_decoder.proofs.NextUnits.{first_whole}
 
@@ -64,3 +67,11 @@ delta_unit b strict l f rest old new scratch x n d source be is delta given same
 pub keeps_none : (o o' : Operator) → o ≡ o' → (o ≡ Op.None) ⊎ (o ≡ Op.Default) → keeps_value o' ≡ false
 keeps_none o o' same (inl e) = ap keeps_value (sym same ∙ e)
 keeps_none o o' same (inr e) = ap keeps_value (sym same ∙ e)
+
+-- A number, or NULL, that is sent under no delta, and is not kept.
+pub item_decided : {n : ℕ} {t : Terms} (f : FieldData) → Serves n t f → family f.kind ≡ integers (range_of f.kind) → (old new : Dictionary) (item : Option Number)
+    → f.operator ≢ Op.Delta → f.operator ≢ Op.Constant → ((q : PreviousData) → new ≡ write_at f.entry q old)
+    → IsDecided (decide f (previous_at f.entry old) true (sent_number item)) f old new (Ok (source_of item))
+item_decided f serves is old new None no_delta no_constant same = null_decided f serves (no_texts f is) old new no_delta no_constant (same empty)
+item_decided f serves is old new (Some x) no_delta no_constant same =
+    value_decided f serves (no_texts f is) old new (number_data x) (source_of (Some x)) no_delta no_constant (same (assigned f.kind (number_data x))) (item_value (Some x) f)

@@ -9,6 +9,7 @@ use Rattle.fast_dict.specs.Dictionary.{Dictionary, PreviousData}
 use Rattle.fast_dict.specs.Operators.{Outcome, ◌>>=◌, Sent, null, value, delta_base}
 use Rattle.fast_decoder.specs.Settling.{IsSettled}
 use Rattle.fast_decoder.specs.declared.source.Source.{Source}
+use Rattle.fast_decoder.specs.declared.source.Source.TheVariants as From
 use Rattle.fast_decoder.specs.declared.progress.Progress.{Progress}
 use Rattle.fast_decoder.specs.declared.progress.Progress.TheVariants.{Whole, Wrong}
 use Rattle.fast_decoder.specs.declared.fields.Number.{Number}
@@ -31,6 +32,13 @@ number_data (As.Decimal e m) = Dec e m
 abbrev pub sent_number : Option Number → Sent
 sent_number None = null
 sent_number (Some n) = value (number_data n)
+
+-- where a number stands that is at hand, or NULL
+abbrev pub source_of : Option Number → Source
+source_of None = From.Absent
+source_of (Some (As.Unsigned n)) = From.Unsigned n
+source_of (Some (As.Signed x)) = From.Signed x
+source_of (Some (As.Decimal e m)) = From.Decimal e m
 
 -- the integer that a delta is added to
 abbrev pub base_integer : FieldData → PreviousData → Result ℤ Code

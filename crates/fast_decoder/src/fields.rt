@@ -15,7 +15,7 @@ ghost use Rattle.fast_dict.specs.Stores.{IsStorable};
 ghost use Rattle.fast_decoder.specs.Fields.{field_term};
 ghost use Rattle.fast_decoder.specs.Grammar.{of_result};
 ghost use Rattle.fast_decoder.specs.Settling.{Serves, HasRoomFor, value_at};
-ghost use Rattle.fast_decoder.specs.Deciding.{needs_bytes, number_data, IsDecided};
+ghost use Rattle.fast_decoder.specs.Deciding.{needs_bytes, number_data, source_of, IsDecided};
 
 use crate::source::Source;
 use fast_dict::operators::initial_value;
@@ -80,6 +80,17 @@ impl Number {
     }
 }
 
+/// Where a number stands that is at hand, or NULL.
+#[inline(always)]
+pub fn source_of(item: Option<Number>) -> Source
+    ensures { result ≡ source_of item }
+{
+    match item {
+        Some(number) => number.source(),
+        None => Source::Absent,
+    }
+}
+
 /// Whether the field stands in the stream.
 #[inline]
 pub fn needs_bytes(field: &FieldInstruction, bit: bool) -> bool
@@ -141,7 +152,7 @@ pub fn assign_empty(slots: &mut Slots, field: &FieldInstruction)
 }
 
 /// Keeps a number at the field's entry, if it has one, and says where it stands.
-#[inline(always)]
+#[inline]
 pub fn keep(slots: &mut Slots, field: &FieldInstruction, number: Number) -> Source
     requires within { (e : ℕ) → (field_data field.now).entry ≡ Some e → e < length (slots_dictionary slots.old) }
     ensures value { (d : Dictionary) (scratch piece : List ℕ) → value_at result (field_data field.now) d scratch piece ≡ Some (number_data number) }

@@ -1,6 +1,7 @@
 //! Decimals by parts in the quick way: their mantissas.
 
-ghost use Rattle.std.specs.Prelude.{◌≡◌, ◌+◌, ℕ, true, List, [], length, IfSome, IfNone};
+ghost use Rattle.std.specs.Prelude.{◌≡◌, ◌≢◌, ◌+◌, ℕ, true, List, [], length, Ok, IfSome, IfNone};
+ghost use Rattle.fast_wire.specs.Words.{IsShortEntity};
 ghost use Rattle.fast_value.specs.Limits.{Bounds};
 ghost use Rattle.fast_template.specs.Flat.{field_data};
 ghost use Rattle.fast_dict.specs.Dictionary.{previous_at};
@@ -8,33 +9,37 @@ ghost use Rattle.fast_dict.specs.Slots.{slots_dictionary, slots_terms};
 ghost use Rattle.fast_decoder.specs.Fields.{field_term};
 ghost use Rattle.fast_decoder.specs.GrammarReaders.{reader_of};
 ghost use Rattle.fast_decoder.specs.Settling.{Serves, IsLastUnit};
+ghost use Rattle.fast_decoder.specs.Deciding.{source_of};
 ghost use Rattle.fast_decoder.specs.Quick.{IsTakenTo};
 ghost use Rattle.fast_decoder.specs.Positions.{set_of, IsReady, meaning};
 ghost use Rattle.fast_decoder.specs.TurnsLeft.{Way, HasTurns, HasTurnsBehind};
 
 use crate::events::Sink;
-use crate::machine::{Machine, Waiting};
+use crate::fields::{Number, source_of};
+use crate::machine::{Machine, Turn, Waiting};
 use crate::progress::Progress;
 use crate::quick_units::Quick;
-use crate::short_integers::quick_integer;
-use crate::source::Source;
+use crate::short_integers::{delta_item, signed_item};
 use crate::turns::Turns;
 use fast_dict::Slots;
 use fast_template::{FieldInstruction, Operator, Shape, Templates};
 use fast_value::{Kind, Limits};
+use fast_wire::{ShortEntity, short_entity};
 
-/// The unit of a mandatory mantissa that stands in the stream without an operator or under delta.
+/// A mandatory mantissa that stands in the stream without an operator or under delta.
 #[inline(always)]
-fn quick_mantissa(
+fn mantissa_item(
     slots: &mut Slots,
     field: &FieldInstruction,
     rest: &[u8],
+    entity: ShortEntity,
     strict: bool,
-) -> Option<(Source, usize)>
+) -> Option<Option<Number>>
+    requires first { IsShortEntity entity.number entity.len rest.now }
     requires kind { field.now.kind ≡ Kind.Int64 }
     requires serves { Serves (length (slots_dictionary slots.old)) (slots_terms slots.old) (field_data field.now) }
     ensures unit { IfSome result (λ r. (l : Bounds) (scratch : List ℕ) → IsLastUnit (reader_of strict (field_term l (field_data field.now) (previous_at (field_data field.now).entry (slots_dictionary slots.old)) true))
-        (field_data field.now) [] rest.now (slots_dictionary slots.old) (slots_dictionary slots.new) scratch (Progress.Whole r.0 r.1)) }
+        (field_data field.now) [] rest.now (slots_dictionary slots.old) (slots_dictionary slots.new) scratch (Progress.Whole (source_of r) entity.len)) }
     ensures none { IfNone result (slots.new ≡ slots.old) }
     ensures terms { slots_terms slots.new ≡ slots_terms slots.old }
 {
@@ -42,28 +47,19 @@ fn quick_mantissa(
         return None;
     }
     match field.operator {
-        Operator::None => {
-            quick_integer(
-                slots,
-                field,
-                Kind::Int64,
-                false,
-                Operator::None,
-                rest,
-                strict,
-            )
-        }
-        Operator::Delta => {
-            quick_integer(
-                slots,
-                field,
-                Kind::Int64,
-                false,
-                Operator::Delta,
-                rest,
-                strict,
-            )
-        }
+        Operator::None => signed_item(
+            slots,
+            field,
+            Kind::Int64,
+            false,
+            Operator::None,
+            rest,
+            entity,
+            strict,
+            -9_223_372_036_854_775_808,
+            9_223_372_036_854_775_807,
+        ),
+        Operator::Delta => delta_item(slots, field, Kind::Int64, false, rest, entity, strict),
         _ => None,
     }
 }
@@ -83,6 +79,7 @@ impl<'t> Machine<'t> {
         requires ready { IsReady (set_of templates.now) limits self.old }
         ensures none { IfNone result ((self.new ≡ self.old) × (sink.new ≡ sink.old)) }
         ensures taken { IfSome result (λ q. IsTakenTo S.takes S.stops (set_of templates.now) limits (meaning (set_of templates.now) limits self.old) rest.now sink.old q.bytes q.turn sink.new self.new) }
+        ensures on { IfSome result (λ q. q.turn ≢ Ok Turn.Waits) }
         ensures turns { (way : Way) (n : ℕ) → HasTurns way (set_of templates.now) limits 1 n self.old → IfSome result (λ q. HasTurnsBehind q.turn way (set_of templates.now) limits (1 + n) self.new) }
     {
         if !self.entity.is_empty() {
@@ -92,10 +89,13 @@ impl<'t> Machine<'t> {
         let Shape::Decimal { mantissa, .. } = &templates.node(number).shape else {
             return None;
         };
-        let (source, bytes) = quick_mantissa(&mut self.slots, mantissa, rest, limits.strict)?;
+        let entity = short_entity(rest)?;
+        let item = mantissa_item(&mut self.slots, mantissa, rest, entity, limits.strict)?;
         self.turns = Turns::after(&self.turns);
-        let turn = self.finish_decimal(number, mantissa, exponent, source, sink);
-        let turn = self.wait_if(templates, limits, turn, sink);
-        Some(Quick { bytes, turn })
+        let turn = self.finish_decimal(number, mantissa, exponent, source_of(item), sink);
+        Some(Quick {
+            bytes: entity.len,
+            turn,
+        })
     }
 }

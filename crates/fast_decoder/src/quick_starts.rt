@@ -1,6 +1,6 @@
 //! The quick way of presence maps of one byte.
 
-ghost use Rattle.std.specs.Prelude.{◌≡◌, ◌≢◌, ◌+◌, ◌<◌, ℕ, length, slice_get, Some, IfSome, IfNone};
+ghost use Rattle.std.specs.Prelude.{◌≡◌, ◌≢◌, ◌+◌, ◌<◌, ℕ, length, slice_get, Ok, Some, IfSome, IfNone};
 ghost use Rattle.fast_value.specs.declared.kinds.Kind.{Kind};
 ghost use Rattle.fast_value.specs.Kinds.{U};
 ghost use Rattle.fast_template.specs.Flat.{templates_of};
@@ -20,7 +20,8 @@ use fast_template::Templates;
 use fast_value::Limits;
 
 impl<'t> Machine<'t> {
-    /// Takes the presence map of a group or an element, if it is one byte: of one byte none is too many.
+    /// Takes the presence map of a group or an element, if it is one byte: of one byte none is too many. It hands nothing over; set,
+    /// limits and sink are there for what the clauses say of the turn.
     #[inline(always)]
     pub fn open_quickly<S: Sink>(
         &mut self,
@@ -33,14 +34,17 @@ impl<'t> Machine<'t> {
         requires ready { IsReady (set_of templates.now) limits self.old }
         ensures none { IfNone result ((self.new ≡ self.old) × (sink.new ≡ sink.old)) }
         ensures taken { IfSome result (λ q. IsTakenTo S.takes S.stops (set_of templates.now) limits (meaning (set_of templates.now) limits self.old) rest.now sink.old q.bytes q.turn sink.new self.new) }
+        ensures on { IfSome result (λ q. q.turn ≢ Ok Turn.Waits) }
         ensures turns { (way : Way) (n : ℕ) → HasTurns way (set_of templates.now) limits 0 n self.old → IfSome result (λ q. HasTurnsBehind q.turn way (set_of templates.now) limits (1 + n) self.new) }
     {
         if !self.cursor.take_byte(rest) {
             return None;
         }
         self.turns = Turns::after(&self.turns);
-        let turn = self.wait_if(templates, limits, Ok(Turn::Silent), sink);
-        Some(Quick { bytes: 1, turn })
+        Some(Quick {
+            bytes: 1,
+            turn: Ok(Turn::Silent),
+        })
     }
 
     /// The number of the latest template, if it has the identifier that the identifier's entry holds.
@@ -75,6 +79,7 @@ impl<'t> Machine<'t> {
         requires ready { IsReady (set_of templates.now) limits self.old }
         ensures none { IfNone result ((self.new ≡ self.old) × (sink.new ≡ sink.old)) }
         ensures taken { IfSome result (λ q. IsTakenTo S.takes S.stops (set_of templates.now) limits (meaning (set_of templates.now) limits self.old) rest.now sink.old q.bytes q.turn sink.new self.new) }
+        ensures on { IfSome result (λ q. q.turn ≢ Ok Turn.Waits) }
         ensures turns { (way : Way) (n : ℕ) → HasTurnsInMap self.old.cursor.map way (set_of templates.now) limits n self.old.turns.count
             → IfSome result (λ q. HasTurnsBehind q.turn way (set_of templates.now) limits (1 + n + turns_begun self.old.cursor.map way (tree_in (set_of templates.now)) limits) self.new) }
     {
@@ -87,7 +92,6 @@ impl<'t> Machine<'t> {
         }
         self.turns = Turns::after(&self.turns);
         let turn = self.start_message(templates, limits, number, sink);
-        let turn = self.wait_if(templates, limits, turn, sink);
         Some(Quick { bytes: 1, turn })
     }
 }

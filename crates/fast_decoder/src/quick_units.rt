@@ -1,30 +1,36 @@
 //! The quick way of a machine: units that stand whole in the piece and are of the most common forms, which an opcode names. All
 //! else is left to the general way; the quick way has changed nothing then.
 
-ghost use Rattle.std.specs.Prelude.{◌≡◌, ◌≢◌, ◌+◌, ◌<◌, ℕ, true, [], length, slice_get, Ok, Some, IfSome, IfNone};
-ghost use Rattle.fast_value.specs.Kinds.{family, integers};
+ghost use Rattle.std.specs.Prelude.{◌≡◌, ◌≢◌, ◌+◌, ◌<◌, ℕ, ℤ, pos, true, false, List, [], length, slice_get, Ok, Some, IfSome, IfNone};
+ghost use Rattle.fast_wire.specs.Integers.{unsigned_up_to, signed_between};
+ghost use Rattle.fast_value.specs.Kinds.{U, I, family, integers, value_of_integer};
 ghost use Rattle.fast_template.specs.Opcodes.{sending_operator, is_nullable, opcode_sending, IsSentAs};
-ghost use Rattle.fast_template.specs.Tree.{FieldData, operator_uses_bit};
+ghost use Rattle.fast_template.specs.Flat.{field_data};
+ghost use Rattle.fast_template.specs.Tree.{FieldData, operator_uses_bit, uses_bit};
 ghost use Rattle.fast_template.specs.declared.instructions.FieldInstruction.{FieldInstruction};
 ghost use Rattle.fast_template.specs.declared.instructions.Node.{Node};
 ghost use Rattle.fast_dict.specs.Dictionary.{Dictionary};
 ghost use Rattle.fast_dict.specs.Operators.{range_of};
 ghost use Rattle.fast_dict.specs.Slots.{slots_dictionary};
+ghost use Rattle.fast_value.specs.declared.settings.Limits.{Limits};
 ghost use Rattle.fast_decoder.specs.Readers.{Reader};
+ghost use Rattle.fast_decoder.specs.declared.machine.Machine.{Machine};
 ghost use Rattle.fast_decoder.specs.Moving.{Moves};
 ghost use Rattle.fast_decoder.specs.Segments.{first_node};
 ghost use Rattle.fast_decoder.specs.UnitFronts.{IsSent, IsAsciiFirst};
-ghost use Rattle.fast_decoder.specs.Quick.{IsTakenTo};
-ghost use Rattle.fast_decoder.specs.Positions.{set_of, tree_in, state_in, bit_of, GoesOn, IsAtField, IsMapWhole, IsPlaced, IsReady, IsSupplied, IsTurn, meaning, turning};
+ghost use Rattle.fast_decoder.specs.Quick.{IsTakenTo, IsSentItem};
+ghost use Rattle.fast_decoder.specs.Positions.{Set, set_of, tree_in, state_in, bit_of, GoesOn, IsAtField, IsMapWhole, IsPlaced, IsReady, IsSupplied, IsTurn, meaning, turning};
 ghost use Rattle.fast_decoder.specs.TurnsLeft.{Way, HasTurns, HasTurnsBehind, HasTurnsWaiting, turns_begun_at};
 
 use crate::events::Sink;
 use crate::faults::FaultCode;
+use crate::fields::Number;
 use crate::machine::{Machine, Turn, Waiting};
-use crate::short_integers::quick_integer;
+use crate::short_integers::{delta_item, signed_item, unsigned_item};
 use crate::turns::Turns;
-use fast_template::{Opcode, Operator, Sending, Shape, Templates};
+use fast_template::{FieldInstruction, Opcode, Operator, Sending, Shape, Templates};
 use fast_value::{Kind, Limits};
+use fast_wire::short_entity;
 
 /// A unit that was taken, and the turn behind it.
 #[derive(Clone, Copy, Debug)]
@@ -62,6 +68,25 @@ fn operator_of(sending: Sending) -> Operator
         Sending::Copy | Sending::NullableCopy => Operator::Copy,
         Sending::Increment | Sending::NullableIncrement => Operator::Increment,
         Sending::Delta | Sending::NullableDelta => Operator::Delta,
+    }
+}
+
+/// Whether a field that stands so is sent as a delta.
+#[inline(always)]
+fn is_delta(sending: Sending) -> bool
+    ensures delta { result ≡ true → sending_operator sending ≡ Operator.Delta }
+    ensures other { result ≡ false → sending_operator sending ≢ Operator.Delta }
+{
+    match sending {
+        Sending::Delta | Sending::NullableDelta => true,
+        Sending::Plain
+        | Sending::NullablePlain
+        | Sending::Default
+        | Sending::NullableDefault
+        | Sending::Copy
+        | Sending::NullableCopy
+        | Sending::Increment
+        | Sending::NullableIncrement => false,
     }
 }
 
@@ -153,18 +178,46 @@ impl<'t> Machine<'t> {
         }
     }
 
-    /// Takes the unit of the next instruction, a field of integers of this kind that stands in the stream so.
+    /// Behind the entity of the next instruction, a field of integers, whose number or NULL the dictionary has kept: hands a number
+    /// over, and goes past the field.
     #[inline(always)]
-    fn take_sent<S: Sink>(
+    fn sent<S: Sink>(
+        &mut self,
+        number: u32,
+        field: &FieldInstruction,
+        has_bit: bool,
+        item: Option<Number>,
+        bytes: usize,
+        sink: &mut S,
+    ) -> Quick
+        requires bit { has_bit ≡ uses_bit (field_data field.now) }
+        requires left { 0 < length self.old.cursor.left }
+        ensures taken { (set : Set) (l : Limits) (m : Machine) (rest : List ℕ) → IsSentItem set l m self.old number (field_data field.now) rest item bytes
+            → IsTakenTo S.takes S.stops set l (meaning set l m) rest sink.old result.bytes result.turn sink.new self.new }
+        ensures on { result.turn ≢ Ok Turn.Waits }
+        ensures turns { (set : Set) (l : Limits) (m : Machine) (rest : List ℕ) → IsSentItem set l m self.old number (field_data field.now) rest item bytes
+            → (way : Way) (n : ℕ) → HasTurns way set l 1 n m → HasTurnsBehind result.turn way set l (1 + n) self.new }
+    {
+        self.turns = Turns::after(&self.turns);
+        let turn = self.finish_item(number, field, has_bit, item, sink);
+        Quick { bytes, turn }
+    }
+
+    /// Takes the unit of the next instruction, a field of unsigned integers that stands in the stream so.
+    #[inline(always)]
+    fn take_unsigned<S: Sink>(
         &mut self,
         templates: &'t Templates,
         limits: Limits,
         number: u32,
         kind: Kind,
+        top: u64,
         sending: Sending,
         rest: &[u8],
         sink: &mut S,
     ) -> Option<Quick>
+        requires range { unsigned_up_to top ≡ range_of kind }
+        requires unsigned { (n : ℕ) → value_of_integer kind (pos n) ≡ U n }
         requires waits { self.old.waiting ≡ Waiting.Field }
         requires ready { IsReady (set_of templates.now) limits self.old }
         requires none { self.old.entity ≡ [] }
@@ -174,25 +227,85 @@ impl<'t> Machine<'t> {
         requires field { (x : Node) → slice_get (set_of templates.now).nodes number ≡ Some x → (f : FieldInstruction) × (x.shape ≡ Shape.Field f) × IsSentAs f kind sending }
         ensures none { IfNone result ((self.new ≡ self.old) × (sink.new ≡ sink.old)) }
         ensures taken { IfSome result (λ q. IsTakenTo S.takes S.stops (set_of templates.now) limits (meaning (set_of templates.now) limits self.old) rest.now sink.old q.bytes q.turn sink.new self.new) }
+        ensures on { IfSome result (λ q. q.turn ≢ Ok Turn.Waits) }
         ensures turns { (way : Way) (n : ℕ) → HasTurns way (set_of templates.now) limits 1 n self.old → IfSome result (λ q. HasTurnsBehind q.turn way (set_of templates.now) limits (1 + n) self.new) }
     {
         let Shape::Field(field) = &templates.node(number).shape else {
             unreachable!()
         };
-        let (source, bytes) = quick_integer(
-            &mut self.slots,
+        let entity = short_entity(rest)?;
+        let strict = limits.strict;
+        let slots = &mut self.slots;
+        if is_delta(sending) {
+            let item = delta_item(slots, field, kind, nullable(sending), rest, entity, strict)?;
+            return Some(self.sent(number, field, false, item, entity.len, sink));
+        }
+        let operator = operator_of(sending);
+        // Two calls that differ in a constant, which the compiler folds: most fields are mandatory.
+        if nullable(sending) {
+            let item = unsigned_item(
+                slots, field, kind, true, operator, rest, entity, strict, top,
+            )?;
+            return Some(self.sent(number, field, has_bit(sending), item, entity.len, sink));
+        }
+        let item = unsigned_item(
+            slots, field, kind, false, operator, rest, entity, strict, top,
+        )?;
+        Some(self.sent(number, field, has_bit(sending), item, entity.len, sink))
+    }
+
+    /// Takes the unit of the next instruction, a field of signed integers that stands in the stream so.
+    #[inline(always)]
+    fn take_signed<S: Sink>(
+        &mut self,
+        templates: &'t Templates,
+        limits: Limits,
+        number: u32,
+        kind: Kind,
+        low: i128,
+        top: i128,
+        sending: Sending,
+        rest: &[u8],
+        sink: &mut S,
+    ) -> Option<Quick>
+        requires range { signed_between low top ≡ range_of kind }
+        requires signed { (x : ℤ) → value_of_integer kind x ≡ I x }
+        requires waits { self.old.waiting ≡ Waiting.Field }
+        requires ready { IsReady (set_of templates.now) limits self.old }
+        requires none { self.old.entity ≡ [] }
+        requires next { first_node self.old.cursor.left ≡ Some number }
+        requires within { number < length (set_of templates.now).nodes }
+        requires integers { family kind ≡ integers (range_of kind) }
+        requires field { (x : Node) → slice_get (set_of templates.now).nodes number ≡ Some x → (f : FieldInstruction) × (x.shape ≡ Shape.Field f) × IsSentAs f kind sending }
+        ensures none { IfNone result ((self.new ≡ self.old) × (sink.new ≡ sink.old)) }
+        ensures taken { IfSome result (λ q. IsTakenTo S.takes S.stops (set_of templates.now) limits (meaning (set_of templates.now) limits self.old) rest.now sink.old q.bytes q.turn sink.new self.new) }
+        ensures on { IfSome result (λ q. q.turn ≢ Ok Turn.Waits) }
+        ensures turns { (way : Way) (n : ℕ) → HasTurns way (set_of templates.now) limits 1 n self.old → IfSome result (λ q. HasTurnsBehind q.turn way (set_of templates.now) limits (1 + n) self.new) }
+    {
+        let Shape::Field(field) = &templates.node(number).shape else {
+            unreachable!()
+        };
+        let entity = short_entity(rest)?;
+        let strict = limits.strict;
+        let slots = &mut self.slots;
+        if is_delta(sending) {
+            let item = delta_item(slots, field, kind, nullable(sending), rest, entity, strict)?;
+            return Some(self.sent(number, field, false, item, entity.len, sink));
+        }
+        let operator = operator_of(sending);
+        let item = signed_item(
+            slots,
             field,
             kind,
             nullable(sending),
-            operator_of(sending),
+            operator,
             rest,
-            limits.strict,
+            entity,
+            strict,
+            low,
+            top,
         )?;
-        self.turns = Turns::after(&self.turns);
-        let piece = &rest[..bytes];
-        let turn = self.finish_by(number, field, has_bit(sending), source, piece, sink);
-        let turn = self.wait_if(templates, limits, turn, sink);
-        Some(Quick { bytes, turn })
+        Some(self.sent(number, field, has_bit(sending), item, entity.len, sink))
     }
 
     /// Takes the unit of the next instruction, if it is a field of integers.
@@ -208,6 +321,7 @@ impl<'t> Machine<'t> {
         requires ready { IsReady (set_of templates.now) limits self.old }
         ensures none { IfNone result ((self.new ≡ self.old) × (sink.new ≡ sink.old)) }
         ensures taken { IfSome result (λ q. IsTakenTo S.takes S.stops (set_of templates.now) limits (meaning (set_of templates.now) limits self.old) rest.now sink.old q.bytes q.turn sink.new self.new) }
+        ensures on { IfSome result (λ q. q.turn ≢ Ok Turn.Waits) }
         ensures turns { (way : Way) (n : ℕ) → HasTurns way (set_of templates.now) limits 1 n self.old → IfSome result (λ q. HasTurnsBehind q.turn way (set_of templates.now) limits (1 + n) self.new) }
     {
         if !self.entity.is_empty() {
@@ -216,18 +330,85 @@ impl<'t> Machine<'t> {
         let number = self.cursor.next()?;
         match templates.opcode(number) {
             Opcode::UInt32(sending) => {
-                self.take_sent(templates, limits, number, Kind::UInt32, sending, rest, sink)
+                self.take_unsigned(
+                    templates,
+                    limits,
+                    number,
+                    Kind::UInt32,
+                    4_294_967_295,
+                    sending,
+                    rest,
+                    sink,
+                )
             }
             Opcode::Int32(sending) => {
-                self.take_sent(templates, limits, number, Kind::Int32, sending, rest, sink)
+                self.take_signed(
+                    templates,
+                    limits,
+                    number,
+                    Kind::Int32,
+                    -2_147_483_648,
+                    2_147_483_647,
+                    sending,
+                    rest,
+                    sink,
+                )
             }
             Opcode::UInt64(sending) => {
-                self.take_sent(templates, limits, number, Kind::UInt64, sending, rest, sink)
+                self.take_unsigned(
+                    templates,
+                    limits,
+                    number,
+                    Kind::UInt64,
+                    18_446_744_073_709_551_615,
+                    sending,
+                    rest,
+                    sink,
+                )
             }
             Opcode::Int64(sending) => {
-                self.take_sent(templates, limits, number, Kind::Int64, sending, rest, sink)
+                self.take_signed(
+                    templates,
+                    limits,
+                    number,
+                    Kind::Int64,
+                    -9_223_372_036_854_775_808,
+                    9_223_372_036_854_775_807,
+                    sending,
+                    rest,
+                    sink,
+                )
             }
             Opcode::Other => None,
+        }
+    }
+
+    /// Takes the unit that the machine waits for, if it is one for the quick way, without a turn behind it that waits.
+    #[inline]
+    fn take_whole<S: Sink>(
+        &mut self,
+        templates: &'t Templates,
+        limits: Limits,
+        rest: &[u8],
+        sink: &mut S,
+    ) -> Option<Quick>
+        requires ready { IsReady (set_of templates.now) limits self.old }
+        ensures none { IfNone result ((self.new ≡ self.old) × (sink.new ≡ sink.old)) }
+        ensures taken { IfSome result (λ q. IsTakenTo S.takes S.stops (set_of templates.now) limits (meaning (set_of templates.now) limits self.old) rest.now sink.old q.bytes q.turn sink.new self.new) }
+        ensures on { IfSome result (λ q. q.turn ≢ Ok Turn.Waits) }
+        ensures turns { (way : Way) (n : ℕ) → HasTurnsWaiting way (set_of templates.now) limits n self.old
+            → IfSome result (λ q. HasTurnsBehind q.turn way (set_of templates.now) limits (1 + n + turns_begun_at self.old.waiting self.old.cursor.map way (tree_in (set_of templates.now)) limits) self.new) }
+    {
+        if let Waiting::Field = self.waiting {
+            return self.take_integer(templates, limits, rest, sink);
+        }
+        match self.waiting {
+            Waiting::Mantissa(exponent) => {
+                self.take_short_mantissa(templates, limits, exponent, rest, sink)
+            }
+            Waiting::Map => self.begin_quickly(templates, limits, rest, sink),
+            Waiting::SegmentMap(_) => self.open_quickly(templates, limits, rest, sink),
+            _ => None,
         }
     }
 
@@ -246,14 +427,11 @@ impl<'t> Machine<'t> {
         ensures turns { (way : Way) (n : ℕ) → HasTurnsWaiting way (set_of templates.now) limits n self.old
             → IfSome result (λ q. HasTurnsBehind q.turn way (set_of templates.now) limits (1 + n + turns_begun_at self.old.waiting self.old.cursor.map way (tree_in (set_of templates.now)) limits) self.new) }
     {
-        match self.waiting {
-            Waiting::Field => self.take_integer(templates, limits, rest, sink),
-            Waiting::Mantissa(exponent) => {
-                self.take_short_mantissa(templates, limits, exponent, rest, sink)
-            }
-            Waiting::Map => self.begin_quickly(templates, limits, rest, sink),
-            Waiting::SegmentMap(_) => self.open_quickly(templates, limits, rest, sink),
-            _ => None,
-        }
+        let quick = self.take_whole(templates, limits, rest, sink)?;
+        let turn = self.wait_if(templates, limits, quick.turn, sink);
+        Some(Quick {
+            bytes: quick.bytes,
+            turn,
+        })
     }
 }

@@ -54,7 +54,6 @@ pub fn take_only(
 }
 
 /// The first unit of a field that begins with an integer.
-#[inline(always)]
 pub fn take_first(
     slots: &mut Slots,
     pending: &mut Entity,

@@ -20,6 +20,7 @@ ghost use Rattle.fast_decoder.specs.Handing.{Hands};
 ghost use Rattle.fast_decoder.specs.Messages.{signed_of, within_limits};
 ghost use Rattle.fast_decoder.specs.Moving.{Moves};
 ghost use Rattle.fast_decoder.specs.Settling.{Serves, value_at};
+ghost use Rattle.fast_decoder.specs.Deciding.{number_data};
 ghost use Rattle.fast_decoder.specs.TurnsLeft.{Way, HasTurns, HasTurnsFrom, HasTurnsBehind, HasTurnsAfter};
 ghost use Rattle.fast_decoder.specs.UnitFronts.{IsAsciiFirst};
 ghost use Rattle.fast_decoder.specs.Passing.{IsPast, value_then, exponent_then, decimal_then, length_then, elements_from};
@@ -28,7 +29,7 @@ ghost use Rattle.fast_decoder.specs.Positions.{Set, set_of, body_in, frames_in, 
 use crate::cursor::Elements;
 use crate::events::{Event, Sink};
 use crate::faults::FaultCode;
-use crate::fields::{needs_bytes, unsent, value_at};
+use crate::fields::{Number, needs_bytes, unsent, value_at};
 use crate::machine::{Machine, Turn, Waiting};
 use crate::source::Source;
 use crate::turns::Turns;
@@ -117,6 +118,43 @@ impl<'t> Machine<'t> {
         let value = value_at(&self.slots, field, self.text.as_slice(), piece, source);
         let turn = match value {
             Some(value) => {
+                hand(sink, Event::Field { node, value })?;
+                Turn::Handed
+            }
+            None => Turn::Silent,
+        };
+        if has_bit {
+            self.cursor.use_bit();
+        }
+        self.cursor.advance();
+        Ok(turn)
+    }
+
+    /// Goes past the next instruction, a field of integers whose number is at hand, or NULL, and hands the number over. The field is
+    /// there for what the clauses say.
+    #[inline(always)]
+    pub fn finish_item<S: Sink>(
+        &mut self,
+        node: u32,
+        field: &FieldInstruction,
+        has_bit: bool,
+        item: Option<Number>,
+        sink: &mut S,
+    ) -> Result<Turn, FaultCode>
+        requires bit { has_bit ≡ uses_bit (field_data field.now) }
+        requires left { 0 < length self.old.cursor.left }
+        ensures moves { (set : Set) (l : Bounds) (strict : Bool) (waits : Reader Dictionary) → Moves S.takes S.stops
+            (reader_of strict (value_then set l node (option_map number_data item) (field_data field.now) (slots_dictionary self.old.slots) self.old.counted self.old.cursor))
+            sink.old result sink.new (reader_of strict (going_on set l (slots_dictionary self.new.slots) self.new.counted self.new.cursor)) waits }
+        ensures past { OnOk result (IsPast self.old.cursor self.new.cursor) }
+        ensures same { self.new ≡ record self.old { cursor = self.new.cursor } }
+        ensures depth { self.new.cursor.depth ≡ self.old.cursor.depth }
+        ensures on { result ≢ Ok Turn.Waits }
+    {
+        let _ = field;
+        let turn = match item {
+            Some(number) => {
+                let value = number.as_scalar();
                 hand(sink, Event::Field { node, value })?;
                 Turn::Handed
             }

@@ -603,7 +603,6 @@ impl<'t> Machine<'t> {
     }
 
     /// Takes bytes of a text or of a later unit of a field.
-    #[inline(always)]
     fn take_scalar(
         &mut self,
         templates: &'t Templates,
@@ -823,6 +822,7 @@ impl<'t> Machine<'t> {
     }
 
     /// Takes the units of a piece, up to its end, a fault, or where the sink stops.
+    #[inline(never)]
     pub fn take_all<S: Sink>(
         &mut self,
         templates: &'t Templates,

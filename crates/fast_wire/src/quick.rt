@@ -26,7 +26,7 @@ pub fn quick_unsigned(bytes: &[u8], entity: ShortEntity, strict: bool, top: u64)
 }
 
 /// The first entity as a nullable integer from 0 to `top`: `None` in the answer is NULL.
-#[inline(always)]
+#[inline]
 pub fn quick_nullable_unsigned(
     bytes: &[u8],
     entity: ShortEntity,

@@ -1,5 +1,5 @@
 -- A map of one byte, the first event of the message, and the turn behind it.
-use Rattle.std.proofs.Common.{◌≡◌, ◌<◌, ◌≤◌, ◌+◌, ap, ◌∙◌, arith, rules, get_or}
+use Rattle.std.proofs.Common.{◌≡◌, ◌<◌, ◌≤◌, ap, ◌∙◌, arith, rules, get_or}
 use Rattle.std.proofs.lemmas.Option.{slice_get_within}
 use Rattle.fast_value.specs.Limits.{bounds}
 use Rattle.fast_template.specs.Tree.{identifier}
@@ -10,12 +10,11 @@ use Rattle.fast_decoder.specs.Continuations.{message_of_then}
 use Rattle.fast_decoder.specs.GrammarReaders.{reader_of}
 use Rattle.fast_decoder.specs.Passing.{state_past}
 use Rattle.fast_decoder.specs.Readers.{Reader, Done}
-use Rattle.fast_decoder.specs.Positions.{set_of, tree_in, map_reader, meaning, meaning_at}
-use Rattle.fast_decoder.specs.TurnsLeft.{turns_begun}
+use Rattle.fast_decoder.specs.Positions.{set_of, map_reader, meaning, meaning_at}
 use Rattle.fast_decoder.specs.declared.machine.Waiting.{Waiting}
 use Rattle.fast_decoder.proofs.FieldTurns.{entries_here}
 use Rattle.fast_decoder.proofs.Quick.{begun_to}
-use Rattle.fast_decoder.proofs.StartMaps.{first_clear, first_turn, map_behind, message_short}
+use Rattle.fast_decoder.proofs.StartMaps.{first_clear, message_short}
 use Rattle.fast_decoder.proofs.machine.Machine.begin_quickly.Goals as goal
 
 pub latest_again-requires : goal.latest_again-requires
@@ -27,14 +26,6 @@ latest_again-requires g c =
     let size = entries_here set l m c.requires.ready.supplied in
     let some = c.requires.ready.supplied.some_entry in
     record { some = omega (arith, size, some) }
-
-pub start_message-turn-requires-clause-behind : goal.start_message-turn-requires-clause-behind
-start_message-turn-requires-clause-behind g c =
-    let set = set_of c.args.templates.now in
-    let l = c.args.limits in
-    let m = c.args.self.now in
-    let rest = c.args.rest.now in
-    map_behind set l m c.take_byte.new.self c.after-self.result rest c.requires.waits c.requires.ready (c.take_byte.ensures.none c.if-not-take_byte.false) (c.take_byte.ensures.map c.if-not-take_byte.false) c.take_byte.ensures.same
 
 pub start_message-turn-requires-clause-number : goal.start_message-turn-requires-clause-number
 start_message-turn-requires-clause-number g c =
@@ -55,16 +46,6 @@ returns-clause-taken g c =
     let from : meaning set l m ≡ Done d = ap (λ (w : Waiting). meaning_at w set l m) c.requires.waits ∙ ap (map_reader set l d) (c.take_byte.ensures.none c.if-not-take_byte.false) in
     let low : 128 ≤ get_or rest 0 0 = search rules in
     let high : get_or rest 0 0 < 192 = search rules in
-    begun_to g.S.Sink.takes g.S.Sink.stops set l (meaning set l m) d rest 1 r c.args.sink.now c.wait_if-turn.result c.wait_if-turn.new.sink c.wait_if-turn.new.self from taken.0 taken.1
+    begun_to g.S.Sink.takes g.S.Sink.stops set l (meaning set l m) d rest 1 r c.args.sink.now c.start_message-turn.result c.start_message-turn.new.sink c.start_message-turn.new.self from taken.0 taken.1
     (message_short set l m c.take_byte.new.self c.after-self.result rest c.requires.waits c.requires.ready (c.take_byte.ensures.none c.if-not-take_byte.false) (c.take_byte.ensures.map c.if-not-take_byte.false) c.take_byte.ensures.same id i t held found own first (first_clear rest low high))
-    (c.wait_if-turn.ensures.turn r c.args.sink.now (c.start_message-turn.ensures.turn t found).moves)
-
-pub returns-clause-turns : goal.returns-clause-turns
-returns-clause-turns g c way n h =
-    let set = set_of c.args.templates.now in
-    let l = c.args.limits in
-    let m = c.args.self.now in
-    let rest = c.args.rest.now in
-    let all = 1 + n + turns_begun m.cursor.map way (tree_in set) l in
-    c.wait_if-turn.ensures.turns way all (c.start_message-turn.ensures.turns way all
-    (first_turn way set l m.cursor.map n m.turns.count c.after-self.result.count (c.take_byte.ensures.none c.if-not-take_byte.false) c.after-self.ensures h))
+    (c.start_message-turn.ensures.turn t found)

@@ -6,30 +6,30 @@ use Rattle.fast_decoder.proofs.Quick.{can_take_field}
 use Rattle.fast_decoder.proofs.ScalarNodes.{first_below}
 use Rattle.fast_decoder.proofs.machine.Machine.take_integer.Goals as goal
 
-pub take_sent-requires-clause-within : goal.take_sent-requires-clause-within
-take_sent-requires-clause-within g c =
+pub take_unsigned-requires-clause-within : goal.take_unsigned-requires-clause-within
+take_unsigned-requires-clause-within g c =
     first_below _ c.args.self.now.cursor.left c.in_ok-number.number (can_take_field (set_of c.args.templates.now) c.args.limits c.args.self.now c.requires.waits c.requires.ready).0.below (sym c.next.ensures ∙ c.in_ok-number.was)
 
-pub take_sent-requires-clause-field : goal.take_sent-requires-clause-field
-take_sent-requires-clause-field g c x found = uint32_field x.shape c.in-UInt32.sending (sym (c.opcode.ensures x found) ∙ c.in-UInt32.is)
+pub take_unsigned-requires-clause-field : goal.take_unsigned-requires-clause-field
+take_unsigned-requires-clause-field g c x found = uint32_field x.shape c.in-UInt32.sending (sym (c.opcode.ensures x found) ∙ c.in-UInt32.is)
 
-pub take_sent-requires-in-Int32-clause-within : goal.take_sent-requires-in-Int32-clause-within
-take_sent-requires-in-Int32-clause-within g c =
+pub take_signed-requires-clause-within : goal.take_signed-requires-clause-within
+take_signed-requires-clause-within g c =
     first_below _ c.args.self.now.cursor.left c.in_ok-number.number (can_take_field (set_of c.args.templates.now) c.args.limits c.args.self.now c.requires.waits c.requires.ready).0.below (sym c.next.ensures ∙ c.in_ok-number.was)
 
-pub take_sent-requires-in-Int32-clause-field : goal.take_sent-requires-in-Int32-clause-field
-take_sent-requires-in-Int32-clause-field g c x found = int32_field x.shape c.in-Int32.sending (sym (c.opcode.ensures x found) ∙ c.in-Int32.is)
+pub take_signed-requires-clause-field : goal.take_signed-requires-clause-field
+take_signed-requires-clause-field g c x found = int32_field x.shape c.in-Int32.sending (sym (c.opcode.ensures x found) ∙ c.in-Int32.is)
 
-pub take_sent-requires-in-UInt64-clause-within : goal.take_sent-requires-in-UInt64-clause-within
-take_sent-requires-in-UInt64-clause-within g c =
+pub take_unsigned-requires-in-UInt64-clause-within : goal.take_unsigned-requires-in-UInt64-clause-within
+take_unsigned-requires-in-UInt64-clause-within g c =
     first_below _ c.args.self.now.cursor.left c.in_ok-number.number (can_take_field (set_of c.args.templates.now) c.args.limits c.args.self.now c.requires.waits c.requires.ready).0.below (sym c.next.ensures ∙ c.in_ok-number.was)
 
-pub take_sent-requires-in-UInt64-clause-field : goal.take_sent-requires-in-UInt64-clause-field
-take_sent-requires-in-UInt64-clause-field g c x found = uint64_field x.shape c.in-UInt64.sending (sym (c.opcode.ensures x found) ∙ c.in-UInt64.is)
+pub take_unsigned-requires-in-UInt64-clause-field : goal.take_unsigned-requires-in-UInt64-clause-field
+take_unsigned-requires-in-UInt64-clause-field g c x found = uint64_field x.shape c.in-UInt64.sending (sym (c.opcode.ensures x found) ∙ c.in-UInt64.is)
 
-pub take_sent-requires-in-Int64-clause-within : goal.take_sent-requires-in-Int64-clause-within
-take_sent-requires-in-Int64-clause-within g c =
+pub take_signed-requires-in-Int64-clause-within : goal.take_signed-requires-in-Int64-clause-within
+take_signed-requires-in-Int64-clause-within g c =
     first_below _ c.args.self.now.cursor.left c.in_ok-number.number (can_take_field (set_of c.args.templates.now) c.args.limits c.args.self.now c.requires.waits c.requires.ready).0.below (sym c.next.ensures ∙ c.in_ok-number.was)
 
-pub take_sent-requires-in-Int64-clause-field : goal.take_sent-requires-in-Int64-clause-field
-take_sent-requires-in-Int64-clause-field g c x found = int64_field x.shape c.in-Int64.sending (sym (c.opcode.ensures x found) ∙ c.in-Int64.is)
+pub take_signed-requires-in-Int64-clause-field : goal.take_signed-requires-in-Int64-clause-field
+take_signed-requires-in-Int64-clause-field g c x found = int64_field x.shape c.in-Int64.sending (sym (c.opcode.ensures x found) ∙ c.in-Int64.is)

@@ -1,6 +1,7 @@
 -- A whole mantissa, and the turn behind it.
 use Rattle.std.proofs.Common.{[], sym, ◌∙◌, subst, ℤ, ◌+◌}
 use mir.Syntax.{w32}
+use mir.Val.{to_z, of_z}
 use Rattle.std.proofs.lemmas.Int.{to_z-of_z}
 use Rattle.fast_value.specs.Limits.{bounds}
 use Rattle.fast_template.specs.Flat.{field_data}
@@ -11,21 +12,23 @@ use Rattle.fast_decoder.specs.Continuations.{handed_then}
 use Rattle.fast_decoder.specs.Grammar.{Grammar}
 use Rattle.fast_decoder.specs.GrammarReaders.{reader_of}
 use Rattle.fast_decoder.specs.Settling.{value_at}
+use Rattle.fast_decoder.specs.Deciding.{source_of}
+use Rattle.fast_decoder.specs.declared.source.Source.{Source}
 use Rattle.fast_decoder.specs.Passing.{decimal_then}
 use Rattle.fast_decoder.specs.Messages.{Found, decimal_with}
 use Rattle.fast_decoder.specs.Positions.{set_of, meaning, CanTurn, IsAtParts, IsTurn}
 use Rattle.fast_decoder.proofs.Carrying.{supplied-turns}
 use Rattle.fast_decoder.proofs.FieldTurns.{serves_here, behind, mantissa_from, mantissa_next, serves_known, entry_here}
 use Rattle.fast_decoder.proofs.Heads.{parts_head}
-use Rattle.fast_decoder.proofs.ScalarSteps.{goes_on_moved}
+use Rattle.fast_decoder.proofs.ScalarSteps.{supplied_moved, goes_on_moved}
 use Rattle.fast_decoder.proofs.ScalarNodes.{served_node}
 use Rattle.fast_decoder.proofs.PartTakes.{integer_whole_to, mantissa_sees, mantissa_sent, meaning_second, second_turn, part_supplied}
 use Rattle.fast_decoder.proofs.NextUnits.{none_in_hand}
 use Rattle.fast_decoder.proofs.TurnCounts.{finished, one_unit}
 use Rattle.fast_decoder.proofs.machine.Machine.take_short_mantissa.Goals as goal
 
-pub quick_mantissa-requires-clause-serves : goal.quick_mantissa-requires-clause-serves
-quick_mantissa-requires-clause-serves g c =
+pub mantissa_item-requires-clause-serves : goal.mantissa_item-requires-clause-serves
+mantissa_item-requires-clause-serves g c =
     let set = set_of c.args.templates.now in
     let l = c.args.limits in
     let m = c.args.self.now in
@@ -38,21 +41,9 @@ finish_decimal-turn-requires-clause-entry g c =
     let l = c.args.limits in
     let m = c.args.self.now in
     let f = field_data c.in-Decimal.mantissa in
-    let slots = c.quick_mantissa.new.slots in
+    let slots = c.mantissa_item.new.slots in
     let served = served_node set l m c.in_ok-number.number c.node.result.now (Decimal c.in-Decimal.exponent c.in-Decimal.mantissa) c.requires.ready.supplied c.node.ensures.found c.in-Decimal.is in
-    entry_here set l (record m { slots = slots }) f (part_supplied set l m slots m.entity c.requires.ready c.quick_mantissa.ensures.terms) (serves_known set m slots f c.quick_mantissa.ensures.terms served.1)
-
-pub wait_if-turn-requires-clause-goes_on : goal.wait_if-turn-requires-clause-goes_on
-wait_if-turn-requires-clause-goes_on g c =
-    let set = set_of c.args.templates.now in
-    let l = c.args.limits in
-    let m = c.args.self.now in
-    let slots = c.quick_mantissa.new.slots in
-    let a = record m { slots = slots } in
-    let can : CanTurn set l a = second_turn set l m slots m.entity c.requires.ready c.quick_mantissa.ensures.terms c.args.exponent c.requires.waits (none_in_hand m.entity c.if-not-is_empty.ensures) in
-    goes_on_moved set l (record a { turns = c.after-self.result }) c.finish_decimal-turn.new.self c.finish_decimal-turn.result
-    (record { supplied = supplied-turns set l a c.after-self.result can.supplied; placed = can.placed; mapped = can.mapped; unused = can.unused })
-    c.finish_decimal-turn.ensures.same c.finish_decimal-turn.ensures.depth c.finish_decimal-turn.ensures.past c.finish_decimal-turn.ensures.on
+    entry_here set l (record m { slots = slots }) f (part_supplied set l m slots m.entity c.requires.ready c.mantissa_item.ensures.terms) (serves_known set m slots f c.mantissa_item.ensures.terms served.1)
 
 pub returns-clause-taken : goal.returns-clause-taken
 returns-clause-taken g c =
@@ -64,24 +55,37 @@ returns-clause-taken g c =
     let f = field_data c.in-Decimal.mantissa in
     let n = c.in_ok-number.number in
     let x = c.args.exponent in
-    let slots = c.quick_mantissa.new.slots in
+    let slots = c.mantissa_item.new.slots in
     let at : IsAtParts set m.cursor n (field_data c.in-Decimal.exponent) f = parts_head c.args.templates.now m.cursor n c.node.result.now (sym c.next.ensures ∙ c.in_ok-number.was) c.node.ensures.found c.in-Decimal.exponent c.in-Decimal.mantissa c.in-Decimal.is in
     let sent = mantissa_sent set l m n (field_data c.in-Decimal.exponent) f x c.requires.ready c.requires.waits at in
     let k : Found → Grammar Dictionary = λ r. handed_then n (behind set l m) (decimal_with x r.0) r.1 in
+    let a = record m { slots = slots } in
+    let can : CanTurn set l a = second_turn set l m slots m.entity c.requires.ready c.mantissa_item.ensures.terms x c.requires.waits (none_in_hand m.entity c.if-not-is_empty.ensures) in
+    let from : CanTurn set l (record a { turns = c.after-self.result }) = record { supplied = supplied-turns set l a c.after-self.result can.supplied; placed = can.placed; mapped = can.mapped; unused = can.unused } in
+    let b = c.finish_decimal-turn.new.self in
+    let turn = c.finish_decimal-turn.result in
+    let ends = c.finish_decimal-turn.ensures in
+    let source = source_of c.in_ok-item.item in
+    let moved : IsTurn takes stops set l (reader_of l.strict (decimal_then set (bounds l) n (to_z w32 (of_z w32 x)) (value_at c.source_of.result f (slots_dictionary slots) m.text.text []) f (slots_dictionary slots) m.counted m.cursor)) c.args.sink.now turn c.finish_decimal-turn.new.sink b =
+    record {
+      moves = ends.moves set (bounds l) l.strict (meaning set l b);
+      supplied = supplied_moved set l (record a { turns = c.after-self.result }) b from.supplied ends.same ends.depth;
+      goes_on = goes_on_moved set l (record a { turns = c.after-self.result }) b turn from ends.same ends.depth ends.past ends.on;
+    } in
     integer_whole_to takes stops set l m f k (mantissa_from set l m x) c.args.rest.now sent (mantissa_next set l m n (field_data c.in-Decimal.exponent) f x at) (meaning_second set l m x c.requires.waits)
-    (none_in_hand m.entity c.if-not-is_empty.ensures) (mantissa_sees n x (behind set l m)) slots m.text.text c.in_ok-source.source c.in_ok-source.bytes (c.in_ok-source.ensures.unit (bounds l) m.text.text)
-    c.args.sink.now c.wait_if-turn.result c.wait_if-turn.new.sink c.wait_if-turn.new.self
-    (subst (λ (y : ℤ). IsTurn takes stops set l (reader_of l.strict (decimal_then set (bounds l) n y (value_at c.in_ok-source.source f (slots_dictionary slots) m.text.text []) f (slots_dictionary slots) m.counted m.cursor)) c.args.sink.now c.wait_if-turn.result c.wait_if-turn.new.sink c.wait_if-turn.new.self)
+    (none_in_hand m.entity c.if-not-is_empty.ensures) (mantissa_sees n x (behind set l m)) slots m.text.text source c.in_ok-entity.entity.len (c.in_ok-item.ensures.unit (bounds l) m.text.text)
+    c.args.sink.now turn c.finish_decimal-turn.new.sink b
+    (subst (λ (y : ℤ). IsTurn takes stops set l (reader_of l.strict (decimal_then set (bounds l) n y (value_at source f (slots_dictionary slots) m.text.text []) f (slots_dictionary slots) m.counted m.cursor)) c.args.sink.now turn c.finish_decimal-turn.new.sink b)
     (to_z-of_z w32 x c.ranges.exponent)
-    (c.wait_if-turn.ensures.turn _ c.args.sink.now (c.finish_decimal-turn.ensures.moves set (bounds l) l.strict (meaning set l c.finish_decimal-turn.new.self))))
+    (subst (λ (y : Source). IsTurn takes stops set l (reader_of l.strict (decimal_then set (bounds l) n (to_z w32 (of_z w32 x)) (value_at y f (slots_dictionary slots) m.text.text []) f (slots_dictionary slots) m.counted m.cursor)) c.args.sink.now turn c.finish_decimal-turn.new.sink b)
+    c.source_of.ensures moved))
 
 pub returns-clause-turns : goal.returns-clause-turns
 returns-clause-turns g c way n h =
     let set = set_of c.args.templates.now in
     let l = c.args.limits in
     let m = c.args.self.now in
-    let a = record m { slots = c.quick_mantissa.new.slots; turns = c.after-self.result } in
+    let a = record m { slots = c.mantissa_item.new.slots; turns = c.after-self.result } in
     let at : IsAtParts set m.cursor c.in_ok-number.number (field_data c.in-Decimal.exponent) (field_data c.in-Decimal.mantissa) = parts_head c.args.templates.now m.cursor c.in_ok-number.number c.node.result.now (sym c.next.ensures ∙ c.in_ok-number.was) c.node.ensures.found c.in-Decimal.exponent c.in-Decimal.mantissa c.in-Decimal.is in
-    c.wait_if-turn.ensures.turns way (1 + n)
-    (finished way set l (1 + n) a c.finish_decimal-turn.new.self _ c.finish_decimal-turn.result at.3 c.finish_decimal-turn.ensures.same c.finish_decimal-turn.ensures.past c.finish_decimal-turn.ensures.on
-    (one_unit way set l 1 n m.turns.count a.turns.count m.counted m.cursor c.after-self.ensures h))
+    finished way set l (1 + n) a c.finish_decimal-turn.new.self _ c.finish_decimal-turn.result at.3 c.finish_decimal-turn.ensures.same c.finish_decimal-turn.ensures.past c.finish_decimal-turn.ensures.on
+    (one_unit way set l 1 n m.turns.count a.turns.count m.counted m.cursor c.after-self.ensures h)

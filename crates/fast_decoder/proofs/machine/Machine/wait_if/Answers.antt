@@ -4,7 +4,6 @@ use Rattle.std.specs.Prelude.{Result, Ok}
 use Rattle.fast_decoder.specs.declared.faults.FaultCode.{FaultCode}
 use Rattle.fast_decoder.specs.declared.machine.Turn.{Turn}
 use Rattle.fast_decoder.specs.declared.machine.Machine.{Machine}
-use Rattle.fast_decoder.specs.declared.machine.Turn.TheVariants as Turn
 use Rattle.fast_decoder.specs.declared.machine.Waiting.TheVariants as Waiting
 use Rattle.fast_decoder.specs.Moving.{Moves}
 use Rattle.fast_decoder.specs.Positions.{set_of, CanTurn, GoesOn, IsTurn, turning, meaning}
