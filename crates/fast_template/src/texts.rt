@@ -46,23 +46,3 @@ impl Templates {
         false
     }
 }
-
-#[cfg(test)]
-mod tests {
-    use super::*;
-    use std::test::Fail;
-
-    #[test]
-    fn entries_of_texts_hold_texts(rt: HostRuntime) -> Result<(), Fail> {
-        let text = r#"
-[[template]]
-name = "A"
-fields = [{kind="uInt32", name="x", op="copy"}, {kind="ascii", name="y", op="copy"}]
-"#;
-        let set = Templates::read(rt.alloc(), text)?;
-        for (entry, is_text) in [(0, false), (1, false), (2, true), (3, false)] {
-            assert_eq!(rt; set.holds_text(entry), is_text);
-        }
-        Ok(())
-    }
-}

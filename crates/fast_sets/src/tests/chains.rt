@@ -1,0 +1,136 @@
+//! References: circles, chains that are too long or too deep, and too many nodes.
+
+use super::fault_of;
+use fast_template::StaticCode;
+use std::alloc::{AllocError, Global};
+
+/// A template for each word: its first letter is the name, the others are the names that it refers to.
+fn references(alloc: Global, words: &[&str]) -> Result<String, AllocError> {
+    let mut text = String::new(alloc);
+    for word in words {
+        for (k, letter) in word.chars().enumerate() {
+            let part = match k {
+                0 => format!(in alloc;
+                    "[[template]]\nname='{letter}'\nfields=[{{kind='uInt32', name='x'}}"
+                )?,
+                _ => format!(in alloc; ", {{kind='ref', name='{letter}'}}")?,
+            };
+            text.push_str(part.as_str())?;
+        }
+        text.push_str("]\n")?;
+    }
+    Ok(text)
+}
+
+/// Templates of one letter and a number, of which the first has a field and each other refers so many times to the
+/// one before, all of them within these brackets.
+fn chain(
+    alloc: Global,
+    letter: &str,
+    count: u32,
+    times: u32,
+    (open, close): (&str, &str),
+) -> Result<String, AllocError> {
+    let mut text = format!(in alloc;
+        "[[template]]\nname='{letter}0'\nfields=[{open}{{kind='uInt32', name='x'}}{close}]\n"
+    )?;
+    for k in 1..count {
+        let head = format!(in alloc; "[[template]]\nname='{letter}{k}'\nfields=[")?;
+        text.push_str(head.as_str())?;
+        let before = k - 1;
+        let field = format!(in alloc; "{open}{{kind='ref', name='{letter}{before}'}}{close}, ")?;
+        for _ in 0..times {
+            text.push_str(field.as_str())?;
+        }
+        text.push_str("]\n")?;
+    }
+    Ok(text)
+}
+
+const PLAIN: (&str, &str) = ("", "");
+
+const GROUPS: (&str, &str) = ("{kind='group', name='g', fields=[", "]}");
+
+const SEQUENCES: (&str, &str) = ("{kind='sequence', name='s', fields=[", "]}");
+
+#[test]
+fn cycles_of_references(rt: HostRuntime) {
+    let cases: [(&[&str], Option<u32>); 9] = [
+        (&["AA"], Some(0)),
+        (&["A", "BA", "CBC"], Some(2)),
+        (&["AB", "BA"], Some(0)),
+        (&["AB", "BB"], Some(1)),
+        (&["AC", "BC", "CB"], Some(1)),
+        (&["AD", "B", "CAB", "DE", "EBD"], Some(3)),
+        (&["ADC", "BD", "CB", "DC"], Some(1)),
+        (&["AE", "BEA", "CB", "DC", "ECD"], Some(0)),
+        (&["ABBC", "BC", "C"], None),
+    ];
+    for (words, template) in cases {
+        let text = references(rt.alloc(), words).expect(&rt, "memory");
+        let want = template.map(|k| (StaticCode::C3, Some(k)));
+        assert_eq!(rt; fault_of(rt.alloc(), text.as_str()), want, "{text}");
+    }
+}
+
+#[test]
+fn references_in_groups_and_sequences(rt: HostRuntime) {
+    for (open, close) in [GROUPS, SEQUENCES] {
+        let text = format!(in rt.alloc();
+            "[[template]]\nname='A'\nfields=[{open}{open}{{kind='ref', name='A'}}{close}{close}]"
+        ).expect(&rt, "memory");
+        let want = Some((StaticCode::C3, Some(0)));
+        assert_eq!(rt; fault_of(rt.alloc(), text.as_str()), want);
+    }
+}
+
+#[test]
+fn the_longest_chain(rt: HostRuntime) {
+    for (count, want) in [(65, None), (66, Some((StaticCode::C4, Some(65))))] {
+        let text = chain(rt.alloc(), "B", count, 1, PLAIN).expect(&rt, "memory");
+        assert_eq!(rt; fault_of(rt.alloc(), text.as_str()), want);
+    }
+}
+
+#[test]
+fn the_deepest_nesting(rt: HostRuntime) {
+    for brackets in [GROUPS, SEQUENCES] {
+        for (count, want) in [(64, None), (65, Some((StaticCode::C4, Some(65))))] {
+            let mut text = references(rt.alloc(), &["A"]).expect(&rt, "memory");
+            let chain = chain(rt.alloc(), "G", count, 1, brackets).expect(&rt, "memory");
+            text.push_str(chain.as_str()).expect(&rt, "memory");
+            assert_eq!(rt; fault_of(rt.alloc(), text.as_str()), want);
+        }
+    }
+}
+
+#[test]
+fn the_most_nodes(rt: HostRuntime) {
+    let doubled = chain(rt.alloc(), "A", 41, 2, PLAIN).expect(&rt, "memory");
+    let want = Some((StaticCode::C6, Some(16)));
+    assert_eq!(rt; fault_of(rt.alloc(), doubled.as_str()), want);
+    // 65,535 nodes, and two more.
+    let mut text = chain(rt.alloc(), "A", 16, 2, PLAIN).expect(&rt, "memory");
+    for (name, want) in [("Y", None), ("Z", Some((StaticCode::C6, Some(17))))] {
+        let one = references(rt.alloc(), &[name]).expect(&rt, "memory");
+        text.push_str(one.as_str()).expect(&rt, "memory");
+        assert_eq!(rt; fault_of(rt.alloc(), text.as_str()), want);
+    }
+}
+
+#[test]
+fn cycles_before_chains_before_nodes(rt: HostRuntime) {
+    let cycle = references(rt.alloc(), &["CC"]).expect(&rt, "memory");
+    let long = chain(rt.alloc(), "B", 66, 1, PLAIN).expect(&rt, "memory");
+    let many = chain(rt.alloc(), "A", 17, 2, PLAIN).expect(&rt, "memory");
+    let cases = [
+        (&long, &cycle, (StaticCode::C3, Some(66))),
+        (&many, &cycle, (StaticCode::C3, Some(17))),
+        (&many, &long, (StaticCode::C4, Some(82))),
+        (&long, &many, (StaticCode::C4, Some(65))),
+    ];
+    for (first, second, want) in cases {
+        let text = format!(in rt.alloc(); "{first}{second}").expect(&rt, "memory");
+        assert_eq!(rt; fault_of(rt.alloc(), text.as_str()), Some(want));
+    }
+}

@@ -1,0 +1,278 @@
+//! Sets that are read: their numbers, entries and limits.
+
+use super::fault_of;
+use fast_template::{FieldInstruction, Operator, Shape, StaticCode, Templates};
+use fast_value::Value;
+use std::alloc::{AllocError, Global};
+use std::test::Fail;
+
+/// A set with an operator of each kind, of 19 templates.
+const WORKED: &str = r#"
+[[template]]
+name = "T1"
+id = 1
+fields = [{kind="uInt32", name="x"}]
+[[template]]
+name = "T2"
+id = 2
+fields = [{kind="sequence", name="s", fields=[{kind="uInt32", name="c", op="constant", value="7"}]}]
+[[template]]
+name = "T3"
+id = 3
+fields = [{kind="ascii", name="t", op="tail"}]
+[[template]]
+name = "T4"
+id = 4
+fields = [{kind="ascii", name="d", op="delta"}]
+[[template]]
+name = "T5"
+id = 5
+fields = [{kind="uInt32", name="n", op="increment"}]
+[[template]]
+name = "T6"
+id = 6
+fields = [{kind="uInt32", name="x", optional=true, op="copy"}]
+[[template]]
+name = "T7"
+id = 7
+fields = [{kind="decimal", name="p", optional=true, exponent={op="copy"}, mantissa={op="copy"}}, {kind="uInt32", name="y", op="copy"}]
+[[template]]
+name = "T8"
+id = 8
+fields = [{kind="unicode", name="u"}]
+[[template]]
+name = "T9"
+id = 9
+reset = true
+[[template]]
+name = "T10"
+id = 10
+fields = [{kind="uInt32", name="z", op="copy"}]
+[[template]]
+name = "T11"
+id = 11
+fields = [{kind="ascii", name="w", op="copy", key="x"}]
+[[template]]
+name = "T12"
+id = 12
+fields = [{kind="int64", name="i"}]
+[[template]]
+name = "T13"
+id = 13
+fields = [{kind="uInt32", name="o", optional=true}]
+[[template]]
+name = "T14"
+id = 14
+fields = [{kind="int64", name="q", optional=true}]
+[[template]]
+name = "T15"
+id = 15
+fields = [{kind="ref", name="T1"}, {kind="group", name="g", optional=true, fields=[{kind="bytes", name="b"}]}, {kind="sequence", name="legs", optional=true, fields=[{kind="ascii", name="sym", op="copy"}, {kind="int32", name="px", op="delta"}]}]
+[[template]]
+name = "T16"
+id = 16
+fields = [{kind="int32", name="v", optional=true, op="delta"}]
+[[template]]
+name = "T17"
+id = 17
+fields = [{kind="unicode", name="e", op="delta"}]
+[[template]]
+name = "T18"
+id = 18
+fields = [{kind="decimal", name="a"}, {kind="decimal", name="b", optional=true}]
+[[template]]
+name = "T19"
+id = 19
+fields = [{kind="ascii", name="r", optional=true}]
+"#;
+
+/// The set of a text, node by node: the name, and then what each value has: `?` if it may be absent, and its entry.
+fn spelled(alloc: Global, set: &Templates) -> Result<String, AllocError> {
+    let mut text = String::new(alloc);
+    for n in 0..set.nodes() {
+        let node = set.node(n);
+        text.push_str(node.name.as_str())?;
+        match &node.shape {
+            Shape::Field(field) => spell(alloc, &mut text, field)?,
+            Shape::Decimal { exponent, mantissa } => {
+                spell(alloc, &mut text, exponent)?;
+                spell(alloc, &mut text, mantissa)?;
+            }
+            Shape::Group { optional, body } => {
+                text.push_str(if *optional { " ?{" } else { " {" })?;
+                spell_numbers(alloc, &mut text, body)?;
+            }
+            Shape::Sequence { length, body } => {
+                spell(alloc, &mut text, length)?;
+                text.push_str(" {")?;
+                spell_numbers(alloc, &mut text, body)?;
+            }
+        }
+        text.push_str("; ")?;
+    }
+    Ok(text)
+}
+
+fn spell(alloc: Global, text: &mut String, field: &FieldInstruction) -> Result<(), AllocError> {
+    text.push_str(if field.optional { " ?" } else { " " })?;
+    match field.entry {
+        Some(entry) => text.push_str(format!(in alloc; "{entry}")?.as_str()),
+        None => text.push_str("-"),
+    }
+}
+
+fn spell_numbers(alloc: Global, text: &mut String, body: &[u32]) -> Result<(), AllocError> {
+    for n in body {
+        text.push_str(format!(in alloc; " {n}")?.as_str())?;
+    }
+    text.push_str(" }")
+}
+
+/// What a text stands for, spelled.
+fn read_and_spelled(alloc: Global, text: &str) -> Option<String> {
+    match Templates::read(alloc, text) {
+        Ok(set) => spelled(alloc, &set).ok(),
+        Err(_) => None,
+    }
+}
+
+#[test]
+fn the_worked_set_has_its_numbers(rt: HostRuntime) -> Result<(), Fail> {
+    let set = Templates::read(rt.alloc(), WORKED)?;
+    assert_eq!(rt; set.count(), 19);
+    assert_eq!(rt; set.nodes(), 26);
+    assert_eq!(rt; set.entries(), 13);
+    assert_eq!(rt; set.by_id(15), Some(14));
+    assert_eq!(rt; set.by_id(0), None);
+    assert_eq!(rt; set.by_name("T19"), Some(18));
+    assert_eq!(rt; set.by_name("T"), None);
+    let text = spelled(rt.alloc(), &set)?;
+    assert_eq!(rt;
+        text.as_str(),
+        "x -; s - { 2 }; c -; t 1; d 2; n 3; x ?4; p ?5 6; y 7; u -; z 8; w 4; i -; o ?-; q ?-; x -; g ?{ 17 }; b -; legs ?- { 19 20 }; sym 9; px 10; v ?11; e 12; a -; b ?-; r ?-; "
+    );
+    if 14 < set.count() {
+        assert_eq!(rt; set.template(14).body.as_slice(), [15, 16, 18].as_slice());
+    }
+    if 2 < set.nodes() {
+        assert!(rt;
+            matches!(
+                &set.node(2).shape,
+                Shape::Field(FieldInstruction {
+                    operator: Operator::Constant,
+                    initial: Some(Value::U(7)),
+                    ..
+                })
+            )
+        );
+    }
+    if 8 < set.count() {
+        assert!(rt; set.template(8).reset);
+        assert!(rt; set.template(8).body.is_empty());
+    }
+    Ok(())
+}
+
+#[test]
+fn entries_are_those_of_the_text(rt: HostRuntime) {
+    let cases = [
+        // an exponent before a mantissa, a length before its element, and none for a constant or a default
+        (
+            "fields = [{kind='sequence', name='s', length={op='delta'}, fields=[{kind='decimal', name='p', mantissa={op='delta'}, exponent={op='copy'}}]}, {kind='uInt32', name='c', op='default', value='1'}]",
+            "s 1 { 1 }; p 2 3; c -; ",
+        ),
+        // a length with a name of its own is a field of that name; one without is no field
+        (
+            "fields = [{kind='sequence', name='s', length={name='n', op='copy'}}, {kind='uInt32', name='n', op='copy'}, {kind='uInt32', name='s', op='copy'}, {kind='sequence', name='s', length={op='copy'}}]",
+            "s 1 { }; n 1; s 2; s 3 { }; ",
+        ),
+        // a key of its own stands for a plain entry, whatever it is on
+        (
+            "fields = [{kind='decimal', name='p', exponent={op='copy', key='k'}, mantissa={op='copy', key='p'}}, {kind='decimal', name='p', op='copy'}, {kind='ascii', name='k', op='tail'}]",
+            "p 1 2; p 2; k 1; ",
+        ),
+        // dictionaries: the template's default, the template's own, one with a name, the global one
+        (
+            "dictionary = 'd'\nfields = [{kind='uInt32', name='x', op='copy'}, {kind='uInt32', name='x', op='copy', dictionary='template'}, {kind='uInt32', name='x', op='copy', dictionary='global'}, {kind='uInt32', name='x', op='copy', dictionary='d'}]\n[[template]]\nname = 'B'\nfields = [{kind='uInt32', name='x', op='copy', dictionary='template'}, {kind='uInt32', name='x', op='copy'}, {kind='uInt32', name='x', op='copy', dictionary='d'}]",
+            "x 1; x 2; x 3; x 1; x 4; x 3; x 1; ",
+        ),
+        // the operators of a reference stand in the text to which it leads, and are numbered there
+        (
+            "dictionary = 'template'\nfields = [{kind='ref', name='B'}, {kind='uInt32', name='x', op='copy'}, {kind='group', name='g', fields=[{kind='ref', name='B'}, {kind='ref', name='B'}]}]\n[[template]]\nname = 'B'\nfields = [{kind='uInt32', name='y', op='copy', dictionary='template'}, {kind='uInt32', name='x', op='copy'}]",
+            "y 2; x 3; x 1; g { 4 5 6 7 }; y 2; x 3; y 2; x 3; y 2; x 3; ",
+        ),
+    ];
+    for (rest, want) in cases {
+        let text = format!(in rt.alloc(); "[[template]]\nname = 'A'\n{rest}").expect(&rt, "memory");
+        let spelled = read_and_spelled(rt.alloc(), text.as_str()).expect(&rt, "a set");
+        assert_eq!(rt; spelled.as_str(), want, "{rest}");
+    }
+}
+
+/// A template with so many mandatory fields that copy, and then this.
+fn copying(alloc: Global, count: usize, rest: &str) -> Result<String, AllocError> {
+    let mut text = String::from_str(alloc, "[[template]]\nname = 'A'\nfields = [")?;
+    for n in 0..count {
+        text.push_str(format!(in alloc; "{{kind='uInt32', name='f{n}', op='copy'}},")?.as_str())?;
+    }
+    text.push_str("]\n")?;
+    text.push_str(rest)?;
+    Ok(text)
+}
+
+#[test]
+fn a_message_has_1022_bits(rt: HostRuntime) -> Result<(), Fail> {
+    let text = copying(rt.alloc(), 1021, "")?;
+    assert_eq!(rt; fault_of(rt.alloc(), text.as_str()), None);
+    let text = copying(rt.alloc(), 1022, "")?;
+    assert_eq!(rt;
+        fault_of(rt.alloc(), text.as_str()),
+        Some((StaticCode::C5, Some(0)))
+    );
+    let group =
+        "[[template]]\nname = 'B'\nfields = [{kind='group', name='g', fields=[{kind='ref', name='A'}]}]\n";
+    let text = copying(rt.alloc(), 1021, group)?;
+    assert_eq!(rt; fault_of(rt.alloc(), text.as_str()), None);
+    Ok(())
+}
+
+#[test]
+fn earlier_passes_come_first(rt: HostRuntime) -> Result<(), Fail> {
+    let cases = [
+        // a reference to itself, and one to nothing
+        (
+            "[[template]]\nname = 'B'\nfields = [{kind='ref', name='B'}, {kind='ref', name='X'}]",
+            (StaticCode::D8, Some(1)),
+        ),
+        // too many bits, and a reference to itself
+        (
+            "[[template]]\nname = 'B'\nfields = [{kind='ref', name='B'}]",
+            (StaticCode::C3, Some(1)),
+        ),
+        ("[[template]]\nname = 'A'", (StaticCode::C1, Some(1))),
+        // too many bits, and 65 times as many nodes
+        (
+            "[[template]]\nname = 'B'\nfields = [{kind='ref', name='C'}, {kind='ref', name='C'}, {kind='ref', name='C'}, {kind='ref', name='C'}]\n[[template]]\nname = 'C'\nfields = [{kind='ref', name='D'}, {kind='ref', name='D'}, {kind='ref', name='D'}, {kind='ref', name='D'}]\n[[template]]\nname = 'D'\nfields = [{kind='ref', name='A'}, {kind='ref', name='A'}, {kind='ref', name='A'}, {kind='ref', name='A'}]",
+            (StaticCode::C6, Some(1)),
+        ),
+    ];
+    for (rest, want) in cases {
+        let text = copying(rt.alloc(), 1022, rest)?;
+        assert_eq!(rt; fault_of(rt.alloc(), text.as_str()), Some(want), "{rest}");
+    }
+    Ok(())
+}
+
+#[test]
+fn entries_of_texts_hold_texts(rt: HostRuntime) -> Result<(), Fail> {
+    let text = r#"
+[[template]]
+name = "A"
+fields = [{kind="uInt32", name="x", op="copy"}, {kind="ascii", name="y", op="copy"}]
+"#;
+    let set = Templates::read(rt.alloc(), text)?;
+    for (entry, is_text) in [(0, false), (1, false), (2, true), (3, false)] {
+        assert_eq!(rt; set.holds_text(entry), is_text);
+    }
+    Ok(())
+}
