@@ -24,7 +24,7 @@ use Rattle.fast_decoder.specs.Continuations.{handed_then, mantissa_after_then, s
 use Rattle.fast_decoder.specs.Frames.{resume}
 use Rattle.fast_decoder.specs.Machine.{after_bytes}
 use Rattle.fast_decoder.specs.Taking.{Turns, Stays}
-use Rattle.fast_decoder.specs.Handing.{Hands, IsTaken}
+use Rattle.fast_decoder.specs.Handing.{IsTaken}
 use Rattle.fast_decoder.specs.Settling.{IsSettled, IsLastUnit, value_at}
 use Rattle.fast_decoder.specs.UnitFronts.{IsSent}
 use Rattle.fast_decoder.specs.Passing.{state_past}
@@ -42,7 +42,7 @@ use Rattle.fast_decoder.proofs.Turning.{turns_as, turns_done, turns_stop, stays_
 use Rattle.fast_decoder.specs.Quick.{IsTakenTo}
 use Rattle.fast_decoder.specs.declared.machine.Turn.{Turn}
 use Rattle.fast_decoder.proofs.Quick.{taken_to}
-use Rattle.fast_decoder.proofs.Takes.{taken_turns, taken_fault, taken_stays}
+use Rattle.fast_decoder.proofs.Takes.{taken_fault, taken_stays}
 use Rattle.fast_decoder.proofs.FieldTurns.{state_of, behind, mantissa_from}
 use Rattle.fast_decoder.proofs.ScalarMachines.{still_supplied}
 
@@ -118,26 +118,23 @@ module _ {S : Type 0} (takes stops : S → EventData → S → Type 0) (set : Se
       ap k (λ i. (h.value i, record { context = record { dictionary = sym h.dictionary i; counted = m.counted }; bits = (state_past f new m.counted m.cursor).bits }))
       ∙ by_source (λ v. k (v, state_past f new m.counted m.cursor)) (sees (state_past f new m.counted m.cursor)) source f new scratch piece
 
-  -- The integer is whole, and what it decides is handed over.
+  -- The integer is whole, and a turn is taken of what it decides.
   pub integer_whole : SeesInteger k → (s : Slots) (scratch : List ℕ) (source : Source) (b : ℕ) → IsLastUnit unit f m.entity rest (slots_dictionary m.slots) (slots_dictionary s) scratch (Whole source b)
-      → (q : S) (o : Result Unit FaultCode) (q' : S) (to : Reader Dictionary)
-      → Hands takes stops (reader_of l.strict (k (value_at source f (slots_dictionary s) scratch [], state_past f (slots_dictionary s) m.counted m.cursor))) q o q' to
-      → IsTaken takes stops (tree_in set) l (meaning set l m) rest q b o q' to
-  integer_whole sees s scratch source b (some, within, gives) q o q' to hands =
-      let turns : Turns r (m.entity ++ take b rest) (reader_of l.strict (k (value_at source f (slots_dictionary s) scratch [], state_past f (slots_dictionary s) m.counted m.cursor))) =
-      turns_as here (sym (ap (reader_of l.strict) (settled_as sees gives.outcome source (slots_dictionary s) scratch (take b rest) gives.settled))) (turns_done (λ x. reader_of l.strict (k (found f (state_of m) x))) gives.turns) in
-      taken_as q b o q' to (taken_turns takes stops (tree_in set) l r m.entity rest b _ q o q' to some within turns hands)
-
-  -- The same in front of a turn, where none of its bytes was in hand.
-  pub integer_whole_to : m.entity ≡ [] → SeesInteger k → (s : Slots) (scratch : List ℕ) (source : Source) (b : ℕ) → IsLastUnit unit f [] rest (slots_dictionary m.slots) (slots_dictionary s) scratch (Whole source b)
       → (q : S) (o : Result Turn FaultCode) (q' : S) (a : Machine)
       → IsTurn takes stops set l (reader_of l.strict (k (value_at source f (slots_dictionary s) scratch [], state_past f (slots_dictionary s) m.counted m.cursor))) q o q' a
       → IsTakenTo takes stops set l (meaning set l m) rest q b o q' a
-  integer_whole_to none sees s scratch source b (some, within, gives) q o q' a turn =
-      let turns : Turns r ([] ++ take b rest) (reader_of l.strict (k (value_at source f (slots_dictionary s) scratch [], state_past f (slots_dictionary s) m.counted m.cursor))) =
+  integer_whole sees s scratch source b (some, within, gives) q o q' a turn =
+      let turns : Turns r (m.entity ++ take b rest) (reader_of l.strict (k (value_at source f (slots_dictionary s) scratch [], state_past f (slots_dictionary s) m.counted m.cursor))) =
       turns_as here (sym (ap (reader_of l.strict) (settled_as sees gives.outcome source (slots_dictionary s) scratch (take b rest) gives.settled))) (turns_done (λ x. reader_of l.strict (k (found f (state_of m) x))) gives.turns) in
-      subst (λ (p : Reader Dictionary). IsTakenTo takes stops set l p rest q b o q' a) (sym (is ∙ ap (after_bytes r) none))
-      (taken_to takes stops set l r [] rest b _ q o q' a some within turns turn)
+      subst (λ (p : Reader Dictionary). IsTakenTo takes stops set l p rest q b o q' a) (sym is) (taken_to takes stops set l r m.entity rest b _ q o q' a some within turns turn)
+
+  -- The same, where none of its bytes was in hand.
+  pub integer_at_once : m.entity ≡ [] → SeesInteger k → (s : Slots) (scratch : List ℕ) (source : Source) (b : ℕ) → IsLastUnit unit f [] rest (slots_dictionary m.slots) (slots_dictionary s) scratch (Whole source b)
+      → (q : S) (o : Result Turn FaultCode) (q' : S) (a : Machine)
+      → IsTurn takes stops set l (reader_of l.strict (k (value_at source f (slots_dictionary s) scratch [], state_past f (slots_dictionary s) m.counted m.cursor))) q o q' a
+      → IsTakenTo takes stops set l (meaning set l m) rest q b o q' a
+  integer_at_once none sees s scratch source b h q o q' a turn =
+      integer_whole sees s scratch source b (subst (λ (front : List ℕ). IsLastUnit unit f front rest (slots_dictionary m.slots) (slots_dictionary s) scratch (Whole source b)) (sym none) h) q o q' a turn
 
   -- It is wrong.
   pub integer_wrong : (new : Dictionary) (scratch : List ℕ) (c : Code) (b : ℕ) → IsLastUnit unit f m.entity rest (slots_dictionary m.slots) new scratch (Wrong c b) → (q : S) (to : Reader Dictionary)

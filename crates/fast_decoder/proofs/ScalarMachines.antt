@@ -22,7 +22,8 @@ use Rattle.fast_decoder.specs.Continuations.{handed_then}
 use Rattle.fast_decoder.specs.Frames.{resume}
 use Rattle.fast_decoder.specs.Machine.{after_bytes}
 use Rattle.fast_decoder.specs.Taking.{Turns, Stays}
-use Rattle.fast_decoder.specs.Handing.{Hands, IsTaken}
+use Rattle.fast_decoder.specs.Handing.{IsTaken}
+use Rattle.fast_decoder.specs.Quick.{IsTakenTo}
 use Rattle.fast_decoder.specs.Settling.{IsSettled, value_at}
 use Rattle.fast_decoder.specs.Stages.{term_behind, IsStageOf, IsFieldUnit}
 use Rattle.fast_decoder.specs.UnitFronts.{IsSent, IsBytesStage, IsEntityKept, IsNextOf, IsNextStage, SettlesOnly}
@@ -30,7 +31,7 @@ use Rattle.fast_decoder.specs.Phrases.{cut}
 use Rattle.fast_decoder.specs.Units.{ascii_text}
 use Rattle.fast_decoder.specs.Passing.{state_past, value_then}
 use Rattle.fast_decoder.specs.Scalars.{IsOfField, scalar_term, IsScalarUnit, CanProgress, step_then}
-use Rattle.fast_decoder.specs.Positions.{Set, tree_in, body_in, frames_in, state_in, going_on, bit_of, unit_then, term_at, front_at, meaning_at, meaning, IsMapWhole, IsPlaced, IsSupplied, IsReady, IsAtField, CanTake, BeginsWithInteger, BeginsWithText, GoesOnWithNumber, GoesOnWithBytes}
+use Rattle.fast_decoder.specs.Positions.{Set, tree_in, body_in, frames_in, state_in, going_on, bit_of, unit_then, term_at, front_at, meaning_at, meaning, IsMapWhole, IsPlaced, IsSupplied, IsReady, IsTurn, IsAtField, CanTake, BeginsWithInteger, BeginsWithText, GoesOnWithNumber, GoesOnWithBytes}
 use Rattle.fast_decoder.specs.declared.scratch.Scratch.{Scratch}
 use Rattle.fast_decoder.specs.declared.faults.FaultCode.{FaultCode}
 use Rattle.fast_decoder.specs.declared.faults.FaultCode.TheVariants as Why
@@ -41,6 +42,7 @@ use Rattle.fast_decoder.specs.declared.stages.Step.TheVariants.{Settled, Next}
 use Rattle.fast_decoder.specs.declared.progress.Progress.{Progress}
 use Rattle.fast_decoder.specs.declared.progress.Progress.TheVariants.{Whole, Wrong, Cut}
 use Rattle.fast_decoder.specs.declared.machine.Machine.{Machine}
+use Rattle.fast_decoder.specs.declared.machine.Turn.{Turn}
 use Rattle.fast_decoder.specs.declared.machine.Waiting.{Waiting}
 use Rattle.fast_decoder.specs.declared.machine.Waiting.TheVariants.{Map, Identifier, SegmentMap, Field, Text, Number, Bytes, Mantissa}
 use Rattle.fast_decoder.proofs.Grammars.{reader-then}
@@ -48,7 +50,8 @@ use Rattle.fast_decoder.proofs.Frames.{at_field}
 use Rattle.fast_decoder.proofs.SentFields.{field_sent}
 use Rattle.fast_decoder.proofs.FieldTurns.{state_of, supplied_like}
 use Rattle.fast_decoder.proofs.Turning.{turns_as, turns_on, turns_done, turns_stop, stays_on, stays_as}
-use Rattle.fast_decoder.proofs.Takes.{taken_turns, taken_fault, taken_stays}
+use Rattle.fast_decoder.proofs.Takes.{taken_fault, taken_stays}
+use Rattle.fast_decoder.proofs.Quick.{taken_to}
 
 -- the machine with other values, and other bytes in hand
 abbrev pub with_units : Machine → Slots → Entity → Scratch → Scratch → Machine
@@ -314,13 +317,14 @@ module _ {S : Type 0} (takes stops : S → EventData → S → Type 0) (set : Se
   taken_as : (s : S) (b : ℕ) (o : Result Unit FaultCode) (s' : S) (to : Reader Dictionary) → IsTaken takes stops (tree_in set) l (after_bytes unit_term (front_at m.waiting m)) rest s b o s' to → IsTaken takes stops (tree_in set) l (meaning set l m) rest s b o s' to
   taken_as s b o s' to h = subst (λ (r : Reader Dictionary). IsTaken takes stops (tree_in set) l r rest s b o s' to) (sym (meaning_of m.waiting set l m of)) h
 
-  -- A unit is whole, and what it decides is handed over.
-  pub scalar_whole : (q : Step) (b : ℕ) → IsScalarUnit l m a f rest (Whole q b) → (s : S) (o : Result Unit FaultCode) (s' : S) (to : Reader Dictionary)
-      → Hands takes stops (reader_of l.strict (step_then set l n f a (take b rest) q)) s o s' to → IsTaken takes stops (tree_in set) l (meaning set l m) rest s b o s' to
-  scalar_whole q b h s o s' to hands =
+  -- A unit is whole, and a turn is taken of what it decides.
+  pub scalar_whole : (q : Step) (b : ℕ) → IsScalarUnit l m a f rest (Whole q b) → (s : S) (o : Result Turn FaultCode) (s' : S) (to : Machine)
+      → IsTurn takes stops set l (reader_of l.strict (step_then set l n f a (take b rest) q)) s o s' to → IsTakenTo takes stops set l (meaning set l m) rest s b o s' to
+  scalar_whole q b h s o s' to turn =
       let u = whole_here set l m f n m.waiting of ready.takes (at_before h.same) a.slots a.entity a.text a.joined (front_at m.waiting m) rest q b h.unit in
-      let there = subst (λ (x : Machine). Hands takes stops (reader_of l.strict (step_then set l n f x (take b rest) q)) s o s' to) h.same hands in
-      taken_as s b o s' to (taken_turns takes stops (tree_in set) l unit_term (front_at m.waiting m) rest b (reader_of l.strict (step_then set l n f (with_units m a.slots a.entity a.text a.joined) (take b rest) q)) s o s' to u.0 u.1 u.2 there)
+      let there = subst (λ (x : Machine). IsTurn takes stops set l (reader_of l.strict (step_then set l n f x (take b rest) q)) s o s' to) h.same turn in
+      subst (λ (r : Reader Dictionary). IsTakenTo takes stops set l r rest s b o s' to) (sym (meaning_of m.waiting set l m of))
+      (taken_to takes stops set l unit_term (front_at m.waiting m) rest b (reader_of l.strict (step_then set l n f (with_units m a.slots a.entity a.text a.joined) (take b rest) q)) s o s' to u.0 u.1 u.2 there)
 
   -- A unit is wrong.
   pub scalar_wrong : (c : Code) (b : ℕ) → IsScalarUnit l m a f rest (Wrong c b) → (s : S) (to : Reader Dictionary) → IsTaken takes stops (tree_in set) l (meaning set l m) rest s b (Err (Why.Stream c)) s to

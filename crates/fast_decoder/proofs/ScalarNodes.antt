@@ -18,7 +18,7 @@ use Rattle.fast_decoder.specs.Segments.{first_node}
 use Rattle.fast_decoder.specs.Messages.{State}
 use Rattle.fast_decoder.specs.Serving.{ServesShape, body_among, instruction_among}
 use Rattle.fast_decoder.specs.UnitFronts.{IsSent, IsAsciiFirst}
-use Rattle.fast_decoder.specs.Scalars.{IsOfFieldLater}
+use Rattle.fast_decoder.specs.Scalars.{IsOfField, IsOfFieldLater}
 use Rattle.fast_decoder.specs.Positions.{Set, body_in, state_in, IsSupplied, IsReady, bit_of, IsAtField, IsAtParts, IsAtSequence, BeginsWithInteger, BeginsWithText, GoesOnWithMantissa, GoesOnWithNumber, GoesOnWithBytes, CanTake}
 use Rattle.fast_decoder.specs.declared.stages.Stage.{Stage}
 use Rattle.fast_decoder.specs.declared.machine.Machine.{Machine}
@@ -92,6 +92,17 @@ mantissa_decimal nodes at (Of.Field f) is st h = absurd h
 mantissa_decimal nodes at (Of.Decimal e m) is st h = tt
 mantissa_decimal nodes at (Of.Group optional body) is st h = absurd h
 mantissa_decimal nodes at (Of.Sequence length body) is st h = absurd h
+
+-- A later unit of a field is one of a field.
+pub of_later : (w : Waiting) → IsOfFieldLater w → IsOfField w
+of_later Map of = absurd of
+of_later Identifier of = absurd of
+of_later (SegmentMap width) of = absurd of
+of_later Field of = absurd of
+of_later Text of = tt
+of_later (Number stage) of = tt
+of_later (Bytes stage) of = tt
+of_later (Mantissa x) of = absurd of
 
 module _ (set : Set) (l : Limits) (m : Machine) (n : ℕ) (v : Node) (later : NameLaterNodes set.nodes) (first : first_node m.cursor.left ≡ Some n) (found : slice_get set.nodes n ≡ Some v) where
   abbrev here : State

@@ -17,14 +17,13 @@ use Rattle.fast_decoder.specs.Grammar.{Grammar, give, raw, ◌>>=◌, of_result}
 use Rattle.fast_decoder.specs.GrammarReaders.{reader_of}
 use Rattle.fast_decoder.specs.Fields.{text, sent_text, sent_decimal, decimal_from, mantissa_change, part_change}
 use Rattle.fast_decoder.specs.Machine.{after_bytes, stage_term}
-use Rattle.fast_decoder.specs.Handing.{Hands}
 use Rattle.fast_decoder.specs.Phrases.{cut}
 use Rattle.fast_decoder.specs.Units.{ascii_text}
 use Rattle.fast_decoder.specs.Taking.{Waits}
 use Rattle.fast_decoder.specs.Stages.{term_behind, IsStageOf}
 use Rattle.fast_decoder.specs.UnitFronts.{IsNumberStage, IsBytesStage, IsNextStage}
 use Rattle.fast_decoder.specs.Scalars.{CanStep}
-use Rattle.fast_decoder.specs.Positions.{Set, body_in, frames_in, unit_then, meaning_at, meaning, IsSupplied, IsReady, CanTurn, GoesOn, IsAtField, GoesOnWithNumber, GoesOnWithBytes}
+use Rattle.fast_decoder.specs.Positions.{Set, body_in, frames_in, unit_then, meaning_at, meaning, IsSupplied, IsReady, IsTurn, CanTurn, GoesOn, IsAtField, GoesOnWithNumber, GoesOnWithBytes}
 use Rattle.fast_decoder.specs.declared.scratch.Scratch.{Scratch}
 use Rattle.fast_decoder.specs.declared.stages.Stage.{Stage}
 use Rattle.fast_decoder.specs.declared.stages.Stage.TheVariants.{Mantissa, MantissaDelta, Vector, Part, PartVector}
@@ -36,10 +35,9 @@ use Rattle.fast_decoder.specs.declared.machine.Turn.TheVariants.{Waits as TurnWa
 use Rattle.fast_decoder.specs.Passing.{IsPast}
 use Rattle.fast_decoder.specs.declared.machine.Waiting.{Waiting}
 use Rattle.fast_decoder.specs.declared.machine.Waiting.TheVariants as Awaits
-use Rattle.fast_decoder.proofs.Hanging.{hands_waits}
 use Rattle.fast_decoder.proofs.Turning.{waits_on, result_done}
 use Rattle.fast_decoder.proofs.SentFields.{integer_waits, text_waits, term_waits}
-use Rattle.fast_decoder.proofs.FieldTurns.{state_of, ready_at, can_turn_waits, supplied_like, like_moved, goes_on_past}
+use Rattle.fast_decoder.proofs.FieldTurns.{state_of, ready_at, can_turn_waits, supplied_like, like_moved, goes_on_past, turn_waits}
 use Rattle.fast_decoder.proofs.ScalarMachines.{stage_here, behind_field}
 
 -- A run of some bytes waits.
@@ -120,13 +118,9 @@ module _ (set : Set) (l : Limits) (m : Machine) (f : FieldData) (n : ℕ) (stage
     both : IsReady set l a × (from_stage ≡ meaning set l a)
     both = subst (λ (x : Machine). IsReady set l x × (from_stage ≡ meaning set l x)) (sym same) (ready_by a.text a.waiting room waits)
 
-    -- The machine is ready for the later unit.
-    pub stage_ready : IsReady set l a
-    stage_ready = both.0
-
-    -- It hands nothing over.
-    pub stage_hands : {S : Type 0} (takes stops : S → EventData → S → Type 0) (s : S) → Hands takes stops from_stage s (Ok tt) s (meaning set l a)
-    stage_hands takes stops s = subst (λ (r : Reader Dictionary). Hands takes stops from_stage s (Ok tt) s r) both.1 (hands_waits takes stops from_stage s stage_reader_waits)
+    -- The machine waits for the later unit, and hands nothing over.
+    pub stage_waits_on : {S : Type 0} (takes stops : S → EventData → S → Type 0) (s : S) → IsTurn takes stops set l from_stage s (Ok TurnWaits) s a
+    stage_waits_on takes stops s = turn_waits takes stops set l from_stage s a both.1 stage_reader_waits both.0
 
 -- A machine whose cursor alone has moved is still supplied.
 pub supplied_moved : (set : Set) (l : Limits) (m a : Machine) → IsSupplied set l m → a ≡ record m { cursor = a.cursor } → a.cursor.depth ≡ m.cursor.depth → IsSupplied set l a

@@ -422,6 +422,24 @@ more_at (Number stage) way set l n n' m more h = more_within way set l 1 n n' m.
 more_at (Bytes stage) way set l n n' m more h = more_within way set l 1 n n' m.turns.count m.counted m.cursor more h
 more_at (Mantissa x) way set l n n' m more h = more_within way set l 1 n n' m.turns.count m.counted m.cursor more h
 
+-- A unit more, with a turn that it pays for itself.
+paid_map : (way : Way) (set : Set) (l : Limits) (n t t' : ℕ) (map : List ℕ) → t' ≡ t + 1 → HasTurnsInMap map way set l n t → HasTurnsInMap map way set l (1 + n) t'
+paid_map way set l n t t' [] e h = omega (arith, e, h)
+paid_map way set l n t t' (b ∷ w) e h = omega (arith, e, h)
+
+paid_at : (w : Waiting) (way : Way) (set : Set) (l : Limits) (n : ℕ) (m : Machine) (t : Turns) → t.count ≡ m.turns.count + 1 → HasTurnsAt w way set l n m → HasTurnsAt w way set l (1 + n) (record m { turns = t })
+paid_at Map way set l n m t e h = paid_map way set l n m.turns.count t.count m.cursor.map e h
+paid_at Identifier way set l n m t e h = omega (arith, e, h)
+paid_at (SegmentMap width) way set l n m t e h = one_unit way set l 0 n m.turns.count t.count m.counted m.cursor e h
+paid_at Field way set l n m t e h = one_unit way set l 1 n m.turns.count t.count m.counted m.cursor e h
+paid_at Text way set l n m t e h = one_unit way set l 1 n m.turns.count t.count m.counted m.cursor e h
+paid_at (Number stage) way set l n m t e h = one_unit way set l 1 n m.turns.count t.count m.counted m.cursor e h
+paid_at (Bytes stage) way set l n m t e h = one_unit way set l 1 n m.turns.count t.count m.counted m.cursor e h
+paid_at (Mantissa x) way set l n m t e h = one_unit way set l 1 n m.turns.count t.count m.counted m.cursor e h
+
+pub unit_paid : (way : Way) (set : Set) (l : Limits) (n : ℕ) (m : Machine) (t : Turns) → t.count ≡ m.turns.count + 1 → HasTurnsWaiting way set l n m → HasTurnsWaiting way set l (1 + n) (record m { turns = t })
+unit_paid way set l n m t e h = paid_at m.waiting way set l n m t e h
+
 -- So many bytes of a call were taken. With the first of them a message goes on, or one begins.
 abbrev pub IsSpent : Way → Set → Limits → ℕ → Machine → Type 0
 IsSpent way set l zero m = (m.turns.count ≡ 0) × HasTurnsWaiting way set l (most_by way (tree_in set) l) m

@@ -631,32 +631,6 @@ impl<'t> Machine<'t> {
             }
         }
     }
-
-    /// All that needs no further byte. Where the next instruction is a field that waits for an integer, that is one turn, taken here.
-    #[inline(always)]
-    pub fn settle_on<S: Sink>(
-        &mut self,
-        templates: &'t Templates,
-        limits: Limits,
-        sink: &mut S,
-    ) -> Result<(), FaultCode>
-        requires turn { CanTurn (set_of templates.now) limits self.old }
-        ensures hands { Hands S.takes S.stops (turning (set_of templates.now) limits self.old) sink.old result sink.new (meaning (set_of templates.now) limits self.new) }
-        ensures ready { OnOk result (IsReady (set_of templates.now) limits self.new) }
-        ensures supplied { IsSupplied (set_of templates.now) limits self.new }
-        ensures turns { (way : Way) (n : ℕ) → HasTurns way (set_of templates.now) limits 0 n self.old → HasTurnsAfter result way (set_of templates.now) limits n self.new }
-    {
-        if let Some(number) = self.cursor.next() {
-            if let Shape::Field(field) = &templates.node(number).shape {
-                if field.kind != Kind::Ascii && needs_bytes(field, self.presence(field)) {
-                    self.turns = Turns::after(&self.turns);
-                    self.waiting = Waiting::Field;
-                    return Ok(());
-                }
-            }
-        }
-        self.settle(templates, limits, sink)
-    }
 }
 
 /// An exponent, if it lies in the range of exponents.

@@ -17,7 +17,8 @@ ghost use Rattle.fast_decoder.specs.Readers.{Reader};
 ghost use Rattle.fast_decoder.specs.EntryTexts.{HasLongInitial};
 ghost use Rattle.fast_decoder.specs.declared.machine.Machine.{Machine};
 ghost use Rattle.fast_dict.specs.Dictionary.{Dictionary, reset};
-ghost use Rattle.fast_decoder.specs.Handing.{Hands, IsTaken, Fed, stood};
+ghost use Rattle.fast_decoder.specs.Handing.{Hands, Fed, stood};
+ghost use Rattle.fast_decoder.specs.Quick.{IsTakenTo};
 ghost use Rattle.fast_decoder.specs.Settling.{Serves, value_at};
 ghost use Rattle.fast_decoder.specs.Passing.{state_past, identified_then};
 ghost use Rattle.fast_decoder.specs.Scalars.{IsOfField, IsOfFieldLater, IsScalarUnit, CanStep, CanProgress, step_then};
@@ -36,6 +37,7 @@ use crate::machine::{Machine, Turn, Waiting};
 use crate::numbers::take_integer;
 use crate::pending::MapFront;
 use crate::progress::Progress;
+use crate::quick_units::Quick;
 use crate::scalars::{take_bytes, take_first, take_first_text, take_number};
 use crate::scratch::Scratch;
 use crate::settling::hand;
@@ -58,28 +60,28 @@ pub struct Taken {
     pub outcome: Result<(), FaultCode>,
 }
 
-impl Taken {
+impl Quick {
     /// All bytes of the rest, and the unit is cut.
     #[inline]
-    fn cut(rest: &[u8]) -> Taken
+    fn cut(rest: &[u8]) -> Quick
         ensures bytes { result.bytes ≡ length rest.now }
-        ensures outcome { result.outcome ≡ Ok tt }
+        ensures turn { result.turn ≡ Ok Turn.Waits }
     {
-        Taken {
+        Quick {
             bytes: rest.len(),
-            outcome: Ok(()),
+            turn: Ok(Turn::Waits),
         }
     }
 
     /// So many bytes, of which the last decides a fault.
     #[inline]
-    fn wrong(code: Code, bytes: usize) -> Taken
+    fn wrong(code: Code, bytes: usize) -> Quick
         ensures bytes { result.bytes ≡ bytes }
-        ensures outcome { result.outcome ≡ Err (FaultCode.Stream code) }
+        ensures turn { result.turn ≡ Err (FaultCode.Stream code) }
     {
-        Taken {
+        Quick {
             bytes,
-            outcome: Err(FaultCode::Stream(code)),
+            turn: Err(FaultCode::Stream(code)),
         }
     }
 }
@@ -175,22 +177,19 @@ impl<'t> Machine<'t> {
         limits: Limits,
         rest: &[u8],
         sink: &mut S,
-    ) -> Taken
+    ) -> Quick
         requires waits { self.old.waiting ≡ Waiting.Map }
         requires ready { IsReady (set_of templates.now) limits self.old }
         requires some { 0 < length rest.now }
-        ensures taken { IsTaken S.takes S.stops (tree_in (set_of templates.now)) limits (meaning (set_of templates.now) limits self.old) rest.now
-            sink.old result.bytes result.outcome sink.new (meaning (set_of templates.now) limits self.new) }
-        ensures ready { OnOk result.outcome (IsReady (set_of templates.now) limits self.new) }
-        ensures supplied { IsSupplied (set_of templates.now) limits self.new }
-        ensures turns { (way : Way) (n : ℕ) → self.old.turns.count + most_by way (tree_in (set_of templates.now)) limits ≤ n → HasTurnsAfter result.outcome way (set_of templates.now) limits n self.new }
+        ensures taken { IsTakenTo S.takes S.stops (set_of templates.now) limits (meaning (set_of templates.now) limits self.old) rest.now sink.old result.bytes result.turn sink.new self.new }
+        ensures turns { (way : Way) (n : ℕ) → self.old.turns.count + most_by way (tree_in (set_of templates.now)) limits ≤ n → HasTurnsBehind result.turn way (set_of templates.now) limits n self.new }
     {
         match self.cursor.take_map(rest) {
-            MapFront::Cut => Taken::cut(rest),
-            MapFront::TooLong(bytes) => Taken::wrong(Code::L3, bytes),
+            MapFront::Cut => Quick::cut(rest),
+            MapFront::TooLong(bytes) => Quick::wrong(Code::L3, bytes),
             MapFront::Whole(bytes) => {
-                let outcome = self.mapped(templates, limits, sink);
-                Taken { bytes, outcome }
+                let turn = self.mapped(templates, limits, sink);
+                Quick { bytes, turn }
             }
         }
     }
@@ -201,22 +200,20 @@ impl<'t> Machine<'t> {
         templates: &'t Templates,
         limits: Limits,
         sink: &mut S,
-    ) -> Result<(), FaultCode>
+    ) -> Result<Turn, FaultCode>
         requires behind { IsBehindMap (set_of templates.now) limits self.old }
         requires short { length self.old.cursor.map ≤ map_limit }
-        ensures hands { Hands S.takes S.stops
+        ensures turn { IsTurn S.takes S.stops (set_of templates.now) limits
             (mapped_reader (set_of templates.now) limits (slots_dictionary self.old.slots) self.old.cursor.map)
-            sink.old result sink.new (meaning (set_of templates.now) limits self.new) }
-        ensures ready { OnOk result (IsReady (set_of templates.now) limits self.new) }
-        ensures supplied { IsSupplied (set_of templates.now) limits self.new }
-        ensures turns { (way : Way) (n : ℕ) → self.old.turns.count + most_by way (tree_in (set_of templates.now)) limits ≤ n → HasTurnsAfter result way (set_of templates.now) limits n self.new }
+            sink.old result sink.new self.new }
+        ensures turns { (way : Way) (n : ℕ) → self.old.turns.count + most_by way (tree_in (set_of templates.now)) limits ≤ n → HasTurnsBehind result way (set_of templates.now) limits n self.new }
     {
         if is_overlong(limits.strict, self.cursor.map()) {
             return Err(FaultCode::Stream(Code::R7));
         }
         if self.cursor.bit() {
             self.waiting = Waiting::Identifier;
-            return Ok(());
+            return Ok(Turn::Waits);
         }
         match unsent(&mut self.slots, &self.identifier, false) {
             Err(code) => Err(FaultCode::Stream(code)),
@@ -232,14 +229,12 @@ impl<'t> Machine<'t> {
         source: Source,
         piece: &[u8],
         sink: &mut S,
-    ) -> Result<(), FaultCode>
+    ) -> Result<Turn, FaultCode>
         requires behind { IsBehindMap (set_of templates.now) limits self.old }
-        ensures hands { Hands S.takes S.stops
+        ensures turn { IsTurn S.takes S.stops (set_of templates.now) limits
             (reader_of limits.strict (identified_then (set_of templates.now) (bounds limits) (value_at source identifier (slots_dictionary self.old.slots) self.old.text.text piece.now) (slots_dictionary self.old.slots) self.old.cursor))
-            sink.old result sink.new (meaning (set_of templates.now) limits self.new) }
-        ensures ready { OnOk result (IsReady (set_of templates.now) limits self.new) }
-        ensures supplied { IsSupplied (set_of templates.now) limits self.new }
-        ensures turns { (way : Way) (n : ℕ) → self.old.turns.count + most_by way (tree_in (set_of templates.now)) limits ≤ n → HasTurnsAfter result way (set_of templates.now) limits n self.new }
+            sink.old result sink.new self.new }
+        ensures turns { (way : Way) (n : ℕ) → self.old.turns.count + most_by way (tree_in (set_of templates.now)) limits ≤ n → HasTurnsBehind result way (set_of templates.now) limits n self.new }
     {
         let text = self.text.as_slice();
         let value = value_at(&self.slots, &self.identifier, text, piece, source);
@@ -250,30 +245,7 @@ impl<'t> Machine<'t> {
         if is_too_wide(limits.strict, self.cursor.map_len(), width) {
             return Err(FaultCode::Stream(Code::R8));
         }
-        self.begin_message(templates, limits, number, sink)
-    }
-
-    /// A message of a template begins.
-    fn begin_message<S: Sink>(
-        &mut self,
-        templates: &'t Templates,
-        limits: Limits,
-        number: u32,
-        sink: &mut S,
-    ) -> Result<(), FaultCode>
-        requires behind { IsBehindMap (set_of templates.now) limits self.old }
-        requires number { number < length (set_of templates.now).templates }
-        ensures hands { (t : Template) → slice_get (set_of templates.now).templates number ≡ Some t → Hands S.takes S.stops
-            (reader_of limits.strict (message_of_then (bounds limits) number (template_data (instructions_from 0 (set_of templates.now).nodes) t) (state_past identifier (slots_dictionary self.old.slots) 0 self.old.cursor)))
-            sink.old result sink.new (meaning (set_of templates.now) limits self.new) }
-        ensures ready { OnOk result (IsReady (set_of templates.now) limits self.new) }
-        ensures supplied { IsSupplied (set_of templates.now) limits self.new }
-        ensures turns { (way : Way) (n : ℕ) → self.old.turns.count + most_by way (tree_in (set_of templates.now)) limits ≤ n → HasTurnsAfter result way (set_of templates.now) limits n self.new }
-    {
-        match self.start_message(templates, limits, number, sink) {
-            Err(code) => Err(code),
-            Ok(_) => self.settle_on(templates, limits, sink),
-        }
+        self.start_message(templates, limits, number, sink)
     }
 
     /// The first event of a message of a template, behind which its instructions are to come.
@@ -313,15 +285,12 @@ impl<'t> Machine<'t> {
         limits: Limits,
         rest: &[u8],
         sink: &mut S,
-    ) -> Taken
+    ) -> Quick
         requires waits { self.old.waiting ≡ Waiting.Identifier }
         requires ready { IsReady (set_of templates.now) limits self.old }
         requires some { 0 < length rest.now }
-        ensures taken { IsTaken S.takes S.stops (tree_in (set_of templates.now)) limits (meaning (set_of templates.now) limits self.old) rest.now
-            sink.old result.bytes result.outcome sink.new (meaning (set_of templates.now) limits self.new) }
-        ensures ready { OnOk result.outcome (IsReady (set_of templates.now) limits self.new) }
-        ensures supplied { IsSupplied (set_of templates.now) limits self.new }
-        ensures turns { (way : Way) (n : ℕ) → self.old.turns.count + most_by way (tree_in (set_of templates.now)) limits ≤ n → HasTurnsAfter result.outcome way (set_of templates.now) limits n self.new }
+        ensures taken { IsTakenTo S.takes S.stops (set_of templates.now) limits (meaning (set_of templates.now) limits self.old) rest.now sink.old result.bytes result.turn sink.new self.new }
+        ensures turns { (way : Way) (n : ℕ) → self.old.turns.count + most_by way (tree_in (set_of templates.now)) limits ≤ n → HasTurnsBehind result.turn way (set_of templates.now) limits n self.new }
     {
         match take_integer(
             &mut self.slots,
@@ -330,12 +299,12 @@ impl<'t> Machine<'t> {
             rest,
             limits.strict,
         ) {
-            Progress::Cut => Taken::cut(rest),
-            Progress::Wrong(code, bytes) => Taken::wrong(code, bytes),
+            Progress::Cut => Quick::cut(rest),
+            Progress::Wrong(code, bytes) => Quick::wrong(code, bytes),
             Progress::Whole(source, bytes) => {
                 let piece = &rest[..bytes];
-                let outcome = self.identified(templates, limits, source, piece, sink);
-                Taken { bytes, outcome }
+                let turn = self.identified(templates, limits, source, piece, sink);
+                Quick { bytes, turn }
             }
         }
     }
@@ -348,22 +317,19 @@ impl<'t> Machine<'t> {
         width: usize,
         rest: &[u8],
         sink: &mut S,
-    ) -> Taken
+    ) -> Quick
         requires waits { self.old.waiting ≡ Waiting.SegmentMap width }
         requires ready { IsReady (set_of templates.now) limits self.old }
         requires some { 0 < length rest.now }
-        ensures taken { IsTaken S.takes S.stops (tree_in (set_of templates.now)) limits (meaning (set_of templates.now) limits self.old) rest.now
-            sink.old result.bytes result.outcome sink.new (meaning (set_of templates.now) limits self.new) }
-        ensures ready { OnOk result.outcome (IsReady (set_of templates.now) limits self.new) }
-        ensures supplied { IsSupplied (set_of templates.now) limits self.new }
-        ensures turns { (way : Way) (n : ℕ) → HasTurns way (set_of templates.now) limits 0 n self.old → HasTurnsAfter result.outcome way (set_of templates.now) limits n self.new }
+        ensures taken { IsTakenTo S.takes S.stops (set_of templates.now) limits (meaning (set_of templates.now) limits self.old) rest.now sink.old result.bytes result.turn sink.new self.new }
+        ensures turns { (way : Way) (n : ℕ) → HasTurns way (set_of templates.now) limits 0 n self.old → HasTurnsBehind result.turn way (set_of templates.now) limits n self.new }
     {
         match self.cursor.take_map(rest) {
-            MapFront::Cut => Taken::cut(rest),
-            MapFront::TooLong(bytes) => Taken::wrong(Code::L3, bytes),
+            MapFront::Cut => Quick::cut(rest),
+            MapFront::TooLong(bytes) => Quick::wrong(Code::L3, bytes),
             MapFront::Whole(bytes) => {
-                let outcome = self.segment_mapped(templates, limits, width, sink);
-                Taken { bytes, outcome }
+                let turn = self.segment_mapped(templates, limits, width, sink);
+                Quick { bytes, turn }
             }
         }
     }
@@ -375,17 +341,15 @@ impl<'t> Machine<'t> {
         limits: Limits,
         width: usize,
         sink: &mut S,
-    ) -> Result<(), FaultCode>
+    ) -> Result<Turn, FaultCode>
         requires turn { CanTurn (set_of templates.now) limits self.old }
         requires map { IsEntity self.old.cursor.map }
         requires short { length self.old.cursor.map ≤ map_limit }
         requires none { self.old.cursor.used ≡ 0 }
-        ensures hands { Hands S.takes S.stops
+        ensures turn { IsTurn S.takes S.stops (set_of templates.now) limits
             (segment_reader (set_of templates.now) limits self.old width)
-            sink.old result sink.new (meaning (set_of templates.now) limits self.new) }
-        ensures ready { OnOk result (IsReady (set_of templates.now) limits self.new) }
-        ensures supplied { IsSupplied (set_of templates.now) limits self.new }
-        ensures turns { (way : Way) (n : ℕ) → HasTurns way (set_of templates.now) limits 0 n self.old → HasTurnsAfter result way (set_of templates.now) limits n self.new }
+            sink.old result sink.new self.new }
+        ensures turns { (way : Way) (n : ℕ) → HasTurns way (set_of templates.now) limits 0 n self.old → HasTurnsBehind result way (set_of templates.now) limits n self.new }
     {
         if is_overlong(limits.strict, self.cursor.map()) {
             return Err(FaultCode::Stream(Code::R7));
@@ -393,7 +357,7 @@ impl<'t> Machine<'t> {
         if is_too_wide(limits.strict, self.cursor.map_len(), width) {
             return Err(FaultCode::Stream(Code::R8));
         }
-        self.settle_on(templates, limits, sink)
+        Ok(Turn::Silent)
     }
 
     /// Takes bytes of the first unit of the next instruction, an integer.
@@ -403,18 +367,15 @@ impl<'t> Machine<'t> {
         limits: Limits,
         rest: &[u8],
         sink: &mut S,
-    ) -> Taken
+    ) -> Quick
         requires waits { self.old.waiting ≡ Waiting.Field }
         requires ready { IsReady (set_of templates.now) limits self.old }
         requires some { 0 < length rest.now }
-        ensures taken { IsTaken S.takes S.stops (tree_in (set_of templates.now)) limits (meaning (set_of templates.now) limits self.old) rest.now
-            sink.old result.bytes result.outcome sink.new (meaning (set_of templates.now) limits self.new) }
-        ensures ready { OnOk result.outcome (IsReady (set_of templates.now) limits self.new) }
-        ensures supplied { IsSupplied (set_of templates.now) limits self.new }
-        ensures turns { (way : Way) (n : ℕ) → HasTurns way (set_of templates.now) limits 1 n self.old → HasTurnsAfter result.outcome way (set_of templates.now) limits n self.new }
+        ensures taken { IsTakenTo S.takes S.stops (set_of templates.now) limits (meaning (set_of templates.now) limits self.old) rest.now sink.old result.bytes result.turn sink.new self.new }
+        ensures turns { (way : Way) (n : ℕ) → HasTurns way (set_of templates.now) limits 1 n self.old → HasTurnsBehind result.turn way (set_of templates.now) limits n self.new }
     {
         let Some(number) = self.cursor.next() else {
-            return Taken::cut(rest);
+            return Quick::cut(rest);
         };
         match &templates.node(number).shape {
             Shape::Field(field) => {
@@ -443,7 +404,7 @@ impl<'t> Machine<'t> {
                     sink,
                 )
             }
-            Shape::Group { .. } => Taken::cut(rest),
+            Shape::Group { .. } => Quick::cut(rest),
         }
     }
 
@@ -458,7 +419,7 @@ impl<'t> Machine<'t> {
         mantissa: &FieldInstruction,
         rest: &[u8],
         sink: &mut S,
-    ) -> Taken
+    ) -> Quick
         requires waits { self.old.waiting ≡ Waiting.Field }
         requires ready { IsReady (set_of templates.now) limits self.old }
         requires some { 0 < length rest.now }
@@ -466,11 +427,8 @@ impl<'t> Machine<'t> {
         requires exponent { Serves (set_of templates.now).entries (slots_terms self.old.slots) (field_data exponent.now) }
         requires mantissa { Serves (set_of templates.now).entries (slots_terms self.old.slots) (field_data mantissa.now) }
         requires kind { exponent.now.kind ≡ Kind.Int32 }
-        ensures taken { IsTaken S.takes S.stops (tree_in (set_of templates.now)) limits (meaning (set_of templates.now) limits self.old) rest.now
-            sink.old result.bytes result.outcome sink.new (meaning (set_of templates.now) limits self.new) }
-        ensures ready { OnOk result.outcome (IsReady (set_of templates.now) limits self.new) }
-        ensures supplied { IsSupplied (set_of templates.now) limits self.new }
-        ensures turns { (way : Way) (n : ℕ) → HasTurns way (set_of templates.now) limits 1 n self.old → HasTurnsAfter result.outcome way (set_of templates.now) limits n self.new }
+        ensures taken { IsTakenTo S.takes S.stops (set_of templates.now) limits (meaning (set_of templates.now) limits self.old) rest.now sink.old result.bytes result.turn sink.new self.new }
+        ensures turns { (way : Way) (n : ℕ) → HasTurns way (set_of templates.now) limits 1 n self.old → HasTurnsBehind result.turn way (set_of templates.now) limits n self.new }
     {
         match take_integer(
             &mut self.slots,
@@ -479,14 +437,13 @@ impl<'t> Machine<'t> {
             rest,
             limits.strict,
         ) {
-            Progress::Cut => Taken::cut(rest),
-            Progress::Wrong(code, bytes) => Taken::wrong(code, bytes),
+            Progress::Cut => Quick::cut(rest),
+            Progress::Wrong(code, bytes) => Quick::wrong(code, bytes),
             Progress::Whole(source, bytes) => {
                 let turn = self.exponent_known(
                     templates, limits, node, exponent, mantissa, source, sink,
                 );
-                let outcome = self.go_on(templates, limits, turn, sink);
-                Taken { bytes, outcome }
+                Quick { bytes, turn }
             }
         }
     }
@@ -501,7 +458,7 @@ impl<'t> Machine<'t> {
         body: &'t [u32],
         rest: &[u8],
         sink: &mut S,
-    ) -> Taken
+    ) -> Quick
         requires waits { self.old.waiting ≡ Waiting.Field }
         requires ready { IsReady (set_of templates.now) limits self.old }
         requires some { 0 < list_length rest.now }
@@ -511,11 +468,8 @@ impl<'t> Machine<'t> {
         requires below { AreBelow (list_length (set_of templates.now).nodes) body.now }
         requires width { slice_index self.old.widths.nodes.items node ≡ bits_of (body_in (set_of templates.now) body.now) }
         requires node { node < list_length (set_of templates.now).nodes }
-        ensures taken { IsTaken S.takes S.stops (tree_in (set_of templates.now)) limits (meaning (set_of templates.now) limits self.old) rest.now
-            sink.old result.bytes result.outcome sink.new (meaning (set_of templates.now) limits self.new) }
-        ensures ready { OnOk result.outcome (IsReady (set_of templates.now) limits self.new) }
-        ensures supplied { IsSupplied (set_of templates.now) limits self.new }
-        ensures turns { (way : Way) (n : ℕ) → HasTurns way (set_of templates.now) limits 1 n self.old → HasTurnsAfter result.outcome way (set_of templates.now) limits n self.new }
+        ensures taken { IsTakenTo S.takes S.stops (set_of templates.now) limits (meaning (set_of templates.now) limits self.old) rest.now sink.old result.bytes result.turn sink.new self.new }
+        ensures turns { (way : Way) (n : ℕ) → HasTurns way (set_of templates.now) limits 1 n self.old → HasTurnsBehind result.turn way (set_of templates.now) limits n self.new }
     {
         match take_integer(
             &mut self.slots,
@@ -524,12 +478,11 @@ impl<'t> Machine<'t> {
             rest,
             limits.strict,
         ) {
-            Progress::Cut => Taken::cut(rest),
-            Progress::Wrong(code, bytes) => Taken::wrong(code, bytes),
+            Progress::Cut => Quick::cut(rest),
+            Progress::Wrong(code, bytes) => Quick::wrong(code, bytes),
             Progress::Whole(source, bytes) => {
                 let turn = self.length_known(templates, limits, node, length, body, source, sink);
-                let outcome = self.go_on(templates, limits, turn, sink);
-                Taken { bytes, outcome }
+                Quick { bytes, turn }
             }
         }
     }
@@ -542,21 +495,18 @@ impl<'t> Machine<'t> {
         exponent: i32,
         rest: &[u8],
         sink: &mut S,
-    ) -> Taken
+    ) -> Quick
         requires waits { self.old.waiting ≡ Waiting.Mantissa exponent }
         requires ready { IsReady (set_of templates.now) limits self.old }
         requires some { 0 < length rest.now }
-        ensures taken { IsTaken S.takes S.stops (tree_in (set_of templates.now)) limits (meaning (set_of templates.now) limits self.old) rest.now
-            sink.old result.bytes result.outcome sink.new (meaning (set_of templates.now) limits self.new) }
-        ensures ready { OnOk result.outcome (IsReady (set_of templates.now) limits self.new) }
-        ensures supplied { IsSupplied (set_of templates.now) limits self.new }
-        ensures turns { (way : Way) (n : ℕ) → HasTurns way (set_of templates.now) limits 1 n self.old → HasTurnsAfter result.outcome way (set_of templates.now) limits n self.new }
+        ensures taken { IsTakenTo S.takes S.stops (set_of templates.now) limits (meaning (set_of templates.now) limits self.old) rest.now sink.old result.bytes result.turn sink.new self.new }
+        ensures turns { (way : Way) (n : ℕ) → HasTurns way (set_of templates.now) limits 1 n self.old → HasTurnsBehind result.turn way (set_of templates.now) limits n self.new }
     {
         let Some(number) = self.cursor.next() else {
-            return Taken::cut(rest);
+            return Quick::cut(rest);
         };
         let Shape::Decimal { mantissa, .. } = &templates.node(number).shape else {
-            return Taken::cut(rest);
+            return Quick::cut(rest);
         };
         match take_integer(
             &mut self.slots,
@@ -565,12 +515,11 @@ impl<'t> Machine<'t> {
             rest,
             limits.strict,
         ) {
-            Progress::Cut => Taken::cut(rest),
-            Progress::Wrong(code, bytes) => Taken::wrong(code, bytes),
+            Progress::Cut => Quick::cut(rest),
+            Progress::Wrong(code, bytes) => Quick::wrong(code, bytes),
             Progress::Whole(source, bytes) => {
                 let turn = self.finish_decimal(number, mantissa, exponent, source, sink);
-                let outcome = self.go_on(templates, limits, turn, sink);
-                Taken { bytes, outcome }
+                Quick { bytes, turn }
             }
         }
     }
@@ -582,21 +531,18 @@ impl<'t> Machine<'t> {
         limits: Limits,
         rest: &[u8],
         sink: &mut S,
-    ) -> Taken
+    ) -> Quick
         requires waits { IsOfFieldLater self.old.waiting }
         requires ready { IsReady (set_of templates.now) limits self.old }
         requires some { 0 < length rest.now }
-        ensures taken { IsTaken S.takes S.stops (tree_in (set_of templates.now)) limits (meaning (set_of templates.now) limits self.old) rest.now
-            sink.old result.bytes result.outcome sink.new (meaning (set_of templates.now) limits self.new) }
-        ensures ready { OnOk result.outcome (IsReady (set_of templates.now) limits self.new) }
-        ensures supplied { IsSupplied (set_of templates.now) limits self.new }
-        ensures turns { (way : Way) (n : ℕ) → HasTurns way (set_of templates.now) limits 1 n self.old → HasTurnsAfter result.outcome way (set_of templates.now) limits n self.new }
+        ensures taken { IsTakenTo S.takes S.stops (set_of templates.now) limits (meaning (set_of templates.now) limits self.old) rest.now sink.old result.bytes result.turn sink.new self.new }
+        ensures turns { (way : Way) (n : ℕ) → HasTurns way (set_of templates.now) limits 1 n self.old → HasTurnsBehind result.turn way (set_of templates.now) limits n self.new }
     {
         let Some(number) = self.cursor.next() else {
-            return Taken::cut(rest);
+            return Quick::cut(rest);
         };
         let Shape::Field(field) = &templates.node(number).shape else {
-            return Taken::cut(rest);
+            return Quick::cut(rest);
         };
         let progress = self.take_scalar(templates, limits, field, rest);
         self.scalar_taken(templates, limits, number, field, progress, rest, sink)
@@ -661,25 +607,22 @@ impl<'t> Machine<'t> {
         progress: Progress<Step>,
         rest: &[u8],
         sink: &mut S,
-    ) -> Taken
+    ) -> Quick
         requires next { IsAtField (set_of templates.now) self.old.cursor node (field_data field.now) }
         requires serves { Serves (set_of templates.now).entries (slots_terms self.old.slots) (field_data field.now) }
         requires progress { CanProgress (set_of templates.now) limits self.old (field_data field.now) progress }
         requires within { (step : Step) (n : ℕ) → progress ≡ Progress.Whole step n → n ≤ length rest.now }
         ensures taken { (m : Machine) → IsReady (set_of templates.now) limits m → IsOfField m.waiting → 0 < length rest.now → IsScalarUnit limits m self.old (field_data field.now) rest.now progress
-            → IsTaken S.takes S.stops (tree_in (set_of templates.now)) limits (meaning (set_of templates.now) limits m) rest.now
-            sink.old result.bytes result.outcome sink.new (meaning (set_of templates.now) limits self.new) }
-        ensures ready { OnOk result.outcome (IsReady (set_of templates.now) limits self.new) }
-        ensures supplied { IsSupplied (set_of templates.now) limits self.new }
-        ensures turns { (way : Way) (n : ℕ) → IsOfField self.old.waiting → HasTurns way (set_of templates.now) limits 1 n self.old → HasTurnsAfter result.outcome way (set_of templates.now) limits n self.new }
+            → IsTakenTo S.takes S.stops (set_of templates.now) limits (meaning (set_of templates.now) limits m) rest.now sink.old result.bytes result.turn sink.new self.new }
+        ensures turns { (way : Way) (n : ℕ) → IsOfField self.old.waiting → HasTurns way (set_of templates.now) limits 1 n self.old → HasTurnsBehind result.turn way (set_of templates.now) limits n self.new }
     {
         match progress {
-            Progress::Cut => Taken::cut(rest),
-            Progress::Wrong(code, bytes) => Taken::wrong(code, bytes),
+            Progress::Cut => Quick::cut(rest),
+            Progress::Wrong(code, bytes) => Quick::wrong(code, bytes),
             Progress::Whole(step, bytes) => {
                 let piece = &rest[..bytes];
-                let outcome = self.step_on(templates, limits, node, field, step, piece, sink);
-                Taken { bytes, outcome }
+                let turn = self.step_on(templates, limits, node, field, step, piece, sink);
+                Quick { bytes, turn }
             }
         }
     }
@@ -695,25 +638,20 @@ impl<'t> Machine<'t> {
         step: Step,
         piece: &[u8],
         sink: &mut S,
-    ) -> Result<(), FaultCode>
+    ) -> Result<Turn, FaultCode>
         requires next { IsAtField (set_of templates.now) self.old.cursor node (field_data field.now) }
         requires serves { Serves (set_of templates.now).entries (slots_terms self.old.slots) (field_data field.now) }
         requires step { CanStep (set_of templates.now) limits self.old (field_data field.now) step }
-        ensures hands { Hands S.takes S.stops
+        ensures turn { IsTurn S.takes S.stops (set_of templates.now) limits
             (reader_of limits.strict (step_then (set_of templates.now) limits node (field_data field.now) self.old piece.now step))
-            sink.old result sink.new (meaning (set_of templates.now) limits self.new) }
-        ensures ready { OnOk result (IsReady (set_of templates.now) limits self.new) }
-        ensures supplied { IsSupplied (set_of templates.now) limits self.new }
-        ensures turns { (way : Way) (n : ℕ) → HasTurns way (set_of templates.now) limits 1 n self.old → HasTurnsAfter result way (set_of templates.now) limits n self.new }
+            sink.old result sink.new self.new }
+        ensures turns { (way : Way) (n : ℕ) → HasTurns way (set_of templates.now) limits 1 n self.old → HasTurnsBehind result way (set_of templates.now) limits n self.new }
     {
         match step {
-            Step::Settled(source) => {
-                let turn = self.finish(node, field, source, piece, sink);
-                self.go_on(templates, limits, turn, sink)
-            }
+            Step::Settled(source) => self.finish(node, field, source, piece, sink),
             Step::Next(stage) => {
                 self.wait_behind(field, stage);
-                Ok(())
+                Ok(Turn::Waits)
             }
         }
     }
@@ -773,15 +711,12 @@ impl<'t> Machine<'t> {
         limits: Limits,
         rest: &[u8],
         sink: &mut S,
-    ) -> Taken
+    ) -> Quick
         requires ready { IsReady (set_of templates.now) limits self.old }
         requires some { 0 < length rest.now }
-        ensures taken { IsTaken S.takes S.stops (tree_in (set_of templates.now)) limits (meaning (set_of templates.now) limits self.old) rest.now
-            sink.old result.bytes result.outcome sink.new (meaning (set_of templates.now) limits self.new) }
-        ensures ready { OnOk result.outcome (IsReady (set_of templates.now) limits self.new) }
-        ensures supplied { IsSupplied (set_of templates.now) limits self.new }
+        ensures taken { IsTakenTo S.takes S.stops (set_of templates.now) limits (meaning (set_of templates.now) limits self.old) rest.now sink.old result.bytes result.turn sink.new self.new }
         ensures turns { (way : Way) (n : ℕ) → HasTurnsWaiting way (set_of templates.now) limits n self.old
-            → HasTurnsAfter result.outcome way (set_of templates.now) limits (1 + n + turns_begun_at self.old.waiting self.old.cursor.map way (tree_in (set_of templates.now)) limits) self.new }
+            → HasTurnsBehind result.turn way (set_of templates.now) limits (1 + n + turns_begun_at self.old.waiting self.old.cursor.map way (tree_in (set_of templates.now)) limits) self.new }
     {
         self.turns = Turns::after(&self.turns);
         self.take_awaited(templates, limits, rest, sink)
@@ -795,15 +730,12 @@ impl<'t> Machine<'t> {
         limits: Limits,
         rest: &[u8],
         sink: &mut S,
-    ) -> Taken
+    ) -> Quick
         requires ready { IsReady (set_of templates.now) limits self.old }
         requires some { 0 < length rest.now }
-        ensures taken { IsTaken S.takes S.stops (tree_in (set_of templates.now)) limits (meaning (set_of templates.now) limits self.old) rest.now
-            sink.old result.bytes result.outcome sink.new (meaning (set_of templates.now) limits self.new) }
-        ensures ready { OnOk result.outcome (IsReady (set_of templates.now) limits self.new) }
-        ensures supplied { IsSupplied (set_of templates.now) limits self.new }
+        ensures taken { IsTakenTo S.takes S.stops (set_of templates.now) limits (meaning (set_of templates.now) limits self.old) rest.now sink.old result.bytes result.turn sink.new self.new }
         ensures turns { (way : Way) (n : ℕ) → HasTurnsWaiting way (set_of templates.now) limits n self.old
-            → HasTurnsAfter result.outcome way (set_of templates.now) limits (n + turns_begun_at self.old.waiting self.old.cursor.map way (tree_in (set_of templates.now)) limits) self.new }
+            → HasTurnsBehind result.turn way (set_of templates.now) limits (n + turns_begun_at self.old.waiting self.old.cursor.map way (tree_in (set_of templates.now)) limits) self.new }
     {
         match self.waiting {
             Waiting::Field => self.take_other(templates, limits, rest, sink),
@@ -843,21 +775,14 @@ impl<'t> Machine<'t> {
         let mut bytes = 0;
         while bytes < piece.len() {
             let rest = &piece[bytes..];
-            if let Some(quick) = self.take_quickly(templates, limits, rest, sink) {
-                bytes += quick.bytes;
-                let outcome = self.go_on(templates, limits, quick.turn, sink);
-                if outcome.is_err() {
-                    return Taken { bytes, outcome };
-                }
-                continue;
-            }
-            let taken = self.take_unit(templates, limits, rest, sink);
-            bytes += taken.bytes;
-            if taken.outcome.is_err() {
-                return Taken {
-                    bytes,
-                    outcome: taken.outcome,
-                };
+            let quick = match self.take_quickly(templates, limits, rest, sink) {
+                Some(quick) => quick,
+                None => self.take_unit(templates, limits, rest, sink),
+            };
+            bytes += quick.bytes;
+            let outcome = self.go_on(templates, limits, quick.turn, sink);
+            if outcome.is_err() {
+                return Taken { bytes, outcome };
             }
         }
         Taken {

@@ -11,13 +11,16 @@ use Rattle.fast_decoder.specs.Machine.{after_bytes}
 use Rattle.fast_decoder.specs.Readers.{Reader, Stop}
 use Rattle.fast_decoder.specs.Settling.{GivesField}
 use Rattle.fast_decoder.specs.Taking.{Turns, Stays}
+use Rattle.fast_decoder.specs.Quick.{IsTakenTo}
+use Rattle.fast_decoder.specs.declared.faults.FaultCode.TheVariants as Why
 use Rattle.fast_decoder.specs.declared.machine.Waiting.{Waiting}
 use Rattle.fast_decoder.specs.declared.machine.Machine.{Machine}
-use Rattle.fast_decoder.specs.Positions.{set_of, tree_in, behind_map, meaning_at, CanTake}
-use Rattle.fast_decoder.proofs.Hanging.{hands_as}
-use Rattle.fast_decoder.proofs.Takes.{taken_turns, taken_fault, taken_stays}
+use Rattle.fast_decoder.specs.Positions.{set_of, tree_in, behind_map, meaning, meaning_at, CanTake, IsReady}
+use Rattle.fast_decoder.proofs.FieldTurns.{turn_as}
+use Rattle.fast_decoder.proofs.PartTakes.{part_supplied}
+use Rattle.fast_decoder.proofs.Quick.{taken_to, cut_to, wrong_to}
+use Rattle.fast_decoder.proofs.Takes.{taken_fault, taken_stays}
 use Rattle.fast_decoder.proofs.Takings.{taken_as}
-use Rattle.fast_decoder.proofs.Reports.{taken_reported}
 use Rattle.fast_decoder.proofs.Identifiers.{identifier_served, identified_by, sent_turns, sent_stops, sent_stays}
 use Rattle.fast_decoder.proofs.machine.Machine.take_identifier.Goals as goal
 
@@ -39,7 +42,13 @@ returns-in-Cut-clause-taken g c =
     let (stays, dictionary) = c.in-Cut.ensures.unit (bounds l) [] in
     let (pending, no_stop, short) = c.in-Cut.ensures.cut refl in
     let r : Reader Dictionary = reader_of l.strict (behind_map set (bounds l) d m.cursor.map) in
-    taken_reported g.S.Sink.takes g.S.Sink.stops (tree_in set) l rest c.args.sink.now c.args.sink.now c.cut.ensures.bytes c.cut.ensures.outcome
+    let ready : IsReady set l new = record {
+      supplied = part_supplied set l m c.take_integer.new.slots c.take_integer.new.pending c.requires.ready c.take_integer.ensures.terms;
+      entity_open = no_stop;
+      entity_short = short;
+      takes = subst (λ (w : Waiting). CanTake w set l new) (sym c.requires.waits) (entity, bit, place);
+    } in
+    cut_to g.S.Sink.takes g.S.Sink.stops set l (meaning set l m) rest c.args.sink.now new c.cut.ensures.bytes c.cut.ensures.turn ready
     (taken_as g.S.Sink.takes g.S.Sink.stops (tree_in set) l rest c.args.sink.now (length rest) _ c.args.sink.now
     (ap (λ (w : Waiting). meaning_at w set l m) c.requires.waits)
     (ap (λ (w : Waiting). meaning_at w set l new) c.requires.waits ∙ ap (λ (e : Dictionary). after_bytes (reader_of l.strict (behind_map set (bounds l) e m.cursor.map)) new.entity) dictionary ∙ ap (after_bytes r) pending)
@@ -59,10 +68,11 @@ returns-in-Wrong-clause-taken g c =
     let (entity, bit, place) = subst (λ (w : Waiting). CanTake w set l m) c.requires.waits c.requires.ready.takes in
     let (some, within, turns) = c.in-Wrong.ensures.unit (bounds l) [] in
     let r : Reader Dictionary = reader_of l.strict (behind_map set (bounds l) d m.cursor.map) in
-    taken_reported g.S.Sink.takes g.S.Sink.stops (tree_in set) l rest c.args.sink.now c.args.sink.now c.wrong.ensures.bytes c.wrong.ensures.outcome
-    (taken_as g.S.Sink.takes g.S.Sink.stops (tree_in set) l rest c.args.sink.now n _ c.args.sink.now
+    wrong_to g.S.Sink.takes g.S.Sink.stops set l (meaning set l m) rest c.args.sink.now (record m { slots = c.take_integer.new.slots; entity = c.take_integer.new.pending }) (Why.Stream c.in-Wrong.code) c.wrong.ensures.bytes c.wrong.ensures.turn
+    (part_supplied set l m c.take_integer.new.slots c.take_integer.new.pending c.requires.ready c.take_integer.ensures.terms)
+    (λ q. taken_as g.S.Sink.takes g.S.Sink.stops (tree_in set) l rest c.args.sink.now n _ c.args.sink.now
     (ap (λ (u : Waiting). meaning_at u set l m) c.requires.waits) refl
-    (taken_fault g.S.Sink.takes g.S.Sink.stops (tree_in set) l r m.entity rest n c.in-Wrong.code c.args.sink.now _ some within
+    (taken_fault g.S.Sink.takes g.S.Sink.stops (tree_in set) l r m.entity rest n c.in-Wrong.code c.args.sink.now q some within
     (sent_stops set l.strict (bounds l) d m.cursor.map bit w c.in-Wrong.code
     (subst (λ (f : FieldData). Turns (reader_of l.strict (field_term (bounds l) f (previous_at f.entry d) true)) w (Stop c.in-Wrong.code)) c.requires.ready.supplied.identifier turns))))
 
@@ -79,10 +89,10 @@ returns-in-Whole-clause-taken g c =
     let (some, within, given) = c.in-Whole.ensures.unit (bounds l) m.text.text in
     let gives = subst (λ (f : FieldData). GivesField (reader_of l.strict (field_term (bounds l) f (previous_at f.entry d) true)) w f c.in-Whole.source d (slots_dictionary c.take_integer.new.slots) m.text.text (take n rest)) c.requires.ready.supplied.identifier given in
     let r : Reader Dictionary = reader_of l.strict (behind_map set (bounds l) d m.cursor.map) in
-    taken_as g.S.Sink.takes g.S.Sink.stops (tree_in set) l rest c.args.sink.now n c.identified-outcome.result c.identified-outcome.new.sink
-    (ap (λ (u : Waiting). meaning_at u set l m) c.requires.waits) refl
-    (taken_turns g.S.Sink.takes g.S.Sink.stops (tree_in set) l r m.entity rest n _ c.args.sink.now c.identified-outcome.result c.identified-outcome.new.sink _ some within
+    let b : Machine = c.identified-turn.new.self in
+    subst (λ (p : Reader Dictionary). IsTakenTo g.S.Sink.takes g.S.Sink.stops set l p rest c.args.sink.now n c.identified-turn.result c.identified-turn.new.sink b) (sym (ap (λ (u : Waiting). meaning_at u set l m) c.requires.waits))
+    (taken_to g.S.Sink.takes g.S.Sink.stops set l r m.entity rest n _ c.args.sink.now c.identified-turn.result c.identified-turn.new.sink b some within
     (sent_turns set l.strict (bounds l) d m.cursor.map bit w gives.outcome gives.turns)
-    (hands_as g.S.Sink.takes g.S.Sink.stops c.args.sink.now c.identified-outcome.result c.identified-outcome.new.sink _
+    (turn_as g.S.Sink.takes g.S.Sink.stops set l _ _ c.args.sink.now c.identified-turn.result c.identified-turn.new.sink b
     (identified_by set l.strict (bounds l) d (slots_dictionary c.take_integer.new.slots) m.cursor gives.outcome _ place gives.settled.value gives.settled.dictionary)
-    c.identified-outcome.ensures.hands))
+    c.identified-turn.ensures.turn))

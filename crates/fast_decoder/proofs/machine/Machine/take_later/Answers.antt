@@ -1,7 +1,10 @@
-use Rattle.std.proofs.Common.{sym, ◌∙◌}
+use Rattle.std.proofs.Common.{sym, ◌∙◌, subst}
 use Rattle.fast_template.specs.Flat.{field_data}
 use Rattle.fast_decoder.specs.Positions.{set_of}
-use Rattle.fast_decoder.proofs.ScalarNodes.{at_field_node, later_field, not_field, still_at_field}
+use Rattle.fast_decoder.specs.Scalars.{IsOfField}
+use Rattle.fast_decoder.specs.TurnsLeft.{HasTurns}
+use Rattle.fast_decoder.specs.declared.machine.Machine.{Machine}
+use Rattle.fast_decoder.proofs.ScalarNodes.{at_field_node, of_later, later_field, not_field, still_at_field}
 use Rattle.fast_decoder.proofs.machine.Machine.take_later.Goals as goal
 
 pub returns-in_default-shape : goal.returns-in_default-shape
@@ -20,3 +23,11 @@ scalar_taken-requires-clause-next g c =
     let set = set_of c.args.templates.now in
     let at = at_field_node set c.args.self.now.cursor c.in-Some.number c.node.result.now c.args.templates.now.nodes_name_later_nodes (sym c.next.ensures ∙ c.in-Some.is) c.node.ensures.found c.in-Field.field c.in-Field.is in
     still_at_field set c.args.self.now c.take_scalar-progress.new.self c.in-Some.number (field_data c.in-Field.field) c.take_scalar-progress.ensures.unit.same at
+
+pub returns-clause-turns : goal.returns-clause-turns
+returns-clause-turns g c way n h =
+    let set = set_of c.args.templates.now in
+    let m = c.args.self.now in
+    let same = c.take_scalar-progress.ensures.unit.same in
+    c.scalar_taken.ensures.turns way n (subst (λ (x : Machine). IsOfField x.waiting) (sym same) (of_later m.waiting c.requires.waits))
+    (subst (λ (x : Machine). HasTurns way set c.args.limits 1 n x) (sym same) h)

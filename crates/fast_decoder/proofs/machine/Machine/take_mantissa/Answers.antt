@@ -1,5 +1,6 @@
 use Rattle.std.proofs.Common.{refl, sym, [], ◌∙◌, subst, ℤ}
 use mir.Syntax.{w32}
+use mir.Val.{to_z, of_z}
 use Rattle.std.proofs.lemmas.Int.{to_z-of_z}
 use Rattle.fast_value.specs.Limits.{bounds}
 use Rattle.fast_template.specs.Flat.{field_data}
@@ -9,17 +10,17 @@ use Rattle.fast_decoder.specs.Continuations.{handed_then}
 use Rattle.fast_dict.specs.Dictionary.{Dictionary}
 use Rattle.fast_decoder.specs.Grammar.{Grammar}
 use Rattle.fast_decoder.specs.GrammarReaders.{reader_of}
-use Rattle.fast_decoder.specs.Handing.{Hands}
+use Rattle.fast_decoder.specs.Readers.{Reader}
+use Rattle.fast_decoder.specs.declared.faults.FaultCode.TheVariants as Why
 use Rattle.fast_decoder.specs.Settling.{value_at}
 use Rattle.fast_decoder.specs.Passing.{decimal_then}
 use Rattle.fast_decoder.specs.Messages.{Found, decimal_with}
-use Rattle.fast_decoder.specs.Positions.{set_of, tree_in, meaning, CanTake}
+use Rattle.fast_decoder.specs.Positions.{set_of, meaning, CanTake, IsTurn}
 use Rattle.fast_decoder.specs.declared.machine.Waiting.{Waiting}
-use Rattle.fast_decoder.proofs.Takes.{taken_by}
-use Rattle.fast_decoder.proofs.FieldTurns.{serves_here, behind, mantissa_from, mantissa_next, serves_known, entry_here}
-use Rattle.fast_decoder.proofs.ScalarSteps.{goes_on_moved}
+use Rattle.fast_decoder.proofs.Quick.{cut_to, wrong_to}
+use Rattle.fast_decoder.proofs.FieldTurns.{serves_here, behind, mantissa_from, mantissa_next, serves_known, entry_here, turn_moved}
 use Rattle.fast_decoder.proofs.ScalarNodes.{at_parts_node, mantissa_parts, not_decimal, served_node}
-use Rattle.fast_decoder.proofs.PartTakes.{integer_whole, integer_wrong, integer_cut, mantissa_sees, mantissa_sent, meaning_second, second_cut, second_turn, part_supplied}
+use Rattle.fast_decoder.proofs.PartTakes.{integer_whole, integer_wrong, integer_cut, mantissa_sees, mantissa_sent, meaning_second, second_cut, second_ready, second_turn, part_supplied}
 use Rattle.fast_decoder.proofs.machine.Machine.take_mantissa.Goals as goal
 
 pub returns-in_default-shape : goal.returns-in_default-shape
@@ -64,16 +65,6 @@ finish_decimal-turn-requires-clause-entry g c =
     let a = record m { slots = slots; entity = c.take_integer.new.pending } in
     entry_here set l a f (part_supplied set l m slots c.take_integer.new.pending c.requires.ready c.take_integer.ensures.terms) (serves_known set m slots f c.take_integer.ensures.terms served.1)
 
-pub go_on-outcome-requires-clause-goes_on : goal.go_on-outcome-requires-clause-goes_on
-go_on-outcome-requires-clause-goes_on g c =
-    let set = set_of c.args.templates.now in
-    let l = c.args.limits in
-    let m = c.args.self.now in
-    let slots = c.take_integer.new.slots in
-    let a = record m { slots = slots; entity = c.take_integer.new.pending } in
-    let can = second_turn set l m slots c.take_integer.new.pending c.requires.ready c.take_integer.ensures.terms c.args.exponent c.requires.waits (c.in-Whole.ensures.whole c.in-Whole.source c.in-Whole.bytes refl) in
-    goes_on_moved set l a c.finish_decimal-turn.new.self c.finish_decimal-turn.result can c.finish_decimal-turn.ensures.same c.finish_decimal-turn.ensures.depth c.finish_decimal-turn.ensures.past c.finish_decimal-turn.ensures.on
-
 pub returns-in-Cut-clause-taken : goal.returns-in-Cut-clause-taken
 returns-in-Cut-clause-taken g c =
     let takes = g.S.Sink.takes in
@@ -91,7 +82,8 @@ returns-in-Cut-clause-taken g c =
     let is = meaning_second set l m x c.requires.waits in
     let a = record m { slots = c.take_integer.new.slots; entity = c.take_integer.new.pending } in
     let (stays, same) = c.in-Cut.ensures.unit (bounds l) [] in
-    taken_by takes stops (tree_in set) l (meaning set l m) c.args.rest.now c.args.sink.now c.args.sink.now (meaning set l a) c.cut-in-Cut.ensures.bytes c.cut-in-Cut.ensures.outcome
+    cut_to takes stops set l (meaning set l m) c.args.rest.now c.args.sink.now a c.cut-in-Cut.ensures.bytes c.cut-in-Cut.ensures.turn
+    (second_ready set l m c.take_integer.new.slots c.take_integer.new.pending c.requires.ready c.take_integer.ensures.terms x c.requires.waits same (c.in-Cut.ensures.cut refl).1 (c.in-Cut.ensures.cut refl).2)
     (integer_cut takes stops set l m f k (mantissa_from set l m x) c.args.rest.now sent next is a c.take_integer.new.pending (second_cut set l m c.take_integer.new.slots c.take_integer.new.pending x c.requires.waits same) (c.in-Cut.ensures.cut refl).0 c.requires.some stays c.args.sink.now)
 
 pub returns-in-Wrong-clause-taken : goal.returns-in-Wrong-clause-taken
@@ -110,8 +102,9 @@ returns-in-Wrong-clause-taken g c =
     let next = mantissa_next set l m n (field_data c.in-Decimal.exponent) f x at in
     let is = meaning_second set l m x c.requires.waits in
     let a = record m { slots = c.take_integer.new.slots; entity = c.take_integer.new.pending } in
-    taken_by takes stops (tree_in set) l (meaning set l m) c.args.rest.now c.args.sink.now c.args.sink.now (meaning set l a) c.wrong.ensures.bytes c.wrong.ensures.outcome
-    (integer_wrong takes stops set l m f k (mantissa_from set l m x) c.args.rest.now sent next is (slots_dictionary c.take_integer.new.slots) [] c.in-Wrong.code c.in-Wrong.bytes (c.in-Wrong.ensures.unit (bounds l) []) c.args.sink.now (meaning set l a))
+    wrong_to takes stops set l (meaning set l m) c.args.rest.now c.args.sink.now a (Why.Stream c.in-Wrong.code) c.wrong.ensures.bytes c.wrong.ensures.turn
+    (part_supplied set l m c.take_integer.new.slots c.take_integer.new.pending c.requires.ready c.take_integer.ensures.terms)
+    (integer_wrong takes stops set l m f k (mantissa_from set l m x) c.args.rest.now sent next is (slots_dictionary c.take_integer.new.slots) [] c.in-Wrong.code c.in-Wrong.bytes (c.in-Wrong.ensures.unit (bounds l) []) c.args.sink.now)
 
 pub returns-in-Whole-clause-taken : goal.returns-in-Whole-clause-taken
 returns-in-Whole-clause-taken g c =
@@ -128,8 +121,15 @@ returns-in-Whole-clause-taken g c =
     let k : Found → Grammar Dictionary = λ r. handed_then n (behind set l m) (decimal_with x r.0) r.1 in
     let next = mantissa_next set l m n (field_data c.in-Decimal.exponent) f x at in
     let is = meaning_second set l m x c.requires.waits in
-    integer_whole takes stops set l m f k (mantissa_from set l m x) c.args.rest.now sent next is (mantissa_sees n x (behind set l m)) c.take_integer.new.slots m.text.text c.in-Whole.source c.in-Whole.bytes (c.in-Whole.ensures.unit (bounds l) m.text.text)
-    c.args.sink.now c.go_on-outcome.result c.go_on-outcome.new.sink (meaning set l c.go_on-outcome.new.self)
-    (subst (λ (y : ℤ). Hands takes stops (reader_of l.strict (decimal_then set (bounds l) n y (value_at c.in-Whole.source f (slots_dictionary c.take_integer.new.slots) m.text.text []) f (slots_dictionary c.take_integer.new.slots) m.counted m.cursor)) c.args.sink.now c.go_on-outcome.result c.go_on-outcome.new.sink (meaning set l c.go_on-outcome.new.self))
+    let slots = c.take_integer.new.slots in
+    let a = record m { slots = slots; entity = c.take_integer.new.pending } in
+    let can = second_turn set l m slots c.take_integer.new.pending c.requires.ready c.take_integer.ensures.terms x c.requires.waits (c.in-Whole.ensures.whole c.in-Whole.source c.in-Whole.bytes refl) in
+    let b = c.finish_decimal-turn.new.self in
+    let turn = c.finish_decimal-turn.result in
+    let ends = c.finish_decimal-turn.ensures in
+    let read : ℤ → Reader Dictionary = λ y. reader_of l.strict (decimal_then set (bounds l) n y (value_at c.in-Whole.source f (slots_dictionary slots) m.text.text []) f (slots_dictionary slots) m.counted m.cursor) in
+    integer_whole takes stops set l m f k (mantissa_from set l m x) c.args.rest.now sent next is (mantissa_sees n x (behind set l m)) slots m.text.text c.in-Whole.source c.in-Whole.bytes (c.in-Whole.ensures.unit (bounds l) m.text.text)
+    c.args.sink.now turn c.finish_decimal-turn.new.sink b
+    (subst (λ (y : ℤ). IsTurn takes stops set l (read y) c.args.sink.now turn c.finish_decimal-turn.new.sink b)
     (to_z-of_z w32 x c.ranges.exponent)
-    (c.go_on-outcome.ensures.hands _ c.args.sink.now (c.finish_decimal-turn.ensures.moves set (bounds l) l.strict (meaning set l c.finish_decimal-turn.new.self))))
+    (turn_moved takes stops set l (read (to_z w32 (of_z w32 x))) (read (to_z w32 (of_z w32 x))) c.args.sink.now turn c.finish_decimal-turn.new.sink a b refl (ends.moves set (bounds l) l.strict (meaning set l b)) can ends.same ends.depth ends.past ends.on))

@@ -4,12 +4,14 @@ use Rattle.std.proofs.lemmas.List.{length-take-le}
 use Rattle.fast_wire.specs.Maps.{map_limit}
 use Rattle.fast_value.specs.declared.codes.Code.TheVariants.{L3}
 use Rattle.fast_dict.specs.Slots.{slots_dictionary}
-use Rattle.fast_decoder.specs.Handing.{Hands}
+use Rattle.fast_decoder.specs.Handing.{due}
+use Rattle.fast_decoder.specs.declared.faults.FaultCode.TheVariants as Why
 use Rattle.fast_decoder.specs.declared.machine.Waiting.{Waiting}
 use Rattle.fast_decoder.specs.declared.machine.Machine.{Machine}
-use Rattle.fast_decoder.specs.Positions.{set_of, tree_in, mapped_reader, map_reader, meaning, meaning_at, CanTake}
-use Rattle.fast_decoder.proofs.Takings.{taken_as, taken_cut, taken_full, taken_whole, due-map, map_reader-some}
-use Rattle.fast_decoder.proofs.Reports.{taken_reported}
+use Rattle.fast_decoder.specs.Positions.{set_of, tree_in, mapped_reader, map_reader, meaning, meaning_at, CanTake, IsTurn}
+use Rattle.fast_decoder.proofs.Takings.{taken_as, taken_cut, taken_full, due-map, map_reader-some}
+use Rattle.fast_decoder.proofs.CutMaps.{map_supplied, map_ready}
+use Rattle.fast_decoder.proofs.Quick.{whole_to, cut_to, wrong_to}
 use Rattle.fast_decoder.proofs.machine.Machine.take_map.Goals as goal
 
 pub returns-in-Cut-clause-taken : goal.returns-in-Cut-clause-taken
@@ -25,7 +27,8 @@ returns-in-Cut-clause-taken g c =
     let (short, no_stop, bytes) = c.in-Cut.ensures.map in
     let sum : length (front ++ rest) ≡ length front + length rest = length-append front rest in
     let some : 0 < length rest = c.requires.some in
-    taken_reported g.S.Sink.takes g.S.Sink.stops (tree_in set) l rest c.args.sink.now c.args.sink.now c.cut.ensures.bytes c.cut.ensures.outcome
+    cut_to g.S.Sink.takes g.S.Sink.stops set l (meaning set l m) rest c.args.sink.now new c.cut.ensures.bytes c.cut.ensures.turn
+    (map_ready set l m c.take_map.new.self c.requires.ready c.take_map.ensures.same (front ++ rest) short no_stop bytes c.requires.waits)
     (taken_as g.S.Sink.takes g.S.Sink.stops (tree_in set) l rest c.args.sink.now (length rest) _ c.args.sink.now
     (ap (λ (w : Waiting). meaning_at w set l m) c.requires.waits)
     (ap (λ (w : Waiting). meaning_at w set l new) c.requires.waits ∙ ap (map_reader set l d) bytes ∙ map_reader-some set l d (front ++ rest) (omega (arith, sum, some)))
@@ -45,10 +48,11 @@ returns-in-TooLong-clause-taken g c =
     let taken : length (take n rest) ≡ n = length-take-le n rest within in
     let sum : length (front ++ take n rest) ≡ length front + length (take n rest) = length-append front (take n rest) in
     let all : length (front ++ take n rest) ≡ map_limit = omega (arith, taken, sum, full) in
-    taken_reported g.S.Sink.takes g.S.Sink.stops (tree_in set) l rest c.args.sink.now c.args.sink.now c.wrong.ensures.bytes c.wrong.ensures.outcome
-    (taken_as g.S.Sink.takes g.S.Sink.stops (tree_in set) l rest c.args.sink.now n _ c.args.sink.now
+    wrong_to g.S.Sink.takes g.S.Sink.stops set l (meaning set l m) rest c.args.sink.now (record m { cursor = c.take_map.new.self }) (Why.Stream L3) c.wrong.ensures.bytes c.wrong.ensures.turn
+    (map_supplied set l m c.take_map.new.self c.requires.ready c.take_map.ensures.same)
+    (λ q. taken_as g.S.Sink.takes g.S.Sink.stops (tree_in set) l rest c.args.sink.now n _ c.args.sink.now
     (ap (λ (w : Waiting). meaning_at w set l m) c.requires.waits) refl
-    (taken_full g.S.Sink.takes g.S.Sink.stops (tree_in set) l L3 map_limit (mapped_reader set l d) (map_reader set l d front) front rest (due-map set l d front no_stop_yet room) n c.args.sink.now _ some within no_stop all))
+    (taken_full g.S.Sink.takes g.S.Sink.stops (tree_in set) l L3 map_limit (mapped_reader set l d) (map_reader set l d front) front rest (due-map set l d front no_stop_yet room) n c.args.sink.now q some within no_stop all))
 
 pub returns-in-Whole-clause-taken : goal.returns-in-Whole-clause-taken
 returns-in-Whole-clause-taken g c =
@@ -61,7 +65,6 @@ returns-in-Whole-clause-taken g c =
     let n : ℕ = c.in-Whole.bytes in
     let (no_stop_yet, room, unused, place) = subst (λ (w : Waiting). CanTake w set l m) c.requires.waits c.requires.ready.takes in
     let (some, within, short, entity, bytes) = c.in-Whole.ensures.map in
-    taken_as g.S.Sink.takes g.S.Sink.stops (tree_in set) l rest c.args.sink.now n c.mapped-outcome.result c.mapped-outcome.new.sink
-    (ap (λ (w : Waiting). meaning_at w set l m) c.requires.waits) refl
-    (taken_whole g.S.Sink.takes g.S.Sink.stops (tree_in set) l L3 map_limit (mapped_reader set l d) (map_reader set l d front) front rest (due-map set l d front no_stop_yet room) n c.args.sink.now c.mapped-outcome.result c.mapped-outcome.new.sink _ some within entity short
-    (subst (λ (w : List ℕ). Hands g.S.Sink.takes g.S.Sink.stops (mapped_reader set l d w) c.args.sink.now c.mapped-outcome.result c.mapped-outcome.new.sink (meaning set l c.mapped-outcome.new.self)) bytes c.mapped-outcome.ensures.hands))
+    whole_to g.S.Sink.takes g.S.Sink.stops set l L3 map_limit (mapped_reader set l d) (meaning set l m) front rest n c.args.sink.now c.mapped-turn.result c.mapped-turn.new.sink c.mapped-turn.new.self
+    (ap (due (tree_in set) l) (ap (λ (w : Waiting). meaning_at w set l m) c.requires.waits) ∙ due-map set l d front no_stop_yet room) some within entity short
+    (subst (λ (w : List ℕ). IsTurn g.S.Sink.takes g.S.Sink.stops set l (mapped_reader set l d w) c.args.sink.now c.mapped-turn.result c.mapped-turn.new.sink c.mapped-turn.new.self) bytes c.mapped-turn.ensures.turn)

@@ -7,16 +7,19 @@ use Rattle.fast_value.specs.declared.codes.Code.TheVariants.{L3}
 use Rattle.fast_dict.specs.Dictionary.{Dictionary}
 use Rattle.fast_dict.specs.Slots.{slots_dictionary}
 use Rattle.fast_decoder.specs.GrammarReaders.{reader_of}
+use Rattle.fast_decoder.specs.Handing.{due}
 use Rattle.fast_decoder.specs.Machine.{after_bytes}
 use Rattle.fast_decoder.specs.Readers.{Reader}
+use Rattle.fast_decoder.specs.declared.faults.FaultCode.TheVariants as Why
 use Rattle.fast_decoder.specs.declared.machine.Waiting.{Waiting}
 use Rattle.fast_decoder.specs.declared.machine.Machine.{Machine}
-use Rattle.fast_decoder.specs.Positions.{set_of, tree_in, segment_behind, meaning_at, CanTake}
+use Rattle.fast_decoder.specs.Positions.{set_of, tree_in, segment_behind, meaning, meaning_at, CanTake}
 use Rattle.fast_decoder.proofs.InHand.{entity_then}
-use Rattle.fast_decoder.proofs.Hanging.{hands_as}
-use Rattle.fast_decoder.proofs.Takings.{taken_as, taken_cut, taken_full, taken_whole, due-entity}
+use Rattle.fast_decoder.proofs.FieldTurns.{turn_as}
+use Rattle.fast_decoder.proofs.Takings.{taken_as, taken_cut, taken_full, due-entity}
 use Rattle.fast_decoder.proofs.SegmentMaps.{segment_judged, segment-reader, segment_same, segment_of}
-use Rattle.fast_decoder.proofs.Reports.{taken_reported}
+use Rattle.fast_decoder.proofs.CutMaps.{map_supplied, segment_map_ready}
+use Rattle.fast_decoder.proofs.Quick.{whole_to, cut_to, wrong_to}
 use Rattle.fast_decoder.proofs.machine.Machine.take_segment_map.Goals as goal
 
 pub returns-in-Cut-clause-taken : goal.returns-in-Cut-clause-taken
@@ -34,7 +37,8 @@ returns-in-Cut-clause-taken g c =
     let k = segment_judged set l d m.counted m.cursor width in
     let r : Reader Dictionary = reader_of l.strict (segment_behind set (bounds l) d m.counted m.cursor width) in
     let same : r ≡ entity_then L3 map_limit k = segment-reader set l d m.counted m.cursor width in
-    taken_reported g.S.Sink.takes g.S.Sink.stops (tree_in set) l rest c.args.sink.now c.args.sink.now c.cut.ensures.bytes c.cut.ensures.outcome
+    cut_to g.S.Sink.takes g.S.Sink.stops set l (meaning set l m) rest c.args.sink.now new c.cut.ensures.bytes c.cut.ensures.turn
+    (segment_map_ready set l m c.take_map.new.self c.requires.ready c.take_map.ensures.same (front ++ rest) short no_stop bytes width c.requires.waits)
     (taken_as g.S.Sink.takes g.S.Sink.stops (tree_in set) l rest c.args.sink.now (length rest) _ c.args.sink.now
     (ap (λ (w : Waiting). meaning_at w set l m) c.requires.waits)
     (ap (λ (w : Waiting). meaning_at w set l new) c.requires.waits ∙ segment_of set l d m.counted m.cursor width new.cursor c.take_map.ensures.same ∙ ap (after_bytes r) bytes ∙ ap (λ (p : Reader Dictionary). after_bytes p (front ++ rest)) same)
@@ -58,10 +62,11 @@ returns-in-TooLong-clause-taken g c =
     let k = segment_judged set l d m.counted m.cursor width in
     let r : Reader Dictionary = reader_of l.strict (segment_behind set (bounds l) d m.counted m.cursor width) in
     let same : r ≡ entity_then L3 map_limit k = segment-reader set l d m.counted m.cursor width in
-    taken_reported g.S.Sink.takes g.S.Sink.stops (tree_in set) l rest c.args.sink.now c.args.sink.now c.wrong.ensures.bytes c.wrong.ensures.outcome
-    (taken_as g.S.Sink.takes g.S.Sink.stops (tree_in set) l rest c.args.sink.now n _ c.args.sink.now
+    wrong_to g.S.Sink.takes g.S.Sink.stops set l (meaning set l m) rest c.args.sink.now (record m { cursor = c.take_map.new.self }) (Why.Stream L3) c.wrong.ensures.bytes c.wrong.ensures.turn
+    (map_supplied set l m c.take_map.new.self c.requires.ready c.take_map.ensures.same)
+    (λ q. taken_as g.S.Sink.takes g.S.Sink.stops (tree_in set) l rest c.args.sink.now n _ c.args.sink.now
     (ap (λ (w : Waiting). meaning_at w set l m) c.requires.waits) refl
-    (taken_full g.S.Sink.takes g.S.Sink.stops (tree_in set) l L3 map_limit k (after_bytes r front) front rest (due-entity (tree_in set) l L3 map_limit k r front same no_stop_yet room) n c.args.sink.now _ some within no_stop all))
+    (taken_full g.S.Sink.takes g.S.Sink.stops (tree_in set) l L3 map_limit k (after_bytes r front) front rest (due-entity (tree_in set) l L3 map_limit k r front same no_stop_yet room) n c.args.sink.now q some within no_stop all))
 
 pub returns-in-Whole-clause-taken : goal.returns-in-Whole-clause-taken
 returns-in-Whole-clause-taken g c =
@@ -79,9 +84,8 @@ returns-in-Whole-clause-taken g c =
     let k = segment_judged set l d m.counted m.cursor width in
     let r : Reader Dictionary = reader_of l.strict (segment_behind set (bounds l) d m.counted m.cursor width) in
     let same : r ≡ entity_then L3 map_limit k = segment-reader set l d m.counted m.cursor width in
-    taken_as g.S.Sink.takes g.S.Sink.stops (tree_in set) l rest c.args.sink.now n c.segment_mapped-outcome.result c.segment_mapped-outcome.new.sink
-    (ap (λ (w : Waiting). meaning_at w set l m) c.requires.waits) refl
-    (taken_whole g.S.Sink.takes g.S.Sink.stops (tree_in set) l L3 map_limit k (after_bytes r front) front rest (due-entity (tree_in set) l L3 map_limit k r front same no_stop_yet room) n c.args.sink.now c.segment_mapped-outcome.result c.segment_mapped-outcome.new.sink _ some within entity short
-    (hands_as g.S.Sink.takes g.S.Sink.stops c.args.sink.now c.segment_mapped-outcome.result c.segment_mapped-outcome.new.sink _
+    whole_to g.S.Sink.takes g.S.Sink.stops set l L3 map_limit k (meaning set l m) front rest n c.args.sink.now c.segment_mapped-turn.result c.segment_mapped-turn.new.sink c.segment_mapped-turn.new.self
+    (ap (due (tree_in set) l) (ap (λ (w : Waiting). meaning_at w set l m) c.requires.waits) ∙ due-entity (tree_in set) l L3 map_limit k r front same no_stop_yet room) some within entity short
+    (turn_as g.S.Sink.takes g.S.Sink.stops set l _ _ c.args.sink.now c.segment_mapped-turn.result c.segment_mapped-turn.new.sink c.segment_mapped-turn.new.self
     (segment_same set l d m.counted m.cursor width new (front ++ take n rest) c.take_map.ensures.same none bytes refl refl)
-    c.segment_mapped-outcome.ensures.hands))
+    c.segment_mapped-turn.ensures.turn)

@@ -22,7 +22,7 @@ use Rattle.fast_decoder.proofs.FieldTurns.{serves_here, behind, mantissa_from, m
 use Rattle.fast_decoder.proofs.Heads.{parts_head}
 use Rattle.fast_decoder.proofs.ScalarSteps.{supplied_moved, goes_on_moved}
 use Rattle.fast_decoder.proofs.ScalarNodes.{served_node}
-use Rattle.fast_decoder.proofs.PartTakes.{integer_whole_to, mantissa_sees, mantissa_sent, meaning_second, second_turn, part_supplied}
+use Rattle.fast_decoder.proofs.PartTakes.{integer_at_once, mantissa_sees, mantissa_sent, meaning_second, second_turn, part_supplied}
 use Rattle.fast_decoder.proofs.NextUnits.{none_in_hand}
 use Rattle.fast_decoder.proofs.TurnCounts.{finished, one_unit}
 use Rattle.fast_decoder.proofs.machine.Machine.take_short_mantissa.Goals as goal
@@ -72,7 +72,7 @@ returns-clause-taken g c =
       supplied = supplied_moved set l (record a { turns = c.after-self.result }) b from.supplied ends.same ends.depth;
       goes_on = goes_on_moved set l (record a { turns = c.after-self.result }) b turn from ends.same ends.depth ends.past ends.on;
     } in
-    integer_whole_to takes stops set l m f k (mantissa_from set l m x) c.args.rest.now sent (mantissa_next set l m n (field_data c.in-Decimal.exponent) f x at) (meaning_second set l m x c.requires.waits)
+    integer_at_once takes stops set l m f k (mantissa_from set l m x) c.args.rest.now sent (mantissa_next set l m n (field_data c.in-Decimal.exponent) f x at) (meaning_second set l m x c.requires.waits)
     (none_in_hand m.entity c.if-not-is_empty.ensures) (mantissa_sees n x (behind set l m)) slots m.text.text source c.in_ok-entity.entity.len (c.in_ok-item.ensures.unit (bounds l) m.text.text)
     c.args.sink.now turn c.finish_decimal-turn.new.sink b
     (subst (λ (y : ℤ). IsTurn takes stops set l (reader_of l.strict (decimal_then set (bounds l) n y (value_at source f (slots_dictionary slots) m.text.text []) f (slots_dictionary slots) m.counted m.cursor)) c.args.sink.now turn c.finish_decimal-turn.new.sink b)
