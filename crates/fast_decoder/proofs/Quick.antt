@@ -18,7 +18,7 @@ use Rattle.fast_decoder.specs.Taking.{Waits, Quiet, Turns}
 use Rattle.fast_decoder.specs.Moving.{Moves}
 use Rattle.fast_decoder.specs.Quick.{IsTakenTo}
 use Rattle.fast_decoder.specs.Positions.{Set, tree_in, CanTake, CanTurn, GoesOn, IsReady, IsSupplied, IsTurn, turning, meaning}
-use Rattle.fast_decoder.specs.TurnsLeft.{Way, HasTurns, HasTurnsBehind, HasTurnsWaiting, turns_begun_at}
+use Rattle.fast_decoder.specs.TurnsLeft.{Way, HasTurnsBehind, HasTurnsWaiting, turns_begun_at}
 use Rattle.fast_decoder.specs.declared.machine.Machine.{Machine}
 use Rattle.fast_decoder.specs.declared.quick_units.Quick.{Quick}
 use Rattle.fast_decoder.specs.declared.machine.Waiting.{Waiting}
@@ -136,13 +136,8 @@ can_turn_field set l m waits ready none =
     let can = can_take_field set l m waits ready in
     record { supplied = ready.supplied; placed = can.0; mapped = can.1; unused = none }
 
--- Behind a turn that goes on the machine is between two units, with the turns that are left.
+-- Behind a turn that goes on the machine is between two units.
 pub can_turn_on : (set : Set) (l : Limits) (m : Machine) (turn : Turn) → (turn ≡ TurnWaits → ⊥) → GoesOn set l m (Ok turn) → CanTurn set l m
 can_turn_on set l m Silent on h = h
 can_turn_on set l m Handed on h = h
 can_turn_on set l m TurnWaits on h = absurd (on refl)
-
-pub turns_on : (way : Way) (set : Set) (l : Limits) (n : ℕ) (m : Machine) (turn : Turn) → (turn ≡ TurnWaits → ⊥) → HasTurnsBehind (Ok turn) way set l n m → HasTurns way set l 0 n m
-turns_on way set l n m Silent on h = h
-turns_on way set l n m Handed on h = h
-turns_on way set l n m TurnWaits on h = absurd (on refl)

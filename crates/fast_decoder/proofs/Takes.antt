@@ -53,9 +53,3 @@ module _ {S : Type 0} (takes stops : S → EventData → S → Type 0) (t : Tree
       let all : take (length rest) rest ≡ rest = take_all (length rest) rest (omega arith) in
       let turns : Turns r (front ++ take (length rest) rest) (after_bytes r (front ++ rest)) = subst (λ (w : List ℕ). Turns r (front ++ w) (after_bytes r (front ++ rest))) (sym all) (record { quiet = h.quiet; becomes = refl }) in
       taken_turns (length rest) (after_bytes r (front ++ rest)) s (Ok tt) s (after_bytes r (front ++ rest)) some (omega arith) turns (hands_waits takes stops (after_bytes r (front ++ rest)) s h.waits)
-
--- By other names of how many bytes were taken, and of the outcome.
-pub taken_by : {S : Type 0} (takes stops : S → EventData → S → Type 0) (t : Tree) (l : Limits) (from : Reader Dictionary) (rest : List ℕ) (s s' : S) (to : Reader Dictionary) {n n' : ℕ} {o o' : Result Unit FaultCode} → n' ≡ n → o' ≡ o
-    → IsTaken takes stops t l from rest s n o s' to → IsTaken takes stops t l from rest s n' o' s' to
-taken_by takes stops t l from rest s s' to {n} {n'} {o} {o'} e i h =
-    subst (λ (k : ℕ). IsTaken takes stops t l from rest s k o' s' to) (sym e) (subst (λ (q : Result Unit FaultCode). IsTaken takes stops t l from rest s n q s' to) (sym i) h)

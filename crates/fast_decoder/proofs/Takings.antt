@@ -2,7 +2,7 @@
 use Rattle.std.proofs.Common.{refl, sym, ap, ◌∙◌, subst, arith, length-append}
 use Rattle.std.specs.Prelude.{◌≡◌, ℕ, ◌+◌, ◌<◌, ◌≤◌, List, [], ◌∷◌, ◌++◌, length, take, Result, Ok, Err}
 use Rattle.std.proofs.lemmas.List.{take_all, length-take-le}
-use Rattle.fast_wire.specs.Entities.{HaveNoStop, IsEntity}
+use Rattle.fast_wire.specs.Entities.{HaveNoStop}
 use Rattle.fast_wire.specs.Maps.{map_limit}
 use Rattle.fast_value.specs.declared.settings.Limits.{Limits}
 use Rattle.fast_value.specs.Limits.{bounds}
@@ -21,7 +21,7 @@ use Rattle.fast_decoder.specs.Running.{after_byte}
 use Rattle.fast_decoder.specs.Handing.{Hands, due, Waits, Quiet, IsTaken}
 use Rattle.fast_decoder.specs.Positions.{Set, tree_in, behind_map, mapped_reader, map_reader}
 use Rattle.fast_decoder.proofs.Hanging.{hands_waits, hands_fault, hands_as}
-use Rattle.fast_decoder.proofs.InHand.{entity_then, IsOpenBefore, open_in_entity, open_in_open, open_waits, whole_gives, full_stops, takes_quietly}
+use Rattle.fast_decoder.proofs.InHand.{entity_then, IsOpenBefore, open_in_open, open_waits, full_stops, takes_quietly}
 use Rattle.fast_decoder.proofs.Stepping.{map-entity}
 
 -- Bytes in two runs.
@@ -67,13 +67,6 @@ module _ {S : Type 0} (takes stops : S → EventData → S → Type 0) (t : Tree
         (rw all (omega arith))
         (hands_as takes stops s (Ok tt) s (after_bytes (entity_then c room k) (front ++ rest)) (ap (λ (w : List ℕ). after_bytes (entity_then c room k) (front ++ w)) all)
         (hands_waits takes stops (after_bytes (entity_then c room k) (front ++ rest)) s (open_waits c room k (front ++ rest) no_stop short)))
-
-    -- The entity is whole.
-    pub taken_whole : (n : ℕ) (s : S) (r : Result Unit FaultCode) (s' : S) (to : Reader Dictionary) → 0 < n → n ≤ length rest → IsEntity (front ++ take n rest) → length (front ++ take n rest) ≤ room
-        → Hands takes stops (k (front ++ take n rest)) s r s' to → IsTaken takes stops t l from rest s n r s' to
-    taken_whole n s r s' to some within entity short h =
-        taken_by n s r s' to some within (open_in_entity front (take n rest) entity) short
-        (hands_as takes stops s r s' to (whole_gives c room k (front ++ take n rest) entity short) h)
 
     -- There is no stop bit among as many bytes as there may be.
     pub taken_full : (n : ℕ) (s : S) (to : Reader Dictionary) → 0 < n → n ≤ length rest → HaveNoStop (front ++ take n rest) → length (front ++ take n rest) ≡ room

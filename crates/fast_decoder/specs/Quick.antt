@@ -1,4 +1,4 @@
--- What a machine takes in the quick way: a whole unit, and the turn behind it.
+-- What a machine takes of a unit, and the turn behind it.
 use Rattle.std.specs.Prelude.{◌≡◌, ℕ, ◌<◌, ◌≤◌, true, List, [], length, take, Option, Result}
 use Rattle.fast_value.specs.declared.settings.Limits.{Limits}
 use Rattle.fast_value.specs.Limits.{bounds}

@@ -32,12 +32,12 @@ use fast_template::{FieldInstruction, Opcode, Operator, Sending, Shape, Template
 use fast_value::{Kind, Limits};
 use fast_wire::short_entity;
 
-/// A unit that was taken, and the turn behind it.
+/// A unit that was taken, or as much of it as there is, and the turn behind it.
 #[derive(Clone, Copy, Debug)]
 pub struct Quick {
-    /// The bytes of the unit.
+    /// The bytes that were taken.
     pub bytes: usize,
-    /// How the turn ended.
+    /// How the turn ended. Behind a unit that is cut the machine waits.
     pub turn: Result<Turn, FaultCode>,
 }
 

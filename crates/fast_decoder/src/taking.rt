@@ -334,7 +334,7 @@ impl<'t> Machine<'t> {
         }
     }
 
-    /// The presence map of a group or an element is whole.
+    /// The presence map of a group or an element is whole. Nothing is handed over; the sink is there for what the clauses say of the turn.
     fn segment_mapped<S: Sink>(
         &mut self,
         templates: &'t Templates,
@@ -676,7 +676,7 @@ impl<'t> Machine<'t> {
         }
     }
 
-    /// Goes on behind a turn.
+    /// Goes on behind a turn, with all that needs no further byte.
     #[inline(always)]
     fn go_on<S: Sink>(
         &mut self,
