@@ -77,6 +77,15 @@ module _ (f : FieldData) (old new : Dictionary) (scratch piece : List ℕ) where
       by None i h n = absurd (cc i)
       by (Some e) i h n = sym (ap (λ (d : Dictionary). value_in (previous_at (Some e) d)) n ∙ ap value_in (written e old (assigned f.kind v) (h e refl)))
 
+  -- The text is kept, and stands at a place of its own as well.
+  pub text_kept_too : (place : Source) (text : List ℕ) (v : ScalarData) → checked_text f.kind text ≡ Ok v → value_at place f new scratch piece ≡ Some v → new ≡ write_at f.entry (assigned f.kind v) old
+      → IsTextDecided (kept_text f.kind text) f old new scratch piece (Ok place)
+  text_kept_too place text v c h n = (
+    record { value = Some v; next = assigned f.kind v },
+    rw c refl,
+    record { value = sym h; dictionary = n },
+  )
+
   -- The text is the value, and the entry is as it was.
   pub text_given : (place : Source) (text : List ℕ) (v : ScalarData) → checked_text f.kind text ≡ Ok v → v ≡ value_of_text f.kind text → value_at place f new scratch piece ≡ Some (value_of_text f.kind text) → new ≡ old
       → IsTextDecided (checked_text f.kind text >>= (λ w. gives w (previous_at f.entry old))) f old new scratch piece (Ok place)
@@ -115,6 +124,16 @@ checked_is Decimal text v h = cc h
 checked_is Ascii text v h = cc h
 checked_is Unicode text v h = checked_utf8 text v (is_utf8 text) refl h
 checked_is Bytes text v h = cc h
+
+-- an ASCII text needs no check
+pub checked_ascii : (kind : Kind) (text : List ℕ) → kind ≡ Ascii → checked_text kind text ≡ Ok (AsciiText text)
+checked_ascii kind text e = ap (λ k. checked_text k text) e
+
+pub value_of_ascii : (kind : Kind) (text : List ℕ) → kind ≡ Ascii → value_of_text kind text ≡ AsciiText text
+value_of_ascii kind text e = ap (λ k. value_of_text k text) e
+
+pub ascii_is_text : (kind : Kind) → kind ≡ Ascii → family kind ≡ texts
+ascii_is_text kind e = ap family e
 
 -- A text that was sent, by operator.
 module _ (f : FieldData) (p : PreviousData) (text : List ℕ) (is_text : family f.kind ≡ texts) where

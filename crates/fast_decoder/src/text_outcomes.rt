@@ -5,6 +5,7 @@
 
 ghost use Rattle.std.specs.Prelude.{◌≡◌, ◌≢◌, ◌+◌, ◌-◌, ◌<◌, ◌≤◌, ◌++◌, ℕ, List, [], length, take, true, false, Ok, Err, Some, MatchResult};
 ghost use Rattle.fast_value.specs.Kinds.{ScalarData, texts, family, text_of, value_of_text};
+ghost use Rattle.fast_value.specs.declared.kinds.Kind.{Kind};
 ghost use Rattle.fast_template.specs.Flat.{field_data};
 ghost use Rattle.fast_template.specs.Entries.{keeps_value};
 ghost use Rattle.fast_dict.specs.Answers.{kept_answer, kept_data, kept_text};
@@ -22,7 +23,7 @@ use fast_dict::Slots;
 use fast_dict::operators::texts::text_of;
 use fast_dict::operators::{Kept, checked_text, subtract, tail_base, tail_keeps};
 use fast_template::{FieldInstruction, Operator};
-use fast_value::Code;
+use fast_value::{Code, Scalar};
 
 /// Whether NULL makes the entry empty. Under the other operators it leaves the entry as it is.
 #[inline]
@@ -141,7 +142,29 @@ fn join_part(
     Ok(())
 }
 
-/// A text was sent, which stands at the place unless the entry keeps it.
+/// A tail was sent: what it is joined to is the field's value, which its entry then holds.
+#[inline(never)]
+fn finish_tail(
+    slots: &mut Slots,
+    joined: &mut Scratch,
+    field: &FieldInstruction,
+    part: &[u8],
+) -> Result<Source, Code>
+    requires serves { Serves (length (slots_dictionary slots.old)) (slots_terms slots.old) (field_data field.now) }
+    requires text { family field.now.kind ≡ texts }
+    requires tail { field.now.operator ≡ Operator.Tail }
+    requires fits { length part.now ≤ (slots_terms slots.old).max_text }
+    requires room { (slots_terms slots.old).max_text ≤ joined.old.capacity }
+    ensures field { (scratch piece : List ℕ) → IsTextDecided (decide (field_data field.now) (previous_at (field_data field.now).entry (slots_dictionary slots.old)) true (sent_text field.now.kind (Some part.now)))
+        (field_data field.now) (slots_dictionary slots.old) (slots_dictionary slots.new) scratch piece result }
+    ensures terms { slots_terms slots.new ≡ slots_terms slots.old }
+    ensures capacity { joined.new.capacity ≡ joined.old.capacity }
+{
+    join_tail(slots, joined, field, part)?;
+    keep(slots, field, joined.as_slice())
+}
+
+/// A vector was sent, which stands at the place unless the entry keeps it.
 pub fn finish_text(
     slots: &mut Slots,
     joined: &mut Scratch,
@@ -163,14 +186,43 @@ pub fn finish_text(
 {
     match field.operator {
         Operator::Copy | Operator::Increment => keep(slots, field, text),
-        Operator::Tail => {
-            join_tail(slots, joined, field, text)?;
-            keep(slots, field, joined.as_slice())
-        }
+        Operator::Tail => finish_tail(slots, joined, field, text),
         _ => {
             checked_text(field.kind, text)?;
             Ok(place)
         }
+    }
+}
+
+/// An ASCII text was sent, which stands at the place unless it is a tail. There is nothing to check, and what the entry keeps need
+/// not be fetched from it.
+#[inline(always)]
+pub fn finish_ascii(
+    slots: &mut Slots,
+    joined: &mut Scratch,
+    field: &FieldInstruction,
+    text: &[u8],
+    place: Source,
+) -> Result<Source, Code>
+    requires serves { Serves (length (slots_dictionary slots.old)) (slots_terms slots.old) (field_data field.now) }
+    requires kind { field.now.kind ≡ Kind.Ascii }
+    requires sent { field.now.operator ≢ Operator.Constant }
+    requires whole { field.now.operator ≢ Operator.Delta }
+    requires fits { length text.now ≤ (slots_terms slots.old).max_text }
+    requires room { (slots_terms slots.old).max_text ≤ joined.old.capacity }
+    ensures field { (scratch piece : List ℕ) → value_at place (field_data field.now) (slots_dictionary slots.new) scratch piece ≡ Some (value_of_text field.now.kind text.now)
+        → IsTextDecided (decide (field_data field.now) (previous_at (field_data field.now).entry (slots_dictionary slots.old)) true (sent_text field.now.kind (Some text.now)))
+        (field_data field.now) (slots_dictionary slots.old) (slots_dictionary slots.new) scratch piece result }
+    ensures terms { slots_terms slots.new ≡ slots_terms slots.old }
+    ensures capacity { joined.new.capacity ≡ joined.old.capacity }
+{
+    match field.operator {
+        Operator::Copy | Operator::Increment => {
+            assign(slots, field, Scalar::Ascii(text));
+            Ok(place)
+        }
+        Operator::Tail => finish_tail(slots, joined, field, text),
+        _ => Ok(place),
     }
 }
 

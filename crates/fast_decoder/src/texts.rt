@@ -24,7 +24,9 @@ use crate::progress::Progress;
 use crate::scratch::Scratch;
 use crate::source::Source;
 use crate::stages::{Stage, Step};
-use crate::text_outcomes::{finish_absent, finish_part, finish_text, kept, part_room};
+use crate::text_outcomes::{
+    finish_absent, finish_ascii, finish_part, finish_text, kept, part_room,
+};
 use crate::units::{IntegerRange, Run, next_ascii, next_integer, next_raw, next_unsigned};
 use fast_dict::Slots;
 use fast_dict::operators::sized;
@@ -100,7 +102,7 @@ pub fn take_text(
         Progress::Whole(true, bytes) => {
             let text = scratch.as_slice();
             answered(
-                finish_text(slots, joined, field, text, Source::Scratch),
+                finish_ascii(slots, joined, field, text, Source::Scratch),
                 bytes,
             )
         }

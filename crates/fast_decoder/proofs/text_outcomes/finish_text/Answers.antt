@@ -4,7 +4,7 @@ use Rattle.fast_template.specs.Flat.{field_data}
 use Rattle.fast_dict.specs.Answers.{kept_text}
 use Rattle.fast_dict.specs.Dictionary.{previous_at}
 use Rattle.fast_dict.specs.Slots.{slots_dictionary}
-use Rattle.fast_decoder.proofs.TextOutcomes.{decided_as, decided_copy, decided_increment, decided_tail-ok, decided_plain, not_emptied, text_given, checked_is}
+use Rattle.fast_decoder.proofs.TextOutcomes.{decided_as, decided_copy, decided_increment, decided_plain, not_emptied, text_given, checked_is}
 use Rattle.fast_decoder.proofs.text_outcomes.finish_text.Goals as goal
 
 pub returns-in-Copy-clause-field : goal.returns-in-Copy-clause-field
@@ -15,14 +15,8 @@ returns-in-Copy-clause-field c scratch piece h =
     (elim c.in-Copy.is [ inl e ↦ decided_copy f (previous_at f.entry old) c.args.text.now c.requires.text e | inr e ↦ decided_increment f (previous_at f.entry old) c.args.text.now c.requires.text e ])
     (c.keep.ensures.field scratch piece)
 
-pub returns-in_ok-join_tail-in-Tail-clause-field : goal.returns-in_ok-join_tail-in-Tail-clause-field
-returns-in_ok-join_tail-in-Tail-clause-field c scratch piece h =
-    let f = field_data c.args.field.now in
-    let old = slots_dictionary c.args.slots.now in
-    let (base, found, text) = c.in_ok-join_tail-in-Tail.ensures.joined in
-    decided_as f old (slots_dictionary c.keep-in-Tail.new.slots) scratch piece c.keep-in-Tail.result
-    (decided_tail-ok f (previous_at f.entry old) c.args.text.now c.requires.text base c.in-Tail.is found ∙ ap (λ (t : List ℕ). kept_text f.kind t) (sym (c.as_slice.ensures ∙ text)))
-    (c.keep-in-Tail.ensures.field scratch piece)
+pub returns-in-Tail-clause-field : goal.returns-in-Tail-clause-field
+returns-in-Tail-clause-field c scratch piece h = c.finish_tail.ensures.field scratch piece
 
 pub returns-in_ok-checked_text-in_default : goal.returns-in_ok-checked_text-in_default
 returns-in_ok-checked_text-in_default c =

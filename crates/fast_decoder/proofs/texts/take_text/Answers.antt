@@ -29,9 +29,9 @@ returns-in-Whole-true-default-clause-unit c =
     let n = c.in-Whole-true-default.bytes in
     let x : Option (List ℕ) = text_or_null text c.in-Whole-true-default.field-0 in
     let i : x ≡ Some c.as_slice-text.result.now = ap (text_or_null text) c.in-Whole-true-default.field-0-test ∙ ap Some (sym c.as_slice-text.ensures) in
-    text_last l.strict g k (first_reader l f old) here f front c.args.rest.now old (slots_dictionary c.finish_text.new.slots) text n x (c.in-Whole-true-default.ensures.unit l.strict)
-    (decide f p true (sent_text f.kind (Some c.as_slice-text.result.now))) c.finish_text.result c.answered.result c.answered.ensures (ap k i)
-    (c.finish_text.ensures.field text (take n c.args.rest.now) (ap (λ (t : List ℕ). Some (value_of_text f.kind t)) (sym c.as_slice-text.ensures)))
+    text_last l.strict g k (first_reader l f old) here f front c.args.rest.now old (slots_dictionary c.finish_ascii.new.slots) text n x (c.in-Whole-true-default.ensures.unit l.strict)
+    (decide f p true (sent_text f.kind (Some c.as_slice-text.result.now))) c.finish_ascii.result c.answered.result c.answered.ensures (ap k i)
+    (c.finish_ascii.ensures.field text (take n c.args.rest.now) (ap (λ (t : List ℕ). Some (value_of_text f.kind t)) (sym c.as_slice-text.ensures)))
 
 pub returns-in-Whole-false-default-clause-unit : goal.returns-in-Whole-false-default-clause-unit
 returns-in-Whole-false-default-clause-unit c =
