@@ -1,6 +1,6 @@
 //! Bytes of a text that no piece has whole.
 
-ghost use Rattle.std.specs.Prelude.{◌≡◌, ◌+◌, ◌<◌, ◌≤◌, ◌==◌, [], ◌∷◌, ◌++◌, length, IfOk};
+ghost use Rattle.std.specs.Prelude.{◌≡◌, ◌+◌, ◌<◌, ◌≤◌, ◌==◌, [], ◌∷◌, ◌++◌, length, take, IfOk};
 
 use std::alloc::{AllocError, Global};
 use std::marker::Model;
@@ -81,6 +81,30 @@ impl Scratch {
         let end = self.len + bytes.len();
         self.cells[self.len..end].copy_from_slice(bytes);
         self.len = end;
+    }
+
+    /// Takes the first bytes of a block. All 16 bytes of the block are written, which is one move, and those behind are not counted.
+    #[inline(always)]
+    pub fn append_front(&mut self, block: &[u8], count: usize)
+        requires count { count ≤ 16 }
+        requires block { 16 ≤ length block.now }
+        requires room { length self.old.text + 16 ≤ self.old.capacity }
+        ensures text { self.new.text ≡ self.old.text ++ take count block.now }
+        ensures capacity { self.new.capacity ≡ self.old.capacity }
+    {
+        self.append(&block[..16]);
+        let end = self.len() - (16 - count);
+        self.truncate(end);
+    }
+
+    /// Forgets all bytes but the first.
+    #[inline]
+    fn truncate(&mut self, len: usize)
+        requires { len ≤ length self.old.text }
+        ensures text { self.new.text ≡ take len self.old.text }
+        ensures capacity { self.new.capacity ≡ self.old.capacity }
+    {
+        self.len = len;
     }
 
     /// Takes one more byte.

@@ -1,7 +1,7 @@
 //! The units of fields: an integer, an ASCII text, a run of bytes. Of a unit that a piece cuts the bytes are kept, and nothing
 //! else changes before it is whole.
 
-ghost use Rattle.std.specs.Prelude.{◌≡◌, ℕ, ◌<◌, ◌≤◌, Bool, true, false, List, [], ◌∷◌, ◌++◌, length, ℤ, Option, Some, pos, option_map, IfOk, IfErr};
+ghost use Rattle.std.specs.Prelude.{◌≡◌, ℕ, ◌<◌, ◌≤◌, Bool, true, false, List, [], ◌∷◌, ◌++◌, length, ℤ, Option, Some, pos, option_map, IfSome, IfNone, IfOk, IfErr};
 ghost use Rattle.fast_wire.specs.Entities.{HaveNoStop, IsEntity};
 ghost use Rattle.fast_wire.specs.Integers.{Range, unsigned_up_to, SpellsInt};
 ghost use Rattle.fast_wire.specs.Fronts.{IsFirstInt, IsWrongInt};
@@ -93,13 +93,9 @@ pub fn next_ascii(scratch: &mut Scratch, rest: &[u8], room: usize, nullable: boo
     ensures capacity { scratch.new.capacity ≡ scratch.old.capacity }
 {
     if scratch.is_empty() {
-        match rest.first() {
-            None => return Progress::Cut,
-            Some(0x00) => return zero_first(scratch, rest, nullable),
-            Some(0x80) => return Progress::Whole(!nullable, 1),
-            Some(_) => {}
-        }
-    } else if scratch.as_slice()[0] == 0x00 {
+        return first_ascii(scratch, rest, room, nullable);
+    }
+    if scratch.as_slice()[0] == 0x00 {
         return behind_zero(scratch, rest);
     }
     characters(scratch, rest, room)
@@ -354,8 +350,49 @@ fn behind_zero(scratch: &mut Scratch, rest: &[u8]) -> Progress<bool>
     }
 }
 
+/// A text of which no byte has come.
+#[inline(always)]
+fn first_ascii(scratch: &mut Scratch, rest: &[u8], room: usize, nullable: bool) -> Progress<bool>
+    requires none { scratch.old.text ≡ [] }
+    requires fits { room ≤ scratch.old.capacity }
+    requires some { 0 < scratch.old.capacity }
+    ensures text { IsNextText nullable room scratch.old.text rest.now scratch.new.text result }
+    ensures capacity { scratch.new.capacity ≡ scratch.old.capacity }
+{
+    match rest.first() {
+        None => Progress::Cut,
+        Some(0x00) => zero_first(scratch, rest, nullable),
+        Some(0x80) => Progress::Whole(!nullable, 1),
+        Some(_) => match short_text(scratch, rest, room) {
+            Some(bytes) => Progress::Whole(true, bytes),
+            None => characters(scratch, rest, room),
+        },
+    }
+}
+
+/// A text of which no byte has come, which begins with a character and ends within a block of 16 bytes. The block is moved as a
+/// whole, whatever the length.
+#[inline(always)]
+fn short_text(scratch: &mut Scratch, rest: &[u8], room: usize) -> Option<usize>
+    requires none { scratch.old.text ≡ [] }
+    requires begins { BeginsWithCharacter rest.now }
+    requires fits { room ≤ scratch.old.capacity }
+    ensures none { IfNone result (scratch.new.text ≡ []) }
+    ensures text { IfSome result (λ n. (nullable : Bool) → IsNextText nullable room scratch.old.text rest.now scratch.new.text (Progress.Whole true n)) }
+    ensures capacity { scratch.new.capacity ≡ scratch.old.capacity }
+{
+    if rest.len() < 16 || room < 16 {
+        return None;
+    }
+    let here = &rest[..16];
+    let last = find_stop(here)?;
+    scratch.append_front(here, last);
+    scratch.push(here[last] - 0x80);
+    Some(last + 1)
+}
+
 /// A text that begins with a character. The byte behind the room is a fault, whatever it is.
-#[inline]
+#[inline(never)]
 fn characters(scratch: &mut Scratch, rest: &[u8], room: usize) -> Progress<bool>
     requires open { HaveNoStop scratch.old.text }
     requires begins { BeginsWithCharacter (scratch.old.text ++ rest.now) }

@@ -1,29 +1,17 @@
-use Rattle.std.specs.Prelude.{not, ◌≡◌, true}
+use Rattle.std.specs.Prelude.{◌≡◌, true}
 use Rattle.fast_decoder.specs.NextUnits.{IsNextText}
-use Rattle.fast_decoder.specs.declared.progress.Progress.TheVariants.{Whole, Cut}
-use Rattle.fast_decoder.proofs.NextUnits.{none_in_hand, text_unit}
-use Rattle.fast_decoder.proofs.NextTexts.{text_bare, text_nothing, zero_nullable, text_short, text_again}
+use Rattle.fast_decoder.proofs.NextUnits.{text_unit}
+use Rattle.fast_decoder.proofs.NextTexts.{zero_nullable, text_short, text_again}
 use Rattle.fast_decoder.proofs.units.next_ascii.Goals as goal
 
-pub returns-in-None-clause-unit : goal.returns-in-None-clause-unit
-returns-in-None-clause-unit c strict =
-    text_unit strict c.args.nullable c.args.room c.args.scratch.now.text c.args.rest.now c.args.scratch.now.text Cut
-    (text_nothing c.args.nullable c.args.room c.args.scratch.now.text c.args.rest.now (none_in_hand c.args.scratch.now.text c.if-is_empty.ensures) c.in-None.ensures.value)
+pub returns-then-is_empty-clause-unit : goal.returns-then-is_empty-clause-unit
+returns-then-is_empty-clause-unit c strict = text_unit strict c.args.nullable c.args.room c.args.scratch.now.text c.args.rest.now c.first_ascii.new.scratch.text c.first_ascii.result c.first_ascii.ensures.text
 
-pub returns-in-Some-eq128-clause-unit : goal.returns-in-Some-eq128-clause-unit
-returns-in-Some-eq128-clause-unit c strict =
-    text_unit strict c.args.nullable c.args.room c.args.scratch.now.text c.args.rest.now c.args.scratch.now.text (Whole (not c.args.nullable) 1)
-    (text_bare c.args.nullable c.args.room c.args.scratch.now.text c.args.rest.now c.in-Some-eq128.field-0.now (none_in_hand c.args.scratch.now.text c.if-is_empty.ensures)
-    c.in-Some-eq128.ensures.value c.in-Some-eq128.field-0-test)
+pub returns-then-is_empty-clause-text : goal.returns-then-is_empty-clause-text
+returns-then-is_empty-clause-text c = text_short c.args.nullable c.args.room c.args.scratch.now.text c.args.rest.now c.first_ascii.new.scratch.text c.first_ascii.result c.first_ascii.ensures.text
 
-pub returns-in-Some-eq0-clause-unit : goal.returns-in-Some-eq0-clause-unit
-returns-in-Some-eq0-clause-unit c strict = text_unit strict c.args.nullable c.args.room c.args.scratch.now.text c.args.rest.now c.zero_first.new.scratch.text c.zero_first.result (c.zero_first.ensures.text c.args.room)
-
-pub returns-in-Some-eq0-clause-text : goal.returns-in-Some-eq0-clause-text
-returns-in-Some-eq0-clause-text c = text_short c.args.nullable c.args.room c.args.scratch.now.text c.args.rest.now c.zero_first.new.scratch.text c.zero_first.result (c.zero_first.ensures.text c.args.room)
-
-pub returns-in-Some-eq0-clause-cut : goal.returns-in-Some-eq0-clause-cut
-returns-in-Some-eq0-clause-cut c = text_again c.args.nullable c.args.room c.args.scratch.now.text c.args.rest.now c.zero_first.new.scratch.text c.zero_first.result (c.zero_first.ensures.text c.args.room)
+pub returns-then-is_empty-clause-cut : goal.returns-then-is_empty-clause-cut
+returns-then-is_empty-clause-cut c = text_again c.args.nullable c.args.room c.args.scratch.now.text c.args.rest.now c.first_ascii.new.scratch.text c.first_ascii.result c.first_ascii.ensures.text
 
 behind : (c : goal.After-behind_zero) → IsNextText c.args.nullable c.args.room c.args.scratch.now.text c.args.rest.now c.behind_zero.new.scratch.text c.behind_zero.result
 behind c =
