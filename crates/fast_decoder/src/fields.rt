@@ -192,6 +192,31 @@ pub fn number_under(kind: Kind, entry: Entry) -> Option<Number>
     }
 }
 
+/// Whether the field's entry holds a text of the field's own kind. The text itself is not fetched.
+#[inline(always)]
+fn has_own_text(slots: &Slots, field: &FieldInstruction) -> bool
+    requires within { (e : ℕ) → (field_data field.now).entry ≡ Some e → e < length (slots_dictionary slots.now) }
+    ensures { result ≡ true → (text : List ℕ) × (previous_at (field_data field.now).entry (slots_dictionary slots.now) ≡ assigned field.now.kind (value_of_text field.now.kind text)) }
+{
+    match field.entry {
+        Some(entry) => is_text_under(field.kind, slots.held(entry as usize)),
+        None => false,
+    }
+}
+
+/// Whether an entry holds a text under this kind.
+#[inline(always)]
+fn is_text_under(kind: Kind, entry: Entry) -> bool
+    ensures { result ≡ true → (text : List ℕ) → with_text entry text ≡ assigned kind (value_of_text kind text) }
+{
+    match (kind, entry) {
+        (Kind::Ascii, Entry::Ascii(_)) => true,
+        (Kind::Unicode, Entry::Unicode(_)) => true,
+        (Kind::Bytes, Entry::Bytes(_)) => true,
+        _ => false,
+    }
+}
+
 /// What a field leaves of which nothing is sent.
 ///
 /// # Errors
@@ -228,6 +253,9 @@ fn copied(slots: &mut Slots, field: &FieldInstruction) -> Result<Source, Code>
 {
     if let Some(number) = own_number(slots, field) {
         return Ok(number.source());
+    }
+    if has_own_text(slots, field) {
+        return Ok(Source::Entry);
     }
     match previous(slots, field) {
         Previous::Assigned(kind, _) if kind == field.kind => Ok(Source::Entry),

@@ -1,7 +1,8 @@
 -- A previous value of the field's type stands where it is.
-use Rattle.std.proofs.Common.{rules, sym}
+use Rattle.std.proofs.Common.{rules, refl, sym}
 use denote.Enum.Bare.{same_true}
 use Rattle.fast_value.specs.contracts.kinds.Kind.{the_type}
+use Rattle.fast_value.specs.Kinds.{value_of_text}
 use Rattle.fast_value.specs.Values.{scalar_data}
 use Rattle.fast_template.specs.Flat.{field_data}
 use Rattle.fast_dict.specs.Slots.{slots_dictionary}
@@ -15,3 +16,9 @@ returns-in-Assigned-clause-decided c = copy_decided (field_data c.args.field.now
 
 pub returns-in-Some-clause-decided : goal.returns-in-Some-clause-decided
 returns-in-Some-clause-decided c = own_decided (field_data c.args.field.now) (slots_dictionary c.args.slots.now) (number_data c.in-Some.number) c.source.result c.requires.operator c.in-Some.ensures (c.source.ensures (field_data c.args.field.now))
+
+pub returns-then-has_own_text-clause-decided : goal.returns-then-has_own_text-clause-decided
+returns-then-has_own_text-clause-decided c =
+    let f = field_data c.args.field.now in
+    let (text, held) = c.if-has_own_text.ensures refl in
+    copy_decided f (slots_dictionary c.args.slots.now) f.kind (value_of_text f.kind text) c.requires.operator held refl
