@@ -134,6 +134,7 @@ pub fn tail_keeps(base: &[u8], size: usize) -> &[u8]
 /// # Errors
 ///
 /// R2 if it is of the kind unicode and no UTF-8.
+#[inline]
 pub fn checked_text(kind: Kind, text: &[u8]) -> Result<Scalar<'_>, Code>
     ensures { scalar_answer result ≡ checked_text kind text.now }
 {
@@ -162,6 +163,7 @@ pub fn joined(kind: Kind, text: &[u8]) -> Result<Outcome<'_>, Code>
 }
 
 /// Whether a text is UTF-8.
+#[inline(never)]
 fn is_utf8(text: &[u8]) -> bool
     ensures { result ≡ is_utf8 text.now }
 {
