@@ -775,10 +775,15 @@ impl<'t> Machine<'t> {
         let mut bytes = 0;
         while bytes < piece.len() {
             let rest = &piece[bytes..];
-            let quick = match self.take_quickly(templates, limits, rest, sink) {
-                Some(quick) => quick,
-                None => self.take_unit(templates, limits, rest, sink),
-            };
+            if let Some(quick) = self.take_quickly(templates, limits, rest, sink) {
+                bytes += quick.bytes;
+                let outcome = self.go_on(templates, limits, quick.turn, sink);
+                if outcome.is_err() {
+                    return Taken { bytes, outcome };
+                }
+                continue;
+            }
+            let quick = self.take_unit(templates, limits, rest, sink);
             bytes += quick.bytes;
             let outcome = self.go_on(templates, limits, quick.turn, sink);
             if outcome.is_err() {
