@@ -97,7 +97,7 @@ impl Scratch {
         self.truncate(end);
     }
 
-    /// Forgets all bytes but the first.
+    /// Forgets all bytes but the first `len`.
     #[inline]
     fn truncate(&mut self, len: usize)
         requires { len ≤ length self.old.text }
