@@ -81,22 +81,3 @@ impl Value {
         }
     }
 }
-
-#[cfg(test)]
-mod tests {
-    use super::*;
-    use std::test::Fail;
-
-    #[test]
-    fn a_copy_is_the_same_value(rt: HostRuntime) -> Result<(), Fail> {
-        let text = b"GEH6";
-        let copy = Value::copy_of(rt.alloc(), Scalar::Ascii(text.as_slice()))?;
-        assert_eq!(rt;
-            copy,
-            Value::Ascii(Vec::from_slice(rt.alloc(), text.as_slice())?)
-        );
-        let lent = matches!(copy.as_scalar(), Scalar::Ascii(lent) if lent == text.as_slice());
-        assert!(rt; lent);
-        Ok(())
-    }
-}

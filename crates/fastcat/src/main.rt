@@ -1,31 +1,18 @@
 //! The command fastcat: shows streams in the FAST encoding as lines, and says how large template sets are.
 #![tactic(auto)]
 
-pub mod check;
-pub mod closing;
-pub mod faults;
-pub mod plans;
-pub mod show;
-pub mod texts;
-pub mod unhexer;
-pub mod vectors;
-pub mod words;
-
-pub use check::run_check;
 use clap::Error;
 use clap::error::ErrorKind;
+use fast_command::{
+    BUILT_IN, Plan, RunFault, ShowEnd, Task, built_in, plan, read_whole, report, run_check,
+    run_show,
+};
 use fast_template::{StaticCode, StaticFault, Templates};
 use fast_text::{Source, Target, Watched};
-pub use faults::{RunFault, ShowEnd, report};
-pub use plans::{BUILT_IN, Plan, Task};
-pub use show::run_show;
 use std::alloc::{AllocError, Global};
 use std::io::BufWriter;
 use std::process::ExitCode;
 use std::{env, fs};
-pub use texts::read_whole;
-pub use vectors::built_in;
-pub use words::plan;
 
 /// What a call without words stands for.
 const NO_WORDS: [&str; 4] = ["fastcat", "show", "--hex", BUILT_IN];

@@ -1,0 +1,167 @@
+-- From the rounds of a run to what it has shown.
+use Rattle.std.proofs.Common.{◌≡◌, ◌⊎◌, ℕ, ◌+◌, ◌*◌, ◌<◌, ◌≤◌, ◌^◌, Bool, true, List, [], ◌++◌, Option, Some, None, Result, Ok, Err, refl, subst, ap, sym, ◌∙◌, inl, inr, length, length-append, arith, append_assoc, append-nil}
+use Rattle.std.specs.Prelude.{IsTrue, option_map, IfSome, OnErr, is_err}
+use Rattle.fast_value.specs.declared.settings.Limits.{Limits}
+use Rattle.fast_template.specs.Tree.{Tree}
+use Rattle.fast_decoder.specs.declared.faults.MakeError.{MakeError}
+use Rattle.fast_decoder.specs.declared.faults.MakeError.TheVariants as Why
+use Rattle.fast_decoder.specs.Events.{EventData}
+use Rattle.fast_decoder.specs.Decoding.{standing}
+use Rattle.fast_text.specs.Lines.{lines}
+use Rattle.fast_text.specs.Streams.{Appends}
+use Rattle.fast_text.proofs.Writing.{appends_none, appends_both}
+use Rattle.fast_command.specs.declared.unhexer.Unhexer.{Unhexer}
+use Rattle.fast_command.specs.declared.show.Show.{Show}
+use Rattle.fast_command.specs.declared.faults.ShowEnd.{ShowEnd}
+use Rattle.fast_command.specs.declared.faults.ShowEnd.TheVariants.{Good, Faulted, Truncated}
+use Rattle.fast_command.specs.declared.faults.RunFault.{RunFault}
+use Rattle.fast_command.specs.declared.faults.RunFault.TheVariants.{Read, Write, BadHex, Templates as Refused, Make, Memory}
+use Rattle.fast_command.specs.Showing.{IsShown, StandsFor, refusal_of}
+use Rattle.fast_command.specs.Closing.{closing}
+use Rattle.fast_command.specs.Progress.{HasRoom, IsTaken, Progress, Change, GoesOn, Ended}
+use Rattle.fast_command.proofs.Lined.{lines-append}
+use Rattle.fast_command.proofs.Progressing.{ends_well, counts_all, stands_for, bytes_fewer}
+
+-- what was shown, where more is known of the world
+shown_more : (t : Tree) (l : Limits) (hex : Bool) (R R' : MakeError → Type 0) (A B H A' B' H' : Type 0) (text out : List ℕ) (r : Result ShowEnd RunFault) → ((e : MakeError) → R e → R' e) → (A → A') → (B → B') → (H → H') → IsShown t l hex R A B H text out r → IsShown t l hex R' A' B' H' text out r
+shown_more t l hex R R' A B H A' B' H' text out (Ok Good) m a b h s = (s.0, s.1, s.2, s.3, a s.4)
+shown_more t l hex R R' A B H A' B' H' text out (Ok (Faulted f)) m a b h s = s
+shown_more t l hex R R' A B H A' B' H' text out (Ok (Truncated n)) m a b h s = (s.0, s.1, s.2, s.3, s.4, a s.5)
+shown_more t l hex R R' A B H A' B' H' text out (Err (BadHex n)) m a b h s = (s.0, s.1, s.2, s.3, s.4, s.5, elim s.6 [ inl within ↦ inl within | inr over ↦ inr (a over) ])
+shown_more t l hex R R' A B H A' B' H' text out (Err Read) m a b h s = (s.0, s.1, s.2, s.3, s.4, s.5, s.6, b s.7)
+shown_more t l hex R R' A B H A' B' H' text out (Err Write) m a b h s = (s.0, s.1, s.2, s.3, s.4, s.5, s.6, s.7, s.8, h s.9)
+shown_more t l hex R R' A B H A' B' H' text out (Err (Make cause)) m a b h s = (s.0, s.1, m cause s.2)
+shown_more t l hex R R' A B H A' B' H' text out (Err (Refused fault)) m a b h s = elim s [ ]
+shown_more t l hex R R' A B H A' B' H' text out (Err Memory) m a b h s = s
+
+-- nothing was read and nothing shown where no decoder is made
+pub refusal_shown : (t : Tree) (l : Limits) (hex : Bool) (R : MakeError → Type 0) (A B H : Type 0) (e : MakeError) → (e ≡ Why.Memory) ⊎ R e → IsShown t l hex R A B H [] [] (Err (refusal_of e))
+refusal_shown t l hex R A B H Why.BadLimits (inl h) = absurd (cc)
+refusal_shown t l hex R A B H Why.BadLimits (inr h) = (refl, refl, h)
+refusal_shown t l hex R A B H Why.InitialTooLong (inl h) = absurd (cc)
+refusal_shown t l hex R A B H Why.InitialTooLong (inr h) = (refl, refl, h)
+refusal_shown t l hex R A B H Why.Memory h = (refl, refl)
+
+-- nothing was read
+pub read_none : (o : Option (List ℕ)) → o ≡ option_map (λ (xs : List ℕ). [] ++ xs) o
+read_none None = refl
+read_none (Some xs) = refl
+
+-- one piece was read after the other
+pub read_both : (old mid new : Option (List ℕ)) (text piece : List ℕ) → old ≡ option_map (λ (xs : List ℕ). text ++ xs) mid → mid ≡ option_map (λ (xs : List ℕ). piece ++ xs) new → old ≡ option_map (λ (xs : List ℕ). (text ++ piece) ++ xs) new
+read_both old mid new text piece first second = first ∙ ap (option_map (λ (xs : List ℕ). text ++ xs)) second ∙ joined new
+  where
+    joined : (o : Option (List ℕ)) → option_map (λ (xs : List ℕ). text ++ xs) (option_map (λ (xs : List ℕ). piece ++ xs) o) ≡ option_map (λ (xs : List ℕ). (text ++ piece) ++ xs) o
+    joined None = refl
+    joined (Some xs) = ap Some (sym (append_assoc text piece xs))
+
+-- the input was at its end, and still is
+pub still_at_end : (old new : Option (List ℕ)) (piece : List ℕ) → piece ≡ [] → old ≡ option_map (λ (xs : List ℕ). piece ++ xs) new → IfSome old (λ xs. xs ≡ []) → IfSome new (λ xs. xs ≡ [])
+still_at_end old None piece none h end = tt
+still_at_end old (Some xs) piece none h end =
+    let e : old ≡ Some xs = h ∙ ap (λ (ys : List ℕ). Some (ys ++ xs)) none in
+    let at = rw e at end in at
+
+-- What a run has read and shown so far: the text, the bytes that it stands for, and their events.
+pub record Round (t : Tree) (l : Limits) (hex : Bool) (s : Show) (reads : ℕ) (left_first left_now held holds : Option (List ℕ)) : Type 0 where
+  pub text : List ℕ
+  pub bytes : List ℕ
+  pub events : List EventData
+  pub progress : Progress t l hex s text bytes events
+  pub read : left_first ≡ option_map (λ (xs : List ℕ). text ++ xs) left_now
+  pub written : Appends held holds (lines t events)
+  pub many : reads ≤ length text
+  pub few : length text ≤ 4096 * reads
+
+-- before the first read
+pub no_round : (t : Tree) (l : Limits) (hex : Bool) (s : Show) (left held : Option (List ℕ)) → Progress t l hex s [] [] [] → Round t l hex s 0 left left held held
+no_round t l hex s left held p = record { text = []; bytes = []; events = []; progress = p; read = read_none left; written = appends_none held; many = omega arith; few = omega arith }
+
+-- The run of the contract: what was read, what was written, and what this shows.
+abbrev pub Run : Tree → Limits → Bool → (MakeError → Type 0) → (AtEnd HasFailed : Type 0) → (List ℕ → Type 0) → (left_first left_now held holds : Option (List ℕ)) → Result ShowEnd RunFault → Type 0
+Run t l hex R AtEnd HasFailed ReadsNoMore left_first left_now held holds r =
+    (text out : List ℕ) × (left_first ≡ option_map (λ (xs : List ℕ). text ++ xs) left_now) × Appends held holds out × IsShown t l hex R AtEnd (ReadsNoMore text) HasFailed text out r
+
+-- where the run reads no more
+pub reads_no_more : (t : Tree) (l : Limits) (hex : Bool) (R : MakeError → Type 0) (s : Show) (reads : ℕ) (AtEnd HasFailed : Type 0) (ReadsNoMore : List ℕ → Type 0) (left_first left_old left_now held holds : Option (List ℕ)) (h : Round t l hex s reads left_first left_old held holds) → left_now ≡ left_old → ReadsNoMore h.text
+    → Run t l hex R AtEnd HasFailed ReadsNoMore left_first left_now held holds (Err Read)
+reads_no_more t l hex R s reads AtEnd HasFailed ReadsNoMore left_first left_old left_now held holds h kept why =
+    let p = h.progress in
+    let e = ends_well t l s.decoder h.bytes h.events p.set p.limits p.so p.good in
+    let at = stands_for s.unhexer h.text h.bytes p.taken in
+    (h.text, lines t h.events, h.read ∙ ap (option_map (λ (xs : List ℕ). h.text ++ xs)) (sym kept), h.written, (at.0, h.bytes, h.events, e.end, record { bytes = rw (← p.hex_is) at.1; stream = e.stream }, e.good, refl, why))
+
+-- where the writer cannot show what it has
+pub not_flushed : (t : Tree) (l : Limits) (hex : Bool) (R : MakeError → Type 0) (s : Show) (reads : ℕ) (AtEnd HasFailed : Type 0) (ReadsNoMore : List ℕ → Type 0) (left_first left_now held holds_old holds : Option (List ℕ)) (h : Round t l hex s reads left_first left_now held holds_old) → holds ≡ holds_old → HasFailed
+    → Run t l hex R AtEnd HasFailed ReadsNoMore left_first left_now held holds (Err Write)
+not_flushed t l hex R s reads AtEnd HasFailed ReadsNoMore left_first left_now held holds_old holds h kept failed =
+    let p = h.progress in
+    let e = ends_well t l s.decoder h.bytes h.events p.set p.limits p.so p.good in
+    let at = stands_for s.unhexer h.text h.bytes p.taken in
+    let stands : StandsFor hex h.text (h.bytes ++ []) at.0 = rw (append-nil, ← p.hex_is) at.1 in (
+      h.text,
+      lines t h.events,
+      h.read,
+      subst (λ o. Appends held o (lines t h.events)) (sym kept) h.written,
+      (at.0, h.bytes, [], h.events, e.end, closing h.bytes e.end, stands, e.stream, refl, failed),
+    )
+
+-- a round, where the writer was flushed
+pub round_flushed : {t : Tree} {l : Limits} {hex : Bool} {s : Show} {reads : ℕ} {left_first left_now held holds_old holds : Option (List ℕ)} → holds ≡ holds_old → Round t l hex s reads left_first left_now held holds_old → Round t l hex s reads left_first left_now held holds
+round_flushed {t} {l} {hex} {s} {reads} {left_first} {left_now} {held} kept h = subst (λ o. Round t l hex s reads left_first left_now held o) (sym kept) h
+
+-- where the run has ended
+pub run_ended : (t : Tree) (l : Limits) (hex : Bool) (R : MakeError → Type 0) (s : Show) (reads : ℕ) (A AtEnd HasFailed : Type 0) (ReadsNoMore : List ℕ → Type 0) (left_first left_old left_now held : Option (List ℕ)) (w : Change) (piece : List ℕ) (r : Result ShowEnd RunFault) (h : Round t l hex s reads left_first left_old held w.held)
+    → left_old ≡ option_map (λ (xs : List ℕ). piece ++ xs) left_now → (A → AtEnd) → (IsTrue w.has_failed → HasFailed) → Ended t l hex A (h.text ++ piece) h.events w r
+    → Run t l hex R AtEnd HasFailed ReadsNoMore left_first left_now held w.holds r
+run_ended t l hex R s reads A AtEnd HasFailed ReadsNoMore left_first left_old left_now held w piece r h given end failed ended = (
+  h.text ++ piece,
+  lines t h.events ++ ended.out,
+  read_both left_first left_old left_now h.text piece h.read given,
+  appends_both held w.held w.holds (lines t h.events) ended.out h.written ended.written,
+  shown_more t l hex (λ _. ⊥) R A ⊥ (IsTrue w.has_failed) AtEnd (ReadsNoMore (h.text ++ piece)) HasFailed (h.text ++ piece) (lines t h.events ++ ended.out) r (λ _ never. absurd never) end (λ never. absurd never) failed ended.shown,
+)
+
+-- the run can count what comes
+pub round_counts : (t : Tree) (l : Limits) (hex : Bool) (s : Show) (reads max n : ℕ) (left_first left_now held holds : Option (List ℕ)) → Round t l hex s reads left_first left_now held holds → reads < max → max ≤ 2 ^ 40 → n ≤ 4096 → (standing s.decoder).consumed + n < 2 ^ 64
+round_counts t l hex s reads max n left_first left_now held holds h more max_small small =
+    let p = h.progress in
+    let e = counts_all t l s.decoder h.bytes h.events (ends_well t l s.decoder h.bytes h.events p.set p.limits p.so p.good) in
+    let f = bytes_fewer s.unhexer h.text h.bytes p.taken in
+    let k = h.few in
+    omega arith
+
+-- there is room to count the characters
+pub round_has_room : (t : Tree) (l : Limits) (hex : Bool) (s : Show) (reads max n : ℕ) (left_first left_now held holds : Option (List ℕ)) → Round t l hex s reads left_first left_now held holds → reads < max → max ≤ 2 ^ 40 → n ≤ 4096 → HasRoom s.unhexer n
+round_has_room t l hex s reads max n left_first left_now held holds h more max_small small = at s.unhexer h.progress.taken
+  where
+    at : (u : Option Unhexer) → IsTaken u h.text h.bytes → HasRoom u n
+    at None taken = tt
+    at (Some u) taken = let e = taken.len in let k = h.few in omega arith
+
+-- one round more
+pub round_more : (t : Tree) (l : Limits) (hex : Bool) (s s' : Show) (reads : ℕ) (left_first left_old left_now held : Option (List ℕ)) (w : Change) (piece : List ℕ) (h : Round t l hex s reads left_first left_old held w.held)
+    → left_old ≡ option_map (λ (xs : List ℕ). piece ++ xs) left_now → 0 < length piece → length piece ≤ 4096 → GoesOn t l hex s' (h.text ++ piece) h.events w → Round t l hex s' (reads + 1) left_first left_now held w.holds
+round_more t l hex s s' reads left_first left_old left_now held w piece h given some small on =
+    let k = length-append h.text piece in
+    let many = h.many in
+    let few = h.few in
+    record {
+      text = h.text ++ piece;
+      bytes = on.bytes;
+      events = h.events ++ on.more;
+      progress = on.progress;
+      read = read_both left_first left_old left_now h.text piece h.read given;
+      written = rw (lines-append t h.events on.more) (appends_both held w.held w.holds (lines t h.events) (lines t on.more) h.written on.written);
+      many = omega arith;
+      few = omega arith;
+    }
+
+-- an end behind nothing more
+pub ended_there : {t : Tree} {l : Limits} {hex : Bool} {A : Type 0} {text : List ℕ} {es : List EventData} {w : Change} {r : Result ShowEnd RunFault} → Ended t l hex A text es w r → Ended t l hex A (text ++ []) es w r
+ended_there h = rw append-nil h
+
+-- what holds at an error
+pub at_error : {X E : Type 0} {P : Type 0} (r : Result X E) → is_err r ≡ true → OnErr r P → P
+at_error (Ok x) bad h = absurd (cc)
+at_error (Err e) bad h = h

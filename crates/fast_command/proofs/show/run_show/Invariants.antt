@@ -1,0 +1,6 @@
+use Rattle.fast_template.specs.Flat.{tree_of}
+use Rattle.fast_command.proofs.Showing.{Round}
+use Rattle.fast_command.proofs.show.run_show.Given as goal
+
+abbrev pub invariant-loop-read : goal.invariant-loop-read
+invariant-loop-read g l = Round (tree_of l.templates) l.fn.limits l.hex l.show l._read (g.S.Source.left l.fn.reader) (g.S.Source.left l.reader) (g.T.Target.written l.fn.writer) (g.T.Target.written l.writer)

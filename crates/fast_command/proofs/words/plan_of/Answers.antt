@@ -1,0 +1,20 @@
+use Rattle.std.proofs.Common.{◌∙◌, codes, ap}
+use Rattle.std.specs.Option.{unwrap_or}
+use Rattle.clap.specs.Matches.{found_of}
+use Rattle.clap.proofs.WalkLemmas.{first_value-rows}
+use Rattle.fast_command.proofs.Given.{flag_read, text_or}
+use Rattle.fast_command.proofs.words.plan_of.Goals as goal
+
+pub returns : goal.returns
+returns c =
+    let f = found_of c.args.matches.now in
+    record {
+      task = c.task_named.ensures;
+      templates = ap (λ s. s.now) c.unwrap_or.ensures ∙ text_or c.get_str.result _ ∙ ap (λ o. unwrap_or o (codes "@vectors")) (c.get_str.ensures ∙ first_value-rows f (codes "templates"));
+      input = c.get_str-2.ensures ∙ first_value-rows f (codes "input");
+      hex = flag_read f (codes "hex") c.get_flag.result c.get_flag.ensures.none c.get_flag.ensures.value c.get_flag.ensures.other;
+      strict = flag_read f (codes "strict") c.get_flag-2.result c.get_flag-2.ensures.none c.get_flag-2.ensures.value c.get_flag-2.ensures.other;
+      max_text = c.number_or.ensures;
+      max_elements = c.number_or-2.ensures;
+      max_total = c.number_or-3.ensures;
+    }

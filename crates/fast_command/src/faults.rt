@@ -1,0 +1,124 @@
+//! How a run ends.
+
+ghost use Rattle.std.specs.Prelude.{◌≡◌};
+ghost use Rattle.fast_command.specs.Report.{status_of, cause_number, static_code_text};
+
+use fast_decoder::{Fault, MakeError};
+use fast_template::{StaticCode, StaticFault};
+use fast_text::{LineWriter, Target};
+use std::fmt;
+use std::fmt::{Display, Formatter, Write};
+use thiserror::Error;
+
+/// How `show` ends where it has shown the stream.
+#[derive(Clone, Copy, Debug, PartialEq, Eq)]
+pub enum ShowEnd {
+    /// The stream ends between two messages.
+    Good,
+    /// The stream is at fault.
+    Faulted(Fault),
+    /// The stream ends inside a message, behind so many bytes.
+    Truncated(u64),
+}
+
+/// The number of a cause for which no decoder is made.
+fn number_of(cause: &MakeError) -> u8
+    ensures { result ≡ cause_number cause.now }
+{
+    match cause {
+        MakeError::BadLimits => 1,
+        MakeError::InitialTooLong => 2,
+        MakeError::Memory => 4,
+    }
+}
+
+/// The name of what is wrong with a template text.
+fn code_name(code: StaticCode) -> &'static str
+    ensures { result.now ≡ static_code_text code }
+{
+    match code {
+        StaticCode::S1 => "S1",
+        StaticCode::S2 => "S2",
+        StaticCode::S3 => "S3",
+        StaticCode::S4 => "S4",
+        StaticCode::S5 => "S5",
+        StaticCode::D8 => "D8",
+        StaticCode::C1 => "C1",
+        StaticCode::C2 => "C2",
+        StaticCode::C3 => "C3",
+        StaticCode::C4 => "C4",
+        StaticCode::C5 => "C5",
+        StaticCode::C6 => "C6",
+        StaticCode::Memory => "Memory",
+    }
+}
+
+/// What is wrong with a template text, and at which template, if at one.
+#[derive(Drop)]
+struct Wrong<'a>(&'a StaticFault);
+
+impl Display for Wrong<'_> {
+    fn fmt<W: Write>(&self, f: &mut Formatter<W>) -> fmt::Result {
+        let fault = self.0;
+        match fault.template {
+            Some(template) => write!(f, "{} in template {template}", code_name(fault.code)),
+            None => write!(f, "{}", code_name(fault.code)),
+        }
+    }
+}
+
+/// Why a run does not do its work.
+#[derive(Clone, Copy, Debug, PartialEq, Eq, Error)]
+pub enum RunFault {
+    /// The reader failed, or gave bytes more often than the run may read.
+    #[error("reading failed")]
+    Read,
+    /// The writer failed.
+    #[error("writing failed")]
+    Write,
+    /// The hexadecimal text has a character that is no digit and no blank, or ends behind the first digit of a pair. This is
+    /// its place, or the length of the text.
+    #[error("hex at {0}")]
+    BadHex(u64),
+    /// The template text is refused, for another cause than memory.
+    #[error("templates {wrong}", wrong = Wrong(.0))]
+    Templates(StaticFault),
+    /// There is no decoder with these limits, for another cause than memory.
+    #[error("limits {number}", number = number_of(.0))]
+    Make(MakeError),
+    /// There is no memory.
+    #[error("no memory")]
+    Memory,
+}
+
+impl From<StaticFault> for RunFault {
+    ghost use Rattle.std.specs.Prelude.{◌≡◌};
+    ghost use Rattle.fast_command.specs.Report.{refused};
+
+    ghost from_gives = { λ fault answer. answer ≡ refused fault };
+
+    fn from(fault: StaticFault) -> RunFault {
+        match fault.code {
+            StaticCode::Memory => RunFault::Memory,
+            _ => RunFault::Templates(fault),
+        }
+    }
+}
+
+/// Writes the line for standard error, if there is one, and answers the status of the program, also if the write fails.
+pub fn report<T: Target>(ending: &Result<ShowEnd, RunFault>, target: &mut T) -> u8
+    ensures { result ≡ status_of ending.now }
+{
+    match ending {
+        Ok(ShowEnd::Good) => 0,
+        Ok(ShowEnd::Faulted(_) | ShowEnd::Truncated(_)) => 1,
+        Err(fault) => {
+            let mut line = LineWriter::new(target);
+            let _ = writeln!(line, "fastcat: {fault}");
+            match fault {
+                RunFault::Templates(_) | RunFault::Make(_) => 2,
+                RunFault::Read | RunFault::Write | RunFault::BadHex(_) | RunFault::Memory => 3,
+            }
+        }
+    }
+}

@@ -1,0 +1,21 @@
+//! What the command fastcat does, over readers and writers: it shows streams in the FAST encoding as lines, and says how large template
+//! sets are.
+#![tactic(auto)]
+
+pub mod check;
+pub mod closing;
+pub mod faults;
+pub mod plans;
+pub mod show;
+pub mod texts;
+pub mod unhexer;
+pub mod vectors;
+pub mod words;
+
+pub use check::run_check;
+pub use faults::{RunFault, ShowEnd, report};
+pub use plans::{BUILT_IN, Plan, Task};
+pub use show::run_show;
+pub use texts::read_whole;
+pub use vectors::built_in;
+pub use words::plan;

@@ -1,0 +1,216 @@
+//! Shows a stream as lines.
+
+ghost use Rattle.std.specs.Prelude.{◌≡◌, ◌⊎◌, ◌↔◌, ℕ, ◌+◌, ◌<◌, ◌≤◌, ◌^◌, List, [], ◌++◌, Bool, IsTrue, Err, IfErr, length, option_map, is_some, IfOk, IfSome, IfNone, All, MatchOption};
+ghost use Rattle.fast_template.specs.Tree.{Tree};
+ghost use Rattle.fast_template.specs.Flat.{tree_of};
+ghost use Rattle.fast_value.specs.declared.settings.Limits.{Limits};
+ghost use Rattle.fast_decoder.specs.Events.{EventData};
+ghost use Rattle.fast_decoder.specs.Decoding.{So, standing, tree, answer, AreBadLimits};
+ghost use Rattle.fast_text.specs.Streams.{Appends};
+ghost use Rattle.fast_text.specs.Hex.{IsHexOrBlank};
+ghost use Rattle.fast_command.specs.Showing.{IsShown, IsRefusal, StandsFor, refusal_of};
+ghost use Rattle.fast_command.specs.Progress.{HasRoom, IsTaken, Progress, GoesOn, Ended, IsFed, IsBadPlace, IsClosedAt, changed};
+
+use crate::closing::{write_fault, write_truncated};
+use crate::faults::{RunFault, ShowEnd};
+use crate::unhexer::Unhexer;
+use fast_decoder::{Decoder, Fault, FaultCode, MakeError};
+use fast_template::Templates;
+use fast_text::{LineSink, Source, Target};
+use fast_value::Limits;
+use std::alloc::Global;
+
+/// How many bytes are read at a time, at most.
+const READ_SIZE: usize = 4096;
+
+/// A run that shows a stream.
+#[derive(Drop)]
+struct Show<'a> {
+    templates: &'a Templates,
+    decoder: Decoder<'a>,
+    unhexer: Option<Unhexer>,
+}
+
+/// The bytes of a piece of the input: those that it stands for, or itself where the input is not hexadecimal.
+fn bytes_of<'b>(unhexer: &mut Option<Unhexer>, piece: &'b [u8], room: &'b mut [u8]) -> &'b [u8]
+    requires counted { HasRoom unhexer.old (length piece.now) }
+    requires room { length piece.now ≤ length room.old }
+    ensures taken { (text b : List ℕ) → IsTaken unhexer.old text b → IsTaken unhexer.new (text ++ piece.now) (b ++ result.now) }
+    ensures same { is_some unhexer.new ≡ is_some unhexer.old }
+    ensures few { length result.now ≤ length piece.now }
+{
+    match unhexer {
+        None => piece,
+        Some(unhexer) => {
+            let count = unhexer.take(piece, room);
+            &room[..count]
+        }
+    }
+}
+
+/// The place of the first bad character of a hexadecimal input, if it had one.
+fn bad_character(unhexer: &Option<Unhexer>) -> Option<u64>
+    ensures found { IfSome result (IsBadPlace unhexer.now) }
+    ensures none { IfNone result ((text b : List ℕ) → IsTrue (is_some unhexer.now) → IsTaken unhexer.now text b → All IsHexOrBlank text) }
+{
+    match unhexer {
+        None => None,
+        Some(unhexer) => unhexer.bad_character(),
+    }
+}
+
+/// The first bad place of a hexadecimal input that ends here, if it has one.
+fn bad_end(unhexer: &Option<Unhexer>) -> Option<u64>
+    ensures { (text b : List ℕ) → IsTaken unhexer.now text b → StandsFor (is_some unhexer.now) text b result }
+{
+    match unhexer {
+        None => None,
+        Some(unhexer) => unhexer.bad_end(),
+    }
+}
+
+/// Feeds bytes to the decoder, and writes the lines of what they give.
+fn feed<T: Target>(
+    decoder: &mut Decoder<'_>,
+    templates: &Templates,
+    bytes: &[u8],
+    writer: &mut T,
+) -> Result<(), Fault>
+    requires { (standing decoder.old).consumed + length bytes.now < 2 ^ 64 }
+    ensures fed { (b : List ℕ) (es : List EventData) → tree decoder.old ≡ tree_of templates.now → So decoder.old b es
+        → IsFed (tree_of templates.now) decoder.old.limits b es bytes.now decoder.new
+        (changed T.written T.has_failed writer.old writer.new) result }
+    ensures answer { result ≡ answer decoder.new.fault }
+    ensures same_set { (tree decoder.new ≡ tree decoder.old) × (decoder.new.limits ≡ decoder.old.limits) }
+{
+    let mut sink = LineSink::new(templates, writer);
+    decoder.feed(bytes, &mut sink)
+}
+
+/// Writes the line of a fault at which a feed has stopped.
+fn close<T: Target>(fault: Fault, writer: &mut T) -> Result<ShowEnd, RunFault>
+    ensures { IsClosedAt fault fault.code
+        (changed T.written T.has_failed writer.old writer.new) result }
+{
+    match fault.code {
+        FaultCode::SinkStopped => Err(RunFault::Write),
+        FaultCode::Stream(_) | FaultCode::L4 => match write_fault(fault, writer) {
+            Ok(()) => Ok(ShowEnd::Faulted(fault)),
+            Err(_) => Err(RunFault::Write),
+        },
+    }
+}
+
+/// What a run answers where no decoder is made.
+fn refusal(error: MakeError) -> RunFault
+    ensures { result ≡ refusal_of error }
+{
+    match error {
+        MakeError::Memory => RunFault::Memory,
+        MakeError::BadLimits | MakeError::InitialTooLong => RunFault::Make(error),
+    }
+}
+
+impl<'a> Show<'a> {
+    /// A run that has read nothing.
+    fn new(
+        alloc: Global,
+        templates: &'a Templates,
+        limits: Limits,
+        hex: bool,
+    ) -> Result<Show<'a>, MakeError>
+        ensures made { IfOk result (λ s. Progress (tree_of templates.entry.now) limits hex s [] [] []) }
+        ensures refused { IfErr result (λ e. e ≡ MakeError.Memory ⊎ IsRefusal templates.entry.now limits e) }
+        ensures bad_limits { AreBadLimits limits → result ≡ Err MakeError.BadLimits }
+        ensures long_initial { IsRefusal templates.entry.now limits MakeError.InitialTooLong → result ≡ Err MakeError.InitialTooLong }
+    {
+        let decoder = Decoder::new(alloc, templates, limits)?;
+        let unhexer = if hex { Some(Unhexer::new()) } else { None };
+        Ok(Show {
+            templates,
+            decoder,
+            unhexer,
+        })
+    }
+
+    /// Takes a piece of the input and writes the lines of what it gives, and answers how the run ends if it ends here.
+    fn take<T: Target>(&mut self, piece: &[u8], writer: &mut T) -> Option<Result<ShowEnd, RunFault>>
+        requires few { length piece.now ≤ READ_SIZE }
+        requires counted { (standing self.old.decoder).consumed + length piece.now < 2 ^ 64 }
+        requires room { HasRoom self.old.unhexer (length piece.now) }
+        ensures { (t : Tree) (l : Limits) (hex : Bool) (text b : List ℕ) (es : List EventData) → Progress t l hex self.old text b es →
+            (let w = changed T.written T.has_failed writer.old writer.new in
+            MatchOption result (GoesOn t l hex self.new (text ++ piece.now) es w) (Ended t l hex ⊥ (text ++ piece.now) es w)) }
+    {
+        let mut room = [0; READ_SIZE];
+        let bytes = bytes_of(&mut self.unhexer, piece, &mut room);
+        match feed(&mut self.decoder, self.templates, bytes, writer) {
+            Ok(()) => match bad_character(&self.unhexer) {
+                None => None,
+                Some(place) => Some(Err(RunFault::BadHex(place))),
+            },
+            Err(fault) => Some(close(fault, writer)),
+        }
+    }
+
+    /// How the run ends where the input has ended.
+    fn end<T: Target>(&self, writer: &mut T) -> Result<ShowEnd, RunFault>
+        ensures { (t : Tree) (l : Limits) (hex : Bool) (text b : List ℕ) (es : List EventData) → Progress t l hex self.now text b es →
+            Ended t l hex (Unit {0}) text es (changed T.written T.has_failed writer.old writer.new) result }
+    {
+        if let Some(place) = bad_end(&self.unhexer) {
+            return Err(RunFault::BadHex(place));
+        }
+        if self.decoder.between() {
+            return Ok(ShowEnd::Good);
+        }
+        let consumed = self.decoder.consumed();
+        match write_truncated(consumed, writer) {
+            Ok(()) => Ok(ShowEnd::Truncated(consumed)),
+            Err(_) => Err(RunFault::Write),
+        }
+    }
+}
+
+/// Shows a stream: writes a line for each event, and a line for a fault or for an end inside a message.
+///
+/// With `hex` the input is hexadecimal digits in pairs, with blanks between them. After `max_reads` reads that gave bytes the
+/// run ends with `RunFault::Read`; at most 4,096 bytes are read at a time. The writer is flushed before each read, which may
+/// take its time, so that all lines can be seen by then. What it keeps at the end is the caller's to flush.
+pub fn run_show<S: Source, T: Target>(
+    alloc: Global,
+    templates: &Templates,
+    limits: Limits,
+    hex: bool,
+    max_reads: u64,
+    reader: &mut S,
+    writer: &mut T,
+) -> Result<ShowEnd, RunFault>
+    requires { max_reads ≤ 2 ^ 40 }
+    ensures shown { (text out : List ℕ) × (S.left reader.old ≡ option_map (λ xs. text ++ xs) (S.left reader.new)) × Appends (T.written writer.old) (T.written writer.new) out
+        × IsShown (tree_of templates.now) limits hex (IsRefusal templates.now limits) (IfSome (S.left reader.new) (λ xs. xs ≡ [])) (IsTrue (S.has_failed reader.new) ⊎ (max_reads ≤ length text)) (IsTrue (T.has_failed writer.new)) text out result }
+    ensures bad_limits { AreBadLimits limits → result ≡ Err (RunFault.Make MakeError.BadLimits) }
+    ensures long_initial { IsRefusal templates.now limits MakeError.InitialTooLong → result ≡ Err (RunFault.Make MakeError.InitialTooLong) }
+{
+    let mut show = match Show::new(alloc, templates, limits, hex) {
+        Ok(show) => show,
+        Err(error) => return Err(refusal(error)),
+    };
+    let mut buffer = [0; READ_SIZE];
+    for _read in 0..max_reads {
+        if writer.flush().is_err() {
+            return Err(RunFault::Write);
+        }
+        let count = match reader.read(&mut buffer) {
+            Ok(count) => count,
+            Err(_) => return Err(RunFault::Read),
+        };
+        if count == 0 {
+            return show.end(writer);
+        }
+        if let Some(result) = show.take(&buffer[..count], writer) {
+            return result;
+        }
+    }
+    Err(RunFault::Read)
+}

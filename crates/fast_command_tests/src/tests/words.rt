@@ -1,0 +1,110 @@
+//! Words, and what they ask for.
+
+use clap::error::ErrorKind;
+use fast_command::{BUILT_IN, Plan, Task, plan};
+use std::test::Fail;
+
+const DEFAULTS: Plan<'static> = Plan {
+    task: Task::Show,
+    templates: "t.toml",
+    input: None,
+    hex: false,
+    strict: false,
+    max_text: 1024,
+    max_elements: 1000,
+    max_total: 1000,
+};
+
+#[test]
+fn words_and_their_plans(rt: HostRuntime) -> Result<(), Fail> {
+    let show = DEFAULTS;
+    let check = Plan {
+        task: Task::Check,
+        ..DEFAULTS
+    };
+    for (words, wanted) in [
+        (["fastcat", "show", "t.toml"].as_slice(), show),
+        (["fastcat", "check", "t.toml"].as_slice(), check),
+        (
+            ["fastcat", "show", "t.toml", "stream", "--strict"].as_slice(),
+            Plan {
+                input: Some("stream"),
+                strict: true,
+                ..show
+            },
+        ),
+        (
+            ["fastcat", "show", "--hex", BUILT_IN].as_slice(),
+            Plan {
+                templates: BUILT_IN,
+                hex: true,
+                ..show
+            },
+        ),
+        (
+            [
+                "fastcat",
+                "check",
+                "--max-text=16",
+                "--max-elements",
+                "4294967295",
+                "t.toml",
+                "--max-total=0",
+            ]
+            .as_slice(),
+            Plan {
+                max_text: 16,
+                max_elements: 4294967295,
+                max_total: 0,
+                ..check
+            },
+        ),
+    ] {
+        let Ok(found) = plan(rt.alloc(), words) else {
+            return Err(Fail::from("the words are refused"));
+        };
+        assert_eq!(rt; found, wanted);
+    }
+    Ok(())
+}
+
+#[test]
+fn words_that_are_refused(rt: HostRuntime) {
+    for (words, kind, status) in [
+        (["fastcat"].as_slice(), ErrorKind::MissingSubcommand, 2),
+        (
+            ["fastcat", "frob"].as_slice(),
+            ErrorKind::InvalidSubcommand,
+            2,
+        ),
+        (
+            ["fastcat", "check"].as_slice(),
+            ErrorKind::MissingRequiredArgument,
+            2,
+        ),
+        (
+            ["fastcat", "check", "t.toml", "--strict"].as_slice(),
+            ErrorKind::UnknownArgument,
+            2,
+        ),
+        (
+            ["fastcat", "check", "t.toml", "stream"].as_slice(),
+            ErrorKind::UnknownArgument,
+            2,
+        ),
+        (
+            ["fastcat", "show", "t.toml", "--max-total=4294967296"].as_slice(),
+            ErrorKind::ValueValidation,
+            2,
+        ),
+        (
+            ["fastcat", "show", "--help"].as_slice(),
+            ErrorKind::DisplayHelp,
+            0,
+        ),
+    ] {
+        let error = plan(rt.alloc(), words).err().expect(&rt, "a refusal");
+        assert_eq!(rt; error.kind(), kind);
+        assert_eq!(rt; error.exit_code(), status);
+    }
+}

@@ -1,0 +1,4 @@
+//! Tests: what no clause says, and each public call once.
+
+mod lines;
+mod streams;

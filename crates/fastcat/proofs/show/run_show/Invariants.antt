@@ -1,6 +1,0 @@
-use Rattle.fast_template.specs.Flat.{tree_of}
-use Rattle.fastcat.proofs.Showing.{Round}
-use Rattle.fastcat.proofs.show.run_show.Given as goal
-
-abbrev pub invariant-loop-read : goal.invariant-loop-read
-invariant-loop-read g l = Round (tree_of l.templates) l.fn.limits l.hex l.show l._read (g.S.Source.left l.fn.reader) (g.S.Source.left l.reader) (g.T.Target.written l.fn.writer) (g.T.Target.written l.writer)
