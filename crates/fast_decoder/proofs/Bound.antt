@@ -8,8 +8,8 @@ use Rattle.fast_value.specs.declared.settings.Limits.{Limits}
 use Rattle.fast_value.specs.Limits.{bounds}
 use Rattle.fast_value.specs.declared.codes.Code.{Code}
 use Rattle.fast_value.specs.Messages.{MessageData}
-use Rattle.fast_template.specs.Tree.{identifier, TemplateData, Tree}
-use Rattle.fast_template.specs.Sizes.{event_weights, body_size, body_outer, body_widest, greatest, product_cap, sum_cap, message_cap}
+use Rattle.fast_tree.specs.Tree.{identifier, TemplateData, Tree}
+use Rattle.fast_tree.specs.Sizes.{event_weights, body_size, body_outer, body_widest, greatest, product_cap, sum_cap, message_cap}
 use Rattle.fast_dict.specs.Dictionary.{Dictionary, fresh}
 use Rattle.fast_decoder.specs.Events.{EventData, MessageStart, MessageEnd, events}
 use Rattle.fast_decoder.specs.Phrases.{Reached, whole, cut, wrong}

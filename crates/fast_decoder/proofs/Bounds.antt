@@ -3,7 +3,7 @@ use Rattle.std.proofs.Common.{◌≡◌, ◌∙◌, subst, sym, arith}
 use Rattle.std.proofs.Math.Nat.{add-mul}
 use Rattle.std.specs.Prelude.{ℕ, ◌+◌, ◌*◌, ◌≤◌, List, length, vec_len}
 use Rattle.fast_value.specs.declared.settings.Limits.{Limits}
-use Rattle.fast_template.specs.Sizes.{set_depth, message_cap, stored_cap}
+use Rattle.fast_tree.specs.Sizes.{set_depth, message_cap, stored_cap}
 use Rattle.fast_dict.specs.Slots.{slots_dictionary, slots_sized, slots_bounded}
 use Rattle.fast_decoder.specs.declared.machine.Machine.{Machine}
 use Rattle.fast_decoder.specs.Events.{EventData}

@@ -5,8 +5,8 @@ use Rattle.std.proofs.lemmas.List.{length-append}
 use Rattle.std.specs.Prelude.{◌≡◌, ℕ, suc, ◌+◌, ◌*◌, ◌≤◌, max, List, [], ◌∷◌, ◌++◌, length, flat_map}
 use Rattle.fast_value.specs.declared.settings.Limits.{Limits}
 use Rattle.fast_value.specs.Messages.{MessageData}
-use Rattle.fast_template.specs.Tree.{Label, FieldData, sequence, Body, end, step, Tree}
-use Rattle.fast_template.specs.Sizes.{Weights, size, body_size, outer, body_outer, widest, body_widest, message_cap}
+use Rattle.fast_tree.specs.Tree.{Label, FieldData, sequence, Body, end, step, Tree}
+use Rattle.fast_tree.specs.Sizes.{Weights, size, body_size, outer, body_outer, widest, body_widest, message_cap}
 use Rattle.fast_dict.specs.Dictionary.{Dictionary}
 use Rattle.fast_decoder.specs.Events.{EventData, events}
 use Rattle.fast_decoder.specs.Phrases.{whole, cut, wrong}

@@ -7,7 +7,7 @@ use Rattle.fast_value.specs.Kinds.{exponent_range, ScalarData, integer_of}
 use Rattle.fast_value.specs.Limits.{Bounds}
 use Rattle.fast_value.specs.Messages.{Slots, element, MessageData}
 use Rattle.fast_value.specs.declared.codes.Code.TheVariants.{R1}
-use Rattle.fast_template.specs.Tree.{TemplateData, Tree, FieldData, identifier, Instruction, field, parts, group, sequence, Body, end, step, message_bits}
+use Rattle.fast_tree.specs.Tree.{TemplateData, Tree, FieldData, identifier, Instruction, field, parts, group, sequence, Body, end, step, message_bits}
 use Rattle.fast_dict.specs.Dictionary.{Dictionary}
 use Rattle.fast_dict.specs.Operators.{ranged}
 use Rattle.fast_decoder.specs.Events.{EventData, MessageStart, GroupStart, GroupEnd, SequenceStart, ElementStart, ElementEnd, SequenceEnd, MessageEnd}

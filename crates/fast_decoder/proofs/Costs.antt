@@ -10,8 +10,8 @@ use Rattle.fast_value.specs.Limits.{Bounds, bounds}
 use Rattle.fast_value.specs.declared.codes.Code.{Code}
 use Rattle.fast_value.specs.declared.codes.Code.TheVariants.{L2, L5, R1}
 use Rattle.fast_value.specs.Messages.{one, group as group_item, sequence as sequence_item, no_slots, no_elements, element}
-use Rattle.fast_template.specs.Tree.{FieldData, uses_bit, Instruction, field, parts, group, sequence, Body, end, step, bits_of, has_map}
-use Rattle.fast_template.specs.Sizes.{event_weights, size, body_size, outer, body_outer, widest, body_widest}
+use Rattle.fast_tree.specs.Tree.{FieldData, uses_bit, Instruction, field, parts, group, sequence, Body, end, step, bits_of, has_map}
+use Rattle.fast_tree.specs.Sizes.{event_weights, size, body_size, outer, body_outer, widest, body_widest}
 use Rattle.fast_dict.specs.Dictionary.{previous_at}
 use Rattle.fast_dict.specs.Operators.{ranged}
 use Rattle.fast_decoder.specs.Events.{EventData, FieldValue, GroupStart, GroupEnd, SequenceStart, ElementStart, ElementEnd, SequenceEnd}

@@ -6,14 +6,14 @@ use Rattle.fast_value.specs.declared.kinds.Kind.TheVariants.{UInt32, Int32, UInt
 use Rattle.fast_value.specs.declared.codes.Code.{Code}
 use Rattle.fast_value.specs.declared.codes.Code.TheVariants.{D2, D4}
 use Rattle.fast_value.specs.Kinds.{ScalarData, Family, integers, decimals, texts, family, integer_of, value_of_integer, same_kind}
-use Rattle.fast_template.specs.declared.operators.Operator.{Operator}
-use Rattle.fast_template.specs.declared.operators.Operator.TheVariants as Op
-use Rattle.fast_template.specs.Tree.{FieldData}
+use Rattle.fast_tree.specs.declared.operators.Operator.{Operator}
+use Rattle.fast_tree.specs.declared.operators.Operator.TheVariants as Op
+use Rattle.fast_tree.specs.Tree.{FieldData}
 use Rattle.fast_dict.specs.Dictionary.{Dictionary, PreviousData, undefined, empty, assigned, previous_at, write_at}
 use Rattle.fast_dict.specs.Operators.{Outcome, delta_base, integer_step, ranged, range_of, checked, checked_in, null, value, gives, gives_none, decide, decide_by, nothing, fixed, ◌>>=◌, keeps, from_initial, unsent, next_value}
 use Rattle.fast_decoder.specs.declared.source.Source.{Source}
 use Rattle.fast_decoder.specs.declared.source.Source.TheVariants as From
-use Rattle.fast_template.specs.Entries.{keeps_value}
+use Rattle.fast_tree.specs.Entries.{keeps_value}
 use Rattle.fast_dict.specs.Stores.{Terms}
 use Rattle.fast_decoder.specs.Settling.{Serves, value_in, value_at, IsSettled}
 use Rattle.fast_value.specs.Limits.{Bounds}

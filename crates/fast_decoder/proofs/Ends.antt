@@ -6,7 +6,7 @@ use Rattle.fast_wire.specs.Entities.{HaveNoStop}
 use Rattle.fast_wire.specs.Maps.{map_limit}
 use Rattle.fast_value.specs.declared.settings.Limits.{Limits}
 use Rattle.fast_value.specs.declared.codes.Code.TheVariants.{L3}
-use Rattle.fast_template.specs.Numbers.{NameLaterNodes}
+use Rattle.fast_tree.specs.Numbers.{NameLaterNodes}
 use Rattle.fast_dict.specs.Dictionary.{Dictionary}
 use Rattle.fast_dict.specs.Slots.{slots_dictionary}
 use Rattle.fast_decoder.specs.declared.faults.Fault.{Fault}

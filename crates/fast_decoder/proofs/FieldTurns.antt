@@ -10,11 +10,11 @@ use Rattle.fast_value.specs.declared.kinds.Kind.TheVariants.{UInt32, Int32, UInt
 use Rattle.fast_value.specs.declared.codes.Code.TheVariants.{R1}
 use Rattle.fast_value.specs.Kinds.{ScalarData, integer_of, exponent_range}
 use Rattle.fast_value.specs.Limits.{Bounds, bounds}
-use Rattle.fast_template.specs.declared.operators.Operator.{Operator}
-use Rattle.fast_template.specs.declared.operators.Operator.TheVariants.{None as no_operator, Constant, Default, Copy, Increment, Delta, Tail}
-use Rattle.fast_template.specs.Numbers.{AreBelow}
-use Rattle.fast_template.specs.Sizes.{depth, body_depth}
-use Rattle.fast_template.specs.Tree.{FieldData, Body, uses_bit}
+use Rattle.fast_tree.specs.declared.operators.Operator.{Operator}
+use Rattle.fast_tree.specs.declared.operators.Operator.TheVariants.{None as no_operator, Constant, Default, Copy, Increment, Delta, Tail}
+use Rattle.fast_tree.specs.Numbers.{AreBelow}
+use Rattle.fast_tree.specs.Sizes.{depth, body_depth}
+use Rattle.fast_tree.specs.Tree.{FieldData, Body, uses_bit}
 use Rattle.fast_dict.specs.Dictionary.{Dictionary, PreviousData, previous_at}
 use Rattle.fast_dict.specs.Operators.{nothing, decide, ranged}
 use Rattle.fast_dict.specs.Stores.{Terms}

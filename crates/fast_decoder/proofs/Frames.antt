@@ -6,7 +6,7 @@ use Rattle.fast_wire.specs.Maps.{first_bit, later_bits}
 use Rattle.fast_value.specs.Kinds.{exponent_range, integer_of}
 use Rattle.fast_value.specs.Limits.{Bounds}
 use Rattle.fast_value.specs.declared.codes.Code.TheVariants.{R1}
-use Rattle.fast_template.specs.Tree.{Label, FieldData, field, parts, group, sequence, Body, end, step, TemplateData}
+use Rattle.fast_tree.specs.Tree.{Label, FieldData, field, parts, group, sequence, Body, end, step, TemplateData}
 use Rattle.fast_dict.specs.Dictionary.{Dictionary}
 use Rattle.fast_dict.specs.Operators.{ranged}
 use Rattle.fast_decoder.specs.Events.{GroupStart, GroupEnd, SequenceStart, ElementEnd, SequenceEnd, MessageStart, MessageEnd}

@@ -2,14 +2,14 @@
 use Rattle.std.proofs.Common.{refl, sym, ap, ◌∙◌, subst, arith}
 use Rattle.std.specs.Prelude.{◌≡◌, ℕ, ◌<◌, Bool, List, [], ◌∷◌, length, drop, slice_get, Some}
 use Rattle.std.proofs.lemmas.Option.{slice_get_within}
-use Rattle.fast_template.specs.declared.instructions.FieldInstruction.{FieldInstruction}
-use Rattle.fast_template.specs.declared.instructions.Node.{Node}
-use Rattle.fast_template.specs.declared.instructions.Shape.{Shape}
-use Rattle.fast_template.specs.declared.instructions.Shape.TheVariants.{Field, Decimal, Group, Sequence}
+use Rattle.fast_tree.specs.declared.instructions.FieldInstruction.{FieldInstruction}
+use Rattle.fast_tree.specs.declared.instructions.Node.{Node}
+use Rattle.fast_tree.specs.declared.instructions.Shape.{Shape}
+use Rattle.fast_tree.specs.declared.instructions.Shape.TheVariants.{Field, Decimal, Group, Sequence}
 use Rattle.fast_template.specs.declared.sets.Templates.{Templates}
-use Rattle.fast_template.specs.Numbers.{NameLaterNodes}
-use Rattle.fast_template.specs.Tree.{step}
-use Rattle.fast_template.specs.Flat.{field_data, label_of}
+use Rattle.fast_tree.specs.Numbers.{NameLaterNodes}
+use Rattle.fast_tree.specs.Tree.{step}
+use Rattle.fast_tree.specs.Nodes.{field_data, label_of}
 use Rattle.fast_decoder.specs.Cursors.{CursorData}
 use Rattle.fast_decoder.specs.Segments.{first_node}
 use Rattle.fast_decoder.specs.Serving.{body_among, instruction_among}

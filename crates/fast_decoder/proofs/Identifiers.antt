@@ -8,9 +8,9 @@ use Rattle.fast_value.specs.Limits.{Bounds}
 use Rattle.fast_value.specs.declared.codes.Code.{Code}
 use Rattle.fast_value.specs.declared.codes.Code.TheVariants.{D9, R7, R8}
 use Rattle.fast_value.specs.declared.settings.Limits.{Limits}
-use Rattle.fast_template.specs.Tree.{Instruction, identifier, message_bits}
-use Rattle.fast_template.specs.declared.instructions.Template.{Template}
-use Rattle.fast_template.specs.Flat.{field_data, template_data, instructions_from}
+use Rattle.fast_tree.specs.Tree.{Instruction, identifier, message_bits}
+use Rattle.fast_tree.specs.declared.instructions.Template.{Template}
+use Rattle.fast_tree.specs.Nodes.{field_data, template_data, instructions_from}
 use Rattle.fast_dict.specs.Dictionary.{PreviousData, Dictionary, previous_at, write_at}
 use Rattle.fast_dict.specs.Operators.{Outcome, nothing, decide}
 use Rattle.fast_dict.specs.Slots.{slots_dictionary, slots_terms, slots_sized}

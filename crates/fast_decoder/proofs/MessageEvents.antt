@@ -8,7 +8,7 @@ use Rattle.fast_value.specs.Limits.{Bounds, bounds}
 use Rattle.fast_value.specs.Messages.{ItemData, one, group as group_item, sequence as sequence_item, Slots, no_slots, Elements, no_elements, element, MessageData, count}
 use Rattle.fast_value.specs.declared.codes.Code.{Code}
 use Rattle.fast_value.specs.declared.codes.Code.TheVariants.{R1}
-use Rattle.fast_template.specs.Tree.{Label, FieldData, identifier, uses_bit, Instruction, field, parts, group, sequence, Body, end, step, bits_of, has_map, TemplateData, Tree}
+use Rattle.fast_tree.specs.Tree.{Label, FieldData, identifier, uses_bit, Instruction, field, parts, group, sequence, Body, end, step, bits_of, has_map, TemplateData, Tree}
 use Rattle.fast_dict.specs.Dictionary.{Dictionary, previous_at}
 use Rattle.fast_dict.specs.Operators.{ranged}
 use Rattle.fast_decoder.specs.Events.{EventData, MessageStart, FieldValue, GroupStart, GroupEnd, SequenceStart, ElementStart, ElementEnd, SequenceEnd, MessageEnd, element_events, item_events, body_events, template_events, events}

@@ -9,7 +9,7 @@ use Rattle.fast_value.specs.declared.kinds.Kind.TheVariants.{UInt32, Int32, UInt
 use Rattle.fast_value.specs.declared.settings.Limits.{Limits}
 use Rattle.fast_value.specs.Kinds.{ScalarData, value_of_text}
 use Rattle.fast_value.specs.Limits.{Bounds, bounds}
-use Rattle.fast_template.specs.Tree.{FieldData, Body}
+use Rattle.fast_tree.specs.Tree.{FieldData, Body}
 use Rattle.fast_dict.specs.Dictionary.{Dictionary, previous_at}
 use Rattle.fast_dict.specs.Operators.{Outcome}
 use Rattle.fast_dict.specs.Slots.{slots_dictionary, slots_terms}

@@ -7,9 +7,9 @@ use Rattle.fast_value.specs.Kinds.{Family, integers, decimals, texts, family}
 use Rattle.fast_value.specs.Limits.{Bounds}
 use Rattle.fast_value.specs.declared.codes.Code.{Code}
 use Rattle.fast_value.specs.declared.codes.Code.TheVariants.{L1}
-use Rattle.fast_template.specs.declared.operators.Operator.{Operator}
-use Rattle.fast_template.specs.declared.operators.Operator.TheVariants.{None as no_operator, Constant, Delta}
-use Rattle.fast_template.specs.Tree.{FieldData}
+use Rattle.fast_tree.specs.declared.operators.Operator.{Operator}
+use Rattle.fast_tree.specs.declared.operators.Operator.TheVariants.{None as no_operator, Constant, Delta}
+use Rattle.fast_tree.specs.Tree.{FieldData}
 use Rattle.fast_dict.specs.Dictionary.{PreviousData}
 use Rattle.fast_dict.specs.Operators.{gives_none, nothing, decide, integer_step, exponent_step, mantissa_step, Kept, kept_length, subtraction_step, text_step}
 use Rattle.fast_decoder.specs.Events.{EventData}

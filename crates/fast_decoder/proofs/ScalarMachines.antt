@@ -7,7 +7,7 @@ use Rattle.fast_value.specs.declared.codes.Code.{Code}
 use Rattle.fast_value.specs.declared.settings.Limits.{Limits}
 use Rattle.fast_value.specs.Kinds.{ScalarData}
 use Rattle.fast_value.specs.Limits.{Bounds, bounds}
-use Rattle.fast_template.specs.Tree.{FieldData, Body}
+use Rattle.fast_tree.specs.Tree.{FieldData, Body}
 use Rattle.fast_dict.specs.Dictionary.{Dictionary, PreviousData, previous_at, write_at}
 use Rattle.fast_dict.specs.Operators.{Outcome}
 use Rattle.fast_dict.specs.Slots.{slots_dictionary, slots_terms}

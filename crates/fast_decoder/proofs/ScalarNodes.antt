@@ -4,15 +4,15 @@ use Rattle.std.specs.Prelude.{◌≡◌, ℕ, ◌<◌, Bool, List, [], ◌∷◌
 use Rattle.std.specs.Prelude.{Vec}
 use Rattle.std.specs.Global.{Global}
 use Rattle.fast_value.specs.declared.settings.Limits.{Limits}
-use Rattle.fast_template.specs.declared.instructions.FieldInstruction.{FieldInstruction}
-use Rattle.fast_template.specs.declared.instructions.Node.{Node}
-use Rattle.fast_template.specs.declared.instructions.Shape.{Shape}
-use Rattle.fast_template.specs.declared.instructions.Shape.TheVariants as Of
-use Rattle.fast_template.specs.Nodes.{field_data, label_of}
-use Rattle.fast_template.specs.NodeData.{shape_data}
+use Rattle.fast_tree.specs.declared.instructions.FieldInstruction.{FieldInstruction}
+use Rattle.fast_tree.specs.declared.instructions.Node.{Node}
+use Rattle.fast_tree.specs.declared.instructions.Shape.{Shape}
+use Rattle.fast_tree.specs.declared.instructions.Shape.TheVariants as Of
+use Rattle.fast_tree.specs.Nodes.{field_data, label_of}
+use Rattle.fast_tree.specs.NodeData.{shape_data}
 use Rattle.fast_dict.specs.Slots.{slots_dictionary, slots_terms}
-use Rattle.fast_template.specs.Numbers.{AreBelow, NameLaterNodes}
-use Rattle.fast_template.specs.Tree.{Label, FieldData, Body, step}
+use Rattle.fast_tree.specs.Numbers.{AreBelow, NameLaterNodes}
+use Rattle.fast_tree.specs.Tree.{Label, FieldData, Body, step}
 use Rattle.fast_decoder.specs.Cursors.{CursorData}
 use Rattle.fast_decoder.specs.Segments.{first_node}
 use Rattle.fast_decoder.specs.Messages.{State}

@@ -7,7 +7,7 @@ use Rattle.fast_wire.specs.Integers.{signed_range, delta_range}
 use Rattle.fast_value.specs.declared.codes.Code.TheVariants.{R1, D2}
 use Rattle.fast_value.specs.declared.settings.Limits.{Limits}
 use Rattle.fast_value.specs.Limits.{Bounds, bounds}
-use Rattle.fast_template.specs.Tree.{FieldData, Body}
+use Rattle.fast_tree.specs.Tree.{FieldData, Body}
 use Rattle.fast_dict.specs.Dictionary.{Dictionary, PreviousData, previous_at}
 use Rattle.fast_dict.specs.Operators.{kept_length, subtraction_step, decide}
 use Rattle.fast_dict.specs.Slots.{slots_dictionary}

@@ -5,7 +5,7 @@ use Rattle.fast_wire.specs.Entities.{HaveNoStop}
 use Rattle.fast_value.specs.Kinds.{decimals, texts, family}
 use Rattle.fast_value.specs.declared.settings.Limits.{Limits}
 use Rattle.fast_value.specs.Limits.{Bounds, bounds}
-use Rattle.fast_template.specs.Tree.{FieldData}
+use Rattle.fast_tree.specs.Tree.{FieldData}
 use Rattle.fast_dict.specs.Dictionary.{Dictionary, PreviousData, previous_at}
 use Rattle.fast_dict.specs.Operators.{Outcome}
 use Rattle.fast_decoder.specs.Readers.{Reader}

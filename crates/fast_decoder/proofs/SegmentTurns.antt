@@ -10,9 +10,9 @@ use Rattle.fast_value.specs.declared.settings.Limits.{Limits}
 use Rattle.fast_value.specs.declared.codes.Code.{Code}
 use Rattle.fast_value.specs.Kinds.{ScalarData, integer_of}
 use Rattle.fast_value.specs.Limits.{Bounds, bounds}
-use Rattle.fast_template.specs.Numbers.{AreBelow}
-use Rattle.fast_template.specs.Sizes.{depth, body_depth}
-use Rattle.fast_template.specs.Tree.{FieldData, Instruction, group, step, Body, bits_of}
+use Rattle.fast_tree.specs.Numbers.{AreBelow}
+use Rattle.fast_tree.specs.Sizes.{depth, body_depth}
+use Rattle.fast_tree.specs.Tree.{FieldData, Instruction, group, step, Body, bits_of}
 use Rattle.fast_dict.specs.Dictionary.{Dictionary, previous_at}
 use Rattle.fast_dict.specs.Operators.{nothing, decide}
 use Rattle.fast_dict.specs.Slots.{slots_dictionary, slots_terms}

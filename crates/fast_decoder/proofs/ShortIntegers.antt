@@ -9,10 +9,10 @@ use Rattle.fast_value.specs.declared.codes.Code.TheVariants.{D2}
 use Rattle.fast_value.specs.declared.kinds.Kind.{Kind}
 use Rattle.fast_value.specs.Kinds.{family, integers, texts}
 use Rattle.fast_value.specs.Limits.{Bounds}
-use Rattle.fast_template.specs.declared.operators.Operator.{Operator}
-use Rattle.fast_template.specs.declared.operators.Operator.TheVariants as Op
-use Rattle.fast_template.specs.Entries.{keeps_value}
-use Rattle.fast_template.specs.Tree.{FieldData}
+use Rattle.fast_tree.specs.declared.operators.Operator.{Operator}
+use Rattle.fast_tree.specs.declared.operators.Operator.TheVariants as Op
+use Rattle.fast_tree.specs.Entries.{keeps_value}
+use Rattle.fast_tree.specs.Tree.{FieldData}
 use Rattle.fast_dict.specs.Dictionary.{Dictionary, PreviousData, empty, assigned, previous_at, write_at}
 use Rattle.fast_dict.specs.Stores.{Terms}
 use Rattle.fast_dict.specs.Operators.{decide, range_of, Outcome, Sent}

@@ -9,9 +9,9 @@ use Rattle.fast_value.specs.declared.codes.Code.TheVariants.{L3}
 use Rattle.fast_value.specs.declared.kinds.Kind.{Kind}
 use Rattle.fast_value.specs.declared.kinds.Kind.TheVariants.{UInt32}
 use Rattle.fast_value.specs.Kinds.{ScalarData}
-use Rattle.fast_template.specs.Tree.{identifier, message_bits}
-use Rattle.fast_template.specs.declared.instructions.Template.{Template}
-use Rattle.fast_template.specs.Flat.{template_data, instructions_from}
+use Rattle.fast_tree.specs.Tree.{identifier, message_bits}
+use Rattle.fast_tree.specs.declared.instructions.Template.{Template}
+use Rattle.fast_tree.specs.Nodes.{template_data, instructions_from}
 use Rattle.fast_dict.specs.Dictionary.{Dictionary, PreviousData, assigned, previous_at, write_at}
 use Rattle.fast_dict.specs.Operators.{Outcome, decide, nothing}
 use Rattle.fast_dict.specs.Slots.{slots_dictionary}

@@ -10,7 +10,7 @@ use Rattle.fast_value.specs.declared.settings.Limits.{Limits}
 use Rattle.fast_value.specs.Limits.{Bounds, bounds}
 use Rattle.fast_value.specs.declared.codes.Code.{Code}
 use Rattle.fast_value.specs.declared.codes.Code.TheVariants.{D2, L1, L3}
-use Rattle.fast_template.specs.Tree.{FieldData, Body, has_map, Tree}
+use Rattle.fast_tree.specs.Tree.{FieldData, Body, has_map, Tree}
 use Rattle.fast_dict.specs.Dictionary.{Dictionary, PreviousData}
 use Rattle.fast_dict.specs.Operators.{Outcome, Sent, decide, exponent_step, Kept, subtraction_step}
 use Rattle.fast_decoder.specs.Fields.{sized, sent_text, decimal_from, decimal_change, part_change, text_change}

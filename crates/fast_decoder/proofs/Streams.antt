@@ -5,7 +5,7 @@ use Rattle.std.proofs.lemmas.Grind.{flat_map-append}
 use Rattle.fast_value.specs.declared.settings.Limits.{Limits}
 use Rattle.fast_value.specs.Messages.{MessageData}
 use Rattle.fast_value.specs.declared.codes.Code.{Code}
-use Rattle.fast_template.specs.Tree.{Tree}
+use Rattle.fast_tree.specs.Tree.{Tree}
 use Rattle.fast_dict.specs.Dictionary.{Dictionary, fresh}
 use Rattle.fast_decoder.specs.Events.{EventData, events}
 use Rattle.fast_decoder.specs.Phrases.{Reached, whole, cut, wrong}

@@ -9,10 +9,10 @@ use Rattle.fast_value.specs.declared.kinds.Kind.TheVariants.{Ascii, Unicode, Byt
 use Rattle.fast_value.specs.declared.codes.Code.{Code}
 use Rattle.fast_value.specs.declared.codes.Code.TheVariants.{R2, D4, D7}
 use Rattle.fast_value.specs.Kinds.{ScalarData, U, I, Dec, AsciiText, UnicodeText, ByteVector, texts, family, text_of, value_of_text, same_kind}
-use Rattle.fast_template.specs.declared.operators.Operator.{Operator}
-use Rattle.fast_template.specs.declared.operators.Operator.TheVariants.{None as no_operator, Constant, Default, Copy, Increment, Delta, Tail}
-use Rattle.fast_template.specs.Tree.{FieldData}
-use Rattle.fast_template.specs.Entries.{keeps_value}
+use Rattle.fast_tree.specs.declared.operators.Operator.{Operator}
+use Rattle.fast_tree.specs.declared.operators.Operator.TheVariants.{None as no_operator, Constant, Default, Copy, Increment, Delta, Tail}
+use Rattle.fast_tree.specs.Tree.{FieldData}
+use Rattle.fast_tree.specs.Entries.{keeps_value}
 use Rattle.fast_dict.specs.Answers.{kept_text}
 use Rattle.fast_dict.specs.Dictionary.{Dictionary, PreviousData, undefined, empty, assigned, previous_at, write_at}
 use Rattle.fast_dict.specs.Held.{text_size}

@@ -7,13 +7,13 @@ use Rattle.fast_value.specs.declared.settings.Limits.{Limits}
 use Rattle.fast_value.specs.declared.kinds.Kind.{Kind}
 use Rattle.fast_value.specs.declared.kinds.Kind.TheVariants.{UInt32, Int32, Int64, Ascii}
 use Rattle.fast_value.specs.Limits.{Bounds, bounds}
-use Rattle.fast_template.specs.declared.instructions.Node.{Node}
-use Rattle.fast_template.specs.declared.instructions.Shape.{Shape}
-use Rattle.fast_template.specs.declared.instructions.Shape.TheVariants.{Field as FieldShape, Decimal, Group, Sequence}
-use Rattle.fast_template.specs.Numbers.{AreBelow, NameLaterNodes}
-use Rattle.fast_template.specs.NodeData.{shape_data}
-use Rattle.fast_template.specs.Tree.{Label, FieldData, identifier, Body, step}
-use Rattle.fast_template.specs.Flat.{field_data, label_of}
+use Rattle.fast_tree.specs.declared.instructions.Node.{Node}
+use Rattle.fast_tree.specs.declared.instructions.Shape.{Shape}
+use Rattle.fast_tree.specs.declared.instructions.Shape.TheVariants.{Field as FieldShape, Decimal, Group, Sequence}
+use Rattle.fast_tree.specs.Numbers.{AreBelow, NameLaterNodes}
+use Rattle.fast_tree.specs.NodeData.{shape_data}
+use Rattle.fast_tree.specs.Tree.{Label, FieldData, identifier, Body, step}
+use Rattle.fast_tree.specs.Nodes.{field_data, label_of}
 use Rattle.fast_dict.specs.Dictionary.{Dictionary}
 use Rattle.fast_dict.specs.Slots.{slots_dictionary, slots_terms}
 use Rattle.fast_dict.specs.Stores.{Terms}

@@ -2,7 +2,7 @@
 use Rattle.std.specs.Prelude.{◌≡◌, ℕ, suc, ◌<◌, List, ◌++◌, length}
 use Rattle.fast_value.specs.declared.settings.Limits.{Limits}
 use Rattle.fast_value.specs.Messages.{MessageData}
-use Rattle.fast_template.specs.Tree.{Body, end, step, Tree}
+use Rattle.fast_tree.specs.Tree.{Body, end, step, Tree}
 use Rattle.fast_dict.specs.Dictionary.{Dictionary, fresh}
 use Rattle.fast_decoder.specs.Events.{EventData}
 use Rattle.fast_decoder.specs.Phrases.{cut, wrong}

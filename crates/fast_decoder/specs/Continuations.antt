@@ -5,7 +5,7 @@ use Rattle.fast_wire.specs.Maps.{bits, first_bit, later_bits}
 use Rattle.fast_value.specs.Kinds.{exponent_range, ScalarData, integer_of}
 use Rattle.fast_value.specs.Limits.{Bounds}
 use Rattle.fast_value.specs.declared.codes.Code.TheVariants.{R1}
-use Rattle.fast_template.specs.Tree.{FieldData, identifier, Instruction, field, parts, group, sequence, Body, end, step, message_bits, TemplateData, Tree}
+use Rattle.fast_tree.specs.Tree.{FieldData, identifier, Instruction, field, parts, group, sequence, Body, end, step, message_bits, TemplateData, Tree}
 use Rattle.fast_dict.specs.Dictionary.{Dictionary}
 use Rattle.fast_dict.specs.Operators.{ranged}
 use Rattle.fast_decoder.specs.Events.{MessageStart, FieldValue, GroupStart, GroupEnd, SequenceStart, ElementStart, ElementEnd, SequenceEnd, MessageEnd}

@@ -2,9 +2,9 @@
 use Rattle.std.specs.Prelude.{◌≡◌, ℕ, Bool, true, false, List, ℤ, Option, Some, None, Result, Ok, Err}
 use Rattle.fast_value.specs.declared.codes.Code.{Code}
 use Rattle.fast_value.specs.Kinds.{ScalarData, U, I, Dec, integer_of}
-use Rattle.fast_template.specs.declared.operators.Operator.{Operator}
-use Rattle.fast_template.specs.declared.operators.Operator.TheVariants.{None as no_operator, Constant, Delta}
-use Rattle.fast_template.specs.Tree.{FieldData}
+use Rattle.fast_tree.specs.declared.operators.Operator.{Operator}
+use Rattle.fast_tree.specs.declared.operators.Operator.TheVariants.{None as no_operator, Constant, Delta}
+use Rattle.fast_tree.specs.Tree.{FieldData}
 use Rattle.fast_dict.specs.Dictionary.{Dictionary, PreviousData}
 use Rattle.fast_dict.specs.Operators.{Outcome, ◌>>=◌, Sent, null, value, delta_base}
 use Rattle.fast_decoder.specs.Settling.{IsSettled}

@@ -7,9 +7,9 @@ use Rattle.fast_value.specs.Kinds.{ScalarData, Dec, Family, integers, decimals, 
 use Rattle.fast_value.specs.declared.settings.Limits.{Limits}
 use Rattle.fast_value.specs.Limits.{Bounds, bounds}
 use Rattle.fast_value.specs.declared.codes.Code.TheVariants.{D2, D7, L1, R1}
-use Rattle.fast_template.specs.declared.operators.Operator.{Operator}
-use Rattle.fast_template.specs.declared.operators.Operator.TheVariants.{None as no_operator, Constant, Delta}
-use Rattle.fast_template.specs.Tree.{FieldData}
+use Rattle.fast_tree.specs.declared.operators.Operator.{Operator}
+use Rattle.fast_tree.specs.declared.operators.Operator.TheVariants.{None as no_operator, Constant, Delta}
+use Rattle.fast_tree.specs.Tree.{FieldData}
 use Rattle.fast_dict.specs.Dictionary.{Dictionary, PreviousData, previous_at, write_at}
 use Rattle.fast_dict.specs.Operators.{Outcome, gives_none, Sent, nothing, null, value, decide, integer_step, exponent_step, mantissa_step, Kept, kept_length, subtraction_step, text_step}
 use Rattle.fast_decoder.specs.Phrases.{whole, Phrase}

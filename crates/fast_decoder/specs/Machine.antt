@@ -7,7 +7,7 @@ use Rattle.fast_value.specs.declared.settings.Limits.{Limits}
 use Rattle.fast_value.specs.Limits.{Bounds, bounds}
 use Rattle.fast_value.specs.declared.codes.Code.{Code}
 use Rattle.fast_value.specs.declared.codes.Code.TheVariants.{D2}
-use Rattle.fast_template.specs.Tree.{FieldData, Body, bits_of, Tree}
+use Rattle.fast_tree.specs.Tree.{FieldData, Body, bits_of, Tree}
 use Rattle.fast_dict.specs.Dictionary.{Dictionary, PreviousData, previous_at}
 use Rattle.fast_dict.specs.Operators.{Outcome, decide, Kept, kept_length}
 use Rattle.fast_decoder.specs.Grammar.{Grammar, integer, raw, presence_map, narrow, ◌>>=◌, of_result}

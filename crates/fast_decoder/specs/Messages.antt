@@ -7,7 +7,7 @@ use Rattle.fast_value.specs.Limits.{Bounds, bounds}
 use Rattle.fast_value.specs.Messages.{ItemData, one, group as group_item, sequence as sequence_item, Slots, no_slots, absent, present, Elements, no_elements, element, MessageData}
 use Rattle.fast_value.specs.declared.codes.Code.{Code}
 use Rattle.fast_value.specs.declared.codes.Code.TheVariants.{D9, L2, L5, R1}
-use Rattle.fast_template.specs.Tree.{FieldData, identifier, uses_bit, Instruction, field, parts, group, sequence, Body, end, step, bits_of, has_map, message_bits, TemplateData, Tree}
+use Rattle.fast_tree.specs.Tree.{FieldData, identifier, uses_bit, Instruction, field, parts, group, sequence, Body, end, step, bits_of, has_map, message_bits, TemplateData, Tree}
 use Rattle.fast_dict.specs.Dictionary.{Dictionary, previous_at, write_at, reset}
 use Rattle.fast_dict.specs.Operators.{Outcome, ranged}
 use Rattle.fast_decoder.specs.Events.{MessageStart, FieldValue, GroupStart, GroupEnd, SequenceStart, ElementStart, ElementEnd, SequenceEnd, MessageEnd, events}

@@ -1,7 +1,7 @@
 -- What a machine's turns leave of its cursor.
 use Rattle.std.specs.Prelude.{◌≡◌, ℕ, zero, suc, ℤ, if◌then◌else◌, List, ◌∷◌, drop}
 use Rattle.fast_wire.specs.Maps.{later_bits}
-use Rattle.fast_template.specs.Tree.{FieldData, identifier, uses_bit, Body}
+use Rattle.fast_tree.specs.Tree.{FieldData, identifier, uses_bit, Body}
 use Rattle.fast_dict.specs.Dictionary.{Dictionary}
 use Rattle.fast_value.specs.Kinds.{ScalarData}
 use Rattle.fast_value.specs.Limits.{Bounds}

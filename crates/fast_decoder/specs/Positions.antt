@@ -4,11 +4,11 @@ use Rattle.fast_wire.specs.Entities.{HaveNoStop, IsEntity}
 use Rattle.fast_wire.specs.Maps.{map_limit, bits, first_bit}
 use Rattle.fast_value.specs.declared.settings.Limits.{Limits}
 use Rattle.fast_value.specs.Limits.{Bounds, bounds}
-use Rattle.fast_template.specs.declared.instructions.Node.{Node}
-use Rattle.fast_template.specs.declared.instructions.Template.{Template}
-use Rattle.fast_template.specs.Numbers.{AreBelow}
-use Rattle.fast_template.specs.Sizes.{body_depth, set_depth}
-use Rattle.fast_template.specs.Tree.{Label, FieldData, identifier, uses_bit, field, parts, group, sequence, Body, step, bits_of, Tree}
+use Rattle.fast_tree.specs.declared.instructions.Node.{Node}
+use Rattle.fast_tree.specs.declared.instructions.Template.{Template}
+use Rattle.fast_tree.specs.Numbers.{AreBelow}
+use Rattle.fast_tree.specs.Sizes.{body_depth, set_depth}
+use Rattle.fast_tree.specs.Tree.{Label, FieldData, identifier, uses_bit, field, parts, group, sequence, Body, step, bits_of, Tree}
 use Rattle.fast_template.specs.declared.sets.Templates.{Templates}
 use Rattle.fast_template.specs.Flat.{field_data, instructions_from, template_data, templates_of, nodes_of}
 use Rattle.fast_dict.specs.Dictionary.{Dictionary, fresh, previous_at}

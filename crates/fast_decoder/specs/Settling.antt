@@ -1,9 +1,9 @@
 -- What a field leaves when it is whole: the bytes it took, its value, and the dictionary.
 use Rattle.std.specs.Prelude.{◌≡◌, ℕ, ◌<◌, ◌≤◌, true, List, ◌++◌, length, take, is_some, Option, Some, None}
 use Rattle.fast_value.specs.Kinds.{ScalarData, U, I, Dec, texts, family, value_of_text}
-use Rattle.fast_template.specs.declared.operators.Operator.TheVariants.{Tail}
-use Rattle.fast_template.specs.Tree.{FieldData}
-use Rattle.fast_template.specs.Entries.{keeps_value}
+use Rattle.fast_tree.specs.declared.operators.Operator.TheVariants.{Tail}
+use Rattle.fast_tree.specs.Tree.{FieldData}
+use Rattle.fast_tree.specs.Entries.{keeps_value}
 use Rattle.fast_dict.specs.Dictionary.{Dictionary, PreviousData, undefined, empty, assigned, previous_at, write_at}
 use Rattle.fast_dict.specs.Operators.{Outcome}
 use Rattle.fast_dict.specs.Stores.{Terms, IsStorable}

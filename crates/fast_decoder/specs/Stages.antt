@@ -4,8 +4,8 @@ use Rattle.fast_value.specs.declared.kinds.Kind.TheVariants.{Ascii}
 use Rattle.fast_value.specs.declared.settings.Limits.{Limits}
 use Rattle.fast_value.specs.Limits.{Bounds, bounds}
 use Rattle.fast_value.specs.Kinds.{decimals, texts, family}
-use Rattle.fast_template.specs.declared.operators.Operator.TheVariants.{Delta, Constant}
-use Rattle.fast_template.specs.Tree.{FieldData}
+use Rattle.fast_tree.specs.declared.operators.Operator.TheVariants.{Delta, Constant}
+use Rattle.fast_tree.specs.Tree.{FieldData}
 use Rattle.fast_dict.specs.Dictionary.{Dictionary, PreviousData, previous_at}
 use Rattle.fast_dict.specs.Operators.{Outcome, Kept, kept_length, subtraction_step}
 use Rattle.fast_decoder.specs.Grammar.{Grammar, ◌>>=◌, of_result}

@@ -1,7 +1,7 @@
 -- What a decoder stores, and what it says of where it stands.
 use Rattle.std.specs.Prelude.{◌≡◌, ℕ, ◌+◌, List, length, Bool, true, false, Option, Some, None}
 use Rattle.fast_value.specs.declared.settings.Limits.{Limits}
-use Rattle.fast_template.specs.Tree.{Tree}
+use Rattle.fast_tree.specs.Tree.{Tree}
 use Rattle.fast_decoder.specs.Events.{EventData}
 use Rattle.fast_decoder.specs.declared.faults.Fault.{Fault}
 use Rattle.fast_decoder.specs.declared.faults.FaultCode.TheVariants as Why

@@ -1,8 +1,8 @@
 -- How many turns a machine can still take in a message, and that they are within a number of turns.
 use Rattle.std.specs.Prelude.{ℕ, ◌+◌, ◌*◌, ◌-◌, ◌≤◌, List, [], ◌∷◌, Option, Some, None, Result, Ok, Err}
 use Rattle.fast_value.specs.declared.settings.Limits.{Limits}
-use Rattle.fast_template.specs.Tree.{Body, Tree}
-use Rattle.fast_template.specs.Sizes.{turn_weights, body_size, body_outer, body_widest, product_cap, sum_cap}
+use Rattle.fast_tree.specs.Tree.{Body, Tree}
+use Rattle.fast_tree.specs.Sizes.{turn_weights, body_size, body_outer, body_widest, product_cap, sum_cap}
 use Rattle.fast_decoder.specs.declared.faults.FaultCode.{FaultCode}
 use Rattle.fast_decoder.specs.declared.machine.Machine.{Machine}
 use Rattle.fast_decoder.specs.declared.machine.Turn.{Turn}

@@ -3,8 +3,8 @@ use Rattle.std.specs.Prelude.{◌≡◌, ◌≢◌, ℕ, ◌-◌, ◌<◌, Bool,
 use Rattle.fast_wire.specs.Entities.{HaveNoStop}
 use Rattle.fast_value.specs.declared.kinds.Kind.TheVariants.{Ascii}
 use Rattle.fast_value.specs.Limits.{Bounds}
-use Rattle.fast_template.specs.declared.operators.Operator.TheVariants.{Constant, Delta}
-use Rattle.fast_template.specs.Tree.{FieldData}
+use Rattle.fast_tree.specs.declared.operators.Operator.TheVariants.{Constant, Delta}
+use Rattle.fast_tree.specs.Tree.{FieldData}
 use Rattle.fast_dict.specs.Dictionary.{PreviousData}
 use Rattle.fast_dict.specs.Operators.{Kept, kept_length, subtraction_step}
 use Rattle.fast_decoder.specs.Phrases.{cut}

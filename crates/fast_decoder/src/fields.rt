@@ -4,8 +4,8 @@ ghost use Rattle.std.specs.Prelude.{◌≡◌, ◌≢◌, IfSome, ℕ, ◌<◌, 
 ghost use Rattle.fast_value.specs.Kinds.{integer_of, value_of_integer, value_of_text, ScalarData};
 ghost use Rattle.fast_value.specs.Values.{scalar_data};
 ghost use Rattle.fast_value.specs.Limits.{Bounds};
-ghost use Rattle.fast_template.specs.Flat.{field_data};
-ghost use Rattle.fast_template.specs.Tree.{FieldData};
+ghost use Rattle.fast_tree.specs.Nodes.{field_data};
+ghost use Rattle.fast_tree.specs.Tree.{FieldData};
 ghost use Rattle.fast_dict.specs.Entry.{with_text};
 ghost use Rattle.fast_dict.specs.Dictionary.{Dictionary, PreviousData, assigned, empty, previous_at, write_at};
 ghost use Rattle.fast_dict.specs.Operators.{incremented, decide, nothing, unsent, from_initial, range_of};

@@ -5,7 +5,7 @@ ghost use Rattle.fast_wire.specs.Entities.{HaveNoStop};
 ghost use Rattle.fast_wire.specs.Integers.{unsigned_up_to};
 ghost use Rattle.fast_value.specs.Kinds.{U, Dec, value_of_integer, integers, decimals, texts, family, signed_range};
 ghost use Rattle.fast_value.specs.Limits.{Bounds, bounds};
-ghost use Rattle.fast_template.specs.Flat.{field_data};
+ghost use Rattle.fast_tree.specs.Nodes.{field_data};
 ghost use Rattle.fast_dict.specs.Dictionary.{previous_at};
 ghost use Rattle.fast_dict.specs.Operators.{decide, integer_step, mantissa_step, range_of};
 ghost use Rattle.fast_dict.specs.Slots.{slots_dictionary, slots_terms};

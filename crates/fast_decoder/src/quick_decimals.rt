@@ -3,7 +3,7 @@
 ghost use Rattle.std.specs.Prelude.{◌≡◌, ◌≢◌, ◌+◌, ℕ, true, List, [], length, Ok, IfSome, IfNone};
 ghost use Rattle.fast_wire.specs.Words.{IsShortEntity};
 ghost use Rattle.fast_value.specs.Limits.{Bounds};
-ghost use Rattle.fast_template.specs.Flat.{field_data};
+ghost use Rattle.fast_tree.specs.Nodes.{field_data};
 ghost use Rattle.fast_dict.specs.Dictionary.{previous_at};
 ghost use Rattle.fast_dict.specs.Slots.{slots_dictionary, slots_terms};
 ghost use Rattle.fast_decoder.specs.Fields.{field_term};

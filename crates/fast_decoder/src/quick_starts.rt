@@ -4,7 +4,7 @@ ghost use Rattle.std.specs.Prelude.{◌≡◌, ◌≢◌, ◌+◌, ◌<◌, ℕ,
 ghost use Rattle.fast_value.specs.declared.kinds.Kind.{Kind};
 ghost use Rattle.fast_value.specs.Kinds.{U};
 ghost use Rattle.fast_template.specs.Flat.{templates_of};
-ghost use Rattle.fast_template.specs.declared.instructions.Template.{Template};
+ghost use Rattle.fast_tree.specs.declared.instructions.Template.{Template};
 ghost use Rattle.fast_dict.specs.Dictionary.{assigned, previous_at};
 ghost use Rattle.fast_dict.specs.Slots.{slots_dictionary};
 ghost use Rattle.fast_decoder.specs.Quick.{IsTakenTo};

@@ -5,10 +5,10 @@ ghost use Rattle.std.specs.Prelude.{◌≡◌, ◌≢◌, ◌+◌, ◌<◌, ℕ,
 ghost use Rattle.fast_wire.specs.Integers.{unsigned_up_to, signed_between};
 ghost use Rattle.fast_value.specs.Kinds.{U, I, family, integers, value_of_integer};
 ghost use Rattle.fast_template.specs.Opcodes.{sending_operator, is_nullable, opcode_sending, IsSentAs};
-ghost use Rattle.fast_template.specs.Flat.{field_data};
-ghost use Rattle.fast_template.specs.Tree.{FieldData, operator_uses_bit, uses_bit};
-ghost use Rattle.fast_template.specs.declared.instructions.FieldInstruction.{FieldInstruction};
-ghost use Rattle.fast_template.specs.declared.instructions.Node.{Node};
+ghost use Rattle.fast_tree.specs.Nodes.{field_data};
+ghost use Rattle.fast_tree.specs.Tree.{FieldData, operator_uses_bit, uses_bit};
+ghost use Rattle.fast_tree.specs.declared.instructions.FieldInstruction.{FieldInstruction};
+ghost use Rattle.fast_tree.specs.declared.instructions.Node.{Node};
 ghost use Rattle.fast_dict.specs.Dictionary.{Dictionary};
 ghost use Rattle.fast_dict.specs.Operators.{range_of};
 ghost use Rattle.fast_dict.specs.Slots.{slots_dictionary};

@@ -4,7 +4,7 @@ ghost use Rattle.std.specs.Prelude.{◌≡◌, ◌≢◌, ◌<◌, ◌≤◌, tr
 ghost use Rattle.fast_wire.specs.Entities.{HaveNoStop};
 ghost use Rattle.fast_value.specs.Kinds.{family, integers};
 ghost use Rattle.fast_value.specs.Limits.{bounds};
-ghost use Rattle.fast_template.specs.Flat.{field_data};
+ghost use Rattle.fast_tree.specs.Nodes.{field_data};
 ghost use Rattle.fast_dict.specs.Dictionary.{previous_at};
 ghost use Rattle.fast_dict.specs.Operators.{range_of};
 ghost use Rattle.fast_dict.specs.Slots.{slots_dictionary, slots_terms};

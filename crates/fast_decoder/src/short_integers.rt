@@ -10,7 +10,7 @@ ghost use Rattle.fast_wire.specs.Words.{IsShortEntity};
 ghost use Rattle.fast_wire.specs.declared.fronts.First.TheVariants.{Whole};
 ghost use Rattle.fast_value.specs.Kinds.{U, I, family, integers, value_of_integer};
 ghost use Rattle.fast_value.specs.Limits.{Bounds};
-ghost use Rattle.fast_template.specs.Flat.{field_data};
+ghost use Rattle.fast_tree.specs.Nodes.{field_data};
 ghost use Rattle.fast_dict.specs.Dictionary.{assigned, previous_at, write_at};
 ghost use Rattle.fast_dict.specs.Operators.{decide, integer_step, range_of};
 ghost use Rattle.fast_dict.specs.Slots.{slots_dictionary, slots_terms};

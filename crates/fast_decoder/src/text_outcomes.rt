@@ -6,8 +6,8 @@
 ghost use Rattle.std.specs.Prelude.{◌≡◌, ◌≢◌, ◌+◌, ◌-◌, ◌<◌, ◌≤◌, ◌++◌, ℕ, List, [], length, take, true, false, Ok, Err, Some, MatchResult};
 ghost use Rattle.fast_value.specs.Kinds.{ScalarData, texts, family, text_of, value_of_text};
 ghost use Rattle.fast_value.specs.declared.kinds.Kind.{Kind};
-ghost use Rattle.fast_template.specs.Flat.{field_data};
-ghost use Rattle.fast_template.specs.Entries.{keeps_value};
+ghost use Rattle.fast_tree.specs.Nodes.{field_data};
+ghost use Rattle.fast_tree.specs.Entries.{keeps_value};
 ghost use Rattle.fast_dict.specs.Answers.{kept_answer, kept_data, kept_text};
 ghost use Rattle.fast_dict.specs.Dictionary.{previous_at};
 ghost use Rattle.fast_dict.specs.Operators.{Kept as KeptData, null, decide, tail_base, with_tail, subtraction_step, kept_length, joined as joined_text, text_step};

@@ -8,7 +8,7 @@ ghost use Rattle.fast_wire.specs.Entities.{HaveNoStop};
 ghost use Rattle.fast_wire.specs.Integers.{IsWithin, unsigned_range, signed_range};
 ghost use Rattle.fast_value.specs.Kinds.{texts, family};
 ghost use Rattle.fast_value.specs.Limits.{bounds};
-ghost use Rattle.fast_template.specs.Flat.{field_data};
+ghost use Rattle.fast_tree.specs.Nodes.{field_data};
 ghost use Rattle.fast_dict.specs.Dictionary.{previous_at};
 ghost use Rattle.fast_dict.specs.Operators.{Kept as KeptData, subtraction_step, kept_length};
 ghost use Rattle.fast_dict.specs.Slots.{slots_dictionary, slots_terms};

@@ -3,7 +3,7 @@ use Rattle.std.proofs.Common.{◌≡◌, ℕ, ◌+◌, ◌<◌, ◌^◌, Bool, L
 use Rattle.std.proofs.lemmas.List.{take-append-drop}
 use Rattle.std.proofs.lemmas.Grind.{flat_map-append}
 use Rattle.fast_value.specs.declared.settings.Limits.{Limits}
-use Rattle.fast_template.specs.Tree.{Tree}
+use Rattle.fast_tree.specs.Tree.{Tree}
 use Rattle.fast_template.specs.Flat.{tree_of}
 use Rattle.fast_decoder.specs.declared.faults.Fault.{Fault}
 use Rattle.fast_decoder.specs.declared.faults.FaultCode.{FaultCode}

@@ -4,7 +4,7 @@ use Rattle.std.specs.Prelude.{IsTrue, is_some, if◌then◌else◌}
 use Rattle.fast_value.specs.declared.settings.Limits.{Limits}
 use Rattle.fast_value.specs.declared.codes.Code.{Code}
 use Rattle.fast_value.specs.Initial.{IsHex}
-use Rattle.fast_template.specs.Tree.{Tree}
+use Rattle.fast_tree.specs.Tree.{Tree}
 use Rattle.fast_decoder.specs.declared.faults.Fault.{Fault}
 use Rattle.fast_decoder.specs.declared.faults.FaultCode.{FaultCode}
 use Rattle.fast_decoder.specs.declared.faults.FaultCode.TheVariants as Why

@@ -2,7 +2,7 @@
 use Rattle.std.proofs.Common.{◌≡◌, ◌⊎◌, ℕ, ◌+◌, ◌*◌, ◌<◌, ◌≤◌, ◌^◌, Bool, true, List, [], ◌++◌, Option, Some, None, Result, Ok, Err, refl, subst, ap, sym, ◌∙◌, inl, inr, length, length-append, arith, append_assoc, append-nil}
 use Rattle.std.specs.Prelude.{IsTrue, option_map, IfSome, OnErr, is_err}
 use Rattle.fast_value.specs.declared.settings.Limits.{Limits}
-use Rattle.fast_template.specs.Tree.{Tree}
+use Rattle.fast_tree.specs.Tree.{Tree}
 use Rattle.fast_decoder.specs.declared.faults.MakeError.{MakeError}
 use Rattle.fast_decoder.specs.declared.faults.MakeError.TheVariants as Why
 use Rattle.fast_decoder.specs.Events.{EventData}

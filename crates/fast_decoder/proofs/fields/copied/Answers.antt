@@ -4,7 +4,7 @@ use denote.Enum.Bare.{same_true}
 use Rattle.fast_value.specs.contracts.kinds.Kind.{the_type}
 use Rattle.fast_value.specs.Kinds.{value_of_text}
 use Rattle.fast_value.specs.Values.{scalar_data}
-use Rattle.fast_template.specs.Flat.{field_data}
+use Rattle.fast_tree.specs.Nodes.{field_data}
 use Rattle.fast_dict.specs.Slots.{slots_dictionary}
 use Rattle.fast_decoder.specs.Deciding.{number_data}
 use Rattle.fast_decoder.proofs.Deciding.{copy_decided, own_decided}

@@ -4,7 +4,7 @@ use denote.Enum.Bare.{same_true}
 use Rattle.fast_value.specs.contracts.kinds.Kind.{the_type}
 use Rattle.fast_value.specs.Kinds.{ScalarData, integer_of, value_of_integer}
 use Rattle.fast_value.specs.Values.{scalar_data}
-use Rattle.fast_template.specs.Flat.{field_data}
+use Rattle.fast_tree.specs.Nodes.{field_data}
 use Rattle.fast_dict.specs.Dictionary.{assigned, write_at}
 use Rattle.fast_dict.specs.Operators.{next_value, range_of, incremented}
 use Rattle.fast_dict.specs.Slots.{slots_dictionary}

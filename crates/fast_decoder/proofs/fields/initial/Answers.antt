@@ -2,7 +2,7 @@ use Rattle.std.proofs.Common.{sym, ap, ◌∙◌}
 use Rattle.std.specs.Prelude.{option_map}
 use Rattle.fast_value.specs.declared.codes.Code.TheVariants.{D5}
 use Rattle.fast_value.specs.Values.{scalar_data}
-use Rattle.fast_template.specs.Flat.{field_data}
+use Rattle.fast_tree.specs.Nodes.{field_data}
 use Rattle.fast_dict.specs.Slots.{slots_dictionary}
 use Rattle.fast_decoder.proofs.Deciding.{initial_decided}
 use Rattle.fast_decoder.proofs.fields.initial.Goals as goal

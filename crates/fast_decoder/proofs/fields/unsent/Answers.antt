@@ -1,7 +1,7 @@
 -- Operators that keep no value have no entry.
 use Rattle.std.proofs.Common.{sym, ap, ◌∙◌}
-use Rattle.fast_template.specs.Flat.{field_data}
-use Rattle.fast_template.specs.Entries.{keeps_value}
+use Rattle.fast_tree.specs.Nodes.{field_data}
+use Rattle.fast_tree.specs.Entries.{keeps_value}
 use Rattle.fast_dict.specs.Slots.{slots_dictionary}
 use Rattle.fast_decoder.specs.Deciding.{needs_bytes}
 use Rattle.fast_decoder.proofs.Deciding.{no_entry, constant_decided, constant_absent, default_decided}

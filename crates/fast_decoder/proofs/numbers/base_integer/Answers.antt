@@ -2,7 +2,7 @@
 use Rattle.std.proofs.Common.{Ok, rules, sym, ap, ◌∙◌, FitsSigned}
 use Rattle.std.specs.Int.{w128}
 use Rattle.fast_value.specs.Kinds.{integer_of}
-use Rattle.fast_template.specs.Flat.{field_data}
+use Rattle.fast_tree.specs.Nodes.{field_data}
 use Rattle.fast_dict.specs.Dictionary.{previous_at}
 use Rattle.fast_dict.specs.Slots.{slots_dictionary}
 use Rattle.fast_decoder.specs.Deciding.{number_data}

@@ -2,7 +2,7 @@
 use Rattle.std.proofs.Common.{◌≡◌, ◌∙◌, ◌+ℤ◌, rules, Ok}
 use Rattle.fast_value.specs.Kinds.{value_of_integer}
 use Rattle.fast_value.specs.declared.codes.Code.TheVariants.{D2}
-use Rattle.fast_template.specs.Flat.{field_data}
+use Rattle.fast_tree.specs.Nodes.{field_data}
 use Rattle.fast_dict.specs.Dictionary.{previous_at}
 use Rattle.fast_dict.specs.Operators.{◌>>=◌, keeps, ranged, range_of, integer_step}
 use Rattle.fast_dict.specs.Slots.{slots_dictionary}

@@ -1,6 +1,6 @@
 -- The sum is kept.
 use Rattle.std.proofs.Common.{◌≡◌, rules, Ok}
-use Rattle.fast_template.specs.Flat.{field_data}
+use Rattle.fast_tree.specs.Nodes.{field_data}
 use Rattle.fast_dict.specs.Dictionary.{previous_at}
 use Rattle.fast_dict.specs.Operators.{keeps, mantissa_step}
 use Rattle.fast_dict.specs.Slots.{slots_dictionary}

@@ -2,7 +2,7 @@
 use Rattle.std.proofs.Common.{ap}
 use Rattle.std.specs.Prelude.{true, Ok}
 use Rattle.fast_decoder.specs.declared.source.Source.TheVariants as From
-use Rattle.fast_template.specs.Flat.{field_data}
+use Rattle.fast_tree.specs.Nodes.{field_data}
 use Rattle.fast_dict.specs.Dictionary.{previous_at}
 use Rattle.fast_dict.specs.Operators.{decide}
 use Rattle.fast_dict.specs.Slots.{slots_dictionary}

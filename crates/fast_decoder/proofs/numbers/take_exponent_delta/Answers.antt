@@ -5,7 +5,7 @@ use Rattle.std.specs.Prelude.{true, Ok, Err}
 use Rattle.fast_wire.specs.Integers.{delta_range}
 use Rattle.fast_value.specs.declared.codes.Code.TheVariants.{D2}
 use Rattle.fast_value.specs.Limits.{bounds}
-use Rattle.fast_template.specs.Flat.{field_data}
+use Rattle.fast_tree.specs.Nodes.{field_data}
 use Rattle.fast_dict.specs.Dictionary.{previous_at}
 use Rattle.fast_dict.specs.Operators.{gives_none, exponent_step}
 use Rattle.fast_dict.specs.Slots.{slots_dictionary}

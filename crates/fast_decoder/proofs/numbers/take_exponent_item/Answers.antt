@@ -5,7 +5,7 @@ use Rattle.std.specs.Prelude.{true, Some, Ok}
 use Rattle.fast_wire.specs.Integers.{IsWithin, exponent_range}
 use Rattle.fast_value.specs.declared.codes.Code.TheVariants.{R1}
 use Rattle.fast_value.specs.Limits.{bounds}
-use Rattle.fast_template.specs.Flat.{field_data}
+use Rattle.fast_tree.specs.Nodes.{field_data}
 use Rattle.fast_dict.specs.Dictionary.{previous_at}
 use Rattle.fast_dict.specs.Operators.{decide, null, range_in}
 use Rattle.fast_dict.specs.Slots.{slots_dictionary}

@@ -4,7 +4,7 @@ use Rattle.std.specs.Int.{w128}
 use Rattle.std.specs.Prelude.{true, Ok}
 use Rattle.fast_wire.specs.Integers.{delta_range}
 use Rattle.fast_value.specs.declared.codes.Code.TheVariants.{D2}
-use Rattle.fast_template.specs.Flat.{field_data}
+use Rattle.fast_tree.specs.Nodes.{field_data}
 use Rattle.fast_dict.specs.Dictionary.{previous_at}
 use Rattle.fast_dict.specs.Operators.{gives_none, integer_step, range_of}
 use Rattle.fast_dict.specs.Slots.{slots_dictionary}

@@ -5,7 +5,7 @@ use Rattle.std.specs.Prelude.{true, Some, Ok}
 use Rattle.fast_wire.specs.Integers.{IsWithin}
 use Rattle.fast_value.specs.declared.codes.Code.TheVariants.{D2}
 use Rattle.fast_value.specs.Kinds.{value_of_integer}
-use Rattle.fast_template.specs.Flat.{field_data}
+use Rattle.fast_tree.specs.Nodes.{field_data}
 use Rattle.fast_dict.specs.Dictionary.{previous_at}
 use Rattle.fast_dict.specs.Operators.{decide, value, range_of}
 use Rattle.fast_dict.specs.Slots.{slots_dictionary}

@@ -6,7 +6,7 @@ use Rattle.fast_wire.specs.Integers.{IsWithin, signed_range}
 use Rattle.fast_value.specs.declared.codes.Code.TheVariants.{R1}
 use Rattle.fast_value.specs.Kinds.{Dec}
 use Rattle.fast_value.specs.Limits.{bounds}
-use Rattle.fast_template.specs.Flat.{field_data}
+use Rattle.fast_tree.specs.Nodes.{field_data}
 use Rattle.fast_dict.specs.Dictionary.{previous_at}
 use Rattle.fast_dict.specs.Operators.{decide, value, null}
 use Rattle.fast_dict.specs.Slots.{slots_dictionary}

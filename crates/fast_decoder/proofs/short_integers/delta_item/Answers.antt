@@ -1,7 +1,7 @@
 use Rattle.std.proofs.Common.{ap, rules, subst, FitsSigned}
 use Rattle.std.specs.Int.{w64}
 use Rattle.std.specs.Prelude.{Some, Ok}
-use Rattle.fast_template.specs.Flat.{field_data}
+use Rattle.fast_tree.specs.Nodes.{field_data}
 use Rattle.fast_dict.specs.Dictionary.{previous_at}
 use Rattle.fast_dict.specs.Operators.{gives_none, integer_step}
 use Rattle.fast_dict.specs.Slots.{slots_dictionary}

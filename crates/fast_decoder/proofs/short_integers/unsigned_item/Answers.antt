@@ -1,4 +1,4 @@
-use Rattle.fast_template.specs.Flat.{field_data}
+use Rattle.fast_tree.specs.Nodes.{field_data}
 use Rattle.fast_dict.specs.Slots.{slots_dictionary}
 use Rattle.fast_decoder.specs.Deciding.{sent_number, source_of}
 use Rattle.fast_decoder.proofs.ShortIntegers.{item_unit}

@@ -1,5 +1,5 @@
 use Rattle.std.proofs.Common.{sym, refl}
-use Rattle.fast_template.specs.Flat.{field_data}
+use Rattle.fast_tree.specs.Nodes.{field_data}
 use Rattle.fast_dict.specs.Slots.{slots_dictionary}
 use Rattle.fast_decoder.proofs.TextOutcomes.{absent_emptied, absent_left}
 use Rattle.fast_decoder.proofs.text_outcomes.finish_absent.Goals as goal

@@ -1,5 +1,5 @@
 use Rattle.std.proofs.Common.{◌∙◌, sym, ap, List, ℕ}
-use Rattle.fast_template.specs.Flat.{field_data}
+use Rattle.fast_tree.specs.Nodes.{field_data}
 use Rattle.fast_dict.specs.Answers.{kept_text}
 use Rattle.fast_dict.specs.Dictionary.{previous_at}
 use Rattle.fast_dict.specs.Slots.{slots_dictionary}

@@ -3,7 +3,7 @@ use Rattle.std.specs.Prelude.{Ok, Some, None, Option, true, false}
 use mir.Syntax.{w32}
 use Rattle.std.proofs.lemmas.Int.{to_z-of_z}
 use Rattle.fast_value.specs.Limits.{bounds}
-use Rattle.fast_template.specs.Flat.{field_data}
+use Rattle.fast_tree.specs.Nodes.{field_data}
 use Rattle.fast_dict.specs.Dictionary.{previous_at}
 use Rattle.fast_dict.specs.Operators.{null, decide, kept_length, subtraction_step, text_step}
 use Rattle.fast_dict.specs.Slots.{slots_dictionary}

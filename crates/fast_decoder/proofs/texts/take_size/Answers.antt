@@ -3,7 +3,7 @@ use Rattle.std.specs.Prelude.{Some, Option, true, pos}
 use Rattle.fast_value.specs.declared.codes.Code.TheVariants.{D2}
 use Rattle.fast_wire.specs.Integers.{unsigned_range}
 use Rattle.fast_value.specs.Limits.{bounds}
-use Rattle.fast_template.specs.Flat.{field_data}
+use Rattle.fast_tree.specs.Nodes.{field_data}
 use Rattle.fast_dict.specs.Dictionary.{previous_at}
 use Rattle.fast_dict.specs.Operators.{null, decide}
 use Rattle.fast_dict.specs.Slots.{slots_dictionary}

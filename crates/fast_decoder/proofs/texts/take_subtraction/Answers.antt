@@ -5,7 +5,7 @@ use Rattle.fast_wire.specs.Integers.{signed_range}
 use mir.Syntax.{w32}
 use mir.Val.{to_z, of_z}
 use Rattle.fast_value.specs.Limits.{bounds}
-use Rattle.fast_template.specs.Flat.{field_data}
+use Rattle.fast_tree.specs.Nodes.{field_data}
 use Rattle.fast_dict.specs.Dictionary.{previous_at}
 use Rattle.fast_dict.specs.Operators.{null, decide}
 use Rattle.fast_dict.specs.Slots.{slots_dictionary}

@@ -2,7 +2,7 @@ use Rattle.std.proofs.Common.{◌≡◌, ◌∙◌, sym, ap, refl, List, ℕ, ta
 use Rattle.std.specs.Prelude.{Ok, Some, None, Option, true}
 use Rattle.fast_value.specs.Limits.{bounds}
 use Rattle.fast_value.specs.Kinds.{value_of_text}
-use Rattle.fast_template.specs.Flat.{field_data}
+use Rattle.fast_tree.specs.Nodes.{field_data}
 use Rattle.fast_dict.specs.Dictionary.{previous_at}
 use Rattle.fast_dict.specs.Operators.{decide}
 use Rattle.fast_dict.specs.Slots.{slots_dictionary}

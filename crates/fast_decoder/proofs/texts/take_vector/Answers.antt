@@ -3,7 +3,7 @@ use Rattle.std.specs.Prelude.{Some, true}
 use Rattle.std.proofs.lemmas.List.{length-take-le}
 use Rattle.fast_value.specs.Limits.{bounds}
 use Rattle.fast_value.specs.Kinds.{value_of_text}
-use Rattle.fast_template.specs.Flat.{field_data}
+use Rattle.fast_tree.specs.Nodes.{field_data}
 use Rattle.fast_dict.specs.Dictionary.{previous_at}
 use Rattle.fast_dict.specs.Operators.{decide}
 use Rattle.fast_dict.specs.Slots.{slots_dictionary}

@@ -1,7 +1,7 @@
 -- The field waits for its first unit, or what is decided for it leads past it.
 use Rattle.std.proofs.Common.{◌∙◌}
 use Rattle.fast_value.specs.Limits.{bounds}
-use Rattle.fast_template.specs.Flat.{field_data}
+use Rattle.fast_tree.specs.Nodes.{field_data}
 use Rattle.fast_dict.specs.Dictionary.{previous_at}
 use Rattle.fast_dict.specs.Slots.{slots_dictionary}
 use Rattle.std.specs.Prelude.{[]}

@@ -3,7 +3,7 @@ use Rattle.std.proofs.Common.{rules, sym, ap, ◌∙◌, to_z, of_z}
 use Rattle.std.specs.Prelude.{[], ℤ}
 use Rattle.std.specs.Int.{w32}
 use Rattle.fast_value.specs.Limits.{bounds}
-use Rattle.fast_template.specs.Flat.{field_data}
+use Rattle.fast_tree.specs.Nodes.{field_data}
 use Rattle.fast_dict.specs.Dictionary.{previous_at}
 use Rattle.fast_dict.specs.Slots.{slots_dictionary}
 use Rattle.fast_decoder.specs.Continuations.{handed_then}

@@ -2,8 +2,8 @@
 use Rattle.std.proofs.Common.{◌≡◌, ◌<◌, ◌≤◌, ap, ◌∙◌, arith, rules, get_or}
 use Rattle.std.proofs.lemmas.Option.{slice_get_within}
 use Rattle.fast_value.specs.Limits.{bounds}
-use Rattle.fast_template.specs.Tree.{identifier}
-use Rattle.fast_template.specs.Flat.{template_data, instructions_from}
+use Rattle.fast_tree.specs.Tree.{identifier}
+use Rattle.fast_tree.specs.Nodes.{template_data, instructions_from}
 use Rattle.fast_dict.specs.Dictionary.{Dictionary}
 use Rattle.fast_dict.specs.Slots.{slots_dictionary}
 use Rattle.fast_decoder.specs.Continuations.{message_of_then}

@@ -4,7 +4,7 @@ use Rattle.std.specs.Int.{w32, w128}
 use Rattle.std.specs.Prelude.{[]}
 use Rattle.fast_value.specs.declared.codes.Code.TheVariants.{R1}
 use Rattle.fast_value.specs.Kinds.{exponent_range}
-use Rattle.fast_template.specs.Flat.{field_data}
+use Rattle.fast_tree.specs.Nodes.{field_data}
 use Rattle.fast_dict.specs.Operators.{ranged}
 use Rattle.fast_dict.specs.Slots.{slots_dictionary}
 use Rattle.fast_decoder.specs.Settling.{value_at}

@@ -6,8 +6,8 @@ use Rattle.fast_wire.specs.Maps.{bytes_for}
 use Rattle.fast_value.specs.Kinds.{ScalarData}
 use Rattle.fast_value.specs.Limits.{bounds}
 use Rattle.fast_value.specs.declared.codes.Code.TheVariants.{D9, R8}
-use Rattle.fast_template.specs.Tree.{identifier, message_bits}
-use Rattle.fast_template.specs.Flat.{template_data, instructions_from}
+use Rattle.fast_tree.specs.Tree.{identifier, message_bits}
+use Rattle.fast_tree.specs.Nodes.{template_data, instructions_from}
 use Rattle.fast_dict.specs.Slots.{slots_dictionary}
 use Rattle.fast_decoder.specs.Settling.{value_at}
 use Rattle.fast_decoder.specs.Passing.{state_past}

@@ -3,7 +3,7 @@ use Rattle.std.specs.Int.{w128}
 use Rattle.std.specs.Prelude.{nat_abs}
 use Rattle.std.proofs.lemmas.Result.{err_from_is_err_and}
 use Rattle.fast_value.specs.Limits.{bounds}
-use Rattle.fast_template.specs.Flat.{field_data}
+use Rattle.fast_tree.specs.Nodes.{field_data}
 use Rattle.fast_dict.specs.Slots.{slots_dictionary}
 use Rattle.fast_decoder.specs.declared.machine.Machine.{Machine}
 use Rattle.fast_decoder.specs.Cursors.{CursorData}

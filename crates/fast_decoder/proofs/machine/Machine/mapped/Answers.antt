@@ -3,7 +3,7 @@ use Rattle.std.specs.Prelude.{List, [], true, false, ◌&&◌, Ok, Err}
 use Rattle.fast_wire.specs.Maps.{bits, first_bit}
 use Rattle.fast_value.specs.Limits.{bounds}
 use Rattle.fast_value.specs.declared.codes.Code.TheVariants.{R7}
-use Rattle.fast_template.specs.Tree.{identifier, FieldData}
+use Rattle.fast_tree.specs.Tree.{identifier, FieldData}
 use Rattle.fast_dict.specs.Dictionary.{Dictionary, previous_at}
 use Rattle.fast_dict.specs.Operators.{decide, nothing}
 use Rattle.fast_dict.specs.Slots.{slots_dictionary}

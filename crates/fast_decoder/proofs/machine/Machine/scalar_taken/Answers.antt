@@ -1,5 +1,5 @@
 use Rattle.std.proofs.Common.{subst}
-use Rattle.fast_template.specs.Flat.{field_data}
+use Rattle.fast_tree.specs.Nodes.{field_data}
 use Rattle.fast_decoder.specs.Scalars.{IsScalarUnit, CanProgress}
 use Rattle.fast_decoder.specs.Positions.{set_of, meaning}
 use Rattle.fast_decoder.specs.declared.faults.FaultCode.TheVariants as Why

@@ -2,7 +2,7 @@ use Rattle.std.proofs.Common.{ℕ, ap, ◌∙◌, sym, subst, refl, length, take
 use Rattle.std.specs.Prelude.{List, [], ◌++◌, true}
 use Rattle.std.proofs.lemmas.List.{length-take-le}
 use Rattle.fast_value.specs.Limits.{bounds}
-use Rattle.fast_template.specs.Tree.{FieldData}
+use Rattle.fast_tree.specs.Tree.{FieldData}
 use Rattle.fast_dict.specs.Dictionary.{Dictionary, previous_at}
 use Rattle.fast_dict.specs.Slots.{slots_dictionary}
 use Rattle.fast_decoder.specs.Fields.{field_term}

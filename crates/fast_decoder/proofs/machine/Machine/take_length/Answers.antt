@@ -1,6 +1,6 @@
 use Rattle.std.proofs.Common.{refl, []}
 use Rattle.fast_value.specs.Limits.{bounds}
-use Rattle.fast_template.specs.Flat.{field_data}
+use Rattle.fast_tree.specs.Nodes.{field_data}
 use Rattle.fast_dict.specs.Slots.{slots_dictionary}
 use Rattle.fast_decoder.specs.Continuations.{sequence_from_then, segment_then, body_then}
 use Rattle.fast_decoder.specs.Positions.{set_of, body_in, turning, meaning}

@@ -3,8 +3,8 @@ use mir.Syntax.{w32}
 use mir.Val.{to_z, of_z}
 use Rattle.std.proofs.lemmas.Int.{to_z-of_z}
 use Rattle.fast_value.specs.Limits.{bounds}
-use Rattle.fast_template.specs.Flat.{field_data}
-use Rattle.fast_template.specs.declared.instructions.Shape.TheVariants.{Decimal}
+use Rattle.fast_tree.specs.Nodes.{field_data}
+use Rattle.fast_tree.specs.declared.instructions.Shape.TheVariants.{Decimal}
 use Rattle.fast_dict.specs.Slots.{slots_dictionary}
 use Rattle.fast_decoder.specs.Continuations.{handed_then}
 use Rattle.fast_dict.specs.Dictionary.{Dictionary}

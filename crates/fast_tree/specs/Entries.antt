@@ -1,8 +1,8 @@
 -- Dictionary entries by name, and their numbers.
 use Rattle.std.specs.Prelude.{◌≡◌, ◌≢◌, ◌⊎◌, ℕ, suc, Bool, true, false, List, [], ◌∷◌, ◌++◌, Contains, slice_get, codes, Option, Some, None, unwrap_or}
-use Rattle.fast_template.specs.declared.operators.Operator.{Operator}
-use Rattle.fast_template.specs.declared.operators.Operator.TheVariants.{Copy, Increment, Delta, Tail}
-use Rattle.fast_template.specs.AsWritten.{DeclaredTemplate, Part, whole, Use, all_uses}
+use Rattle.fast_tree.specs.declared.operators.Operator.{Operator}
+use Rattle.fast_tree.specs.declared.operators.Operator.TheVariants.{Copy, Increment, Delta, Tail}
+use Rattle.fast_tree.specs.AsWritten.{DeclaredTemplate, Part, whole, Use, all_uses}
 
 -- A dictionary: the global one, that of a template in whose text the operator stands, or one with a name.
 pub data Place : Type 0 where

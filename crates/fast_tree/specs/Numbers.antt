@@ -1,11 +1,11 @@
 -- The numbers by which templates and nodes name nodes, and the identifiers of templates.
 use Rattle.std.specs.Prelude.{◌≡◌, ℕ, ◌<◌, List, [], EachIndex, length, slice_get, slice_index, Option, Some, string_bytes}
 use Rattle.std.specs.Str.{bytes_eq}
-use Rattle.fast_template.specs.declared.instructions.Shape.{Shape}
-use Rattle.fast_template.specs.declared.instructions.Shape.TheVariants.{Field, Decimal, Group, Sequence}
-use Rattle.fast_template.specs.declared.instructions.Node.{Node}
-use Rattle.fast_template.specs.declared.instructions.Template.{Template}
-use Rattle.fast_template.specs.Places.{place, is_id}
+use Rattle.fast_tree.specs.declared.instructions.Shape.{Shape}
+use Rattle.fast_tree.specs.declared.instructions.Shape.TheVariants.{Field, Decimal, Group, Sequence}
+use Rattle.fast_tree.specs.declared.instructions.Node.{Node}
+use Rattle.fast_tree.specs.declared.instructions.Template.{Template}
+use Rattle.fast_tree.specs.Places.{place, is_id}
 
 -- the nodes that a shape names
 abbrev pub numbers_of : Shape → List ℕ

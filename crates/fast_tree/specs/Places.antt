@@ -1,7 +1,7 @@
 -- Where the first element stands that passes a test.
 use Rattle.std.specs.Prelude.{ℕ, suc, Bool, false, nat_eq, if◌then◌else◌, List, [], ◌∷◌, Option, Some, None}
 use Rattle.std.specs.Str.{bytes_eq}
-use Rattle.fast_template.specs.AsWritten.{DeclaredTemplate}
+use Rattle.fast_tree.specs.AsWritten.{DeclaredTemplate}
 
 -- the place of the first element that passes, counted from a number on
 abbrev pub place : {A : Type 0} → (A → Bool) → ℕ → List A → Option ℕ

@@ -1,11 +1,11 @@
 -- Nodes without their memory, and the instructions that a list of them stands for.
 use Rattle.std.specs.Prelude.{ℕ, suc, Bool, List, [], ◌∷◌, string_bytes}
-use Rattle.fast_template.specs.declared.instructions.Shape.{Shape}
-use Rattle.fast_template.specs.declared.instructions.Shape.TheVariants.{Field, Decimal, Group, Sequence}
-use Rattle.fast_template.specs.declared.instructions.Node.{Node}
-use Rattle.fast_template.specs.declared.instructions.Template.{Template}
-use Rattle.fast_template.specs.Tree.{FieldData, Label, Instruction, field, parts, group, sequence, TemplateData}
-use Rattle.fast_template.specs.Nodes.{field_data, body_of}
+use Rattle.fast_tree.specs.declared.instructions.Shape.{Shape}
+use Rattle.fast_tree.specs.declared.instructions.Shape.TheVariants.{Field, Decimal, Group, Sequence}
+use Rattle.fast_tree.specs.declared.instructions.Node.{Node}
+use Rattle.fast_tree.specs.declared.instructions.Template.{Template}
+use Rattle.fast_tree.specs.Tree.{FieldData, Label, Instruction, field, parts, group, sequence, TemplateData}
+use Rattle.fast_tree.specs.Nodes.{field_data, body_of}
 use Rattle.std.specs.Prelude.{Option}
 
 -- what a shape holds: bodies are lists of node numbers

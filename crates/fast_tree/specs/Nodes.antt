@@ -2,13 +2,13 @@
 use Rattle.std.specs.Prelude.{ℕ, suc, ◌-◌, false, List, [], ◌∷◌, slice_index_or, option_map, None, string_bytes}
 use Rattle.fast_value.specs.declared.kinds.Kind.TheVariants.{UInt32}
 use Rattle.fast_value.specs.Values.{value_data}
-use Rattle.fast_template.specs.declared.operators.Operator.TheVariants.{None as no_operator}
-use Rattle.fast_template.specs.declared.instructions.FieldInstruction.{FieldInstruction}
-use Rattle.fast_template.specs.declared.instructions.Shape.{Shape}
-use Rattle.fast_template.specs.declared.instructions.Shape.TheVariants.{Field, Decimal, Group, Sequence}
-use Rattle.fast_template.specs.declared.instructions.Node.{Node}
-use Rattle.fast_template.specs.declared.instructions.Template.{Template}
-use Rattle.fast_template.specs.Tree.{FieldData, Label, Instruction, field, parts, group, sequence, Body, end, step, TemplateData}
+use Rattle.fast_tree.specs.declared.operators.Operator.TheVariants.{None as no_operator}
+use Rattle.fast_tree.specs.declared.instructions.FieldInstruction.{FieldInstruction}
+use Rattle.fast_tree.specs.declared.instructions.Shape.{Shape}
+use Rattle.fast_tree.specs.declared.instructions.Shape.TheVariants.{Field, Decimal, Group, Sequence}
+use Rattle.fast_tree.specs.declared.instructions.Node.{Node}
+use Rattle.fast_tree.specs.declared.instructions.Template.{Template}
+use Rattle.fast_tree.specs.Tree.{FieldData, Label, Instruction, field, parts, group, sequence, Body, end, step, TemplateData}
 
 -- what a field instruction says
 abbrev pub field_data : FieldInstruction → FieldData

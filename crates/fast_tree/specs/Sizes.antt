@@ -1,7 +1,7 @@
 -- What a template set may have, and what it can cost at most: depth, events, turns, stored units.
 use Rattle.std.specs.Prelude.{ℕ, suc, ◌+◌, ◌*◌, max, min, List, [], ◌∷◌, map}
 use Rattle.fast_value.specs.declared.settings.Limits.{Limits}
-use Rattle.fast_template.specs.Tree.{Instruction, field, parts, group, sequence, Body, end, step, Tree}
+use Rattle.fast_tree.specs.Tree.{Instruction, field, parts, group, sequence, Body, end, step, Tree}
 
 -- the most bits of a segment: seven for each byte of the longest presence map
 abbrev pub segment_limit : ℕ
