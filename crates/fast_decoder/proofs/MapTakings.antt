@@ -3,9 +3,9 @@ use Rattle.std.proofs.Common.{refl, sym, ap, subst, ◌∙◌, arith, get_or}
 use Rattle.std.specs.Prelude.{◌≡◌, ℕ, ◌+◌, ◌<◌, ◌≤◌, List, [], ◌∷◌, ◌++◌, length, take}
 use Rattle.std.proofs.lemmas.List.{length-append, length-take-le}
 use Rattle.fast_wire.specs.Entities.{HaveNoStop, IsEntity}
-use Rattle.fast_decoder.specs.declared.pending.MapFront.{MapFront}
-use Rattle.fast_decoder.specs.declared.pending.MapFront.TheVariants.{Whole, TooLong, Cut}
-use Rattle.fast_decoder.specs.Pending.{IsNextMap}
+use Rattle.fast_units.specs.declared.pending.MapFront.{MapFront}
+use Rattle.fast_units.specs.declared.pending.MapFront.TheVariants.{Whole, TooLong, Cut}
+use Rattle.fast_units.specs.Pending.{IsNextMap}
 use Rattle.fast_decoder.specs.MapTaking.{IsMapTaken}
 use Rattle.fast_decoder.specs.Segments.{map_at}
 use Rattle.fast_decoder.proofs.Segments.{IsFilled}

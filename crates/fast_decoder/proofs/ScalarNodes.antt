@@ -15,12 +15,12 @@ use Rattle.fast_tree.specs.Numbers.{AreBelow, NameLaterNodes}
 use Rattle.fast_tree.specs.Tree.{Label, FieldData, Body, step}
 use Rattle.fast_decoder.specs.Cursors.{CursorData}
 use Rattle.fast_decoder.specs.Segments.{first_node}
-use Rattle.fast_decoder.specs.Messages.{State}
+use Rattle.fast_stream.specs.Messages.{State}
 use Rattle.fast_decoder.specs.Serving.{ServesShape, body_among, instruction_among}
-use Rattle.fast_decoder.specs.UnitFronts.{IsSent, IsAsciiFirst}
+use Rattle.fast_units.specs.UnitFronts.{IsSent, IsAsciiFirst}
 use Rattle.fast_decoder.specs.Scalars.{IsOfField, IsOfFieldLater}
 use Rattle.fast_decoder.specs.Positions.{Set, body_in, state_in, IsSupplied, IsReady, bit_of, IsAtField, IsAtParts, IsAtSequence, BeginsWithInteger, BeginsWithText, GoesOnWithMantissa, GoesOnWithNumber, GoesOnWithBytes, CanTake}
-use Rattle.fast_decoder.specs.declared.stages.Stage.{Stage}
+use Rattle.fast_units.specs.declared.stages.Stage.{Stage}
 use Rattle.fast_decoder.specs.declared.machine.Machine.{Machine}
 use Rattle.fast_decoder.specs.declared.machine.Waiting.{Waiting}
 use Rattle.fast_decoder.specs.declared.machine.Waiting.TheVariants.{Map, Identifier, SegmentMap, Field, Text, Number, Bytes, Mantissa}

@@ -2,8 +2,8 @@
 use Rattle.std.specs.Prelude.{◌≡◌, ℕ, ◌+◌, ◌<◌, ◌≤◌, List, ◌++◌, length, take}
 use Rattle.fast_wire.specs.Entities.{HaveNoStop, IsEntity}
 use Rattle.fast_wire.specs.Maps.{map_limit}
-use Rattle.fast_decoder.specs.declared.pending.MapFront.{MapFront}
-use Rattle.fast_decoder.specs.declared.pending.MapFront.TheVariants.{Whole, TooLong, Cut}
+use Rattle.fast_units.specs.declared.pending.MapFront.{MapFront}
+use Rattle.fast_units.specs.declared.pending.MapFront.TheVariants.{Whole, TooLong, Cut}
 
 -- The bytes in hand and those of the piece: some of the latter make the map whole, or too long, or all of them are in hand,
 -- and the map is cut.

@@ -10,7 +10,7 @@ use Rattle.fast_tree.specs.Nodes.{field_data, body_of, instructions_from, templa
 use Rattle.fast_tree.specs.NodeData.{ShapeData, a_field, a_decimal, a_group, a_sequence, shape_data}
 use Rattle.fast_tree.specs.Numbers.{numbers_of}
 use Rattle.fast_dict.specs.Stores.{Terms}
-use Rattle.fast_decoder.specs.Settling.{Serves}
+use Rattle.fast_units.specs.Settling.{Serves}
 
 -- It serves the fields of the shape; the parts of decimals and the lengths of sequences are integers.
 abbrev pub ServesShape : ℕ → Terms → ShapeData → Type 0

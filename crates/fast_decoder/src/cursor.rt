@@ -8,7 +8,7 @@ ghost use Rattle.fast_decoder.specs.Segments.{elements_data, first_node};
 ghost use Rattle.fast_decoder.specs.MapTaking.{IsMapTaken};
 
 use crate::map_place::{MapPlace, NO_MAP};
-use crate::pending::{MapFront, next_map};
+use fast_units::pending::{MapFront, next_map};
 use fast_wire::MAP_LIMIT;
 use std::alloc::{AllocError, Global};
 use std::marker::Model;

@@ -11,11 +11,11 @@ ghost use Rattle.fast_decoder.specs.Quick.{IsTakenTo};
 ghost use Rattle.fast_decoder.specs.Positions.{set_of, tree_in, IsReady, meaning};
 ghost use Rattle.fast_decoder.specs.TurnsLeft.{Way, HasTurns, HasTurnsInMap, HasTurnsBehind, turns_begun};
 
-use crate::events::Sink;
 use crate::machine::{Machine, Turn, Waiting};
 use crate::quick_units::Quick;
 use crate::turns::Turns;
 use fast_dict::Entry;
+use fast_stream::Sink;
 use fast_template::Templates;
 use fast_value::Limits;
 

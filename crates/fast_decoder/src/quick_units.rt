@@ -13,22 +13,21 @@ ghost use Rattle.fast_dict.specs.Dictionary.{Dictionary};
 ghost use Rattle.fast_dict.specs.Operators.{range_of};
 ghost use Rattle.fast_dict.specs.Slots.{slots_dictionary};
 ghost use Rattle.fast_value.specs.declared.settings.Limits.{Limits};
-ghost use Rattle.fast_decoder.specs.Readers.{Reader};
+ghost use Rattle.fast_stream.specs.Readers.{Reader};
 ghost use Rattle.fast_decoder.specs.declared.machine.Machine.{Machine};
 ghost use Rattle.fast_decoder.specs.Moving.{Moves};
 ghost use Rattle.fast_decoder.specs.Segments.{first_node};
-ghost use Rattle.fast_decoder.specs.UnitFronts.{IsSent, IsAsciiFirst};
+ghost use Rattle.fast_units.specs.UnitFronts.{IsSent, IsAsciiFirst};
 ghost use Rattle.fast_decoder.specs.Quick.{IsTakenTo, IsSentItem};
 ghost use Rattle.fast_decoder.specs.Positions.{Set, set_of, tree_in, state_in, bit_of, GoesOn, IsAtField, IsMapWhole, IsPlaced, IsReady, IsSupplied, IsTurn, meaning, turning};
 ghost use Rattle.fast_decoder.specs.TurnsLeft.{Way, HasTurns, HasTurnsBehind, HasTurnsWaiting, turns_begun_at};
 
-use crate::events::Sink;
-use crate::faults::FaultCode;
-use crate::fields::Number;
 use crate::machine::{Machine, Turn, Waiting};
-use crate::short_integers::{delta_item, signed_item, unsigned_item};
 use crate::turns::Turns;
+use fast_stream::{FaultCode, Sink};
 use fast_template::{FieldInstruction, Opcode, Operator, Sending, Shape, Templates};
+use fast_units::fields::Number;
+use fast_units::short_integers::{delta_item, signed_item, unsigned_item};
 use fast_value::{Kind, Limits};
 use fast_wire::short_entity;
 

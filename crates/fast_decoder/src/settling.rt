@@ -13,28 +13,27 @@ ghost use Rattle.fast_dict.specs.Dictionary.{Dictionary};
 ghost use Rattle.fast_dict.specs.Operators.{ranged};
 ghost use Rattle.fast_dict.specs.Slots.{slots_dictionary, slots_terms};
 ghost use Rattle.fast_decoder.specs.Cursors.{bits_left};
-ghost use Rattle.fast_decoder.specs.Handed.{event_data};
-ghost use Rattle.fast_decoder.specs.GrammarReaders.{reader_of};
-ghost use Rattle.fast_decoder.specs.Readers.{Reader};
+ghost use Rattle.fast_stream.specs.Handed.{event_data};
+ghost use Rattle.fast_stream.specs.GrammarReaders.{reader_of};
+ghost use Rattle.fast_stream.specs.Readers.{Reader};
 ghost use Rattle.fast_decoder.specs.Handing.{Hands};
-ghost use Rattle.fast_decoder.specs.Messages.{signed_of, within_limits};
+ghost use Rattle.fast_stream.specs.Messages.{signed_of, within_limits};
 ghost use Rattle.fast_decoder.specs.Moving.{Moves};
-ghost use Rattle.fast_decoder.specs.Settling.{Serves, value_at};
-ghost use Rattle.fast_decoder.specs.Deciding.{number_data};
+ghost use Rattle.fast_units.specs.Settling.{Serves, value_at};
+ghost use Rattle.fast_units.specs.Deciding.{number_data};
 ghost use Rattle.fast_decoder.specs.TurnsLeft.{Way, HasTurns, HasTurnsFrom, HasTurnsBehind, HasTurnsAfter};
-ghost use Rattle.fast_decoder.specs.UnitFronts.{IsAsciiFirst};
+ghost use Rattle.fast_units.specs.UnitFronts.{IsAsciiFirst};
 ghost use Rattle.fast_decoder.specs.Passing.{IsPast, value_then, exponent_then, decimal_then, length_then, elements_from};
 ghost use Rattle.fast_decoder.specs.Positions.{Set, set_of, body_in, frames_in, mantissa_then, IsAtField, IsAtParts, IsAtGroup, IsAtSequence, CanTurn, IsTurn, turning, IsSupplied, IsMapWhole, IsReady, bit_of, state_in, going_on, meaning};
 
 use crate::cursor::Elements;
-use crate::events::{Event, Sink};
-use crate::faults::FaultCode;
-use crate::fields::{Number, needs_bytes, unsent, value_at};
 use crate::machine::{Machine, Turn, Waiting};
-use crate::source::Source;
 use crate::turns::Turns;
 use fast_dict::operators::integers::integer_of;
+use fast_stream::{Event, FaultCode, Sink};
 use fast_template::{FieldInstruction, Operator, Shape, Templates};
+use fast_units::fields::{Number, needs_bytes, unsent, value_at};
+use fast_units::source::Source;
 use fast_value::{Code, Kind, Limits, Scalar};
 
 /// Whether a field uses a presence bit.

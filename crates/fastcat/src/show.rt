@@ -4,7 +4,7 @@ ghost use Rattle.std.specs.Prelude.{◌≡◌, ◌⊎◌, ◌↔◌, ℕ, ◌+�
 ghost use Rattle.fast_tree.specs.Tree.{Tree};
 ghost use Rattle.fast_template.specs.Flat.{tree_of};
 ghost use Rattle.fast_value.specs.declared.settings.Limits.{Limits};
-ghost use Rattle.fast_decoder.specs.Events.{EventData};
+ghost use Rattle.fast_stream.specs.Events.{EventData};
 ghost use Rattle.fast_decoder.specs.Decoding.{So, standing, tree, answer, AreBadLimits};
 ghost use Rattle.fast_text.specs.Streams.{Appends};
 ghost use Rattle.fast_text.specs.Hex.{IsHexOrBlank};

@@ -6,10 +6,10 @@ use Rattle.fast_tree.specs.Tree.{identifier}
 use Rattle.fast_tree.specs.Nodes.{template_data, instructions_from}
 use Rattle.fast_dict.specs.Dictionary.{Dictionary}
 use Rattle.fast_dict.specs.Slots.{slots_dictionary}
-use Rattle.fast_decoder.specs.Continuations.{message_of_then}
-use Rattle.fast_decoder.specs.GrammarReaders.{reader_of}
+use Rattle.fast_stream.specs.Continuations.{message_of_then}
+use Rattle.fast_stream.specs.GrammarReaders.{reader_of}
 use Rattle.fast_decoder.specs.Passing.{state_past}
-use Rattle.fast_decoder.specs.Readers.{Reader, Done}
+use Rattle.fast_stream.specs.Readers.{Reader, Done}
 use Rattle.fast_decoder.specs.Positions.{set_of, map_reader, meaning, meaning_at}
 use Rattle.fast_decoder.specs.declared.machine.Waiting.{Waiting}
 use Rattle.fast_decoder.proofs.FieldTurns.{entries_here}

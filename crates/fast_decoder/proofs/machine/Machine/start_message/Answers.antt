@@ -8,12 +8,12 @@ use Rattle.fast_tree.specs.Tree.{identifier}
 use Rattle.fast_value.specs.Limits.{bounds}
 use Rattle.fast_dict.specs.Slots.{slots_dictionary}
 use Rattle.fast_decoder.specs.Cursors.{CursorData, bits_left}
-use Rattle.fast_decoder.specs.GrammarReaders.{reader_of}
+use Rattle.fast_stream.specs.GrammarReaders.{reader_of}
 use Rattle.fast_decoder.specs.Passing.{state_past}
-use Rattle.fast_decoder.specs.Continuations.{message_of_then}
+use Rattle.fast_stream.specs.Continuations.{message_of_then}
 use Rattle.fast_decoder.specs.Positions.{set_of, meaning, turning, IsTurn}
 use Rattle.fast_decoder.specs.declared.machine.Turn.TheVariants.{Handed}
-use Rattle.fast_decoder.proofs.Frames.{begin_message}
+use Rattle.fast_stream.proofs.Frames.{begin_message}
 use Rattle.fast_decoder.proofs.Moves.{moves_halt, moves_one}
 use Rattle.fast_decoder.proofs.Begun.{begun, begun_turns}
 use Rattle.fast_decoder.proofs.TurnCounts.{message_begun}
