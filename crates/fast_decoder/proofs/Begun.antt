@@ -13,7 +13,7 @@ use Rattle.fast_tree.specs.Nodes.{template_data, instructions_from}
 use Rattle.fast_dict.specs.Dictionary.{Dictionary, reset}
 use Rattle.fast_dict.specs.Slots.{slots_terms}
 use Rattle.fast_dict.specs.declared.slots.Slots.{Slots}
-use Rattle.fast_decoder.specs.Cursors.{CursorData, bits_left}
+use Rattle.fast_cursor.specs.Cursors.{CursorData, bits_left}
 use Rattle.fast_stream.specs.Events.{MessageStart}
 use Rattle.fast_stream.specs.Frames.{resume}
 use Rattle.fast_stream.specs.GrammarReaders.{reader_of}

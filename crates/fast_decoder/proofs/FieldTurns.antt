@@ -45,7 +45,7 @@ use Rattle.fast_decoder.specs.Moving.{Moves}
 use Rattle.fast_units.specs.Settling.{Serves, value_at}
 use Rattle.fast_units.specs.UnitFronts.{IsAsciiFirst, IsSent}
 use Rattle.fast_units.specs.Scratches.{Held}
-use Rattle.fast_decoder.specs.Cursors.{CursorData, bits_left, bits_behind}
+use Rattle.fast_cursor.specs.Cursors.{CursorData, bits_left, bits_behind}
 use Rattle.fast_decoder.specs.Passing.{IsPast, state_past, exponent_then}
 use Rattle.fast_decoder.specs.Positions.{Set, body_in, IsPlaced, IsSupplied, IsReady, CanTurn, CanTake, IsTurn, GoesOn, turning, meaning, meaning_at, state_in, frames_in, bit_of, term_at, mantissa_then, BeginsWithInteger, BeginsWithText, GoesOnWithMantissa, IsAtField, IsAtParts}
 use Rattle.fast_stream.proofs.Frames.{at_field}

@@ -10,8 +10,8 @@ use Rattle.fast_template.specs.declared.sets.Templates.{Templates}
 use Rattle.fast_tree.specs.Numbers.{NameLaterNodes}
 use Rattle.fast_tree.specs.Tree.{step}
 use Rattle.fast_tree.specs.Nodes.{field_data, label_of}
-use Rattle.fast_decoder.specs.Cursors.{CursorData}
-use Rattle.fast_decoder.specs.Segments.{first_node}
+use Rattle.fast_cursor.specs.Cursors.{CursorData}
+use Rattle.fast_cursor.specs.Segments.{first_node}
 use Rattle.fast_decoder.specs.Serving.{body_among, instruction_among}
 use Rattle.fast_decoder.specs.Positions.{set_of, IsAtField, IsAtParts, IsAtGroup, IsAtSequence}
 use Rattle.fast_decoder.proofs.BodyNodes.{body_step}

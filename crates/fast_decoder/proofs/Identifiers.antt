@@ -15,7 +15,7 @@ use Rattle.fast_dict.specs.Dictionary.{PreviousData, Dictionary, previous_at, wr
 use Rattle.fast_dict.specs.Operators.{Outcome, nothing, decide}
 use Rattle.fast_dict.specs.Slots.{slots_dictionary, slots_terms, slots_sized}
 use Rattle.fast_dict.specs.Stores.{Terms}
-use Rattle.fast_decoder.specs.Cursors.{CursorData, bits_left, at_rest}
+use Rattle.fast_cursor.specs.Cursors.{CursorData, bits_left, at_rest}
 use Rattle.fast_stream.specs.Fields.{field_term}
 use Rattle.fast_stream.specs.Grammar.{Grammar, narrow, ◌>>=◌, of_result}
 use Rattle.fast_stream.specs.GrammarReaders.{settles_reader, judged_map, spare, reader_of}

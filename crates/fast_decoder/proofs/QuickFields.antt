@@ -17,10 +17,10 @@ use Rattle.fast_tree.specs.Nodes.{field_data}
 use Rattle.fast_template.specs.Opcodes.{sending_operator, is_nullable, opcode_of, opcode_kind, opcode_sending, IsSentAs}
 use Rattle.fast_tree.specs.Tree.{FieldData, operator_uses_bit, uses_bit}
 use Rattle.fast_template.proofs.OpcodeLaws.{integer_field}
-use Rattle.fast_decoder.specs.Cursors.{CursorData}
+use Rattle.fast_cursor.specs.Cursors.{CursorData}
 use Rattle.fast_stream.specs.Fields.{field_term}
 use Rattle.fast_stream.specs.Messages.{State}
-use Rattle.fast_decoder.specs.Segments.{first_node}
+use Rattle.fast_cursor.specs.Segments.{first_node}
 use Rattle.fast_units.specs.UnitFronts.{IsSent, IsAsciiFirst}
 use Rattle.fast_decoder.specs.Positions.{set_of, bit_of, IsAtField}
 use Rattle.fast_decoder.proofs.Heads.{field_head}

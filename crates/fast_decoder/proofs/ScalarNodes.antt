@@ -13,8 +13,8 @@ use Rattle.fast_tree.specs.NodeData.{shape_data}
 use Rattle.fast_dict.specs.Slots.{slots_dictionary, slots_terms}
 use Rattle.fast_tree.specs.Numbers.{AreBelow, NameLaterNodes}
 use Rattle.fast_tree.specs.Tree.{Label, FieldData, Body, step}
-use Rattle.fast_decoder.specs.Cursors.{CursorData}
-use Rattle.fast_decoder.specs.Segments.{first_node}
+use Rattle.fast_cursor.specs.Cursors.{CursorData}
+use Rattle.fast_cursor.specs.Segments.{first_node}
 use Rattle.fast_stream.specs.Messages.{State}
 use Rattle.fast_decoder.specs.Serving.{ServesShape, body_among, instruction_among}
 use Rattle.fast_units.specs.UnitFronts.{IsSent, IsAsciiFirst}

@@ -7,7 +7,7 @@ use Rattle.fast_value.specs.declared.settings.Limits.{Limits}
 use Rattle.fast_value.specs.declared.codes.Code.TheVariants.{L3}
 use Rattle.fast_dict.specs.Dictionary.{Dictionary}
 use Rattle.fast_dict.specs.Slots.{slots_dictionary}
-use Rattle.fast_decoder.specs.Cursors.{CursorData}
+use Rattle.fast_cursor.specs.Cursors.{CursorData}
 use Rattle.fast_stream.specs.Frames.{resume}
 use Rattle.fast_stream.specs.Grammar.{Grammar, narrow}
 use Rattle.fast_stream.specs.GrammarReaders.{settles_reader, judged_map, reader_of}

@@ -38,7 +38,7 @@ use Rattle.fast_units.specs.Deciding.{IsDecided}
 use Rattle.fast_stream.specs.Fields.{field_term}
 use Rattle.fast_stream.specs.Frames.{Frame, open_group, open_element, unwind, resume, opened, elements_turn}
 use Rattle.fast_decoder.specs.Passing.{state_past, length_then, elements_from}
-use Rattle.fast_decoder.specs.Cursors.{ElementsData, FrameData, CursorData, bits_behind, bits_left, at_rest, frame_here, entered, left_to}
+use Rattle.fast_cursor.specs.Cursors.{ElementsData, FrameData, CursorData, bits_behind, bits_left, at_rest, frame_here, entered, left_to}
 use Rattle.fast_decoder.specs.Positions.{Set, body_in, frame_by, frames_in, state_in, IsMapWhole, AreElementsFit, AreFramesFit, IsPlaced, IsSupplied, CanTurn, IsTurn, IsAtGroup, IsAtSequence, BeginsWithInteger, bit_of, turning, meaning}
 use Rattle.fast_stream.proofs.Frames.{sequence-same, counting, at_end, at_group, group_turn, at_optional_group, close_group, close_element, close_message}
 use Rattle.fast_units.proofs.Turning.{result_done, result_stop}

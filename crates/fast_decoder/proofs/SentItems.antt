@@ -14,7 +14,7 @@ use Rattle.fast_dict.specs.Dictionary.{Dictionary, previous_at}
 use Rattle.fast_dict.specs.Slots.{slots_dictionary, slots_terms}
 use Rattle.fast_dict.specs.declared.slots.Slots.{Slots}
 use Rattle.fast_stream.specs.Fields.{field_term}
-use Rattle.fast_decoder.specs.Segments.{first_node}
+use Rattle.fast_cursor.specs.Segments.{first_node}
 use Rattle.fast_stream.specs.Events.{EventData}
 use Rattle.fast_units.specs.Deciding.{number_data, source_of}
 use Rattle.fast_stream.specs.GrammarReaders.{reader_of}

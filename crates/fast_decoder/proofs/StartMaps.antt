@@ -15,9 +15,9 @@ use Rattle.fast_tree.specs.Nodes.{template_data, instructions_from}
 use Rattle.fast_dict.specs.Dictionary.{Dictionary, PreviousData, assigned, previous_at, write_at}
 use Rattle.fast_dict.specs.Operators.{Outcome, decide, nothing}
 use Rattle.fast_dict.specs.Slots.{slots_dictionary}
-use Rattle.fast_decoder.specs.Cursors.{CursorData, at_rest}
+use Rattle.fast_cursor.specs.Cursors.{CursorData, at_rest}
 use Rattle.fast_stream.specs.GrammarReaders.{reader_of}
-use Rattle.fast_decoder.specs.MapTaking.{IsMapTaken}
+use Rattle.fast_cursor.specs.MapTaking.{IsMapTaken}
 use Rattle.fast_stream.specs.Messages.{State, begin}
 use Rattle.fast_stream.specs.Continuations.{message_then, message_behind_then, message_of_then}
 use Rattle.fast_decoder.specs.Passing.{state_past}
@@ -27,7 +27,7 @@ use Rattle.fast_decoder.specs.TurnsLeft.{Way, most_by, HasTurnsInMap, turns_begu
 use Rattle.fast_decoder.specs.declared.machine.Machine.{Machine}
 use Rattle.fast_decoder.specs.declared.machine.Waiting.{Waiting}
 use Rattle.fast_decoder.specs.declared.machine.Waiting.TheVariants.{Map}
-use Rattle.fast_units.specs.declared.pending.MapFront.TheVariants.{Whole}
+use Rattle.fast_cursor.specs.declared.pending.MapFront.TheVariants.{Whole}
 use Rattle.fast_decoder.specs.declared.turns.Turns.{Turns as TurnCount}
 use Rattle.fast_decoder.proofs.FieldTurns.{supplied_like}
 use Rattle.fast_decoder.proofs.Identifiers.{map_judged, narrow-fits, named_first, behind_known, identifier_unsent, decided_unsent, identified_by}

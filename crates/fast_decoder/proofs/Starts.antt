@@ -10,7 +10,7 @@ use Rattle.fast_dict.specs.Dictionary.{fresh}
 use Rattle.fast_dict.specs.Slots.{slots_dictionary}
 use Rattle.fast_decoder.specs.declared.machine.Machine.{Machine}
 use Rattle.fast_decoder.specs.declared.machine.Waiting.{Waiting}
-use Rattle.fast_decoder.specs.Cursors.{CursorData, at_rest}
+use Rattle.fast_cursor.specs.Cursors.{CursorData, at_rest}
 use Rattle.fast_stream.specs.Readers.{Done}
 use Rattle.fast_stream.specs.Running.{at_start}
 use Rattle.fast_decoder.specs.Handing.{stood}

@@ -19,7 +19,7 @@ use Rattle.fast_decoder.specs.declared.turns.Turns.{Turns}
 use Rattle.fast_decoder.specs.Passing.{IsPast}
 use Rattle.fast_decoder.specs.declared.machine.Waiting.{Waiting}
 use Rattle.fast_decoder.specs.declared.machine.Waiting.TheVariants.{Map, Identifier, SegmentMap, Field, Text, Number, Bytes, Mantissa}
-use Rattle.fast_decoder.specs.Cursors.{ElementsData, FrameData, CursorData, entered, left_to}
+use Rattle.fast_cursor.specs.Cursors.{ElementsData, FrameData, CursorData, entered, left_to}
 use Rattle.fast_stream.specs.Messages.{within_limits}
 use Rattle.fast_decoder.specs.Positions.{Set, tree_in, body_in, IsFresh}
 use Rattle.fast_decoder.specs.TurnsLeft.{Way, by_sequence, by_message, most_by, body_turns, AreWithin, elements_turns, AreElementsWithin, frames_turns, AreFramesWithin, turns_left, IsWithinTurns, HasTurns, HasTurnsInMap, HasTurnsAt, HasTurnsWaiting, HasTurnsBehind, HasTurnsAfter, turns_begun, turns_begun_at, IsWithinMessage}

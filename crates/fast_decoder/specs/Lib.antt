@@ -2,11 +2,7 @@ pub mod Handing
 pub mod Recorded
 pub mod Positions
 pub mod Quick
-pub mod Cursors
 pub mod Serving
-pub mod MapPlaces
-pub mod Segments
-pub mod MapTaking
 pub mod Moving
 pub mod Passing
 pub mod Scalars

@@ -11,7 +11,7 @@ use Rattle.fast_stream.specs.Events.{SequenceEnd, ElementStart}
 use Rattle.fast_stream.specs.Messages.{Context, State, own_bits, decimal_with}
 use Rattle.fast_stream.specs.Continuations.{handed_then, mantissa_after_then, segment_then, body_then, sequence_from_then, message_behind_then}
 use Rattle.fast_stream.specs.Frames.{Frame, open_element, resume}
-use Rattle.fast_decoder.specs.Cursors.{CursorData, bits_left}
+use Rattle.fast_cursor.specs.Cursors.{CursorData, bits_left}
 use Rattle.fast_decoder.specs.Positions.{Set, tree_in, body_in, frames_in, state_in}
 
 -- The cursor is past the next instruction, and bits may have been used.

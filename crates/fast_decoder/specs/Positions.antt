@@ -24,7 +24,7 @@ use Rattle.fast_stream.specs.GrammarReaders.{settles_reader, judged_map, reader_
 use Rattle.fast_stream.specs.Continuations.{handed_then, message_behind_then, message_then}
 use Rattle.fast_stream.specs.Frames.{Frame, open_group, open_element, resume}
 use Rattle.fast_stream.specs.Machine.{after_bytes}
-use Rattle.fast_decoder.specs.Cursors.{ElementsData, FrameData, CursorData, bits_behind, bits_left, at_rest}
+use Rattle.fast_cursor.specs.Cursors.{ElementsData, FrameData, CursorData, bits_behind, bits_left, at_rest}
 use Rattle.fast_decoder.specs.Serving.{ServesNodes, body_among, AreNodeWidths, AreTemplateWidths}
 use Rattle.fast_units.specs.Stages.{term_behind, IsStageOf}
 use Rattle.fast_units.specs.UnitFronts.{IsSent, IsAsciiFirst, IsNumberStage, IsBytesStage}

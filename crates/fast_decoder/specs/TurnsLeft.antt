@@ -9,7 +9,7 @@ use Rattle.fast_decoder.specs.declared.machine.Turn.{Turn}
 use Rattle.fast_decoder.specs.declared.machine.Turn.TheVariants.{Silent, Handed, Waits}
 use Rattle.fast_decoder.specs.declared.machine.Waiting.{Waiting}
 use Rattle.fast_decoder.specs.declared.machine.Waiting.TheVariants.{Map, Identifier, SegmentMap, Field, Text, Number, Bytes, Mantissa}
-use Rattle.fast_decoder.specs.Cursors.{ElementsData, FrameData, CursorData, entered}
+use Rattle.fast_cursor.specs.Cursors.{ElementsData, FrameData, CursorData, entered}
 use Rattle.fast_decoder.specs.Positions.{Set, tree_in, body_in}
 
 -- What bounds the elements of a message: the limit on each sequence, or the limit on all of them together.

@@ -1,11 +1,9 @@
 //! The decoder of FAST streams: bytes in pieces go in, events come out.
 #![tactic(auto)]
 
-pub mod cursor;
 pub mod decoder;
 pub mod layout;
 mod machine;
-mod map_place;
 pub mod quick_decimals;
 mod quick_starts;
 pub mod quick_units;

@@ -5,9 +5,9 @@
 
 ghost use Rattle.std.specs.Prelude.{◌≡◌};
 
-use crate::cursor::Cursor;
 use crate::layout::Widths;
 use crate::turns::Turns;
+use fast_cursor::cursor::Cursor;
 use fast_dict::Slots;
 use fast_template::FieldInstruction;
 use fast_units::scratch::Scratch;

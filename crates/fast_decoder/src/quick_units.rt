@@ -16,7 +16,7 @@ ghost use Rattle.fast_value.specs.declared.settings.Limits.{Limits};
 ghost use Rattle.fast_stream.specs.Readers.{Reader};
 ghost use Rattle.fast_decoder.specs.declared.machine.Machine.{Machine};
 ghost use Rattle.fast_decoder.specs.Moving.{Moves};
-ghost use Rattle.fast_decoder.specs.Segments.{first_node};
+ghost use Rattle.fast_cursor.specs.Segments.{first_node};
 ghost use Rattle.fast_units.specs.UnitFronts.{IsSent, IsAsciiFirst};
 ghost use Rattle.fast_decoder.specs.Quick.{IsTakenTo, IsSentItem};
 ghost use Rattle.fast_decoder.specs.Positions.{Set, set_of, tree_in, state_in, bit_of, GoesOn, IsAtField, IsMapWhole, IsPlaced, IsReady, IsSupplied, IsTurn, meaning, turning};

@@ -1,5 +1,4 @@
 pub mod Turning
-pub mod MapBytes
 pub mod Deciding
 pub mod NextUnits
 pub mod ShortIntegers

@@ -1,4 +1,3 @@
-pub mod Pending
 pub mod Taking
 pub mod Settling
 pub mod Stages

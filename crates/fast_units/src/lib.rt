@@ -3,7 +3,6 @@
 
 pub mod fields;
 pub mod numbers;
-pub mod pending;
 pub mod progress;
 pub mod scalars;
 pub mod scratch;

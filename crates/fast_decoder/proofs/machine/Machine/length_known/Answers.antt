@@ -6,7 +6,7 @@ use Rattle.fast_value.specs.Limits.{bounds}
 use Rattle.fast_tree.specs.Nodes.{field_data}
 use Rattle.fast_dict.specs.Slots.{slots_dictionary}
 use Rattle.fast_decoder.specs.declared.machine.Machine.{Machine}
-use Rattle.fast_decoder.specs.Cursors.{CursorData}
+use Rattle.fast_cursor.specs.Cursors.{CursorData}
 use Rattle.fast_stream.specs.Events.{SequenceStart}
 use Rattle.fast_stream.specs.Messages.{within_limits}
 use Rattle.fast_units.specs.Settling.{value_at}

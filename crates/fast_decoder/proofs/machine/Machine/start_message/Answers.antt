@@ -7,7 +7,7 @@ use Rattle.fast_tree.specs.Nodes.{template_data, instructions_from}
 use Rattle.fast_tree.specs.Tree.{identifier}
 use Rattle.fast_value.specs.Limits.{bounds}
 use Rattle.fast_dict.specs.Slots.{slots_dictionary}
-use Rattle.fast_decoder.specs.Cursors.{CursorData, bits_left}
+use Rattle.fast_cursor.specs.Cursors.{CursorData, bits_left}
 use Rattle.fast_stream.specs.GrammarReaders.{reader_of}
 use Rattle.fast_decoder.specs.Passing.{state_past}
 use Rattle.fast_stream.specs.Continuations.{message_of_then}
