@@ -3,13 +3,13 @@ use Rattle.std.proofs.Common.{◌≡◌, ℕ, ◌+◌, ◌<◌, ◌^◌, Bool, L
 use Rattle.std.proofs.lemmas.List.{take-append-drop}
 use Rattle.std.proofs.lemmas.Grind.{flat_map-append}
 use Rattle.fast_value.specs.declared.settings.Limits.{Limits}
-use Rattle.fast_template.specs.Tree.{Tree}
+use Rattle.fast_tree.specs.Tree.{Tree}
 use Rattle.fast_template.specs.Flat.{tree_of}
-use Rattle.fast_decoder.specs.declared.faults.Fault.{Fault}
-use Rattle.fast_decoder.specs.declared.faults.FaultCode.{FaultCode}
-use Rattle.fast_decoder.specs.declared.faults.FaultCode.TheVariants as Why
-use Rattle.fast_decoder.specs.Events.{EventData}
-use Rattle.fast_decoder.specs.Sinks.{Takes}
+use Rattle.fast_stream.specs.declared.faults.Fault.{Fault}
+use Rattle.fast_stream.specs.declared.faults.FaultCode.{FaultCode}
+use Rattle.fast_stream.specs.declared.faults.FaultCode.TheVariants as Why
+use Rattle.fast_stream.specs.Events.{EventData}
+use Rattle.fast_stream.specs.Sinks.{Takes}
 use Rattle.fast_decoder.specs.Decoding.{DecoderData, tree, Carried, CarriesAt, Carries, SinkEnds}
 use Rattle.fast_text.specs.Lines.{line_of, lines}
 use Rattle.fast_text.specs.Streams.{Appends}

@@ -4,13 +4,13 @@ use Rattle.std.specs.Prelude.{IsTrue, is_some, if◌then◌else◌}
 use Rattle.fast_value.specs.declared.settings.Limits.{Limits}
 use Rattle.fast_value.specs.declared.codes.Code.{Code}
 use Rattle.fast_value.specs.Initial.{IsHex}
-use Rattle.fast_template.specs.Tree.{Tree}
-use Rattle.fast_decoder.specs.declared.faults.Fault.{Fault}
-use Rattle.fast_decoder.specs.declared.faults.FaultCode.{FaultCode}
-use Rattle.fast_decoder.specs.declared.faults.FaultCode.TheVariants as Why
-use Rattle.fast_decoder.specs.Events.{EventData}
-use Rattle.fast_decoder.specs.Streams.{End, between, inside, faulted, Stream}
-use Rattle.fast_decoder.specs.Standing.{Standing, standing_at}
+use Rattle.fast_tree.specs.Tree.{Tree}
+use Rattle.fast_stream.specs.declared.faults.Fault.{Fault}
+use Rattle.fast_stream.specs.declared.faults.FaultCode.{FaultCode}
+use Rattle.fast_stream.specs.declared.faults.FaultCode.TheVariants as Why
+use Rattle.fast_stream.specs.Events.{EventData}
+use Rattle.fast_stream.specs.Streams.{End, between, inside, faulted, Stream}
+use Rattle.fast_stream.specs.Standing.{Standing, standing_at}
 use Rattle.fast_decoder.specs.Decoding.{DecoderData, So, tree, standing, answer}
 use Rattle.fast_decoder.proofs.Ends.{so-stream}
 use Rattle.fast_text.specs.Lines.{lines}

@@ -1,6 +1,6 @@
 -- The numbers of a set.
 use Rattle.std.proofs.Common.{◌≡◌, ℕ, List, [], ◌∷◌, refl, ap, suc, length}
-use Rattle.fast_template.specs.declared.instructions.Node.{Node}
+use Rattle.fast_tree.specs.declared.instructions.Node.{Node}
 use Rattle.fast_template.specs.Labels.{labels_from}
 
 -- as many labels as nodes

@@ -1,9 +1,9 @@
 -- What is said of a template set.
 use Rattle.std.specs.Prelude.{ℕ, List, [], ◌∷◌, ◌++◌, length, codes, decimal}
 use Rattle.fast_value.specs.declared.settings.Limits.{Limits}
-use Rattle.fast_template.specs.Tree.{Tree}
+use Rattle.fast_tree.specs.Tree.{Tree}
 use Rattle.fast_template.specs.Labels.{template_labels}
-use Rattle.fast_template.specs.Sizes.{set_depth, message_cap}
+use Rattle.fast_tree.specs.Sizes.{set_depth, message_cap}
 
 -- a name and a number
 abbrev pub number_line : List ℕ → ℕ → List ℕ

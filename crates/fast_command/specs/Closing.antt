@@ -2,9 +2,9 @@
 use Rattle.std.specs.Prelude.{ℕ, List, [], ◌∷◌, ◌++◌, length, codes, decimal}
 use Rattle.fast_value.specs.declared.codes.Code.{Code}
 use Rattle.fast_value.specs.declared.codes.Code.TheVariants.{D2, D4, D5, D6, D7, D9, R1, R2, R6, R7, R8, R9, L1, L2, L3, L5}
-use Rattle.fast_decoder.specs.declared.faults.FaultCode.{FaultCode}
-use Rattle.fast_decoder.specs.declared.faults.FaultCode.TheVariants.{Stream, L4, SinkStopped}
-use Rattle.fast_decoder.specs.Streams.{End, between, inside, faulted}
+use Rattle.fast_stream.specs.declared.faults.FaultCode.{FaultCode}
+use Rattle.fast_stream.specs.declared.faults.FaultCode.TheVariants.{Stream, L4, SinkStopped}
+use Rattle.fast_stream.specs.Streams.{End, between, inside, faulted}
 
 -- the name of a fault of a stream
 abbrev pub stream_code_text : Code → List ℕ

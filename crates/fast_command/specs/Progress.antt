@@ -1,13 +1,13 @@
 -- How far a run that shows a stream has come.
 use Rattle.std.specs.Prelude.{◌≡◌, ◌⊎◌, ℕ, ◌+◌, ◌<◌, ◌^◌, Bool, IsTrue, List, ◌++◌, length, Option, Some, None, is_some, Result, Ok, Err}
 use Rattle.fast_value.specs.declared.settings.Limits.{Limits}
-use Rattle.fast_template.specs.Tree.{Tree}
+use Rattle.fast_tree.specs.Tree.{Tree}
 use Rattle.fast_template.specs.Flat.{tree_of}
-use Rattle.fast_decoder.specs.declared.faults.Fault.{Fault}
-use Rattle.fast_decoder.specs.declared.faults.FaultCode.{FaultCode}
-use Rattle.fast_decoder.specs.declared.faults.FaultCode.TheVariants as Why
-use Rattle.fast_decoder.specs.Events.{EventData}
-use Rattle.fast_decoder.specs.Streams.{End, Stream}
+use Rattle.fast_stream.specs.declared.faults.Fault.{Fault}
+use Rattle.fast_stream.specs.declared.faults.FaultCode.{FaultCode}
+use Rattle.fast_stream.specs.declared.faults.FaultCode.TheVariants as Why
+use Rattle.fast_stream.specs.Events.{EventData}
+use Rattle.fast_stream.specs.Streams.{End, Stream}
 use Rattle.fast_decoder.specs.Decoding.{DecoderData, So, tree}
 use Rattle.fast_text.specs.Lines.{lines}
 use Rattle.fast_text.specs.Streams.{Appends, AppendsFront}

@@ -2,16 +2,16 @@
 use Rattle.std.specs.Prelude.{◌≡◌, ◌⊎◌, ℕ, ◌<◌, Bool, true, false, List, [], ◌++◌, length, Option, Some, None, Result, Ok, Err}
 use Rattle.fast_value.specs.declared.settings.Limits.{Limits}
 use Rattle.fast_value.specs.declared.codes.Code.{Code}
-use Rattle.fast_template.specs.Tree.{Tree}
+use Rattle.fast_tree.specs.Tree.{Tree}
 use Rattle.fast_template.specs.declared.sets.Templates.{Templates}
 use Rattle.fast_template.specs.Flat.{nodes_of}
 use Rattle.fast_decoder.specs.EntryTexts.{HasLongInitial}
 use Rattle.fast_decoder.specs.Decoding.{AreBadLimits}
-use Rattle.fast_decoder.specs.declared.faults.FaultCode.TheVariants.{Stream as FaultOfStream}
-use Rattle.fast_decoder.specs.declared.faults.MakeError.{MakeError}
-use Rattle.fast_decoder.specs.declared.faults.MakeError.TheVariants as Why
-use Rattle.fast_decoder.specs.Events.{EventData}
-use Rattle.fast_decoder.specs.Streams.{End, between, inside, faulted, Stream}
+use Rattle.fast_stream.specs.declared.faults.FaultCode.TheVariants.{Stream as FaultOfStream}
+use Rattle.fast_stream.specs.declared.faults.MakeError.{MakeError}
+use Rattle.fast_stream.specs.declared.faults.MakeError.TheVariants as Why
+use Rattle.fast_stream.specs.Events.{EventData}
+use Rattle.fast_stream.specs.Streams.{End, between, inside, faulted, Stream}
 use Rattle.fast_text.specs.Lines.{lines}
 use Rattle.fast_text.specs.Hex.{Unhexed}
 use Rattle.fast_command.specs.declared.faults.ShowEnd.{ShowEnd}

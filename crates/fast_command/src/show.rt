@@ -1,10 +1,10 @@
 //! Shows a stream as lines.
 
 ghost use Rattle.std.specs.Prelude.{◌≡◌, ◌⊎◌, ◌↔◌, ℕ, ◌+◌, ◌<◌, ◌≤◌, ◌^◌, List, [], ◌++◌, Bool, IsTrue, Err, IfErr, length, option_map, is_some, IfOk, IfSome, IfNone, All, MatchOption};
-ghost use Rattle.fast_template.specs.Tree.{Tree};
+ghost use Rattle.fast_tree.specs.Tree.{Tree};
 ghost use Rattle.fast_template.specs.Flat.{tree_of};
 ghost use Rattle.fast_value.specs.declared.settings.Limits.{Limits};
-ghost use Rattle.fast_decoder.specs.Events.{EventData};
+ghost use Rattle.fast_stream.specs.Events.{EventData};
 ghost use Rattle.fast_decoder.specs.Decoding.{So, standing, tree, answer, AreBadLimits};
 ghost use Rattle.fast_text.specs.Streams.{Appends};
 ghost use Rattle.fast_text.specs.Hex.{IsHexOrBlank};

@@ -5,27 +5,27 @@ use Rattle.fast_wire.specs.Entities.{IsEntity}
 use Rattle.fast_wire.specs.Maps.{later_bits}
 use Rattle.fast_value.specs.declared.settings.Limits.{Limits}
 use Rattle.fast_value.specs.Limits.{Bounds}
-use Rattle.fast_template.specs.Tree.{Instruction, identifier}
-use Rattle.fast_template.specs.Numbers.{AreBelow}
-use Rattle.fast_template.specs.Sizes.{greatest, body_depth}
-use Rattle.fast_template.specs.declared.instructions.Template.{Template}
-use Rattle.fast_template.specs.Flat.{template_data, instructions_from}
+use Rattle.fast_tree.specs.Tree.{Instruction, identifier}
+use Rattle.fast_tree.specs.Numbers.{AreBelow}
+use Rattle.fast_tree.specs.Sizes.{greatest, body_depth}
+use Rattle.fast_tree.specs.declared.instructions.Template.{Template}
+use Rattle.fast_tree.specs.Nodes.{template_data, instructions_from}
 use Rattle.fast_dict.specs.Dictionary.{Dictionary, reset}
 use Rattle.fast_dict.specs.Slots.{slots_terms}
 use Rattle.fast_dict.specs.declared.slots.Slots.{Slots}
-use Rattle.fast_decoder.specs.Cursors.{CursorData, bits_left}
-use Rattle.fast_decoder.specs.Events.{MessageStart}
-use Rattle.fast_decoder.specs.Frames.{resume}
-use Rattle.fast_decoder.specs.GrammarReaders.{reader_of}
-use Rattle.fast_decoder.specs.Messages.{State, reset_if}
-use Rattle.fast_decoder.specs.Continuations.{message_of_then}
+use Rattle.fast_cursor.specs.Cursors.{CursorData, bits_left}
+use Rattle.fast_stream.specs.Events.{MessageStart}
+use Rattle.fast_stream.specs.Frames.{resume}
+use Rattle.fast_stream.specs.GrammarReaders.{reader_of}
+use Rattle.fast_stream.specs.Messages.{State, reset_if}
+use Rattle.fast_stream.specs.Continuations.{message_of_then}
 use Rattle.fast_decoder.specs.Passing.{state_past}
-use Rattle.fast_decoder.specs.Readers.{Emit}
+use Rattle.fast_stream.specs.Readers.{Emit}
 use Rattle.fast_decoder.specs.Serving.{ServesNodes}
 use Rattle.fast_decoder.specs.Positions.{Set, body_in, frames_in, state_in, going_on, IsBehindMap, CanTurn, AreFramesFit}
 use Rattle.fast_decoder.specs.declared.machine.Machine.{Machine}
 use Rattle.fast_decoder.specs.declared.turns.Turns.{Turns}
-use Rattle.fast_decoder.proofs.Frames.{begin_message}
+use Rattle.fast_stream.proofs.Frames.{begin_message}
 
 -- A template nests no deeper than its set.
 pub no_deeper : (is : List Instruction) (ts : List Template) (i : ℕ) (t : Template) → slice_get ts i ≡ Some t → body_depth (template_data is t).body ≤ greatest (map (λ u. body_depth u.body) (map (template_data is) ts))

@@ -2,12 +2,12 @@
 use Rattle.std.proofs.Common.{refl, sym, ap, ◌∙◌, arith}
 use Rattle.std.specs.Prelude.{◌≡◌, ℕ, zero, suc, ◌+◌, ◌-◌, ◌<◌, ◌≤◌, List, [], ◌∷◌, drop, length, slice_get, slice_index, slice_index_or, Some}
 use Rattle.std.proofs.lemmas.List.{get_or-drop}
-use Rattle.fast_template.specs.declared.instructions.Shape.{Shape}
-use Rattle.fast_template.specs.declared.instructions.Shape.TheVariants.{Field, Decimal, Group, Sequence}
-use Rattle.fast_template.specs.declared.instructions.Node.{Node}
-use Rattle.fast_template.specs.Numbers.{numbers_of, AreBetween, NameLaterNodes}
-use Rattle.fast_template.specs.Tree.{Label, group, sequence, step}
-use Rattle.fast_template.specs.Nodes.{field_data, label_of, no_instruction, body_of, instruction_of, instructions_from}
+use Rattle.fast_tree.specs.declared.instructions.Shape.{Shape}
+use Rattle.fast_tree.specs.declared.instructions.Shape.TheVariants.{Field, Decimal, Group, Sequence}
+use Rattle.fast_tree.specs.declared.instructions.Node.{Node}
+use Rattle.fast_tree.specs.Numbers.{numbers_of, AreBetween, NameLaterNodes}
+use Rattle.fast_tree.specs.Tree.{Label, group, sequence, step}
+use Rattle.fast_tree.specs.Nodes.{field_data, label_of, no_instruction, body_of, instruction_of, instructions_from}
 use Rattle.fast_decoder.specs.Serving.{body_among, instruction_among}
 
 -- the instructions behind a number

@@ -3,17 +3,17 @@ use Rattle.std.proofs.Common.{◌≡◌, ◌∙◌, subst, sym, arith}
 use Rattle.std.proofs.Math.Nat.{add-mul}
 use Rattle.std.specs.Prelude.{ℕ, ◌+◌, ◌*◌, ◌≤◌, List, length, vec_len}
 use Rattle.fast_value.specs.declared.settings.Limits.{Limits}
-use Rattle.fast_template.specs.Sizes.{set_depth, message_cap, stored_cap}
+use Rattle.fast_tree.specs.Sizes.{set_depth, message_cap, stored_cap}
 use Rattle.fast_dict.specs.Slots.{slots_dictionary, slots_sized, slots_bounded}
 use Rattle.fast_decoder.specs.declared.machine.Machine.{Machine}
-use Rattle.fast_decoder.specs.Events.{EventData}
-use Rattle.fast_decoder.specs.Standing.{held, Standing, standing_at}
-use Rattle.fast_decoder.specs.Streams.{End}
-use Rattle.fast_decoder.specs.Begins.{Begins}
+use Rattle.fast_stream.specs.Events.{EventData}
+use Rattle.fast_stream.specs.Standing.{held, Standing, standing_at}
+use Rattle.fast_stream.specs.Streams.{End}
+use Rattle.fast_stream.specs.Begins.{Begins}
 use Rattle.fast_decoder.specs.Positions.{Set, tree_in, IsSupplied}
 use Rattle.fast_decoder.specs.Decoding.{DecoderData, tree, So, standing, stored_by, stored}
-use Rattle.fast_decoder.proofs.Bound.{consumed-bound}
-use Rattle.fast_decoder.proofs.Caps.{stream_begins, begun_bound}
+use Rattle.fast_stream.proofs.Bound.{consumed-bound}
+use Rattle.fast_stream.proofs.Caps.{stream_begins, begun_bound}
 use Rattle.fast_decoder.proofs.Ends.{so-stream}
 
 sum : (t j b e dep H k max km km2 : ℕ) → t ≡ max → j ≡ max → b + e ≤ km + k → dep ≡ H → km2 ≡ km + 2 * max → t + j + b + e + dep + 146 * (dep + 1) ≤ km2 + k + 147 * (H + 1)

@@ -9,24 +9,24 @@ use Rattle.std.proofs.Math.Seq.{take-append_seam}
 use Rattle.fast_value.specs.declared.settings.Limits.{Limits}
 use Rattle.fast_value.specs.declared.codes.Code.{Code}
 use Rattle.fast_dict.specs.Dictionary.{Dictionary}
-use Rattle.fast_decoder.specs.declared.faults.Fault.{Fault}
-use Rattle.fast_decoder.specs.declared.faults.FaultCode.{FaultCode}
-use Rattle.fast_decoder.specs.declared.faults.FaultCode.TheVariants as Why
+use Rattle.fast_stream.specs.declared.faults.Fault.{Fault}
+use Rattle.fast_stream.specs.declared.faults.FaultCode.{FaultCode}
+use Rattle.fast_stream.specs.declared.faults.FaultCode.TheVariants as Why
 use Rattle.fast_decoder.specs.declared.machine.Machine.{Machine}
 use Rattle.fast_decoder.specs.declared.machine.Waiting.{Waiting}
 use Rattle.fast_decoder.specs.declared.machine.Waiting.TheVariants.{Map, Identifier, SegmentMap, Field, Text, Number, Bytes, Mantissa}
 use Rattle.fast_decoder.specs.declared.turns.Turns.{Turns}
-use Rattle.fast_decoder.specs.Events.{EventData}
-use Rattle.fast_decoder.specs.Streams.{Stream}
-use Rattle.fast_decoder.specs.Readers.{AreBytes}
-use Rattle.fast_decoder.specs.Running.{Stands, at_fault, run, message_begun, reading, end_of}
+use Rattle.fast_stream.specs.Events.{EventData}
+use Rattle.fast_stream.specs.Streams.{Stream}
+use Rattle.fast_stream.specs.Readers.{AreBytes}
+use Rattle.fast_stream.specs.Running.{Stands, at_fault, run, message_begun, reading, end_of}
 use Rattle.fast_decoder.specs.Positions.{Set, meaning, meaning_at, IsSupplied, IsReady}
 use Rattle.fast_decoder.specs.Handing.{stood, Took, Failed, Stopped, Fed}
 use Rattle.fast_decoder.specs.TurnsLeft.{IsWithinMessage}
 use Rattle.fast_decoder.specs.Decoding.{DecoderData, tree, IsSoundAt, IsPaidAt, IsFaultAt, IsAt, So, Carries, SinkEnds, CarriesAt}
-use Rattle.fast_decoder.proofs.Binds.{All-front}
-use Rattle.fast_decoder.proofs.Streams.{at-fault}
-use Rattle.fast_decoder.proofs.Reading.{reading-append, reading-sound}
+use Rattle.fast_stream.proofs.Binds.{All-front}
+use Rattle.fast_stream.proofs.Streams.{at-fault}
+use Rattle.fast_stream.proofs.Reading.{reading-append, reading-sound}
 
 -- The turns that were counted don't change what is still to be read.
 pub meaning-turns : (w : Waiting) (set : Set) (l : Limits) (m : Machine) (n : Turns) → meaning_at w set l (record m { turns = n }) ≡ meaning_at w set l m

@@ -4,8 +4,8 @@ use Rattle.std.specs.Prelude.{◌≡◌, ℕ, ◌<◌, List, length}
 use Rattle.fast_wire.specs.Entities.{HaveNoStop}
 use Rattle.fast_wire.specs.Maps.{map_limit}
 use Rattle.fast_value.specs.declared.settings.Limits.{Limits}
-use Rattle.fast_template.specs.Tree.{bits_of}
-use Rattle.fast_decoder.specs.Cursors.{CursorData, at_rest}
+use Rattle.fast_tree.specs.Tree.{bits_of}
+use Rattle.fast_cursor.specs.Cursors.{CursorData, at_rest}
 use Rattle.fast_decoder.specs.Positions.{Set, body_in, CanTake, IsPlaced, IsSupplied, IsReady}
 use Rattle.fast_decoder.specs.declared.machine.Machine.{Machine}
 use Rattle.fast_decoder.specs.declared.machine.Waiting.{Waiting}

@@ -6,27 +6,27 @@ use Rattle.fast_wire.specs.Entities.{HaveNoStop}
 use Rattle.fast_wire.specs.Maps.{map_limit}
 use Rattle.fast_value.specs.declared.settings.Limits.{Limits}
 use Rattle.fast_value.specs.declared.codes.Code.TheVariants.{L3}
-use Rattle.fast_template.specs.Numbers.{NameLaterNodes}
+use Rattle.fast_tree.specs.Numbers.{NameLaterNodes}
 use Rattle.fast_dict.specs.Dictionary.{Dictionary}
 use Rattle.fast_dict.specs.Slots.{slots_dictionary}
-use Rattle.fast_decoder.specs.declared.faults.Fault.{Fault}
-use Rattle.fast_decoder.specs.declared.faults.FaultCode.{FaultCode}
-use Rattle.fast_decoder.specs.declared.faults.FaultCode.TheVariants as Why
+use Rattle.fast_stream.specs.declared.faults.Fault.{Fault}
+use Rattle.fast_stream.specs.declared.faults.FaultCode.{FaultCode}
+use Rattle.fast_stream.specs.declared.faults.FaultCode.TheVariants as Why
 use Rattle.fast_decoder.specs.declared.machine.Machine.{Machine}
 use Rattle.fast_decoder.specs.declared.machine.Waiting.{Waiting}
 use Rattle.fast_decoder.specs.declared.machine.Waiting.TheVariants.{Map, Identifier, SegmentMap, Field, Text, Number, Bytes, Mantissa}
-use Rattle.fast_decoder.specs.Events.{EventData}
-use Rattle.fast_decoder.specs.Streams.{End, between, inside, Stream}
-use Rattle.fast_decoder.specs.Standing.{Standing, standing_at, StandsAfter}
-use Rattle.fast_decoder.specs.Readers.{Reader}
-use Rattle.fast_decoder.specs.Running.{Stands, reading, end_of}
+use Rattle.fast_stream.specs.Events.{EventData}
+use Rattle.fast_stream.specs.Streams.{End, between, inside, Stream}
+use Rattle.fast_stream.specs.Standing.{Standing, standing_at, StandsAfter}
+use Rattle.fast_stream.specs.Readers.{Reader}
+use Rattle.fast_stream.specs.Running.{Stands, reading, end_of}
 use Rattle.fast_decoder.specs.Handing.{Waits, stood}
 use Rattle.fast_decoder.specs.Positions.{Set, map_reader, mapped_reader, meaning, meaning_at, CanTake, IsReady, is_idle_at, is_idle}
 use Rattle.fast_decoder.specs.Decoding.{DecoderData, tree, IsSoundAt, IsFaultAt, IsAt, So, standing}
 use Rattle.fast_decoder.proofs.InHand.{open_waits}
 use Rattle.fast_decoder.proofs.Takings.{map_reader-some}
 use Rattle.fast_decoder.proofs.Waitings.{machine_waits}
-use Rattle.fast_decoder.proofs.Reading.{reading-sound}
+use Rattle.fast_stream.proofs.Reading.{reading-sound}
 
 -- between two messages or inside one
 abbrev pub end_if : Bool → End

@@ -5,16 +5,16 @@ use Rattle.std.specs.Prelude.{◌++◌, take, drop, Bool, false, IsTrue, IfOk, O
 use Rattle.std.proofs.lemmas.Bool.{cases_lt}
 use Rattle.std.proofs.lemmas.Option.{slice_get_within}
 use Rattle.fast_value.specs.Kinds.{ScalarData, U, I, Dec, AsciiText, UnicodeText, ByteVector}
-use Rattle.fast_template.specs.declared.instructions.Node.{Node}
-use Rattle.fast_template.specs.Tree.{FieldData}
-use Rattle.fast_template.specs.NodeData.{ShapeData, a_field, a_decimal, a_group, a_sequence, shape_data}
-use Rattle.fast_template.specs.Usable.{AreUsable, IsUsable, IsUsableShape}
+use Rattle.fast_tree.specs.declared.instructions.Node.{Node}
+use Rattle.fast_tree.specs.Tree.{FieldData}
+use Rattle.fast_tree.specs.NodeData.{ShapeData, a_field, a_decimal, a_group, a_sequence, shape_data}
+use Rattle.fast_tree.specs.Usable.{AreUsable, IsUsable, IsUsableShape}
 use Rattle.fast_template.proofs.UsableFields.{usable_shape}
 use Rattle.fast_dict.specs.Stores.{Terms, HasRoom}
 use Rattle.fast_dict.specs.Slots.{slots_terms}
 use Rattle.fast_dict.specs.declared.slots.Slots.{Slots}
 use Rattle.fast_decoder.specs.EntryTexts.{AnyField, SomeField, IsLongText, HasLongInitial, IsInitialText, HoldsTextAt, NeedsText}
-use Rattle.fast_decoder.specs.Settling.{HasRoomFor, Serves}
+use Rattle.fast_units.specs.Settling.{HasRoomFor, Serves}
 use Rattle.fast_decoder.specs.Serving.{ServesShape, ServesNodes}
 
 -- one of the fields of the nodes before a number is so

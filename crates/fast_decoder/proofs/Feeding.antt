@@ -5,17 +5,17 @@ use Rattle.std.proofs.lemmas.List.{length-take-le, take_rest, length-drop}
 use Rattle.std.proofs.Math.Seq.{take-add}
 use Rattle.fast_value.specs.declared.settings.Limits.{Limits}
 use Rattle.fast_value.specs.declared.codes.Code.{Code}
-use Rattle.fast_template.specs.Tree.{Tree}
+use Rattle.fast_tree.specs.Tree.{Tree}
 use Rattle.fast_dict.specs.Dictionary.{Dictionary}
-use Rattle.fast_decoder.specs.declared.faults.FaultCode.{FaultCode}
-use Rattle.fast_decoder.specs.declared.faults.FaultCode.TheVariants as Why
-use Rattle.fast_decoder.specs.Events.{EventData}
-use Rattle.fast_decoder.specs.Sinks.{Takes, TakesUpTo}
-use Rattle.fast_decoder.specs.Readers.{Reader, Done, Emit, Stop, Byte}
-use Rattle.fast_decoder.specs.Machine.{after_bytes}
-use Rattle.fast_decoder.specs.Running.{Stands, at_fault, settle, step, run, after_byte, message_begun}
+use Rattle.fast_stream.specs.declared.faults.FaultCode.{FaultCode}
+use Rattle.fast_stream.specs.declared.faults.FaultCode.TheVariants as Why
+use Rattle.fast_stream.specs.Events.{EventData}
+use Rattle.fast_stream.specs.Sinks.{Takes, TakesUpTo}
+use Rattle.fast_stream.specs.Readers.{Reader, Done, Emit, Stop, Byte}
+use Rattle.fast_stream.specs.Machine.{after_bytes}
+use Rattle.fast_stream.specs.Running.{Stands, at_fault, settle, step, run, after_byte, message_begun}
 use Rattle.fast_decoder.specs.Handing.{Hands, due, Waits, Quiet, IsTaken, stood, Leads, Took, Failed, Stopped, Fed}
-use Rattle.fast_decoder.proofs.Streams.{run-append}
+use Rattle.fast_stream.proofs.Streams.{run-append}
 use Rattle.fast_decoder.proofs.Takings.{due-waits, last_of}
 
 -- The events up to where a reader waits don't depend on where it is.

@@ -10,47 +10,47 @@ use Rattle.fast_value.specs.declared.kinds.Kind.TheVariants.{UInt32, Int32, UInt
 use Rattle.fast_value.specs.declared.codes.Code.TheVariants.{R1}
 use Rattle.fast_value.specs.Kinds.{ScalarData, integer_of, exponent_range}
 use Rattle.fast_value.specs.Limits.{Bounds, bounds}
-use Rattle.fast_template.specs.declared.operators.Operator.{Operator}
-use Rattle.fast_template.specs.declared.operators.Operator.TheVariants.{None as no_operator, Constant, Default, Copy, Increment, Delta, Tail}
-use Rattle.fast_template.specs.Numbers.{AreBelow}
-use Rattle.fast_template.specs.Sizes.{depth, body_depth}
-use Rattle.fast_template.specs.Tree.{FieldData, Body, uses_bit}
+use Rattle.fast_tree.specs.declared.operators.Operator.{Operator}
+use Rattle.fast_tree.specs.declared.operators.Operator.TheVariants.{None as no_operator, Constant, Default, Copy, Increment, Delta, Tail}
+use Rattle.fast_tree.specs.Numbers.{AreBelow}
+use Rattle.fast_tree.specs.Sizes.{depth, body_depth}
+use Rattle.fast_tree.specs.Tree.{FieldData, Body, uses_bit}
 use Rattle.fast_dict.specs.Dictionary.{Dictionary, PreviousData, previous_at}
 use Rattle.fast_dict.specs.Operators.{nothing, decide, ranged}
 use Rattle.fast_dict.specs.Stores.{Terms}
 use Rattle.fast_dict.specs.declared.slots.Slots.{Slots}
 use Rattle.fast_dict.specs.Slots.{slots_dictionary, slots_terms, slots_sized}
-use Rattle.fast_decoder.specs.declared.faults.FaultCode.{FaultCode}
-use Rattle.fast_decoder.specs.declared.faults.FaultCode.TheVariants as Why
+use Rattle.fast_stream.specs.declared.faults.FaultCode.{FaultCode}
+use Rattle.fast_stream.specs.declared.faults.FaultCode.TheVariants as Why
 use Rattle.fast_decoder.specs.declared.machine.Machine.{Machine}
 use Rattle.fast_decoder.specs.declared.machine.Turn.{Turn}
 use Rattle.fast_decoder.specs.declared.machine.Turn.TheVariants.{Silent, Handed, Waits as TurnWaits}
 use Rattle.fast_decoder.specs.declared.machine.Waiting.{Waiting}
 use Rattle.fast_decoder.specs.declared.machine.Waiting.TheVariants.{Field, Text, Mantissa}
-use Rattle.fast_decoder.specs.Events.{EventData}
-use Rattle.fast_decoder.specs.Phrases.{cut}
-use Rattle.fast_decoder.specs.Units.{ascii_text}
-use Rattle.fast_decoder.specs.Fields.{field_term}
-use Rattle.fast_decoder.specs.Grammar.{Grammar, ◌>>=◌, of_result}
-use Rattle.fast_decoder.specs.Messages.{State, Found, field_in, decimal_with}
-use Rattle.fast_decoder.specs.Continuations.{handed_then, mantissa_after_then, instruction_then, body_then}
-use Rattle.fast_decoder.specs.Frames.{resume}
-use Rattle.fast_decoder.specs.Deciding.{IsDecided}
-use Rattle.fast_decoder.specs.declared.source.Source.{Source}
-use Rattle.fast_decoder.specs.Readers.{Reader, Stop}
-use Rattle.fast_decoder.specs.Machine.{after_bytes}
-use Rattle.fast_decoder.specs.GrammarReaders.{reader_of}
-use Rattle.fast_decoder.specs.Taking.{Waits}
+use Rattle.fast_stream.specs.Events.{EventData}
+use Rattle.fast_stream.specs.Phrases.{cut}
+use Rattle.fast_stream.specs.Units.{ascii_text}
+use Rattle.fast_stream.specs.Fields.{field_term}
+use Rattle.fast_stream.specs.Grammar.{Grammar, ◌>>=◌, of_result}
+use Rattle.fast_stream.specs.Messages.{State, Found, field_in, decimal_with}
+use Rattle.fast_stream.specs.Continuations.{handed_then, mantissa_after_then, instruction_then, body_then}
+use Rattle.fast_stream.specs.Frames.{resume}
+use Rattle.fast_units.specs.Deciding.{IsDecided}
+use Rattle.fast_units.specs.declared.source.Source.{Source}
+use Rattle.fast_stream.specs.Readers.{Reader, Stop}
+use Rattle.fast_stream.specs.Machine.{after_bytes}
+use Rattle.fast_stream.specs.GrammarReaders.{reader_of}
+use Rattle.fast_units.specs.Taking.{Waits}
 use Rattle.fast_decoder.specs.Moving.{Moves}
-use Rattle.fast_decoder.specs.Settling.{Serves, value_at}
-use Rattle.fast_decoder.specs.UnitFronts.{IsAsciiFirst, IsSent}
-use Rattle.fast_decoder.specs.Scratches.{Held}
-use Rattle.fast_decoder.specs.Cursors.{CursorData, bits_left, bits_behind}
+use Rattle.fast_units.specs.Settling.{Serves, value_at}
+use Rattle.fast_units.specs.UnitFronts.{IsAsciiFirst, IsSent}
+use Rattle.fast_units.specs.Scratches.{Held}
+use Rattle.fast_cursor.specs.Cursors.{CursorData, bits_left, bits_behind}
 use Rattle.fast_decoder.specs.Passing.{IsPast, state_past, exponent_then}
 use Rattle.fast_decoder.specs.Positions.{Set, body_in, IsPlaced, IsSupplied, IsReady, CanTurn, CanTake, IsTurn, GoesOn, turning, meaning, meaning_at, state_in, frames_in, bit_of, term_at, mantissa_then, BeginsWithInteger, BeginsWithText, GoesOnWithMantissa, IsAtField, IsAtParts}
-use Rattle.fast_decoder.proofs.Frames.{at_field}
+use Rattle.fast_stream.proofs.Frames.{at_field}
 use Rattle.fast_decoder.proofs.SentFields.{field_sent_waits, field_unsent, field_at_fault}
-use Rattle.fast_decoder.proofs.Turning.{result_done}
+use Rattle.fast_units.proofs.Turning.{result_done}
 use Rattle.fast_decoder.proofs.Moves.{moves_waits, moves_fault, moves_as}
 
 -- A machine keeps what it was made with.

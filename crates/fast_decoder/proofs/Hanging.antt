@@ -3,10 +3,10 @@ use Rattle.std.proofs.Common.{refl, sym, ap, subst, inl, inr}
 use Rattle.std.specs.Prelude.{◌≡◌, Result, Ok, Err, MatchResult}
 use Rattle.fast_value.specs.declared.codes.Code.{Code}
 use Rattle.fast_dict.specs.Dictionary.{Dictionary}
-use Rattle.fast_decoder.specs.declared.faults.FaultCode.{FaultCode}
-use Rattle.fast_decoder.specs.declared.faults.FaultCode.TheVariants as Why
-use Rattle.fast_decoder.specs.Events.{EventData}
-use Rattle.fast_decoder.specs.Readers.{Reader, Done, Emit, Stop}
+use Rattle.fast_stream.specs.declared.faults.FaultCode.{FaultCode}
+use Rattle.fast_stream.specs.declared.faults.FaultCode.TheVariants as Why
+use Rattle.fast_stream.specs.Events.{EventData}
+use Rattle.fast_stream.specs.Readers.{Reader, Done, Emit, Stop}
 use Rattle.fast_decoder.specs.Handing.{Hands, Waits}
 
 module _ {S : Type 0} (takes stops : S → EventData → S → Type 0) where

@@ -2,16 +2,16 @@
 use Rattle.std.proofs.Common.{refl, sym, ap, ◌∙◌, subst, arith}
 use Rattle.std.specs.Prelude.{◌≡◌, ℕ, ◌<◌, Bool, List, [], ◌∷◌, length, drop, slice_get, Some}
 use Rattle.std.proofs.lemmas.Option.{slice_get_within}
-use Rattle.fast_template.specs.declared.instructions.FieldInstruction.{FieldInstruction}
-use Rattle.fast_template.specs.declared.instructions.Node.{Node}
-use Rattle.fast_template.specs.declared.instructions.Shape.{Shape}
-use Rattle.fast_template.specs.declared.instructions.Shape.TheVariants.{Field, Decimal, Group, Sequence}
+use Rattle.fast_tree.specs.declared.instructions.FieldInstruction.{FieldInstruction}
+use Rattle.fast_tree.specs.declared.instructions.Node.{Node}
+use Rattle.fast_tree.specs.declared.instructions.Shape.{Shape}
+use Rattle.fast_tree.specs.declared.instructions.Shape.TheVariants.{Field, Decimal, Group, Sequence}
 use Rattle.fast_template.specs.declared.sets.Templates.{Templates}
-use Rattle.fast_template.specs.Numbers.{NameLaterNodes}
-use Rattle.fast_template.specs.Tree.{step}
-use Rattle.fast_template.specs.Flat.{field_data, label_of}
-use Rattle.fast_decoder.specs.Cursors.{CursorData}
-use Rattle.fast_decoder.specs.Segments.{first_node}
+use Rattle.fast_tree.specs.Numbers.{NameLaterNodes}
+use Rattle.fast_tree.specs.Tree.{step}
+use Rattle.fast_tree.specs.Nodes.{field_data, label_of}
+use Rattle.fast_cursor.specs.Cursors.{CursorData}
+use Rattle.fast_cursor.specs.Segments.{first_node}
 use Rattle.fast_decoder.specs.Serving.{body_among, instruction_among}
 use Rattle.fast_decoder.specs.Positions.{set_of, IsAtField, IsAtParts, IsAtGroup, IsAtSequence}
 use Rattle.fast_decoder.proofs.BodyNodes.{body_step}

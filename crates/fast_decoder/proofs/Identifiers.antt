@@ -8,29 +8,29 @@ use Rattle.fast_value.specs.Limits.{Bounds}
 use Rattle.fast_value.specs.declared.codes.Code.{Code}
 use Rattle.fast_value.specs.declared.codes.Code.TheVariants.{D9, R7, R8}
 use Rattle.fast_value.specs.declared.settings.Limits.{Limits}
-use Rattle.fast_template.specs.Tree.{Instruction, identifier, message_bits}
-use Rattle.fast_template.specs.declared.instructions.Template.{Template}
-use Rattle.fast_template.specs.Flat.{field_data, template_data, instructions_from}
+use Rattle.fast_tree.specs.Tree.{Instruction, identifier, message_bits}
+use Rattle.fast_tree.specs.declared.instructions.Template.{Template}
+use Rattle.fast_tree.specs.Nodes.{field_data, template_data, instructions_from}
 use Rattle.fast_dict.specs.Dictionary.{PreviousData, Dictionary, previous_at, write_at}
 use Rattle.fast_dict.specs.Operators.{Outcome, nothing, decide}
 use Rattle.fast_dict.specs.Slots.{slots_dictionary, slots_terms, slots_sized}
 use Rattle.fast_dict.specs.Stores.{Terms}
-use Rattle.fast_decoder.specs.Cursors.{CursorData, bits_left, at_rest}
-use Rattle.fast_decoder.specs.Fields.{field_term}
-use Rattle.fast_decoder.specs.Grammar.{Grammar, narrow, ◌>>=◌, of_result}
-use Rattle.fast_decoder.specs.GrammarReaders.{settles_reader, judged_map, spare, reader_of}
-use Rattle.fast_decoder.specs.Messages.{State, begin, found, has_id, with_id, template_of}
-use Rattle.fast_decoder.specs.Continuations.{message_behind_then, message_of_then}
+use Rattle.fast_cursor.specs.Cursors.{CursorData, bits_left, at_rest}
+use Rattle.fast_stream.specs.Fields.{field_term}
+use Rattle.fast_stream.specs.Grammar.{Grammar, narrow, ◌>>=◌, of_result}
+use Rattle.fast_stream.specs.GrammarReaders.{settles_reader, judged_map, spare, reader_of}
+use Rattle.fast_stream.specs.Messages.{State, begin, found, has_id, with_id, template_of}
+use Rattle.fast_stream.specs.Continuations.{message_behind_then, message_of_then}
 use Rattle.fast_decoder.specs.Passing.{identified_then}
-use Rattle.fast_decoder.specs.Readers.{Reader, Done, Stop, bind}
-use Rattle.fast_decoder.specs.Settling.{Serves}
-use Rattle.fast_decoder.specs.Taking.{Turns, Stays}
-use Rattle.fast_decoder.specs.UnitFronts.{IsSent}
-use Rattle.fast_decoder.specs.Units.{width_checked}
+use Rattle.fast_stream.specs.Readers.{Reader, Done, Stop, bind}
+use Rattle.fast_units.specs.Settling.{Serves}
+use Rattle.fast_units.specs.Taking.{Turns, Stays}
+use Rattle.fast_units.specs.UnitFronts.{IsSent}
+use Rattle.fast_stream.specs.Units.{width_checked}
 use Rattle.fast_decoder.specs.Positions.{Set, tree_in, behind_map, bit_of, IsSupplied}
 use Rattle.fast_decoder.specs.declared.machine.Machine.{Machine}
 use Rattle.fast_decoder.proofs.SentFields.{field_sent}
-use Rattle.fast_decoder.proofs.Turning.{turns_as, turns_done, turns_stop, stays_as, stays_on}
+use Rattle.fast_units.proofs.Turning.{turns_as, turns_done, turns_stop, stays_as, stays_on}
 
 -- Two tests of one fact are the same.
 pub same_test : {P : Type 0} (b t : Bool) → (IsTrue b ↔ P) → (t ≡ true → P) × (P → t ≡ true) → b ≡ t

@@ -7,12 +7,12 @@ use Rattle.std.proofs.lemmas.Bool.Decides.{leb_tells}
 use Rattle.fast_wire.specs.Entities.{HaveNoStop, IsEntity}
 use Rattle.fast_value.specs.declared.codes.Code.{Code}
 use Rattle.fast_dict.specs.Dictionary.{Dictionary}
-use Rattle.fast_decoder.specs.Readers.{Reader, Stop, bind}
-use Rattle.fast_decoder.specs.GrammarReaders.{entity_reader}
-use Rattle.fast_decoder.specs.Machine.{after_bytes}
+use Rattle.fast_stream.specs.Readers.{Reader, Stop, bind}
+use Rattle.fast_stream.specs.GrammarReaders.{entity_reader}
+use Rattle.fast_stream.specs.Machine.{after_bytes}
 use Rattle.fast_decoder.specs.Handing.{Waits, Quiet}
-use Rattle.fast_decoder.proofs.Binds.{All-front}
-use Rattle.fast_decoder.proofs.Stepping.{after-more, entity-stays, entity-ends, entity-full}
+use Rattle.fast_stream.proofs.Binds.{All-front}
+use Rattle.fast_stream.proofs.Stepping.{after-more, entity-stays, entity-ends, entity-full}
 
 -- Bytes in front of an entity's last one have no stop bit.
 pub front_open : (front : List ℕ) (b : ℕ) (w f : List ℕ) (last : ℕ) → front ++ b ∷ w ≡ f ++ last ∷ [] → HaveNoStop f → HaveNoStop front

@@ -3,13 +3,13 @@ use Rattle.std.proofs.Common.{refl, sym, ap, ◌∙◌, subst, arith}
 use Rattle.std.specs.Prelude.{◌≡◌, ◌+◌, ◌<◌, List, [], ◌∷◌, length, Result, Ok, Err}
 use Rattle.fast_value.specs.declared.codes.Code.{Code}
 use Rattle.fast_dict.specs.Dictionary.{Dictionary}
-use Rattle.fast_decoder.specs.declared.faults.FaultCode.{FaultCode}
-use Rattle.fast_decoder.specs.declared.faults.FaultCode.TheVariants as Why
+use Rattle.fast_stream.specs.declared.faults.FaultCode.{FaultCode}
+use Rattle.fast_stream.specs.declared.faults.FaultCode.TheVariants as Why
 use Rattle.fast_decoder.specs.declared.machine.Turn.{Turn}
 use Rattle.fast_decoder.specs.declared.machine.Turn.TheVariants.{Silent, Handed, Waits as TurnWaits}
-use Rattle.fast_decoder.specs.Events.{EventData}
-use Rattle.fast_decoder.specs.Sinks.{Takes}
-use Rattle.fast_decoder.specs.Readers.{Reader, Emit, Stop}
+use Rattle.fast_stream.specs.Events.{EventData}
+use Rattle.fast_stream.specs.Sinks.{Takes}
+use Rattle.fast_stream.specs.Readers.{Reader, Emit, Stop}
 use Rattle.fast_decoder.specs.Handing.{Hands, Waits}
 use Rattle.fast_decoder.specs.Moving.{emits, events_due, Moves, Onward}
 use Rattle.fast_decoder.proofs.Hanging.{hands_waits, hands_more, hands_stopped, hands_fault, hands_as}

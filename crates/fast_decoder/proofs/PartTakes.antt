@@ -9,36 +9,36 @@ use Rattle.fast_value.specs.declared.kinds.Kind.TheVariants.{UInt32, Int32, UInt
 use Rattle.fast_value.specs.declared.settings.Limits.{Limits}
 use Rattle.fast_value.specs.Kinds.{ScalarData, value_of_text}
 use Rattle.fast_value.specs.Limits.{Bounds, bounds}
-use Rattle.fast_template.specs.Tree.{FieldData, Body}
+use Rattle.fast_tree.specs.Tree.{FieldData, Body}
 use Rattle.fast_dict.specs.Dictionary.{Dictionary, previous_at}
 use Rattle.fast_dict.specs.Operators.{Outcome}
 use Rattle.fast_dict.specs.Slots.{slots_dictionary, slots_terms}
 use Rattle.fast_dict.specs.declared.slots.Slots.{Slots}
-use Rattle.fast_decoder.specs.Events.{EventData}
-use Rattle.fast_decoder.specs.Readers.{Reader, bind}
-use Rattle.fast_decoder.specs.Grammar.{Grammar, ◌>>=◌}
-use Rattle.fast_decoder.specs.GrammarReaders.{reader_of}
-use Rattle.fast_decoder.specs.Fields.{field_term}
-use Rattle.fast_decoder.specs.Messages.{State, Found, found, field_in, decimal_with}
-use Rattle.fast_decoder.specs.Continuations.{handed_then, mantissa_after_then, sequence_from_then, segment_then, instruction_then, body_then}
-use Rattle.fast_decoder.specs.Frames.{resume}
-use Rattle.fast_decoder.specs.Machine.{after_bytes}
-use Rattle.fast_decoder.specs.Taking.{Turns, Stays}
+use Rattle.fast_stream.specs.Events.{EventData}
+use Rattle.fast_stream.specs.Readers.{Reader, bind}
+use Rattle.fast_stream.specs.Grammar.{Grammar, ◌>>=◌}
+use Rattle.fast_stream.specs.GrammarReaders.{reader_of}
+use Rattle.fast_stream.specs.Fields.{field_term}
+use Rattle.fast_stream.specs.Messages.{State, Found, found, field_in, decimal_with}
+use Rattle.fast_stream.specs.Continuations.{handed_then, mantissa_after_then, sequence_from_then, segment_then, instruction_then, body_then}
+use Rattle.fast_stream.specs.Frames.{resume}
+use Rattle.fast_stream.specs.Machine.{after_bytes}
+use Rattle.fast_units.specs.Taking.{Turns, Stays}
 use Rattle.fast_decoder.specs.Handing.{IsTaken}
-use Rattle.fast_decoder.specs.Settling.{IsSettled, IsLastUnit, value_at}
-use Rattle.fast_decoder.specs.UnitFronts.{IsSent}
+use Rattle.fast_units.specs.Settling.{IsSettled, IsLastUnit, value_at}
+use Rattle.fast_units.specs.UnitFronts.{IsSent}
 use Rattle.fast_decoder.specs.Passing.{state_past}
 use Rattle.fast_decoder.specs.Positions.{Set, tree_in, body_in, frames_in, state_in, bit_of, mantissa_then, meaning_at, meaning, turning, IsSupplied, IsReady, IsAtParts, IsAtSequence, IsTurn, CanTurn, CanTake, BeginsWithInteger, GoesOnWithMantissa}
-use Rattle.fast_decoder.specs.declared.faults.FaultCode.{FaultCode}
-use Rattle.fast_decoder.specs.declared.faults.FaultCode.TheVariants as Why
-use Rattle.fast_decoder.specs.declared.source.Source.{Source}
-use Rattle.fast_decoder.specs.declared.source.Source.TheVariants as From
-use Rattle.fast_decoder.specs.declared.progress.Progress.TheVariants.{Whole, Wrong}
+use Rattle.fast_stream.specs.declared.faults.FaultCode.{FaultCode}
+use Rattle.fast_stream.specs.declared.faults.FaultCode.TheVariants as Why
+use Rattle.fast_units.specs.declared.source.Source.{Source}
+use Rattle.fast_units.specs.declared.source.Source.TheVariants as From
+use Rattle.fast_units.specs.declared.progress.Progress.TheVariants.{Whole, Wrong}
 use Rattle.fast_decoder.specs.declared.machine.Machine.{Machine}
 use Rattle.fast_decoder.specs.declared.machine.Waiting.{Waiting}
 use Rattle.fast_decoder.specs.declared.machine.Waiting.TheVariants.{Field, Mantissa}
 use Rattle.fast_decoder.proofs.SentFields.{field_sent}
-use Rattle.fast_decoder.proofs.Turning.{turns_as, turns_done, turns_stop, stays_on, stays_as}
+use Rattle.fast_units.proofs.Turning.{turns_as, turns_done, turns_stop, stays_on, stays_as}
 use Rattle.fast_decoder.specs.Quick.{IsTakenTo}
 use Rattle.fast_decoder.specs.declared.machine.Turn.{Turn}
 use Rattle.fast_decoder.proofs.Quick.{taken_to}

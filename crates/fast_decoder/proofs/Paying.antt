@@ -2,11 +2,11 @@
 use Rattle.std.proofs.Common.{sym, ap, subst, arith}
 use Rattle.std.specs.Prelude.{◌≡◌, ℕ, ◌+◌, ◌-◌, ◌*◌, ◌≤◌, Option, None, Result, Ok, Err, OnOk}
 use Rattle.fast_value.specs.declared.settings.Limits.{Limits}
-use Rattle.fast_template.specs.Sizes.{turn_cap}
-use Rattle.fast_decoder.specs.declared.faults.Fault.{Fault}
-use Rattle.fast_decoder.specs.declared.faults.FaultCode.{FaultCode}
+use Rattle.fast_tree.specs.Sizes.{turn_cap}
+use Rattle.fast_stream.specs.declared.faults.Fault.{Fault}
+use Rattle.fast_stream.specs.declared.faults.FaultCode.{FaultCode}
 use Rattle.fast_decoder.specs.declared.machine.Machine.{Machine}
-use Rattle.fast_template.specs.Numbers.{NameLaterNodes}
+use Rattle.fast_tree.specs.Numbers.{NameLaterNodes}
 use Rattle.fast_decoder.specs.Positions.{Set, tree_in, IsSupplied, IsReady}
 use Rattle.fast_decoder.specs.TurnsLeft.{Way, most_by, HasTurnsWaiting, IsWithinMessage}
 use Rattle.fast_decoder.specs.Decoding.{DecoderData, tree, IsSoundAt, IsPaidAt, IsSound}

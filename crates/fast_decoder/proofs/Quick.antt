@@ -6,15 +6,15 @@ use Rattle.fast_wire.specs.Entities.{IsEntity}
 use Rattle.fast_value.specs.declared.codes.Code.{Code}
 use Rattle.fast_value.specs.declared.settings.Limits.{Limits}
 use Rattle.fast_dict.specs.Dictionary.{Dictionary}
-use Rattle.fast_decoder.specs.declared.faults.FaultCode.{FaultCode}
-use Rattle.fast_decoder.specs.Events.{EventData}
+use Rattle.fast_stream.specs.declared.faults.FaultCode.{FaultCode}
+use Rattle.fast_stream.specs.Events.{EventData}
 use Rattle.fast_value.specs.Limits.{bounds}
-use Rattle.fast_decoder.specs.GrammarReaders.{reader_of}
-use Rattle.fast_decoder.specs.Continuations.{message_then}
-use Rattle.fast_decoder.specs.Readers.{Reader, Done}
-use Rattle.fast_decoder.specs.Machine.{after_bytes}
+use Rattle.fast_stream.specs.GrammarReaders.{reader_of}
+use Rattle.fast_stream.specs.Continuations.{message_then}
+use Rattle.fast_stream.specs.Readers.{Reader, Done}
+use Rattle.fast_stream.specs.Machine.{after_bytes}
 use Rattle.fast_decoder.specs.Handing.{due, Hands, IsTaken}
-use Rattle.fast_decoder.specs.Taking.{Waits, Quiet, Turns}
+use Rattle.fast_units.specs.Taking.{Waits, Quiet, Turns}
 use Rattle.fast_decoder.specs.Moving.{Moves}
 use Rattle.fast_decoder.specs.Quick.{IsTakenTo}
 use Rattle.fast_decoder.specs.Positions.{Set, tree_in, CanTake, CanTurn, GoesOn, IsReady, IsSupplied, IsTurn, turning, meaning}
@@ -28,7 +28,7 @@ use Rattle.fast_decoder.specs.declared.machine.Turn.TheVariants.{Silent, Handed,
 use Rattle.fast_decoder.proofs.Takes.{quiet_behind, waits_first}
 use Rattle.fast_decoder.proofs.InHand.{entity_then, open_in_entity, whole_gives, takes_quietly}
 use Rattle.fast_decoder.proofs.Takings.{after-append, due-waits}
-use Rattle.fast_decoder.proofs.Turning.{after_run}
+use Rattle.fast_units.proofs.Turning.{after_run}
 use Rattle.fast_decoder.proofs.Moves.{hands_turned}
 
 module _ {S : Type 0} (takes stops : S → EventData → S → Type 0) (set : Set) (l : Limits) where

@@ -5,23 +5,23 @@ use Rattle.std.proofs.lemmas.Option.{slice_get_cases}
 use Rattle.fast_wire.specs.Maps.{first_bit}
 use Rattle.fast_value.specs.declared.kinds.Kind.{Kind}
 use Rattle.fast_value.specs.declared.kinds.Kind.TheVariants.{UInt32, Int32, UInt64, Int64, Ascii}
-use Rattle.fast_template.specs.declared.instructions.FieldInstruction.{FieldInstruction}
-use Rattle.fast_template.specs.declared.instructions.Node.{Node}
+use Rattle.fast_tree.specs.declared.instructions.FieldInstruction.{FieldInstruction}
+use Rattle.fast_tree.specs.declared.instructions.Node.{Node}
 use Rattle.fast_template.specs.declared.opcodes.Opcode.{Opcode}
 use Rattle.fast_template.specs.declared.opcodes.Opcode.TheVariants.{UInt32 as uint32, Int32 as int32, UInt64 as uint64, Int64 as int64, Other}
 use Rattle.fast_template.specs.declared.opcodes.Sending.{Sending}
 use Rattle.fast_template.specs.declared.opcodes.Sending.TheVariants as As
-use Rattle.fast_template.specs.declared.operators.Operator.TheVariants.{Constant}
+use Rattle.fast_tree.specs.declared.operators.Operator.TheVariants.{Constant}
 use Rattle.fast_template.specs.declared.sets.Templates.{Templates}
-use Rattle.fast_template.specs.Flat.{field_data}
+use Rattle.fast_tree.specs.Nodes.{field_data}
 use Rattle.fast_template.specs.Opcodes.{sending_operator, is_nullable, opcode_of, opcode_kind, opcode_sending, IsSentAs}
-use Rattle.fast_template.specs.Tree.{FieldData, operator_uses_bit, uses_bit}
+use Rattle.fast_tree.specs.Tree.{FieldData, operator_uses_bit, uses_bit}
 use Rattle.fast_template.proofs.OpcodeLaws.{integer_field}
-use Rattle.fast_decoder.specs.Cursors.{CursorData}
-use Rattle.fast_decoder.specs.Fields.{field_term}
-use Rattle.fast_decoder.specs.Messages.{State}
-use Rattle.fast_decoder.specs.Segments.{first_node}
-use Rattle.fast_decoder.specs.UnitFronts.{IsSent, IsAsciiFirst}
+use Rattle.fast_cursor.specs.Cursors.{CursorData}
+use Rattle.fast_stream.specs.Fields.{field_term}
+use Rattle.fast_stream.specs.Messages.{State}
+use Rattle.fast_cursor.specs.Segments.{first_node}
+use Rattle.fast_units.specs.UnitFronts.{IsSent, IsAsciiFirst}
 use Rattle.fast_decoder.specs.Positions.{set_of, bit_of, IsAtField}
 use Rattle.fast_decoder.proofs.Heads.{field_head}
 

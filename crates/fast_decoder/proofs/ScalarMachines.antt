@@ -7,49 +7,49 @@ use Rattle.fast_value.specs.declared.codes.Code.{Code}
 use Rattle.fast_value.specs.declared.settings.Limits.{Limits}
 use Rattle.fast_value.specs.Kinds.{ScalarData}
 use Rattle.fast_value.specs.Limits.{Bounds, bounds}
-use Rattle.fast_template.specs.Tree.{FieldData, Body}
+use Rattle.fast_tree.specs.Tree.{FieldData, Body}
 use Rattle.fast_dict.specs.Dictionary.{Dictionary, PreviousData, previous_at, write_at}
 use Rattle.fast_dict.specs.Operators.{Outcome}
 use Rattle.fast_dict.specs.Slots.{slots_dictionary, slots_terms}
 use Rattle.fast_dict.specs.declared.slots.Slots.{Slots}
-use Rattle.fast_decoder.specs.Events.{EventData}
-use Rattle.fast_decoder.specs.Readers.{Reader, Stop, bind}
-use Rattle.fast_decoder.specs.Grammar.{Grammar}
-use Rattle.fast_decoder.specs.GrammarReaders.{reader_of}
-use Rattle.fast_decoder.specs.Fields.{field_term}
-use Rattle.fast_decoder.specs.Messages.{found}
-use Rattle.fast_decoder.specs.Continuations.{handed_then}
-use Rattle.fast_decoder.specs.Frames.{resume}
-use Rattle.fast_decoder.specs.Machine.{after_bytes}
-use Rattle.fast_decoder.specs.Taking.{Turns, Stays}
+use Rattle.fast_stream.specs.Events.{EventData}
+use Rattle.fast_stream.specs.Readers.{Reader, Stop, bind}
+use Rattle.fast_stream.specs.Grammar.{Grammar}
+use Rattle.fast_stream.specs.GrammarReaders.{reader_of}
+use Rattle.fast_stream.specs.Fields.{field_term}
+use Rattle.fast_stream.specs.Messages.{found}
+use Rattle.fast_stream.specs.Continuations.{handed_then}
+use Rattle.fast_stream.specs.Frames.{resume}
+use Rattle.fast_stream.specs.Machine.{after_bytes}
+use Rattle.fast_units.specs.Taking.{Turns, Stays}
 use Rattle.fast_decoder.specs.Handing.{IsTaken}
 use Rattle.fast_decoder.specs.Quick.{IsTakenTo}
-use Rattle.fast_decoder.specs.Settling.{IsSettled, value_at}
-use Rattle.fast_decoder.specs.Stages.{term_behind, IsStageOf, IsFieldUnit}
-use Rattle.fast_decoder.specs.UnitFronts.{IsSent, IsBytesStage, IsEntityKept, IsNextOf, IsNextStage, SettlesOnly}
-use Rattle.fast_decoder.specs.Phrases.{cut}
-use Rattle.fast_decoder.specs.Units.{ascii_text}
+use Rattle.fast_units.specs.Settling.{IsSettled, value_at}
+use Rattle.fast_units.specs.Stages.{term_behind, IsStageOf, IsFieldUnit}
+use Rattle.fast_units.specs.UnitFronts.{IsSent, IsBytesStage, IsEntityKept, IsNextOf, IsNextStage, SettlesOnly}
+use Rattle.fast_stream.specs.Phrases.{cut}
+use Rattle.fast_stream.specs.Units.{ascii_text}
 use Rattle.fast_decoder.specs.Passing.{state_past, value_then}
 use Rattle.fast_decoder.specs.Scalars.{IsOfField, scalar_term, IsScalarUnit, CanProgress, step_then}
 use Rattle.fast_decoder.specs.Positions.{Set, tree_in, body_in, frames_in, state_in, going_on, bit_of, unit_then, term_at, front_at, meaning_at, meaning, IsMapWhole, IsPlaced, IsSupplied, IsReady, IsTurn, IsAtField, CanTake, BeginsWithInteger, BeginsWithText, GoesOnWithNumber, GoesOnWithBytes}
-use Rattle.fast_decoder.specs.declared.scratch.Scratch.{Scratch}
-use Rattle.fast_decoder.specs.declared.faults.FaultCode.{FaultCode}
-use Rattle.fast_decoder.specs.declared.faults.FaultCode.TheVariants as Why
-use Rattle.fast_decoder.specs.declared.source.Source.{Source}
-use Rattle.fast_decoder.specs.declared.stages.Stage.{Stage}
-use Rattle.fast_decoder.specs.declared.stages.Step.{Step}
-use Rattle.fast_decoder.specs.declared.stages.Step.TheVariants.{Settled, Next}
-use Rattle.fast_decoder.specs.declared.progress.Progress.{Progress}
-use Rattle.fast_decoder.specs.declared.progress.Progress.TheVariants.{Whole, Wrong, Cut}
+use Rattle.fast_units.specs.declared.scratch.Scratch.{Scratch}
+use Rattle.fast_stream.specs.declared.faults.FaultCode.{FaultCode}
+use Rattle.fast_stream.specs.declared.faults.FaultCode.TheVariants as Why
+use Rattle.fast_units.specs.declared.source.Source.{Source}
+use Rattle.fast_units.specs.declared.stages.Stage.{Stage}
+use Rattle.fast_units.specs.declared.stages.Step.{Step}
+use Rattle.fast_units.specs.declared.stages.Step.TheVariants.{Settled, Next}
+use Rattle.fast_units.specs.declared.progress.Progress.{Progress}
+use Rattle.fast_units.specs.declared.progress.Progress.TheVariants.{Whole, Wrong, Cut}
 use Rattle.fast_decoder.specs.declared.machine.Machine.{Machine}
 use Rattle.fast_decoder.specs.declared.machine.Turn.{Turn}
 use Rattle.fast_decoder.specs.declared.machine.Waiting.{Waiting}
 use Rattle.fast_decoder.specs.declared.machine.Waiting.TheVariants.{Map, Identifier, SegmentMap, Field, Text, Number, Bytes, Mantissa}
-use Rattle.fast_decoder.proofs.Grammars.{reader-then}
-use Rattle.fast_decoder.proofs.Frames.{at_field}
+use Rattle.fast_stream.proofs.Grammars.{reader-then}
+use Rattle.fast_stream.proofs.Frames.{at_field}
 use Rattle.fast_decoder.proofs.SentFields.{field_sent}
 use Rattle.fast_decoder.proofs.FieldTurns.{state_of, supplied_like}
-use Rattle.fast_decoder.proofs.Turning.{turns_as, turns_on, turns_done, turns_stop, stays_on, stays_as}
+use Rattle.fast_units.proofs.Turning.{turns_as, turns_on, turns_done, turns_stop, stays_on, stays_as}
 use Rattle.fast_decoder.proofs.Takes.{taken_fault, taken_stays}
 use Rattle.fast_decoder.proofs.Quick.{taken_to}
 

@@ -4,23 +4,23 @@ use Rattle.std.specs.Prelude.{◌≡◌, ℕ, ◌<◌, Bool, List, [], ◌∷◌
 use Rattle.std.specs.Prelude.{Vec}
 use Rattle.std.specs.Global.{Global}
 use Rattle.fast_value.specs.declared.settings.Limits.{Limits}
-use Rattle.fast_template.specs.declared.instructions.FieldInstruction.{FieldInstruction}
-use Rattle.fast_template.specs.declared.instructions.Node.{Node}
-use Rattle.fast_template.specs.declared.instructions.Shape.{Shape}
-use Rattle.fast_template.specs.declared.instructions.Shape.TheVariants as Of
-use Rattle.fast_template.specs.Nodes.{field_data, label_of}
-use Rattle.fast_template.specs.NodeData.{shape_data}
+use Rattle.fast_tree.specs.declared.instructions.FieldInstruction.{FieldInstruction}
+use Rattle.fast_tree.specs.declared.instructions.Node.{Node}
+use Rattle.fast_tree.specs.declared.instructions.Shape.{Shape}
+use Rattle.fast_tree.specs.declared.instructions.Shape.TheVariants as Of
+use Rattle.fast_tree.specs.Nodes.{field_data, label_of}
+use Rattle.fast_tree.specs.NodeData.{shape_data}
 use Rattle.fast_dict.specs.Slots.{slots_dictionary, slots_terms}
-use Rattle.fast_template.specs.Numbers.{AreBelow, NameLaterNodes}
-use Rattle.fast_template.specs.Tree.{Label, FieldData, Body, step}
-use Rattle.fast_decoder.specs.Cursors.{CursorData}
-use Rattle.fast_decoder.specs.Segments.{first_node}
-use Rattle.fast_decoder.specs.Messages.{State}
+use Rattle.fast_tree.specs.Numbers.{AreBelow, NameLaterNodes}
+use Rattle.fast_tree.specs.Tree.{Label, FieldData, Body, step}
+use Rattle.fast_cursor.specs.Cursors.{CursorData}
+use Rattle.fast_cursor.specs.Segments.{first_node}
+use Rattle.fast_stream.specs.Messages.{State}
 use Rattle.fast_decoder.specs.Serving.{ServesShape, body_among, instruction_among}
-use Rattle.fast_decoder.specs.UnitFronts.{IsSent, IsAsciiFirst}
+use Rattle.fast_units.specs.UnitFronts.{IsSent, IsAsciiFirst}
 use Rattle.fast_decoder.specs.Scalars.{IsOfField, IsOfFieldLater}
 use Rattle.fast_decoder.specs.Positions.{Set, body_in, state_in, IsSupplied, IsReady, bit_of, IsAtField, IsAtParts, IsAtSequence, BeginsWithInteger, BeginsWithText, GoesOnWithMantissa, GoesOnWithNumber, GoesOnWithBytes, CanTake}
-use Rattle.fast_decoder.specs.declared.stages.Stage.{Stage}
+use Rattle.fast_units.specs.declared.stages.Stage.{Stage}
 use Rattle.fast_decoder.specs.declared.machine.Machine.{Machine}
 use Rattle.fast_decoder.specs.declared.machine.Waiting.{Waiting}
 use Rattle.fast_decoder.specs.declared.machine.Waiting.TheVariants.{Map, Identifier, SegmentMap, Field, Text, Number, Bytes, Mantissa}

@@ -7,35 +7,35 @@ use Rattle.fast_wire.specs.Integers.{signed_range, delta_range}
 use Rattle.fast_value.specs.declared.codes.Code.TheVariants.{R1, D2}
 use Rattle.fast_value.specs.declared.settings.Limits.{Limits}
 use Rattle.fast_value.specs.Limits.{Bounds, bounds}
-use Rattle.fast_template.specs.Tree.{FieldData, Body}
+use Rattle.fast_tree.specs.Tree.{FieldData, Body}
 use Rattle.fast_dict.specs.Dictionary.{Dictionary, PreviousData, previous_at}
 use Rattle.fast_dict.specs.Operators.{kept_length, subtraction_step, decide}
 use Rattle.fast_dict.specs.Slots.{slots_dictionary}
-use Rattle.fast_decoder.specs.Events.{EventData}
-use Rattle.fast_decoder.specs.Readers.{Reader}
-use Rattle.fast_decoder.specs.Grammar.{Grammar, give, raw, ◌>>=◌, of_result}
-use Rattle.fast_decoder.specs.GrammarReaders.{reader_of}
-use Rattle.fast_decoder.specs.Fields.{text, sent_text, sent_decimal, decimal_from, mantissa_change, part_change}
-use Rattle.fast_decoder.specs.Machine.{after_bytes, stage_term}
-use Rattle.fast_decoder.specs.Phrases.{cut}
-use Rattle.fast_decoder.specs.Units.{ascii_text}
-use Rattle.fast_decoder.specs.Taking.{Waits}
-use Rattle.fast_decoder.specs.Stages.{term_behind, IsStageOf}
-use Rattle.fast_decoder.specs.UnitFronts.{IsNumberStage, IsBytesStage, IsNextStage}
+use Rattle.fast_stream.specs.Events.{EventData}
+use Rattle.fast_stream.specs.Readers.{Reader}
+use Rattle.fast_stream.specs.Grammar.{Grammar, give, raw, ◌>>=◌, of_result}
+use Rattle.fast_stream.specs.GrammarReaders.{reader_of}
+use Rattle.fast_stream.specs.Fields.{text, sent_text, sent_decimal, decimal_from, mantissa_change, part_change}
+use Rattle.fast_stream.specs.Machine.{after_bytes, stage_term}
+use Rattle.fast_stream.specs.Phrases.{cut}
+use Rattle.fast_stream.specs.Units.{ascii_text}
+use Rattle.fast_units.specs.Taking.{Waits}
+use Rattle.fast_units.specs.Stages.{term_behind, IsStageOf}
+use Rattle.fast_units.specs.UnitFronts.{IsNumberStage, IsBytesStage, IsNextStage}
 use Rattle.fast_decoder.specs.Scalars.{CanStep}
 use Rattle.fast_decoder.specs.Positions.{Set, body_in, frames_in, unit_then, meaning_at, meaning, IsSupplied, IsReady, IsTurn, CanTurn, GoesOn, IsAtField, GoesOnWithNumber, GoesOnWithBytes}
-use Rattle.fast_decoder.specs.declared.scratch.Scratch.{Scratch}
-use Rattle.fast_decoder.specs.declared.stages.Stage.{Stage}
-use Rattle.fast_decoder.specs.declared.stages.Stage.TheVariants.{Mantissa, MantissaDelta, Vector, Part, PartVector}
-use Rattle.fast_decoder.specs.declared.stages.Step.TheVariants.{Next}
+use Rattle.fast_units.specs.declared.scratch.Scratch.{Scratch}
+use Rattle.fast_units.specs.declared.stages.Stage.{Stage}
+use Rattle.fast_units.specs.declared.stages.Stage.TheVariants.{Mantissa, MantissaDelta, Vector, Part, PartVector}
+use Rattle.fast_units.specs.declared.stages.Step.TheVariants.{Next}
 use Rattle.fast_decoder.specs.declared.machine.Machine.{Machine}
-use Rattle.fast_decoder.specs.declared.faults.FaultCode.{FaultCode}
+use Rattle.fast_stream.specs.declared.faults.FaultCode.{FaultCode}
 use Rattle.fast_decoder.specs.declared.machine.Turn.{Turn}
 use Rattle.fast_decoder.specs.declared.machine.Turn.TheVariants.{Waits as TurnWaits}
 use Rattle.fast_decoder.specs.Passing.{IsPast}
 use Rattle.fast_decoder.specs.declared.machine.Waiting.{Waiting}
 use Rattle.fast_decoder.specs.declared.machine.Waiting.TheVariants as Awaits
-use Rattle.fast_decoder.proofs.Turning.{waits_on, result_done}
+use Rattle.fast_units.proofs.Turning.{waits_on, result_done}
 use Rattle.fast_decoder.proofs.SentFields.{integer_waits, text_waits, term_waits}
 use Rattle.fast_decoder.proofs.FieldTurns.{state_of, ready_at, can_turn_waits, supplied_like, like_moved, goes_on_past, turn_waits}
 use Rattle.fast_decoder.proofs.ScalarMachines.{stage_here, behind_field}

@@ -7,16 +7,16 @@ use Rattle.fast_value.specs.declared.settings.Limits.{Limits}
 use Rattle.fast_value.specs.declared.codes.Code.TheVariants.{L3}
 use Rattle.fast_dict.specs.Dictionary.{Dictionary}
 use Rattle.fast_dict.specs.Slots.{slots_dictionary}
-use Rattle.fast_decoder.specs.Cursors.{CursorData}
-use Rattle.fast_decoder.specs.Frames.{resume}
-use Rattle.fast_decoder.specs.Grammar.{Grammar, narrow}
-use Rattle.fast_decoder.specs.GrammarReaders.{settles_reader, judged_map, reader_of}
-use Rattle.fast_decoder.specs.Machine.{after_bytes}
-use Rattle.fast_decoder.specs.Readers.{Reader, bind}
+use Rattle.fast_cursor.specs.Cursors.{CursorData}
+use Rattle.fast_stream.specs.Frames.{resume}
+use Rattle.fast_stream.specs.Grammar.{Grammar, narrow}
+use Rattle.fast_stream.specs.GrammarReaders.{settles_reader, judged_map, reader_of}
+use Rattle.fast_stream.specs.Machine.{after_bytes}
+use Rattle.fast_stream.specs.Readers.{Reader, bind}
 use Rattle.fast_decoder.specs.Positions.{Set, body_in, frames_in, going_on, segment_behind, segment_reader}
 use Rattle.fast_decoder.specs.declared.machine.Machine.{Machine}
 use Rattle.fast_decoder.proofs.InHand.{entity_then}
-use Rattle.fast_decoder.proofs.Stepping.{map-entity}
+use Rattle.fast_stream.proofs.Stepping.{map-entity}
 
 module _ (set : Set) (l : Limits) (d : Dictionary) (counted : ℕ) (c : CursorData) (width : ℕ) where
   -- what is read behind a map of which so many bits are used

@@ -10,41 +10,41 @@ use Rattle.fast_value.specs.declared.settings.Limits.{Limits}
 use Rattle.fast_value.specs.declared.codes.Code.{Code}
 use Rattle.fast_value.specs.Kinds.{ScalarData, integer_of}
 use Rattle.fast_value.specs.Limits.{Bounds, bounds}
-use Rattle.fast_template.specs.Numbers.{AreBelow}
-use Rattle.fast_template.specs.Sizes.{depth, body_depth}
-use Rattle.fast_template.specs.Tree.{FieldData, Instruction, group, step, Body, bits_of}
+use Rattle.fast_tree.specs.Numbers.{AreBelow}
+use Rattle.fast_tree.specs.Sizes.{depth, body_depth}
+use Rattle.fast_tree.specs.Tree.{FieldData, Instruction, group, step, Body, bits_of}
 use Rattle.fast_dict.specs.Dictionary.{Dictionary, previous_at}
 use Rattle.fast_dict.specs.Operators.{nothing, decide}
 use Rattle.fast_dict.specs.Slots.{slots_dictionary, slots_terms}
 use Rattle.fast_dict.specs.declared.slots.Slots.{Slots}
-use Rattle.fast_decoder.specs.declared.faults.FaultCode.{FaultCode}
-use Rattle.fast_decoder.specs.declared.faults.FaultCode.TheVariants as Why
+use Rattle.fast_stream.specs.declared.faults.FaultCode.{FaultCode}
+use Rattle.fast_stream.specs.declared.faults.FaultCode.TheVariants as Why
 use Rattle.fast_decoder.specs.declared.layout.Widths.{Widths}
 use Rattle.fast_decoder.specs.declared.machine.Machine.{Machine}
 use Rattle.fast_decoder.specs.declared.machine.Turn.{Turn}
 use Rattle.fast_decoder.specs.declared.machine.Turn.TheVariants.{Silent, Handed, Waits as TurnWaits}
 use Rattle.fast_decoder.specs.declared.machine.Waiting.TheVariants.{Map, SegmentMap, Field}
-use Rattle.fast_decoder.specs.declared.source.Source.{Source}
-use Rattle.fast_decoder.specs.Events.{EventData, GroupStart, GroupEnd, SequenceStart, ElementStart, ElementEnd, MessageEnd}
-use Rattle.fast_decoder.specs.Readers.{Reader, Done, Emit, Stop}
-use Rattle.fast_decoder.specs.Grammar.{Grammar, hand, presence_map, narrow, ◌>>=◌, of_result}
-use Rattle.fast_decoder.specs.GrammarReaders.{presence_map_reader, reader_of}
-use Rattle.fast_decoder.specs.Messages.{Context, State, field_in, map_bits, within_limits, length_in}
-use Rattle.fast_decoder.specs.Continuations.{sequence_from_then, segment_then, instruction_then, body_then}
-use Rattle.fast_decoder.specs.Taking.{Waits}
-use Rattle.fast_decoder.specs.Settling.{value_at}
-use Rattle.fast_decoder.specs.UnitFronts.{IsSent}
-use Rattle.fast_decoder.specs.Deciding.{IsDecided}
-use Rattle.fast_decoder.specs.Fields.{field_term}
-use Rattle.fast_decoder.specs.Frames.{Frame, open_group, open_element, unwind, resume}
-use Rattle.fast_decoder.specs.Passing.{opened, elements_turn, state_past, length_then, elements_from}
-use Rattle.fast_decoder.specs.Cursors.{ElementsData, FrameData, CursorData, bits_behind, bits_left, at_rest, frame_here, entered, left_to}
+use Rattle.fast_units.specs.declared.source.Source.{Source}
+use Rattle.fast_stream.specs.Events.{EventData, GroupStart, GroupEnd, SequenceStart, ElementStart, ElementEnd, MessageEnd}
+use Rattle.fast_stream.specs.Readers.{Reader, Done, Emit, Stop}
+use Rattle.fast_stream.specs.Grammar.{Grammar, hand, presence_map, narrow, ◌>>=◌, of_result}
+use Rattle.fast_stream.specs.GrammarReaders.{presence_map_reader, reader_of}
+use Rattle.fast_stream.specs.Messages.{Context, State, field_in, map_bits, within_limits, length_in}
+use Rattle.fast_stream.specs.Continuations.{sequence_from_then, segment_then, instruction_then, body_then}
+use Rattle.fast_units.specs.Taking.{Waits}
+use Rattle.fast_units.specs.Settling.{value_at}
+use Rattle.fast_units.specs.UnitFronts.{IsSent}
+use Rattle.fast_units.specs.Deciding.{IsDecided}
+use Rattle.fast_stream.specs.Fields.{field_term}
+use Rattle.fast_stream.specs.Frames.{Frame, open_group, open_element, unwind, resume, opened, elements_turn}
+use Rattle.fast_decoder.specs.Passing.{state_past, length_then, elements_from}
+use Rattle.fast_cursor.specs.Cursors.{ElementsData, FrameData, CursorData, bits_behind, bits_left, at_rest, frame_here, entered, left_to}
 use Rattle.fast_decoder.specs.Positions.{Set, body_in, frame_by, frames_in, state_in, IsMapWhole, AreElementsFit, AreFramesFit, IsPlaced, IsSupplied, CanTurn, IsTurn, IsAtGroup, IsAtSequence, BeginsWithInteger, bit_of, turning, meaning}
-use Rattle.fast_decoder.proofs.Frames.{sequence-same, counting, at_end, at_group, group_turn, at_optional_group, close_group, close_element, close_message}
-use Rattle.fast_decoder.proofs.Turning.{result_done, result_stop}
+use Rattle.fast_stream.proofs.Frames.{sequence-same, counting, at_end, at_group, group_turn, at_optional_group, close_group, close_element, close_message}
+use Rattle.fast_units.proofs.Turning.{result_done, result_stop}
 use Rattle.fast_decoder.proofs.Hanging.{hands_waits, hands_more, hands_last}
 use Rattle.fast_decoder.proofs.Moves.{moves_one, moves_halt, moves_more, moves_as}
-use Rattle.fast_decoder.proofs.UnitReaders.{below-nil}
+use Rattle.fast_stream.proofs.UnitReaders.{below-nil}
 use Rattle.fast_decoder.proofs.SentFields.{field_sent_waits}
 use Rattle.fast_decoder.proofs.FieldTurns.{IsLike, supplied_like, can_turn_past, state_of, behind, field_known, field_wrong, can_turn_waits, can_turn_slots, turn_fault, turn_number}
 

@@ -8,21 +8,21 @@ use Rattle.fast_value.specs.Kinds.{Family, integers, decimals, texts, family}
 use Rattle.fast_value.specs.Limits.{Bounds}
 use Rattle.fast_value.specs.declared.codes.Code.{Code}
 use Rattle.fast_value.specs.declared.codes.Code.TheVariants.{D2, D7, R1}
-use Rattle.fast_template.specs.declared.operators.Operator.{Operator}
-use Rattle.fast_template.specs.declared.operators.Operator.TheVariants.{None as no_operator, Constant, Default, Copy, Increment, Delta, Tail}
-use Rattle.fast_template.specs.Tree.{FieldData}
+use Rattle.fast_tree.specs.declared.operators.Operator.{Operator}
+use Rattle.fast_tree.specs.declared.operators.Operator.TheVariants.{None as no_operator, Constant, Default, Copy, Increment, Delta, Tail}
+use Rattle.fast_tree.specs.Tree.{FieldData}
 use Rattle.fast_dict.specs.Dictionary.{PreviousData, previous_at}
 use Rattle.fast_dict.specs.Operators.{Outcome, nothing, decide}
-use Rattle.fast_decoder.specs.Readers.{Stop, bind}
-use Rattle.fast_decoder.specs.Grammar.{Grammar, give, integer, ascii_text, ◌>>=◌, of_result}
-use Rattle.fast_decoder.specs.GrammarReaders.{integer_reader, ascii_text_reader, reader_of}
-use Rattle.fast_decoder.specs.Fields.{text, sized, sent_integer, sent_text, decimal_from, integer_change, decimal_change, text_change, item_in, item, change_in, sent, field_by, field_term}
-use Rattle.fast_decoder.specs.Messages.{State, Found, field_in, found}
-use Rattle.fast_decoder.specs.Taking.{Waits}
-use Rattle.fast_decoder.specs.UnitFronts.{IsSent}
+use Rattle.fast_stream.specs.Readers.{Stop, bind}
+use Rattle.fast_stream.specs.Grammar.{Grammar, give, integer, ascii_text, ◌>>=◌, of_result}
+use Rattle.fast_stream.specs.GrammarReaders.{integer_reader, ascii_text_reader, reader_of}
+use Rattle.fast_stream.specs.Fields.{text, sized, sent_integer, sent_text, decimal_from, integer_change, decimal_change, text_change, item_in, item, change_in, sent, field_by, field_term}
+use Rattle.fast_stream.specs.Messages.{State, Found, field_in, found}
+use Rattle.fast_units.specs.Taking.{Waits}
+use Rattle.fast_units.specs.UnitFronts.{IsSent}
 use Rattle.fast_decoder.specs.Positions.{bit_of}
-use Rattle.fast_decoder.proofs.Grammars.{bind-assoc, reader-then}
-use Rattle.fast_decoder.proofs.Turning.{waits_on}
+use Rattle.fast_stream.proofs.Grammars.{bind-assoc, reader-then}
+use Rattle.fast_units.proofs.Turning.{waits_on}
 
 -- A term that begins with an integer or a text waits, whatever follows it.
 pub integer_waits : {A : Type 0} (s : Bool) (range : Range) (nullable : Bool) (c : Code) (g : Option ℤ → Grammar A) → Waits (reader_of s (integer range nullable c g))

@@ -4,37 +4,37 @@ use Rattle.std.specs.Prelude.{slice_get, ◌≡◌, ◌≢◌, true, ℕ, List, 
 use Rattle.fast_value.specs.Kinds.{ScalarData}
 use Rattle.fast_value.specs.Limits.{bounds}
 use Rattle.fast_value.specs.declared.settings.Limits.{Limits}
-use Rattle.fast_template.specs.Flat.{field_data}
-use Rattle.fast_template.specs.Tree.{FieldData}
-use Rattle.fast_template.specs.declared.instructions.FieldInstruction.{FieldInstruction}
-use Rattle.fast_template.specs.declared.instructions.Node.{Node}
-use Rattle.fast_template.specs.declared.instructions.Shape.TheVariants as Shape
+use Rattle.fast_tree.specs.Nodes.{field_data}
+use Rattle.fast_tree.specs.Tree.{FieldData}
+use Rattle.fast_tree.specs.declared.instructions.FieldInstruction.{FieldInstruction}
+use Rattle.fast_tree.specs.declared.instructions.Node.{Node}
+use Rattle.fast_tree.specs.declared.instructions.Shape.TheVariants as Shape
 use Rattle.fast_template.specs.declared.sets.Templates.{Templates}
 use Rattle.fast_dict.specs.Dictionary.{Dictionary, previous_at}
 use Rattle.fast_dict.specs.Slots.{slots_dictionary, slots_terms}
 use Rattle.fast_dict.specs.declared.slots.Slots.{Slots}
-use Rattle.fast_decoder.specs.Fields.{field_term}
-use Rattle.fast_decoder.specs.Segments.{first_node}
-use Rattle.fast_decoder.specs.Events.{EventData}
-use Rattle.fast_decoder.specs.Deciding.{number_data, source_of}
-use Rattle.fast_decoder.specs.GrammarReaders.{reader_of}
+use Rattle.fast_stream.specs.Fields.{field_term}
+use Rattle.fast_cursor.specs.Segments.{first_node}
+use Rattle.fast_stream.specs.Events.{EventData}
+use Rattle.fast_units.specs.Deciding.{number_data, source_of}
+use Rattle.fast_stream.specs.GrammarReaders.{reader_of}
 use Rattle.fast_decoder.specs.Moving.{Moves}
 use Rattle.fast_decoder.specs.Passing.{IsPast, value_then}
 use Rattle.fast_decoder.specs.Positions.{Set, set_of, CanTurn, IsReady, meaning, turning}
 use Rattle.fast_decoder.specs.Quick.{IsTakenTo, IsSentItem}
-use Rattle.fast_decoder.specs.Readers.{Reader}
-use Rattle.fast_decoder.specs.Settling.{IsLastUnit, value_at}
-use Rattle.fast_decoder.specs.declared.faults.FaultCode.{FaultCode}
-use Rattle.fast_decoder.specs.declared.fields.Number.{Number}
+use Rattle.fast_stream.specs.Readers.{Reader}
+use Rattle.fast_units.specs.Settling.{IsLastUnit, value_at}
+use Rattle.fast_stream.specs.declared.faults.FaultCode.{FaultCode}
+use Rattle.fast_units.specs.declared.fields.Number.{Number}
 use Rattle.fast_decoder.specs.declared.machine.Machine.{Machine}
 use Rattle.fast_decoder.specs.declared.machine.Turn.{Turn}
 use Rattle.fast_decoder.specs.declared.machine.Turn.TheVariants.{Waits}
 use Rattle.fast_decoder.specs.declared.machine.Waiting.TheVariants as Waiting
-use Rattle.fast_decoder.specs.declared.progress.Progress.TheVariants.{Whole}
-use Rattle.fast_decoder.specs.declared.stages.Step.TheVariants.{Settled}
+use Rattle.fast_units.specs.declared.progress.Progress.TheVariants.{Whole}
+use Rattle.fast_units.specs.declared.stages.Step.TheVariants.{Settled}
 use Rattle.fast_decoder.specs.declared.turns.Turns.{Turns}
 use Rattle.fast_decoder.proofs.Carrying.{supplied-turns}
-use Rattle.fast_decoder.proofs.Deciding.{item_value}
+use Rattle.fast_units.proofs.Deciding.{item_value}
 use Rattle.fast_decoder.proofs.FieldTurns.{can_turn_slots, meaning_field}
 use Rattle.fast_decoder.proofs.Heads.{field_head}
 use Rattle.fast_decoder.proofs.Quick.{taken_to, can_take_field, can_turn_field}

@@ -8,24 +8,24 @@ use Rattle.fast_value.specs.declared.settings.Limits.{Limits}
 use Rattle.fast_value.specs.declared.codes.Code.TheVariants.{L3}
 use Rattle.fast_dict.specs.Dictionary.{Dictionary}
 use Rattle.fast_dict.specs.Slots.{slots_dictionary}
-use Rattle.fast_decoder.specs.Cursors.{CursorData}
-use Rattle.fast_decoder.specs.Grammar.{Grammar, narrow}
-use Rattle.fast_decoder.specs.GrammarReaders.{spare, reader_of}
-use Rattle.fast_decoder.specs.MapTaking.{IsMapTaken}
-use Rattle.fast_decoder.specs.Taking.{Turns}
+use Rattle.fast_cursor.specs.Cursors.{CursorData}
+use Rattle.fast_stream.specs.Grammar.{Grammar, narrow}
+use Rattle.fast_stream.specs.GrammarReaders.{spare, reader_of}
+use Rattle.fast_cursor.specs.MapTaking.{IsMapTaken}
+use Rattle.fast_units.specs.Taking.{Turns}
 use Rattle.fast_decoder.specs.Positions.{Set, going_on, segment_behind, CanTake, CanTurn, IsPlaced, IsReady, turning}
 use Rattle.fast_decoder.specs.TurnsLeft.{Way, HasTurns, IsWithinTurns}
 use Rattle.fast_decoder.specs.declared.machine.Machine.{Machine}
 use Rattle.fast_decoder.specs.declared.machine.Waiting.{Waiting}
 use Rattle.fast_decoder.specs.declared.machine.Waiting.TheVariants.{SegmentMap}
-use Rattle.fast_decoder.specs.declared.pending.MapFront.TheVariants.{Whole}
+use Rattle.fast_cursor.specs.declared.pending.MapFront.TheVariants.{Whole}
 use Rattle.fast_decoder.specs.declared.turns.Turns.{Turns as TurnCount}
 use Rattle.fast_decoder.proofs.FieldTurns.{supplied_like}
 use Rattle.fast_decoder.proofs.Identifiers.{map_judged, narrow-fits}
 use Rattle.fast_decoder.proofs.InHand.{entity_then, open_in_entity, whole_gives, takes_quietly}
 use Rattle.fast_decoder.proofs.SegmentMaps.{segment_judged, segment-reader, segment_same}
 use Rattle.fast_decoder.proofs.TurnCounts.{one_unit}
-use Rattle.fast_decoder.proofs.Turning.{turns_as}
+use Rattle.fast_units.proofs.Turning.{turns_as}
 
 -- One byte has none to spare,
 spare_short : (w : List ℕ) → length w ≤ 1 → spare w ≡ false

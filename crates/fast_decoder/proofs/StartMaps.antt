@@ -9,25 +9,25 @@ use Rattle.fast_value.specs.declared.codes.Code.TheVariants.{L3}
 use Rattle.fast_value.specs.declared.kinds.Kind.{Kind}
 use Rattle.fast_value.specs.declared.kinds.Kind.TheVariants.{UInt32}
 use Rattle.fast_value.specs.Kinds.{ScalarData}
-use Rattle.fast_template.specs.Tree.{identifier, message_bits}
-use Rattle.fast_template.specs.declared.instructions.Template.{Template}
-use Rattle.fast_template.specs.Flat.{template_data, instructions_from}
+use Rattle.fast_tree.specs.Tree.{identifier, message_bits}
+use Rattle.fast_tree.specs.declared.instructions.Template.{Template}
+use Rattle.fast_tree.specs.Nodes.{template_data, instructions_from}
 use Rattle.fast_dict.specs.Dictionary.{Dictionary, PreviousData, assigned, previous_at, write_at}
 use Rattle.fast_dict.specs.Operators.{Outcome, decide, nothing}
 use Rattle.fast_dict.specs.Slots.{slots_dictionary}
-use Rattle.fast_decoder.specs.Cursors.{CursorData, at_rest}
-use Rattle.fast_decoder.specs.GrammarReaders.{reader_of}
-use Rattle.fast_decoder.specs.MapTaking.{IsMapTaken}
-use Rattle.fast_decoder.specs.Messages.{State, begin}
-use Rattle.fast_decoder.specs.Continuations.{message_then, message_behind_then, message_of_then}
+use Rattle.fast_cursor.specs.Cursors.{CursorData, at_rest}
+use Rattle.fast_stream.specs.GrammarReaders.{reader_of}
+use Rattle.fast_cursor.specs.MapTaking.{IsMapTaken}
+use Rattle.fast_stream.specs.Messages.{State, begin}
+use Rattle.fast_stream.specs.Continuations.{message_then, message_behind_then, message_of_then}
 use Rattle.fast_decoder.specs.Passing.{state_past}
-use Rattle.fast_decoder.specs.Taking.{Turns}
+use Rattle.fast_units.specs.Taking.{Turns}
 use Rattle.fast_decoder.specs.Positions.{Set, tree_in, behind_map, mapped_reader, CanTake, IsBehindMap, IsReady}
 use Rattle.fast_decoder.specs.TurnsLeft.{Way, most_by, HasTurnsInMap, turns_begun}
 use Rattle.fast_decoder.specs.declared.machine.Machine.{Machine}
 use Rattle.fast_decoder.specs.declared.machine.Waiting.{Waiting}
 use Rattle.fast_decoder.specs.declared.machine.Waiting.TheVariants.{Map}
-use Rattle.fast_decoder.specs.declared.pending.MapFront.TheVariants.{Whole}
+use Rattle.fast_cursor.specs.declared.pending.MapFront.TheVariants.{Whole}
 use Rattle.fast_decoder.specs.declared.turns.Turns.{Turns as TurnCount}
 use Rattle.fast_decoder.proofs.FieldTurns.{supplied_like}
 use Rattle.fast_decoder.proofs.Identifiers.{map_judged, narrow-fits, named_first, behind_known, identifier_unsent, decided_unsent, identified_by}
@@ -35,7 +35,7 @@ use Rattle.fast_decoder.proofs.InHand.{entity_then, open_in_entity, whole_gives,
 use Rattle.fast_decoder.proofs.SentFields.{field_unsent}
 use Rattle.fast_decoder.proofs.ShortMaps.{judged_short, fits_short, length_one}
 use Rattle.fast_decoder.proofs.Takings.{map-reader}
-use Rattle.fast_decoder.proofs.Turning.{turns_as}
+use Rattle.fast_units.proofs.Turning.{turns_as}
 
 -- The first bit of a byte that has the stop bit alone of its upper two.
 pub first_clear : (w : List ℕ) → 128 ≤ get_or w 0 0 → get_or w 0 0 < 192 → first_bit (bits (take 1 w)) ≡ false

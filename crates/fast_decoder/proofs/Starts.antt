@@ -5,14 +5,14 @@ use Rattle.std.proofs.lemmas.List.Elements.{All-nil}
 use Rattle.fast_wire.specs.Entities.{HaveNoStop}
 use Rattle.fast_wire.specs.Maps.{map_limit}
 use Rattle.fast_value.specs.declared.settings.Limits.{Limits}
-use Rattle.fast_template.specs.Numbers.{NameLaterNodes}
+use Rattle.fast_tree.specs.Numbers.{NameLaterNodes}
 use Rattle.fast_dict.specs.Dictionary.{fresh}
 use Rattle.fast_dict.specs.Slots.{slots_dictionary}
 use Rattle.fast_decoder.specs.declared.machine.Machine.{Machine}
 use Rattle.fast_decoder.specs.declared.machine.Waiting.{Waiting}
-use Rattle.fast_decoder.specs.Cursors.{CursorData, at_rest}
-use Rattle.fast_decoder.specs.Readers.{Done}
-use Rattle.fast_decoder.specs.Running.{at_start}
+use Rattle.fast_cursor.specs.Cursors.{CursorData, at_rest}
+use Rattle.fast_stream.specs.Readers.{Done}
+use Rattle.fast_stream.specs.Running.{at_start}
 use Rattle.fast_decoder.specs.Handing.{stood}
 use Rattle.fast_decoder.specs.Positions.{Set, meaning, meaning_at, map_reader, CanTake, IsSupplied, IsReady, IsFresh}
 use Rattle.fast_decoder.specs.Decoding.{DecoderData, IsSoundAt, IsPaidAt, IsSound, IsAt, So}

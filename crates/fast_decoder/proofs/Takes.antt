@@ -4,19 +4,19 @@ use Rattle.std.specs.Prelude.{◌≡◌, ℕ, ◌<◌, ◌≤◌, List, [], ◌�
 use Rattle.std.proofs.lemmas.List.{take_all, length-take-le}
 use Rattle.fast_value.specs.declared.settings.Limits.{Limits}
 use Rattle.fast_value.specs.declared.codes.Code.{Code}
-use Rattle.fast_template.specs.Tree.{Tree}
+use Rattle.fast_tree.specs.Tree.{Tree}
 use Rattle.fast_dict.specs.Dictionary.{Dictionary}
-use Rattle.fast_decoder.specs.declared.faults.FaultCode.{FaultCode}
-use Rattle.fast_decoder.specs.declared.faults.FaultCode.TheVariants as Why
-use Rattle.fast_decoder.specs.Events.{EventData}
-use Rattle.fast_decoder.specs.Readers.{Reader, Stop}
-use Rattle.fast_decoder.specs.Machine.{after_bytes}
-use Rattle.fast_decoder.specs.Running.{after_byte}
+use Rattle.fast_stream.specs.declared.faults.FaultCode.{FaultCode}
+use Rattle.fast_stream.specs.declared.faults.FaultCode.TheVariants as Why
+use Rattle.fast_stream.specs.Events.{EventData}
+use Rattle.fast_stream.specs.Readers.{Reader, Stop}
+use Rattle.fast_stream.specs.Machine.{after_bytes}
+use Rattle.fast_stream.specs.Running.{after_byte}
 use Rattle.fast_decoder.specs.Handing.{Hands, IsTaken, due}
-use Rattle.fast_decoder.specs.Taking.{Waits, Quiet, Turns, Stays}
+use Rattle.fast_units.specs.Taking.{Waits, Quiet, Turns, Stays}
 use Rattle.fast_decoder.proofs.Hanging.{hands_waits, hands_fault, hands_as}
 use Rattle.fast_decoder.proofs.Takings.{due-waits}
-use Rattle.fast_decoder.proofs.Turning.{after_run}
+use Rattle.fast_units.proofs.Turning.{after_run}
 
 -- Behind a front that is in hand the reader is quiet under the rest.
 pub quiet_behind : {A : Type 0} (r : Reader A) (u v : List ℕ) → Quiet r (u ++ v) → Quiet (after_bytes r u) v

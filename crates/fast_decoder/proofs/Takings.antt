@@ -8,21 +8,21 @@ use Rattle.fast_value.specs.declared.settings.Limits.{Limits}
 use Rattle.fast_value.specs.Limits.{bounds}
 use Rattle.fast_value.specs.declared.codes.Code.{Code}
 use Rattle.fast_value.specs.declared.codes.Code.TheVariants.{L3}
-use Rattle.fast_template.specs.Tree.{Tree}
+use Rattle.fast_tree.specs.Tree.{Tree}
 use Rattle.fast_dict.specs.Dictionary.{Dictionary}
-use Rattle.fast_decoder.specs.declared.faults.FaultCode.{FaultCode}
-use Rattle.fast_decoder.specs.declared.faults.FaultCode.TheVariants as Why
-use Rattle.fast_decoder.specs.Events.{EventData}
-use Rattle.fast_decoder.specs.Readers.{Reader}
-use Rattle.fast_decoder.specs.GrammarReaders.{reader_of}
-use Rattle.fast_decoder.specs.Continuations.{message_then}
-use Rattle.fast_decoder.specs.Machine.{after_bytes}
-use Rattle.fast_decoder.specs.Running.{after_byte}
+use Rattle.fast_stream.specs.declared.faults.FaultCode.{FaultCode}
+use Rattle.fast_stream.specs.declared.faults.FaultCode.TheVariants as Why
+use Rattle.fast_stream.specs.Events.{EventData}
+use Rattle.fast_stream.specs.Readers.{Reader}
+use Rattle.fast_stream.specs.GrammarReaders.{reader_of}
+use Rattle.fast_stream.specs.Continuations.{message_then}
+use Rattle.fast_stream.specs.Machine.{after_bytes}
+use Rattle.fast_stream.specs.Running.{after_byte}
 use Rattle.fast_decoder.specs.Handing.{Hands, due, Waits, Quiet, IsTaken}
 use Rattle.fast_decoder.specs.Positions.{Set, tree_in, behind_map, mapped_reader, map_reader}
 use Rattle.fast_decoder.proofs.Hanging.{hands_waits, hands_fault, hands_as}
 use Rattle.fast_decoder.proofs.InHand.{entity_then, IsOpenBefore, open_in_open, open_waits, full_stops, takes_quietly}
-use Rattle.fast_decoder.proofs.Stepping.{map-entity}
+use Rattle.fast_stream.proofs.Stepping.{map-entity}
 
 -- Bytes in two runs.
 pub after-append : (r : Reader Dictionary) (u v : List ℕ) → after_bytes r (u ++ v) ≡ after_bytes (after_bytes r u) v

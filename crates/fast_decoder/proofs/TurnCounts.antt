@@ -7,11 +7,11 @@ use Rattle.fast_value.specs.declared.settings.Limits.{Limits}
 use Rattle.fast_value.specs.Limits.{bounds}
 use Rattle.fast_value.specs.declared.codes.Code.{Code}
 use Rattle.fast_value.specs.declared.codes.Code.TheVariants.{L2, L5}
-use Rattle.fast_template.specs.Tree.{Tree, Label, FieldData, Instruction, field, parts, group, sequence, Body, step, TemplateData}
-use Rattle.fast_template.specs.Sizes.{turn_weights, size, body_size, outer, body_outer, widest, body_widest, greatest, product_cap, sum_cap, turn_cap}
-use Rattle.fast_template.specs.declared.instructions.Template.{Template}
-use Rattle.fast_template.specs.Flat.{template_data, instructions_from}
-use Rattle.fast_decoder.specs.declared.faults.FaultCode.{FaultCode}
+use Rattle.fast_tree.specs.Tree.{Tree, Label, FieldData, Instruction, field, parts, group, sequence, Body, step, TemplateData}
+use Rattle.fast_tree.specs.Sizes.{turn_weights, size, body_size, outer, body_outer, widest, body_widest, greatest, product_cap, sum_cap, turn_cap}
+use Rattle.fast_tree.specs.declared.instructions.Template.{Template}
+use Rattle.fast_tree.specs.Nodes.{template_data, instructions_from}
+use Rattle.fast_stream.specs.declared.faults.FaultCode.{FaultCode}
 use Rattle.fast_decoder.specs.declared.machine.Machine.{Machine}
 use Rattle.fast_decoder.specs.declared.machine.Turn.{Turn}
 use Rattle.fast_decoder.specs.declared.machine.Turn.TheVariants.{Silent, Handed, Waits}
@@ -19,8 +19,8 @@ use Rattle.fast_decoder.specs.declared.turns.Turns.{Turns}
 use Rattle.fast_decoder.specs.Passing.{IsPast}
 use Rattle.fast_decoder.specs.declared.machine.Waiting.{Waiting}
 use Rattle.fast_decoder.specs.declared.machine.Waiting.TheVariants.{Map, Identifier, SegmentMap, Field, Text, Number, Bytes, Mantissa}
-use Rattle.fast_decoder.specs.Cursors.{ElementsData, FrameData, CursorData, entered, left_to}
-use Rattle.fast_decoder.specs.Messages.{within_limits}
+use Rattle.fast_cursor.specs.Cursors.{ElementsData, FrameData, CursorData, entered, left_to}
+use Rattle.fast_stream.specs.Messages.{within_limits}
 use Rattle.fast_decoder.specs.Positions.{Set, tree_in, body_in, IsFresh}
 use Rattle.fast_decoder.specs.TurnsLeft.{Way, by_sequence, by_message, most_by, body_turns, AreWithin, elements_turns, AreElementsWithin, frames_turns, AreFramesWithin, turns_left, IsWithinTurns, HasTurns, HasTurnsInMap, HasTurnsAt, HasTurnsWaiting, HasTurnsBehind, HasTurnsAfter, turns_begun, turns_begun_at, IsWithinMessage}
 use Rattle.fast_decoder.proofs.SegmentTurns.{some_frame}

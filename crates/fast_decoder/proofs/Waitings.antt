@@ -7,37 +7,37 @@ use Rattle.fast_value.specs.declared.settings.Limits.{Limits}
 use Rattle.fast_value.specs.declared.kinds.Kind.{Kind}
 use Rattle.fast_value.specs.declared.kinds.Kind.TheVariants.{UInt32, Int32, Int64, Ascii}
 use Rattle.fast_value.specs.Limits.{Bounds, bounds}
-use Rattle.fast_template.specs.declared.instructions.Node.{Node}
-use Rattle.fast_template.specs.declared.instructions.Shape.{Shape}
-use Rattle.fast_template.specs.declared.instructions.Shape.TheVariants.{Field as FieldShape, Decimal, Group, Sequence}
-use Rattle.fast_template.specs.Numbers.{AreBelow, NameLaterNodes}
-use Rattle.fast_template.specs.NodeData.{shape_data}
-use Rattle.fast_template.specs.Tree.{Label, FieldData, identifier, Body, step}
-use Rattle.fast_template.specs.Flat.{field_data, label_of}
+use Rattle.fast_tree.specs.declared.instructions.Node.{Node}
+use Rattle.fast_tree.specs.declared.instructions.Shape.{Shape}
+use Rattle.fast_tree.specs.declared.instructions.Shape.TheVariants.{Field as FieldShape, Decimal, Group, Sequence}
+use Rattle.fast_tree.specs.Numbers.{AreBelow, NameLaterNodes}
+use Rattle.fast_tree.specs.NodeData.{shape_data}
+use Rattle.fast_tree.specs.Tree.{Label, FieldData, identifier, Body, step}
+use Rattle.fast_tree.specs.Nodes.{field_data, label_of}
 use Rattle.fast_dict.specs.Dictionary.{Dictionary}
 use Rattle.fast_dict.specs.Slots.{slots_dictionary, slots_terms}
 use Rattle.fast_dict.specs.Stores.{Terms}
-use Rattle.fast_decoder.specs.Fields.{field_term}
-use Rattle.fast_decoder.specs.Grammar.{Grammar, narrow, ◌>>=◌}
-use Rattle.fast_decoder.specs.Messages.{State, Found, begin, field_in, found, decimal_with}
-use Rattle.fast_decoder.specs.Readers.{bind}
-use Rattle.fast_decoder.specs.GrammarReaders.{reader_of}
-use Rattle.fast_decoder.specs.Continuations.{handed_then, message_behind_then}
-use Rattle.fast_decoder.specs.Frames.{Frame, resume}
-use Rattle.fast_decoder.specs.Taking.{Waits, Stays}
+use Rattle.fast_stream.specs.Fields.{field_term}
+use Rattle.fast_stream.specs.Grammar.{Grammar, narrow, ◌>>=◌}
+use Rattle.fast_stream.specs.Messages.{State, Found, begin, field_in, found, decimal_with}
+use Rattle.fast_stream.specs.Readers.{bind}
+use Rattle.fast_stream.specs.GrammarReaders.{reader_of}
+use Rattle.fast_stream.specs.Continuations.{handed_then, message_behind_then}
+use Rattle.fast_stream.specs.Frames.{Frame, resume}
+use Rattle.fast_units.specs.Taking.{Waits, Stays}
 use Rattle.fast_decoder.specs.Serving.{body_among, instruction_among, ServesShape}
-use Rattle.fast_decoder.specs.Stages.{term_behind}
-use Rattle.fast_decoder.specs.UnitFronts.{IsSent, IsAsciiFirst}
+use Rattle.fast_units.specs.Stages.{term_behind}
+use Rattle.fast_units.specs.UnitFronts.{IsSent, IsAsciiFirst}
 use Rattle.fast_decoder.specs.Positions.{Set, tree_in, body_in, frames_in, state_in, bit_of, unit_then, mantissa_then, term_at, front_at, unit_reader, meaning, meaning_at, BeginsWithInteger, BeginsWithText, GoesOnWithMantissa, GoesOnWithNumber, GoesOnWithBytes, CanTake, IsReady}
-use Rattle.fast_decoder.specs.declared.stages.Stage.{Stage}
+use Rattle.fast_units.specs.declared.stages.Stage.{Stage}
 use Rattle.fast_decoder.specs.declared.machine.Machine.{Machine}
 use Rattle.fast_decoder.specs.declared.machine.Waiting.{Waiting}
 use Rattle.fast_decoder.specs.declared.machine.Waiting.TheVariants.{Map, Identifier, SegmentMap, Field, Text, Number, Bytes, Mantissa}
 use Rattle.fast_decoder.proofs.BodyNodes.{body_step}
-use Rattle.fast_decoder.proofs.Frames.{at_field, at_parts, at_sequence, mantissa_turn, sequence_turn}
+use Rattle.fast_stream.proofs.Frames.{at_field, at_parts, at_sequence, mantissa_turn, sequence_turn}
 use Rattle.fast_decoder.proofs.SentFields.{before, field_then, field_sent}
-use Rattle.fast_decoder.proofs.Turning.{stays_on, stays_as, term_stays}
-use Rattle.fast_decoder.proofs.OpenUnits.{IsOpen, map_open, field_open, ascii_field_open, number_open, bytes_open}
+use Rattle.fast_units.proofs.Turning.{stays_on, stays_as, term_stays}
+use Rattle.fast_units.proofs.OpenUnits.{IsOpen, map_open, field_open, ascii_field_open, number_open, bytes_open}
 
 -- A field that begins with an integer, in front of what follows it.
 integer_field : {A : Type 0} (s : Bool) (l : Bounds) (f : FieldData) (st : State) (k : Found → Grammar A) (w : List ℕ) → IsSent f (bit_of f st) → ¬ (IsAsciiFirst f) → IsOpen w → Stays (reader_of s (field_in l f st >>= k)) w

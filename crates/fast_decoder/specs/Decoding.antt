@@ -2,19 +2,19 @@
 use Rattle.std.specs.Prelude.{◌≡◌, ◌⊎◌, ℕ, ◌+◌, ◌*◌, ◌<◌, ◌≤◌, ◌^◌, ◌&&◌, is_none, List, ◌++◌, length, take, Option, Some, None, Result, Ok, Err, vec_len}
 use Rattle.fast_wire.specs.Maps.{map_limit}
 use Rattle.fast_value.specs.declared.settings.Limits.{Limits}
-use Rattle.fast_template.specs.Tree.{Tree}
-use Rattle.fast_template.specs.Numbers.{NameLaterNodes}
+use Rattle.fast_tree.specs.Tree.{Tree}
+use Rattle.fast_tree.specs.Numbers.{NameLaterNodes}
 use Rattle.fast_dict.specs.Dictionary.{Dictionary}
-use Rattle.fast_decoder.specs.declared.faults.Fault.{Fault}
-use Rattle.fast_decoder.specs.declared.faults.FaultCode.{FaultCode}
-use Rattle.fast_decoder.specs.declared.faults.FaultCode.TheVariants as Why
+use Rattle.fast_stream.specs.declared.faults.Fault.{Fault}
+use Rattle.fast_stream.specs.declared.faults.FaultCode.{FaultCode}
+use Rattle.fast_stream.specs.declared.faults.FaultCode.TheVariants as Why
 use Rattle.fast_decoder.specs.declared.machine.Machine.{Machine}
-use Rattle.fast_decoder.specs.Events.{EventData}
-use Rattle.fast_decoder.specs.Sinks.{Takes, TakesUpTo}
-use Rattle.fast_decoder.specs.Streams.{End, Stream}
-use Rattle.fast_decoder.specs.Standing.{Stored, Standing}
-use Rattle.fast_decoder.specs.Readers.{AreBytes}
-use Rattle.fast_decoder.specs.Running.{Stands, at_fault, reading}
+use Rattle.fast_stream.specs.Events.{EventData}
+use Rattle.fast_stream.specs.Sinks.{Takes, TakesUpTo}
+use Rattle.fast_stream.specs.Streams.{End, Stream}
+use Rattle.fast_stream.specs.Standing.{Stored, Standing}
+use Rattle.fast_stream.specs.Readers.{AreBytes}
+use Rattle.fast_stream.specs.Running.{Stands, at_fault, reading}
 use Rattle.fast_decoder.specs.Positions.{Set, tree_in, meaning, IsSupplied, IsReady, is_idle}
 use Rattle.fast_decoder.specs.Handing.{stood}
 use Rattle.fast_decoder.specs.TurnsLeft.{IsWithinMessage}

@@ -1,9 +1,9 @@
 -- Which texts the dictionary of a set has to hold.
 use Rattle.std.specs.Prelude.{◌≡◌, ◌⊎◌, ℕ, ◌<◌, List, length, slice_get, Option, Some, None}
 use Rattle.fast_value.specs.Kinds.{ScalarData, family, texts, text_of}
-use Rattle.fast_template.specs.declared.instructions.Node.{Node}
-use Rattle.fast_template.specs.Tree.{FieldData}
-use Rattle.fast_template.specs.NodeData.{ShapeData, a_field, a_decimal, a_group, a_sequence, shape_data}
+use Rattle.fast_tree.specs.declared.instructions.Node.{Node}
+use Rattle.fast_tree.specs.Tree.{FieldData}
+use Rattle.fast_tree.specs.NodeData.{ShapeData, a_field, a_decimal, a_group, a_sequence, shape_data}
 use Rattle.fast_dict.specs.Stores.{IsText}
 
 -- one of the fields of a shape is so

@@ -3,18 +3,18 @@ use Rattle.std.specs.Prelude.{◌≡◌, ◌⊎◌, ℕ, ◌+◌, ◌<◌, ◌�
 use Rattle.fast_value.specs.declared.settings.Limits.{Limits}
 use Rattle.fast_value.specs.Limits.{bounds}
 use Rattle.fast_value.specs.declared.codes.Code.{Code}
-use Rattle.fast_template.specs.Tree.{Tree}
-use Rattle.fast_decoder.specs.declared.faults.FaultCode.{FaultCode}
-use Rattle.fast_decoder.specs.declared.faults.FaultCode.TheVariants as Why
+use Rattle.fast_tree.specs.Tree.{Tree}
+use Rattle.fast_stream.specs.declared.faults.FaultCode.{FaultCode}
+use Rattle.fast_stream.specs.declared.faults.FaultCode.TheVariants as Why
 use Rattle.fast_dict.specs.Dictionary.{Dictionary}
-use Rattle.fast_decoder.specs.Events.{EventData}
-use Rattle.fast_decoder.specs.Sinks.{Takes, TakesUpTo}
-use Rattle.fast_decoder.specs.Readers.{Reader, Done, Emit, Stop, Byte}
-use Rattle.fast_decoder.specs.GrammarReaders.{reader_of}
-use Rattle.fast_decoder.specs.Continuations.{message_then}
-use Rattle.fast_decoder.specs.Machine.{after_bytes}
-pub use Rattle.fast_decoder.specs.Taking.{Waits, Quiet}
-use Rattle.fast_decoder.specs.Running.{Stands, at_start, amid, at_fault, after_byte, run, message_begun}
+use Rattle.fast_stream.specs.Events.{EventData}
+use Rattle.fast_stream.specs.Sinks.{Takes, TakesUpTo}
+use Rattle.fast_stream.specs.Readers.{Reader, Done, Emit, Stop, Byte}
+use Rattle.fast_stream.specs.GrammarReaders.{reader_of}
+use Rattle.fast_stream.specs.Continuations.{message_then}
+use Rattle.fast_stream.specs.Machine.{after_bytes}
+pub use Rattle.fast_units.specs.Taking.{Waits, Quiet}
+use Rattle.fast_stream.specs.Running.{Stands, at_start, amid, at_fault, after_byte, run, message_begun}
 
 -- The sink takes, one after the other, the events that the reader hands over before it waits or ends, and this is what is
 -- left of the reader; or the reader stops at its fault; or the sink stops at one of the events.

@@ -1,12 +1,12 @@
 -- How a machine moves on without a byte.
 use Rattle.std.specs.Prelude.{◌≡◌, ℕ, suc, List, [], ◌∷◌, Result, Ok, Err}
 use Rattle.fast_dict.specs.Dictionary.{Dictionary}
-use Rattle.fast_decoder.specs.declared.faults.FaultCode.{FaultCode}
+use Rattle.fast_stream.specs.declared.faults.FaultCode.{FaultCode}
 use Rattle.fast_decoder.specs.declared.machine.Turn.{Turn}
 use Rattle.fast_decoder.specs.declared.machine.Turn.TheVariants.{Silent, Handed, Waits}
-use Rattle.fast_decoder.specs.Events.{EventData}
-use Rattle.fast_decoder.specs.Sinks.{Takes}
-use Rattle.fast_decoder.specs.Readers.{Reader, Done, Emit, Stop, Byte}
+use Rattle.fast_stream.specs.Events.{EventData}
+use Rattle.fast_stream.specs.Sinks.{Takes}
+use Rattle.fast_stream.specs.Readers.{Reader, Done, Emit, Stop, Byte}
 use Rattle.fast_decoder.specs.Handing.{Hands}
 
 -- a reader that hands these events over first

@@ -1,17 +1,17 @@
 -- What a machine's turns leave of its cursor.
 use Rattle.std.specs.Prelude.{◌≡◌, ℕ, zero, suc, ℤ, if◌then◌else◌, List, ◌∷◌, drop}
 use Rattle.fast_wire.specs.Maps.{later_bits}
-use Rattle.fast_template.specs.Tree.{FieldData, identifier, uses_bit, Body}
+use Rattle.fast_tree.specs.Tree.{FieldData, identifier, uses_bit, Body}
 use Rattle.fast_dict.specs.Dictionary.{Dictionary}
 use Rattle.fast_value.specs.Kinds.{ScalarData}
 use Rattle.fast_value.specs.Limits.{Bounds}
 use Rattle.std.specs.Prelude.{Option}
-use Rattle.fast_decoder.specs.Grammar.{Grammar, hand, ◌>>=◌}
-use Rattle.fast_decoder.specs.Events.{SequenceEnd, ElementStart}
-use Rattle.fast_decoder.specs.Messages.{Context, State, own_bits, decimal_with}
-use Rattle.fast_decoder.specs.Continuations.{handed_then, mantissa_after_then, segment_then, body_then, sequence_from_then, message_behind_then}
-use Rattle.fast_decoder.specs.Frames.{Frame, open_element, resume}
-use Rattle.fast_decoder.specs.Cursors.{CursorData, bits_left}
+use Rattle.fast_stream.specs.Grammar.{Grammar, hand, ◌>>=◌}
+use Rattle.fast_stream.specs.Events.{SequenceEnd, ElementStart}
+use Rattle.fast_stream.specs.Messages.{Context, State, own_bits, decimal_with}
+use Rattle.fast_stream.specs.Continuations.{handed_then, mantissa_after_then, segment_then, body_then, sequence_from_then, message_behind_then}
+use Rattle.fast_stream.specs.Frames.{Frame, open_element, resume}
+use Rattle.fast_cursor.specs.Cursors.{CursorData, bits_left}
 use Rattle.fast_decoder.specs.Positions.{Set, tree_in, body_in, frames_in, state_in}
 
 -- The cursor is past the next instruction, and bits may have been used.
@@ -39,15 +39,6 @@ length_then set l n v f body d counted c =
 abbrev pub segment_opened : Set → Bounds → Dictionary → ℕ → CursorData → Grammar Dictionary
 segment_opened set l d counted c =
     own_bits (body_in set c.left) >>= (λ b. resume l (frames_in set c.frames) (body_in set c.left) (record { context = record { dictionary = d; counted = counted }; bits = b }))
-
--- a segment that begins
-abbrev pub opened : Bounds → List Frame → Body → Context → Grammar Dictionary
-opened l fs body c = own_bits body >>= (λ b. resume l fs body (record { context = c; bits = b }))
-
--- a sequence that goes on with so many elements
-abbrev pub elements_turn : Bounds → List Frame → ℕ → Body → Body → State → Grammar Dictionary
-elements_turn l fs zero body is s = hand SequenceEnd (resume l fs is s)
-elements_turn l fs (suc n) body is s = hand ElementStart (opened l (open_element n body is s.bits ∷ fs) body s.context)
 
 -- What is still to be read of a sequence from its elements on: so many elements, behind which this segment goes on.
 abbrev pub elements_from : Set → Bounds → ℕ → List ℕ → Dictionary → ℕ → CursorData → Grammar Dictionary

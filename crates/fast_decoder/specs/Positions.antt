@@ -4,33 +4,33 @@ use Rattle.fast_wire.specs.Entities.{HaveNoStop, IsEntity}
 use Rattle.fast_wire.specs.Maps.{map_limit, bits, first_bit}
 use Rattle.fast_value.specs.declared.settings.Limits.{Limits}
 use Rattle.fast_value.specs.Limits.{Bounds, bounds}
-use Rattle.fast_template.specs.declared.instructions.Node.{Node}
-use Rattle.fast_template.specs.declared.instructions.Template.{Template}
-use Rattle.fast_template.specs.Numbers.{AreBelow}
-use Rattle.fast_template.specs.Sizes.{body_depth, set_depth}
-use Rattle.fast_template.specs.Tree.{Label, FieldData, identifier, uses_bit, field, parts, group, sequence, Body, step, bits_of, Tree}
+use Rattle.fast_tree.specs.declared.instructions.Node.{Node}
+use Rattle.fast_tree.specs.declared.instructions.Template.{Template}
+use Rattle.fast_tree.specs.Numbers.{AreBelow}
+use Rattle.fast_tree.specs.Sizes.{body_depth, set_depth}
+use Rattle.fast_tree.specs.Tree.{Label, FieldData, identifier, uses_bit, field, parts, group, sequence, Body, step, bits_of, Tree}
 use Rattle.fast_template.specs.declared.sets.Templates.{Templates}
 use Rattle.fast_template.specs.Flat.{field_data, instructions_from, template_data, templates_of, nodes_of}
 use Rattle.fast_dict.specs.Dictionary.{Dictionary, fresh, previous_at}
 use Rattle.fast_dict.specs.Slots.{slots_dictionary, slots_terms}
-use Rattle.fast_decoder.specs.Events.{EventData}
+use Rattle.fast_stream.specs.Events.{EventData}
 use Rattle.fast_decoder.specs.Moving.{Moves}
-use Rattle.fast_decoder.specs.Phrases.{cut}
-use Rattle.fast_decoder.specs.Units.{ascii_text}
-use Rattle.fast_decoder.specs.Grammar.{Grammar, presence_map, narrow, ◌>>=◌}
-use Rattle.fast_decoder.specs.Messages.{State, begin, field_in, found, decimal_with}
-use Rattle.fast_decoder.specs.Readers.{Reader, Done, bind}
-use Rattle.fast_decoder.specs.GrammarReaders.{settles_reader, judged_map, reader_of}
-use Rattle.fast_decoder.specs.Continuations.{handed_then, message_behind_then, message_then}
-use Rattle.fast_decoder.specs.Frames.{Frame, open_group, open_element, resume}
-use Rattle.fast_decoder.specs.Machine.{after_bytes}
-use Rattle.fast_decoder.specs.Cursors.{ElementsData, FrameData, CursorData, bits_behind, bits_left, at_rest}
+use Rattle.fast_stream.specs.Phrases.{cut}
+use Rattle.fast_stream.specs.Units.{ascii_text}
+use Rattle.fast_stream.specs.Grammar.{Grammar, presence_map, narrow, ◌>>=◌}
+use Rattle.fast_stream.specs.Messages.{State, begin, field_in, found, decimal_with}
+use Rattle.fast_stream.specs.Readers.{Reader, Done, bind}
+use Rattle.fast_stream.specs.GrammarReaders.{settles_reader, judged_map, reader_of}
+use Rattle.fast_stream.specs.Continuations.{handed_then, message_behind_then, message_then}
+use Rattle.fast_stream.specs.Frames.{Frame, open_group, open_element, resume}
+use Rattle.fast_stream.specs.Machine.{after_bytes}
+use Rattle.fast_cursor.specs.Cursors.{ElementsData, FrameData, CursorData, bits_behind, bits_left, at_rest}
 use Rattle.fast_decoder.specs.Serving.{ServesNodes, body_among, AreNodeWidths, AreTemplateWidths}
-use Rattle.fast_decoder.specs.Stages.{term_behind, IsStageOf}
-use Rattle.fast_decoder.specs.UnitFronts.{IsSent, IsAsciiFirst, IsNumberStage, IsBytesStage}
-use Rattle.fast_decoder.specs.declared.stages.Stage.{Stage}
+use Rattle.fast_units.specs.Stages.{term_behind, IsStageOf}
+use Rattle.fast_units.specs.UnitFronts.{IsSent, IsAsciiFirst, IsNumberStage, IsBytesStage}
+use Rattle.fast_units.specs.declared.stages.Stage.{Stage}
 use Rattle.fast_decoder.specs.declared.machine.Machine.{Machine}
-use Rattle.fast_decoder.specs.declared.faults.FaultCode.{FaultCode}
+use Rattle.fast_stream.specs.declared.faults.FaultCode.{FaultCode}
 use Rattle.fast_decoder.specs.declared.machine.Turn.{Turn}
 use Rattle.fast_decoder.specs.declared.machine.Turn.TheVariants.{Silent, Handed, Waits}
 use Rattle.fast_decoder.specs.declared.machine.Waiting.{Waiting}

@@ -2,25 +2,25 @@
 use Rattle.std.specs.Prelude.{◌≡◌, ℕ, ◌<◌, ◌≤◌, true, List, [], length, take, Option, Result}
 use Rattle.fast_value.specs.declared.settings.Limits.{Limits}
 use Rattle.fast_value.specs.Limits.{bounds}
-use Rattle.fast_template.specs.Tree.{FieldData}
+use Rattle.fast_tree.specs.Tree.{FieldData}
 use Rattle.fast_dict.specs.Dictionary.{Dictionary, previous_at}
 use Rattle.fast_dict.specs.Slots.{slots_dictionary, slots_terms}
-use Rattle.fast_decoder.specs.Deciding.{source_of}
-use Rattle.fast_decoder.specs.Fields.{field_term}
-use Rattle.fast_decoder.specs.GrammarReaders.{reader_of}
-use Rattle.fast_decoder.specs.Settling.{IsLastUnit}
-use Rattle.fast_decoder.specs.Events.{EventData}
-use Rattle.fast_decoder.specs.Readers.{Reader}
-use Rattle.fast_decoder.specs.Machine.{after_bytes}
-use Rattle.fast_decoder.specs.Taking.{Quiet}
+use Rattle.fast_units.specs.Deciding.{source_of}
+use Rattle.fast_stream.specs.Fields.{field_term}
+use Rattle.fast_stream.specs.GrammarReaders.{reader_of}
+use Rattle.fast_units.specs.Settling.{IsLastUnit}
+use Rattle.fast_stream.specs.Events.{EventData}
+use Rattle.fast_stream.specs.Readers.{Reader}
+use Rattle.fast_stream.specs.Machine.{after_bytes}
+use Rattle.fast_units.specs.Taking.{Quiet}
 use Rattle.fast_decoder.specs.Handing.{due}
 use Rattle.fast_decoder.specs.Positions.{Set, tree_in, IsAtField, IsReady, IsTurn}
-use Rattle.fast_decoder.specs.declared.faults.FaultCode.{FaultCode}
+use Rattle.fast_stream.specs.declared.faults.FaultCode.{FaultCode}
 use Rattle.fast_decoder.specs.declared.machine.Machine.{Machine}
 use Rattle.fast_decoder.specs.declared.machine.Turn.{Turn}
 use Rattle.fast_decoder.specs.declared.machine.Waiting.TheVariants.{Field}
-use Rattle.fast_decoder.specs.declared.fields.Number.{Number}
-use Rattle.fast_decoder.specs.declared.progress.Progress.TheVariants.{Whole}
+use Rattle.fast_units.specs.declared.fields.Number.{Number}
+use Rattle.fast_units.specs.declared.progress.Progress.TheVariants.{Whole}
 
 -- A machine that has the reader still to read takes some of the bytes, of which only the last hands something over, and a turn
 -- behind them ends so.

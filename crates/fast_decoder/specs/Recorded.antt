@@ -1,7 +1,7 @@
 -- What a recorder keeps.
 use Rattle.std.specs.Prelude.{List, map}
 use Rattle.fast_value.specs.Values.{value_data}
-use Rattle.fast_decoder.specs.Events.{EventData, MessageStart, FieldValue, GroupStart, GroupEnd, SequenceStart, ElementStart, ElementEnd, SequenceEnd, MessageEnd}
+use Rattle.fast_stream.specs.Events.{EventData, MessageStart, FieldValue, GroupStart, GroupEnd, SequenceStart, ElementStart, ElementEnd, SequenceEnd, MessageEnd}
 use Rattle.fast_decoder.specs.declared.recorder.Recorded.{Recorded}
 use Rattle.fast_decoder.specs.declared.recorder.Recorded.TheVariants as Kept
 use Rattle.fast_decoder.specs.declared.recorder.Recorder.{Recorder}

@@ -2,22 +2,22 @@
 use Rattle.std.specs.Prelude.{◌≡◌, ℕ, true, List, ◌++◌}
 use Rattle.fast_value.specs.declared.settings.Limits.{Limits}
 use Rattle.fast_value.specs.Limits.{Bounds, bounds}
-use Rattle.fast_template.specs.Tree.{FieldData}
+use Rattle.fast_tree.specs.Tree.{FieldData}
 use Rattle.fast_dict.specs.Dictionary.{Dictionary, PreviousData, previous_at}
 use Rattle.fast_dict.specs.Operators.{Outcome}
 use Rattle.fast_dict.specs.Slots.{slots_dictionary}
-use Rattle.fast_decoder.specs.Grammar.{Grammar}
-use Rattle.fast_decoder.specs.GrammarReaders.{reader_of}
-use Rattle.fast_decoder.specs.Fields.{field_term}
-use Rattle.fast_decoder.specs.Settling.{value_at}
-use Rattle.fast_decoder.specs.Stages.{term_behind, IsStageOf, IsFieldUnit}
-use Rattle.fast_decoder.specs.UnitFronts.{IsSent, IsNextStage}
+use Rattle.fast_stream.specs.Grammar.{Grammar}
+use Rattle.fast_stream.specs.GrammarReaders.{reader_of}
+use Rattle.fast_stream.specs.Fields.{field_term}
+use Rattle.fast_units.specs.Settling.{value_at}
+use Rattle.fast_units.specs.Stages.{term_behind, IsStageOf, IsFieldUnit}
+use Rattle.fast_units.specs.UnitFronts.{IsSent, IsNextStage}
 use Rattle.fast_decoder.specs.Passing.{value_then}
 use Rattle.fast_decoder.specs.Positions.{Set, body_in, frames_in, state_in, bit_of, unit_then, front_at, CanTurn, IsSupplied, IsReady}
-use Rattle.fast_decoder.specs.declared.stages.Step.{Step}
-use Rattle.fast_decoder.specs.declared.stages.Step.TheVariants.{Settled, Next}
-use Rattle.fast_decoder.specs.declared.progress.Progress.{Progress}
-use Rattle.fast_decoder.specs.declared.progress.Progress.TheVariants.{Whole, Wrong, Cut}
+use Rattle.fast_units.specs.declared.stages.Step.{Step}
+use Rattle.fast_units.specs.declared.stages.Step.TheVariants.{Settled, Next}
+use Rattle.fast_units.specs.declared.progress.Progress.{Progress}
+use Rattle.fast_units.specs.declared.progress.Progress.TheVariants.{Whole, Wrong, Cut}
 use Rattle.fast_decoder.specs.declared.machine.Machine.{Machine}
 use Rattle.fast_decoder.specs.declared.machine.Waiting.{Waiting}
 use Rattle.fast_decoder.specs.declared.machine.Waiting.TheVariants.{Map, Identifier, SegmentMap, Field, Text, Number, Bytes, Mantissa}

@@ -1,16 +1,16 @@
 -- A dictionary that serves all fields of a set, and the widths of its segments.
 use Rattle.std.specs.Prelude.{◌≡◌, ℕ, List, length, slice_get, slice_index, Some}
 use Rattle.fast_value.specs.declared.kinds.Kind.TheVariants.{UInt32, Int32, Int64}
-use Rattle.fast_template.specs.declared.instructions.Node.{Node}
-use Rattle.fast_template.specs.declared.instructions.Template.{Template}
-use Rattle.fast_template.specs.declared.instructions.Shape.{Shape}
-use Rattle.fast_template.specs.declared.instructions.Shape.TheVariants.{Field, Decimal, Group, Sequence}
-use Rattle.fast_template.specs.Tree.{Label, Instruction, field, parts, group, sequence, Body, bits_of, message_bits}
-use Rattle.fast_template.specs.Nodes.{field_data, body_of, instructions_from, template_data}
-use Rattle.fast_template.specs.NodeData.{ShapeData, a_field, a_decimal, a_group, a_sequence, shape_data}
-use Rattle.fast_template.specs.Numbers.{numbers_of}
+use Rattle.fast_tree.specs.declared.instructions.Node.{Node}
+use Rattle.fast_tree.specs.declared.instructions.Template.{Template}
+use Rattle.fast_tree.specs.declared.instructions.Shape.{Shape}
+use Rattle.fast_tree.specs.declared.instructions.Shape.TheVariants.{Field, Decimal, Group, Sequence}
+use Rattle.fast_tree.specs.Tree.{Label, Instruction, field, parts, group, sequence, Body, bits_of, message_bits}
+use Rattle.fast_tree.specs.Nodes.{field_data, body_of, instructions_from, template_data}
+use Rattle.fast_tree.specs.NodeData.{ShapeData, a_field, a_decimal, a_group, a_sequence, shape_data}
+use Rattle.fast_tree.specs.Numbers.{numbers_of}
 use Rattle.fast_dict.specs.Stores.{Terms}
-use Rattle.fast_decoder.specs.Settling.{Serves}
+use Rattle.fast_units.specs.Settling.{Serves}
 
 -- It serves the fields of the shape; the parts of decimals and the lengths of sequences are integers.
 abbrev pub ServesShape : ℕ → Terms → ShapeData → Type 0

@@ -1,15 +1,15 @@
 -- How many turns a machine can still take in a message, and that they are within a number of turns.
 use Rattle.std.specs.Prelude.{ℕ, ◌+◌, ◌*◌, ◌-◌, ◌≤◌, List, [], ◌∷◌, Option, Some, None, Result, Ok, Err}
 use Rattle.fast_value.specs.declared.settings.Limits.{Limits}
-use Rattle.fast_template.specs.Tree.{Body, Tree}
-use Rattle.fast_template.specs.Sizes.{turn_weights, body_size, body_outer, body_widest, product_cap, sum_cap}
-use Rattle.fast_decoder.specs.declared.faults.FaultCode.{FaultCode}
+use Rattle.fast_tree.specs.Tree.{Body, Tree}
+use Rattle.fast_tree.specs.Sizes.{turn_weights, body_size, body_outer, body_widest, product_cap, sum_cap}
+use Rattle.fast_stream.specs.declared.faults.FaultCode.{FaultCode}
 use Rattle.fast_decoder.specs.declared.machine.Machine.{Machine}
 use Rattle.fast_decoder.specs.declared.machine.Turn.{Turn}
 use Rattle.fast_decoder.specs.declared.machine.Turn.TheVariants.{Silent, Handed, Waits}
 use Rattle.fast_decoder.specs.declared.machine.Waiting.{Waiting}
 use Rattle.fast_decoder.specs.declared.machine.Waiting.TheVariants.{Map, Identifier, SegmentMap, Field, Text, Number, Bytes, Mantissa}
-use Rattle.fast_decoder.specs.Cursors.{ElementsData, FrameData, CursorData, entered}
+use Rattle.fast_cursor.specs.Cursors.{ElementsData, FrameData, CursorData, entered}
 use Rattle.fast_decoder.specs.Positions.{Set, tree_in, body_in}
 
 -- What bounds the elements of a message: the limit on each sequence, or the limit on all of them together.

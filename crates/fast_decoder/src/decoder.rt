@@ -2,18 +2,17 @@
 
 ghost use Rattle.std.specs.Prelude.{◌≡◌, ◌≢◌, ◌↔◌, ◌⊎◌, ℕ, ◌+◌, ◌-◌, ◌*◌, ◌<◌, ◌≤◌, ◌^◌, List, [], ◌∷◌, length, IfOk, IsOk, IsSome, None, Some, Err};
 ghost use Rattle.fast_template.specs.Flat.{tree_of, nodes_of};
-ghost use Rattle.fast_template.specs.Sizes.{message_cap, turn_cap, stored_cap};
+ghost use Rattle.fast_tree.specs.Sizes.{message_cap, turn_cap, stored_cap};
 ghost use Rattle.fast_decoder.specs.EntryTexts.{HasLongInitial};
-ghost use Rattle.fast_decoder.specs.Events.{EventData};
-ghost use Rattle.fast_decoder.specs.Streams.{End};
-ghost use Rattle.fast_decoder.specs.Begins.{Begins};
-ghost use Rattle.fast_decoder.specs.Standing.{StandsAfter, standing_at, held};
+ghost use Rattle.fast_stream.specs.Events.{EventData};
+ghost use Rattle.fast_stream.specs.Streams.{End};
+ghost use Rattle.fast_stream.specs.Begins.{Begins};
+ghost use Rattle.fast_stream.specs.Standing.{StandsAfter, standing_at, held};
 ghost use Rattle.fast_decoder.specs.Decoding.{DecoderData, tree, AreBadLimits, IsUncounted, So, turns, stored, standing, answer, Carried};
 
-use crate::events::Sink;
-use crate::faults::{Fault, FaultCode, MakeError};
 use crate::layout::has_long_initial;
 use crate::machine::Machine;
+use fast_stream::{Fault, FaultCode, MakeError, Sink};
 use fast_template::Templates;
 use fast_value::Limits;
 use std::alloc::Global;

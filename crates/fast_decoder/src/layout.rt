@@ -3,11 +3,11 @@
 ghost use Rattle.std.specs.Prelude.{◌≡◌, ◌⊎◌, ◌↔◌, ℕ, ◌<◌, ◌≤◌, ◌^◌, ◌-◌, List, length, slice_index_or, false, Some, IsTrue, IfOk};
 ghost use Rattle.fast_value.specs.Kinds.{family, texts, text_of};
 ghost use Rattle.fast_value.specs.Values.{value_data};
-ghost use Rattle.fast_template.specs.Tree.{Label, Instruction, uses_bit, bits_used, bits_of};
+ghost use Rattle.fast_tree.specs.Tree.{Label, Instruction, uses_bit, bits_used, bits_of};
 ghost use Rattle.fast_template.specs.Flat.{tree_of, nodes_of, templates_of, field_data, instruction_of};
-ghost use Rattle.fast_template.specs.NodeData.{shape_data};
-ghost use Rattle.fast_template.specs.Numbers.{AreBelow, numbers_of};
-ghost use Rattle.fast_template.specs.Usable.{IsUsableShape};
+ghost use Rattle.fast_tree.specs.NodeData.{shape_data};
+ghost use Rattle.fast_tree.specs.Numbers.{AreBelow, numbers_of};
+ghost use Rattle.fast_tree.specs.Usable.{IsUsableShape};
 ghost use Rattle.fast_dict.specs.Dictionary.{fresh};
 ghost use Rattle.fast_dict.specs.Slots.{slots_dictionary, slots_terms};
 ghost use Rattle.fast_dict.specs.Stores.{IsText};

@@ -5,13 +5,13 @@
 
 ghost use Rattle.std.specs.Prelude.{◌≡◌};
 
-use crate::cursor::Cursor;
 use crate::layout::Widths;
-use crate::scratch::Scratch;
-use crate::stages::Stage;
 use crate::turns::Turns;
+use fast_cursor::cursor::Cursor;
 use fast_dict::Slots;
 use fast_template::FieldInstruction;
+use fast_units::scratch::Scratch;
+use fast_units::stages::Stage;
 use fast_wire::Entity;
 
 /// Which unit a machine waits for.

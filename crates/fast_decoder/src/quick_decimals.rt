@@ -3,26 +3,26 @@
 ghost use Rattle.std.specs.Prelude.{◌≡◌, ◌≢◌, ◌+◌, ℕ, true, List, [], length, Ok, IfSome, IfNone};
 ghost use Rattle.fast_wire.specs.Words.{IsShortEntity};
 ghost use Rattle.fast_value.specs.Limits.{Bounds};
-ghost use Rattle.fast_template.specs.Flat.{field_data};
+ghost use Rattle.fast_tree.specs.Nodes.{field_data};
 ghost use Rattle.fast_dict.specs.Dictionary.{previous_at};
 ghost use Rattle.fast_dict.specs.Slots.{slots_dictionary, slots_terms};
-ghost use Rattle.fast_decoder.specs.Fields.{field_term};
-ghost use Rattle.fast_decoder.specs.GrammarReaders.{reader_of};
-ghost use Rattle.fast_decoder.specs.Settling.{Serves, IsLastUnit};
-ghost use Rattle.fast_decoder.specs.Deciding.{source_of};
+ghost use Rattle.fast_stream.specs.Fields.{field_term};
+ghost use Rattle.fast_stream.specs.GrammarReaders.{reader_of};
+ghost use Rattle.fast_units.specs.Settling.{Serves, IsLastUnit};
+ghost use Rattle.fast_units.specs.Deciding.{source_of};
 ghost use Rattle.fast_decoder.specs.Quick.{IsTakenTo};
 ghost use Rattle.fast_decoder.specs.Positions.{set_of, IsReady, meaning};
 ghost use Rattle.fast_decoder.specs.TurnsLeft.{Way, HasTurns, HasTurnsBehind};
 
-use crate::events::Sink;
-use crate::fields::{Number, source_of};
 use crate::machine::{Machine, Turn, Waiting};
-use crate::progress::Progress;
 use crate::quick_units::Quick;
-use crate::short_integers::{delta_item, signed_item};
 use crate::turns::Turns;
 use fast_dict::Slots;
+use fast_stream::Sink;
 use fast_template::{FieldInstruction, Operator, Shape, Templates};
+use fast_units::fields::{Number, source_of};
+use fast_units::progress::Progress;
+use fast_units::short_integers::{delta_item, signed_item};
 use fast_value::{Kind, Limits};
 use fast_wire::{ShortEntity, short_entity};
 

@@ -4,18 +4,18 @@ ghost use Rattle.std.specs.Prelude.{◌≡◌, ◌≢◌, ◌+◌, ◌<◌, ℕ,
 ghost use Rattle.fast_value.specs.declared.kinds.Kind.{Kind};
 ghost use Rattle.fast_value.specs.Kinds.{U};
 ghost use Rattle.fast_template.specs.Flat.{templates_of};
-ghost use Rattle.fast_template.specs.declared.instructions.Template.{Template};
+ghost use Rattle.fast_tree.specs.declared.instructions.Template.{Template};
 ghost use Rattle.fast_dict.specs.Dictionary.{assigned, previous_at};
 ghost use Rattle.fast_dict.specs.Slots.{slots_dictionary};
 ghost use Rattle.fast_decoder.specs.Quick.{IsTakenTo};
 ghost use Rattle.fast_decoder.specs.Positions.{set_of, tree_in, IsReady, meaning};
 ghost use Rattle.fast_decoder.specs.TurnsLeft.{Way, HasTurns, HasTurnsInMap, HasTurnsBehind, turns_begun};
 
-use crate::events::Sink;
 use crate::machine::{Machine, Turn, Waiting};
 use crate::quick_units::Quick;
 use crate::turns::Turns;
 use fast_dict::Entry;
+use fast_stream::Sink;
 use fast_template::Templates;
 use fast_value::Limits;
 

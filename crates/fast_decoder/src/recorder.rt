@@ -1,6 +1,6 @@
 //! A sink that keeps what it takes.
 
-use crate::events::{Event, Sink, Stop};
+use fast_stream::{Event, Sink, Stop};
 use fast_value::Value;
 use std::alloc::{AllocError, Global};
 
@@ -45,7 +45,7 @@ pub enum Recorded {
 
 impl Recorded {
     ghost use Rattle.std.specs.Prelude.{◌≡◌, IfOk};
-    ghost use Rattle.fast_decoder.specs.Handed.{event_data};
+    ghost use Rattle.fast_stream.specs.Handed.{event_data};
     ghost use Rattle.fast_decoder.specs.Recorded.{recorded_data};
 
     /// The same event in memory of its own.

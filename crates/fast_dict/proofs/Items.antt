@@ -3,8 +3,8 @@ use Rattle.std.proofs.Common.{◌≡◌, ℕ, List, subst}
 use Rattle.std.specs.Prelude.{Option, Some, None, Result, Ok, IfNone}
 use Rattle.fast_value.specs.Kinds.{ScalarData, text_of}
 use Rattle.fast_value.specs.declared.codes.Code.{Code}
-use Rattle.fast_template.specs.declared.operators.Operator.TheVariants.{Tail}
-use Rattle.fast_template.specs.Tree.{FieldData}
+use Rattle.fast_tree.specs.declared.operators.Operator.TheVariants.{Tail}
+use Rattle.fast_tree.specs.Tree.{FieldData}
 use Rattle.fast_dict.specs.Dictionary.{PreviousData}
 use Rattle.fast_dict.specs.Operators.{Sent, tail_base}
 use Rattle.fast_dict.specs.Rule.{SentBy, SentFor, IsTail}

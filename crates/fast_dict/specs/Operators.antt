@@ -7,9 +7,9 @@ use Rattle.fast_value.specs.declared.kinds.Kind.TheVariants.{Unicode}
 use Rattle.fast_value.specs.Kinds.{IsWithin, Range, signed_range, exponent_range, ScalarData, Dec, Family, integers, decimals, texts, family, value_of_integer, value_of_text, integer_of, text_of, exponent_of, mantissa_of, same_kind}
 use Rattle.fast_value.specs.declared.codes.Code.{Code}
 use Rattle.fast_value.specs.declared.codes.Code.TheVariants.{D2, D4, D5, D6, D7, R1, R2}
-use Rattle.fast_template.specs.declared.operators.Operator.{Operator}
-use Rattle.fast_template.specs.declared.operators.Operator.TheVariants.{None as no_operator, Constant, Default, Copy, Increment, Delta, Tail}
-use Rattle.fast_template.specs.Tree.{FieldData}
+use Rattle.fast_tree.specs.declared.operators.Operator.{Operator}
+use Rattle.fast_tree.specs.declared.operators.Operator.TheVariants.{None as no_operator, Constant, Default, Copy, Increment, Delta, Tail}
+use Rattle.fast_tree.specs.Tree.{FieldData}
 use Rattle.fast_dict.specs.Dictionary.{PreviousData, undefined, empty, assigned}
 
 -- The value, or None for absent, and what the entry holds next.

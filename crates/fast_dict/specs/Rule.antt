@@ -1,9 +1,9 @@
 -- What an encoder sends for a value: whether it sets the bit, and which item stands behind it.
 use Rattle.std.specs.Prelude.{◌≡◌, ◌⊎◌, ℕ, suc, ◌-◌, ◌<◌, ◌≤◌, Bool, true, false, nat_eq, if◌then◌else◌, List, ◌∷◌, length, reverse, take, drop, pos, negsuc, ◌-ℤ◌, Option, Some, None, Ok}
 use Rattle.fast_value.specs.Kinds.{ScalarData, Family, integers, decimals, texts, family, integer_of, exponent_of, mantissa_of, text_of, value_of_text}
-use Rattle.fast_template.specs.declared.operators.Operator.{Operator}
-use Rattle.fast_template.specs.declared.operators.Operator.TheVariants.{Constant, Delta, Tail}
-use Rattle.fast_template.specs.Tree.{FieldData, uses_bit}
+use Rattle.fast_tree.specs.declared.operators.Operator.{Operator}
+use Rattle.fast_tree.specs.declared.operators.Operator.TheVariants.{Constant, Delta, Tail}
+use Rattle.fast_tree.specs.Tree.{FieldData, uses_bit}
 use Rattle.fast_dict.specs.Dictionary.{PreviousData}
 use Rattle.fast_dict.specs.Operators.{Sent, nothing, null, value, integer_delta, decimal_delta, text_delta, Op, delta_base, tail_base}
 

@@ -3,8 +3,8 @@ use Rattle.std.specs.Prelude.{ℕ, List, Bool, true}
 use Rattle.fast_value.specs.declared.kinds.Kind.{Kind}
 use Rattle.fast_value.specs.Kinds.{value_of_text}
 use Rattle.fast_value.specs.Values.{scalar_data}
-use Rattle.fast_template.specs.declared.operators.Operator.{Operator}
-use Rattle.fast_template.specs.declared.operators.Operator.TheVariants.{Delta, Tail}
+use Rattle.fast_tree.specs.declared.operators.Operator.{Operator}
+use Rattle.fast_tree.specs.declared.operators.Operator.TheVariants.{Delta, Tail}
 use Rattle.fast_dict.specs.Operators.{Sent, nothing, null, value, integer_delta, decimal_delta, text_delta}
 use Rattle.fast_dict.specs.declared.operators.table.Sent.{Sent as LentSent}
 use Rattle.fast_dict.specs.declared.operators.table.Sent.TheVariants.{Nothing, Null, Value, IntegerDelta, DecimalDelta, TextDelta}

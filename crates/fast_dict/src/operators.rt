@@ -15,11 +15,11 @@ ghost use Rattle.fast_value.specs.Values.{scalar_data};
 ghost use Rattle.fast_dict.specs.Operators.{keeps, gives, gives_none, delta_base, start_value, zero_in, of_kind};
 ghost use Rattle.fast_dict.specs.Answers.{outcome_data, scalar_answer};
 ghost use Rattle.fast_dict.specs.Previous.{previous_data};
-ghost use Rattle.fast_template.specs.Flat.{field_data};
+ghost use Rattle.fast_tree.specs.Nodes.{field_data};
 
 use crate::previous::Previous;
 pub use decimals::{exponent_delta, mantissa_delta};
-use fast_template::FieldInstruction;
+use fast_tree::FieldInstruction;
 use fast_value::{Code, Kind, Scalar};
 pub use integers::integer_delta;
 pub use table::{Sent, checked, decide, needs_join, received, replaced};

@@ -5,8 +5,8 @@ pub mod items;
 
 ghost use Rattle.std.specs.Prelude.{◌≡◌, ◌↔◌, Bool, true, IsTrue, IfSome, IfNone, option_map};
 ghost use Rattle.fast_value.specs.Values.{scalar_data};
-ghost use Rattle.fast_template.specs.Flat.{field_data};
-ghost use Rattle.fast_template.specs.Tree.{uses_bit};
+ghost use Rattle.fast_tree.specs.Nodes.{field_data};
+ghost use Rattle.fast_tree.specs.Tree.{uses_bit};
 ghost use Rattle.fast_dict.specs.Operators.{Sent as SentData};
 ghost use Rattle.fast_dict.specs.Previous.{previous_data};
 ghost use Rattle.fast_dict.specs.Rule.{Rule, GoesUnsent};
@@ -15,7 +15,7 @@ ghost use Rattle.fast_dict.specs.Sending.{sent_data};
 use crate::operators::{Sent, decide};
 use crate::previous::Previous;
 use common::is_same_value;
-use fast_template::{FieldInstruction, Operator};
+use fast_tree::{FieldInstruction, Operator};
 use fast_value::Scalar;
 use items::item_for;
 

@@ -12,7 +12,7 @@ use fast_dict::operators::{
 };
 use fast_dict::previous::Previous;
 use fast_dict::rule::common::{is_same, is_same_value};
-use fast_template::{FieldInstruction, Operator};
+use fast_tree::{FieldInstruction, Operator};
 use fast_value::{Code, Scalar, Value};
 use std::alloc::{AllocError, Global};
 

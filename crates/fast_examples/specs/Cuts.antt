@@ -1,7 +1,7 @@
 -- Streams that end before a message does, as statements.
 use Rattle.std.specs.Prelude.{[], ◌∷◌, replicate}
-use Rattle.fast_decoder.specs.Events.{MessageStart}
-use Rattle.fast_decoder.specs.Streams.{Stream, between, inside}
+use Rattle.fast_stream.specs.Events.{MessageStart}
+use Rattle.fast_stream.specs.Streams.{Stream, between, inside}
 use Rattle.fast_examples.specs.Vectors.{vectors, lenient}
 
 -- no byte; a map; a map and an identifier; a part of a field

@@ -2,8 +2,8 @@
 use Rattle.std.specs.Prelude.{[], ◌∷◌}
 use Rattle.fast_value.specs.Kinds.{U}
 use Rattle.fast_value.specs.declared.codes.Code.TheVariants.{D2, D4, D5, D7, D9, R2, R6, R7, R8, R9}
-use Rattle.fast_decoder.specs.Events.{MessageStart, FieldValue, MessageEnd}
-use Rattle.fast_decoder.specs.Streams.{Stream, between, faulted}
+use Rattle.fast_stream.specs.Events.{MessageStart, FieldValue, MessageEnd}
+use Rattle.fast_stream.specs.Streams.{Stream, between, faulted}
 use Rattle.fast_examples.specs.Vectors.{vectors, lenient, strict, short_texts}
 
 -- none to copy; 85, which no template has; one of ten bytes without a stop

@@ -2,9 +2,9 @@
 use Rattle.std.specs.Prelude.{◌≡◌, [], ◌∷◌, ◌++◌, codes, replicate}
 use Rattle.fast_value.specs.Kinds.{U, AsciiText}
 use Rattle.fast_value.specs.declared.codes.Code.TheVariants.{D5, L1, L2, L3, L5}
-use Rattle.fast_template.specs.Sizes.{message_cap, turn_cap, stored_cap, set_depth}
-use Rattle.fast_decoder.specs.Events.{MessageStart, FieldValue, SequenceStart, SequenceEnd, ElementStart, ElementEnd, MessageEnd}
-use Rattle.fast_decoder.specs.Streams.{Stream, between, faulted}
+use Rattle.fast_tree.specs.Sizes.{message_cap, turn_cap, stored_cap, set_depth}
+use Rattle.fast_stream.specs.Events.{MessageStart, FieldValue, SequenceStart, SequenceEnd, ElementStart, ElementEnd, MessageEnd}
+use Rattle.fast_stream.specs.Streams.{Stream, between, faulted}
 use Rattle.fast_examples.specs.Vectors.{vectors, only_t2, nested_sequences, lenient, short_texts, five_elements, widest_counts}
 
 -- a length of 4294967295; one of 1000 where 999 are the limit of a sequence, and of a message too

@@ -3,8 +3,8 @@
 use Rattle.std.specs.Prelude.{ℕ, List, [], ◌∷◌, ◌++◌, codes, pos, negsuc}
 use Rattle.fast_value.specs.Kinds.{U, I, Dec, AsciiText, UnicodeText, ByteVector}
 use Rattle.fast_value.specs.declared.codes.Code.TheVariants.{R1, R6, R9}
-use Rattle.fast_decoder.specs.Events.{EventData, MessageStart, FieldValue, GroupStart, GroupEnd, SequenceStart, SequenceEnd, ElementStart, ElementEnd, MessageEnd}
-use Rattle.fast_decoder.specs.Streams.{Stream, between, faulted}
+use Rattle.fast_stream.specs.Events.{EventData, MessageStart, FieldValue, GroupStart, GroupEnd, SequenceStart, SequenceEnd, ElementStart, ElementEnd, MessageEnd}
+use Rattle.fast_stream.specs.Streams.{Stream, between, faulted}
 use Rattle.fast_examples.specs.Vectors.{vectors, lenient, strict, short_texts}
 
 -- C0 the map, 81 the identifier, 39 45 A3 the integer

@@ -2,8 +2,8 @@
 use Rattle.std.specs.Prelude.{[], ◌∷◌, codes, pos}
 use Rattle.fast_value.specs.Kinds.{U, I, AsciiText, UnicodeText}
 use Rattle.fast_value.specs.declared.codes.Code.TheVariants.{D7, R2}
-use Rattle.fast_decoder.specs.Events.{MessageStart, FieldValue, MessageEnd}
-use Rattle.fast_decoder.specs.Streams.{Stream, between, faulted}
+use Rattle.fast_stream.specs.Events.{MessageStart, FieldValue, MessageEnd}
+use Rattle.fast_stream.specs.Streams.{Stream, between, faulted}
 use Rattle.fast_examples.specs.Vectors.{vectors, lenient}
 
 -- ABCDE; a tail XY; nothing sent

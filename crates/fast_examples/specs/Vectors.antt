@@ -4,9 +4,9 @@ use Rattle.fast_value.specs.declared.kinds.Kind.{Kind}
 use Rattle.fast_value.specs.declared.kinds.Kind.TheVariants.{UInt32, Int32, Int64, Decimal, Ascii, Unicode, Bytes}
 use Rattle.fast_value.specs.Kinds.{U}
 use Rattle.fast_value.specs.declared.settings.Limits.{Limits}
-use Rattle.fast_template.specs.declared.operators.Operator.{Operator}
-use Rattle.fast_template.specs.declared.operators.Operator.TheVariants.{None as no_operator, Constant, Copy, Increment, Delta, Tail}
-use Rattle.fast_template.specs.Tree.{FieldData, Label, field, parts, group, sequence, Body, end, step, TemplateData, Tree}
+use Rattle.fast_tree.specs.declared.operators.Operator.{Operator}
+use Rattle.fast_tree.specs.declared.operators.Operator.TheVariants.{None as no_operator, Constant, Copy, Increment, Delta, Tail}
+use Rattle.fast_tree.specs.Tree.{FieldData, Label, field, parts, group, sequence, Body, end, step, TemplateData, Tree}
 
 -- lenient mode, texts of at most 1024 bytes, at most 1000 elements
 abbrev pub lenient : Limits

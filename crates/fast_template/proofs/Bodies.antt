@@ -3,11 +3,11 @@ use Rattle.std.proofs.Common.{◌≡◌, ℕ, suc, ◌+◌, ◌<◌, List, drop,
 use Rattle.std.specs.Prelude.{slice_index, slice_index_or}
 use Rattle.std.proofs.lemmas.List.{get_or_default}
 use Rattle.std.proofs.lemmas.Option.{slice_get_read}
-use Rattle.fast_template.specs.declared.instructions.Shape.{Shape}
-use Rattle.fast_template.specs.declared.instructions.Node.{Node}
-use Rattle.fast_template.specs.Tree.{Instruction, step}
-use Rattle.fast_template.specs.Nodes.{label_of, instruction_of, instructions_from, body_of, no_instruction}
-use Rattle.fast_template.specs.Numbers.{numbers_of, AreBetween, NameLaterNodes}
+use Rattle.fast_tree.specs.declared.instructions.Shape.{Shape}
+use Rattle.fast_tree.specs.declared.instructions.Node.{Node}
+use Rattle.fast_tree.specs.Tree.{Instruction, step}
+use Rattle.fast_tree.specs.Nodes.{label_of, instruction_of, instructions_from, body_of, no_instruction}
+use Rattle.fast_tree.specs.Numbers.{numbers_of, AreBetween, NameLaterNodes}
 use Rattle.fast_template.proofs.Walks.{body_at, instruction_of_node, instruction_of_later}
 
 -- a node's instruction, by its shape and all instructions

@@ -7,14 +7,14 @@ use Rattle.std.proofs.lemmas.List.{get_or_append_left, get_or-append-add}
 use Rattle.std.proofs.lemmas.List.Elements.{Contains-append_left, Contains-append_right, All-get_or}
 use Rattle.std.proofs.lemmas.Option.{slice_get_within, get_or_from_slice_get}
 use Rattle.fast_template.specs.declared.written.WrittenInstruction.{WrittenInstruction}
-use Rattle.fast_template.specs.AsWritten.{Written, Declared, scalar, by_parts, group, sequence, reference, DeclaredList, no_more, more, DeclaredTemplate, Use, scalar_use, exponent_use, mantissa_use, length_use, uses, all_uses, references, all_references}
+use Rattle.fast_tree.specs.AsWritten.{Written, Declared, scalar, by_parts, group, sequence, reference, DeclaredList, no_more, more, DeclaredTemplate, Use, scalar_use, exponent_use, mantissa_use, length_use, uses, all_uses, references, all_references}
 use Rattle.fast_template.specs.Built.{IsReady, IsIndexed, CanBuild, IsBuilt}
 use Rattle.fast_template.specs.Chains.{Fits, nodes_by, nodes_in}
-use Rattle.fast_template.specs.Entries.{Entry, Scope, scope_of, in_scope, uses_from}
+use Rattle.fast_tree.specs.Entries.{Entry, Scope, scope_of, in_scope, uses_from}
 use Rattle.fast_template.specs.EntryKeys.{HasEntry}
-use Rattle.fast_template.specs.NodeData.{NodeData}
-use Rattle.fast_template.specs.Places.{place_of_name}
-use Rattle.fast_template.specs.Sizes.{node_limit}
+use Rattle.fast_tree.specs.NodeData.{NodeData}
+use Rattle.fast_tree.specs.Places.{place_of_name}
+use Rattle.fast_tree.specs.Sizes.{node_limit}
 use Rattle.fast_template.specs.Sound.{IsSound}
 use Rattle.fast_template.specs.WrittenSets.{instruction_data, fields_data}
 use Rattle.fast_template.proofs.ChainSizes.{nodes_named, nodes_in-by, nodes_named-suc, fields_of_name}

@@ -3,16 +3,16 @@ use Rattle.std.proofs.Common.{◌≡◌, ℕ, ◌+◌, ◌<◌, zero, suc, Bool,
 use Rattle.std.specs.Vec.{with_items}
 use Rattle.std.proofs.lemmas.List.{with_items_is}
 use Rattle.std.proofs.lemmas.List.{take_more, map-append, length-map}
-use Rattle.fast_template.specs.declared.instructions.Node.{Node}
-use Rattle.fast_template.specs.declared.instructions.Shape.{Shape}
+use Rattle.fast_tree.specs.declared.instructions.Node.{Node}
+use Rattle.fast_tree.specs.declared.instructions.Shape.{Shape}
 use Rattle.fast_template.specs.declared.written.WrittenInstruction.{WrittenInstruction}
-use Rattle.fast_template.specs.AsWritten.{Written, Declared, scalar, by_parts, group as group_declared, sequence as sequence_declared, reference, DeclaredList, no_more, more, DeclaredTemplate, scalar_use, exponent_use, mantissa_use, length_use}
+use Rattle.fast_tree.specs.AsWritten.{Written, Declared, scalar, by_parts, group as group_declared, sequence as sequence_declared, reference, DeclaredList, no_more, more, DeclaredTemplate, scalar_use, exponent_use, mantissa_use, length_use}
 use Rattle.fast_value.specs.declared.kinds.Kind.{Kind}
 use Rattle.fast_template.specs.Built.{own_number, top_numbers, spread, spread_all, with_shape, data_of, IsBuilt}
-use Rattle.fast_template.specs.Entries.{Entry, Scope, scope_of}
+use Rattle.fast_tree.specs.Entries.{Entry, Scope, scope_of}
 use Rattle.fast_template.specs.InPlace.{label, ◌then◌, InPlace, nothing, a_field, some_parts, a_group, a_sequence, a_reference}
-use Rattle.fast_template.specs.NodeData.{ShapeData, a_field as a_field_data, a_decimal, a_group as a_group_data, a_sequence as a_sequence_data, NodeData, node_data, shape_data}
-use Rattle.fast_template.specs.Tree.{FieldData, field, parts, group, sequence, Body, end, step}
+use Rattle.fast_tree.specs.NodeData.{ShapeData, a_field as a_field_data, a_decimal, a_group as a_group_data, a_sequence as a_sequence_data, NodeData, node_data, shape_data}
+use Rattle.fast_tree.specs.Tree.{FieldData, field, parts, group, sequence, Body, end, step}
 use Rattle.fast_template.specs.Uses.{IsField}
 use Rattle.fast_template.specs.WrittenSets.{list_of, instruction_data, fields_data}
 

@@ -5,21 +5,21 @@ use Rattle.std.proofs.lemmas.Bool.{cases_order}
 use Rattle.std.proofs.lemmas.List.{map-append, length-map}
 use Rattle.std.proofs.lemmas.List.Sums.{sum_by-cons}
 use Rattle.std.proofs.lemmas.Option.{slice_get_within, get_or_from_slice_get}
-use Rattle.fast_template.specs.declared.instructions.Node.{Node}
-use Rattle.fast_template.specs.declared.instructions.Shape.{Shape}
-use Rattle.fast_template.specs.declared.instructions.Shape.TheVariants.{Field, Decimal, Group, Sequence}
-use Rattle.fast_template.specs.declared.instructions.Template.{Template}
-use Rattle.fast_template.specs.AsWritten.{Declared, scalar, by_parts, group, sequence, reference, DeclaredList, no_more, more, DeclaredTemplate, Use, uses, all_uses}
+use Rattle.fast_tree.specs.declared.instructions.Node.{Node}
+use Rattle.fast_tree.specs.declared.instructions.Shape.{Shape}
+use Rattle.fast_tree.specs.declared.instructions.Shape.TheVariants.{Field, Decimal, Group, Sequence}
+use Rattle.fast_tree.specs.declared.instructions.Template.{Template}
+use Rattle.fast_tree.specs.AsWritten.{Declared, scalar, by_parts, group, sequence, reference, DeclaredList, no_more, more, DeclaredTemplate, Use, uses, all_uses}
 use Rattle.fast_template.specs.Built.{top_numbers, spread_all, outline_of, IsBuilt, AreBuilt}
 use Rattle.fast_template.specs.Chains.{instruction_nodes, nodes_by, nodes_in}
-use Rattle.fast_template.specs.Entries.{Entry, scope_of, in_scope, uses_from}
+use Rattle.fast_tree.specs.Entries.{Entry, scope_of, in_scope, uses_from}
 use Rattle.fast_template.specs.InPlace.{◌then◌, InPlace, AreInPlace}
 use Rattle.fast_template.specs.Labels.{labels, body_labels, template_labels, AreInPreorder}
-use Rattle.fast_template.specs.NodeData.{NodeData, node_data, shape_data, TemplateOutline, outline, instructions_of, template_from}
-use Rattle.fast_template.specs.Nodes.{body_of, instructions_from, template_data}
-use Rattle.fast_template.specs.Numbers.{numbers_of, NameNodes, NameLaterNodes, HaveDistinctIds}
-use Rattle.fast_template.specs.Sizes.{nesting_limit, node_limit}
-use Rattle.fast_template.specs.Tree.{Instruction, Body, end, step, TemplateData}
+use Rattle.fast_tree.specs.NodeData.{NodeData, node_data, shape_data, TemplateOutline, outline, instructions_of, template_from}
+use Rattle.fast_tree.specs.Nodes.{body_of, instructions_from, template_data}
+use Rattle.fast_tree.specs.Numbers.{numbers_of, NameNodes, NameLaterNodes, HaveDistinctIds}
+use Rattle.fast_tree.specs.Sizes.{nesting_limit, node_limit}
+use Rattle.fast_tree.specs.Tree.{Instruction, Body, end, step, TemplateData}
 use Rattle.fast_template.proofs.BuiltLists.{spread-then}
 use Rattle.fast_template.proofs.BuiltTrees.{after_all, inside, AreNumbered, numbered-then, in_place-numbered, all_inside, long_all, body_among, spread_body, labels_body, named_numbers, tops_between, between_all}
 use Rattle.fast_template.proofs.ChainSizes.{nodes_named, nodes_in-by}

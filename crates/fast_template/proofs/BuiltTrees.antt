@@ -2,14 +2,14 @@
 use Rattle.std.proofs.Common.{◌≡◌, ◌⊎◌, inl, inr, ℕ, ◌+◌, ◌-◌, ◌<◌, ◌≤◌, zero, suc, List, [], ◌∷◌, ◌++◌, length, get_or, slice_get, refl, ap, sym, ◌∙◌, subst, arith, Some, append_assoc, length-append}
 use Rattle.std.specs.Prelude.{slice_index_or}
 use Rattle.std.proofs.Math.Seq.{get_or-append_seam}
-use Rattle.fast_template.specs.AsWritten.{DeclaredList, DeclaredTemplate}
+use Rattle.fast_tree.specs.AsWritten.{DeclaredList, DeclaredTemplate}
 use Rattle.fast_template.specs.Built.{own_number, top_numbers, spread, spread_all}
-use Rattle.fast_template.specs.Entries.{Entry, Scope}
+use Rattle.fast_tree.specs.Entries.{Entry, Scope}
 use Rattle.fast_template.specs.InPlace.{◌then◌, InPlace, nothing, a_field, some_parts, a_group, a_sequence, a_reference}
 use Rattle.fast_template.specs.Labels.{labels, body_labels}
-use Rattle.fast_template.specs.NodeData.{ShapeData, a_field as a_field_data, a_decimal, a_group as a_group_data, a_sequence as a_sequence_data, NodeData, instructions_of}
-use Rattle.fast_template.specs.Nodes.{body_of, no_instruction}
-use Rattle.fast_template.specs.Tree.{Label, Instruction, field, parts, group, sequence, Body, end, step}
+use Rattle.fast_tree.specs.NodeData.{ShapeData, a_field as a_field_data, a_decimal, a_group as a_group_data, a_sequence as a_sequence_data, NodeData, instructions_of}
+use Rattle.fast_tree.specs.Nodes.{body_of, no_instruction}
+use Rattle.fast_tree.specs.Tree.{Label, Instruction, field, parts, group, sequence, Body, end, step}
 use Rattle.fast_template.proofs.NodeLists.{data_labels}
 
 -- the nodes of an instruction, and of a body, have the numbers from one up to another, in preorder

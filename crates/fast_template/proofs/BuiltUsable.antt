@@ -8,19 +8,19 @@ use Rattle.std.specs.Cmp.Derive.{both_true}
 use Rattle.fast_value.specs.declared.kinds.Kind.{Kind}
 use Rattle.fast_value.specs.declared.kinds.Kind.TheVariants.{UInt32}
 use Rattle.fast_value.specs.Kinds.{Family, integers, decimals, texts, family}
-use Rattle.fast_template.specs.declared.operators.Operator.{Operator}
-use Rattle.fast_template.specs.declared.operators.Operator.TheVariants.{None as no_operator, Constant, Default, Copy, Increment, Delta, Tail}
-use Rattle.fast_template.specs.declared.instructions.Node.{Node}
-use Rattle.fast_template.specs.declared.instructions.Template.{Template}
-use Rattle.fast_template.specs.AsWritten.{Written, DeclaredList, DeclaredTemplate, Use, scalar_use, exponent_use, mantissa_use, length_use, all_uses}
+use Rattle.fast_tree.specs.declared.operators.Operator.{Operator}
+use Rattle.fast_tree.specs.declared.operators.Operator.TheVariants.{None as no_operator, Constant, Default, Copy, Increment, Delta, Tail}
+use Rattle.fast_tree.specs.declared.instructions.Node.{Node}
+use Rattle.fast_tree.specs.declared.instructions.Template.{Template}
+use Rattle.fast_tree.specs.AsWritten.{Written, DeclaredList, DeclaredTemplate, Use, scalar_use, exponent_use, mantissa_use, length_use, all_uses}
 use Rattle.fast_template.specs.Built.{top_numbers, spread_all, AreBuilt}
-use Rattle.fast_template.specs.Entries.{Entry, Scope, keeps_value, EntryNumber}
+use Rattle.fast_tree.specs.Entries.{Entry, Scope, keeps_value, EntryNumber}
 use Rattle.fast_template.specs.InPlace.{InPlace, nothing, a_field, some_parts, a_group, a_sequence, a_reference, AreInPlace}
-use Rattle.fast_template.specs.NodeData.{a_field as a_field_data, a_decimal, a_group as a_group_data, a_sequence as a_sequence_data, NodeData, node_data, outline}
+use Rattle.fast_tree.specs.NodeData.{a_field as a_field_data, a_decimal, a_group as a_group_data, a_sequence as a_sequence_data, NodeData, node_data, outline}
 use Rattle.fast_template.specs.Sound.{IsSound}
-use Rattle.fast_template.specs.Tree.{FieldData, Body, TemplateData}
+use Rattle.fast_tree.specs.Tree.{FieldData, Body, TemplateData}
 use Rattle.fast_template.specs.Uses.{suits, IsField}
-use Rattle.fast_template.specs.Usable.{is_texts, suits_tail, has_place, is_usable, is_uint32, is_int32, is_int64, is_usable_shape, AreUsable}
+use Rattle.fast_tree.specs.Usable.{is_texts, suits_tail, has_place, is_usable, is_uint32, is_int32, is_int64, is_usable_shape, AreUsable}
 use Rattle.fast_template.proofs.BuildingNeeds.{all_left, all_right, all_first, all_but_first}
 use Rattle.fast_template.proofs.BuiltLists.{spread-then}
 use Rattle.fast_template.proofs.Lists.{mapped_get}

@@ -8,10 +8,10 @@ use Rattle.fast_template.specs.declared.extents.Extent.{Extent}
 use Rattle.fast_template.specs.declared.codes.StaticCode.{StaticCode}
 use Rattle.fast_template.specs.declared.codes.StaticCode.TheVariants.{C3, C4, C6}
 use Rattle.fast_template.specs.declared.codes.StaticFault.{StaticFault}
-use Rattle.fast_template.specs.AsWritten.{DeclaredTemplate, all_uses}
-use Rattle.fast_template.specs.Entries.{Entry, scope_of}
-use Rattle.fast_template.specs.Tree.{TemplateData}
-use Rattle.fast_template.specs.Sizes.{nesting_limit, node_limit}
+use Rattle.fast_tree.specs.AsWritten.{DeclaredTemplate, all_uses}
+use Rattle.fast_tree.specs.Entries.{Entry, scope_of}
+use Rattle.fast_tree.specs.Tree.{TemplateData}
+use Rattle.fast_tree.specs.Sizes.{nesting_limit, node_limit}
 use Rattle.fast_template.specs.Sound.{IsSound}
 use Rattle.fast_template.specs.References.{KnowsReferences}
 use Rattle.fast_template.specs.Faults.{IsFaultAt}

@@ -8,8 +8,8 @@ use Rattle.std.proofs.lemmas.List.{length-replicate}
 use Rattle.std.proofs.lemmas.Option.{slice_get_within, slice_get-get_or, get_or_from_slice_get}
 use Rattle.std.proofs.lemmas.List.Elements.{All-contains, Contains-append_left, Contains-append_right, Contains-append_cases}
 use Rattle.fast_template.specs.declared.extents.Extent.{Extent}
-use Rattle.fast_template.specs.AsWritten.{Declared, scalar, by_parts, group, sequence, reference, DeclaredList, no_more, more, DeclaredTemplate, references, all_references}
-use Rattle.fast_template.specs.Places.{place_of_name}
+use Rattle.fast_tree.specs.AsWritten.{Declared, scalar, by_parts, group, sequence, reference, DeclaredList, no_more, more, DeclaredTemplate, references, all_references}
+use Rattle.fast_tree.specs.Places.{place_of_name}
 use Rattle.fast_template.specs.References.{KnowsReferences}
 use Rattle.fast_template.specs.Chains.{Fits, instruction_nodes, nodes_by, instruction_depth, depth_by, fields_named, nodes_in, depth_in}
 use Rattle.fast_template.specs.Extents.{capped, nothing, single, beside, around, if_known, extent_at, named_extent, and_then, extent_in, extent_by, or_extent, next_extents, IsExtent, LeadsOn, AreExtents}

@@ -4,7 +4,7 @@ use Rattle.std.specs.Prelude.{AllPairs}
 use Rattle.std.specs.Str.{bytes_eq}
 use Rattle.std.proofs.lemmas.Bool.{cases_Bool}
 use Rattle.std.proofs.lemmas.Option.{slice_get_within, get_or_from_slice_get}
-use Rattle.fast_template.specs.AsWritten.{DeclaredList, DeclaredTemplate}
+use Rattle.fast_tree.specs.AsWritten.{DeclaredList, DeclaredTemplate}
 use Rattle.fast_template.specs.Chains.{nodes_by, depth_by, fields_named, nodes_in, depth_in}
 use Rattle.fast_template.proofs.ReadingPieces.{same_text, text_same}
 

@@ -6,9 +6,9 @@ use Rattle.std.specs.Str.{bytes_eq}
 use Rattle.std.proofs.lemmas.List.{length-map}
 use Rattle.std.proofs.lemmas.List.Elements.{Contains-get_or}
 use Rattle.std.proofs.lemmas.Option.{slice_get_read, slice_get_within}
-use Rattle.fast_template.specs.AsWritten.{DeclaredTemplate, all_references}
+use Rattle.fast_tree.specs.AsWritten.{DeclaredTemplate, all_references}
 use Rattle.fast_template.specs.declared.codes.StaticCode.TheVariants.{C3}
-use Rattle.fast_template.specs.Places.{place_of_name}
+use Rattle.fast_tree.specs.Places.{place_of_name}
 use Rattle.fast_template.specs.Refused.{Reaches, StandsAt}
 use Rattle.fast_template.specs.Cycles.{numbers, targets_of, Refers, Leads, IsReached, IsCyclic, AreWithin}
 use Rattle.fast_template.proofs.Lists.{mapped_get, map_get_back}

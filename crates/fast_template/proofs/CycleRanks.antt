@@ -6,9 +6,9 @@ use Rattle.std.specs.Str.{bytes_eq}
 use Rattle.std.proofs.lemmas.Bool.{cases_lt, false≢true}
 use Rattle.std.proofs.lemmas.Bool.Decides.{nat_tests}
 use Rattle.std.proofs.lemmas.Option.{slice_get_within, get_or_from_slice_get}
-use Rattle.fast_template.specs.AsWritten.{DeclaredTemplate, all_references}
+use Rattle.fast_tree.specs.AsWritten.{DeclaredTemplate, all_references}
 use Rattle.fast_template.specs.declared.codes.StaticCode.TheVariants.{C3}
-use Rattle.fast_template.specs.Places.{place_of_name}
+use Rattle.fast_tree.specs.Places.{place_of_name}
 use Rattle.fast_template.specs.Refused.{Reaches, StandsAt}
 use Rattle.fast_template.specs.Cycles.{numbers, targets_of, Refers, Leads, LeadsDown, AreRanked}
 use Rattle.fast_template.proofs.Lists.{mapped_get, map_get_back}

@@ -11,8 +11,8 @@ use Rattle.fast_template.specs.declared.entries.EntryKey.{EntryKey}
 use Rattle.fast_template.specs.contracts.entries.EntryKeyPartialEq.TheImpl.{eq-value}
 use Rattle.fast_template.specs.declared.written.WrittenInstruction.{WrittenInstruction}
 use Rattle.fast_template.specs.declared.written.WrittenTemplate.{WrittenTemplate}
-use Rattle.fast_template.specs.AsWritten.{DeclaredTemplate, Use, uses, all_uses}
-use Rattle.fast_template.specs.Entries.{Place, Entry, Scope, IsPlace, IsUnderKey, IsEntry, keeps_value, Collects, in_scope, uses_from, scope_of}
+use Rattle.fast_tree.specs.AsWritten.{DeclaredTemplate, Use, uses, all_uses}
+use Rattle.fast_tree.specs.Entries.{Place, Entry, Scope, IsPlace, IsUnderKey, IsEntry, keeps_value, Collects, in_scope, uses_from, scope_of}
 use Rattle.fast_template.specs.EntryKeys.{key_data, HasEntry}
 use Rattle.fast_template.specs.Sound.{uses_in}
 use Rattle.fast_template.specs.WrittenSets.{instruction_data, written_data}

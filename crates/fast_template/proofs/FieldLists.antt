@@ -8,7 +8,7 @@ use Rattle.toml.specs.Data.{Data, string, integer, float, boolean, datetime, arr
 use Rattle.toml.specs.View.{view, items_view}
 use Rattle.toml.proofs.Views.{items_view-drop}
 use Rattle.toml.specs.declared.value.Value.{Value}
-use Rattle.fast_template.specs.AsWritten.{Declared, DeclaredList, no_more}
+use Rattle.fast_tree.specs.AsWritten.{Declared, DeclaredList, no_more}
 use Rattle.fast_template.specs.Reading.{◌>>=◌, has_only, text_of, of_kind, name_of, flag_of, length_of, items_of, in_front, declared_of, fields_of, array_fields, all_fields, group_of, sequence_of}
 use Rattle.fast_template.specs.WrittenSets.{list_of, instruction_data, fields_data}
 use Rattle.fast_template.specs.declared.written.WrittenInstruction.{WrittenInstruction}

@@ -9,24 +9,24 @@ use Rattle.toml.specs.Data.{Members}
 use Rattle.fast_template.specs.declared.building.BuiltSet.{BuiltSet}
 use Rattle.fast_template.specs.declared.codes.StaticCode.{StaticCode}
 use Rattle.fast_template.specs.declared.codes.StaticCode.TheVariants.{S1, S2, S3, S4, S5, D8, C1, C2, C3, C4, C5, C6, Memory}
-use Rattle.fast_template.specs.AsWritten.{DeclaredTemplate, Use, all_uses, all_references}
+use Rattle.fast_tree.specs.AsWritten.{DeclaredTemplate, Use, all_uses, all_references}
 use Rattle.fast_template.specs.Chains.{Fits, nodes_in, depth_in}
 use Rattle.fast_template.specs.Checked.{AreNarrowInside}
-use Rattle.fast_template.specs.Entries.{Entry, scope_of}
+use Rattle.fast_tree.specs.Entries.{Entry, scope_of}
 use Rattle.fast_template.specs.Faults.{IsFaultAt}
 use Rattle.fast_template.specs.Firsts.{pass_of, ComesBefore, IsFirst, IsFirstUnwritten, IsFirstFault, AreChained, IsFirstInChains}
 use Rattle.fast_template.specs.InPlace.{InPlace}
-use Rattle.fast_template.specs.NodeData.{node_data}
-use Rattle.fast_template.specs.Nodes.{instructions_from, template_data}
+use Rattle.fast_tree.specs.NodeData.{node_data}
+use Rattle.fast_tree.specs.Nodes.{instructions_from, template_data}
 use Rattle.fast_template.specs.Notation.{WritesSet}
-use Rattle.fast_template.specs.Places.{place_of_name}
+use Rattle.fast_tree.specs.Places.{place_of_name}
 use Rattle.fast_template.specs.ReadSets.{IsSetBuilt}
 use Rattle.fast_template.specs.Refused.{Reaches, StandsAt}
 use Rattle.fast_template.specs.References.{KnowsReferences}
 use Rattle.fast_template.specs.Segments.{IsNarrow}
-use Rattle.fast_template.specs.Sizes.{segment_limit, nesting_limit, node_limit}
+use Rattle.fast_tree.specs.Sizes.{segment_limit, nesting_limit, node_limit}
 use Rattle.fast_template.specs.Sound.{IsSound}
-use Rattle.fast_template.specs.Tree.{Body, bits_of}
+use Rattle.fast_tree.specs.Tree.{Body, bits_of}
 use Rattle.fast_template.specs.Uses.{IsS2, IsS3, IsS4, IsS5}
 use Rattle.fast_template.proofs.BuiltSets.{set_nodes, built_tree}
 use Rattle.fast_template.proofs.ChainLaws.{in_none}

@@ -4,15 +4,15 @@ use Rattle.std.specs.Prelude.{if◌then◌else◌, IfSome, IfNone}
 use Rattle.std.specs.Str.{bytes_eq}
 use Rattle.std.proofs.lemmas.Bool.{cases_Bool, false≢true}
 use Rattle.std.proofs.lemmas.Option.{slice_get_within, get_or_from_slice_get}
-use Rattle.fast_template.specs.declared.instructions.Template.{Template}
-use Rattle.fast_template.specs.AsWritten.{DeclaredTemplate}
+use Rattle.fast_tree.specs.declared.instructions.Template.{Template}
+use Rattle.fast_tree.specs.AsWritten.{DeclaredTemplate}
 use Rattle.fast_template.specs.Built.{outline_of, AreBuilt}
-use Rattle.fast_template.specs.Entries.{Entry}
+use Rattle.fast_tree.specs.Entries.{Entry}
 use Rattle.fast_template.specs.InPlace.{AreInPlace}
-use Rattle.fast_template.specs.NodeData.{NodeData, TemplateOutline, outline}
-use Rattle.fast_template.specs.Numbers.{number_of_name, number_of_id}
-use Rattle.fast_template.specs.Places.{place, is_id, place_of_name, place_of_id}
-use Rattle.fast_template.specs.Tree.{TemplateData}
+use Rattle.fast_tree.specs.NodeData.{NodeData, TemplateOutline, outline}
+use Rattle.fast_tree.specs.Numbers.{number_of_name, number_of_id}
+use Rattle.fast_tree.specs.Places.{place, is_id, place_of_name, place_of_id}
+use Rattle.fast_tree.specs.Tree.{TemplateData}
 use Rattle.fast_template.proofs.PlaceLists.{placed, no_place, id_is, is_the_id}
 use Rattle.fast_template.proofs.ReadingPieces.{same_text, text_same}
 

@@ -5,12 +5,12 @@ use Rattle.std.specs.Str.{bytes_eq}
 use Rattle.std.proofs.lemmas.Bool.{cases_Bool, false≢true}
 use Rattle.std.proofs.lemmas.Option.{slice_get_within, slice_get-get_or, get_or_from_slice_get}
 use Rattle.std.proofs.lemmas.List.Elements.{All-contains, Contains-append_left, Contains-append_right}
-use Rattle.fast_template.specs.AsWritten.{Declared, scalar, by_parts, group, sequence, reference, DeclaredList, no_more, more, DeclaredTemplate, whole, Use, scalar_use, exponent_use, mantissa_use, length_use, uses, all_uses, references, all_references}
-use Rattle.fast_template.specs.Entries.{Place, global, of_template, named, Entry, Scope, IsPlace, IsUnderKey, IsEntry, keeps_value, scope_of, in_scope, uses_from}
-use Rattle.fast_template.specs.Tree.{FieldData, Body, end}
+use Rattle.fast_tree.specs.AsWritten.{Declared, scalar, by_parts, group, sequence, reference, DeclaredList, no_more, more, DeclaredTemplate, whole, Use, scalar_use, exponent_use, mantissa_use, length_use, uses, all_uses, references, all_references}
+use Rattle.fast_tree.specs.Entries.{Place, global, of_template, named, Entry, Scope, IsPlace, IsUnderKey, IsEntry, keeps_value, scope_of, in_scope, uses_from}
+use Rattle.fast_tree.specs.Tree.{FieldData, Body, end}
 use Rattle.fast_template.specs.Uses.{IsField}
 use Rattle.fast_template.specs.Sound.{IsSound}
-use Rattle.fast_template.specs.Places.{place_of_name}
+use Rattle.fast_tree.specs.Places.{place_of_name}
 use Rattle.fast_template.specs.References.{KnowsReferences}
 use Rattle.fast_template.specs.InPlace.{InPlace, nothing, a_field, some_parts, a_group, a_sequence, a_reference}
 use Rattle.fast_template.specs.Chains.{Fits}

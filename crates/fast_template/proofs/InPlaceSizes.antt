@@ -1,10 +1,10 @@
 -- How many nodes a body in place has, and how deep it is.
 use Rattle.std.proofs.Common.{◌≡◌, ◌≢◌, ℕ, suc, ◌+◌, List, refl, ap, sym, ◌∙◌, arith}
 use Rattle.std.specs.Prelude.{max, AllPairs}
-use Rattle.fast_template.specs.AsWritten.{DeclaredList, DeclaredTemplate}
-use Rattle.fast_template.specs.Entries.{Entry, Scope}
-use Rattle.fast_template.specs.Tree.{Body, end, step}
-use Rattle.fast_template.specs.Sizes.{body_depth}
+use Rattle.fast_tree.specs.AsWritten.{DeclaredList, DeclaredTemplate}
+use Rattle.fast_tree.specs.Entries.{Entry, Scope}
+use Rattle.fast_tree.specs.Tree.{Body, end, step}
+use Rattle.fast_tree.specs.Sizes.{body_depth}
 use Rattle.fast_template.specs.InPlace.{◌then◌, InPlace, nothing, a_field, some_parts, a_group, a_sequence, a_reference}
 use Rattle.fast_template.specs.Chains.{nodes_in, nodes_by, depth_in, depth_by}
 use Rattle.fast_template.proofs.ChainSizes.{nodes_named, depth_named, nodes_in-by, depth_in-by, nodes_named-suc, depth_named-suc, fields_of_name}

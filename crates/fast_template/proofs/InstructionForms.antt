@@ -5,7 +5,7 @@ use Rattle.fast_value.specs.declared.kinds.Kind.{Kind}
 use Rattle.fast_template.specs.declared.written.WrittenOperator.{WrittenOperator}
 use Rattle.fast_template.specs.declared.written.WrittenInstruction.{WrittenInstruction, the_lemmas}
 use Rattle.fast_template.specs.declared.written.WrittenInstruction.TheVariants as V
-use Rattle.fast_template.specs.AsWritten.{scalar, by_parts, group, sequence}
+use Rattle.fast_tree.specs.AsWritten.{scalar, by_parts, group, sequence}
 use Rattle.fast_template.specs.WrittenSets.{operator_data, instruction_data, fields_data}
 
 pub scalar_form : (name : String Global) (optional : Bool) (kind : Kind) (w : WrittenOperator) → instruction_data (V.Scalar name optional kind w) ≡ scalar (string_bytes name) optional kind (operator_data w)

@@ -5,7 +5,7 @@ use Rattle.std.specs.List.{list_all}
 use Rattle.std.proofs.lemmas.Bool.{and_parts}
 use Rattle.std.proofs.lemmas.Bool.Decides.{nat_tests}
 use Rattle.std.proofs.lemmas.List.Elements.{All-head, All-tail, All-nil, All-cons}
-use Rattle.fast_template.specs.AsWritten.{IsName, IsNameByte}
+use Rattle.fast_tree.specs.AsWritten.{IsName, IsNameByte}
 use Rattle.fast_template.specs.Reading.{is_name, is_name_byte}
 
 -- one byte

@@ -8,18 +8,18 @@ use Rattle.std.proofs.lemmas.Option.{slice_get_within, get_or_from_slice_get}
 use Rattle.toml.specs.Data.{table, array, Items, no_items, Members, no_members, member, get_item}
 use Rattle.fast_template.specs.declared.codes.StaticCode.{StaticCode}
 use Rattle.fast_template.specs.declared.codes.StaticCode.TheVariants.{S1, S2, S3, S4, S5, D8, C1, C2, C3, C4, C5, C6, Memory}
-use Rattle.fast_template.specs.AsWritten.{DeclaredList, DeclaredTemplate, Use, all_uses, all_references, scalar_use, exponent_use, mantissa_use, length_use}
+use Rattle.fast_tree.specs.AsWritten.{DeclaredList, DeclaredTemplate, Use, all_uses, all_references, scalar_use, exponent_use, mantissa_use, length_use}
 use Rattle.fast_template.specs.Chains.{nodes_in}
 use Rattle.fast_template.specs.Checked.{AreNarrowInside, IsTree}
-use Rattle.fast_template.specs.Entries.{Entry, Scope, scope_of}
+use Rattle.fast_tree.specs.Entries.{Entry, Scope, scope_of}
 use Rattle.fast_template.specs.Faults.{IsFaultAt}
 use Rattle.fast_template.specs.FivePasses.{IsAtFault}
 use Rattle.fast_template.specs.InPlace.{◌then◌, InPlace, nothing, a_field, some_parts, a_group, a_sequence, a_reference, AreInPlace}
 use Rattle.fast_template.specs.Notation.{WritesTemplate, WritesTemplates, WritesSet}
 use Rattle.fast_template.specs.Reading.{all_templates, items_count}
 use Rattle.fast_template.specs.Refused.{Reaches, IsBodyOf, StandsAt}
-use Rattle.fast_template.specs.Sizes.{body_depth, segment_limit, nesting_limit, node_limit}
-use Rattle.fast_template.specs.Tree.{FieldData, Body, end, step, uses_bit, operator_uses_bit, one_if, bits_of, message_bits, TemplateData, Tree}
+use Rattle.fast_tree.specs.Sizes.{body_depth, segment_limit, nesting_limit, node_limit}
+use Rattle.fast_tree.specs.Tree.{FieldData, Body, end, step, uses_bit, operator_uses_bit, one_if, bits_of, message_bits, TemplateData, Tree}
 use Rattle.fast_template.specs.Unwritten.{AreTables, IsUnwritten}
 use Rattle.fast_template.specs.Uses.{IsS2, IsS3, IsS4, IsS5, IsField}
 use Rattle.fast_template.proofs.BuildingNeeds.{some_is, uses_of_template}

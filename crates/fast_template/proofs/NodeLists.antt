@@ -1,13 +1,13 @@
 -- Nodes with and without their memory stand for the same instructions, and have the same labels.
 use Rattle.std.proofs.Common.{◌≡◌, ℕ, List, [], ◌∷◌, refl, ap, ◌∙◌, map, suc}
-use Rattle.fast_template.specs.declared.instructions.Shape.{Shape}
-use Rattle.fast_template.specs.declared.instructions.Shape.TheVariants.{Field, Decimal, Group, Sequence}
-use Rattle.fast_template.specs.declared.instructions.Node.{Node}
-use Rattle.fast_template.specs.declared.instructions.Template.{Template}
-use Rattle.fast_template.specs.Tree.{Label, Instruction}
+use Rattle.fast_tree.specs.declared.instructions.Shape.{Shape}
+use Rattle.fast_tree.specs.declared.instructions.Shape.TheVariants.{Field, Decimal, Group, Sequence}
+use Rattle.fast_tree.specs.declared.instructions.Node.{Node}
+use Rattle.fast_tree.specs.declared.instructions.Template.{Template}
+use Rattle.fast_tree.specs.Tree.{Label, Instruction}
 use Rattle.fast_template.specs.Flat.{instructions_from, instruction_of, template_data, label_of}
 use Rattle.fast_template.specs.Labels.{labels_from}
-use Rattle.fast_template.specs.NodeData.{NodeData, instructions_of, instruction_from, shape_data, node_data, outline, template_from}
+use Rattle.fast_tree.specs.NodeData.{NodeData, instructions_of, instruction_from, shape_data, node_data, outline, template_from}
 
 -- one instruction
 pub same_instruction : (at : Label) (first : ℕ) (is : List Instruction) (s : Shape) → instruction_of at first is s ≡ instruction_from at first is (shape_data s)

@@ -2,14 +2,14 @@
 use Rattle.std.proofs.Common.{◌≡◌, ◌⊎◌, inl, inr, Bool, true, false, refl, ap, sym, ◌∙◌, Option, Some, None}
 use Rattle.fast_value.specs.declared.kinds.Kind.{Kind}
 use Rattle.fast_value.specs.declared.kinds.Kind.TheVariants.{UInt32, Int32, UInt64, Int64, Decimal, Ascii, Unicode, Bytes}
-use Rattle.fast_template.specs.declared.instructions.FieldInstruction.{FieldInstruction}
-use Rattle.fast_template.specs.declared.instructions.Shape.{Shape}
-use Rattle.fast_template.specs.declared.instructions.Shape.TheVariants.{Field, Decimal as ByParts, Group, Sequence}
+use Rattle.fast_tree.specs.declared.instructions.FieldInstruction.{FieldInstruction}
+use Rattle.fast_tree.specs.declared.instructions.Shape.{Shape}
+use Rattle.fast_tree.specs.declared.instructions.Shape.TheVariants.{Field, Decimal as ByParts, Group, Sequence}
 use Rattle.fast_template.specs.declared.opcodes.Opcode.{Opcode}
 use Rattle.fast_template.specs.declared.opcodes.Opcode.TheVariants.{UInt32 as uint32, Int32 as int32, UInt64 as uint64, Int64 as int64, Other}
 use Rattle.fast_template.specs.declared.opcodes.Sending.{Sending}
-use Rattle.fast_template.specs.declared.operators.Operator.{Operator}
-use Rattle.fast_template.specs.declared.operators.Operator.TheVariants.{None as no_operator, Constant, Default, Copy, Increment, Delta, Tail}
+use Rattle.fast_tree.specs.declared.operators.Operator.{Operator}
+use Rattle.fast_tree.specs.declared.operators.Operator.TheVariants.{None as no_operator, Constant, Default, Copy, Increment, Delta, Tail}
 use Rattle.fast_template.specs.Opcodes.{sending_of, sending_operator, is_nullable, kind_opcode, field_opcode, opcode_of, opcode_kind, opcode_sending, IsSentAs}
 
 some_is : {A : Type 0} {a b : A} → Some a ≡ Some b → a ≡ b

@@ -11,10 +11,10 @@ use Rattle.std.proofs.lemmas.Bool.Decides.{nat_tests}
 use Rattle.std.proofs.lemmas.List.{length-take}
 use Rattle.std.proofs.lemmas.List.Quantifiers.{all_pairs_push}
 use Rattle.std.proofs.lemmas.Option.{slice_get_within}
-use Rattle.fast_template.specs.AsWritten.{DeclaredTemplate}
+use Rattle.fast_tree.specs.AsWritten.{DeclaredTemplate}
 use Rattle.fast_template.specs.Refused.{StandsAt}
 use Rattle.fast_template.specs.declared.codes.StaticCode.TheVariants.{C1, C2}
-use Rattle.fast_template.specs.Places.{place, is_id, place_of_name, place_of_id}
+use Rattle.fast_tree.specs.Places.{place, is_id, place_of_name, place_of_id}
 use Rattle.fast_template.proofs.ReadingPieces.{same_text, text_same}
 
 -- the first value, or else the second

@@ -7,21 +7,21 @@ use Rattle.std.proofs.lemmas.Option.{slice_get_within, get_or_from_slice_get, sl
 use Rattle.toml.specs.Data.{Members}
 use Rattle.fast_template.specs.declared.building.BuiltSet.{BuiltSet}
 use Rattle.fast_template.specs.declared.codes.StaticCode.TheVariants.{C5}
-use Rattle.fast_template.specs.AsWritten.{DeclaredTemplate, Use, all_uses}
+use Rattle.fast_tree.specs.AsWritten.{DeclaredTemplate, Use, all_uses}
 use Rattle.fast_template.specs.Built.{IsIndexed}
 use Rattle.fast_template.specs.Chains.{nodes_in, depth_in}
 use Rattle.fast_template.specs.Checked.{IsTree, AreNarrowInside}
 use Rattle.fast_template.specs.Notation.{WritesSet}
-use Rattle.fast_template.specs.Entries.{Entry, Scope, Collects, scope_of, in_scope, uses_from}
+use Rattle.fast_tree.specs.Entries.{Entry, Scope, Collects, scope_of, in_scope, uses_from}
 use Rattle.fast_template.specs.InPlace.{InPlace, AreInPlace}
-use Rattle.fast_template.specs.NodeData.{node_data}
-use Rattle.fast_template.specs.Nodes.{instructions_from, template_data}
+use Rattle.fast_tree.specs.NodeData.{node_data}
+use Rattle.fast_tree.specs.Nodes.{instructions_from, template_data}
 use Rattle.fast_template.specs.ReadSets.{IsChecked, IsSetBuilt}
 use Rattle.fast_template.specs.Refused.{StandsAt}
 use Rattle.fast_template.specs.Segments.{IsNarrow, IsWide}
-use Rattle.fast_template.specs.Sizes.{body_depth, segment_limit, nesting_limit, node_limit}
+use Rattle.fast_tree.specs.Sizes.{body_depth, segment_limit, nesting_limit, node_limit}
 use Rattle.fast_template.specs.Sound.{IsSound}
-use Rattle.fast_template.specs.Tree.{bits_of, TemplateData}
+use Rattle.fast_tree.specs.Tree.{bits_of, TemplateData}
 use Rattle.fast_template.specs.Uses.{IsS2, IsS4, IsS5}
 use Rattle.fast_template.proofs.BuiltSets.{few_uses_from, in_place_at, built_tree, built_few_nodes}
 use Rattle.fast_template.proofs.EntryLists.{collected_few}

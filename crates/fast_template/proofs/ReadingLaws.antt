@@ -8,7 +8,7 @@ use Rattle.std.proofs.lemmas.Bool.{cases_Bool, false≢true}
 use Rattle.toml.specs.Data.{Data, string, integer, float, boolean, datetime, array, table, Items, no_items, item, Members, no_members, member, get_member}
 use Rattle.fast_value.specs.declared.kinds.Kind.{Kind}
 use Rattle.fast_value.specs.declared.kinds.Kind.TheVariants.{UInt32, Int32, UInt64, Int64, Decimal, Ascii, Unicode, Bytes}
-use Rattle.fast_template.specs.AsWritten.{Written, IsName, Declared, DeclaredList, more}
+use Rattle.fast_tree.specs.AsWritten.{Written, IsName, Declared, DeclaredList, more}
 use Rattle.fast_template.specs.Notation.{kind_name, TextAt, WritesPart, Writes, WritesAll, kind_key, operator_keys as written_keys}
 use Rattle.fast_template.specs.Reading.{has_only, text_of, flag_of, name_of, kind_named, written_of, part_of, operator_keys, name_or_none, own_name_of, length_of, scalar_of, parts_of, group_of, sequence_of, reference_of, has_part, field_of, of_kind, of_table, in_front, declared_of, fields_of, array_fields, all_fields}
 use Rattle.fast_template.proofs.ReadingPieces.{some_after, some_if, some_is, same_text, only_keys, text_there, name_there, flag_there, kind_is, named_text, operator_written, part_written}

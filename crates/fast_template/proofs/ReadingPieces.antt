@@ -7,9 +7,9 @@ use Rattle.std.proofs.lemmas.Bool.{and_parts, cases_Bool, false≢true}
 use Rattle.toml.specs.Data.{Data, string, integer, float, boolean, datetime, array, table, Items, Members, no_members, member, get_member}
 use Rattle.fast_value.specs.declared.kinds.Kind.{Kind}
 use Rattle.fast_value.specs.declared.kinds.Kind.TheVariants.{UInt32, Int32, UInt64, Int64, Decimal, Ascii, Unicode, Bytes}
-use Rattle.fast_template.specs.declared.operators.Operator.{Operator}
-use Rattle.fast_template.specs.declared.operators.Operator.TheVariants.{None as no_operator, Constant, Default, Copy, Increment, Delta, Tail}
-use Rattle.fast_template.specs.AsWritten.{Written, IsName}
+use Rattle.fast_tree.specs.declared.operators.Operator.{Operator}
+use Rattle.fast_tree.specs.declared.operators.Operator.TheVariants.{None as no_operator, Constant, Default, Copy, Increment, Delta, Tail}
+use Rattle.fast_tree.specs.AsWritten.{Written, IsName}
 use Rattle.fast_template.specs.Notation.{kind_name, operator_name, HasOnly, TextAt, NameAt, FlagAt, ItemsAt, IsDictionary, IsInUseUnder, WritesOperator, WritesPart}
 use Rattle.fast_template.specs.Reading.{◌>>=◌, is_name, is_dictionary, is_one_of, has_only, text_of, flag_of, items_of, name_of, kind_named, operator_named, operator_or_none, operator_of, name_or_none, dictionary_or_none, takes, written_of, part_of}
 use Rattle.fast_template.proofs.NameTests.{name_passes, passed_name}

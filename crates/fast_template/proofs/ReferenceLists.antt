@@ -10,9 +10,9 @@ use Rattle.std.proofs.lemmas.List.Elements.{All-nil, All-cons}
 use Rattle.fast_template.specs.declared.codes.StaticCode.TheVariants.{D8}
 use Rattle.fast_template.specs.declared.written.WrittenInstruction.{the_lemmas}
 use Rattle.fast_template.specs.declared.written.WrittenInstruction.TheVariants as V
-use Rattle.fast_template.specs.AsWritten.{reference, DeclaredTemplate, references, all_references}
+use Rattle.fast_tree.specs.AsWritten.{reference, DeclaredTemplate, references, all_references}
 use Rattle.fast_template.specs.Refused.{StandsAt}
-use Rattle.fast_template.specs.Places.{place_of_name}
+use Rattle.fast_tree.specs.Places.{place_of_name}
 use Rattle.fast_template.specs.WrittenSets.{instruction_data}
 use Rattle.fast_template.proofs.PlaceLists.{no_place}
 use Rattle.fast_template.proofs.ReadingPieces.{text_same}

@@ -3,7 +3,7 @@ use Rattle.std.proofs.Common.{◌≡◌, ℕ, List, refl, take, slice_get, Some}
 use Rattle.std.specs.Prelude.{All, IfSome}
 use Rattle.fast_template.specs.declared.codes.StaticCode.{StaticCode}
 use Rattle.fast_template.specs.declared.codes.StaticCode.TheVariants.{S1, S2, S3, S4, S5, D8, C1, C2, C3, C4, C5, C6, Memory}
-use Rattle.fast_template.specs.AsWritten.{DeclaredTemplate, Use, all_uses}
+use Rattle.fast_tree.specs.AsWritten.{DeclaredTemplate, Use, all_uses}
 use Rattle.fast_template.specs.Sound.{IsSound, HasFault}
 use Rattle.fast_template.specs.Faults.{IsFaultAt, fault_of}
 use Rattle.fast_template.specs.Firsts.{pass_of}

@@ -8,7 +8,7 @@ use Rattle.std.proofs.lemmas.Bool.{and_parts, false≢true}
 use Rattle.std.proofs.lemmas.Bool.Decides.{nat_tests}
 use Rattle.toml.specs.Data.{Data, string, integer, float, boolean, datetime, array, table, Items, no_items, item, Members, no_members, member, get_member, get_item, as_array}
 use Rattle.fast_template.specs.declared.codes.StaticCode.{StaticCode}
-use Rattle.fast_template.specs.AsWritten.{DeclaredTemplate}
+use Rattle.fast_tree.specs.AsWritten.{DeclaredTemplate}
 use Rattle.fast_template.specs.Firsts.{IsFirstUnwritten}
 use Rattle.fast_template.specs.Notation.{TextAt, IsDictionary, IdAt, WritesTemplate, WritesTemplates, WritesSet}
 use Rattle.fast_template.specs.Reading.{◌>>=◌, has_only, text_of, flag_of, name_of, id_of, is_dictionary, dictionary_named, dictionary_of, fields_of, template_of, template_in, all_templates, are_tables, are_templates, items_count, members_count, tables_of}

@@ -1,9 +1,9 @@
 -- What is known of each template set.
 use Rattle.std.proofs.Common.{◌≡◌, ℕ, ap, sym, ◌∙◌, slice_get, Some}
 use Rattle.fast_template.specs.declared.sets.Templates.{Templates}
-use Rattle.fast_template.specs.Tree.{HasDistinctIds, TemplateData}
+use Rattle.fast_tree.specs.Tree.{HasDistinctIds, TemplateData}
 use Rattle.fast_template.specs.Flat.{tree_of, templates_of, nodes_of, instructions_from, template_data}
-use Rattle.fast_template.specs.declared.instructions.Template.{Template}
+use Rattle.fast_tree.specs.declared.instructions.Template.{Template}
 use Rattle.fast_template.proofs.Lists.{map_get_back}
 
 -- the set's template behind the tree's

@@ -15,7 +15,7 @@ use Rattle.fast_template.specs.declared.codes.StaticCode.TheVariants.{S1, S2, S3
 use Rattle.fast_template.specs.declared.uses.OperatorPart.{OperatorPart}
 use Rattle.fast_template.specs.declared.written.WrittenOperator.{WrittenOperator}
 use Rattle.fast_template.specs.declared.written.WrittenInstruction.{WrittenInstruction}
-use Rattle.fast_template.specs.AsWritten.{scalar, by_parts, group, sequence, scalar_use, exponent_use, mantissa_use, Declared, Written, Use, uses, all_uses, length_use}
+use Rattle.fast_tree.specs.AsWritten.{scalar, by_parts, group, sequence, scalar_use, exponent_use, mantissa_use, Declared, Written, Use, uses, all_uses, length_use}
 use Rattle.fast_template.specs.Uses.{suits, IsInitialOf, IsS2, IsS3, IsS4, IsS5}
 use Rattle.fast_template.specs.WrittenSets.{operator_data, list_of, instruction_data, fields_data}
 use Rattle.fast_template.specs.Sound.{bare_use, IsInitialAt, IsSound, IsUnsound, HasFault, uses_in}

@@ -7,7 +7,7 @@ use Rattle.std.proofs.lemmas.List.{drop_more}
 use Rattle.std.proofs.lemmas.List.Elements.{filter_map-append}
 use Rattle.fast_template.specs.declared.written.WrittenInstruction.{WrittenInstruction, the_lemmas}
 use Rattle.fast_template.specs.declared.written.WrittenInstruction.TheVariants as V
-use Rattle.fast_template.specs.AsWritten.{reference, references}
+use Rattle.fast_tree.specs.AsWritten.{reference, references}
 use Rattle.fast_template.specs.References.{references_in}
 use Rattle.fast_template.specs.WrittenSets.{instruction_data}
 

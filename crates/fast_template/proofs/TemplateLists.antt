@@ -5,7 +5,7 @@ use Rattle.toml.specs.Data.{Data, Items, Members, get_item, get_member, as_array
 use Rattle.toml.specs.View.{view, items_view, members_view}
 use Rattle.toml.proofs.Views.{items_view-drop, Entry}
 use Rattle.toml.specs.declared.value.Value.{Value}
-use Rattle.fast_template.specs.AsWritten.{DeclaredTemplate}
+use Rattle.fast_tree.specs.AsWritten.{DeclaredTemplate}
 use Rattle.fast_template.specs.Reading.{◌>>=◌, checked, template_in, all_templates, members_count, items_count, are_tables, are_templates, tables_of}
 use Rattle.fast_template.specs.WrittenReading.{IsUnread}
 use Rattle.fast_template.specs.declared.keys.Unread.{Unread}

@@ -2,15 +2,15 @@
 use Rattle.std.proofs.Common.{◌≡◌, ◌⊎◌, ℕ, ◌+◌, ◌-◌, ◌<◌, ◌≤◌, suc, zero, List, [], ◌∷◌, ◌++◌, refl, ap, sym, ◌∙◌, subst, length, map, slice_get, get_or, Some, inl, inr, arith}
 use Rattle.std.specs.Prelude.{slice_index, slice_index_or, Any}
 use Rattle.std.proofs.lemmas.Option.{slice_get_read, slice_get_within, get_or_from_slice_get}
-use Rattle.fast_template.specs.declared.instructions.Shape.{Shape}
-use Rattle.fast_template.specs.declared.instructions.Shape.TheVariants.{Field, Decimal, Group, Sequence}
-use Rattle.fast_template.specs.declared.instructions.Node.{Node}
-use Rattle.fast_template.specs.declared.instructions.Template.{Template}
+use Rattle.fast_tree.specs.declared.instructions.Shape.{Shape}
+use Rattle.fast_tree.specs.declared.instructions.Shape.TheVariants.{Field, Decimal, Group, Sequence}
+use Rattle.fast_tree.specs.declared.instructions.Node.{Node}
+use Rattle.fast_tree.specs.declared.instructions.Template.{Template}
 use Rattle.fast_template.specs.declared.sets.Templates.{Templates}
-use Rattle.fast_template.specs.Tree.{Label, Instruction, TemplateData}
+use Rattle.fast_tree.specs.Tree.{Label, Instruction, TemplateData}
 use Rattle.fast_template.specs.Flat.{tree_of, nodes_of, templates_of, label_of, instruction_of, instructions_from, body_of, no_instruction, template_data}
 use Rattle.fast_template.specs.Labels.{labels, body_labels, template_labels, labels_from}
-use Rattle.fast_template.specs.Numbers.{numbers_of, NameNodes}
+use Rattle.fast_tree.specs.Numbers.{numbers_of, NameNodes}
 use Rattle.fast_template.specs.TextFields.{HoldsText, BodyHoldsText, SetHoldsText, IsTextShape, IsTextNode}
 use Rattle.fast_template.proofs.SetTrees.{template_behind}
 use Rattle.fast_template.proofs.Walks.{instruction_at}

@@ -4,13 +4,13 @@ use Rattle.std.specs.Prelude.{slice_index_or, slice_index}
 use Rattle.std.proofs.lemmas.Option.{slice_get_within, get_or_from_slice_get}
 use Rattle.std.proofs.lemmas.List.{get_or-drop, drop_all}
 use Rattle.std.proofs.Math.Seq.{drop-cons}
-use Rattle.fast_template.specs.declared.instructions.Shape.{Shape}
-use Rattle.fast_template.specs.declared.instructions.Shape.TheVariants.{Field, Decimal, Group, Sequence}
-use Rattle.fast_template.specs.declared.instructions.Node.{Node}
+use Rattle.fast_tree.specs.declared.instructions.Shape.{Shape}
+use Rattle.fast_tree.specs.declared.instructions.Shape.TheVariants.{Field, Decimal, Group, Sequence}
+use Rattle.fast_tree.specs.declared.instructions.Node.{Node}
 use Rattle.fast_template.specs.declared.sets.Templates.{Templates}
-use Rattle.fast_template.specs.Tree.{Label, Instruction, group, sequence, end, step}
+use Rattle.fast_tree.specs.Tree.{Label, Instruction, group, sequence, end, step}
 use Rattle.fast_template.specs.Flat.{nodes_of, label_of, instruction_of, instructions_from, body_of, no_instruction, field_data}
-use Rattle.fast_template.specs.Numbers.{numbers_of, AreBetween}
+use Rattle.fast_tree.specs.Numbers.{numbers_of, AreBetween}
 
 -- the instructions of the nodes that are left are those that are left
 pub instructions-drop : (own k : ℕ) (ns : List Node) → drop k (instructions_from own ns) ≡ instructions_from (own + k) (drop k ns)

@@ -9,7 +9,7 @@ use Rattle.std.proofs.lemmas.Bool.{cases_Bool, false≢true}
 use Rattle.toml.specs.Data.{Data, Items, Members, no_members, member, get_member}
 use Rattle.fast_value.specs.declared.kinds.Kind.{Kind}
 use Rattle.fast_value.specs.declared.kinds.Kind.TheVariants.{UInt32, Int32, UInt64, Int64, Decimal, Ascii, Unicode, Bytes}
-use Rattle.fast_template.specs.AsWritten.{Written, IsName, Declared, scalar, by_parts, group, sequence, reference, DeclaredList, no_more, more}
+use Rattle.fast_tree.specs.AsWritten.{Written, IsName, Declared, scalar, by_parts, group, sequence, reference, DeclaredList, no_more, more}
 use Rattle.fast_template.specs.Notation.{kind_name, HasOnly, TextAt, WritesPart, Writes, WritesAll, operator_keys as written_keys}
 use Rattle.fast_template.specs.Reading.{◌>>=◌, is_one_of, operator_keys, length_of, scalar_of, parts_of, group_of, sequence_of, has_part, of_kind, of_table, declared_of, fields_of, all_fields}
 use Rattle.fast_template.proofs.FieldLists.{fields_of_items}

@@ -1,18 +1,18 @@
 -- The nodes that instructions are spread into, and when they are built.
 use Rattle.std.specs.Prelude.{◌≡◌, ◌≢◌, ℕ, ◌+◌, ◌*◌, ◌≤◌, zero, suc, List, [], ◌∷◌, ◌++◌, All, AllPairs, IsSome, length, map, flat_map, Option, Vec}
 use Rattle.std.specs.Global.{Global}
-use Rattle.fast_template.specs.declared.instructions.Node.{Node}
-use Rattle.fast_template.specs.AsWritten.{DeclaredList, DeclaredTemplate, Use, all_uses, all_references}
+use Rattle.fast_tree.specs.declared.instructions.Node.{Node}
+use Rattle.fast_tree.specs.AsWritten.{DeclaredList, DeclaredTemplate, Use, all_uses, all_references}
 use Rattle.fast_template.specs.Chains.{Fits, nodes_in}
-use Rattle.fast_template.specs.Entries.{Entry, Scope, Collects, uses_from}
+use Rattle.fast_tree.specs.Entries.{Entry, Scope, Collects, uses_from}
 use Rattle.fast_template.specs.EntryKeys.{HasEntry}
 use Rattle.fast_template.specs.InPlace.{InPlace, AreInPlace}
-use Rattle.fast_template.specs.NodeData.{ShapeData, a_field, a_decimal, a_group, a_sequence, NodeData, node_data, TemplateOutline}
-use Rattle.fast_template.specs.Places.{place_of_name}
+use Rattle.fast_tree.specs.NodeData.{ShapeData, a_field, a_decimal, a_group, a_sequence, NodeData, node_data, TemplateOutline}
+use Rattle.fast_tree.specs.Places.{place_of_name}
 use Rattle.fast_template.specs.References.{KnowsReferences}
-use Rattle.fast_template.specs.Sizes.{node_limit}
+use Rattle.fast_tree.specs.Sizes.{node_limit}
 use Rattle.fast_template.specs.Sound.{IsSound}
-use Rattle.fast_template.specs.Tree.{Instruction, field, parts, group, sequence, Body, end, step, TemplateData}
+use Rattle.fast_tree.specs.Tree.{Instruction, field, parts, group, sequence, Body, end, step, TemplateData}
 
 -- the number of an instruction's node
 abbrev pub own_number : Instruction → ℕ

@@ -1,7 +1,7 @@
 -- Chains of references: whether they end, and how many nodes and how much depth they come to.
 use Rattle.std.specs.Prelude.{◌≡◌, ℕ, zero, suc, ◌+◌, max, if◌then◌else◌, List, [], ◌∷◌, Contains, slice_get, Some}
 use Rattle.std.specs.Str.{bytes_eq}
-use Rattle.fast_template.specs.AsWritten.{Declared, scalar, by_parts, group, sequence, reference, DeclaredList, no_more, more, DeclaredTemplate, all_references}
+use Rattle.fast_tree.specs.AsWritten.{Declared, scalar, by_parts, group, sequence, reference, DeclaredList, no_more, more, DeclaredTemplate, all_references}
 
 -- All references of the instructions can be put in place in a chain of no more than so many.
 unfoldable pub Fits : List DeclaredTemplate → ℕ → DeclaredList → Type 0

@@ -1,11 +1,11 @@
 -- Which tree a written template set stands for.
 use Rattle.std.specs.Prelude.{◌≡◌, ◌≢◌, ℕ, suc, ◌≤◌, List, [], length, All, AllPairs, Some}
 use Rattle.toml.specs.Data.{Members}
-use Rattle.fast_template.specs.Tree.{Instruction, field, parts, group, sequence, Body, end, step, bits_of, message_bits, Tree}
-use Rattle.fast_template.specs.Sizes.{body_depth, segment_limit, nesting_limit, node_limit}
-use Rattle.fast_template.specs.AsWritten.{DeclaredTemplate}
+use Rattle.fast_tree.specs.Tree.{Instruction, field, parts, group, sequence, Body, end, step, bits_of, message_bits, Tree}
+use Rattle.fast_tree.specs.Sizes.{body_depth, segment_limit, nesting_limit, node_limit}
+use Rattle.fast_tree.specs.AsWritten.{DeclaredTemplate}
 use Rattle.fast_template.specs.Notation.{WritesSet}
-use Rattle.fast_template.specs.Entries.{Entry, uses_from, Collects}
+use Rattle.fast_tree.specs.Entries.{Entry, uses_from, Collects}
 use Rattle.fast_template.specs.Uses.{IsS2, IsS4, IsS5}
 use Rattle.fast_template.specs.InPlace.{AreInPlace}
 

@@ -3,8 +3,8 @@ use Rattle.std.specs.Prelude.{◌≡◌, ℕ}
 use Rattle.fast_template.specs.declared.caps.Counts.{Counts}
 use Rattle.fast_template.specs.Saturation.{in_64_bits}
 use Rattle.fast_value.specs.declared.settings.Limits.{Limits}
-use Rattle.fast_template.specs.Tree.{Instruction, Body}
-use Rattle.fast_template.specs.Sizes.{event_weights, size, body_size, outer, body_outer, widest, body_widest}
+use Rattle.fast_tree.specs.Tree.{Instruction, Body}
+use Rattle.fast_tree.specs.Sizes.{event_weights, size, body_size, outer, body_outer, widest, body_widest}
 
 -- The counts are these numbers: with the most elements, without elements, and the greatest element.
 pub record AreCounts (c : Counts) (a o w : ℕ) : Type 0 where

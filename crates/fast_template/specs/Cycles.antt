@@ -2,7 +2,7 @@
 use Rattle.std.specs.Prelude.{◌≡◌, ℕ, zero, suc, ◌<◌, ◌≤◌, Bool, true, nat_lt, List, length, Contains, slice_get, Vec, Option, Some}
 use Rattle.std.specs.Global.{Global}
 use Rattle.std.specs.List.{filter_map}
-use Rattle.fast_template.specs.AsWritten.{DeclaredTemplate, all_references}
+use Rattle.fast_tree.specs.AsWritten.{DeclaredTemplate, all_references}
 
 -- the numbers of the templates that a template refers to
 abbrev pub targets_of : (List ℕ → Option ℕ) → DeclaredTemplate → List ℕ

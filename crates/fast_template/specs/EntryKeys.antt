@@ -6,8 +6,8 @@ use Rattle.fast_template.specs.declared.entries.EntryPlace.{EntryPlace}
 use Rattle.fast_template.specs.declared.entries.EntryPlace.TheVariants.{Global, Template, Named}
 use Rattle.fast_template.specs.declared.entries.EntryKey.{EntryKey}
 use Rattle.fast_template.specs.declared.entries.Entries.{Entries}
-use Rattle.fast_template.specs.AsWritten.{Use}
-use Rattle.fast_template.specs.Entries.{Place, global, of_template, named, Entry, Scope, IsEntry, keeps_value}
+use Rattle.fast_tree.specs.AsWritten.{Use}
+use Rattle.fast_tree.specs.Entries.{Place, global, of_template, named, Entry, Scope, IsEntry, keeps_value}
 use Rattle.fast_template.specs.Sound.{part_data}
 use Rattle.fast_template.specs.WrittenSets.{operator_data}
 

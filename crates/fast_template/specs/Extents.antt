@@ -1,8 +1,8 @@
 -- How many nodes instructions come to and how deep they nest, counted up to the greatest number that is held.
 use Rattle.std.specs.Prelude.{◌≡◌, ◌⊎◌, ℕ, zero, suc, ◌+◌, ◌<◌, ◌≤◌, max, min, List, [], ◌∷◌, length, slice_get, Option, Some, None, option_map}
 use Rattle.fast_template.specs.declared.extents.Extent.{Extent}
-use Rattle.fast_template.specs.AsWritten.{Declared, scalar, by_parts, group, sequence, reference, DeclaredList, no_more, more, DeclaredTemplate}
-use Rattle.fast_template.specs.Sizes.{nesting_limit}
+use Rattle.fast_tree.specs.AsWritten.{Declared, scalar, by_parts, group, sequence, reference, DeclaredList, no_more, more, DeclaredTemplate}
+use Rattle.fast_tree.specs.Sizes.{nesting_limit}
 use Rattle.fast_template.specs.Refused.{Reaches}
 use Rattle.fast_template.specs.Chains.{Fits, nodes_in, depth_in}
 

@@ -3,7 +3,7 @@ use Rattle.std.specs.Prelude.{ℕ, List, Option, Some, None}
 use Rattle.fast_template.specs.declared.codes.StaticCode.{StaticCode}
 use Rattle.fast_template.specs.declared.codes.StaticCode.TheVariants.{Memory}
 use Rattle.fast_template.specs.declared.codes.StaticFault.{StaticFault}
-use Rattle.fast_template.specs.AsWritten.{DeclaredTemplate}
+use Rattle.fast_tree.specs.AsWritten.{DeclaredTemplate}
 use Rattle.fast_template.specs.Refused.{StandsAt}
 
 -- The code's condition stands at the template that is named. Want of memory names none.

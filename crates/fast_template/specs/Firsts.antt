@@ -3,11 +3,11 @@ use Rattle.std.specs.Prelude.{◌≡◌, ◌⊎◌, ℕ, ◌<◌, ◌≤◌, Lis
 use Rattle.toml.specs.Data.{table, Items, Members, get_item}
 use Rattle.fast_template.specs.declared.codes.StaticCode.{StaticCode}
 use Rattle.fast_template.specs.declared.codes.StaticCode.TheVariants.{S1, S2, S3, S4, S5, D8, C1, C2, C3, C4, C5, C6, Memory}
-use Rattle.fast_template.specs.AsWritten.{DeclaredTemplate}
+use Rattle.fast_tree.specs.AsWritten.{DeclaredTemplate}
 use Rattle.fast_template.specs.Chains.{Fits, nodes_in, depth_in}
 use Rattle.fast_template.specs.Notation.{WritesTemplate, WritesSet}
 use Rattle.fast_template.specs.Refused.{StandsAt}
-use Rattle.fast_template.specs.Sizes.{nesting_limit, node_limit}
+use Rattle.fast_tree.specs.Sizes.{nesting_limit, node_limit}
 use Rattle.fast_template.specs.Unwritten.{HasTables}
 
 -- the number of the pass that looks for a code's condition

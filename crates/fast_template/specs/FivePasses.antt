@@ -2,7 +2,7 @@
 use Rattle.std.specs.Prelude.{◌≡◌, ◌≢◌, ◌⊎◌, ℕ, List, All, AllPairs, Option, Some}
 use Rattle.toml.specs.Data.{Members}
 use Rattle.fast_template.specs.declared.codes.StaticCode.{StaticCode}
-use Rattle.fast_template.specs.AsWritten.{DeclaredTemplate, all_uses}
+use Rattle.fast_tree.specs.AsWritten.{DeclaredTemplate, all_uses}
 use Rattle.fast_template.specs.Notation.{WritesSet}
 use Rattle.fast_template.specs.References.{KnowsReferences}
 use Rattle.fast_template.specs.Sound.{IsSound}

@@ -1,10 +1,10 @@
 -- The tree that the nodes and templates of a checked set stand for.
 use Rattle.std.specs.Prelude.{List, map}
-use Rattle.fast_template.specs.declared.instructions.Node.{Node}
-use Rattle.fast_template.specs.declared.instructions.Template.{Template}
+use Rattle.fast_tree.specs.declared.instructions.Node.{Node}
+use Rattle.fast_tree.specs.declared.instructions.Template.{Template}
 use Rattle.fast_template.specs.declared.sets.Templates.{Templates}
-use Rattle.fast_template.specs.Tree.{Tree}
-pub use Rattle.fast_template.specs.Nodes.{field_data, label_of, no_instruction, body_of, instruction_of, instructions_from, template_data}
+use Rattle.fast_tree.specs.Tree.{Tree}
+pub use Rattle.fast_tree.specs.Nodes.{field_data, label_of, no_instruction, body_of, instruction_of, instructions_from, template_data}
 
 -- the nodes of a set, by number
 abbrev pub nodes_of : Templates → List Node

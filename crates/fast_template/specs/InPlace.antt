@@ -1,10 +1,10 @@
 -- References in place: which instructions the text of a template stands for.
 use Rattle.std.specs.Prelude.{◌≡◌, ℕ, suc, Bool, List, [], ◌∷◌, slice_get, Option, Some}
 use Rattle.fast_value.specs.declared.kinds.Kind.{Kind}
-use Rattle.fast_template.specs.Tree.{FieldData, Label, field, parts, group, sequence, Body, end, step, TemplateData}
-use Rattle.fast_template.specs.Sizes.{nesting_limit}
-use Rattle.fast_template.specs.AsWritten.{Written, scalar, by_parts, group as group_declared, sequence as sequence_declared, reference, DeclaredList, no_more, more, DeclaredTemplate, scalar_use, exponent_use, mantissa_use, length_use}
-use Rattle.fast_template.specs.Entries.{Entry, Scope, scope_of}
+use Rattle.fast_tree.specs.Tree.{FieldData, Label, field, parts, group, sequence, Body, end, step, TemplateData}
+use Rattle.fast_tree.specs.Sizes.{nesting_limit}
+use Rattle.fast_tree.specs.AsWritten.{Written, scalar, by_parts, group as group_declared, sequence as sequence_declared, reference, DeclaredList, no_more, more, DeclaredTemplate, scalar_use, exponent_use, mantissa_use, length_use}
+use Rattle.fast_tree.specs.Entries.{Entry, Scope, scope_of}
 use Rattle.fast_template.specs.Uses.{IsField}
 
 -- a node's number and name

@@ -1,9 +1,9 @@
 -- The numbers and names of the nodes of a set.
 use Rattle.std.specs.Prelude.{◌≡◌, ℕ, suc, List, [], ◌∷◌, ◌++◌, map, flat_map}
-use Rattle.fast_template.specs.declared.instructions.Node.{Node}
-use Rattle.fast_template.specs.declared.instructions.Template.{Template}
-use Rattle.fast_template.specs.Tree.{Label, Instruction, field, parts, group, sequence, Body, end, step, TemplateData}
-use Rattle.fast_template.specs.Nodes.{label_of, instructions_from, template_data}
+use Rattle.fast_tree.specs.declared.instructions.Node.{Node}
+use Rattle.fast_tree.specs.declared.instructions.Template.{Template}
+use Rattle.fast_tree.specs.Tree.{Label, Instruction, field, parts, group, sequence, Body, end, step, TemplateData}
+use Rattle.fast_tree.specs.Nodes.{label_of, instructions_from, template_data}
 
 -- the labels of an instruction and of all that it holds, in preorder
 abbrev mutual

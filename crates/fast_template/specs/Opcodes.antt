@@ -2,16 +2,16 @@
 use Rattle.std.specs.Prelude.{◌≡◌, Bool, true, false, List, map, Option, Some, None}
 use Rattle.fast_value.specs.declared.kinds.Kind.{Kind}
 use Rattle.fast_value.specs.declared.kinds.Kind.TheVariants.{UInt32, Int32, UInt64, Int64}
-use Rattle.fast_template.specs.declared.instructions.FieldInstruction.{FieldInstruction}
-use Rattle.fast_template.specs.declared.instructions.Node.{Node}
-use Rattle.fast_template.specs.declared.instructions.Shape.{Shape}
-use Rattle.fast_template.specs.declared.instructions.Shape.TheVariants.{Field}
+use Rattle.fast_tree.specs.declared.instructions.FieldInstruction.{FieldInstruction}
+use Rattle.fast_tree.specs.declared.instructions.Node.{Node}
+use Rattle.fast_tree.specs.declared.instructions.Shape.{Shape}
+use Rattle.fast_tree.specs.declared.instructions.Shape.TheVariants.{Field}
 use Rattle.fast_template.specs.declared.opcodes.Opcode.{Opcode}
 use Rattle.fast_template.specs.declared.opcodes.Opcode.TheVariants.{UInt32 as uint32, Int32 as int32, UInt64 as uint64, Int64 as int64, Other}
 use Rattle.fast_template.specs.declared.opcodes.Sending.{Sending}
 use Rattle.fast_template.specs.declared.opcodes.Sending.TheVariants.{Plain, NullablePlain, Default as by_default, NullableDefault, Copy as by_copy, NullableCopy, Increment as by_increment, NullableIncrement, Delta as by_delta, NullableDelta}
-use Rattle.fast_template.specs.declared.operators.Operator.{Operator}
-use Rattle.fast_template.specs.declared.operators.Operator.TheVariants.{None as no_operator, Default, Copy, Increment, Delta}
+use Rattle.fast_tree.specs.declared.operators.Operator.{Operator}
+use Rattle.fast_tree.specs.declared.operators.Operator.TheVariants.{None as no_operator, Default, Copy, Increment, Delta}
 
 -- how a field of integers with an operator stands in the stream, if it can
 abbrev pub sending_of : Operator → Bool → Option Sending

@@ -1,14 +1,14 @@
 -- Sets that are read: what is built of the templates that a text writes.
 use Rattle.std.specs.Prelude.{◌≡◌, ◌≢◌, ℕ, suc, ◌<◌, ◌≤◌, ◌^◌, List, [], All, AllPairs, length, map, sum_by, Option}
 use Rattle.fast_template.specs.declared.building.BuiltSet.{BuiltSet}
-use Rattle.fast_template.specs.AsWritten.{DeclaredTemplate, all_uses}
+use Rattle.fast_tree.specs.AsWritten.{DeclaredTemplate, all_uses}
 use Rattle.fast_template.specs.Built.{AreBuilt}
 use Rattle.fast_template.specs.Chains.{Fits, nodes_in}
-use Rattle.fast_template.specs.Entries.{Entry, Collects, uses_from}
-use Rattle.fast_template.specs.NodeData.{node_data, outline}
-use Rattle.fast_template.specs.Places.{place_of_name}
+use Rattle.fast_tree.specs.Entries.{Entry, Collects, uses_from}
+use Rattle.fast_tree.specs.NodeData.{node_data, outline}
+use Rattle.fast_tree.specs.Places.{place_of_name}
 use Rattle.fast_template.specs.References.{KnowsReferences}
-use Rattle.fast_template.specs.Sizes.{nesting_limit, node_limit}
+use Rattle.fast_tree.specs.Sizes.{nesting_limit, node_limit}
 use Rattle.fast_template.specs.Sound.{IsSound}
 
 -- The templates of a text, of which an index by name is known, can be built.

@@ -1,8 +1,8 @@
 -- The references of a set that is written.
 use Rattle.std.specs.Prelude.{List, All, IsSome}
 use Rattle.fast_template.specs.declared.written.WrittenInstruction.{WrittenInstruction}
-use Rattle.fast_template.specs.AsWritten.{DeclaredTemplate, all_references}
-use Rattle.fast_template.specs.Places.{place_of_name}
+use Rattle.fast_tree.specs.AsWritten.{DeclaredTemplate, all_references}
+use Rattle.fast_tree.specs.Places.{place_of_name}
 use Rattle.fast_template.specs.WrittenSets.{fields_data}
 use Rattle.std.specs.Prelude.{ℕ}
 

@@ -2,10 +2,10 @@
 use Rattle.std.specs.Prelude.{◌≡◌, ◌≢◌, ◌⊎◌, ℕ, zero, suc, ◌<◌, List, All, Any, Contains, slice_get, take, Some}
 use Rattle.fast_template.specs.declared.codes.StaticCode.{StaticCode}
 use Rattle.fast_template.specs.declared.codes.StaticCode.TheVariants.{S1, S2, S3, S4, S5, D8, C1, C2, C3, C4, C5, C6, Memory}
-use Rattle.fast_template.specs.Tree.{Body, bits_of, TemplateData}
-use Rattle.fast_template.specs.Sizes.{body_depth, segment_limit, nesting_limit, node_limit}
-use Rattle.fast_template.specs.AsWritten.{DeclaredTemplate, all_uses, all_references}
-use Rattle.fast_template.specs.Entries.{Entry, scope_of}
+use Rattle.fast_tree.specs.Tree.{Body, bits_of, TemplateData}
+use Rattle.fast_tree.specs.Sizes.{body_depth, segment_limit, nesting_limit, node_limit}
+use Rattle.fast_tree.specs.AsWritten.{DeclaredTemplate, all_uses, all_references}
+use Rattle.fast_tree.specs.Entries.{Entry, scope_of}
 use Rattle.fast_template.specs.Uses.{IsS2, IsS3, IsS4, IsS5}
 use Rattle.fast_template.specs.InPlace.{InPlace, AreInPlace}
 use Rattle.fast_template.specs.Checked.{AreNarrowInside}

@@ -1,7 +1,7 @@
 -- Templates whose segments have no more bits than a presence map.
 use Rattle.std.specs.Prelude.{◌⊎◌, ℕ, ◌<◌, ◌≤◌}
-use Rattle.fast_template.specs.Tree.{Body, bits_of, TemplateData, message_bits}
-use Rattle.fast_template.specs.Sizes.{segment_limit}
+use Rattle.fast_tree.specs.Tree.{Body, bits_of, TemplateData, message_bits}
+use Rattle.fast_tree.specs.Sizes.{segment_limit}
 use Rattle.fast_template.specs.Checked.{AreNarrowInside}
 
 -- the segment has at most so many bits, and those inside it at most those of a presence map

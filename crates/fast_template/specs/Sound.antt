@@ -8,7 +8,7 @@ use Rattle.fast_template.specs.declared.codes.StaticCode.TheVariants.{S2, S3, S4
 use Rattle.fast_template.specs.declared.uses.OperatorPart.{OperatorPart}
 use Rattle.fast_template.specs.declared.uses.OperatorPart.TheVariants.{Whole, Exponent, Mantissa, Length}
 use Rattle.fast_template.specs.declared.written.WrittenInstruction.{WrittenInstruction}
-use Rattle.fast_template.specs.AsWritten.{Part, whole, exponent, mantissa, length, Written, Use, all_uses}
+use Rattle.fast_tree.specs.AsWritten.{Part, whole, exponent, mantissa, length, Written, Use, all_uses}
 use Rattle.fast_template.specs.Uses.{IsInitialOf, IsInitialInPart, IsS2, IsS3, IsS4, IsS5}
 use Rattle.fast_template.specs.WrittenSets.{fields_data}
 

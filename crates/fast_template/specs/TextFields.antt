@@ -1,11 +1,11 @@
 -- Fields whose values are texts, by the dictionary entries that they read and write.
 use Rattle.std.specs.Prelude.{◌≡◌, ◌⊎◌, ℕ, Some, Any}
 use Rattle.fast_value.specs.Kinds.{family, texts}
-use Rattle.fast_template.specs.declared.instructions.Shape.{Shape}
-use Rattle.fast_template.specs.declared.instructions.Shape.TheVariants.{Field, Decimal, Group, Sequence}
-use Rattle.fast_template.specs.declared.instructions.Node.{Node}
-use Rattle.fast_template.specs.Tree.{FieldData, Instruction, field, parts, group, sequence, Body, end, step, Tree}
-use Rattle.fast_template.specs.Nodes.{field_data}
+use Rattle.fast_tree.specs.declared.instructions.Shape.{Shape}
+use Rattle.fast_tree.specs.declared.instructions.Shape.TheVariants.{Field, Decimal, Group, Sequence}
+use Rattle.fast_tree.specs.declared.instructions.Node.{Node}
+use Rattle.fast_tree.specs.Tree.{FieldData, Instruction, field, parts, group, sequence, Body, end, step, Tree}
+use Rattle.fast_tree.specs.Nodes.{field_data}
 
 -- the field is an ASCII, Unicode or byte vector field on this entry
 abbrev pub IsTextUnder : ℕ → FieldData → Type 0

@@ -2,11 +2,11 @@
 use Rattle.std.specs.Prelude.{◌≡◌, ℕ, Bool, true, false, List, Option, Some, None}
 use Rattle.fast_value.specs.Kinds.{ScalarData, integer_of, Family, integers, decimals, texts, family, exponent_range, IsWithin}
 use Rattle.fast_value.specs.Initial.{IsInitial}
-use Rattle.fast_template.specs.declared.operators.Operator.{Operator}
-use Rattle.fast_template.specs.declared.operators.Operator.TheVariants.{Constant, Default, Increment, Tail}
-use Rattle.fast_template.specs.Tree.{FieldData}
-use Rattle.fast_template.specs.AsWritten.{Part, exponent, Use}
-use Rattle.fast_template.specs.Entries.{Entry, Scope, EntryNumber}
+use Rattle.fast_tree.specs.declared.operators.Operator.{Operator}
+use Rattle.fast_tree.specs.declared.operators.Operator.TheVariants.{Constant, Default, Increment, Tail}
+use Rattle.fast_tree.specs.Tree.{FieldData}
+use Rattle.fast_tree.specs.AsWritten.{Part, exponent, Use}
+use Rattle.fast_tree.specs.Entries.{Entry, Scope, EntryNumber}
 
 -- The operator suits the family.
 abbrev pub suits : Operator → Family → Bool

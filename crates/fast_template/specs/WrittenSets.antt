@@ -5,7 +5,7 @@ use Rattle.fast_template.specs.declared.written.WrittenInstruction.{WrittenInstr
 use Rattle.fast_template.specs.declared.written.WrittenInstruction.TheOpen.{WrittenInstruction-F, Scalar, Parts, Group, Sequence, Reference}
 use Rattle.fast_template.specs.declared.written.WrittenInstruction.TheFolds.{fold-WrittenInstruction}
 use Rattle.fast_template.specs.declared.written.WrittenTemplate.{WrittenTemplate}
-use Rattle.fast_template.specs.AsWritten.{Written, Declared, scalar, by_parts, group, sequence, reference, DeclaredList, no_more, more, DeclaredTemplate}
+use Rattle.fast_tree.specs.AsWritten.{Written, Declared, scalar, by_parts, group, sequence, reference, DeclaredList, no_more, more, DeclaredTemplate}
 
 -- a written operator
 abbrev pub operator_data : WrittenOperator → Written

@@ -3,24 +3,24 @@
 ghost use Rattle.std.specs.Prelude.{ℕ, suc, Bool, false, List, Option, ◌≡◌, ◌<◌, ◌≤◌, ◌*◌, ◌^◌, All, sum_by, ◌++◌, ◌∷◌, [], length, map, option_map, IfOk, OnOk};
 ghost use Rattle.std.specs.HashMap.{get_by_text};
 ghost use Rattle.fast_value.specs.Values.{value_data};
-ghost use Rattle.fast_template.specs.AsWritten.{Written, group, sequence, reference, no_more, more, length_use};
+ghost use Rattle.fast_tree.specs.AsWritten.{Written, group, sequence, reference, no_more, more, length_use};
 ghost use Rattle.fast_template.specs.Built.{with_shape, data_of, IsReady, IsIndexed, CanBuild, IsBuilt, AreBuilt};
 ghost use Rattle.fast_template.specs.Chains.{Fits, nodes_in};
 ghost use Rattle.fast_template.specs.EntryKeys.{scope_data, use_data, entries_of};
-ghost use Rattle.fast_template.specs.NodeData.{a_group, node_data, shape_data, outline};
-ghost use Rattle.fast_template.specs.Nodes.{field_data};
-ghost use Rattle.fast_template.specs.Sizes.{nesting_limit, node_limit};
+ghost use Rattle.fast_tree.specs.NodeData.{a_group, node_data, shape_data, outline};
+ghost use Rattle.fast_tree.specs.Nodes.{field_data};
+ghost use Rattle.fast_tree.specs.Sizes.{nesting_limit, node_limit};
 ghost use Rattle.fast_template.specs.Uses.{IsInitialOf, IsField};
 ghost use Rattle.fast_template.specs.Sound.{IsSound};
 ghost use Rattle.fast_template.specs.WrittenSets.{instruction_data, fields_data, written_data};
 
 use crate::codes::StaticCode;
 use crate::entries::Entries;
-use crate::instructions::{FieldInstruction, Node, Shape, Template};
 use crate::passes::WrittenSet;
 use crate::scopes::{OperatorUse, TextScope, exponent_use, length_use, mantissa_use, scalar_use};
 use crate::uses::{OperatorPart, initial_in};
 use crate::written::{WrittenInstruction, WrittenTemplate};
+use fast_tree::{FieldInstruction, Node, Shape, Template};
 use fast_value::{Kind, Value};
 use std::alloc::{AllocError, Global};
 

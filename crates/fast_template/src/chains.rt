@@ -4,15 +4,15 @@
 ghost use Rattle.std.specs.Prelude.{◌≡◌, ◌≢◌, ◌↔◌, ◌<◌, ◌≤◌, ◌^◌, ℕ, suc, List, is_some, map, length, replicate, take, sum_by, All, AllPairs, Some, None, IsTrue, IfSome, IfOk, IfErr, OnOk};
 ghost use Rattle.std.specs.List.{list_all};
 ghost use Rattle.std.specs.HashMap.{get_by_text};
-ghost use Rattle.fast_template.specs.AsWritten.{all_uses};
+ghost use Rattle.fast_tree.specs.AsWritten.{all_uses};
 ghost use Rattle.fast_template.specs.Chains.{Fits, nodes_in, depth_in};
 ghost use Rattle.fast_template.specs.Extents.{named_extent, next_extents, known_nodes, AreExtents, IsShallow, IsDeepAt};
 ghost use Rattle.fast_template.specs.Faults.{IsFaultAt};
 ghost use Rattle.fast_template.specs.Firsts.{IsFirstInChains};
-ghost use Rattle.fast_template.specs.Places.{place_of_name};
+ghost use Rattle.fast_tree.specs.Places.{place_of_name};
 ghost use Rattle.fast_template.specs.Refused.{StandsAt};
 ghost use Rattle.fast_template.specs.References.{KnowsReferences};
-ghost use Rattle.fast_template.specs.Sizes.{nesting_limit, node_limit};
+ghost use Rattle.fast_tree.specs.Sizes.{nesting_limit, node_limit};
 ghost use Rattle.fast_template.specs.Sound.{IsSound};
 ghost use Rattle.fast_template.specs.WrittenSets.{written_data};
 

@@ -3,10 +3,10 @@
 ghost use Rattle.std.specs.Prelude.{◌≡◌, ◌≢◌, ◌<◌, ◌^◌, ℕ, List, nat_eq, is_some, map, length, take, All, AllPairs, Some, IfSome, IsSome, IfOk, IfErr, OnOk};
 ghost use Rattle.std.specs.List.{list_all};
 ghost use Rattle.std.specs.HashMap.{get, get_by_text};
-ghost use Rattle.fast_template.specs.AsWritten.{all_uses, references, all_references};
+ghost use Rattle.fast_tree.specs.AsWritten.{all_uses, references, all_references};
 ghost use Rattle.fast_template.specs.Faults.{IsFaultAt, fault_of};
 ghost use Rattle.fast_template.specs.Firsts.{pass_of};
-ghost use Rattle.fast_template.specs.Places.{place_of_name, place_of_id};
+ghost use Rattle.fast_tree.specs.Places.{place_of_name, place_of_id};
 ghost use Rattle.fast_template.specs.References.{references_in, KnowsReferences};
 ghost use Rattle.fast_template.specs.Sound.{IsSound};
 ghost use Rattle.fast_template.specs.WrittenSets.{instruction_data, written_data};

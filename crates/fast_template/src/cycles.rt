@@ -3,9 +3,9 @@
 ghost use Rattle.std.specs.Prelude.{◌≡◌, ◌<◌, ◌^◌, ◌≢◌, ◌++◌, ℕ, List, true, map, length, All, AllPairs, IsTrue, IfOk, IfSome, OnOk};
 ghost use Rattle.std.specs.List.{filter_map};
 ghost use Rattle.std.specs.HashMap.{get_by_text};
-ghost use Rattle.fast_template.specs.AsWritten.{references};
+ghost use Rattle.fast_tree.specs.AsWritten.{references};
 ghost use Rattle.fast_template.specs.Cycles.{numbers, targets_of, IsReached, IsCyclic, AreWithin, LeadsDown, AreRanked};
-ghost use Rattle.fast_template.specs.Places.{place_of_name};
+ghost use Rattle.fast_tree.specs.Places.{place_of_name};
 ghost use Rattle.fast_template.specs.Refused.{StandsAt};
 ghost use Rattle.fast_template.specs.References.{references_in};
 ghost use Rattle.fast_template.specs.WrittenSets.{instruction_data, written_data};

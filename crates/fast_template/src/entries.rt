@@ -1,17 +1,17 @@
 //! The dictionary entries of a set, numbered in the order of its text.
 
 ghost use Rattle.std.specs.Prelude.{◌≡◌, ◌⊎◌, ◌++◌, ◌∷◌, [], suc, ◌<◌, ◌≤◌, ◌*◌, ◌^◌, slice_get, length, map, Contains, Some, IfSome, IfNone, IfOk, OnOk};
-ghost use Rattle.fast_template.specs.AsWritten.{uses};
-ghost use Rattle.fast_template.specs.Entries.{IsPlace, IsEntry, EntryNumber, keeps_value, Collects, in_scope, uses_from};
+ghost use Rattle.fast_tree.specs.AsWritten.{uses};
+ghost use Rattle.fast_tree.specs.Entries.{IsPlace, IsEntry, EntryNumber, keeps_value, Collects, in_scope, uses_from};
 ghost use Rattle.fast_template.specs.EntryKeys.{scope_data, use_data, place_data, key_data, entries_of, HasEntry};
-ghost use Rattle.fast_template.specs.Sizes.{node_limit};
+ghost use Rattle.fast_tree.specs.Sizes.{node_limit};
 ghost use Rattle.fast_template.specs.Sound.{uses_in};
 ghost use Rattle.fast_template.specs.WrittenSets.{instruction_data, written_data};
 
-use crate::operators::Operator;
 use crate::scopes::{OperatorUse, TextScope, exponent_use, length_use, mantissa_use, scalar_use};
 use crate::uses::OperatorPart;
 use crate::written::{WrittenInstruction, WrittenTemplate};
+use fast_tree::Operator;
 use indexmap::IndexSet;
 use std::alloc::{AllocError, Global};
 

@@ -2,7 +2,7 @@
 
 ghost use Rattle.fast_template.specs.Reading.{is_name};
 ghost use Rattle.std.specs.Prelude.{◌≡◌, ◌↔◌, IsTrue};
-ghost use Rattle.fast_template.specs.AsWritten.{IsName, IsNameByte};
+ghost use Rattle.fast_tree.specs.AsWritten.{IsName, IsNameByte};
 
 /// Whether the byte may stand in a name.
 fn is_name_byte(b: u8) -> bool

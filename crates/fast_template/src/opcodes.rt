@@ -3,8 +3,7 @@
 ghost use Rattle.std.specs.Prelude.{◌≡◌, IfOk};
 ghost use Rattle.fast_template.specs.Opcodes.{sending_of, integer_opcode, opcode_of, opcodes_of};
 
-use crate::instructions::{Node, Shape};
-use crate::operators::Operator;
+use fast_tree::{Node, Operator, Shape};
 use fast_value::Kind;
 use std::alloc::{AllocError, Global};
 

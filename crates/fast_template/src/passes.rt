@@ -5,7 +5,7 @@ ghost use Rattle.std.specs.HashMap.{get, get_by_text};
 ghost use Rattle.toml.specs.Parse.{parse_document};
 ghost use Rattle.fast_template.specs.Firsts.{IsFirstFault};
 ghost use Rattle.fast_template.specs.FivePasses.{IsWellWritten, IsAtFault};
-ghost use Rattle.fast_template.specs.Places.{place_of_name, place_of_id};
+ghost use Rattle.fast_tree.specs.Places.{place_of_name, place_of_id};
 ghost use Rattle.fast_template.specs.WrittenSets.{written_data};
 
 use crate::checks::{check_references, check_uses, index_ids, index_names};

@@ -1,19 +1,19 @@
 //! What can be asked of a template set. No query takes memory.
 
 ghost use Rattle.std.specs.Prelude.{◌≡◌, ◌≢◌, ◌≤◌, ◌<◌, ℕ, length, slice_get, Some, IfSome, IfNone, string_bytes};
-ghost use Rattle.fast_template.specs.declared.instructions.Template.{Template};
-ghost use Rattle.fast_template.specs.declared.instructions.Node.{Node};
+ghost use Rattle.fast_tree.specs.declared.instructions.Template.{Template};
+ghost use Rattle.fast_tree.specs.declared.instructions.Node.{Node};
 ghost use Rattle.fast_template.specs.Flat.{templates_of, nodes_of, tree_of};
 ghost use Rattle.fast_template.specs.Labels.{template_labels, labels_from};
-ghost use Rattle.fast_template.specs.Tree.{HasDistinctIds};
-ghost use Rattle.fast_template.specs.NodeData.{shape_data};
+ghost use Rattle.fast_tree.specs.Tree.{HasDistinctIds};
+ghost use Rattle.fast_tree.specs.NodeData.{shape_data};
 ghost use Rattle.fast_template.specs.Opcodes.{opcode_of};
-ghost use Rattle.fast_template.specs.Usable.{IsUsableShape};
-ghost use Rattle.fast_template.specs.Numbers.{numbers_of, AreBelow, AreBetween};
+ghost use Rattle.fast_tree.specs.Usable.{IsUsableShape};
+ghost use Rattle.fast_tree.specs.Numbers.{numbers_of, AreBelow, AreBetween};
 
-use crate::instructions::{Node, Template};
 use crate::opcodes::Opcode;
 use crate::sets::Templates;
+use fast_tree::{Node, Template};
 
 impl Templates {
     /// The number of templates.

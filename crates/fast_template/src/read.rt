@@ -9,7 +9,7 @@ ghost use Rattle.fast_template.specs.Firsts.{IsFirstFault};
 ghost use Rattle.fast_template.specs.FivePasses.{IsAtFault};
 ghost use Rattle.fast_template.specs.Flat.{tree_of};
 ghost use Rattle.fast_template.specs.ReadSets.{IsChecked, IsSetBuilt};
-ghost use Rattle.fast_template.specs.Tree.{Tree};
+ghost use Rattle.fast_tree.specs.Tree.{Tree};
 ghost use Rattle.fast_template.specs.WrittenSets.{written_data};
 
 use crate::building::{Builder, BuiltSet};

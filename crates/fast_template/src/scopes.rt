@@ -1,7 +1,7 @@
 //! Operators where they are used, and the texts in which they stand.
 
 ghost use Rattle.std.specs.Prelude.{◌≡◌, option_map, string_bytes};
-ghost use Rattle.fast_template.specs.AsWritten.{scalar_use, exponent_use, mantissa_use, length_use};
+ghost use Rattle.fast_tree.specs.AsWritten.{scalar_use, exponent_use, mantissa_use, length_use};
 ghost use Rattle.fast_template.specs.EntryKeys.{use_data};
 ghost use Rattle.fast_template.specs.WrittenSets.{operator_data};
 

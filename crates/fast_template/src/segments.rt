@@ -2,13 +2,12 @@
 
 ghost use Rattle.std.specs.Prelude.{◌≡◌, ◌↔◌, ℕ, ◌<◌, ◌≤◌, ◌^◌, length, map, take, slice_get, slice_index_or, All, Some, IsTrue, OnOk, IfErr, List};
 ghost use Rattle.fast_template.specs.Checked.{IsNarrowInside};
-ghost use Rattle.fast_template.specs.Nodes.{field_data, body_of, instruction_of, instructions_from, no_instruction, template_data};
-ghost use Rattle.fast_template.specs.Numbers.{AreBelow, NameNodes, NameLaterNodes};
+ghost use Rattle.fast_tree.specs.Nodes.{field_data, body_of, instruction_of, instructions_from, no_instruction, template_data};
+ghost use Rattle.fast_tree.specs.Numbers.{AreBelow, NameNodes, NameLaterNodes};
 ghost use Rattle.fast_template.specs.Segments.{IsNarrowSegment, IsNarrow, IsWide};
-ghost use Rattle.fast_template.specs.Tree.{Label, Instruction, uses_bit, bits_used, bits_of, TemplateData};
+ghost use Rattle.fast_tree.specs.Tree.{Label, Instruction, uses_bit, bits_used, bits_of, TemplateData};
 
-use crate::instructions::{FieldInstruction, Node, Shape, Template};
-use crate::operators::Operator;
+use fast_tree::{FieldInstruction, Node, Operator, Shape, Template};
 
 /// The most bits of a segment: seven for each byte of the longest presence map.
 const SEGMENT_LIMIT: usize = 1022;

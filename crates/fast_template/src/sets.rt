@@ -3,12 +3,12 @@
 ghost use Rattle.std.specs.Prelude.{◌≡◌, ℕ, List, ◌≤◌, ◌<◌, ◌^◌, length, nat_eq};
 ghost use Rattle.std.specs.HashMap.{get, get_by_text};
 ghost use Rattle.fast_template.specs.Labels.{AreInPreorder};
-ghost use Rattle.fast_template.specs.Numbers.{NameNodes, NameLaterNodes, HaveDistinctIds, number_of_name, number_of_id};
+ghost use Rattle.fast_tree.specs.Numbers.{NameNodes, NameLaterNodes, HaveDistinctIds, number_of_name, number_of_id};
 ghost use Rattle.fast_template.specs.Opcodes.{opcodes_of};
-ghost use Rattle.fast_template.specs.Usable.{AreUsable};
+ghost use Rattle.fast_tree.specs.Usable.{AreUsable};
 
-use crate::instructions::{Node, Template};
 use crate::opcodes::Opcode;
+use fast_tree::{Node, Template};
 use std::collections::HashMap;
 
 /// A checked template set. Templates are numbered from 0 in the order of their text; nodes, which are the instructions of

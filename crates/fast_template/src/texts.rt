@@ -3,10 +3,10 @@
 ghost use Rattle.std.specs.Prelude.{◌≡◌, ◌↔◌, Any, IsTrue};
 ghost use Rattle.fast_template.specs.Flat.{nodes_of, tree_of};
 ghost use Rattle.fast_template.specs.TextFields.{IsTextUnder, IsTextNode, SetHoldsText};
-ghost use Rattle.fast_template.specs.Nodes.{field_data};
+ghost use Rattle.fast_tree.specs.Nodes.{field_data};
 
-use crate::instructions::{FieldInstruction, Node, Shape};
 use crate::sets::Templates;
+use fast_tree::{FieldInstruction, Node, Shape};
 use fast_value::Kind;
 
 /// Whether a field has texts under this entry.

@@ -4,14 +4,14 @@ ghost use Rattle.std.specs.Prelude.{◌≡◌, ◌≢◌, ◌↔◌, IsTrue, IfO
 ghost use Rattle.fast_value.specs.declared.kinds.Kind.{Kind};
 ghost use Rattle.fast_value.specs.Kinds.{family, integer_of, exponent_range, IsWithin, ScalarData};
 ghost use Rattle.fast_value.specs.Values.{value_data};
-ghost use Rattle.fast_template.specs.AsWritten.{uses, length_use};
+ghost use Rattle.fast_tree.specs.AsWritten.{uses, length_use};
 ghost use Rattle.fast_template.specs.Uses.{suits};
 ghost use Rattle.fast_template.specs.Sound.{bare_use, IsInitialAt, IsSound, IsUnsound, HasFault, uses_in};
 ghost use Rattle.fast_template.specs.WrittenSets.{operator_data, instruction_data};
 
 use crate::codes::StaticCode;
-use crate::operators::Operator;
 use crate::written::{WrittenInstruction, WrittenOperator};
+use fast_tree::Operator;
 use fast_value::{InitialFault, Kind, Value, parse_initial};
 use std::alloc::Global;
 

@@ -1,6 +1,6 @@
 //! Template sets as they are written, before references are put in place.
 
-use crate::operators::Operator;
+use fast_tree::Operator;
 use fast_value::Kind;
 
 /// An operator with its initial value, key and dictionary, each only where it is written.

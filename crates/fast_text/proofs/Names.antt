@@ -3,11 +3,11 @@ use Rattle.std.proofs.Common.{◌≡◌, ℕ, ◌+◌, ◌≤◌, zero, suc, Boo
 use Rattle.std.specs.Prelude.{if◌then◌else◌, option_map, string_bytes}
 use Rattle.std.proofs.lemmas.Bool.{ne_eqb}
 use Rattle.std.proofs.lemmas.Option.{slice_get-map, slice_get_past}
-use Rattle.fast_template.specs.declared.instructions.Node.{Node}
-use Rattle.fast_template.specs.declared.instructions.Template.{Template}
+use Rattle.fast_tree.specs.declared.instructions.Node.{Node}
+use Rattle.fast_tree.specs.declared.instructions.Template.{Template}
 use Rattle.fast_template.specs.declared.sets.Templates.{Templates}
-use Rattle.fast_template.specs.Tree.{Label}
-use Rattle.fast_template.specs.Nodes.{label_of, instructions_from, template_data}
+use Rattle.fast_tree.specs.Tree.{Label}
+use Rattle.fast_tree.specs.Nodes.{label_of, instructions_from, template_data}
 use Rattle.fast_template.specs.Labels.{labels_from, template_labels}
 use Rattle.fast_template.specs.Flat.{tree_of, nodes_of, templates_of}
 use Rattle.fast_text.specs.Lines.{name_among, node_name, name_if, template_name}

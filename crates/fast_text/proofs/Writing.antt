@@ -5,7 +5,7 @@ use Rattle.std.proofs.lemmas.Grind.{flat_map-append}
 use Rattle.std.proofs.lemmas.List.Elements.{All-head, All-tail}
 use Rattle.fast_text.specs.declared.line_writer.LineWriter.{LineWriter}
 use Rattle.fast_text.specs.Streams.{Appends, AppendsFront}
-use Rattle.fast_decoder.specs.Events.{EventData}
+use Rattle.fast_stream.specs.Events.{EventData}
 use Rattle.fast_text.specs.declared.line_sink.LineSink.{LineSink}
 use Rattle.fast_text.specs.LineSink.{whole_line, TakesLine, StopsInLine}
 use Rattle.fast_text.specs.LineWriter.{Point, Puts, Writes, point_of}

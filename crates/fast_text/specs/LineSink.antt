@@ -3,7 +3,7 @@ use Rattle.std.specs.Prelude.{◌≡◌, ℕ, Bool, IsTrue, List, [], ◌∷◌,
 use Rattle.std.specs.Borrow.{Bor, MutBor}
 use Rattle.fast_template.specs.declared.sets.Templates.{Templates}
 use Rattle.fast_template.specs.Flat.{tree_of}
-use Rattle.fast_decoder.specs.Events.{EventData}
+use Rattle.fast_stream.specs.Events.{EventData}
 use Rattle.fast_text.specs.declared.line_sink.LineSink.{LineSink}
 use Rattle.fast_text.specs.Lines.{line_of}
 use Rattle.fast_text.specs.Streams.{Appends, AppendsFront}

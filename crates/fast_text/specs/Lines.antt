@@ -2,9 +2,9 @@
 use Rattle.std.specs.Prelude.{ℕ, ◌+◌, ◌/◌, ◌%◌, ◌||◌, nat_eq, nat_lt, if◌then◌else◌, List, [], ◌∷◌, ◌++◌, flat_map, slice_get, codes, decimal, Option, Some, None}
 use Rattle.std.specs.Fmt.{signed_decimal}
 use Rattle.fast_value.specs.Kinds.{ScalarData, U, I, Dec, AsciiText, UnicodeText, ByteVector}
-use Rattle.fast_template.specs.Tree.{Label, TemplateData, Tree}
+use Rattle.fast_tree.specs.Tree.{Label, TemplateData, Tree}
 use Rattle.fast_template.specs.Labels.{template_labels}
-use Rattle.fast_decoder.specs.Events.{EventData, MessageStart, FieldValue, GroupStart, GroupEnd, SequenceStart, ElementStart, ElementEnd, SequenceEnd, MessageEnd}
+use Rattle.fast_stream.specs.Events.{EventData, MessageStart, FieldValue, GroupStart, GroupEnd, SequenceStart, ElementStart, ElementEnd, SequenceEnd, MessageEnd}
 
 -- The name of a node, and of a template; empty for a number that the set doesn't have.
 abbrev pub name_among : ℕ → List Label → List ℕ

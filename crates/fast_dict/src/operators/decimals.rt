@@ -3,7 +3,7 @@
 ghost use Rattle.std.specs.Prelude.{◌≡◌, ◌^◌, pos, neg_ℤ, ◌≤ℤ◌, ◌<ℤ◌};
 ghost use Rattle.fast_value.specs.Kinds.{Dec, exponent_of, mantissa_of, signed_range};
 ghost use Rattle.fast_value.specs.Values.{scalar_data};
-ghost use Rattle.fast_template.specs.Flat.{field_data};
+ghost use Rattle.fast_tree.specs.Nodes.{field_data};
 ghost use Rattle.fast_dict.specs.Answers.{outcome_answer};
 ghost use Rattle.fast_dict.specs.Operators.{exponent_step, mantissa_step};
 ghost use Rattle.fast_dict.specs.Previous.{previous_data};
@@ -11,7 +11,7 @@ ghost use Rattle.fast_dict.specs.Previous.{previous_data};
 use super::integers::{range_of, sum_in};
 use super::{Outcome, delta_base};
 use crate::previous::Previous;
-use fast_template::FieldInstruction;
+use fast_tree::FieldInstruction;
 use fast_value::{Code, Kind, Scalar};
 
 /// The exponent of a decimal behind its delta.

@@ -3,14 +3,14 @@
 ghost use Rattle.std.specs.Prelude.{◌≡◌, ◌^◌, ◌<◌, pos, neg_ℤ, true, ◌+ℤ◌, ◌≤ℤ◌, ◌<ℤ◌, IfOk};
 ghost use Rattle.fast_value.specs.Kinds.{value_of_integer, integer_of};
 ghost use Rattle.fast_value.specs.Values.{scalar_data};
-ghost use Rattle.fast_template.specs.Flat.{field_data};
+ghost use Rattle.fast_tree.specs.Nodes.{field_data};
 ghost use Rattle.fast_dict.specs.Answers.{outcome_answer};
 ghost use Rattle.fast_dict.specs.Operators.{integer_step, range_of, ranged};
 ghost use Rattle.fast_dict.specs.Previous.{previous_data};
 
 use super::{Outcome, delta_base};
 use crate::previous::Previous;
-use fast_template::FieldInstruction;
+use fast_tree::FieldInstruction;
 use fast_value::{Code, Kind, Scalar};
 
 /// The delta of an integer: the sum of its base and the delta, which the entry then holds.

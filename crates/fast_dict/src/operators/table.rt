@@ -3,7 +3,7 @@
 ghost use Rattle.std.specs.Prelude.{◌≡◌, ◌↔◌, true, false};
 ghost use Rattle.fast_value.specs.Kinds.{family};
 ghost use Rattle.fast_value.specs.Values.{scalar_data};
-ghost use Rattle.fast_template.specs.Flat.{field_data};
+ghost use Rattle.fast_tree.specs.Nodes.{field_data};
 ghost use Rattle.fast_dict.specs.Answers.{outcome_answer, scalar_answer};
 ghost use Rattle.fast_dict.specs.Operators.{decide, sent_plain, sent_kept, sent_delta, gives_none, checked_in, unsent};
 ghost use Rattle.fast_dict.specs.Previous.{previous_data};
@@ -15,7 +15,7 @@ use super::integers::integer_delta;
 use super::texts::{checked_text, text_of};
 use super::unsent::{copied, fixed, incremented};
 use crate::previous::Previous;
-use fast_template::{FieldInstruction, Operator};
+use fast_tree::{FieldInstruction, Operator};
 use fast_value::{Code, Kind, Scalar};
 
 /// What was sent for a field.

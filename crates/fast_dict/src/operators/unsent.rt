@@ -3,8 +3,8 @@
 ghost use Rattle.std.specs.Prelude.{◌≡◌, ◌≢◌, Ok};
 ghost use Rattle.fast_value.specs.Kinds.{value_of_integer, integer_of};
 ghost use Rattle.fast_value.specs.Values.{scalar_data};
-ghost use Rattle.fast_template.specs.Flat.{field_data};
-ghost use Rattle.fast_template.specs.declared.operators.Operator.{Operator};
+ghost use Rattle.fast_tree.specs.Nodes.{field_data};
+ghost use Rattle.fast_tree.specs.declared.operators.Operator.{Operator};
 ghost use Rattle.fast_dict.specs.Answers.{outcome_data, outcome_answer};
 ghost use Rattle.fast_dict.specs.Operators.{unsent, fixed, from_initial, next_value, incremented, range_of};
 ghost use Rattle.fast_dict.specs.Previous.{previous_data};
@@ -12,7 +12,7 @@ ghost use Rattle.fast_dict.specs.Previous.{previous_data};
 use super::integers::{integer_of, integer_value, range_of};
 use super::{Outcome, initial_value, of_kind};
 use crate::previous::Previous;
-use fast_template::FieldInstruction;
+use fast_tree::FieldInstruction;
 use fast_value::{Code, Kind, Scalar};
 
 /// A constant that is there, and a default where nothing is sent: the initial value. Without one a default is absent.

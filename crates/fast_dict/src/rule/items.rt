@@ -3,7 +3,7 @@
 ghost use Rattle.std.specs.Prelude.{◌≡◌, ◌^◌, ℕ, pos, neg_ℤ, ◌-ℤ◌, ◌≤ℤ◌, ◌<ℤ◌, List, Ok, IfSome, IfNone, option_map};
 ghost use Rattle.fast_value.specs.Kinds.{ScalarData, family, text_of, value_of_text};
 ghost use Rattle.fast_value.specs.Values.{scalar_data};
-ghost use Rattle.fast_template.specs.Flat.{field_data};
+ghost use Rattle.fast_tree.specs.Nodes.{field_data};
 ghost use Rattle.fast_dict.specs.Operators.{Sent as SentData, delta_base, tail_base};
 ghost use Rattle.fast_dict.specs.Previous.{previous_data};
 ghost use Rattle.fast_dict.specs.Rule.{SentFor, IsDelta, IsTail, IsTextDelta};
@@ -15,7 +15,7 @@ use crate::operators::integers::integer_of;
 use crate::operators::texts::text_of;
 use crate::operators::{Sent, delta_base, initial_value, tail_base};
 use crate::previous::Previous;
-use fast_template::{FieldInstruction, Operator};
+use fast_tree::{FieldInstruction, Operator};
 use fast_value::{Kind, Scalar};
 
 /// What stands in the stream for a value, or for its absence, under a set presence bit, if anything can.

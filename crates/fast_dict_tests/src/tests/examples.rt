@@ -3,7 +3,7 @@
 use super::{Failed, answer, instruction, is_same_answer};
 use fast_dict::operators::{Outcome, Sent, sized};
 use fast_dict::previous::Previous;
-use fast_template::{FieldInstruction, Operator};
+use fast_tree::{FieldInstruction, Operator};
 use fast_value::{Code, Kind, Scalar};
 use std::alloc::{AllocError, Global};
 use std::test::Fail;

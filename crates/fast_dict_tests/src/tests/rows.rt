@@ -2,7 +2,7 @@
 //! what was sent, and what that gives where the entry is undefined, is empty, holds a value of the field's type, and
 //! holds one of another type.
 
-use fast_template::Operator;
+use fast_tree::Operator;
 use fast_value::Code::{self, D4, D5, D6};
 
 /// Whether the field may be absent.

@@ -5,7 +5,7 @@ use fast_dict::operators::Sent;
 use fast_dict::previous::Previous;
 use fast_dict::rule::choose;
 use fast_dict::rule::common::is_same;
-use fast_template::Operator;
+use fast_tree::Operator;
 use fast_value::{Kind, Scalar};
 use std::alloc::{AllocError, Global};
 use std::test::Fail;

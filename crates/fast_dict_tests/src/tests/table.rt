@@ -4,7 +4,7 @@ use super::rows::{Presence, ROWS, Row, Sample, Start, Then, Way};
 use super::{Failed, answer, instruction, is_same_answer};
 use fast_dict::operators::{Outcome, Sent};
 use fast_dict::previous::Previous;
-use fast_template::{FieldInstruction, Operator};
+use fast_tree::{FieldInstruction, Operator};
 use fast_value::{Kind, Scalar};
 use std::alloc::{AllocError, Global};
 use std::test::Fail;

@@ -1,8 +1,8 @@
 use Rattle.std.proofs.Common.{◌≡◌, ℕ, ◌<◌, Some}
 use Rattle.std.specs.Prelude.{slice_get}
-use Rattle.fast_template.specs.declared.instructions.Node.{Node}
+use Rattle.fast_tree.specs.declared.instructions.Node.{Node}
 use Rattle.fast_template.specs.Flat.{nodes_of}
-use Rattle.fast_template.specs.NodeData.{shape_data}
+use Rattle.fast_tree.specs.NodeData.{shape_data}
 use Rattle.fast_decoder.specs.EntryTexts.{AnyField, IsLongText}
 use Rattle.fast_decoder.proofs.layout.has_long_initial.Given as goal
 

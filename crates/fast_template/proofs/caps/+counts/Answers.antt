@@ -1,10 +1,10 @@
 use Rattle.std.proofs.Common.{ap, ◌∙◌, ◌+◌, max, drop, sym, length, refl, ◌<◌, subst}
 use Rattle.std.specs.Prelude.{slice_index, slice_index_or}
 use Rattle.std.proofs.Math.Nat.{add_assoc, add-zero, max-zero}
-use Rattle.fast_template.specs.Sizes.{event_weights, size, body_size, outer, body_outer, widest, body_widest}
+use Rattle.fast_tree.specs.Sizes.{event_weights, size, body_size, outer, body_outer, widest, body_widest}
 use Rattle.fast_template.specs.Counts.{AreCountsOf, AreCountsOfBody}
 use Rattle.fast_template.specs.Flat.{no_instruction, body_of, instructions_from}
-use Rattle.fast_template.specs.Numbers.{AreBetween}
+use Rattle.fast_tree.specs.Numbers.{AreBetween}
 use Rattle.fast_template.specs.Saturation.{in_64_bits}
 use Rattle.fast_template.proofs.Walks.{body_at_end}
 use Rattle.fast_template.proofs.Bodies.{instruction_here, next_instruction, names_later}

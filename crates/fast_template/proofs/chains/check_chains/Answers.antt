@@ -6,7 +6,7 @@ use Rattle.fast_template.specs.Extents.{known_nodes, AreExtents, IsShallow, IsDe
 use Rattle.fast_template.specs.Faults.{IsFaultAt}
 use Rattle.fast_template.specs.Firsts.{IsFirstInChains}
 use Rattle.fast_template.specs.Refused.{StandsAt}
-use Rattle.fast_template.specs.Sizes.{nesting_limit, node_limit}
+use Rattle.fast_tree.specs.Sizes.{nesting_limit, node_limit}
 use Rattle.fast_template.specs.WrittenSets.{written_data}
 use Rattle.fast_template.proofs.ChainFaults.{all_fit, all_shallow, few_nodes, deep_fault, many_fault, cycle_first, deep_first, many_first}
 use Rattle.fast_template.proofs.chains.check_chains.Goals as goal

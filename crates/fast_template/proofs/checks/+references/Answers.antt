@@ -3,7 +3,7 @@ use Rattle.std.specs.Prelude.{is_some}
 use Rattle.std.specs.List.{list_all}
 use Rattle.std.specs.Option.{option_copied}
 use Rattle.std.specs.HashMap.{get_by_text}
-use Rattle.fast_template.specs.AsWritten.{references}
+use Rattle.fast_tree.specs.AsWritten.{references}
 use Rattle.fast_template.specs.WrittenSets.{instruction_data}
 use Rattle.fast_template.proofs.ReferenceLists.{one_known}
 use Rattle.fast_template.proofs.checks.+references.Goals as goal

@@ -5,8 +5,8 @@ use Rattle.std.specs.HashMap.{get_by_text}
 use Rattle.std.proofs.lemmas.List.{take-map}
 use Rattle.std.proofs.lemmas.List.Elements.{All-more, All-map}
 use Rattle.std.proofs.lemmas.Option.{slice_get_read}
-use Rattle.fast_template.specs.AsWritten.{DeclaredTemplate, all_references}
-use Rattle.fast_template.specs.Places.{place_of_name}
+use Rattle.fast_tree.specs.AsWritten.{DeclaredTemplate, all_references}
+use Rattle.fast_tree.specs.Places.{place_of_name}
 use Rattle.fast_template.specs.References.{references_in}
 use Rattle.fast_template.specs.WrittenSets.{written_data}
 use Rattle.fast_template.proofs.Lists.{all_taken, mapped_get}

@@ -1,7 +1,7 @@
 use Rattle.std.proofs.Common.{take, map}
 use Rattle.std.specs.Prelude.{All, IsSome}
-use Rattle.fast_template.specs.AsWritten.{all_references}
-use Rattle.fast_template.specs.Places.{place_of_name}
+use Rattle.fast_tree.specs.AsWritten.{all_references}
+use Rattle.fast_tree.specs.Places.{place_of_name}
 use Rattle.fast_template.specs.WrittenSets.{written_data}
 use Rattle.fast_template.proofs.checks.check_references.Given as goal
 

@@ -3,7 +3,7 @@ use Rattle.std.specs.Prelude.{All}
 use Rattle.std.proofs.lemmas.List.{take-map}
 use Rattle.std.proofs.lemmas.List.Elements.{All-more, All-map}
 use Rattle.std.proofs.lemmas.Option.{slice_get_read}
-use Rattle.fast_template.specs.AsWritten.{DeclaredTemplate, all_uses}
+use Rattle.fast_tree.specs.AsWritten.{DeclaredTemplate, all_uses}
 use Rattle.fast_template.specs.Sound.{IsSound, uses_in, HasFault}
 use Rattle.fast_template.specs.WrittenSets.{written_data}
 use Rattle.fast_template.proofs.Lists.{all_taken, mapped_get}

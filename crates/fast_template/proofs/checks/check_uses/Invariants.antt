@@ -1,6 +1,6 @@
 use Rattle.std.proofs.Common.{take}
 use Rattle.std.specs.Prelude.{All}
-use Rattle.fast_template.specs.AsWritten.{all_uses}
+use Rattle.fast_tree.specs.AsWritten.{all_uses}
 use Rattle.fast_template.specs.Sound.{IsSound}
 use Rattle.fast_template.specs.WrittenSets.{written_data}
 use Rattle.fast_template.proofs.checks.check_uses.Given as goal

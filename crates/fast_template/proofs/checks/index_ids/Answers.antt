@@ -3,7 +3,7 @@ use Rattle.std.specs.Prelude.{AllPairs, nat_eq}
 use Rattle.std.specs.HashMap.{get}
 use Rattle.std.proofs.lemmas.List.{map_more, take_all, take-map, length-map, length-take-le}
 use Rattle.std.proofs.lemmas.Option.{slice_get_read}
-use Rattle.fast_template.specs.Places.{place_of_id}
+use Rattle.fast_tree.specs.Places.{place_of_id}
 use Rattle.fast_template.specs.WrittenSets.{written_data}
 use Rattle.fast_template.proofs.Lists.{mapped_get}
 use Rattle.fast_template.proofs.PlaceLists.{ids_more, ids_same, ids_apart, id_before, found_value, found_nothing}

@@ -1,7 +1,7 @@
 use Rattle.std.proofs.Common.{◌≡◌, ◌≢◌, ℕ, Some, take, map}
 use Rattle.std.specs.Prelude.{AllPairs, nat_eq}
 use Rattle.std.specs.HashMap.{get}
-use Rattle.fast_template.specs.Places.{place_of_id}
+use Rattle.fast_tree.specs.Places.{place_of_id}
 use Rattle.fast_template.specs.WrittenSets.{written_data}
 use Rattle.fast_template.proofs.checks.index_ids.Given as goal
 

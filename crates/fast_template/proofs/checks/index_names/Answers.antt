@@ -6,7 +6,7 @@ use Rattle.std.specs.Option.{option_copied}
 use Rattle.std.proofs.lemmas.Map.Text.{hash_map_updates_text}
 use Rattle.std.proofs.lemmas.List.{map_more, take_all, take-map, length-map, length-take-le}
 use Rattle.std.proofs.lemmas.Option.{slice_get_read}
-use Rattle.fast_template.specs.Places.{place_of_name}
+use Rattle.fast_tree.specs.Places.{place_of_name}
 use Rattle.fast_template.specs.WrittenSets.{written_data}
 use Rattle.fast_template.proofs.Lists.{mapped_get}
 use Rattle.fast_template.proofs.PlaceLists.{names_more, names_apart, name_before, found_value, found_nothing}

@@ -1,7 +1,7 @@
 use Rattle.std.proofs.Common.{◌≡◌, ◌++◌, ◌∙◌, sym, ap, string_bytes, append_assoc, append-nil, drop, ◌+◌, Some, None}
 use Rattle.std.specs.List.{filter_map}
 use Rattle.std.specs.HashMap.{get_by_text}
-use Rattle.fast_template.specs.AsWritten.{references}
+use Rattle.fast_tree.specs.AsWritten.{references}
 use Rattle.fast_template.specs.References.{references_in}
 use Rattle.fast_template.specs.WrittenSets.{instruction_data}
 use Rattle.fast_template.proofs.Targets.{targets_left, one_target, no_target}

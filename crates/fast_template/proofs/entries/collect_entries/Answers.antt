@@ -1,6 +1,6 @@
 use Rattle.std.proofs.Common.{length, refl, []}
 use Rattle.std.proofs.lemmas.Option.{slice_get_read}
-use Rattle.fast_template.specs.Entries.{scope_of, Collects, in_scope}
+use Rattle.fast_tree.specs.Entries.{scope_of, Collects, in_scope}
 use Rattle.fast_template.specs.EntryKeys.{entries_of}
 use Rattle.fast_template.specs.Sound.{uses_in}
 use Rattle.fast_template.specs.WrittenSets.{written_data}

@@ -1,5 +1,5 @@
 use Rattle.std.proofs.Common.{map, take, []}
-use Rattle.fast_template.specs.Entries.{Collects, uses_from}
+use Rattle.fast_tree.specs.Entries.{Collects, uses_from}
 use Rattle.fast_template.specs.EntryKeys.{entries_of}
 use Rattle.fast_template.specs.WrittenSets.{written_data}
 use Rattle.fast_template.proofs.entries.collect_entries.Given as goal

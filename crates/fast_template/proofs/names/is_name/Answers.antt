@@ -1,7 +1,7 @@
 use Rattle.std.proofs.Common.{◌≤◌, length, refl, arith, rules, le-leb}
 use Rattle.std.specs.Prelude.{All}
 use Rattle.std.proofs.lemmas.Bool.Decides.{nat_tests}
-use Rattle.fast_template.specs.AsWritten.{IsNameByte}
+use Rattle.fast_tree.specs.AsWritten.{IsNameByte}
 use Rattle.fast_template.proofs.Lists.{all_taken}
 use Rattle.fast_template.proofs.NameTests.{bytes_pass}
 use Rattle.fast_template.proofs.names.is_name.Goals as goal

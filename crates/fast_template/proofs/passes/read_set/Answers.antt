@@ -3,10 +3,10 @@ use Rattle.std.specs.Prelude.{All, AllPairs, IfSome, IsSome}
 use Rattle.std.proofs.lemmas.Result.{err_from_is_err_and}
 use Rattle.toml.specs.Parse.{parse_document}
 use Rattle.fast_template.specs.declared.codes.StaticCode.TheVariants.{C1, C2, D8}
-use Rattle.fast_template.specs.AsWritten.{all_uses, all_references}
+use Rattle.fast_tree.specs.AsWritten.{all_uses, all_references}
 use Rattle.fast_template.specs.Faults.{IsFaultAt}
 use Rattle.fast_template.specs.Firsts.{pass_of}
-use Rattle.fast_template.specs.Places.{place_of_name}
+use Rattle.fast_tree.specs.Places.{place_of_name}
 use Rattle.fast_template.specs.References.{KnowsReferences}
 use Rattle.fast_template.specs.Sound.{IsSound}
 use Rattle.fast_template.specs.WrittenSets.{written_data}

@@ -1,6 +1,6 @@
 use Rattle.std.proofs.Common.{map, subst, []}
 use Rattle.std.specs.HashMap.{get_by_text}
-use Rattle.fast_template.specs.Entries.{Collects, uses_from}
+use Rattle.fast_tree.specs.Entries.{Collects, uses_from}
 use Rattle.fast_template.specs.EntryKeys.{entries_of}
 use Rattle.fast_template.specs.WrittenSets.{written_data}
 use Rattle.fast_template.proofs.ReadLaws.{checked_indexed}

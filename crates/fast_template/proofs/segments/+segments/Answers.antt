@@ -2,9 +2,9 @@ use Rattle.std.proofs.Common.{sym, length, refl, ◌<◌, subst}
 use Rattle.std.specs.Prelude.{slice_index, IsTrue, ◌↔◌, true}
 use Rattle.fast_template.specs.Checked.{IsNarrowInside}
 use Rattle.fast_template.specs.Segments.{IsNarrowSegment}
-use Rattle.fast_template.specs.Sizes.{segment_limit}
-use Rattle.fast_template.specs.Nodes.{body_of, instructions_from}
-use Rattle.fast_template.specs.Numbers.{AreBetween}
+use Rattle.fast_tree.specs.Sizes.{segment_limit}
+use Rattle.fast_tree.specs.Nodes.{body_of, instructions_from}
+use Rattle.fast_tree.specs.Numbers.{AreBetween}
 use Rattle.fast_template.proofs.Bodies.{instruction_here, names_later}
 use Rattle.fast_template.proofs.Measures.{left_at_node, left_at_body, smaller_at_node, smaller_at_body, all_below}
 use Rattle.fast_template.proofs.segments.+segments.Goals as goal

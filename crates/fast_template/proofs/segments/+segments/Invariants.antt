@@ -1,7 +1,7 @@
 use Rattle.std.proofs.Common.{drop, length}
 use Rattle.std.specs.Prelude.{◌↔◌}
 use Rattle.fast_template.specs.Checked.{AreNarrowInside}
-use Rattle.fast_template.specs.Nodes.{body_of, instructions_from}
+use Rattle.fast_tree.specs.Nodes.{body_of, instructions_from}
 use Rattle.fast_template.proofs.Measures.{left_at_node, left_at_body}
 use Rattle.fast_template.proofs.segments.+segments.Given as goal
 

@@ -4,10 +4,10 @@ use Rattle.std.proofs.lemmas.Bool.{cases_lt, false≢true}
 use Rattle.std.proofs.lemmas.List.{take-map}
 use Rattle.std.proofs.lemmas.List.Elements.{All-more, All-map}
 use Rattle.std.proofs.lemmas.Option.{slice_get_read}
-use Rattle.fast_template.specs.Nodes.{template_data, instructions_from}
+use Rattle.fast_tree.specs.Nodes.{template_data, instructions_from}
 use Rattle.fast_template.specs.Segments.{IsNarrow, IsWide}
-use Rattle.fast_template.specs.Sizes.{segment_limit}
-use Rattle.fast_template.specs.Tree.{message_bits}
+use Rattle.fast_tree.specs.Sizes.{segment_limit}
+use Rattle.fast_tree.specs.Tree.{message_bits}
 use Rattle.fast_template.proofs.Lists.{all_taken, mapped_get}
 use Rattle.fast_template.proofs.segments.check_segments.Goals as goal
 

@@ -1,6 +1,6 @@
 use Rattle.std.proofs.Common.{take}
 use Rattle.std.specs.Prelude.{All}
-use Rattle.fast_template.specs.Nodes.{template_data, instructions_from}
+use Rattle.fast_tree.specs.Nodes.{template_data, instructions_from}
 use Rattle.fast_template.specs.Segments.{IsNarrow}
 use Rattle.fast_template.proofs.segments.check_segments.Given as goal
 

@@ -3,7 +3,7 @@ use Rattle.std.specs.Prelude.{option_map, All}
 use Rattle.std.proofs.lemmas.Result.{IfErr-weaker, err_from_is_err_and, on_ok_weaker}
 use Rattle.fast_value.specs.declared.kinds.Kind.TheVariants.{Int32, Int64}
 use Rattle.fast_template.specs.declared.uses.OperatorPart.TheVariants.{Whole, Exponent, Mantissa}
-use Rattle.fast_template.specs.AsWritten.{exponent_use, mantissa_use, length_use, uses}
+use Rattle.fast_tree.specs.AsWritten.{exponent_use, mantissa_use, length_use, uses}
 use Rattle.fast_template.specs.WrittenSets.{operator_data, instruction_data}
 use Rattle.fast_template.specs.Sound.{bare_use, IsSound, HasFault, uses_in}
 use Rattle.fast_template.proofs.SoundUses.{sound_more, all_sound, fault_at, fault_left, fault_right, fault_named, fault_of_length, sound_length, sound_cons, uses_of_scalar, uses_of_parts, uses_of_group, uses_of_sequence}

@@ -1,7 +1,7 @@
 use Rattle.std.proofs.Common.{◌≡◌, ℕ, ◌+◌, ap, ◌∙◌, sym, subst, refl, arith}
 use Rattle.std.specs.Prelude.{List, Ok, Err, Some, Result, IsOk, OnOk, take, length}
 use Rattle.std.proofs.lemmas.List.{take_all}
-use Rattle.fast_decoder.specs.declared.faults.FaultCode.{FaultCode}
+use Rattle.fast_stream.specs.declared.faults.FaultCode.{FaultCode}
 use Rattle.fast_decoder.specs.declared.machine.Machine.{Machine}
 use Rattle.fast_decoder.specs.Handing.{Took, Fed, stood}
 use Rattle.fast_decoder.specs.Positions.{set_of, tree_in, meaning, IsSupplied, IsReady}

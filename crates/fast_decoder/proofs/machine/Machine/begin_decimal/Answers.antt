@@ -2,10 +2,10 @@
 use Rattle.std.proofs.Common.{◌∙◌}
 use Rattle.std.specs.Prelude.{[]}
 use Rattle.fast_value.specs.Limits.{bounds}
-use Rattle.fast_template.specs.Flat.{field_data}
+use Rattle.fast_tree.specs.Nodes.{field_data}
 use Rattle.fast_dict.specs.Dictionary.{previous_at}
 use Rattle.fast_dict.specs.Slots.{slots_dictionary}
-use Rattle.fast_decoder.specs.Continuations.{mantissa_after_then}
+use Rattle.fast_stream.specs.Continuations.{mantissa_after_then}
 use Rattle.fast_decoder.specs.Positions.{set_of, turning}
 use Rattle.fast_decoder.proofs.FieldTurns.{serves_here, serves_known, can_turn_slots, state_of, behind, parts_next, sent_here, field_known, field_wrong, exponent_waits, turn_fault, turn_as}
 use Rattle.fast_decoder.proofs.machine.Machine.begin_decimal.Goals as goal

@@ -2,14 +2,14 @@
 use Rattle.std.proofs.Common.{◌≡◌, ◌<◌, ◌≤◌, ap, ◌∙◌, arith, rules, get_or}
 use Rattle.std.proofs.lemmas.Option.{slice_get_within}
 use Rattle.fast_value.specs.Limits.{bounds}
-use Rattle.fast_template.specs.Tree.{identifier}
-use Rattle.fast_template.specs.Flat.{template_data, instructions_from}
+use Rattle.fast_tree.specs.Tree.{identifier}
+use Rattle.fast_tree.specs.Nodes.{template_data, instructions_from}
 use Rattle.fast_dict.specs.Dictionary.{Dictionary}
 use Rattle.fast_dict.specs.Slots.{slots_dictionary}
-use Rattle.fast_decoder.specs.Continuations.{message_of_then}
-use Rattle.fast_decoder.specs.GrammarReaders.{reader_of}
+use Rattle.fast_stream.specs.Continuations.{message_of_then}
+use Rattle.fast_stream.specs.GrammarReaders.{reader_of}
 use Rattle.fast_decoder.specs.Passing.{state_past}
-use Rattle.fast_decoder.specs.Readers.{Reader, Done}
+use Rattle.fast_stream.specs.Readers.{Reader, Done}
 use Rattle.fast_decoder.specs.Positions.{set_of, map_reader, meaning, meaning_at}
 use Rattle.fast_decoder.specs.declared.machine.Waiting.{Waiting}
 use Rattle.fast_decoder.proofs.FieldTurns.{entries_here}

@@ -2,10 +2,10 @@ use Rattle.std.proofs.Common.{◌≡◌, ap, refl, rules, [], option_map}
 use Rattle.std.proofs.lemmas.Result.{err_from_is_err_and}
 use Rattle.fast_value.specs.Limits.{bounds}
 use Rattle.fast_dict.specs.Slots.{slots_dictionary}
-use Rattle.fast_decoder.specs.Events.{GroupEnd, ElementEnd, MessageEnd}
-use Rattle.fast_decoder.specs.Readers.{Done}
-use Rattle.fast_decoder.specs.GrammarReaders.{reader_of}
-use Rattle.fast_decoder.specs.Segments.{elements_data}
+use Rattle.fast_stream.specs.Events.{GroupEnd, ElementEnd, MessageEnd}
+use Rattle.fast_stream.specs.Readers.{Done}
+use Rattle.fast_stream.specs.GrammarReaders.{reader_of}
+use Rattle.fast_cursor.specs.Segments.{elements_data}
 use Rattle.fast_decoder.specs.Passing.{elements_from}
 use Rattle.fast_decoder.specs.Positions.{set_of, turning}
 use Rattle.fast_decoder.proofs.SegmentTurns.{message_end, closed, turn_halt, turn_one, turn_more, turn_end}

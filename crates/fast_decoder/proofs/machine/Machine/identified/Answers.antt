@@ -6,12 +6,12 @@ use Rattle.fast_wire.specs.Maps.{bytes_for}
 use Rattle.fast_value.specs.Kinds.{ScalarData}
 use Rattle.fast_value.specs.Limits.{bounds}
 use Rattle.fast_value.specs.declared.codes.Code.TheVariants.{D9, R8}
-use Rattle.fast_template.specs.Tree.{identifier, message_bits}
-use Rattle.fast_template.specs.Flat.{template_data, instructions_from}
+use Rattle.fast_tree.specs.Tree.{identifier, message_bits}
+use Rattle.fast_tree.specs.Nodes.{template_data, instructions_from}
 use Rattle.fast_dict.specs.Slots.{slots_dictionary}
-use Rattle.fast_decoder.specs.Settling.{value_at}
+use Rattle.fast_units.specs.Settling.{value_at}
 use Rattle.fast_decoder.specs.Passing.{state_past}
-use Rattle.fast_decoder.specs.Continuations.{message_of_then}
+use Rattle.fast_stream.specs.Continuations.{message_of_then}
 use Rattle.fast_decoder.specs.Positions.{set_of}
 use Rattle.fast_decoder.proofs.FieldTurns.{turn_fault, turn_as}
 use Rattle.fast_decoder.proofs.Identifiers.{id_of, named_none, named_first, behind_unknown, behind_known, narrow-wide, narrow-fits, identifier_served}

@@ -3,17 +3,17 @@ use Rattle.std.specs.Prelude.{List, [], true, false, ◌&&◌, Ok, Err}
 use Rattle.fast_wire.specs.Maps.{bits, first_bit}
 use Rattle.fast_value.specs.Limits.{bounds}
 use Rattle.fast_value.specs.declared.codes.Code.TheVariants.{R7}
-use Rattle.fast_template.specs.Tree.{identifier, FieldData}
+use Rattle.fast_tree.specs.Tree.{identifier, FieldData}
 use Rattle.fast_dict.specs.Dictionary.{Dictionary, previous_at}
 use Rattle.fast_dict.specs.Operators.{decide, nothing}
 use Rattle.fast_dict.specs.Slots.{slots_dictionary}
-use Rattle.fast_decoder.specs.Deciding.{IsDecided}
-use Rattle.fast_decoder.specs.GrammarReaders.{spare, reader_of}
-use Rattle.fast_decoder.specs.Machine.{after_bytes}
-use Rattle.fast_decoder.specs.Messages.{State, begin}
-use Rattle.fast_decoder.specs.Continuations.{message_behind_then}
-use Rattle.fast_decoder.specs.Readers.{Reader}
-use Rattle.fast_decoder.specs.Taking.{Waits}
+use Rattle.fast_units.specs.Deciding.{IsDecided}
+use Rattle.fast_stream.specs.GrammarReaders.{spare, reader_of}
+use Rattle.fast_stream.specs.Machine.{after_bytes}
+use Rattle.fast_stream.specs.Messages.{State, begin}
+use Rattle.fast_stream.specs.Continuations.{message_behind_then}
+use Rattle.fast_stream.specs.Readers.{Reader}
+use Rattle.fast_units.specs.Taking.{Waits}
 use Rattle.fast_decoder.specs.Positions.{set_of, tree_in, behind_map, IsSupplied}
 use Rattle.fast_decoder.specs.declared.machine.Machine.{Machine}
 use Rattle.fast_decoder.specs.declared.machine.Waiting.TheVariants.{Identifier}

@@ -3,7 +3,7 @@ use Rattle.std.proofs.lemmas.List.{length-replicate}
 use Rattle.fast_template.specs.Flat.{tree_of}
 use Rattle.fast_dict.specs.Dictionary.{undefined}
 use Rattle.fast_dict.specs.Slots.{slots_sized}
-use Rattle.fast_decoder.specs.Cursors.{CursorData}
+use Rattle.fast_cursor.specs.Cursors.{CursorData}
 use Rattle.fast_decoder.proofs.machine.Machine.new.Goals as goal
 
 pub returns-clause-supplied : goal.returns-clause-supplied

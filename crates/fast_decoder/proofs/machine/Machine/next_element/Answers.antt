@@ -1,8 +1,8 @@
 use Rattle.std.proofs.Common.{◌<◌, ◌-◌, ap, refl, Some, rules}
 use Rattle.fast_value.specs.Limits.{bounds}
 use Rattle.fast_dict.specs.Slots.{slots_dictionary}
-use Rattle.fast_decoder.specs.Events.{ElementStart}
-use Rattle.fast_decoder.specs.GrammarReaders.{reader_of}
+use Rattle.fast_stream.specs.Events.{ElementStart}
+use Rattle.fast_stream.specs.GrammarReaders.{reader_of}
 use Rattle.fast_decoder.specs.Positions.{set_of, body_in, frames_in, state_in}
 use Rattle.fast_decoder.proofs.SegmentTurns.{element_turn, turn_in}
 use Rattle.fast_decoder.proofs.TurnCounts.{element_opened, segment_turns}

@@ -4,8 +4,8 @@ use Rattle.std.specs.Prelude.{Ok}
 use Rattle.fast_value.specs.Limits.{bounds}
 use Rattle.fast_dict.specs.Dictionary.{Dictionary}
 use Rattle.fast_dict.specs.Slots.{slots_dictionary}
-use Rattle.fast_decoder.specs.GrammarReaders.{reader_of}
-use Rattle.fast_decoder.specs.Readers.{Reader}
+use Rattle.fast_stream.specs.GrammarReaders.{reader_of}
+use Rattle.fast_stream.specs.Readers.{Reader}
 use Rattle.fast_decoder.specs.Positions.{set_of, segment_behind, meaning_at, turning}
 use Rattle.fast_decoder.specs.Quick.{IsTakenTo}
 use Rattle.fast_decoder.specs.declared.machine.Machine.{Machine}

@@ -5,8 +5,8 @@ use Rattle.fast_value.specs.Limits.{bounds}
 use Rattle.fast_value.specs.declared.codes.Code.TheVariants.{R7, R8}
 use Rattle.fast_dict.specs.Dictionary.{Dictionary}
 use Rattle.fast_dict.specs.Slots.{slots_dictionary}
-use Rattle.fast_decoder.specs.Grammar.{Grammar, narrow}
-use Rattle.fast_decoder.specs.GrammarReaders.{spare, reader_of}
+use Rattle.fast_stream.specs.Grammar.{Grammar, narrow}
+use Rattle.fast_stream.specs.GrammarReaders.{spare, reader_of}
 use Rattle.fast_decoder.specs.Positions.{set_of, going_on}
 use Rattle.fast_decoder.proofs.FieldTurns.{turn_fault}
 use Rattle.fast_decoder.proofs.Identifiers.{map_spare, map_judged, narrow-wide, narrow-fits}

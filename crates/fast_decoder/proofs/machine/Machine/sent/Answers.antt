@@ -1,6 +1,6 @@
 -- The unit that was taken, and the turn behind it.
 use Rattle.fast_value.specs.Limits.{bounds}
-use Rattle.fast_template.specs.Flat.{field_data}
+use Rattle.fast_tree.specs.Nodes.{field_data}
 use Rattle.fast_decoder.specs.Positions.{meaning}
 use Rattle.fast_decoder.proofs.SentItems.{item_taken}
 use Rattle.fast_decoder.proofs.machine.Machine.sent.Goals as goal

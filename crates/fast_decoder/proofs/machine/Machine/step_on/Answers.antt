@@ -1,17 +1,17 @@
 use Rattle.std.proofs.Common.{refl, sym, subst}
 use Rattle.std.specs.Prelude.{Ok}
 use Rattle.fast_value.specs.Limits.{bounds}
-use Rattle.fast_template.specs.Flat.{field_data}
+use Rattle.fast_tree.specs.Nodes.{field_data}
 use Rattle.fast_dict.specs.Slots.{slots_dictionary}
-use Rattle.fast_decoder.specs.GrammarReaders.{reader_of}
-use Rattle.fast_decoder.specs.Readers.{Reader}
+use Rattle.fast_stream.specs.GrammarReaders.{reader_of}
+use Rattle.fast_stream.specs.Readers.{Reader}
 use Rattle.fast_dict.specs.Dictionary.{Dictionary}
-use Rattle.fast_decoder.specs.Settling.{value_at}
+use Rattle.fast_units.specs.Settling.{value_at}
 use Rattle.fast_decoder.specs.Passing.{value_then}
 use Rattle.fast_decoder.specs.Scalars.{CanStep, step_then}
 use Rattle.fast_decoder.specs.Positions.{set_of, meaning, IsTurn}
 use Rattle.fast_decoder.specs.declared.machine.Turn.TheVariants as Turn
-use Rattle.fast_decoder.specs.declared.stages.Step.{Step}
+use Rattle.fast_units.specs.declared.stages.Step.{Step}
 use Rattle.fast_decoder.proofs.FieldTurns.{entry_here, turn_moved}
 use Rattle.fast_decoder.proofs.ScalarSteps.{stage_waits_on}
 use Rattle.fast_decoder.proofs.TurnCounts.{finished}

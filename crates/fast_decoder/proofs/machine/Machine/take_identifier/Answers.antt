@@ -2,17 +2,17 @@ use Rattle.std.proofs.Common.{ℕ, ap, ◌∙◌, sym, subst, refl, length, take
 use Rattle.std.specs.Prelude.{List, [], ◌++◌, true}
 use Rattle.std.proofs.lemmas.List.{length-take-le}
 use Rattle.fast_value.specs.Limits.{bounds}
-use Rattle.fast_template.specs.Tree.{FieldData}
+use Rattle.fast_tree.specs.Tree.{FieldData}
 use Rattle.fast_dict.specs.Dictionary.{Dictionary, previous_at}
 use Rattle.fast_dict.specs.Slots.{slots_dictionary}
-use Rattle.fast_decoder.specs.Fields.{field_term}
-use Rattle.fast_decoder.specs.GrammarReaders.{reader_of}
-use Rattle.fast_decoder.specs.Machine.{after_bytes}
-use Rattle.fast_decoder.specs.Readers.{Reader, Stop}
-use Rattle.fast_decoder.specs.Settling.{GivesField}
-use Rattle.fast_decoder.specs.Taking.{Turns, Stays}
+use Rattle.fast_stream.specs.Fields.{field_term}
+use Rattle.fast_stream.specs.GrammarReaders.{reader_of}
+use Rattle.fast_stream.specs.Machine.{after_bytes}
+use Rattle.fast_stream.specs.Readers.{Reader, Stop}
+use Rattle.fast_units.specs.Settling.{GivesField}
+use Rattle.fast_units.specs.Taking.{Turns, Stays}
 use Rattle.fast_decoder.specs.Quick.{IsTakenTo}
-use Rattle.fast_decoder.specs.declared.faults.FaultCode.TheVariants as Why
+use Rattle.fast_stream.specs.declared.faults.FaultCode.TheVariants as Why
 use Rattle.fast_decoder.specs.declared.machine.Waiting.{Waiting}
 use Rattle.fast_decoder.specs.declared.machine.Machine.{Machine}
 use Rattle.fast_decoder.specs.Positions.{set_of, tree_in, behind_map, meaning, meaning_at, CanTake, IsReady}

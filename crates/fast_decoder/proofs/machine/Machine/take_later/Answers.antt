@@ -1,5 +1,5 @@
 use Rattle.std.proofs.Common.{sym, ◌∙◌, subst}
-use Rattle.fast_template.specs.Flat.{field_data}
+use Rattle.fast_tree.specs.Nodes.{field_data}
 use Rattle.fast_decoder.specs.Positions.{set_of}
 use Rattle.fast_decoder.specs.Scalars.{IsOfField}
 use Rattle.fast_decoder.specs.TurnsLeft.{HasTurns}

@@ -3,18 +3,18 @@ use mir.Syntax.{w32}
 use mir.Val.{to_z, of_z}
 use Rattle.std.proofs.lemmas.Int.{to_z-of_z}
 use Rattle.fast_value.specs.Limits.{bounds}
-use Rattle.fast_template.specs.Flat.{field_data}
-use Rattle.fast_template.specs.declared.instructions.Shape.TheVariants.{Decimal}
+use Rattle.fast_tree.specs.Nodes.{field_data}
+use Rattle.fast_tree.specs.declared.instructions.Shape.TheVariants.{Decimal}
 use Rattle.fast_dict.specs.Slots.{slots_dictionary}
-use Rattle.fast_decoder.specs.Continuations.{handed_then}
+use Rattle.fast_stream.specs.Continuations.{handed_then}
 use Rattle.fast_dict.specs.Dictionary.{Dictionary}
-use Rattle.fast_decoder.specs.Grammar.{Grammar}
-use Rattle.fast_decoder.specs.GrammarReaders.{reader_of}
-use Rattle.fast_decoder.specs.Readers.{Reader}
-use Rattle.fast_decoder.specs.declared.faults.FaultCode.TheVariants as Why
-use Rattle.fast_decoder.specs.Settling.{value_at}
+use Rattle.fast_stream.specs.Grammar.{Grammar}
+use Rattle.fast_stream.specs.GrammarReaders.{reader_of}
+use Rattle.fast_stream.specs.Readers.{Reader}
+use Rattle.fast_stream.specs.declared.faults.FaultCode.TheVariants as Why
+use Rattle.fast_units.specs.Settling.{value_at}
 use Rattle.fast_decoder.specs.Passing.{decimal_then}
-use Rattle.fast_decoder.specs.Messages.{Found, decimal_with}
+use Rattle.fast_stream.specs.Messages.{Found, decimal_with}
 use Rattle.fast_decoder.specs.Positions.{set_of, meaning, CanTake, IsTurn}
 use Rattle.fast_decoder.specs.declared.machine.Waiting.{Waiting}
 use Rattle.fast_decoder.proofs.Quick.{cut_to, wrong_to}

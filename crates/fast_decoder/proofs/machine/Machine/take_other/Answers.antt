@@ -1,6 +1,6 @@
 use Rattle.std.proofs.Common.{sym, ◌∙◌, subst}
-use Rattle.fast_template.specs.Flat.{field_data}
-use Rattle.fast_template.specs.declared.instructions.Shape.TheVariants.{Field}
+use Rattle.fast_tree.specs.Nodes.{field_data}
+use Rattle.fast_tree.specs.declared.instructions.Shape.TheVariants.{Field}
 use Rattle.fast_dict.specs.Slots.{slots_dictionary}
 use Rattle.fast_decoder.specs.Scalars.{IsOfField}
 use Rattle.fast_decoder.specs.Positions.{set_of, state_in, CanTake}

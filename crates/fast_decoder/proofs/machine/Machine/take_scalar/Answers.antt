@@ -1,5 +1,5 @@
 use Rattle.std.proofs.Common.{refl, []}
-use Rattle.fast_template.specs.Flat.{field_data}
+use Rattle.fast_tree.specs.Nodes.{field_data}
 use Rattle.fast_decoder.specs.Positions.{set_of}
 use Rattle.fast_decoder.proofs.FieldTurns.{serves_here}
 use Rattle.fast_decoder.proofs.ScalarMachines.{still_supplied, unit_within, text_taken, number_taken, bytes_taken}

@@ -6,11 +6,11 @@ use Rattle.fast_value.specs.Limits.{bounds}
 use Rattle.fast_value.specs.declared.codes.Code.TheVariants.{L3}
 use Rattle.fast_dict.specs.Dictionary.{Dictionary}
 use Rattle.fast_dict.specs.Slots.{slots_dictionary}
-use Rattle.fast_decoder.specs.GrammarReaders.{reader_of}
+use Rattle.fast_stream.specs.GrammarReaders.{reader_of}
 use Rattle.fast_decoder.specs.Handing.{due}
-use Rattle.fast_decoder.specs.Machine.{after_bytes}
-use Rattle.fast_decoder.specs.Readers.{Reader}
-use Rattle.fast_decoder.specs.declared.faults.FaultCode.TheVariants as Why
+use Rattle.fast_stream.specs.Machine.{after_bytes}
+use Rattle.fast_stream.specs.Readers.{Reader}
+use Rattle.fast_stream.specs.declared.faults.FaultCode.TheVariants as Why
 use Rattle.fast_decoder.specs.declared.machine.Waiting.{Waiting}
 use Rattle.fast_decoder.specs.declared.machine.Machine.{Machine}
 use Rattle.fast_decoder.specs.Positions.{set_of, tree_in, segment_behind, meaning, meaning_at, CanTake}

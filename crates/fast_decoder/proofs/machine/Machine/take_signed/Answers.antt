@@ -1,7 +1,7 @@
 -- The field's item, and what follows it.
 use Rattle.fast_value.specs.Limits.{bounds}
-use Rattle.fast_template.specs.Flat.{field_data}
-use Rattle.fast_template.specs.declared.instructions.Shape.TheVariants.{Field}
+use Rattle.fast_tree.specs.Nodes.{field_data}
+use Rattle.fast_tree.specs.declared.instructions.Shape.TheVariants.{Field}
 use Rattle.fast_decoder.specs.Positions.{set_of}
 use Rattle.fast_decoder.proofs.FieldTurns.{serves_here}
 use Rattle.fast_decoder.proofs.ScalarNodes.{served_node}

@@ -1,7 +1,7 @@
 -- The base has no tail to the value.
 use Rattle.fast_value.specs.Kinds.{text_of}
 use Rattle.fast_value.specs.Values.{scalar_data}
-use Rattle.fast_template.specs.Flat.{field_data}
+use Rattle.fast_tree.specs.Nodes.{field_data}
 use Rattle.fast_dict.specs.Operators.{tail_base}
 use Rattle.fast_dict.specs.Previous.{previous_data}
 use Rattle.fast_dict.proofs.Items.{no_part}

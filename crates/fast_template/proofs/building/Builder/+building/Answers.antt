@@ -4,11 +4,11 @@ use Rattle.std.proofs.lemmas.List.{length-map}
 use Rattle.std.proofs.lemmas.Option.{slice_get_within, slice_get_read}
 use Rattle.std.proofs.lemmas.Result.{on_ok_weaker}
 use Rattle.fast_template.proofs.Lists.{mapped_get}
-use Rattle.fast_template.specs.AsWritten.{DeclaredTemplate, scalar, by_parts, reference, no_more, more, scalar_use, exponent_use, mantissa_use, length_use}
+use Rattle.fast_tree.specs.AsWritten.{DeclaredTemplate, scalar, by_parts, reference, no_more, more, scalar_use, exponent_use, mantissa_use, length_use}
 use Rattle.fast_template.specs.Built.{data_of, IsReady, CanBuild, IsBuilt}
 use Rattle.fast_template.specs.EntryKeys.{scope_data, use_data, entries_of}
-use Rattle.fast_template.specs.NodeData.{a_group as a_group_data, node_data}
-use Rattle.fast_template.specs.Nodes.{field_data}
+use Rattle.fast_tree.specs.NodeData.{a_group as a_group_data, node_data}
+use Rattle.fast_tree.specs.Nodes.{field_data}
 use Rattle.fast_template.specs.Uses.{IsField}
 use Rattle.fast_template.specs.WrittenSets.{operator_data, instruction_data, fields_data, written_data}
 use Rattle.fast_template.proofs.BuiltLists.{same_items, built_none, built_more, built_field, built_parts, built_group, built_sequence, built_reference}

@@ -1,5 +1,5 @@
 use Rattle.std.proofs.Common.{◌+◌, ◌*◌, map, take}
-use Rattle.fast_template.specs.AsWritten.{no_more, more}
+use Rattle.fast_tree.specs.AsWritten.{no_more, more}
 use Rattle.fast_template.specs.Built.{data_of, IsBuilt}
 use Rattle.fast_template.specs.EntryKeys.{scope_data, entries_of}
 use Rattle.fast_template.specs.WrittenSets.{instruction_data, fields_data, written_data}

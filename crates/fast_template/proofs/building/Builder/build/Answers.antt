@@ -2,13 +2,13 @@ use Rattle.std.proofs.Common.{◌≡◌, ◌+◌, ◌≤◌, ◌∷◌, [], ◌+
 use Rattle.std.proofs.lemmas.List.{map_more, take-map, length-map, length-take-le, map-append}
 use Rattle.std.proofs.lemmas.List.Elements.{All-get_or}
 use Rattle.std.proofs.lemmas.Option.{slice_get_read, slice_get_within, get_or_from_slice_get}
-use Rattle.fast_template.specs.AsWritten.{DeclaredTemplate}
+use Rattle.fast_tree.specs.AsWritten.{DeclaredTemplate}
 use Rattle.fast_template.specs.Built.{AreBuilt, IsBuilt, data_of}
 use Rattle.fast_template.specs.Chains.{Fits}
-use Rattle.fast_template.specs.Entries.{scope_of}
+use Rattle.fast_tree.specs.Entries.{scope_of}
 use Rattle.fast_template.specs.EntryKeys.{entries_of}
-use Rattle.fast_template.specs.NodeData.{node_data, outline}
-use Rattle.fast_template.specs.Sizes.{nesting_limit}
+use Rattle.fast_tree.specs.NodeData.{node_data, outline}
+use Rattle.fast_tree.specs.Sizes.{nesting_limit}
 use Rattle.fast_template.specs.WrittenSets.{written_data}
 use Rattle.fast_template.proofs.BuildingNeeds.{can_build_template}
 use Rattle.fast_template.proofs.BuiltSets.{are_built_more, room_for_template}

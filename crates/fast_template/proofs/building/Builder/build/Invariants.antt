@@ -1,7 +1,7 @@
 use Rattle.std.proofs.Common.{map, take}
 use Rattle.fast_template.specs.Built.{AreBuilt}
 use Rattle.fast_template.specs.EntryKeys.{entries_of}
-use Rattle.fast_template.specs.NodeData.{node_data, outline}
+use Rattle.fast_tree.specs.NodeData.{node_data, outline}
 use Rattle.fast_template.specs.WrittenSets.{written_data}
 use Rattle.fast_template.proofs.building.Builder.build.Given as goal
 

@@ -1,8 +1,8 @@
 use Rattle.std.proofs.Common.{◌≡◌, ◌∷◌, [], ap, ◌∙◌, string_bytes, subst}
 use Rattle.std.specs.Prelude.{option_map}
 use Rattle.std.proofs.lemmas.Result.{on_ok_weaker}
-use Rattle.fast_template.specs.AsWritten.{uses, exponent_use, mantissa_use, length_use}
-use Rattle.fast_template.specs.Entries.{Collects, in_scope}
+use Rattle.fast_tree.specs.AsWritten.{uses, exponent_use, mantissa_use, length_use}
+use Rattle.fast_tree.specs.Entries.{Collects, in_scope}
 use Rattle.fast_template.specs.EntryKeys.{scope_data, use_data, entries_of}
 use Rattle.fast_template.specs.Sound.{uses_in}
 use Rattle.fast_template.specs.WrittenSets.{operator_data, instruction_data}

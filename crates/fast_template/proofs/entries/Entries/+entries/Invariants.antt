@@ -1,5 +1,5 @@
 use Rattle.std.proofs.Common.{take}
-use Rattle.fast_template.specs.Entries.{Collects, in_scope}
+use Rattle.fast_tree.specs.Entries.{Collects, in_scope}
 use Rattle.fast_template.specs.EntryKeys.{scope_data, entries_of}
 use Rattle.fast_template.specs.Sound.{uses_in}
 use Rattle.fast_template.proofs.entries.Entries.+entries.Given as goal

@@ -1,11 +1,11 @@
 use Rattle.std.proofs.Common.{map, subst, sym, ap, ◌∙◌, arith, inr, Some}
-use Rattle.fast_template.specs.Numbers.{NameLaterNodes}
+use Rattle.fast_tree.specs.Numbers.{NameLaterNodes}
 use Rattle.fast_template.specs.Opcodes.{opcodes_of}
 use Rattle.fast_template.specs.WrittenSets.{written_data}
 use Rattle.fast_template.proofs.BuiltSets.{built_in_preorder, built_names_nodes, built_names_later_nodes, built_distinct_ids, built_few_nodes, built_count}
 use Rattle.fast_template.proofs.BuiltUsable.{built_usable}
-use Rattle.fast_template.specs.NodeData.{node_data}
-use Rattle.fast_template.specs.Usable.{AreUsable}
+use Rattle.fast_tree.specs.NodeData.{node_data}
+use Rattle.fast_tree.specs.Usable.{AreUsable}
 use Rattle.fast_template.proofs.Headings.{same_names, same_ids, built_headings}
 use Rattle.std.proofs.lemmas.Result.{err_from_is_err_and}
 use Rattle.toml.specs.Parse.{parse_document}

@@ -1,6 +1,6 @@
 use Rattle.std.proofs.Common.{refl, sym, ap, ◌∙◌}
 use Rattle.std.specs.Prelude.{is_ok}
-use Rattle.fast_decoder.specs.Handed.{event_data}
+use Rattle.fast_stream.specs.Handed.{event_data}
 use Rattle.fast_text.proofs.Writing.{writes_both, takes_line, stops_in_line}
 use Rattle.fast_text.proofs.line_sink.LineSinkSink.take.Goals as goal
 

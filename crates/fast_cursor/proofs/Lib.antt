@@ -1,0 +1,5 @@
+pub mod Segments
+pub mod MapTakings
+pub mod MapBits
+pub mod MapWords
+pub mod MapBytes

@@ -1,0 +1,6 @@
+//! Where a decoder is in a message: the open segments with their presence maps, and the instructions that are left.
+#![tactic(auto)]
+
+pub mod cursor;
+pub mod map_place;
+pub mod pending;

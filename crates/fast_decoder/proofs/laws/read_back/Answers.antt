@@ -1,5 +1,0 @@
-use Rattle.fast_decoder.proofs.Reading.{read_back}
-use Rattle.fast_decoder.proofs.laws.read_back.Goals as goal
-
-pub returns : goal.returns
-returns c = read_back

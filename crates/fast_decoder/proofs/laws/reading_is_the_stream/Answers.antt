@@ -1,5 +1,0 @@
-use Rattle.fast_decoder.proofs.Reading.{reading-sound}
-use Rattle.fast_decoder.proofs.laws.reading_is_the_stream.Goals as goal
-
-pub returns : goal.returns
-returns c = reading-sound

@@ -1,0 +1,17 @@
+pub mod Binds
+pub mod Fronts
+pub mod UnitReaders
+pub mod Integers
+pub mod TextReaders
+pub mod Grammars
+pub mod Quiet
+pub mod Lenient
+pub mod MessageEvents
+pub mod Costs
+pub mod Streams
+pub mod Continuations
+pub mod Reading
+pub mod Bound
+pub mod Frames
+pub mod Stepping
+pub mod Caps

@@ -1,0 +1,5 @@
+use Rattle.fast_stream.proofs.Bound.{stream-bound}
+use Rattle.fast_stream.proofs.laws.events_bound.Goals as goal
+
+pub returns : goal.returns
+returns c = stream-bound

@@ -1,0 +1,5 @@
+use Rattle.fast_stream.proofs.Reading.{faults-stay}
+use Rattle.fast_stream.proofs.laws.faults_stay.Goals as goal
+
+pub returns : goal.returns
+returns c = faults-stay

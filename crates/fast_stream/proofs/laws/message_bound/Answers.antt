@@ -1,0 +1,5 @@
+use Rattle.fast_stream.proofs.Bound.{message-bound}
+use Rattle.fast_stream.proofs.laws.message_bound.Goals as goal
+
+pub returns : goal.returns
+returns c = message-bound

@@ -1,0 +1,5 @@
+use Rattle.fast_stream.proofs.MessageEvents.{message-events}
+use Rattle.fast_stream.proofs.laws.message_events.Goals as goal
+
+pub returns : goal.returns
+returns c = message-events

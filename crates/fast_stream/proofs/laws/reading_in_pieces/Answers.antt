@@ -1,0 +1,5 @@
+use Rattle.fast_stream.proofs.Reading.{reading-append}
+use Rattle.fast_stream.proofs.laws.reading_in_pieces.Goals as goal
+
+pub returns : goal.returns
+returns c = reading-append

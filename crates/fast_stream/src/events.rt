@@ -1,0 +1,64 @@
+//! What a decoder hands over, and to whom.
+
+ghost use Rattle.std.specs.Prelude.{OnOk, OnErr};
+ghost use Rattle.fast_stream.specs.Handed.{event_data};
+
+use fast_value::Scalar;
+
+/// What is handed over of a stream, as soon as the bytes decide it. Absent fields, groups and sequences give no event.
+#[derive(Clone, Copy, Debug)]
+pub enum Event<'a> {
+    /// A message begins: its template identifier is known.
+    MessageStart {
+        /// The number of the template in its set, from 0.
+        template: u32,
+    },
+    /// A field has a value.
+    Field {
+        /// The number of the field's node in its set.
+        node: u32,
+        /// The value, which is lent for the call.
+        value: Scalar<'a>,
+    },
+    /// A group begins.
+    GroupStart {
+        /// The number of the group's node in its set.
+        node: u32,
+    },
+    /// The innermost group is whole.
+    GroupEnd,
+    /// A sequence begins.
+    SequenceStart {
+        /// The number of the sequence's node in its set.
+        node: u32,
+        /// How many elements follow.
+        count: u32,
+    },
+    /// An element of the innermost sequence begins.
+    ElementStart,
+    /// An element of the innermost sequence is whole.
+    ElementEnd,
+    /// The innermost sequence is whole.
+    SequenceEnd,
+    /// The message is whole.
+    MessageEnd,
+}
+
+/// A sink takes no more events.
+#[derive(Clone, Copy, Debug, PartialEq, Eq)]
+pub struct Stop;
+
+/// Takes events, one after the other.
+pub trait Sink {
+    ghost use Rattle.fast_stream.specs.Events.{EventData};
+
+    // The old sink, an event and the new sink, where the event is taken, and where the sink stops at it.
+    ghost takes: { Self → EventData → Self → Type 0 };
+
+    ghost stops: { Self → EventData → Self → Type 0 };
+
+    /// Takes an event, or stops. A sink that has stopped is not called again.
+    fn take(&mut self, event: Event<'_>) -> Result<(), Stop>
+        ensures takes { OnOk result (takes self.old (event_data event.entry) self.new) }
+        ensures stops { OnErr result (stops self.old (event_data event.entry) self.new) };
+}

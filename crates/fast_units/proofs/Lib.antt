@@ -1,0 +1,11 @@
+pub mod Turning
+pub mod Deciding
+pub mod NextUnits
+pub mod ShortIntegers
+pub mod NextTexts
+pub mod LastUnits
+pub mod TextOutcomes
+pub mod TextUnits
+pub mod TextSizes
+pub mod OpenUnits
+pub mod ScalarTakes

@@ -1,0 +1,89 @@
+-- What is decided of the integer, or of NULL, behind its unit.
+use Rattle.std.proofs.Common.{refl, None, ◌++◌, ◌≤ℤ◌, rules, sym, ap, ◌∙◌, subst, FitsSigned, neg_ℤ, pos, ◌^◌, take}
+use Rattle.std.specs.Int.{w128}
+use Rattle.std.specs.Prelude.{true, Some, Ok}
+use Rattle.fast_wire.specs.Integers.{IsWithin}
+use Rattle.fast_value.specs.declared.codes.Code.TheVariants.{D2}
+use Rattle.fast_value.specs.Kinds.{value_of_integer}
+use Rattle.fast_tree.specs.Nodes.{field_data}
+use Rattle.fast_dict.specs.Dictionary.{previous_at}
+use Rattle.fast_dict.specs.Operators.{decide, value, range_of}
+use Rattle.fast_dict.specs.Slots.{slots_dictionary}
+use Rattle.fast_stream.specs.Grammar.{give, integer, of_result}
+use Rattle.fast_stream.specs.GrammarReaders.{reader_of}
+use Rattle.fast_stream.specs.Fields.{field_term}
+use Rattle.fast_units.specs.NextUnits.{range_data}
+use Rattle.fast_units.specs.Deciding.{sent_number}
+use Rattle.fast_units.proofs.LastUnits.{behind_integer, integer_here, last_unit, unit_stops, unit_stays, number_within, again, kind_low}
+use Rattle.fast_units.proofs.numbers.take_integer_item.Goals as goal
+
+pub of_integer-number-requires-clause-low : goal.of_integer-number-requires-clause-low
+of_integer-number-requires-clause-low c =
+    let kind = c.args.field.now.kind in
+    let wire = range_data c.range_on_wire-range.result in
+    let fits : FitsSigned w128 c.in-Whole-Some-default.integer = search rules in
+    let inside : IsWithin (range_of kind) c.in-Whole-Some-default.integer =
+    number_within c.args.strict (range_of kind) wire c.args.field.now.optional D2 _ c.in-Whole-Some-default.field-0 c.in-Whole-Some-default.integer c.range_on_wire-range.ensures c.in-Whole-Some-default.field-0-is c.in-Whole-Some-default.ensures.unit.2 in
+    subst (λ x. neg_ℤ (pos (2 ^ 63)) ≤ℤ x) (sym (again w128 c.in-Whole-Some-default.integer fits)) (kind_low kind c.in-Whole-Some-default.integer inside)
+
+pub of_integer-number-requires-clause-high : goal.of_integer-number-requires-clause-high
+of_integer-number-requires-clause-high c =
+    let kind = c.args.field.now.kind in
+    let wire = range_data c.range_on_wire-range.result in
+    let fits : FitsSigned w128 c.in-Whole-Some-default.integer = search rules in
+    let inside : IsWithin (range_of kind) c.in-Whole-Some-default.integer =
+    number_within c.args.strict (range_of kind) wire c.args.field.now.optional D2 _ c.in-Whole-Some-default.field-0 c.in-Whole-Some-default.integer c.range_on_wire-range.ensures c.in-Whole-Some-default.field-0-is c.in-Whole-Some-default.ensures.unit.2 in
+    subst (λ x. x ≤ℤ (range_of kind).high) (sym (again w128 c.in-Whole-Some-default.integer fits)) inside.1
+
+pub returns-in-Whole-Some-default-clause-unit : goal.returns-in-Whole-Some-default-clause-unit
+returns-in-Whole-Some-default-clause-unit c l scratch =
+    let f = field_data c.args.field.now in
+    let old = slots_dictionary c.args.slots.now in
+    let p = previous_at f.entry old in
+    let wire = range_data c.range_on_wire-range.result in
+    let fits : FitsSigned w128 c.in-Whole-Some-default.integer = search rules in
+    last_unit c.args.strict (integer wire f.optional D2 give) (behind_integer l f p) (reader_of c.args.strict (field_term l f p true))
+    (integer_here c.args.strict l f p wire c.range_on_wire-range.ensures c.requires.integers c.requires.no_delta c.requires.no_constant)
+    f c.args.pending.now c.args.rest.now old (slots_dictionary c.received.new.slots) scratch c.in-Whole-Some-default.field-0 c.in-Whole-Some-default.bytes
+    (decide f p true (sent_number (Some c.of_integer-number.result))) (Ok c.received.result)
+    (ap (behind_integer l f p) c.in-Whole-Some-default.field-0-is
+    ∙ ap (λ x. of_result (decide f p true (value (value_of_integer f.kind x)))) (sym (again w128 c.in-Whole-Some-default.integer fits))
+    ∙ ap (λ v. of_result (decide f p true (value v))) (sym c.of_integer-number.ensures))
+    c.received.ensures.decided c.in-Whole-Some-default.ensures.unit
+
+pub returns-in-Whole-None-default-clause-unit : goal.returns-in-Whole-None-default-clause-unit
+returns-in-Whole-None-default-clause-unit c l scratch =
+    let f = field_data c.args.field.now in
+    let old = slots_dictionary c.args.slots.now in
+    let p = previous_at f.entry old in
+    let wire = range_data c.range_on_wire-range.result in
+    last_unit c.args.strict (integer wire f.optional D2 give) (behind_integer l f p) (reader_of c.args.strict (field_term l f p true))
+    (integer_here c.args.strict l f p wire c.range_on_wire-range.ensures c.requires.integers c.requires.no_delta c.requires.no_constant)
+    f c.args.pending.now c.args.rest.now old (slots_dictionary c.received-in-Whole-None-default.new.slots) scratch c.in-Whole-None-default.field-0 c.in-Whole-None-default.bytes
+    (decide f p true (sent_number None)) (Ok c.received-in-Whole-None-default.result)
+    (ap (behind_integer l f p) c.in-Whole-None-default.field-0-is)
+    c.received-in-Whole-None-default.ensures.decided c.in-Whole-None-default.ensures.unit
+
+pub returns-in-Wrong-clause-unit : goal.returns-in-Wrong-clause-unit
+returns-in-Wrong-clause-unit c l scratch =
+    let f = field_data c.args.field.now in
+    let p = previous_at f.entry (slots_dictionary c.args.slots.now) in
+    let wire = range_data c.range_on_wire-range.result in
+    let (some, within, t) = c.in-Wrong.ensures.unit in (
+      some,
+      within,
+      unit_stops c.args.strict (integer wire f.optional D2 give) (behind_integer l f p) (reader_of c.args.strict (field_term l f p true))
+          (integer_here c.args.strict l f p wire c.range_on_wire-range.ensures c.requires.integers c.requires.no_delta c.requires.no_constant)
+          (c.args.pending.now ++ take c.in-Wrong.bytes c.args.rest.now) c.in-Wrong.code t,
+    )
+
+pub returns-in-Cut-clause-unit : goal.returns-in-Cut-clause-unit
+returns-in-Cut-clause-unit c l scratch =
+    let f = field_data c.args.field.now in
+    let p = previous_at f.entry (slots_dictionary c.args.slots.now) in
+    let wire = range_data c.range_on_wire-range.result in (
+      unit_stays c.args.strict (integer wire f.optional D2 give) (behind_integer l f p) (reader_of c.args.strict (field_term l f p true))
+          (integer_here c.args.strict l f p wire c.range_on_wire-range.ensures c.requires.integers c.requires.no_delta c.requires.no_constant)
+          (c.args.pending.now ++ c.args.rest.now) c.in-Cut.ensures.unit,
+      refl,
+    )

@@ -1,0 +1,7 @@
+use Rattle.fast_value.specs.Limits.{bounds}
+use Rattle.fast_units.proofs.ScalarTakes.{unit_settled}
+use Rattle.fast_units.proofs.scalars.take_only.Goals as goal
+
+pub returns-clause-unit : goal.returns-clause-unit
+returns-clause-unit c scratch =
+    unit_settled _ _ _ _ _ _ _ _ c.take_integer.result c.settled.result c.settled.ensures (c.take_integer.ensures.unit (bounds c.args.limits) scratch)

@@ -1,0 +1,83 @@
+use Rattle.std.proofs.Common.{◌≡◌, ◌∙◌, sym, ap, refl, subst, [], ℤ, take, ◌++◌}
+use Rattle.std.specs.Prelude.{Some, Option, true, pos}
+use Rattle.fast_value.specs.declared.codes.Code.TheVariants.{D2}
+use Rattle.fast_wire.specs.Integers.{unsigned_range}
+use Rattle.fast_value.specs.Limits.{bounds}
+use Rattle.fast_tree.specs.Nodes.{field_data}
+use Rattle.fast_dict.specs.Dictionary.{previous_at}
+use Rattle.fast_dict.specs.Operators.{null, decide}
+use Rattle.fast_dict.specs.Slots.{slots_dictionary}
+use Rattle.fast_stream.specs.Grammar.{Grammar, give, integer}
+use Rattle.fast_stream.specs.GrammarReaders.{reader_of}
+use Rattle.fast_units.specs.TextDecisions.{first_reader, IsStepped, behind_size}
+use Rattle.fast_units.proofs.LastUnits.{unit_stops, unit_stays, number_within}
+use Rattle.fast_wire.specs.Integers.{IsWithin}
+use Rattle.fast_units.proofs.TextSizes.{size_again}
+use Rattle.fast_units.proofs.TextUnits.{size_field, text_next, text_settled}
+use Rattle.fast_units.proofs.texts.take_size.Goals as goal
+
+pub size_of-requires : goal.size_of-requires
+size_of-requires c =
+    let l = c.args.limits in
+    let f = field_data c.args.field.now in
+    let (some, within, turns) = c.in-Whole-Some-default.ensures.unit in
+    let in_range = number_within l.strict (unsigned_range 32) (unsigned_range 32) f.optional D2 (c.args.pending.now ++ take c.in-Whole-Some-default.bytes c.args.rest.now) c.in-Whole-Some-default.field-0 c.in-Whole-Some-default.size refl c.in-Whole-Some-default.field-0-is turns in
+    subst (λ (z : ℤ). IsWithin (unsigned_range 32) z) (sym (size_again c.in-Whole-Some-default.size in_range)) in_range
+
+pub returns-in-Whole-Some-default-clause-unit : goal.returns-in-Whole-Some-default-clause-unit
+returns-in-Whole-Some-default-clause-unit c =
+    let l = c.args.limits in
+    let f = field_data c.args.field.now in
+    let old = slots_dictionary c.args.slots.now in
+    let p = previous_at f.entry old in
+    let front = c.args.pending.now in
+    let here : first_reader l f old ≡ _ = ap (reader_of l.strict) (size_field (bounds l) f p c.requires.text c.requires.kind c.requires.whole c.requires.sent) in
+    let g = integer (unsigned_range 32) f.optional D2 give in
+    let next : Option ℤ → Grammar _ = behind_size (bounds l) f p in
+    let (some, within, turns) = c.in-Whole-Some-default.ensures.unit in
+    let in_range = number_within l.strict (unsigned_range 32) (unsigned_range 32) f.optional D2 (c.args.pending.now ++ take c.in-Whole-Some-default.bytes c.args.rest.now) c.in-Whole-Some-default.field-0 c.in-Whole-Some-default.size refl c.in-Whole-Some-default.field-0-is turns in
+    let is : pos c.size_of.result ≡ c.in-Whole-Some-default.size = c.size_of.ensures ∙ size_again c.in-Whole-Some-default.size in_range in
+    let n = c.in-Whole-Some-default.bytes in
+    text_next l g next (first_reader l f old) here f front c.args.rest.now old (slots_dictionary c.vector_next.new.slots) [] n c.in-Whole-Some-default.field-0 c.in-Whole-Some-default.ensures.unit
+    c.vector_next.result c.answered.result c.answered.ensures
+    (subst (λ (x : Option ℤ). IsStepped l (reader_of l.strict (next x)) f old (slots_dictionary c.vector_next.new.slots) [] (take n c.args.rest.now) c.vector_next.result)
+    (ap Some is ∙ sym c.in-Whole-Some-default.field-0-is) (c.vector_next.ensures.step (take n c.args.rest.now)))
+
+pub returns-in-Whole-None-default-clause-unit : goal.returns-in-Whole-None-default-clause-unit
+returns-in-Whole-None-default-clause-unit c =
+    let l = c.args.limits in
+    let f = field_data c.args.field.now in
+    let old = slots_dictionary c.args.slots.now in
+    let p = previous_at f.entry old in
+    let front = c.args.pending.now in
+    let here : first_reader l f old ≡ _ = ap (reader_of l.strict) (size_field (bounds l) f p c.requires.text c.requires.kind c.requires.whole c.requires.sent) in
+    let g = integer (unsigned_range 32) f.optional D2 give in
+    let next : Option ℤ → Grammar _ = behind_size (bounds l) f p in
+    let n = c.in-Whole-None-default.bytes in
+    text_settled l g next (first_reader l f old) here f front c.args.rest.now old (slots_dictionary c.finish_absent.new.slots) [] n c.in-Whole-None-default.field-0 c.in-Whole-None-default.ensures.unit
+    (decide f p true null) c.finish_absent.result (ap next c.in-Whole-None-default.field-0-is) (c.finish_absent.ensures.field [] (take n c.args.rest.now))
+
+pub returns-in-Wrong-clause-unit : goal.returns-in-Wrong-clause-unit
+returns-in-Wrong-clause-unit c =
+    let l = c.args.limits in
+    let f = field_data c.args.field.now in
+    let old = slots_dictionary c.args.slots.now in
+    let p = previous_at f.entry old in
+    let front = c.args.pending.now in
+    let here : first_reader l f old ≡ _ = ap (reader_of l.strict) (size_field (bounds l) f p c.requires.text c.requires.kind c.requires.whole c.requires.sent) in
+    let g = integer (unsigned_range 32) f.optional D2 give in
+    let next : Option ℤ → Grammar _ = behind_size (bounds l) f p in
+    let (some, within, turns) = c.in-Wrong.ensures.unit in
+    (some, within, unit_stops l.strict g next (first_reader l f old) here (front ++ take c.in-Wrong.bytes c.args.rest.now) c.in-Wrong.code turns)
+
+pub returns-in-Cut-clause-unit : goal.returns-in-Cut-clause-unit
+returns-in-Cut-clause-unit c =
+    let l = c.args.limits in
+    let f = field_data c.args.field.now in
+    let old = slots_dictionary c.args.slots.now in
+    let p = previous_at f.entry old in
+    let front = c.args.pending.now in
+    let here : first_reader l f old ≡ _ = ap (reader_of l.strict) (size_field (bounds l) f p c.requires.text c.requires.kind c.requires.whole c.requires.sent) in
+    let g = integer (unsigned_range 32) f.optional D2 give in
+    let next : Option ℤ → Grammar _ = behind_size (bounds l) f p in
+    (unit_stays l.strict g next (first_reader l f old) here (front ++ c.args.rest.now) c.in-Cut.ensures.unit, refl)

@@ -1,0 +1,104 @@
+use Rattle.std.proofs.Common.{◌≡◌, ◌∙◌, sym, ap, refl, arith, List, ℕ, take, ◌++◌, length}
+use Rattle.std.specs.Prelude.{Some, true}
+use Rattle.std.proofs.lemmas.List.{length-take-le}
+use Rattle.fast_value.specs.Limits.{bounds}
+use Rattle.fast_value.specs.Kinds.{value_of_text}
+use Rattle.fast_tree.specs.Nodes.{field_data}
+use Rattle.fast_dict.specs.Dictionary.{previous_at}
+use Rattle.fast_dict.specs.Operators.{decide}
+use Rattle.fast_dict.specs.Slots.{slots_dictionary}
+use Rattle.fast_stream.specs.Fields.{sent_text}
+use Rattle.fast_stream.specs.Grammar.{Grammar, give, raw}
+use Rattle.fast_stream.specs.GrammarReaders.{reader_of}
+use Rattle.fast_units.specs.NextUnits.{run_at}
+use Rattle.fast_units.specs.TextDecisions.{reader_behind}
+use Rattle.fast_units.specs.declared.stages.Stage.TheVariants.{Vector}
+use Rattle.fast_units.specs.declared.units.Run.{Run}
+use Rattle.fast_units.specs.declared.units.Run.TheVariants.{Piece, Scratch}
+use Rattle.fast_units.proofs.LastUnits.{unit_stays}
+use Rattle.fast_units.proofs.TextUnits.{vector_field, text_last, behind_text}
+use Rattle.fast_units.proofs.texts.take_vector.Goals as goal
+
+pub slice_bounds-text-end : goal.slice_bounds-text-end
+slice_bounds-text-end c =
+    let (some, within, turns, len) = c.in-Whole-Piece-default.ensures.unit c.args.limits.strict in
+    sym (length-take-le c.in-Whole-Piece-default.bytes c.args.rest.now within)
+
+pub finish_text-requires-clause-fits : goal.finish_text-requires-clause-fits
+finish_text-requires-clause-fits c =
+    let (some, within, turns, len) = c.in-Whole-Piece-default.ensures.unit c.args.limits.strict in
+    let is : length (run_at c.in-Whole-Piece-default.field-0 c.next_raw.new.scratch.text (take c.in-Whole-Piece-default.bytes c.args.rest.now)) ≡ length (run_at Piece c.next_raw.new.scratch.text (take c.in-Whole-Piece-default.bytes c.args.rest.now))
+    = ap (λ (r : Run). length (run_at r c.next_raw.new.scratch.text (take c.in-Whole-Piece-default.bytes c.args.rest.now))) c.in-Whole-Piece-default.field-0-is in
+    let fits = c.requires.stage.4 in
+    let most = c.requires.max_text in
+    omega (arith, len, is, fits, most)
+
+pub finish_text-requires-in-Whole-Scratch-default-clause-fits : goal.finish_text-requires-in-Whole-Scratch-default-clause-fits
+finish_text-requires-in-Whole-Scratch-default-clause-fits c =
+    let (some, within, turns, len) = c.in-Whole-Scratch-default.ensures.unit c.args.limits.strict in
+    let is : length (run_at c.in-Whole-Scratch-default.field-0 c.next_raw.new.scratch.text (take c.in-Whole-Scratch-default.bytes c.args.rest.now)) ≡ length (run_at Scratch c.next_raw.new.scratch.text (take c.in-Whole-Scratch-default.bytes c.args.rest.now))
+    = ap (λ (r : Run). length (run_at r c.next_raw.new.scratch.text (take c.in-Whole-Scratch-default.bytes c.args.rest.now))) c.in-Whole-Scratch-default.field-0-is in
+    let fits = c.requires.stage.4 in
+    let most = c.requires.max_text in
+    rw c.as_slice-text.ensures (omega (arith, len, is, fits, most))
+
+pub returns-in-Whole-Piece-default-clause-unit : goal.returns-in-Whole-Piece-default-clause-unit
+returns-in-Whole-Piece-default-clause-unit c =
+    let l = c.args.limits in
+    let f = field_data c.args.field.now in
+    let old = slots_dictionary c.args.slots.now in
+    let p = previous_at f.entry old in
+    let front = c.args.scratch.now.text in
+    let here : reader_behind l f old (Vector c.args.size) ≡ _ = ap (reader_of l.strict) (vector_field (bounds l) f p c.args.size) in
+    let g = raw c.args.size give in
+    let k : List ℕ → Grammar _ = λ v. behind_text (bounds l) f p (Some v) in
+    let text = c.next_raw.new.scratch.text in
+    let n = c.in-Whole-Piece-default.bytes in
+    let (some, within, turns, len) = c.in-Whole-Piece-default.ensures.unit l.strict in
+    let x : List ℕ = run_at c.in-Whole-Piece-default.field-0 text (take n c.args.rest.now) in
+    let i : x ≡ (take n c.args.rest.now) = ap (λ (r : Run). run_at r text (take n c.args.rest.now)) c.in-Whole-Piece-default.field-0-is in
+    text_last l.strict g k (reader_behind l f old (Vector c.args.size)) here f front c.args.rest.now old (slots_dictionary c.finish_text.new.slots) text n x (some, within, turns)
+    (decide f p true (sent_text f.kind (Some (take n c.args.rest.now)))) c.finish_text.result c.answered.result c.answered.ensures (ap k i)
+    (c.finish_text.ensures.field text (take n c.args.rest.now) refl)
+
+pub returns-in-Whole-Scratch-default-clause-unit : goal.returns-in-Whole-Scratch-default-clause-unit
+returns-in-Whole-Scratch-default-clause-unit c =
+    let l = c.args.limits in
+    let f = field_data c.args.field.now in
+    let old = slots_dictionary c.args.slots.now in
+    let p = previous_at f.entry old in
+    let front = c.args.scratch.now.text in
+    let here : reader_behind l f old (Vector c.args.size) ≡ _ = ap (reader_of l.strict) (vector_field (bounds l) f p c.args.size) in
+    let g = raw c.args.size give in
+    let k : List ℕ → Grammar _ = λ v. behind_text (bounds l) f p (Some v) in
+    let text = c.next_raw.new.scratch.text in
+    let n = c.in-Whole-Scratch-default.bytes in
+    let (some, within, turns, len) = c.in-Whole-Scratch-default.ensures.unit l.strict in
+    let x : List ℕ = run_at c.in-Whole-Scratch-default.field-0 text (take n c.args.rest.now) in
+    let i : x ≡ c.as_slice-text.result.now = ap (λ (r : Run). run_at r text (take n c.args.rest.now)) c.in-Whole-Scratch-default.field-0-is ∙ sym c.as_slice-text.ensures in
+    text_last l.strict g k (reader_behind l f old (Vector c.args.size)) here f front c.args.rest.now old (slots_dictionary c.finish_text-in-Whole-Scratch-default.new.slots) text n x (some, within, turns)
+    (decide f p true (sent_text f.kind (Some c.as_slice-text.result.now))) c.finish_text-in-Whole-Scratch-default.result c.answered-in-Whole-Scratch-default.result c.answered-in-Whole-Scratch-default.ensures (ap k i)
+    (c.finish_text-in-Whole-Scratch-default.ensures.field text (take n c.args.rest.now) (ap (λ (t : List ℕ). Some (value_of_text f.kind t)) (sym c.as_slice-text.ensures)))
+
+pub returns-in-Wrong-clause-unit : goal.returns-in-Wrong-clause-unit
+returns-in-Wrong-clause-unit c =
+    absurd (c.in-Wrong.ensures.unit c.args.limits.strict)
+
+pub returns-in-Cut-clause-unit : goal.returns-in-Cut-clause-unit
+returns-in-Cut-clause-unit c =
+    let l = c.args.limits in
+    let f = field_data c.args.field.now in
+    let old = slots_dictionary c.args.slots.now in
+    let p = previous_at f.entry old in
+    let front = c.args.scratch.now.text in
+    let here : reader_behind l f old (Vector c.args.size) ≡ _ = ap (reader_of l.strict) (vector_field (bounds l) f p c.args.size) in
+    let g = raw c.args.size give in
+    let k : List ℕ → Grammar _ = λ v. behind_text (bounds l) f p (Some v) in
+    let text = c.next_raw.new.scratch.text in
+    let (stays, bytes, short) = c.in-Cut.ensures.unit l.strict in
+    (unit_stays l.strict g k (reader_behind l f old (Vector c.args.size)) here (front ++ c.args.rest.now) stays, refl)
+
+pub returns-in-Cut-clause-cut : goal.returns-in-Cut-clause-cut
+returns-in-Cut-clause-cut c e =
+    let (stays, bytes, short) = c.in-Cut.ensures.unit c.args.limits.strict in
+    (bytes, short)

@@ -1,0 +1,369 @@
+//! Fields and their entries: where values stand, and what a field leaves of which nothing is sent.
+
+ghost use Rattle.std.specs.Prelude.{◌≡◌, ◌≢◌, IfSome, ℕ, ◌<◌, ◌≤◌, ◌^◌, true, false, List, length, Some, None, Ok, option_map, pos, neg_ℤ, ◌≤ℤ◌};
+ghost use Rattle.fast_value.specs.Kinds.{integer_of, value_of_integer, value_of_text, ScalarData};
+ghost use Rattle.fast_value.specs.Values.{scalar_data};
+ghost use Rattle.fast_value.specs.Limits.{Bounds};
+ghost use Rattle.fast_tree.specs.Nodes.{field_data};
+ghost use Rattle.fast_tree.specs.Tree.{FieldData};
+ghost use Rattle.fast_dict.specs.Entry.{with_text};
+ghost use Rattle.fast_dict.specs.Dictionary.{Dictionary, PreviousData, assigned, empty, previous_at, write_at};
+ghost use Rattle.fast_dict.specs.Operators.{incremented, decide, nothing, unsent, from_initial, range_of};
+ghost use Rattle.fast_dict.specs.Previous.{previous_data};
+ghost use Rattle.fast_dict.specs.Slots.{slots_dictionary, slots_terms};
+ghost use Rattle.fast_dict.specs.Stores.{IsStorable};
+ghost use Rattle.fast_stream.specs.Fields.{field_term};
+ghost use Rattle.fast_stream.specs.Grammar.{of_result};
+ghost use Rattle.fast_units.specs.Settling.{Serves, HasRoomFor, value_at};
+ghost use Rattle.fast_units.specs.Deciding.{needs_bytes, number_data, source_of, IsDecided};
+
+use crate::source::Source;
+use fast_dict::operators::initial_value;
+use fast_dict::operators::integers::{integer_of, integer_value};
+use fast_dict::operators::unsent::next_integer;
+use fast_dict::{Entry, Previous, Slots, Store};
+use fast_tree::{FieldInstruction, Operator};
+use fast_value::{Code, Kind, Scalar};
+
+/// A number, as the value of a field.
+#[derive(Clone, Copy, Debug)]
+pub enum Number {
+    /// An unsigned number.
+    Unsigned(u64),
+    /// A signed number.
+    Signed(i64),
+    /// A decimal.
+    Decimal {
+        /// The exponent.
+        exponent: i32,
+        /// The mantissa.
+        mantissa: i64,
+    },
+}
+
+impl Number {
+    /// An integer as a value of a kind.
+    #[inline]
+    pub fn of_integer(kind: Kind, integer: i128) -> Number
+        requires low { neg_ℤ (pos (2 ^ 63)) ≤ℤ integer }
+        requires high { integer ≤ℤ (range_of kind).high }
+        ensures { number_data result ≡ value_of_integer kind integer }
+    {
+        match kind {
+            Kind::UInt32 | Kind::UInt64 if integer >= 0 => Number::Unsigned(integer as u64),
+            _ => Number::Signed(integer as i64),
+        }
+    }
+
+    /// The number as a value that is lent.
+    #[inline]
+    pub fn as_scalar(self) -> Scalar<'static>
+        ensures { scalar_data result ≡ number_data self }
+    {
+        match self {
+            Number::Unsigned(number) => Scalar::U(number),
+            Number::Signed(number) => Scalar::I(number),
+            Number::Decimal { exponent, mantissa } => Scalar::Dec { exponent, mantissa },
+        }
+    }
+
+    /// Where the number stands: at hand.
+    #[inline]
+    pub fn source(self) -> Source
+        ensures { (f : FieldData) (d : Dictionary) (scratch piece : List ℕ) → value_at result f d scratch piece ≡ Some (number_data self) }
+    {
+        match self {
+            Number::Unsigned(number) => Source::Unsigned(number),
+            Number::Signed(number) => Source::Signed(number),
+            Number::Decimal { exponent, mantissa } => Source::Decimal { exponent, mantissa },
+        }
+    }
+}
+
+/// Where a number stands that is at hand, or NULL.
+#[inline(always)]
+pub fn source_of(item: Option<Number>) -> Source
+    ensures { result ≡ source_of item }
+{
+    match item {
+        Some(number) => number.source(),
+        None => Source::Absent,
+    }
+}
+
+/// Whether the field stands in the stream.
+#[inline]
+pub fn needs_bytes(field: &FieldInstruction, bit: bool) -> bool
+    ensures needed { result ≡ needs_bytes field.now.operator bit }
+    ensures sent { result ≡ true → (l : Bounds) (p : PreviousData) → field_term l (field_data field.now) p bit ≡ field_term l (field_data field.now) p true }
+    ensures operator { result ≡ true → field.now.operator ≢ Operator.Constant }
+    ensures unsent { result ≡ false → (l : Bounds) (p : PreviousData) → field_term l (field_data field.now) p bit ≡ of_result (decide (field_data field.now) p bit nothing) }
+{
+    is_needed(field.operator, bit)
+}
+
+/// Whether a field stands in the stream, by its operator.
+#[inline]
+fn is_needed(operator: Operator, bit: bool) -> bool
+    ensures { result ≡ needs_bytes operator bit }
+{
+    match operator {
+        Operator::None | Operator::Delta => true,
+        Operator::Constant => false,
+        Operator::Default | Operator::Copy | Operator::Increment | Operator::Tail => bit,
+    }
+}
+
+/// What the field's entry holds. Without an entry it is undefined.
+#[inline(always)]
+pub fn previous<'s>(slots: &'s Slots, field: &FieldInstruction) -> Previous<'s>
+    requires within { (e : ℕ) → (field_data field.now).entry ≡ Some e → e < length (slots_dictionary slots.now) }
+    ensures { previous_data result ≡ previous_at (field_data field.now).entry (slots_dictionary slots.now) }
+{
+    match field.entry {
+        Some(entry) => slots.get(entry as usize),
+        None => Previous::Undefined,
+    }
+}
+
+/// Assigns a value to the field's entry, if it has one. It wants no memory.
+#[inline(always)]
+pub fn assign(slots: &mut Slots, field: &FieldInstruction, value: Scalar<'_>)
+    requires within { (e : ℕ) → (field_data field.now).entry ≡ Some e → e < length (slots_dictionary slots.old) }
+    requires room { (e : ℕ) → (field_data field.now).entry ≡ Some e → IsStorable (slots_terms slots.old) e (scalar_data value) }
+    ensures entry { slots_dictionary slots.new ≡ write_at (field_data field.now).entry (assigned field.now.kind (scalar_data value.entry)) (slots_dictionary slots.old) }
+    ensures terms { slots_terms slots.new ≡ slots_terms slots.old }
+{
+    if let Some(entry) = field.entry {
+        let _ = slots.set(entry as usize, field.kind, value);
+    }
+}
+
+/// Makes the field's entry empty, if it has one.
+#[inline]
+pub fn assign_empty(slots: &mut Slots, field: &FieldInstruction)
+    requires within { (e : ℕ) → (field_data field.now).entry ≡ Some e → e < length (slots_dictionary slots.old) }
+    ensures entry { slots_dictionary slots.new ≡ write_at (field_data field.now).entry empty (slots_dictionary slots.old) }
+    ensures terms { slots_terms slots.new ≡ slots_terms slots.old }
+{
+    if let Some(entry) = field.entry {
+        slots.set_empty(entry as usize);
+    }
+}
+
+/// Keeps a number at the field's entry, if it has one, and says where it stands.
+#[inline]
+pub fn keep(slots: &mut Slots, field: &FieldInstruction, number: Number) -> Source
+    requires within { (e : ℕ) → (field_data field.now).entry ≡ Some e → e < length (slots_dictionary slots.old) }
+    ensures value { (d : Dictionary) (scratch piece : List ℕ) → value_at result (field_data field.now) d scratch piece ≡ Some (number_data number) }
+    ensures entry { slots_dictionary slots.new ≡ write_at (field_data field.now).entry (assigned field.now.kind (number_data number)) (slots_dictionary slots.old) }
+    ensures terms { slots_terms slots.new ≡ slots_terms slots.old }
+{
+    assign(slots, field, number.as_scalar());
+    number.source()
+}
+
+/// The number that the field's entry holds, if it is one of the field's own kind.
+#[inline(always)]
+pub fn own_number(slots: &Slots, field: &FieldInstruction) -> Option<Number>
+    requires within { (e : ℕ) → (field_data field.now).entry ≡ Some e → e < length (slots_dictionary slots.now) }
+    ensures { IfSome result (λ n. previous_at (field_data field.now).entry (slots_dictionary slots.now) ≡ assigned field.now.kind (number_data n)) }
+{
+    match field.entry {
+        Some(entry) => number_under(field.kind, slots.held(entry as usize)),
+        None => None,
+    }
+}
+
+/// The number of an entry under this kind.
+#[inline(always)]
+pub fn number_under(kind: Kind, entry: Entry) -> Option<Number>
+    ensures { IfSome result (λ n. (text : List ℕ) → with_text entry text ≡ assigned kind (number_data n)) }
+{
+    match (kind, entry) {
+        (Kind::UInt32, Entry::UInt32(number)) => Some(Number::Unsigned(number)),
+        (Kind::UInt64, Entry::UInt64(number)) => Some(Number::Unsigned(number)),
+        (Kind::Int32, Entry::Int32(number)) => Some(Number::Signed(number)),
+        (Kind::Int64, Entry::Int64(number)) => Some(Number::Signed(number)),
+        (Kind::Decimal, Entry::Decimal(exponent, mantissa)) => {
+            Some(Number::Decimal { exponent, mantissa })
+        }
+        _ => None,
+    }
+}
+
+/// Whether the field's entry holds a text of the field's own kind. The text itself is not fetched.
+#[inline(always)]
+fn has_own_text(slots: &Slots, field: &FieldInstruction) -> bool
+    requires within { (e : ℕ) → (field_data field.now).entry ≡ Some e → e < length (slots_dictionary slots.now) }
+    ensures { result ≡ true → (text : List ℕ) × (previous_at (field_data field.now).entry (slots_dictionary slots.now) ≡ assigned field.now.kind (value_of_text field.now.kind text)) }
+{
+    match field.entry {
+        Some(entry) => is_text_under(field.kind, slots.held(entry as usize)),
+        None => false,
+    }
+}
+
+/// Whether an entry holds a text under this kind.
+#[inline(always)]
+fn is_text_under(kind: Kind, entry: Entry) -> bool
+    ensures { result ≡ true → (text : List ℕ) → with_text entry text ≡ assigned kind (value_of_text kind text) }
+{
+    match (kind, entry) {
+        (Kind::Ascii, Entry::Ascii(_)) => true,
+        (Kind::Unicode, Entry::Unicode(_)) => true,
+        (Kind::Bytes, Entry::Bytes(_)) => true,
+        _ => false,
+    }
+}
+
+/// What a field leaves of which nothing is sent.
+///
+/// # Errors
+///
+/// D4 if the previous value is of another type; of a mandatory field D5 if there is neither a previous nor an initial value,
+/// and D6 if the previous value is empty.
+#[inline(always)]
+pub fn unsent(slots: &mut Slots, field: &FieldInstruction, bit: bool) -> Result<Source, Code>
+    requires serves { Serves (length (slots_dictionary slots.old)) (slots_terms slots.old) (field_data field.now) }
+    requires no_bytes { needs_bytes field.now.operator bit ≡ false }
+    ensures decided { IsDecided (decide (field_data field.now) (previous_at (field_data field.now).entry (slots_dictionary slots.old)) bit nothing)
+        (field_data field.now) (slots_dictionary slots.old) (slots_dictionary slots.new) result }
+    ensures terms { slots_terms slots.new ≡ slots_terms slots.old }
+{
+    match field.operator {
+        Operator::Constant if bit => Ok(Source::Initial),
+        Operator::Constant => Ok(Source::Absent),
+        Operator::Default => Ok(Source::Initial),
+        Operator::Copy => copied(slots, field),
+        Operator::Tail => copied(slots, field),
+        Operator::Increment => incremented(slots, field),
+        Operator::None | Operator::Delta => unreachable!(),
+    }
+}
+
+/// Copy and tail: the previous value. Under an undefined entry the initial value, which the entry then holds.
+#[inline(always)]
+fn copied(slots: &mut Slots, field: &FieldInstruction) -> Result<Source, Code>
+    requires serves { Serves (length (slots_dictionary slots.old)) (slots_terms slots.old) (field_data field.now) }
+    requires operator { field.now.operator ≢ Operator.Increment }
+    ensures decided { IsDecided (unsent (field_data field.now) (previous_at (field_data field.now).entry (slots_dictionary slots.old)))
+        (field_data field.now) (slots_dictionary slots.old) (slots_dictionary slots.new) result }
+    ensures terms { slots_terms slots.new ≡ slots_terms slots.old }
+{
+    if let Some(number) = own_number(slots, field) {
+        return Ok(number.source());
+    }
+    if has_own_text(slots, field) {
+        return Ok(Source::Entry);
+    }
+    match previous(slots, field) {
+        Previous::Assigned(kind, _) if kind == field.kind => Ok(Source::Entry),
+        Previous::Assigned(..) => Err(Code::D4),
+        Previous::Undefined => initial(slots, field),
+        Previous::Empty => absent(slots, field, Code::D6),
+    }
+}
+
+/// Increment: one more than the previous value, and behind the greatest of the type the least. Under an undefined entry
+/// the initial value. The entry then holds the value.
+#[inline(always)]
+fn incremented(slots: &mut Slots, field: &FieldInstruction) -> Result<Source, Code>
+    requires serves { Serves (length (slots_dictionary slots.old)) (slots_terms slots.old) (field_data field.now) }
+    requires operator { field.now.operator ≡ Operator.Increment }
+    ensures decided { IsDecided (unsent (field_data field.now) (previous_at (field_data field.now).entry (slots_dictionary slots.old)))
+        (field_data field.now) (slots_dictionary slots.old) (slots_dictionary slots.new) result }
+    ensures terms { slots_terms slots.new ≡ slots_terms slots.old }
+{
+    if let Some(number) = own_number(slots, field) {
+        let next = next_number(field.kind, number.as_scalar());
+        return Ok(keep(slots, field, next));
+    }
+    match previous(slots, field) {
+        Previous::Assigned(kind, value) if kind == field.kind => {
+            let next = next_number(kind, value);
+            Ok(keep(slots, field, next))
+        }
+        Previous::Assigned(..) => Err(Code::D4),
+        Previous::Undefined => initial(slots, field),
+        Previous::Empty => absent(slots, field, Code::D6),
+    }
+}
+
+/// One more, and behind the greatest value of the kind the least.
+#[inline]
+fn next_number(kind: Kind, value: Scalar<'_>) -> Number
+    ensures { number_data result ≡ value_of_integer kind (incremented (range_of kind) (integer_of (scalar_data value.entry))) }
+{
+    Number::of_integer(kind, integer_of(next_integer(kind, value)))
+}
+
+/// The initial value under an undefined entry, which then holds it; without one absent.
+fn initial(slots: &mut Slots, field: &FieldInstruction) -> Result<Source, Code>
+    requires serves { Serves (length (slots_dictionary slots.old)) (slots_terms slots.old) (field_data field.now) }
+    ensures decided { IsDecided (from_initial field.now.kind field.now.optional Code.D5 (field_data field.now).initial)
+        (field_data field.now) (slots_dictionary slots.old) (slots_dictionary slots.new) result }
+    ensures terms { slots_terms slots.new ≡ slots_terms slots.old }
+{
+    match initial_value(field) {
+        Some(value) => {
+            assign(slots, field, value);
+            Ok(Source::Initial)
+        }
+        None => absent(slots, field, Code::D5),
+    }
+}
+
+/// Absent, if the field may be; the entry is then empty.
+fn absent(slots: &mut Slots, field: &FieldInstruction, fault: Code) -> Result<Source, Code>
+    requires within { (e : ℕ) → (field_data field.now).entry ≡ Some e → e < length (slots_dictionary slots.old) }
+    ensures decided { IsDecided (from_initial field.now.kind field.now.optional fault None)
+        (field_data field.now) (slots_dictionary slots.old) (slots_dictionary slots.new) result }
+    ensures terms { slots_terms slots.new ≡ slots_terms slots.old }
+{
+    if field.optional {
+        assign_empty(slots, field);
+        Ok(Source::Absent)
+    } else {
+        Err(fault)
+    }
+}
+
+/// The value at a source, lent.
+#[inline(always)]
+pub fn value_at<'x>(
+    slots: &'x Slots,
+    field: &'x FieldInstruction,
+    scratch: &'x [u8],
+    piece: &'x [u8],
+    source: Source,
+) -> Option<Scalar<'x>>
+    requires within { (e : ℕ) → (field_data field.now).entry ≡ Some e → e < length (slots_dictionary slots.now) }
+    ensures { option_map scalar_data result ≡ value_at source (field_data field.now) (slots_dictionary slots.now) scratch.now piece.now }
+{
+    match source {
+        Source::Absent => None,
+        Source::Unsigned(number) => Some(Scalar::U(number)),
+        Source::Signed(number) => Some(Scalar::I(number)),
+        Source::Decimal { exponent, mantissa } => Some(Scalar::Dec { exponent, mantissa }),
+        Source::Entry => match previous(slots, field) {
+            Previous::Assigned(_, value) => Some(value),
+            Previous::Undefined | Previous::Empty => None,
+        },
+        Source::Initial => initial_value(field),
+        Source::Scratch => Some(text_value(field.kind, scratch)),
+        Source::Piece => Some(text_value(field.kind, piece)),
+    }
+}
+
+/// A text as a value of a kind of texts.
+#[inline]
+pub fn text_value(kind: Kind, text: &[u8]) -> Scalar<'_>
+    ensures { scalar_data result ≡ value_of_text kind text.now }
+{
+    match kind {
+        Kind::Unicode => Scalar::Unicode(text),
+        Kind::Bytes => Scalar::Bytes(text),
+        _ => Scalar::Ascii(text),
+    }
+}

@@ -1,0 +1,463 @@
+//! Fields of numbers: what their units give, and what they leave in the dictionary.
+
+ghost use Rattle.std.specs.Prelude.{false, Some, IfSome, ◌≡◌, ◌≢◌, ℕ, ◌<◌, ◌≤◌, ◌^◌, ◌++◌, true, List, [], length, ℤ, pos, neg_ℤ, ◌≤ℤ◌, Ok};
+ghost use Rattle.fast_wire.specs.Entities.{HaveNoStop};
+ghost use Rattle.fast_wire.specs.Integers.{unsigned_up_to};
+ghost use Rattle.fast_value.specs.Kinds.{U, Dec, value_of_integer, integers, decimals, texts, family, signed_range};
+ghost use Rattle.fast_value.specs.Limits.{Bounds, bounds};
+ghost use Rattle.fast_tree.specs.Nodes.{field_data};
+ghost use Rattle.fast_dict.specs.Dictionary.{previous_at};
+ghost use Rattle.fast_dict.specs.Operators.{decide, integer_step, mantissa_step, range_of};
+ghost use Rattle.fast_dict.specs.Slots.{slots_dictionary, slots_terms};
+ghost use Rattle.fast_stream.specs.Fields.{field_term};
+ghost use Rattle.fast_stream.specs.GrammarReaders.{reader_of};
+ghost use Rattle.fast_units.specs.Settling.{Serves, IsLastUnit};
+ghost use Rattle.fast_units.specs.Stages.{term_behind, IsStageOf, IsFieldUnit};
+ghost use Rattle.fast_units.specs.NextUnits.{range_data};
+ghost use Rattle.fast_units.specs.Deciding.{number_data, sent_number, base_integer, progress_of, IsDecided};
+
+use crate::fields::{Number, assign_empty, keep, own_number, previous};
+use crate::progress::Progress;
+use crate::source::Source;
+use crate::stages::{Stage, Step};
+use crate::units::{IntegerRange, next_integer, next_unsigned};
+use fast_dict::Slots;
+use fast_dict::operators::decimals::{exponent_delta, mantissa_of};
+use fast_dict::operators::delta_base;
+use fast_dict::operators::integers::{integer_of, range_of, sum_in};
+use fast_tree::{FieldInstruction, Operator};
+use fast_value::{Code, Kind, Limits};
+use fast_wire::Entity;
+
+/// All that an entity of ten bytes holds, also after the nullable form has taken its one away.
+const DELTA: IntegerRange = IntegerRange::Signed(
+    -590_295_810_358_705_651_712,
+    590_295_810_358_705_651_711,
+);
+
+/// The mantissas of decimals.
+const MANTISSA: IntegerRange = IntegerRange::Signed(
+    -9_223_372_036_854_775_808,
+    9_223_372_036_854_775_807,
+);
+
+/// The integers of a kind of integers, and the exponents of decimals.
+#[inline]
+fn range_on_wire(kind: Kind) -> IntegerRange
+    ensures { range_data result ≡ range_of kind }
+{
+    match kind {
+        Kind::UInt32 => IntegerRange::Unsigned(4_294_967_295),
+        Kind::UInt64 => IntegerRange::Unsigned(18_446_744_073_709_551_615),
+        Kind::Int32 => IntegerRange::Signed(-2_147_483_648, 2_147_483_647),
+        Kind::Int64 => MANTISSA,
+        Kind::Decimal | Kind::Ascii | Kind::Unicode | Kind::Bytes => IntegerRange::Signed(-63, 63),
+    }
+}
+
+/// A number that is sent, or NULL, without an operator and under default, copy and increment: copy and increment keep it at the
+/// field's entry, the others have none.
+#[inline(always)]
+fn received(slots: &mut Slots, field: &FieldInstruction, item: Option<Number>) -> Source
+    requires serves { Serves (length (slots_dictionary slots.old)) (slots_terms slots.old) (field_data field.now) }
+    requires numbers { family field.now.kind ≢ texts }
+    requires no_delta { field.now.operator ≢ Operator.Delta }
+    requires no_constant { field.now.operator ≢ Operator.Constant }
+    ensures decided { IsDecided (decide (field_data field.now) (previous_at (field_data field.now).entry (slots_dictionary slots.old)) true (sent_number item))
+        (field_data field.now) (slots_dictionary slots.old) (slots_dictionary slots.new) (Ok result) }
+    ensures terms { slots_terms slots.new ≡ slots_terms slots.old }
+{
+    match item {
+        Some(number) => keep(slots, field, number),
+        None => {
+            assign_empty(slots, field);
+            Source::Absent
+        }
+    }
+}
+
+/// The integer that a delta is added to.
+#[inline(always)]
+fn base_integer(slots: &Slots, field: &FieldInstruction) -> Result<i128, Code>
+    requires within { (e : ℕ) → (field_data field.now).entry ≡ Some e → e < length (slots_dictionary slots.now) }
+    ensures { result ≡ base_integer (field_data field.now) (previous_at (field_data field.now).entry (slots_dictionary slots.now)) }
+{
+    if let Some(number) = own_number(slots, field) {
+        return Ok(integer_of(number.as_scalar()));
+    }
+    Ok(integer_of(delta_base(field, previous(slots, field))?))
+}
+
+/// An integer behind its delta, which the entry then holds.
+#[inline(always)]
+fn change_integer(slots: &mut Slots, field: &FieldInstruction, delta: i128) -> Result<Source, Code>
+    requires serves { Serves (length (slots_dictionary slots.old)) (slots_terms slots.old) (field_data field.now) }
+    ensures decided { IsDecided (integer_step (field_data field.now) (previous_at (field_data field.now).entry (slots_dictionary slots.old)) delta)
+        (field_data field.now) (slots_dictionary slots.old) (slots_dictionary slots.new) result }
+    ensures terms { slots_terms slots.new ≡ slots_terms slots.old }
+{
+    let base = base_integer(slots, field)?;
+    let (low, high) = range_of(field.kind);
+    let sum = sum_in(low, high, Code::D2, base, delta)?;
+    Ok(keep(slots, field, Number::of_integer(field.kind, sum)))
+}
+
+/// A decimal behind the delta of its mantissa, which the entry then holds.
+#[inline]
+fn change_mantissa(
+    slots: &mut Slots,
+    field: &FieldInstruction,
+    exponent: i32,
+    delta: i128,
+) -> Result<Source, Code>
+    requires serves { Serves (length (slots_dictionary slots.old)) (slots_terms slots.old) (field_data field.now) }
+    ensures decided { IsDecided (mantissa_step (field_data field.now) (previous_at (field_data field.now).entry (slots_dictionary slots.old)) exponent delta)
+        (field_data field.now) (slots_dictionary slots.old) (slots_dictionary slots.new) result }
+    ensures terms { slots_terms slots.new ≡ slots_terms slots.old }
+{
+    let base = mantissa_of(delta_base(field, previous(slots, field))?);
+    let (low, high) = range_of(Kind::Int64);
+    let sum = sum_in(low, high, Code::R1, base, delta)?;
+    Ok(keep(slots, field, decimal(exponent, sum)))
+}
+
+/// A decimal.
+#[inline]
+fn decimal(exponent: i32, mantissa: i128) -> Number
+    requires low { (signed_range 63).low ≤ℤ mantissa }
+    requires high { mantissa ≤ℤ (signed_range 63).high }
+    ensures { number_data result ≡ Dec exponent mantissa }
+{
+    Number::Decimal {
+        exponent,
+        mantissa: mantissa as i64,
+    }
+}
+
+/// An exponent in range.
+#[inline]
+fn exponent(exponent: i128) -> i32
+    requires low { neg_ℤ (pos 63) ≤ℤ exponent }
+    requires high { exponent ≤ℤ pos 63 }
+    ensures { result ≡ exponent }
+{
+    exponent as i32
+}
+
+/// What is decided behind so many bytes.
+#[inline(always)]
+fn settled(answer: Result<Source, Code>, bytes: usize) -> Progress<Source>
+    ensures { result ≡ progress_of answer bytes }
+{
+    match answer {
+        Ok(source) => Progress::Whole(source, bytes),
+        Err(code) => Progress::Wrong(code, bytes),
+    }
+}
+
+/// The one unit of an integer field that stands in the stream.
+///
+/// Nothing changes before the unit is whole, but for the bytes in hand.
+#[inline(always)]
+pub fn take_integer(
+    slots: &mut Slots,
+    pending: &mut Entity,
+    field: &FieldInstruction,
+    rest: &[u8],
+    strict: bool,
+) -> Progress<Source>
+    requires open { HaveNoStop pending.old }
+    requires short { length pending.old < 10 }
+    requires serves { Serves (length (slots_dictionary slots.old)) (slots_terms slots.old) (field_data field.now) }
+    requires integers { family field.now.kind ≡ integers (range_of field.now.kind) }
+    requires sent { field.now.operator ≢ Operator.Constant }
+    ensures unit { (l : Bounds) (scratch : List ℕ) → IsLastUnit (reader_of strict (field_term l (field_data field.now) (previous_at (field_data field.now).entry (slots_dictionary slots.old)) true))
+        (field_data field.now) pending.old rest.now (slots_dictionary slots.old) (slots_dictionary slots.new) scratch result }
+    ensures whole { (s : Source) (n : ℕ) → result ≡ Progress.Whole s n → pending.new ≡ [] }
+    ensures cut { result ≡ Progress.Cut → (pending.new ≡ pending.old ++ rest.now) × HaveNoStop pending.new × (length pending.new < 10) }
+    ensures terms { slots_terms slots.new ≡ slots_terms slots.old }
+{
+    match field.operator {
+        Operator::Delta => take_integer_delta(slots, pending, field, rest, strict),
+        _ => take_integer_item(slots, pending, field, rest, strict),
+    }
+}
+
+/// An integer, or NULL, under no delta.
+#[inline(always)]
+fn take_integer_item(
+    slots: &mut Slots,
+    pending: &mut Entity,
+    field: &FieldInstruction,
+    rest: &[u8],
+    strict: bool,
+) -> Progress<Source>
+    requires open { HaveNoStop pending.old }
+    requires short { length pending.old < 10 }
+    requires serves { Serves (length (slots_dictionary slots.old)) (slots_terms slots.old) (field_data field.now) }
+    requires integers { family field.now.kind ≡ integers (range_of field.now.kind) }
+    requires no_delta { field.now.operator ≢ Operator.Delta }
+    requires no_constant { field.now.operator ≢ Operator.Constant }
+    ensures unit { (l : Bounds) (scratch : List ℕ) → IsLastUnit (reader_of strict (field_term l (field_data field.now) (previous_at (field_data field.now).entry (slots_dictionary slots.old)) true))
+        (field_data field.now) pending.old rest.now (slots_dictionary slots.old) (slots_dictionary slots.new) scratch result }
+    ensures whole { (s : Source) (n : ℕ) → result ≡ Progress.Whole s n → pending.new ≡ [] }
+    ensures cut { result ≡ Progress.Cut → (pending.new ≡ pending.old ++ rest.now) × HaveNoStop pending.new × (length pending.new < 10) }
+    ensures terms { slots_terms slots.new ≡ slots_terms slots.old }
+{
+    if let Some(top) = mandatory_top(field) {
+        return take_unsigned(slots, pending, field, rest, strict, top);
+    }
+    let range = range_on_wire(field.kind);
+    match next_integer(pending, rest, strict, range, field.optional, Code::D2) {
+        Progress::Whole(Some(integer), bytes) => {
+            let number = Number::of_integer(field.kind, integer);
+            Progress::Whole(received(slots, field, Some(number)), bytes)
+        }
+        Progress::Whole(None, bytes) => Progress::Whole(received(slots, field, None), bytes),
+        Progress::Wrong(code, bytes) => Progress::Wrong(code, bytes),
+        Progress::Cut => Progress::Cut,
+    }
+}
+
+/// The greatest number of a mandatory field of unsigned numbers.
+#[inline]
+fn mandatory_top(field: &FieldInstruction) -> Option<u64>
+    ensures { IfSome result (λ top. (field.now.optional ≡ false) × (unsigned_up_to top ≡ range_of field.now.kind) × ((n : ℕ) → value_of_integer field.now.kind (pos n) ≡ U n)) }
+{
+    if field.optional {
+        return None;
+    }
+    match field.kind {
+        Kind::UInt32 => Some(4_294_967_295),
+        Kind::UInt64 => Some(18_446_744_073_709_551_615),
+        _ => None,
+    }
+}
+
+/// An unsigned number that is mandatory, under no delta.
+#[inline(always)]
+fn take_unsigned(
+    slots: &mut Slots,
+    pending: &mut Entity,
+    field: &FieldInstruction,
+    rest: &[u8],
+    strict: bool,
+    top: u64,
+) -> Progress<Source>
+    requires open { HaveNoStop pending.old }
+    requires short { length pending.old < 10 }
+    requires serves { Serves (length (slots_dictionary slots.old)) (slots_terms slots.old) (field_data field.now) }
+    requires integers { family field.now.kind ≡ integers (range_of field.now.kind) }
+    requires no_delta { field.now.operator ≢ Operator.Delta }
+    requires no_constant { field.now.operator ≢ Operator.Constant }
+    requires mandatory { field.now.optional ≡ false }
+    requires range { unsigned_up_to top ≡ range_of field.now.kind }
+    requires unsigned { (n : ℕ) → value_of_integer field.now.kind (pos n) ≡ U n }
+    ensures unit { (l : Bounds) (scratch : List ℕ) → IsLastUnit (reader_of strict (field_term l (field_data field.now) (previous_at (field_data field.now).entry (slots_dictionary slots.old)) true))
+        (field_data field.now) pending.old rest.now (slots_dictionary slots.old) (slots_dictionary slots.new) scratch result }
+    ensures whole { (s : Source) (n : ℕ) → result ≡ Progress.Whole s n → pending.new ≡ [] }
+    ensures cut { result ≡ Progress.Cut → (pending.new ≡ pending.old ++ rest.now) × HaveNoStop pending.new × (length pending.new < 10) }
+    ensures terms { slots_terms slots.new ≡ slots_terms slots.old }
+{
+    match next_unsigned(pending, rest, strict, top) {
+        Progress::Whole(number, bytes) => {
+            let item = Some(Number::Unsigned(number));
+            Progress::Whole(received(slots, field, item), bytes)
+        }
+        Progress::Wrong(code, bytes) => Progress::Wrong(code, bytes),
+        Progress::Cut => Progress::Cut,
+    }
+}
+
+/// The delta of an integer, or NULL, which leaves the entry as it is and does not look at it.
+#[inline(always)]
+fn take_integer_delta(
+    slots: &mut Slots,
+    pending: &mut Entity,
+    field: &FieldInstruction,
+    rest: &[u8],
+    strict: bool,
+) -> Progress<Source>
+    requires open { HaveNoStop pending.old }
+    requires short { length pending.old < 10 }
+    requires serves { Serves (length (slots_dictionary slots.old)) (slots_terms slots.old) (field_data field.now) }
+    requires integers { family field.now.kind ≡ integers (range_of field.now.kind) }
+    requires delta { field.now.operator ≡ Operator.Delta }
+    ensures unit { (l : Bounds) (scratch : List ℕ) → IsLastUnit (reader_of strict (field_term l (field_data field.now) (previous_at (field_data field.now).entry (slots_dictionary slots.old)) true))
+        (field_data field.now) pending.old rest.now (slots_dictionary slots.old) (slots_dictionary slots.new) scratch result }
+    ensures whole { (s : Source) (n : ℕ) → result ≡ Progress.Whole s n → pending.new ≡ [] }
+    ensures cut { result ≡ Progress.Cut → (pending.new ≡ pending.old ++ rest.now) × HaveNoStop pending.new × (length pending.new < 10) }
+    ensures terms { slots_terms slots.new ≡ slots_terms slots.old }
+{
+    match next_integer(pending, rest, strict, DELTA, field.optional, Code::D2) {
+        Progress::Whole(Some(delta), bytes) => settled(change_integer(slots, field, delta), bytes),
+        Progress::Whole(None, bytes) => Progress::Whole(Source::Absent, bytes),
+        Progress::Wrong(code, bytes) => Progress::Wrong(code, bytes),
+        Progress::Cut => Progress::Cut,
+    }
+}
+
+/// The first unit of a decimal that stands in the stream: its exponent, or the delta of its exponent. Where there is none the
+/// decimal is absent.
+#[inline(always)]
+pub fn take_exponent(
+    slots: &mut Slots,
+    pending: &mut Entity,
+    field: &FieldInstruction,
+    rest: &[u8],
+    limits: Limits,
+) -> Progress<Step>
+    requires open { HaveNoStop pending.old }
+    requires short { length pending.old < 10 }
+    requires serves { Serves (length (slots_dictionary slots.old)) (slots_terms slots.old) (field_data field.now) }
+    requires decimals { family field.now.kind ≡ decimals }
+    requires sent { field.now.operator ≢ Operator.Constant }
+    ensures unit { (scratch : List ℕ) → IsFieldUnit limits (reader_of limits.strict (field_term (bounds limits) (field_data field.now) (previous_at (field_data field.now).entry (slots_dictionary slots.old)) true))
+        (field_data field.now) pending.old rest.now (slots_dictionary slots.old) (slots_dictionary slots.new) scratch result }
+    ensures whole { (s : Step) (n : ℕ) → result ≡ Progress.Whole s n → pending.new ≡ [] }
+    ensures cut { result ≡ Progress.Cut → (pending.new ≡ pending.old ++ rest.now) × HaveNoStop pending.new × (length pending.new < 10) }
+    ensures terms { slots_terms slots.new ≡ slots_terms slots.old }
+{
+    match field.operator {
+        Operator::Delta => take_exponent_delta(slots, pending, field, rest, limits),
+        _ => take_exponent_item(slots, pending, field, rest, limits),
+    }
+}
+
+/// The exponent of a decimal, or NULL, under no delta.
+fn take_exponent_item(
+    slots: &mut Slots,
+    pending: &mut Entity,
+    field: &FieldInstruction,
+    rest: &[u8],
+    limits: Limits,
+) -> Progress<Step>
+    requires open { HaveNoStop pending.old }
+    requires short { length pending.old < 10 }
+    requires serves { Serves (length (slots_dictionary slots.old)) (slots_terms slots.old) (field_data field.now) }
+    requires decimals { family field.now.kind ≡ decimals }
+    requires no_delta { field.now.operator ≢ Operator.Delta }
+    requires no_constant { field.now.operator ≢ Operator.Constant }
+    ensures unit { (scratch : List ℕ) → IsFieldUnit limits (reader_of limits.strict (field_term (bounds limits) (field_data field.now) (previous_at (field_data field.now).entry (slots_dictionary slots.old)) true))
+        (field_data field.now) pending.old rest.now (slots_dictionary slots.old) (slots_dictionary slots.new) scratch result }
+    ensures whole { (s : Step) (n : ℕ) → result ≡ Progress.Whole s n → pending.new ≡ [] }
+    ensures cut { result ≡ Progress.Cut → (pending.new ≡ pending.old ++ rest.now) × HaveNoStop pending.new × (length pending.new < 10) }
+    ensures terms { slots_terms slots.new ≡ slots_terms slots.old }
+{
+    let range = range_on_wire(field.kind);
+    match next_integer(
+        pending,
+        rest,
+        limits.strict,
+        range,
+        field.optional,
+        Code::R1,
+    ) {
+        Progress::Whole(Some(integer), bytes) => {
+            Progress::Whole(Step::Next(Stage::Mantissa(exponent(integer))), bytes)
+        }
+        Progress::Whole(None, bytes) => {
+            Progress::Whole(Step::Settled(received(slots, field, None)), bytes)
+        }
+        Progress::Wrong(code, bytes) => Progress::Wrong(code, bytes),
+        Progress::Cut => Progress::Cut,
+    }
+}
+
+/// The delta of a decimal's exponent, or NULL, which leaves the entry as it is and does not look at it.
+fn take_exponent_delta(
+    slots: &mut Slots,
+    pending: &mut Entity,
+    field: &FieldInstruction,
+    rest: &[u8],
+    limits: Limits,
+) -> Progress<Step>
+    requires open { HaveNoStop pending.old }
+    requires short { length pending.old < 10 }
+    requires serves { Serves (length (slots_dictionary slots.old)) (slots_terms slots.old) (field_data field.now) }
+    requires decimals { family field.now.kind ≡ decimals }
+    requires delta { field.now.operator ≡ Operator.Delta }
+    ensures unit { (scratch : List ℕ) → IsFieldUnit limits (reader_of limits.strict (field_term (bounds limits) (field_data field.now) (previous_at (field_data field.now).entry (slots_dictionary slots.old)) true))
+        (field_data field.now) pending.old rest.now (slots_dictionary slots.old) (slots_dictionary slots.new) scratch result }
+    ensures whole { (s : Step) (n : ℕ) → result ≡ Progress.Whole s n → pending.new ≡ [] }
+    ensures cut { result ≡ Progress.Cut → (pending.new ≡ pending.old ++ rest.now) × HaveNoStop pending.new × (length pending.new < 10) }
+    ensures terms { slots_terms slots.new ≡ slots_terms slots.old }
+{
+    match next_integer(
+        pending,
+        rest,
+        limits.strict,
+        DELTA,
+        field.optional,
+        Code::D2,
+    ) {
+        Progress::Whole(Some(delta), bytes) => {
+            match exponent_delta(field, previous(slots, field), delta) {
+                Ok(exponent) => Progress::Whole(Step::Next(Stage::MantissaDelta(exponent)), bytes),
+                Err(code) => Progress::Wrong(code, bytes),
+            }
+        }
+        Progress::Whole(None, bytes) => Progress::Whole(Step::Settled(Source::Absent), bytes),
+        Progress::Wrong(code, bytes) => Progress::Wrong(code, bytes),
+        Progress::Cut => Progress::Cut,
+    }
+}
+
+/// The second unit of a decimal, behind its exponent: the mantissa.
+pub fn take_mantissa(
+    slots: &mut Slots,
+    pending: &mut Entity,
+    field: &FieldInstruction,
+    exponent: i32,
+    rest: &[u8],
+    limits: Limits,
+) -> Progress<Source>
+    requires open { HaveNoStop pending.old }
+    requires short { length pending.old < 10 }
+    requires serves { Serves (length (slots_dictionary slots.old)) (slots_terms slots.old) (field_data field.now) }
+    requires stage { IsStageOf (bounds limits) (field_data field.now) (previous_at (field_data field.now).entry (slots_dictionary slots.old)) (Stage.Mantissa exponent) }
+    ensures unit { (scratch : List ℕ) → IsLastUnit (reader_of limits.strict (term_behind (bounds limits) (field_data field.now) (previous_at (field_data field.now).entry (slots_dictionary slots.old)) (Stage.Mantissa exponent)))
+        (field_data field.now) pending.old rest.now (slots_dictionary slots.old) (slots_dictionary slots.new) scratch result }
+    ensures whole { (s : Source) (n : ℕ) → result ≡ Progress.Whole s n → pending.new ≡ [] }
+    ensures cut { result ≡ Progress.Cut → (pending.new ≡ pending.old ++ rest.now) × HaveNoStop pending.new × (length pending.new < 10) }
+    ensures terms { slots_terms slots.new ≡ slots_terms slots.old }
+{
+    match next_integer(pending, rest, limits.strict, MANTISSA, false, Code::R1) {
+        Progress::Whole(Some(mantissa), bytes) => {
+            let number = decimal(exponent, mantissa);
+            Progress::Whole(received(slots, field, Some(number)), bytes)
+        }
+        Progress::Whole(None, bytes) => Progress::Whole(received(slots, field, None), bytes),
+        Progress::Wrong(code, bytes) => Progress::Wrong(code, bytes),
+        Progress::Cut => Progress::Cut,
+    }
+}
+
+/// The second unit of a decimal under a delta, of which this is the exponent: the delta of the mantissa.
+pub fn take_mantissa_delta(
+    slots: &mut Slots,
+    pending: &mut Entity,
+    field: &FieldInstruction,
+    exponent: i32,
+    rest: &[u8],
+    limits: Limits,
+) -> Progress<Source>
+    requires open { HaveNoStop pending.old }
+    requires short { length pending.old < 10 }
+    requires serves { Serves (length (slots_dictionary slots.old)) (slots_terms slots.old) (field_data field.now) }
+    requires stage { IsStageOf (bounds limits) (field_data field.now) (previous_at (field_data field.now).entry (slots_dictionary slots.old)) (Stage.MantissaDelta exponent) }
+    ensures unit { (scratch : List ℕ) → IsLastUnit (reader_of limits.strict (term_behind (bounds limits) (field_data field.now) (previous_at (field_data field.now).entry (slots_dictionary slots.old)) (Stage.MantissaDelta exponent)))
+        (field_data field.now) pending.old rest.now (slots_dictionary slots.old) (slots_dictionary slots.new) scratch result }
+    ensures whole { (s : Source) (n : ℕ) → result ≡ Progress.Whole s n → pending.new ≡ [] }
+    ensures cut { result ≡ Progress.Cut → (pending.new ≡ pending.old ++ rest.now) × HaveNoStop pending.new × (length pending.new < 10) }
+    ensures terms { slots_terms slots.new ≡ slots_terms slots.old }
+{
+    match next_integer(pending, rest, limits.strict, DELTA, false, Code::D2) {
+        Progress::Whole(Some(delta), bytes) => {
+            settled(change_mantissa(slots, field, exponent, delta), bytes)
+        }
+        Progress::Whole(None, bytes) => Progress::Whole(Source::Absent, bytes),
+        Progress::Wrong(code, bytes) => Progress::Wrong(code, bytes),
+        Progress::Cut => Progress::Cut,
+    }
+}

@@ -1,0 +1,231 @@
+//! The units of fields that are neither lengths nor parts of decimals, by which unit is in hand.
+
+ghost use Rattle.std.specs.Prelude.{◌≡◌, ◌≢◌, ◌<◌, ◌≤◌, true, ℕ, List, [], ◌++◌, length};
+ghost use Rattle.fast_wire.specs.Entities.{HaveNoStop};
+ghost use Rattle.fast_value.specs.Kinds.{family, integers};
+ghost use Rattle.fast_value.specs.Limits.{bounds};
+ghost use Rattle.fast_tree.specs.Nodes.{field_data};
+ghost use Rattle.fast_dict.specs.Dictionary.{previous_at};
+ghost use Rattle.fast_dict.specs.Operators.{range_of};
+ghost use Rattle.fast_dict.specs.Slots.{slots_dictionary, slots_terms};
+ghost use Rattle.fast_stream.specs.Fields.{field_term};
+ghost use Rattle.fast_stream.specs.GrammarReaders.{reader_of};
+ghost use Rattle.fast_units.specs.Settling.{Serves};
+ghost use Rattle.fast_units.specs.Stages.{term_behind, IsStageOf, IsFieldUnit};
+ghost use Rattle.fast_stream.specs.Units.{ascii_text};
+ghost use Rattle.fast_stream.specs.Phrases.{cut};
+ghost use Rattle.fast_units.specs.UnitFronts.{IsAsciiFirst, IsNumberStage, IsBytesStage, IsEntityKept, IsNextOf, settled, SettlesOnly};
+
+use crate::numbers::{take_exponent, take_integer, take_mantissa, take_mantissa_delta};
+use crate::progress::Progress;
+use crate::scratch::Scratch;
+use crate::source::Source;
+use crate::stages::{Stage, Step};
+use crate::texts::{
+    take_part, take_part_size, take_part_vector, take_size, take_subtraction, take_text,
+    take_vector,
+};
+use fast_dict::Slots;
+use fast_tree::{FieldInstruction, Operator};
+use fast_value::{Kind, Limits};
+use fast_wire::Entity;
+
+/// The only unit of a field of integers.
+#[inline(always)]
+pub fn take_only(
+    slots: &mut Slots,
+    pending: &mut Entity,
+    field: &FieldInstruction,
+    rest: &[u8],
+    limits: Limits,
+) -> Progress<Step>
+    requires serves { Serves (length (slots_dictionary slots.old)) (slots_terms slots.old) (field_data field.now) }
+    requires open { HaveNoStop pending.old }
+    requires short { length pending.old < 10 }
+    requires integers { family field.now.kind ≡ integers (range_of field.now.kind) }
+    requires varies { field.now.operator ≢ Operator.Constant }
+    ensures unit { (scratch : List ℕ) → IsFieldUnit limits (reader_of limits.strict (field_term (bounds limits) (field_data field.now) (previous_at (field_data field.now).entry (slots_dictionary slots.old)) true))
+        (field_data field.now) pending.old rest.now (slots_dictionary slots.old) (slots_dictionary slots.new) scratch result }
+    ensures next { IsNextOf (bounds limits) (field_data field.now) (previous_at (field_data field.now).entry (slots_dictionary slots.old)) result }
+    ensures pending { IsEntityKept pending.old rest.now pending.new result }
+    ensures terms { slots_terms slots.new ≡ slots_terms slots.old }
+{
+    settled(take_integer(slots, pending, field, rest, limits.strict))
+}
+
+/// The first unit of a field that begins with an integer.
+pub fn take_first(
+    slots: &mut Slots,
+    pending: &mut Entity,
+    scratch: &mut Scratch,
+    joined: &mut Scratch,
+    field: &FieldInstruction,
+    rest: &[u8],
+    limits: Limits,
+) -> Progress<Step>
+    requires serves { Serves (length (slots_dictionary slots.old)) (slots_terms slots.old) (field_data field.now) }
+    requires max_text { (slots_terms slots.old).max_text ≡ limits.max_text }
+    requires least { 16 ≤ limits.max_text }
+    requires joined { limits.max_text ≤ joined.old.capacity }
+    requires open { HaveNoStop pending.old }
+    requires short { length pending.old < 10 }
+    requires number { ¬ (IsAsciiFirst (field_data field.now)) }
+    requires varies { field.now.operator ≢ Operator.Constant }
+    ensures unit { IsFieldUnit limits (reader_of limits.strict (field_term (bounds limits) (field_data field.now) (previous_at (field_data field.now).entry (slots_dictionary slots.old)) true))
+        (field_data field.now) pending.old rest.now (slots_dictionary slots.old) (slots_dictionary slots.new) scratch.new.text result }
+    ensures next { IsNextOf (bounds limits) (field_data field.now) (previous_at (field_data field.now).entry (slots_dictionary slots.old)) result }
+    ensures pending { IsEntityKept pending.old rest.now pending.new result }
+    ensures terms { slots_terms slots.new ≡ slots_terms slots.old }
+    ensures capacity { (scratch.new.capacity ≡ scratch.old.capacity) × (joined.new.capacity ≡ joined.old.capacity) }
+{
+    match field.kind {
+        Kind::UInt32 | Kind::Int32 | Kind::UInt64 | Kind::Int64 => {
+            take_only(slots, pending, field, rest, limits)
+        }
+        Kind::Decimal => take_exponent(slots, pending, field, rest, limits),
+        Kind::Ascii | Kind::Unicode | Kind::Bytes => match field.operator {
+            Operator::Delta => take_subtraction(slots, pending, field, rest, limits),
+            _ => {
+                scratch.clear();
+                take_size(slots, pending, joined, field, rest, limits)
+            }
+        },
+    }
+}
+
+/// The ASCII text of a field, which is its only unit.
+#[inline(always)]
+pub fn take_first_text(
+    slots: &mut Slots,
+    scratch: &mut Scratch,
+    joined: &mut Scratch,
+    field: &FieldInstruction,
+    rest: &[u8],
+    limits: Limits,
+) -> Progress<Step>
+    requires serves { Serves (length (slots_dictionary slots.old)) (slots_terms slots.old) (field_data field.now) }
+    requires max_text { (slots_terms slots.old).max_text ≡ limits.max_text }
+    requires least { 16 ≤ limits.max_text }
+    requires room { limits.max_text ≤ scratch.old.capacity }
+    requires joined { limits.max_text ≤ joined.old.capacity }
+    requires text { IsAsciiFirst (field_data field.now) }
+    requires varies { field.now.operator ≢ Operator.Constant }
+    requires open { ascii_text field.now.optional limits.max_text scratch.old.text [] cut }
+    ensures unit { IsFieldUnit limits (reader_of limits.strict (field_term (bounds limits) (field_data field.now) (previous_at (field_data field.now).entry (slots_dictionary slots.old)) true))
+        (field_data field.now) scratch.old.text rest.now (slots_dictionary slots.old) (slots_dictionary slots.new) scratch.new.text result }
+    ensures settles { SettlesOnly result }
+    ensures kept { result ≡ Progress.Cut → (scratch.new.text ≡ scratch.old.text ++ rest.now) × ascii_text field.now.optional limits.max_text scratch.new.text [] cut }
+    ensures terms { slots_terms slots.new ≡ slots_terms slots.old }
+    ensures capacity { (scratch.new.capacity ≡ scratch.old.capacity) × (joined.new.capacity ≡ joined.old.capacity) }
+{
+    settled(take_text(slots, scratch, joined, field, rest, limits))
+}
+
+/// A later unit, which is an integer.
+#[inline(always)]
+pub fn take_number(
+    slots: &mut Slots,
+    pending: &mut Entity,
+    joined: &mut Scratch,
+    field: &FieldInstruction,
+    stage: Stage,
+    rest: &[u8],
+    limits: Limits,
+) -> Progress<Step>
+    requires serves { Serves (length (slots_dictionary slots.old)) (slots_terms slots.old) (field_data field.now) }
+    requires max_text { (slots_terms slots.old).max_text ≡ limits.max_text }
+    requires least { 16 ≤ limits.max_text }
+    requires joined { limits.max_text ≤ joined.old.capacity }
+    requires open { HaveNoStop pending.old }
+    requires short { length pending.old < 10 }
+    requires stage { IsStageOf (bounds limits) (field_data field.now) (previous_at (field_data field.now).entry (slots_dictionary slots.old)) stage }
+    requires number { IsNumberStage (field_data field.now) stage }
+    ensures unit { (text : List ℕ) → IsFieldUnit limits (reader_of limits.strict (term_behind (bounds limits) (field_data field.now) (previous_at (field_data field.now).entry (slots_dictionary slots.old)) stage))
+        (field_data field.now) pending.old rest.now (slots_dictionary slots.old) (slots_dictionary slots.new) text result }
+    ensures next { IsNextOf (bounds limits) (field_data field.now) (previous_at (field_data field.now).entry (slots_dictionary slots.old)) result }
+    ensures pending { IsEntityKept pending.old rest.now pending.new result }
+    ensures terms { slots_terms slots.new ≡ slots_terms slots.old }
+    ensures capacity { joined.new.capacity ≡ joined.old.capacity }
+{
+    match stage {
+        Stage::Mantissa(exponent) => settled(take_mantissa(
+            slots, pending, field, exponent, rest, limits,
+        )),
+        Stage::MantissaDelta(exponent) => settled(take_mantissa_delta(
+            slots, pending, field, exponent, rest, limits,
+        )),
+        Stage::Part(subtraction) => take_part_size(
+            slots,
+            pending,
+            joined,
+            field,
+            subtraction,
+            rest,
+            limits,
+        ),
+        Stage::Vector(_) | Stage::PartVector(..) => Progress::Cut,
+    }
+}
+
+/// A later unit, which is an ASCII text or a run of bytes.
+pub fn take_bytes(
+    slots: &mut Slots,
+    scratch: &mut Scratch,
+    joined: &mut Scratch,
+    field: &FieldInstruction,
+    stage: Stage,
+    rest: &[u8],
+    limits: Limits,
+) -> Progress<Step>
+    requires serves { Serves (length (slots_dictionary slots.old)) (slots_terms slots.old) (field_data field.now) }
+    requires max_text { (slots_terms slots.old).max_text ≡ limits.max_text }
+    requires least { 16 ≤ limits.max_text }
+    requires room { limits.max_text ≤ scratch.old.capacity }
+    requires joined { limits.max_text ≤ joined.old.capacity }
+    requires stage { IsStageOf (bounds limits) (field_data field.now) (previous_at (field_data field.now).entry (slots_dictionary slots.old)) stage }
+    requires bytes { IsBytesStage (bounds limits) (field_data field.now) (previous_at (field_data field.now).entry (slots_dictionary slots.old)) stage scratch.old.text }
+    ensures unit { IsFieldUnit limits (reader_of limits.strict (term_behind (bounds limits) (field_data field.now) (previous_at (field_data field.now).entry (slots_dictionary slots.old)) stage))
+        (field_data field.now) scratch.old.text rest.now (slots_dictionary slots.old) (slots_dictionary slots.new) scratch.new.text result }
+    ensures settles { SettlesOnly result }
+    ensures kept { result ≡ Progress.Cut → (scratch.new.text ≡ scratch.old.text ++ rest.now) × IsBytesStage (bounds limits) (field_data field.now) (previous_at (field_data field.now).entry (slots_dictionary slots.old)) stage scratch.new.text }
+    ensures terms { slots_terms slots.new ≡ slots_terms slots.old }
+    ensures capacity { (scratch.new.capacity ≡ scratch.old.capacity) × (joined.new.capacity ≡ joined.old.capacity) }
+{
+    match stage {
+        Stage::Vector(size) => settled(take_vector(
+            slots, scratch, joined, field, size, rest, limits,
+        )),
+        Stage::Part(subtraction) => settled(take_part(
+            slots,
+            scratch,
+            joined,
+            field,
+            subtraction,
+            rest,
+            limits,
+        )),
+        Stage::PartVector(subtraction, size) => settled(take_part_vector(
+            slots,
+            scratch,
+            joined,
+            field,
+            subtraction,
+            size,
+            rest,
+            limits,
+        )),
+        Stage::Mantissa(_) | Stage::MantissaDelta(_) => Progress::Cut,
+    }
+}
+
+/// A unit that was the field's last.
+#[inline(always)]
+fn settled(progress: Progress<Source>) -> Progress<Step>
+    ensures { result ≡ settled progress }
+{
+    match progress {
+        Progress::Whole(source, bytes) => Progress::Whole(Step::Settled(source), bytes),
+        Progress::Wrong(code, bytes) => Progress::Wrong(code, bytes),
+        Progress::Cut => Progress::Cut,
+    }
+}

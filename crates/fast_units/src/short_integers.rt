@@ -1,0 +1,268 @@
+//! Fields of integers in the quick way: what a short entity stands for, and what it leaves in the dictionary. Kind, operator
+//! and presence are parameters, as an opcode has told them, so that the field is looked at for its entry alone.
+//!
+//! `None` stands for all else, faults included: nothing has changed then, and the general way finds out.
+
+ghost use Rattle.std.specs.Prelude.{◌≡◌, ◌≢◌, ◌<◌, true, ℕ, List, [], length, ℤ, pos, Option, Some, Ok, IfSome, IfNone};
+ghost use Rattle.fast_wire.specs.Fronts.{IsFirstInt};
+ghost use Rattle.fast_wire.specs.Integers.{unsigned_up_to, signed_between, delta_range};
+ghost use Rattle.fast_wire.specs.Words.{IsShortEntity};
+ghost use Rattle.fast_wire.specs.declared.fronts.First.TheVariants.{Whole};
+ghost use Rattle.fast_value.specs.Kinds.{U, I, family, integers, value_of_integer};
+ghost use Rattle.fast_value.specs.Limits.{Bounds};
+ghost use Rattle.fast_tree.specs.Nodes.{field_data};
+ghost use Rattle.fast_dict.specs.Dictionary.{assigned, previous_at, write_at};
+ghost use Rattle.fast_dict.specs.Operators.{decide, integer_step, range_of};
+ghost use Rattle.fast_dict.specs.Slots.{slots_dictionary, slots_terms};
+ghost use Rattle.fast_stream.specs.Fields.{field_term, sent_integer};
+ghost use Rattle.fast_stream.specs.GrammarReaders.{reader_of};
+ghost use Rattle.fast_units.specs.Settling.{Serves, IsLastUnit};
+ghost use Rattle.fast_units.specs.Deciding.{number_data, sent_number, source_of, IsDecided};
+
+use crate::fields::{Number, assign_empty, number_under};
+use crate::progress::Progress;
+use fast_dict::operators::integers::{integer_of, range_of, sum_in};
+use fast_dict::{Entry, Slots};
+use fast_tree::{FieldInstruction, Operator};
+use fast_value::{Code, Kind};
+use fast_wire::{
+    ShortEntity, quick_nullable_signed, quick_nullable_unsigned, quick_signed, quick_unsigned,
+};
+
+/// The least delta that an entity of ten bytes holds.
+const LEAST_DELTA: i128 = -590_295_810_358_705_651_712;
+
+/// The greatest delta that an entity of ten bytes holds.
+const GREATEST_DELTA: i128 = 590_295_810_358_705_651_711;
+
+/// The integer of an entity, or NULL where it may be, for a kind of unsigned integers.
+#[inline]
+fn unsigned_number(
+    kind: Kind,
+    optional: bool,
+    rest: &[u8],
+    entity: ShortEntity,
+    strict: bool,
+    top: u64,
+) -> Option<Option<Number>>
+    requires range { unsigned_up_to top ≡ range_of kind }
+    requires unsigned { (n : ℕ) → value_of_integer kind (pos n) ≡ U n }
+    requires first { IsShortEntity entity.number entity.len rest.now }
+    ensures { IfSome result (λ r. (x : Option ℤ) × IsFirstInt (λ y. y) strict (range_of kind) optional (Whole x entity.len) rest.now × (sent_number r ≡ sent_integer kind x)) }
+{
+    if optional {
+        return match quick_nullable_unsigned(rest, entity, strict, top)? {
+            Some(number) => Some(Some(Number::Unsigned(number))),
+            None => Some(None),
+        };
+    }
+    let number = quick_unsigned(rest, entity, strict, top)?;
+    Some(Some(Number::Unsigned(number)))
+}
+
+/// The same for a kind of signed integers.
+#[inline(always)]
+fn signed_number(
+    kind: Kind,
+    optional: bool,
+    rest: &[u8],
+    entity: ShortEntity,
+    strict: bool,
+    low: i128,
+    top: i128,
+) -> Option<Option<Number>>
+    requires range { signed_between low top ≡ range_of kind }
+    requires signed { (x : ℤ) → value_of_integer kind x ≡ I x }
+    requires first { IsShortEntity entity.number entity.len rest.now }
+    ensures { IfSome result (λ r. (x : Option ℤ) × IsFirstInt (λ y. y) strict (range_of kind) optional (Whole x entity.len) rest.now × (sent_number r ≡ sent_integer kind x)) }
+{
+    if optional {
+        return match quick_nullable_signed(rest, entity, strict, low, top)? {
+            Some(number) => Some(Some(Number::Signed(number))),
+            None => Some(None),
+        };
+    }
+    let number = quick_signed(rest, entity, strict, low, top)?;
+    Some(Some(Number::Signed(number)))
+}
+
+/// Keeps an integer at the field's entry, if it has one.
+#[inline(always)]
+fn keep_integer(slots: &mut Slots, field: &FieldInstruction, kind: Kind, number: Number)
+    requires kind { kind ≡ field.now.kind }
+    requires within { (e : ℕ) → (field_data field.now).entry ≡ Some e → e < length (slots_dictionary slots.old) }
+    ensures entry { slots_dictionary slots.new ≡ write_at (field_data field.now).entry (assigned field.now.kind (number_data number)) (slots_dictionary slots.old) }
+    ensures terms { slots_terms slots.new ≡ slots_terms slots.old }
+{
+    if let Some(entry) = field.entry {
+        slots.set_number(entry as usize, Entry::of(kind, number.as_scalar()));
+    }
+}
+
+/// Under no delta: copy and increment keep an integer that is sent, or NULL, at the field's entry, and the others have none.
+#[inline(always)]
+fn keep_item(
+    slots: &mut Slots,
+    field: &FieldInstruction,
+    kind: Kind,
+    operator: Operator,
+    item: Option<Number>,
+)
+    requires kind { kind ≡ field.now.kind }
+    requires operator { operator ≡ field.now.operator }
+    requires serves { Serves (length (slots_dictionary slots.old)) (slots_terms slots.old) (field_data field.now) }
+    requires integers { family field.now.kind ≡ integers (range_of field.now.kind) }
+    requires no_delta { field.now.operator ≢ Operator.Delta }
+    requires no_constant { field.now.operator ≢ Operator.Constant }
+    ensures decided { IsDecided (decide (field_data field.now) (previous_at (field_data field.now).entry (slots_dictionary slots.old)) true (sent_number item))
+        (field_data field.now) (slots_dictionary slots.old) (slots_dictionary slots.new) (Ok (source_of item)) }
+    ensures terms { slots_terms slots.new ≡ slots_terms slots.old }
+{
+    match operator {
+        Operator::None | Operator::Default => {}
+        _ => match item {
+            Some(number) => keep_integer(slots, field, kind, number),
+            None => assign_empty(slots, field),
+        },
+    }
+}
+
+/// An unsigned integer, or NULL, under no delta.
+#[inline(always)]
+pub fn unsigned_item(
+    slots: &mut Slots,
+    field: &FieldInstruction,
+    kind: Kind,
+    optional: bool,
+    operator: Operator,
+    rest: &[u8],
+    entity: ShortEntity,
+    strict: bool,
+    top: u64,
+) -> Option<Option<Number>>
+    requires range { unsigned_up_to top ≡ range_of kind }
+    requires unsigned { (n : ℕ) → value_of_integer kind (pos n) ≡ U n }
+    requires first { IsShortEntity entity.number entity.len rest.now }
+    requires kind { kind ≡ field.now.kind }
+    requires optional { optional ≡ field.now.optional }
+    requires operator { operator ≡ field.now.operator }
+    requires serves { Serves (length (slots_dictionary slots.old)) (slots_terms slots.old) (field_data field.now) }
+    requires integers { family field.now.kind ≡ integers (range_of field.now.kind) }
+    requires no_delta { field.now.operator ≢ Operator.Delta }
+    requires no_constant { field.now.operator ≢ Operator.Constant }
+    ensures unit { IfSome result (λ r. (l : Bounds) (scratch : List ℕ) → IsLastUnit (reader_of strict (field_term l (field_data field.now) (previous_at (field_data field.now).entry (slots_dictionary slots.old)) true))
+        (field_data field.now) [] rest.now (slots_dictionary slots.old) (slots_dictionary slots.new) scratch (Progress.Whole (source_of r) entity.len)) }
+    ensures none { IfNone result (slots.new ≡ slots.old) }
+    ensures terms { slots_terms slots.new ≡ slots_terms slots.old }
+{
+    let item = unsigned_number(kind, optional, rest, entity, strict, top)?;
+    keep_item(slots, field, kind, operator, item);
+    Some(item)
+}
+
+/// A signed integer, or NULL, under no delta.
+#[inline(always)]
+pub fn signed_item(
+    slots: &mut Slots,
+    field: &FieldInstruction,
+    kind: Kind,
+    optional: bool,
+    operator: Operator,
+    rest: &[u8],
+    entity: ShortEntity,
+    strict: bool,
+    low: i128,
+    top: i128,
+) -> Option<Option<Number>>
+    requires range { signed_between low top ≡ range_of kind }
+    requires signed { (x : ℤ) → value_of_integer kind x ≡ I x }
+    requires first { IsShortEntity entity.number entity.len rest.now }
+    requires kind { kind ≡ field.now.kind }
+    requires optional { optional ≡ field.now.optional }
+    requires operator { operator ≡ field.now.operator }
+    requires serves { Serves (length (slots_dictionary slots.old)) (slots_terms slots.old) (field_data field.now) }
+    requires integers { family field.now.kind ≡ integers (range_of field.now.kind) }
+    requires no_delta { field.now.operator ≢ Operator.Delta }
+    requires no_constant { field.now.operator ≢ Operator.Constant }
+    ensures unit { IfSome result (λ r. (l : Bounds) (scratch : List ℕ) → IsLastUnit (reader_of strict (field_term l (field_data field.now) (previous_at (field_data field.now).entry (slots_dictionary slots.old)) true))
+        (field_data field.now) [] rest.now (slots_dictionary slots.old) (slots_dictionary slots.new) scratch (Progress.Whole (source_of r) entity.len)) }
+    ensures none { IfNone result (slots.new ≡ slots.old) }
+    ensures terms { slots_terms slots.new ≡ slots_terms slots.old }
+{
+    let item = signed_number(kind, optional, rest, entity, strict, low, top)?;
+    keep_item(slots, field, kind, operator, item);
+    Some(item)
+}
+
+/// The delta that an entity is, or NULL where it may be.
+#[inline(always)]
+fn quick_change(
+    optional: bool,
+    rest: &[u8],
+    entity: ShortEntity,
+    strict: bool,
+) -> Option<Option<i64>>
+    requires first { IsShortEntity entity.number entity.len rest.now }
+    ensures { IfSome result (λ r. IsFirstInt (λ y. y) strict delta_range optional (Whole r entity.len) rest.now) }
+{
+    if optional {
+        return quick_nullable_signed(rest, entity, strict, LEAST_DELTA, GREATEST_DELTA);
+    }
+    let delta = quick_signed(rest, entity, strict, LEAST_DELTA, GREATEST_DELTA)?;
+    Some(Some(delta))
+}
+
+/// An integer behind its delta, which the entry then holds: where the entry holds one of the field's own kind, and the sum is one.
+#[inline(always)]
+fn changed(slots: &mut Slots, field: &FieldInstruction, kind: Kind, delta: i64) -> Option<Number>
+    requires kind { kind ≡ field.now.kind }
+    requires serves { Serves (length (slots_dictionary slots.old)) (slots_terms slots.old) (field_data field.now) }
+    ensures decided { IfSome result (λ n. IsDecided (integer_step (field_data field.now) (previous_at (field_data field.now).entry (slots_dictionary slots.old)) delta)
+        (field_data field.now) (slots_dictionary slots.old) (slots_dictionary slots.new) (Ok (source_of (Some n)))) }
+    ensures none { IfNone result (slots.new ≡ slots.old) }
+    ensures terms { slots_terms slots.new ≡ slots_terms slots.old }
+{
+    let entry = field.entry?;
+    let number = number_under(kind, slots.held(entry as usize))?;
+    let base = integer_of(number.as_scalar());
+    let (low, high) = range_of(kind);
+    match sum_in(low, high, Code::D2, base, i128::from(delta)) {
+        Ok(sum) => {
+            let number = Number::of_integer(kind, sum);
+            keep_integer(slots, field, kind, number);
+            Some(number)
+        }
+        Err(_) => None,
+    }
+}
+
+/// An integer under delta, or NULL.
+#[inline(always)]
+pub fn delta_item(
+    slots: &mut Slots,
+    field: &FieldInstruction,
+    kind: Kind,
+    optional: bool,
+    rest: &[u8],
+    entity: ShortEntity,
+    strict: bool,
+) -> Option<Option<Number>>
+    requires first { IsShortEntity entity.number entity.len rest.now }
+    requires kind { kind ≡ field.now.kind }
+    requires optional { optional ≡ field.now.optional }
+    requires serves { Serves (length (slots_dictionary slots.old)) (slots_terms slots.old) (field_data field.now) }
+    requires integers { family field.now.kind ≡ integers (range_of field.now.kind) }
+    requires delta { field.now.operator ≡ Operator.Delta }
+    ensures unit { IfSome result (λ r. (l : Bounds) (scratch : List ℕ) → IsLastUnit (reader_of strict (field_term l (field_data field.now) (previous_at (field_data field.now).entry (slots_dictionary slots.old)) true))
+        (field_data field.now) [] rest.now (slots_dictionary slots.old) (slots_dictionary slots.new) scratch (Progress.Whole (source_of r) entity.len)) }
+    ensures none { IfNone result (slots.new ≡ slots.old) }
+    ensures terms { slots_terms slots.new ≡ slots_terms slots.old }
+{
+    match quick_change(optional, rest, entity, strict)? {
+        Some(delta) => {
+            let number = changed(slots, field, kind, delta)?;
+            Some(Some(number))
+        }
+        None => Some(None),
+    }
+}

@@ -1,0 +1,429 @@
+//! Fields of texts that stand in the stream: ASCII and Unicode strings and byte vectors, whole, as tails and as deltas.
+//!
+//! A unit at a time: an ASCII text, or the size of a vector and then its bytes; before the part of a delta its subtraction length.
+//! Of a unit that a piece cuts the bytes are in hand, in the entity or in the scratch, and nothing else changes.
+
+ghost use Rattle.std.specs.Prelude.{◌≡◌, ◌≢◌, ◌-◌, ◌<◌, ◌≤◌, ◌++◌, ℕ, ℤ, List, [], length, false, Ok, Some, pos, IfOk};
+ghost use Rattle.fast_wire.specs.Entities.{HaveNoStop};
+ghost use Rattle.fast_wire.specs.Integers.{IsWithin, unsigned_range, signed_range};
+ghost use Rattle.fast_value.specs.Kinds.{texts, family};
+ghost use Rattle.fast_value.specs.Limits.{bounds};
+ghost use Rattle.fast_tree.specs.Nodes.{field_data};
+ghost use Rattle.fast_dict.specs.Dictionary.{previous_at};
+ghost use Rattle.fast_dict.specs.Operators.{Kept as KeptData, subtraction_step, kept_length};
+ghost use Rattle.fast_dict.specs.Slots.{slots_dictionary, slots_terms};
+ghost use Rattle.fast_stream.specs.Phrases.{cut};
+ghost use Rattle.fast_stream.specs.Fields.{text_change};
+ghost use Rattle.fast_stream.specs.Units.{ascii_text as ascii_phrase};
+ghost use Rattle.fast_stream.specs.GrammarReaders.{reader_of};
+ghost use Rattle.fast_units.specs.Settling.{Serves, IsLastUnit};
+ghost use Rattle.fast_units.specs.Stages.{IsStageOf, IsFieldUnit};
+ghost use Rattle.fast_units.specs.TextDecisions.{IsStepped, first_reader, reader_behind, behind_size, behind_part_size, answered, settled, HasBytes};
+
+use crate::progress::Progress;
+use crate::scratch::Scratch;
+use crate::source::Source;
+use crate::stages::{Stage, Step};
+use crate::text_outcomes::{
+    finish_absent, finish_ascii, finish_part, finish_text, kept, part_room,
+};
+use crate::units::{IntegerRange, Run, next_ascii, next_integer, next_raw, next_unsigned};
+use fast_dict::Slots;
+use fast_dict::operators::sized;
+use fast_tree::{FieldInstruction, Operator};
+use fast_value::{Code, Kind, Limits};
+use fast_wire::Entity;
+
+/// The greatest size of a vector that its bytes can say.
+const TOP_SIZE: u64 = 4_294_967_295;
+
+/// An answer behind so many bytes.
+#[inline]
+fn answered<T>(answer: Result<T, Code>, bytes: usize) -> Progress<T>
+    ensures { result ≡ answered answer bytes }
+{
+    match answer {
+        Ok(value) => Progress::Whole(value, bytes),
+        Err(code) => Progress::Wrong(code, bytes),
+    }
+}
+
+/// The last answer of a field as that of a unit.
+#[inline(always)]
+fn settled(answer: Result<Source, Code>) -> Result<Step, Code>
+    ensures { result ≡ settled answer }
+{
+    answer.map(Step::Settled)
+}
+
+/// A size, of which it is known that it is a uInt32.
+#[inline]
+fn size_of(integer: i128) -> u32
+    requires { IsWithin (unsigned_range 32) integer }
+    ensures { pos result ≡ integer }
+{
+    integer as u32
+}
+
+/// A subtraction length, of which it is known that it is an int32.
+#[inline]
+fn length_of(integer: i128) -> i32
+    requires { IsWithin (signed_range 31) integer }
+    ensures { result ≡ integer }
+{
+    integer as i32
+}
+
+/// Takes bytes of an ASCII text that is no delta: the first unit of its field, and the last.
+pub fn take_text(
+    slots: &mut Slots,
+    scratch: &mut Scratch,
+    joined: &mut Scratch,
+    field: &FieldInstruction,
+    rest: &[u8],
+    limits: Limits,
+) -> Progress<Source>
+    requires serves { Serves (length (slots_dictionary slots.old)) (slots_terms slots.old) (field_data field.now) }
+    requires max_text { (slots_terms slots.old).max_text ≡ limits.max_text }
+    requires least { 16 ≤ limits.max_text }
+    requires kind { field.now.kind ≡ Kind.Ascii }
+    requires sent { field.now.operator ≢ Operator.Constant }
+    requires whole { field.now.operator ≢ Operator.Delta }
+    requires open { ascii_phrase field.now.optional limits.max_text scratch.old.text [] cut }
+    requires scratch { limits.max_text ≤ scratch.old.capacity }
+    requires joined { limits.max_text ≤ joined.old.capacity }
+    ensures unit { IsLastUnit (first_reader limits (field_data field.now) (slots_dictionary slots.old)) (field_data field.now) scratch.old.text rest.now (slots_dictionary slots.old) (slots_dictionary slots.new) scratch.new.text result }
+    ensures cut { result ≡ Progress.Cut → (scratch.new.text ≡ scratch.old.text ++ rest.now) × ascii_phrase field.now.optional limits.max_text scratch.new.text [] cut }
+    ensures terms { slots_terms slots.new ≡ slots_terms slots.old }
+    ensures scratch { scratch.new.capacity ≡ scratch.old.capacity }
+    ensures joined { joined.new.capacity ≡ joined.old.capacity }
+{
+    match next_ascii(scratch, rest, limits.max_text, field.optional) {
+        Progress::Whole(true, bytes) => {
+            let text = scratch.as_slice();
+            answered(
+                finish_ascii(slots, joined, field, text, Source::Scratch),
+                bytes,
+            )
+        }
+        Progress::Whole(false, bytes) => Progress::Whole(finish_absent(slots, field), bytes),
+        Progress::Wrong(code, bytes) => Progress::Wrong(code, bytes),
+        Progress::Cut => Progress::Cut,
+    }
+}
+
+/// Takes bytes of the size of a vector that is no delta: the first unit of its field. An empty vector has no bytes behind it.
+pub fn take_size(
+    slots: &mut Slots,
+    pending: &mut Entity,
+    joined: &mut Scratch,
+    field: &FieldInstruction,
+    rest: &[u8],
+    limits: Limits,
+) -> Progress<Step>
+    requires serves { Serves (length (slots_dictionary slots.old)) (slots_terms slots.old) (field_data field.now) }
+    requires max_text { (slots_terms slots.old).max_text ≡ limits.max_text }
+    requires least { 16 ≤ limits.max_text }
+    requires text { family field.now.kind ≡ texts }
+    requires kind { field.now.kind ≢ Kind.Ascii }
+    requires sent { field.now.operator ≢ Operator.Constant }
+    requires whole { field.now.operator ≢ Operator.Delta }
+    requires open { HaveNoStop pending.old }
+    requires short { length pending.old < 10 }
+    requires joined { limits.max_text ≤ joined.old.capacity }
+    ensures unit { IsFieldUnit limits (first_reader limits (field_data field.now) (slots_dictionary slots.old)) (field_data field.now) pending.old rest.now (slots_dictionary slots.old) (slots_dictionary slots.new) [] result }
+    ensures more { (step : Step) (n : ℕ) → result ≡ Progress.Whole step n → HasBytes step }
+    ensures whole { (step : Step) (n : ℕ) → result ≡ Progress.Whole step n → pending.new ≡ [] }
+    ensures cut { result ≡ Progress.Cut → (pending.new ≡ pending.old ++ rest.now) × HaveNoStop pending.new × (length pending.new < 10) }
+    ensures terms { slots_terms slots.new ≡ slots_terms slots.old }
+    ensures joined { joined.new.capacity ≡ joined.old.capacity }
+{
+    let range = IntegerRange::Unsigned(TOP_SIZE);
+    match next_integer(
+        pending,
+        rest,
+        limits.strict,
+        range,
+        field.optional,
+        Code::D2,
+    ) {
+        Progress::Whole(Some(size), bytes) => {
+            answered(
+                vector_next(slots, joined, field, size_of(size), limits),
+                bytes,
+            )
+        }
+        Progress::Whole(None, bytes) => {
+            Progress::Whole(Step::Settled(finish_absent(slots, field)), bytes)
+        }
+        Progress::Wrong(code, bytes) => Progress::Wrong(code, bytes),
+        Progress::Cut => Progress::Cut,
+    }
+}
+
+/// What follows the size of a vector.
+fn vector_next(
+    slots: &mut Slots,
+    joined: &mut Scratch,
+    field: &FieldInstruction,
+    size: u32,
+    limits: Limits,
+) -> Result<Step, Code>
+    requires serves { Serves (length (slots_dictionary slots.old)) (slots_terms slots.old) (field_data field.now) }
+    requires max_text { (slots_terms slots.old).max_text ≡ limits.max_text }
+    requires least { 16 ≤ limits.max_text }
+    requires text { family field.now.kind ≡ texts }
+    requires kind { field.now.kind ≢ Kind.Ascii }
+    requires sent { field.now.operator ≢ Operator.Constant }
+    requires whole { field.now.operator ≢ Operator.Delta }
+    requires joined { limits.max_text ≤ joined.old.capacity }
+    ensures step { (piece : List ℕ) → IsStepped limits (reader_of limits.strict (behind_size (bounds limits) (field_data field.now) (previous_at (field_data field.now).entry (slots_dictionary slots.old)) (Some (pos size)))) (field_data field.now) (slots_dictionary slots.old) (slots_dictionary slots.new) [] piece result }
+    ensures more { IfOk result HasBytes }
+    ensures terms { slots_terms slots.new ≡ slots_terms slots.old }
+    ensures joined { joined.new.capacity ≡ joined.old.capacity }
+{
+    let size = sized(size, limits.max_text)?;
+    if size > 0 {
+        return Ok(Step::Next(Stage::Vector(size)));
+    }
+    settled(finish_text(slots, joined, field, &[], Source::Scratch))
+}
+
+/// Takes bytes of a vector that is no delta, behind its size.
+pub fn take_vector(
+    slots: &mut Slots,
+    scratch: &mut Scratch,
+    joined: &mut Scratch,
+    field: &FieldInstruction,
+    size: usize,
+    rest: &[u8],
+    limits: Limits,
+) -> Progress<Source>
+    requires serves { Serves (length (slots_dictionary slots.old)) (slots_terms slots.old) (field_data field.now) }
+    requires max_text { (slots_terms slots.old).max_text ≡ limits.max_text }
+    requires least { 16 ≤ limits.max_text }
+    requires stage { IsStageOf (bounds limits) (field_data field.now) (previous_at (field_data field.now).entry (slots_dictionary slots.old)) (Stage.Vector size) }
+    requires more { length scratch.old.text < size }
+    requires scratch { limits.max_text ≤ scratch.old.capacity }
+    requires joined { limits.max_text ≤ joined.old.capacity }
+    ensures unit { IsLastUnit (reader_behind limits (field_data field.now) (slots_dictionary slots.old) (Stage.Vector size)) (field_data field.now) scratch.old.text rest.now (slots_dictionary slots.old) (slots_dictionary slots.new) scratch.new.text result }
+    ensures cut { result ≡ Progress.Cut → (scratch.new.text ≡ scratch.old.text ++ rest.now) × (length scratch.new.text < size) }
+    ensures terms { slots_terms slots.new ≡ slots_terms slots.old }
+    ensures scratch { scratch.new.capacity ≡ scratch.old.capacity }
+    ensures joined { joined.new.capacity ≡ joined.old.capacity }
+{
+    match next_raw(scratch, rest, size) {
+        Progress::Whole(Run::Piece, bytes) => {
+            let text = &rest[..bytes];
+            answered(
+                finish_text(slots, joined, field, text, Source::Piece),
+                bytes,
+            )
+        }
+        Progress::Whole(Run::Scratch, bytes) => {
+            let text = scratch.as_slice();
+            answered(
+                finish_text(slots, joined, field, text, Source::Scratch),
+                bytes,
+            )
+        }
+        Progress::Wrong(code, bytes) => Progress::Wrong(code, bytes),
+        Progress::Cut => Progress::Cut,
+    }
+}
+
+/// Takes bytes of the subtraction length of a delta: the first unit of its field.
+pub fn take_subtraction(
+    slots: &mut Slots,
+    pending: &mut Entity,
+    field: &FieldInstruction,
+    rest: &[u8],
+    limits: Limits,
+) -> Progress<Step>
+    requires serves { Serves (length (slots_dictionary slots.old)) (slots_terms slots.old) (field_data field.now) }
+    requires max_text { (slots_terms slots.old).max_text ≡ limits.max_text }
+    requires least { 16 ≤ limits.max_text }
+    requires text { family field.now.kind ≡ texts }
+    requires delta { field.now.operator ≡ Operator.Delta }
+    requires open { HaveNoStop pending.old }
+    requires short { length pending.old < 10 }
+    ensures unit { (scratch : List ℕ) → IsFieldUnit limits (first_reader limits (field_data field.now) (slots_dictionary slots.old)) (field_data field.now) pending.old rest.now (slots_dictionary slots.old) (slots_dictionary slots.new) scratch result }
+    ensures more { (step : Step) (n : ℕ) → result ≡ Progress.Whole step n → HasBytes step }
+    ensures whole { (step : Step) (n : ℕ) → result ≡ Progress.Whole step n → pending.new ≡ [] }
+    ensures cut { result ≡ Progress.Cut → (pending.new ≡ pending.old ++ rest.now) × HaveNoStop pending.new × (length pending.new < 10) }
+    ensures terms { slots_terms slots.new ≡ slots_terms slots.old }
+{
+    let range = IntegerRange::Signed(-2_147_483_648, 2_147_483_647);
+    match next_integer(
+        pending,
+        rest,
+        limits.strict,
+        range,
+        field.optional,
+        Code::D7,
+    ) {
+        Progress::Whole(Some(length), bytes) => {
+            answered(part_next(slots, field, length_of(length)), bytes)
+        }
+        Progress::Whole(None, bytes) => {
+            Progress::Whole(Step::Settled(finish_absent(slots, field)), bytes)
+        }
+        Progress::Wrong(code, bytes) => Progress::Wrong(code, bytes),
+        Progress::Cut => Progress::Cut,
+    }
+}
+
+/// What follows the subtraction length of a delta.
+fn part_next(slots: &Slots, field: &FieldInstruction, subtraction: i32) -> Result<Step, Code>
+    requires serves { Serves (length (slots_dictionary slots.now)) (slots_terms slots.now) (field_data field.now) }
+    requires text { family field.now.kind ≡ texts }
+    requires delta { field.now.operator ≡ Operator.Delta }
+    ensures step { (limits : Limits) (scratch piece : List ℕ) → IsStepped limits (reader_of limits.strict (text_change (bounds limits) (field_data field.now) (previous_at (field_data field.now).entry (slots_dictionary slots.now)) (Some subtraction)))
+        (field_data field.now) (slots_dictionary slots.now) (slots_dictionary slots.now) scratch piece result }
+    ensures more { IfOk result HasBytes }
+{
+    kept(slots, field, subtraction)?;
+    Ok(Step::Next(Stage::Part(subtraction)))
+}
+
+/// Takes bytes of the part of an ASCII delta, behind the subtraction length.
+pub fn take_part(
+    slots: &mut Slots,
+    scratch: &mut Scratch,
+    joined: &mut Scratch,
+    field: &FieldInstruction,
+    subtraction: i32,
+    rest: &[u8],
+    limits: Limits,
+) -> Progress<Source>
+    requires serves { Serves (length (slots_dictionary slots.old)) (slots_terms slots.old) (field_data field.now) }
+    requires max_text { (slots_terms slots.old).max_text ≡ limits.max_text }
+    requires least { 16 ≤ limits.max_text }
+    requires stage { IsStageOf (bounds limits) (field_data field.now) (previous_at (field_data field.now).entry (slots_dictionary slots.old)) (Stage.Part subtraction) }
+    requires kind { field.now.kind ≡ Kind.Ascii }
+    requires open { (kept : KeptData) → subtraction_step (field_data field.now) (previous_at (field_data field.now).entry (slots_dictionary slots.old)) subtraction ≡ Ok kept → ascii_phrase false (limits.max_text - kept_length kept) scratch.old.text [] cut }
+    requires scratch { limits.max_text ≤ scratch.old.capacity }
+    requires joined { limits.max_text ≤ joined.old.capacity }
+    ensures unit { IsLastUnit (reader_behind limits (field_data field.now) (slots_dictionary slots.old) (Stage.Part subtraction)) (field_data field.now) scratch.old.text rest.now (slots_dictionary slots.old) (slots_dictionary slots.new) scratch.new.text result }
+    ensures cut { result ≡ Progress.Cut → (scratch.new.text ≡ scratch.old.text ++ rest.now)
+        × ((kept : KeptData) → subtraction_step (field_data field.now) (previous_at (field_data field.now).entry (slots_dictionary slots.old)) subtraction ≡ Ok kept → ascii_phrase false (limits.max_text - kept_length kept) scratch.new.text [] cut) }
+    ensures terms { slots_terms slots.new ≡ slots_terms slots.old }
+    ensures scratch { scratch.new.capacity ≡ scratch.old.capacity }
+    ensures joined { joined.new.capacity ≡ joined.old.capacity }
+{
+    let room = part_room(slots, field, subtraction, limits.max_text);
+    match next_ascii(scratch, rest, room, false) {
+        Progress::Whole(true, bytes) => {
+            let part = scratch.as_slice();
+            answered(finish_part(slots, joined, field, subtraction, part), bytes)
+        }
+        Progress::Whole(false, bytes) => Progress::Whole(finish_absent(slots, field), bytes),
+        Progress::Wrong(code, bytes) => Progress::Wrong(code, bytes),
+        Progress::Cut => Progress::Cut,
+    }
+}
+
+/// Takes bytes of the size of a vector delta's part, behind the subtraction length. An empty part has no bytes behind it.
+pub fn take_part_size(
+    slots: &mut Slots,
+    pending: &mut Entity,
+    joined: &mut Scratch,
+    field: &FieldInstruction,
+    subtraction: i32,
+    rest: &[u8],
+    limits: Limits,
+) -> Progress<Step>
+    requires serves { Serves (length (slots_dictionary slots.old)) (slots_terms slots.old) (field_data field.now) }
+    requires max_text { (slots_terms slots.old).max_text ≡ limits.max_text }
+    requires least { 16 ≤ limits.max_text }
+    requires stage { IsStageOf (bounds limits) (field_data field.now) (previous_at (field_data field.now).entry (slots_dictionary slots.old)) (Stage.Part subtraction) }
+    requires kind { field.now.kind ≢ Kind.Ascii }
+    requires open { HaveNoStop pending.old }
+    requires short { length pending.old < 10 }
+    requires joined { limits.max_text ≤ joined.old.capacity }
+    ensures unit { (scratch : List ℕ) → IsFieldUnit limits (reader_behind limits (field_data field.now) (slots_dictionary slots.old) (Stage.Part subtraction)) (field_data field.now) pending.old rest.now (slots_dictionary slots.old) (slots_dictionary slots.new) scratch result }
+    ensures more { (step : Step) (n : ℕ) → result ≡ Progress.Whole step n → HasBytes step }
+    ensures whole { (step : Step) (n : ℕ) → result ≡ Progress.Whole step n → pending.new ≡ [] }
+    ensures cut { result ≡ Progress.Cut → (pending.new ≡ pending.old ++ rest.now) × HaveNoStop pending.new × (length pending.new < 10) }
+    ensures terms { slots_terms slots.new ≡ slots_terms slots.old }
+    ensures joined { joined.new.capacity ≡ joined.old.capacity }
+{
+    match next_unsigned(pending, rest, limits.strict, TOP_SIZE) {
+        Progress::Whole(size, bytes) => {
+            let size = size_of(i128::from(size));
+            answered(
+                part_vector_next(slots, joined, field, subtraction, size, limits),
+                bytes,
+            )
+        }
+        Progress::Wrong(code, bytes) => Progress::Wrong(code, bytes),
+        Progress::Cut => Progress::Cut,
+    }
+}
+
+/// What follows the size of a vector delta's part.
+fn part_vector_next(
+    slots: &mut Slots,
+    joined: &mut Scratch,
+    field: &FieldInstruction,
+    subtraction: i32,
+    size: u32,
+    limits: Limits,
+) -> Result<Step, Code>
+    requires serves { Serves (length (slots_dictionary slots.old)) (slots_terms slots.old) (field_data field.now) }
+    requires max_text { (slots_terms slots.old).max_text ≡ limits.max_text }
+    requires least { 16 ≤ limits.max_text }
+    requires stage { IsStageOf (bounds limits) (field_data field.now) (previous_at (field_data field.now).entry (slots_dictionary slots.old)) (Stage.Part subtraction) }
+    requires kind { field.now.kind ≢ Kind.Ascii }
+    requires joined { limits.max_text ≤ joined.old.capacity }
+    ensures step { (kept : KeptData) → subtraction_step (field_data field.now) (previous_at (field_data field.now).entry (slots_dictionary slots.old)) subtraction ≡ Ok kept → (scratch piece : List ℕ)
+        → IsStepped limits (reader_of limits.strict (behind_part_size (bounds limits) (field_data field.now) (previous_at (field_data field.now).entry (slots_dictionary slots.old)) kept (Some (pos size)))) (field_data field.now) (slots_dictionary slots.old) (slots_dictionary slots.new) scratch piece result }
+    ensures more { IfOk result HasBytes }
+    ensures terms { slots_terms slots.new ≡ slots_terms slots.old }
+    ensures joined { joined.new.capacity ≡ joined.old.capacity }
+{
+    let room = part_room(slots, field, subtraction, limits.max_text);
+    let size = sized(size, room)?;
+    if size > 0 {
+        return Ok(Step::Next(Stage::PartVector(subtraction, size)));
+    }
+    settled(finish_part(slots, joined, field, subtraction, &[]))
+}
+
+/// Takes bytes of a vector delta's part, behind its size.
+pub fn take_part_vector(
+    slots: &mut Slots,
+    scratch: &mut Scratch,
+    joined: &mut Scratch,
+    field: &FieldInstruction,
+    subtraction: i32,
+    size: usize,
+    rest: &[u8],
+    limits: Limits,
+) -> Progress<Source>
+    requires serves { Serves (length (slots_dictionary slots.old)) (slots_terms slots.old) (field_data field.now) }
+    requires max_text { (slots_terms slots.old).max_text ≡ limits.max_text }
+    requires least { 16 ≤ limits.max_text }
+    requires stage { IsStageOf (bounds limits) (field_data field.now) (previous_at (field_data field.now).entry (slots_dictionary slots.old)) (Stage.PartVector subtraction size) }
+    requires more { length scratch.old.text < size }
+    requires scratch { limits.max_text ≤ scratch.old.capacity }
+    requires joined { limits.max_text ≤ joined.old.capacity }
+    ensures unit { IsLastUnit (reader_behind limits (field_data field.now) (slots_dictionary slots.old) (Stage.PartVector subtraction size)) (field_data field.now) scratch.old.text rest.now (slots_dictionary slots.old) (slots_dictionary slots.new) scratch.new.text result }
+    ensures cut { result ≡ Progress.Cut → (scratch.new.text ≡ scratch.old.text ++ rest.now) × (length scratch.new.text < size) }
+    ensures terms { slots_terms slots.new ≡ slots_terms slots.old }
+    ensures scratch { scratch.new.capacity ≡ scratch.old.capacity }
+    ensures joined { joined.new.capacity ≡ joined.old.capacity }
+{
+    match next_raw(scratch, rest, size) {
+        Progress::Whole(Run::Piece, bytes) => {
+            let part = &rest[..bytes];
+            answered(finish_part(slots, joined, field, subtraction, part), bytes)
+        }
+        Progress::Whole(Run::Scratch, bytes) => {
+            let part = scratch.as_slice();
+            answered(finish_part(slots, joined, field, subtraction, part), bytes)
+        }
+        Progress::Wrong(code, bytes) => Progress::Wrong(code, bytes),
+        Progress::Cut => Progress::Cut,
+    }
+}

@@ -1,0 +1,416 @@
+//! The units of fields: an integer, an ASCII text, a run of bytes. Of a unit that a piece cuts the bytes are kept, and nothing
+//! else changes before it is whole.
+
+ghost use Rattle.std.specs.Prelude.{◌≡◌, ℕ, ◌<◌, ◌≤◌, Bool, true, false, List, [], ◌∷◌, ◌++◌, length, ℤ, Option, Some, pos, option_map, IfSome, IfNone, IfOk, IfErr};
+ghost use Rattle.fast_wire.specs.Entities.{HaveNoStop, IsEntity};
+ghost use Rattle.fast_wire.specs.Integers.{Range, unsigned_up_to, SpellsInt};
+ghost use Rattle.fast_wire.specs.Fronts.{IsFirstInt, IsWrongInt};
+ghost use Rattle.fast_stream.specs.Phrases.{cut};
+ghost use Rattle.fast_stream.specs.Units.{WrongInt, BeginsWithZero, ascii_text as ascii_phrase};
+ghost use Rattle.fast_stream.specs.Grammar.{give, integer, ascii_text, raw};
+ghost use Rattle.fast_stream.specs.GrammarReaders.{reader_of};
+ghost use Rattle.fast_units.specs.Taking.{IsUnit};
+ghost use Rattle.fast_units.specs.NextUnits.{range_data, first_mapped, IsRefusedInt, IsGathered, IsNextInteger, text_or_null, BeginsWithCharacter, IsNextText, IsNextRun};
+
+use crate::progress::Progress;
+use crate::scratch::Scratch;
+use fast_value::Code;
+use fast_wire::{
+    Entity, First, Step, WireFault, find_stop, first_nullable_signed, first_nullable_unsigned,
+    first_signed, first_unsigned, read_nullable_signed, read_nullable_unsigned, read_signed,
+    read_unsigned,
+};
+
+/// The integers that an entity may stand for, and whether it is read in two's complement.
+#[derive(Clone, Copy)]
+pub enum IntegerRange {
+    /// The integers from 0 to this one.
+    Unsigned(u64),
+    /// The integers from the first to the second, in two's complement.
+    Signed(i128, i128),
+}
+
+/// The integer, or NULL where it may be, that begins with the bytes in hand and goes on with the rest. An integer outside the
+/// range is the fault that is named.
+#[inline(always)]
+pub fn next_integer(
+    pending: &mut Entity,
+    rest: &[u8],
+    strict: bool,
+    range: IntegerRange,
+    nullable: bool,
+    outside: Code,
+) -> Progress<Option<i128>>
+    requires open { HaveNoStop pending.old }
+    requires short { length pending.old < 10 }
+    ensures unit { IsUnit (reader_of strict (integer (range_data range) nullable outside give)) (λ x. x) pending.old rest.now result }
+    ensures whole { (x : Option ℤ) (n : ℕ) → result ≡ Progress.Whole x n → pending.new ≡ [] }
+    ensures cut { result ≡ Progress.Cut → (pending.new ≡ pending.old ++ rest.now) × HaveNoStop pending.new × (length pending.new < 10) }
+{
+    if pending.is_empty() {
+        match first_integer(rest, strict, range, nullable) {
+            First::Whole(x, len) => return Progress::Whole(x, len),
+            First::Wrong(fault, len) => {
+                return Progress::Wrong(stream_fault(fault, &rest[..len], outside), len);
+            }
+            First::Cut => {}
+        }
+    }
+    complete_integer(pending, rest, strict, range, nullable, outside)
+}
+
+/// The mandatory integer from 0 to `top` that begins with the bytes in hand and goes on with the rest.
+#[inline(always)]
+pub fn next_unsigned(pending: &mut Entity, rest: &[u8], strict: bool, top: u64) -> Progress<u64>
+    requires open { HaveNoStop pending.old }
+    requires short { length pending.old < 10 }
+    ensures unit { IsUnit (reader_of strict (integer (unsigned_up_to top) false Code.D2 give)) (λ x. Some (pos x)) pending.old rest.now result }
+    ensures whole { (x n : ℕ) → result ≡ Progress.Whole x n → pending.new ≡ [] }
+    ensures cut { result ≡ Progress.Cut → (pending.new ≡ pending.old ++ rest.now) × HaveNoStop pending.new × (length pending.new < 10) }
+{
+    if pending.is_empty() {
+        match first_unsigned(rest, strict, top) {
+            First::Whole(x, len) => return Progress::Whole(x, len),
+            First::Wrong(fault, len) => {
+                return Progress::Wrong(stream_fault(fault, &rest[..len], Code::D2), len);
+            }
+            First::Cut => {}
+        }
+    }
+    complete_unsigned(pending, rest, strict, top)
+}
+
+/// The ASCII text of at most `room` characters, or NULL where it may be, that begins with the bytes in the scratch and goes on
+/// with the rest. A text that is whole stands in the scratch: then the answer is `true`, and `false` for NULL.
+#[inline(always)]
+pub fn next_ascii(scratch: &mut Scratch, rest: &[u8], room: usize, nullable: bool) -> Progress<bool>
+    requires open { ascii_phrase nullable room scratch.old.text [] cut }
+    requires fits { room ≤ scratch.old.capacity }
+    requires some { 0 < scratch.old.capacity }
+    ensures unit { (strict : Bool) → IsUnit (reader_of strict (ascii_text nullable room give)) (text_or_null scratch.new.text) scratch.old.text rest.now result }
+    ensures text { (n : ℕ) → result ≡ Progress.Whole true n → length scratch.new.text ≤ room }
+    ensures cut { result ≡ Progress.Cut → (scratch.new.text ≡ scratch.old.text ++ rest.now) × ascii_phrase nullable room scratch.new.text [] cut }
+    ensures capacity { scratch.new.capacity ≡ scratch.old.capacity }
+{
+    if scratch.is_empty() {
+        return first_ascii(scratch, rest, room, nullable);
+    }
+    if scratch.as_slice()[0] == 0x00 {
+        return behind_zero(scratch, rest);
+    }
+    characters(scratch, rest, room)
+}
+
+/// Where the bytes of a run stand that is whole.
+#[derive(Clone, Copy)]
+pub enum Run {
+    /// In the piece.
+    Piece,
+    /// In the scratch.
+    Scratch,
+}
+
+/// The `size` bytes that begin with those in the scratch and go on with the rest.
+#[inline]
+pub fn next_raw(scratch: &mut Scratch, rest: &[u8], size: usize) -> Progress<Run>
+    requires more { length scratch.old.text < size }
+    requires fits { size ≤ scratch.old.capacity }
+    ensures unit { (strict : Bool) → IsNextRun (reader_of strict (raw size give)) size scratch.old.text rest.now scratch.new.text result }
+    ensures cut { result ≡ Progress.Cut → (scratch.new.text ≡ scratch.old.text ++ rest.now) × (length scratch.new.text < size) }
+    ensures capacity { scratch.new.capacity ≡ scratch.old.capacity }
+{
+    let missing = size - scratch.len();
+    if rest.len() < missing {
+        scratch.append(rest);
+        return Progress::Cut;
+    }
+    if scratch.is_empty() {
+        return Progress::Whole(Run::Piece, missing);
+    }
+    scratch.append(&rest[..missing]);
+    Progress::Whole(Run::Scratch, missing)
+}
+
+/// The first entity as an integer in the range, or NULL where it may be.
+#[inline(always)]
+fn first_integer(
+    bytes: &[u8],
+    strict: bool,
+    range: IntegerRange,
+    nullable: bool,
+) -> First<Option<i128>>
+    ensures { IsFirstInt (λ x. x) strict (range_data range) nullable result bytes.now }
+{
+    match range {
+        IntegerRange::Unsigned(top) => {
+            if nullable {
+                nullable_unsigned(first_nullable_unsigned(bytes, strict, top))
+            } else {
+                mandatory_unsigned(first_unsigned(bytes, strict, top))
+            }
+        }
+        IntegerRange::Signed(low, top) => {
+            if nullable {
+                first_nullable_signed(bytes, strict, low, top)
+            } else {
+                mandatory_signed(first_signed(bytes, strict, low, top))
+            }
+        }
+    }
+}
+
+/// The same front, where the integer is one among all.
+#[inline]
+fn mandatory_unsigned(first: First<u64>) -> First<Option<i128>>
+    ensures { result ≡ first_mapped (λ x. Some (pos x)) first }
+{
+    match first {
+        First::Whole(x, len) => First::Whole(Some(i128::from(x)), len),
+        First::Wrong(fault, len) => First::Wrong(fault, len),
+        First::Cut => First::Cut,
+    }
+}
+
+/// The same front, where the integer is one among all.
+#[inline]
+fn nullable_unsigned(first: First<Option<u64>>) -> First<Option<i128>>
+    ensures { result ≡ first_mapped (λ x. option_map pos x) first }
+{
+    match first {
+        First::Whole(Some(x), len) => First::Whole(Some(i128::from(x)), len),
+        First::Whole(None, len) => First::Whole(None, len),
+        First::Wrong(fault, len) => First::Wrong(fault, len),
+        First::Cut => First::Cut,
+    }
+}
+
+/// The same front, where the integer is one among all.
+#[inline]
+fn mandatory_signed(first: First<i128>) -> First<Option<i128>>
+    ensures { result ≡ first_mapped (λ x. Some x) first }
+{
+    match first {
+        First::Whole(x, len) => First::Whole(Some(x), len),
+        First::Wrong(fault, len) => First::Wrong(fault, len),
+        First::Cut => First::Cut,
+    }
+}
+
+/// The fault that these bytes decide. The last of ten bytes without a stop bit tells them from an integer outside its range.
+#[cold]
+#[inline(never)]
+fn stream_fault(fault: WireFault, bytes: &[u8], outside: Code) -> Code
+    requires { 0 < length bytes.now }
+    ensures { (strict : Bool) (range : Range) (nullable : Bool) → IsWrongInt strict range nullable fault bytes.now → WrongInt strict range nullable outside bytes.now result }
+{
+    match fault {
+        WireFault::R6 => Code::R6,
+        WireFault::D2 if bytes[bytes.len() - 1] < 0x80 => Code::D2,
+        WireFault::D2 => outside,
+    }
+}
+
+/// Takes bytes until the entity is whole.
+fn gather(pending: &mut Entity, rest: &[u8]) -> Progress<()>
+    requires open { HaveNoStop pending.old }
+    requires short { length pending.old < 10 }
+    ensures { IsGathered pending.old rest.now pending.new result }
+{
+    for (i, byte) in rest.iter().enumerate() {
+        match pending.push(*byte) {
+            Step::More => {}
+            Step::Whole => return Progress::Whole((), i + 1),
+            Step::TooLong => return Progress::Wrong(Code::D2, i + 1),
+        }
+    }
+    Progress::Cut
+}
+
+/// `next_integer` byte by byte.
+#[cold]
+#[inline(never)]
+fn complete_integer(
+    pending: &mut Entity,
+    rest: &[u8],
+    strict: bool,
+    range: IntegerRange,
+    nullable: bool,
+    outside: Code,
+) -> Progress<Option<i128>>
+    requires open { HaveNoStop pending.old }
+    requires short { length pending.old < 10 }
+    ensures { IsNextInteger (λ x. x) strict (range_data range) nullable outside pending.old rest.now pending.new result }
+{
+    match gather(pending, rest) {
+        Progress::Whole((), len) => {
+            let read = read_integer(pending.as_slice(), strict, range, nullable);
+            pending.clear();
+            match read {
+                Ok(x) => Progress::Whole(x, len),
+                Err(WireFault::R6) => Progress::Wrong(Code::R6, len),
+                Err(WireFault::D2) => Progress::Wrong(outside, len),
+            }
+        }
+        Progress::Wrong(code, len) => Progress::Wrong(code, len),
+        Progress::Cut => Progress::Cut,
+    }
+}
+
+/// `next_unsigned` byte by byte.
+#[cold]
+#[inline(never)]
+fn complete_unsigned(pending: &mut Entity, rest: &[u8], strict: bool, top: u64) -> Progress<u64>
+    requires open { HaveNoStop pending.old }
+    requires short { length pending.old < 10 }
+    ensures { IsNextInteger (λ x. Some (pos x)) strict (unsigned_up_to top) false Code.D2 pending.old rest.now pending.new result }
+{
+    match gather(pending, rest) {
+        Progress::Whole((), len) => {
+            let read = read_unsigned(pending.as_slice(), strict, top);
+            pending.clear();
+            match read {
+                Ok(x) => Progress::Whole(x, len),
+                Err(WireFault::R6) => Progress::Wrong(Code::R6, len),
+                Err(WireFault::D2) => Progress::Wrong(Code::D2, len),
+            }
+        }
+        Progress::Wrong(code, len) => Progress::Wrong(code, len),
+        Progress::Cut => Progress::Cut,
+    }
+}
+
+/// A whole entity as an integer in the range, or NULL where it may be.
+fn read_integer(
+    w: &[u8],
+    strict: bool,
+    range: IntegerRange,
+    nullable: bool,
+) -> Result<Option<i128>, WireFault>
+    requires entity { IsEntity w.now }
+    requires short { length w.now ≤ 10 }
+    ensures value { IfOk result (λ x. SpellsInt strict (range_data range) nullable x w.now) }
+    ensures refused { IfErr result (λ fault. IsRefusedInt strict (range_data range) nullable fault w.now) }
+{
+    match range {
+        IntegerRange::Unsigned(top) => {
+            if nullable {
+                Ok(read_nullable_unsigned(w, strict, top)?.map(i128::from))
+            } else {
+                Ok(Some(i128::from(read_unsigned(w, strict, top)?)))
+            }
+        }
+        IntegerRange::Signed(low, top) => {
+            if nullable {
+                read_nullable_signed(w, strict, low, top)
+            } else {
+                Ok(Some(read_signed(w, strict, low, top)?))
+            }
+        }
+    }
+}
+
+/// A text of which no byte has come and whose first is zero. Only the empty text begins so, and only where NULL may be.
+#[cold]
+#[inline(never)]
+fn zero_first(scratch: &mut Scratch, rest: &[u8], nullable: bool) -> Progress<bool>
+    requires none { scratch.old.text ≡ [] }
+    requires zero { BeginsWithZero rest.now }
+    requires some { 0 < scratch.old.capacity }
+    ensures text { (room : ℕ) → IsNextText nullable room scratch.old.text rest.now scratch.new.text result }
+    ensures capacity { scratch.new.capacity ≡ scratch.old.capacity }
+{
+    if !nullable {
+        return Progress::Wrong(Code::R9, 1);
+    }
+    match rest.get(1) {
+        None => {
+            scratch.push(0x00);
+            Progress::Cut
+        }
+        Some(0x80) => Progress::Whole(true, 2),
+        Some(_) => Progress::Wrong(Code::R9, 2),
+    }
+}
+
+/// A text behind a zero, where NULL may be: the empty one, or none.
+#[cold]
+#[inline(never)]
+fn behind_zero(scratch: &mut Scratch, rest: &[u8]) -> Progress<bool>
+    requires { scratch.old.text ≡ 0x00 ∷ [] }
+    ensures text { (room : ℕ) → IsNextText true room scratch.old.text rest.now scratch.new.text result }
+    ensures capacity { scratch.new.capacity ≡ scratch.old.capacity }
+{
+    match rest.first() {
+        None => Progress::Cut,
+        Some(0x80) => {
+            scratch.clear();
+            Progress::Whole(true, 1)
+        }
+        Some(_) => Progress::Wrong(Code::R9, 1),
+    }
+}
+
+/// A text of which no byte has come.
+#[inline(always)]
+fn first_ascii(scratch: &mut Scratch, rest: &[u8], room: usize, nullable: bool) -> Progress<bool>
+    requires none { scratch.old.text ≡ [] }
+    requires fits { room ≤ scratch.old.capacity }
+    requires some { 0 < scratch.old.capacity }
+    ensures text { IsNextText nullable room scratch.old.text rest.now scratch.new.text result }
+    ensures capacity { scratch.new.capacity ≡ scratch.old.capacity }
+{
+    match rest.first() {
+        None => Progress::Cut,
+        Some(0x00) => zero_first(scratch, rest, nullable),
+        Some(0x80) => Progress::Whole(!nullable, 1),
+        Some(_) => match short_text(scratch, rest, room) {
+            Some(bytes) => Progress::Whole(true, bytes),
+            None => characters(scratch, rest, room),
+        },
+    }
+}
+
+/// A text of which no byte has come, which begins with a character and ends within a block of 16 bytes. The block is moved as a
+/// whole, whatever the length.
+#[inline(always)]
+fn short_text(scratch: &mut Scratch, rest: &[u8], room: usize) -> Option<usize>
+    requires none { scratch.old.text ≡ [] }
+    requires begins { BeginsWithCharacter rest.now }
+    requires fits { room ≤ scratch.old.capacity }
+    ensures none { IfNone result (scratch.new.text ≡ []) }
+    ensures text { IfSome result (λ n. (nullable : Bool) → IsNextText nullable room scratch.old.text rest.now scratch.new.text (Progress.Whole true n)) }
+    ensures capacity { scratch.new.capacity ≡ scratch.old.capacity }
+{
+    if rest.len() < 16 || room < 16 {
+        return None;
+    }
+    let here = &rest[..16];
+    let last = find_stop(here)?;
+    scratch.append_front(here, last);
+    scratch.push(here[last] - 0x80);
+    Some(last + 1)
+}
+
+/// A text that begins with a character. The byte behind the room is a fault, whatever it is.
+#[inline(never)]
+fn characters(scratch: &mut Scratch, rest: &[u8], room: usize) -> Progress<bool>
+    requires open { HaveNoStop scratch.old.text }
+    requires begins { BeginsWithCharacter (scratch.old.text ++ rest.now) }
+    requires short { length scratch.old.text ≤ room }
+    requires fits { room ≤ scratch.old.capacity }
+    ensures text { (nullable : Bool) → IsNextText nullable room scratch.old.text rest.now scratch.new.text result }
+    ensures capacity { scratch.new.capacity ≡ scratch.old.capacity }
+{
+    let left = room - scratch.len();
+    let here = &rest[..rest.len().min(left)];
+    if let Some(last) = find_stop(here) {
+        scratch.append(&here[..last]);
+        scratch.push(here[last] - 0x80);
+        return Progress::Whole(true, last + 1);
+    }
+    if here.len() < rest.len() {
+        return Progress::Wrong(Code::L1, left + 1);
+    }
+    scratch.append(rest);
+    Progress::Cut
+}
