@@ -16,25 +16,18 @@ type Step = (Previous<'static>, bool, Sent<'static>, Given);
 enum Given {
     /// The value, which the entry then holds.
     Kept(Scalar<'static>),
+    /// The value, and the entry is as it was.
+    Passed(Scalar<'static>),
     /// Absent, and what the entry holds next.
     Absent(Previous<'static>),
     /// A fault.
     Fault(Code),
 }
 
-use Given::{Absent, Fault, Kept};
-use Previous::{Empty, Undefined};
+use Given::{Absent, Fault, Kept, Passed};
+use Previous::{Assigned, Empty, Undefined};
+use Scalar::{Ascii, Dec, I, U, Unicode};
 use Sent::{DecimalDelta, IntegerDelta, Nothing, Null, TextDelta};
-
-/// An ASCII text.
-fn ascii(text: &'static [u8]) -> Scalar<'static> {
-    Scalar::Ascii(text)
-}
-
-/// The previous value that a text leaves.
-fn held(kind: Kind, value: Scalar<'static>) -> Previous<'static> {
-    Previous::Assigned(kind, value)
-}
 
 /// Whether the fields give what is wanted.
 fn all_give(alloc: Global, field: &FieldInstruction, steps: &[Step]) -> Result<bool, AllocError> {
@@ -44,6 +37,10 @@ fn all_give(alloc: Global, field: &FieldInstruction, steps: &[Step]) -> Result<b
             Kept(value) => Ok(Outcome {
                 value: Some(value),
                 next: Previous::Assigned(field.kind, value),
+            }),
+            Passed(value) => Ok(Outcome {
+                value: Some(value),
+                next: previous,
             }),
             Absent(next) => Ok(Outcome { value: None, next }),
             Fault(code) => Err(Failed::Fault(code)),
@@ -56,275 +53,251 @@ fn all_give(alloc: Global, field: &FieldInstruction, steps: &[Step]) -> Result<b
     Ok(true)
 }
 
-/// A mandatory field without an initial value.
-fn mandatory(
-    alloc: Global,
-    operator: Operator,
-    kind: Kind,
-) -> Result<FieldInstruction, AllocError> {
-    instruction(alloc, operator, kind, false, None)
-}
+const GREATEST_32: Scalar<'static> = U(4_294_967_295);
 
-/// An optional field without an initial value.
-fn optional(alloc: Global, operator: Operator, kind: Kind) -> Result<FieldInstruction, AllocError> {
-    instruction(alloc, operator, kind, true, None)
-}
+const HIGH: Scalar<'static> = Dec {
+    exponent: 63,
+    mantissa: 1,
+};
 
-#[test]
-fn tail(rt: HostRuntime) -> Result<(), Fail> {
-    let field = mandatory(rt.alloc(), Operator::Tail, Kind::Ascii)?;
-    let first = ascii(b"ABCDE");
-    let second = ascii(b"ABCXY");
-    let steps = [
-        (Undefined, true, Sent::Value(first), Kept(first)),
-        (
-            held(Kind::Ascii, first),
-            true,
-            Sent::Value(ascii(b"XY")),
-            Kept(second),
-        ),
-        (held(Kind::Ascii, second), false, Nothing, Kept(second)),
-    ];
-    assert!(rt; all_give(rt.alloc(), &field, &steps)?);
-    Ok(())
-}
+const LAST: Scalar<'static> = Dec {
+    exponent: 62,
+    mantissa: 9_223_372_036_854_775_807,
+};
 
-#[test]
-fn text_delta(rt: HostRuntime) -> Result<(), Fail> {
-    let field = mandatory(rt.alloc(), Operator::Delta, Kind::Ascii)?;
-    let first = ascii(b"GEH6");
-    let second = ascii(b"GEM6");
-    let third = ascii(b"ZZGEM6");
-    let steps = [
-        (Undefined, true, TextDelta(0, b"GEH6"), Kept(first)),
-        (
-            held(Kind::Ascii, first),
-            true,
-            TextDelta(2, b"M6"),
-            Kept(second),
-        ),
-        (
-            held(Kind::Ascii, second),
-            true,
-            TextDelta(-1, b"ZZ"),
-            Kept(third),
-        ),
-        (
-            held(Kind::Ascii, third),
-            true,
-            TextDelta(7, b""),
-            Fault(Code::D7),
-        ),
-        (
-            held(Kind::Ascii, third),
-            true,
-            TextDelta(-8, b""),
-            Fault(Code::D7),
-        ),
-        (
-            held(Kind::Ascii, third),
-            true,
-            TextDelta(-7, b"A"),
-            Kept(ascii(b"A")),
-        ),
-        (
-            Undefined,
-            true,
-            TextDelta(2_147_483_647, b""),
-            Fault(Code::D7),
-        ),
-        (
-            Undefined,
-            true,
-            TextDelta(-2_147_483_648, b""),
-            Fault(Code::D7),
-        ),
-    ];
-    assert!(rt; all_give(rt.alloc(), &field, &steps)?);
-    Ok(())
-}
+const E_ACUTE: Scalar<'static> = Unicode(b"\xC3\xA9");
 
-#[test]
-fn increment(rt: HostRuntime) -> Result<(), Fail> {
-    let field = mandatory(rt.alloc(), Operator::Increment, Kind::UInt32)?;
-    let greatest = Scalar::U(4_294_967_295);
-    let least = Scalar::U(0);
-    let steps = [
-        (Undefined, true, Sent::Value(greatest), Kept(greatest)),
-        (held(Kind::UInt32, greatest), false, Nothing, Kept(least)),
-        (
-            held(Kind::UInt32, least),
+const HELD_E_ACUTE: Previous<'static> = Assigned(Kind::Unicode, E_ACUTE);
+
+const HELD_ZZGEM6: Previous<'static> = Assigned(Kind::Ascii, Ascii(b"ZZGEM6"));
+
+const HELD_FIVE: Previous<'static> = Assigned(Kind::Int32, I(5));
+
+const HELD_HIGH: Previous<'static> = Assigned(Kind::Decimal, HIGH);
+
+/// The operator, the kind and whether the field is optional, of a field without an initial value, and then its steps.
+const EXAMPLES: [(Operator, Kind, bool, &[Step]); 12] = [
+    (
+        Operator::Tail,
+        Kind::Ascii,
+        false,
+        &[
+            (
+                Undefined,
+                true,
+                Sent::Value(Ascii(b"ABCDE")),
+                Kept(Ascii(b"ABCDE")),
+            ),
+            (
+                Assigned(Kind::Ascii, Ascii(b"ABCDE")),
+                true,
+                Sent::Value(Ascii(b"XY")),
+                Kept(Ascii(b"ABCXY")),
+            ),
+            (
+                Assigned(Kind::Ascii, Ascii(b"ABCXY")),
+                false,
+                Nothing,
+                Kept(Ascii(b"ABCXY")),
+            ),
+        ],
+    ),
+    (
+        Operator::Delta,
+        Kind::Ascii,
+        false,
+        &[
+            (Undefined, true, TextDelta(0, b"GEH6"), Kept(Ascii(b"GEH6"))),
+            (
+                Assigned(Kind::Ascii, Ascii(b"GEH6")),
+                true,
+                TextDelta(2, b"M6"),
+                Kept(Ascii(b"GEM6")),
+            ),
+            (
+                Assigned(Kind::Ascii, Ascii(b"GEM6")),
+                true,
+                TextDelta(-1, b"ZZ"),
+                Kept(Ascii(b"ZZGEM6")),
+            ),
+            (HELD_ZZGEM6, true, TextDelta(7, b""), Fault(Code::D7)),
+            (HELD_ZZGEM6, true, TextDelta(-8, b""), Fault(Code::D7)),
+            (HELD_ZZGEM6, true, TextDelta(-7, b"A"), Kept(Ascii(b"A"))),
+            (
+                Undefined,
+                true,
+                TextDelta(2_147_483_647, b""),
+                Fault(Code::D7),
+            ),
+            (
+                Undefined,
+                true,
+                TextDelta(-2_147_483_648, b""),
+                Fault(Code::D7),
+            ),
+        ],
+    ),
+    (
+        Operator::Increment,
+        Kind::UInt32,
+        false,
+        &[
+            (Undefined, true, Sent::Value(GREATEST_32), Kept(GREATEST_32)),
+            (
+                Assigned(Kind::UInt32, GREATEST_32),
+                false,
+                Nothing,
+                Kept(U(0)),
+            ),
+            (Assigned(Kind::UInt32, U(0)), false, Nothing, Kept(U(1))),
+        ],
+    ),
+    (
+        Operator::Increment,
+        Kind::UInt64,
+        false,
+        &[(
+            Assigned(Kind::UInt64, U(18_446_744_073_709_551_615)),
             false,
             Nothing,
-            Kept(Scalar::U(1)),
-        ),
-    ];
-    assert!(rt; all_give(rt.alloc(), &field, &steps)?);
-    let field = mandatory(rt.alloc(), Operator::Increment, Kind::UInt64)?;
-    let greatest = Scalar::U(18_446_744_073_709_551_615);
-    let steps = [(held(Kind::UInt64, greatest), false, Nothing, Kept(least))];
-    assert!(rt; all_give(rt.alloc(), &field, &steps)?);
-    let field = mandatory(rt.alloc(), Operator::Increment, Kind::Int32)?;
-    let greatest = Scalar::I(2_147_483_647);
-    let steps = [
-        (
-            held(Kind::Int32, greatest),
+            Kept(U(0)),
+        )],
+    ),
+    (
+        Operator::Increment,
+        Kind::Int32,
+        false,
+        &[
+            (
+                Assigned(Kind::Int32, I(2_147_483_647)),
+                false,
+                Nothing,
+                Kept(I(-2_147_483_648)),
+            ),
+            (Assigned(Kind::Int32, I(63)), false, Nothing, Kept(I(64))),
+        ],
+    ),
+    (
+        Operator::Copy,
+        Kind::UInt32,
+        true,
+        &[
+            (Undefined, true, Sent::Value(U(0)), Kept(U(0))),
+            (Assigned(Kind::UInt32, U(0)), true, Null, Absent(Empty)),
+            (Empty, false, Nothing, Absent(Empty)),
+            (Undefined, false, Nothing, Absent(Empty)),
+        ],
+    ),
+    (
+        Operator::Copy,
+        Kind::UInt32,
+        false,
+        &[(Undefined, false, Nothing, Fault(Code::D5))],
+    ),
+    (
+        Operator::Copy,
+        Kind::Ascii,
+        false,
+        &[(
+            Assigned(Kind::UInt32, U(0)),
             false,
             Nothing,
-            Kept(Scalar::I(-2_147_483_648)),
-        ),
-        (
-            held(Kind::Int32, Scalar::I(63)),
-            false,
-            Nothing,
-            Kept(Scalar::I(64)),
-        ),
-    ];
-    assert!(rt; all_give(rt.alloc(), &field, &steps)?);
+            Fault(Code::D4),
+        )],
+    ),
+    (
+        Operator::Delta,
+        Kind::Int32,
+        true,
+        &[
+            (Undefined, true, IntegerDelta(5), Kept(I(5))),
+            (HELD_FIVE, true, Null, Absent(HELD_FIVE)),
+            (HELD_FIVE, true, IntegerDelta(1), Kept(I(6))),
+            (
+                Undefined,
+                true,
+                IntegerDelta(590_295_810_358_705_651_710),
+                Fault(Code::D2),
+            ),
+            (
+                HELD_FIVE,
+                true,
+                IntegerDelta(2_147_483_643),
+                Fault(Code::D2),
+            ),
+            (
+                HELD_FIVE,
+                true,
+                IntegerDelta(2_147_483_642),
+                Kept(I(2_147_483_647)),
+            ),
+            (Empty, true, Null, Absent(Empty)),
+        ],
+    ),
+    (
+        Operator::None,
+        Kind::Unicode,
+        false,
+        &[
+            (Undefined, true, Sent::Value(E_ACUTE), Passed(E_ACUTE)),
+            (
+                Undefined,
+                true,
+                Sent::Value(Unicode(b"\xC3\x28")),
+                Fault(Code::R2),
+            ),
+        ],
+    ),
+    (
+        Operator::Delta,
+        Kind::Unicode,
+        false,
+        &[
+            (Undefined, true, TextDelta(0, b"\xC3\xA9"), Kept(E_ACUTE)),
+            (HELD_E_ACUTE, true, TextDelta(1, b""), Fault(Code::R2)),
+            (
+                HELD_E_ACUTE,
+                true,
+                TextDelta(1, b"\xA8"),
+                Kept(Unicode(b"\xC3\xA8")),
+            ),
+        ],
+    ),
+    (
+        Operator::Delta,
+        Kind::Decimal,
+        false,
+        &[
+            (Undefined, true, DecimalDelta(63, 1), Kept(HIGH)),
+            (Undefined, true, DecimalDelta(64, 1), Fault(Code::R1)),
+            (
+                HELD_HIGH,
+                true,
+                DecimalDelta(-1, 9_223_372_036_854_775_806),
+                Kept(LAST),
+            ),
+            (
+                HELD_HIGH,
+                true,
+                DecimalDelta(0, 9_223_372_036_854_775_807),
+                Fault(Code::R1),
+            ),
+            (HELD_HIGH, true, DecimalDelta(-127, 0), Fault(Code::R1)),
+        ],
+    ),
+];
+
+#[test]
+fn fields_give_what_is_wanted(rt: HostRuntime) -> Result<(), Fail> {
+    for (k, (operator, kind, optional, steps)) in EXAMPLES.iter().enumerate() {
+        let field = instruction(rt.alloc(), *operator, *kind, *optional, None)?;
+        assert!(rt; all_give(rt.alloc(), &field, steps)?, "example {k}");
+    }
     Ok(())
 }
 
 #[test]
-fn copy(rt: HostRuntime) -> Result<(), Fail> {
-    let field = optional(rt.alloc(), Operator::Copy, Kind::UInt32)?;
-    let zero = Scalar::U(0);
-    let steps = [
-        (Undefined, true, Sent::Value(zero), Kept(zero)),
-        (held(Kind::UInt32, zero), true, Null, Absent(Empty)),
-        (Empty, false, Nothing, Absent(Empty)),
-        (Undefined, false, Nothing, Absent(Empty)),
-    ];
-    assert!(rt; all_give(rt.alloc(), &field, &steps)?);
-    let field = mandatory(rt.alloc(), Operator::Copy, Kind::UInt32)?;
-    assert!(rt;
-        all_give(
-            rt.alloc(),
-            &field,
-            &[(Undefined, false, Nothing, Fault(Code::D5))]
-        )?
-    );
-    let field = mandatory(rt.alloc(), Operator::Copy, Kind::Ascii)?;
-    let steps = [(held(Kind::UInt32, zero), false, Nothing, Fault(Code::D4))];
-    assert!(rt; all_give(rt.alloc(), &field, &steps)?);
-    Ok(())
-}
-
-#[test]
-fn integer_delta(rt: HostRuntime) -> Result<(), Fail> {
-    let field = optional(rt.alloc(), Operator::Delta, Kind::Int32)?;
-    let five = Scalar::I(5);
-    let steps = [
-        (Undefined, true, IntegerDelta(5), Kept(five)),
-        (
-            held(Kind::Int32, five),
-            true,
-            Null,
-            Absent(held(Kind::Int32, five)),
-        ),
-        (
-            held(Kind::Int32, five),
-            true,
-            IntegerDelta(1),
-            Kept(Scalar::I(6)),
-        ),
-        (
-            Undefined,
-            true,
-            IntegerDelta(590_295_810_358_705_651_710),
-            Fault(Code::D2),
-        ),
-        (
-            held(Kind::Int32, five),
-            true,
-            IntegerDelta(2_147_483_643),
-            Fault(Code::D2),
-        ),
-        (
-            held(Kind::Int32, five),
-            true,
-            IntegerDelta(2_147_483_642),
-            Kept(Scalar::I(2_147_483_647)),
-        ),
-        (Empty, true, Null, Absent(Empty)),
-    ];
-    assert!(rt; all_give(rt.alloc(), &field, &steps)?);
-    Ok(())
-}
-
-#[test]
-fn unicode(rt: HostRuntime) -> Result<(), Fail> {
-    let field = mandatory(rt.alloc(), Operator::None, Kind::Unicode)?;
-    let mut buffer = Vec::new(rt.alloc());
-    let letter = Scalar::Unicode(b"\xC3\xA9");
-    let wanted = Outcome {
-        value: Some(letter),
-        next: Undefined,
-    };
-    assert!(rt;
-        is_same_answer(
-            answer(&field, Undefined, true, Sent::Value(letter), &mut buffer),
-            Ok(wanted)
-        )
-    );
-    let broken = Sent::Value(Scalar::Unicode(b"\xC3\x28"));
-    let mut buffer = Vec::new(rt.alloc());
-    let given = answer(&field, Undefined, true, broken, &mut buffer);
-    assert!(rt; is_same_answer(given, Err(Failed::Fault(Code::R2))));
+fn texts_are_within_the_limit(rt: HostRuntime) {
     assert_eq!(rt; sized(16, 16), Ok(16));
     assert_eq!(rt; sized(17, 16), Err(Code::L1));
-    let field = mandatory(rt.alloc(), Operator::Delta, Kind::Unicode)?;
-    let steps = [
-        (Undefined, true, TextDelta(0, b"\xC3\xA9"), Kept(letter)),
-        (
-            held(Kind::Unicode, letter),
-            true,
-            TextDelta(1, b""),
-            Fault(Code::R2),
-        ),
-        (
-            held(Kind::Unicode, letter),
-            true,
-            TextDelta(1, b"\xA8"),
-            Kept(Scalar::Unicode(b"\xC3\xA8")),
-        ),
-    ];
-    assert!(rt; all_give(rt.alloc(), &field, &steps)?);
-    Ok(())
-}
-
-#[test]
-fn decimal_delta(rt: HostRuntime) -> Result<(), Fail> {
-    let field = mandatory(rt.alloc(), Operator::Delta, Kind::Decimal)?;
-    let high = Scalar::Dec {
-        exponent: 63,
-        mantissa: 1,
-    };
-    let last = Scalar::Dec {
-        exponent: 62,
-        mantissa: 9_223_372_036_854_775_807,
-    };
-    let steps = [
-        (Undefined, true, DecimalDelta(63, 1), Kept(high)),
-        (Undefined, true, DecimalDelta(64, 1), Fault(Code::R1)),
-        (
-            held(Kind::Decimal, high),
-            true,
-            DecimalDelta(-1, 9_223_372_036_854_775_806),
-            Kept(last),
-        ),
-        (
-            held(Kind::Decimal, high),
-            true,
-            DecimalDelta(0, 9_223_372_036_854_775_807),
-            Fault(Code::R1),
-        ),
-        (
-            held(Kind::Decimal, high),
-            true,
-            DecimalDelta(-127, 0),
-            Fault(Code::R1),
-        ),
-    ];
-    assert!(rt; all_give(rt.alloc(), &field, &steps)?);
-    Ok(())
 }

@@ -1,6 +1,9 @@
 //! What an encoder sends.
 
 use super::instruction;
+use Previous::{Assigned, Empty, Undefined};
+use Scalar::{Ascii, I, U, Unicode};
+use Sent::TextDelta;
 use fast_dict::operators::Sent;
 use fast_dict::previous::Previous;
 use fast_dict::rule::choose;
@@ -44,168 +47,169 @@ fn sends(
     })
 }
 
-/// An ASCII text.
-fn ascii(text: &'static [u8]) -> Option<Scalar<'static>> {
-    Some(Scalar::Ascii(text))
-}
-
-/// An entry with an ASCII text.
-fn held(text: &'static [u8]) -> Previous<'static> {
-    Previous::Assigned(Kind::Ascii, Scalar::Ascii(text))
-}
-
-/// A text that is sent.
-fn sent(text: &'static [u8]) -> Option<(bool, Sent<'static>)> {
-    Some((true, Sent::Value(Scalar::Ascii(text))))
-}
-
-/// A text's delta.
-fn joined(length: i128, part: &'static [u8]) -> Option<(bool, Sent<'static>)> {
-    Some((true, Sent::TextDelta(length, part)))
-}
+/// A previous value, a value, and the bit and the item that are sent for it, if it can be sent.
+type Case = (
+    Previous<'static>,
+    Option<Scalar<'static>>,
+    Option<(bool, Sent<'static>)>,
+);
 
 const UNSENT: Option<(bool, Sent<'static>)> = Some((false, Sent::Nothing));
 
-#[test]
-fn tails(rt: HostRuntime) -> Result<(), Fail> {
-    let field = (Operator::Tail, Kind::Ascii, false, None);
-    let alloc = rt.alloc();
-    assert!(rt;
-        sends(
-            alloc,
-            field,
-            Previous::Undefined,
-            ascii(b"ABCDE"),
-            sent(b"ABCDE")
-        )?
-    );
-    assert!(rt; sends(alloc, field, held(b"ABCDE"), ascii(b"ABCXY"), sent(b"XY"))?);
-    assert!(rt; sends(alloc, field, held(b"ABCXY"), ascii(b"ABCXY"), UNSENT)?);
-    assert!(rt; sends(alloc, field, held(b"ABCXY"), ascii(b"AB"), None)?);
-    assert!(rt; sends(alloc, field, held(b"ABC"), ascii(b"ABCD"), sent(b"ABCD"))?);
-    let other = Previous::Assigned(Kind::Bytes, Scalar::Bytes(b"ABC"));
-    assert!(rt; sends(alloc, field, other, ascii(b"ABC"), None)?);
-    let optional = (Operator::Tail, Kind::Ascii, true, ascii(b"ABC"));
-    assert!(rt; sends(alloc, optional, Previous::Empty, ascii(b"ABC"), sent(b""))?);
-    assert!(rt; sends(alloc, optional, other, None, Some((true, Sent::Null)))?);
-    Ok(())
-}
+const SET: Option<(bool, Sent<'static>)> = Some((true, Sent::Nothing));
+
+const NULL: Option<(bool, Sent<'static>)> = Some((true, Sent::Null));
+
+const SEVEN: Option<Scalar<'static>> = Some(U(7));
+
+const OTHER: Previous<'static> = Assigned(Kind::Bytes, Scalar::Bytes(b"ABC"));
+
+const GREATEST_32: Previous<'static> = Assigned(Kind::UInt32, U(4_294_967_295));
+
+const HUNDRED: Previous<'static> = Assigned(Kind::Int32, I(100));
+
+/// Fields, and what is sent of them.
+const FIELDS: [(Field, &[Case]); 12] = [
+    (
+        (Operator::Tail, Kind::Ascii, false, None),
+        &[
+            (
+                Undefined,
+                Some(Ascii(b"ABCDE")),
+                Some((true, Sent::Value(Ascii(b"ABCDE")))),
+            ),
+            (
+                Assigned(Kind::Ascii, Ascii(b"ABCDE")),
+                Some(Ascii(b"ABCXY")),
+                Some((true, Sent::Value(Ascii(b"XY")))),
+            ),
+            (
+                Assigned(Kind::Ascii, Ascii(b"ABCXY")),
+                Some(Ascii(b"ABCXY")),
+                UNSENT,
+            ),
+            (
+                Assigned(Kind::Ascii, Ascii(b"ABCXY")),
+                Some(Ascii(b"AB")),
+                None,
+            ),
+            (
+                Assigned(Kind::Ascii, Ascii(b"ABC")),
+                Some(Ascii(b"ABCD")),
+                Some((true, Sent::Value(Ascii(b"ABCD")))),
+            ),
+            (OTHER, Some(Ascii(b"ABC")), None),
+        ],
+    ),
+    (
+        (Operator::Tail, Kind::Ascii, true, Some(Ascii(b"ABC"))),
+        &[
+            (
+                Empty,
+                Some(Ascii(b"ABC")),
+                Some((true, Sent::Value(Ascii(b"")))),
+            ),
+            (OTHER, None, NULL),
+        ],
+    ),
+    (
+        (Operator::Delta, Kind::Ascii, false, None),
+        &[
+            (
+                Undefined,
+                Some(Ascii(b"GEH6")),
+                Some((true, TextDelta(0, b"GEH6"))),
+            ),
+            (
+                Assigned(Kind::Ascii, Ascii(b"GEH6")),
+                Some(Ascii(b"GEM6")),
+                Some((true, TextDelta(2, b"M6"))),
+            ),
+            (
+                Assigned(Kind::Ascii, Ascii(b"GEM6")),
+                Some(Ascii(b"ZZGEM6")),
+                Some((true, TextDelta(-1, b"ZZ"))),
+            ),
+            (
+                Assigned(Kind::Ascii, Ascii(b"XAB")),
+                Some(Ascii(b"AB")),
+                Some((true, TextDelta(-2, b""))),
+            ),
+            (
+                Assigned(Kind::Ascii, Ascii(b"AA")),
+                Some(Ascii(b"A")),
+                Some((true, TextDelta(1, b""))),
+            ),
+            (Empty, Some(Ascii(b"A")), None),
+        ],
+    ),
+    (
+        (Operator::Delta, Kind::Unicode, false, None),
+        &[(
+            Assigned(Kind::Unicode, Unicode(b"\xC3\xA9")),
+            Some(Unicode(b"\xC3\xA8")),
+            Some((true, TextDelta(1, b"\xA8"))),
+        )],
+    ),
+    (
+        (Operator::Increment, Kind::UInt32, false, None),
+        &[
+            (GREATEST_32, Some(U(0)), UNSENT),
+            (GREATEST_32, Some(U(1)), Some((true, Sent::Value(U(1))))),
+        ],
+    ),
+    (
+        (Operator::Delta, Kind::Int32, true, None),
+        &[
+            (HUNDRED, Some(I(98)), Some((true, Sent::IntegerDelta(-2)))),
+            (HUNDRED, None, NULL),
+        ],
+    ),
+    (
+        (Operator::Delta, Kind::Decimal, false, None),
+        &[(
+            Undefined,
+            Some(Scalar::Dec {
+                exponent: -1,
+                mantissa: 15,
+            }),
+            Some((true, Sent::DecimalDelta(-1, 15))),
+        )],
+    ),
+    (
+        (Operator::Constant, Kind::UInt32, false, SEVEN),
+        &[(Undefined, SEVEN, SET), (Undefined, Some(U(8)), None)],
+    ),
+    (
+        (Operator::Constant, Kind::UInt32, true, SEVEN),
+        &[(Undefined, SEVEN, SET), (Undefined, None, UNSENT)],
+    ),
+    (
+        (Operator::Default, Kind::UInt32, true, SEVEN),
+        &[(Undefined, SEVEN, UNSENT), (Undefined, None, NULL)],
+    ),
+    (
+        (Operator::Copy, Kind::Int32, true, None),
+        &[(Undefined, None, UNSENT)],
+    ),
+    (
+        (Operator::None, Kind::UInt32, true, None),
+        &[
+            (Undefined, None, NULL),
+            (Undefined, SEVEN, Some((true, Sent::Value(U(7))))),
+        ],
+    ),
+];
 
 #[test]
-fn text_deltas(rt: HostRuntime) -> Result<(), Fail> {
-    let field = (Operator::Delta, Kind::Ascii, false, None);
-    let alloc = rt.alloc();
-    assert!(rt;
-        sends(
-            alloc,
-            field,
-            Previous::Undefined,
-            ascii(b"GEH6"),
-            joined(0, b"GEH6")
-        )?
-    );
-    assert!(rt;
-        sends(
-            alloc,
-            field,
-            held(b"GEH6"),
-            ascii(b"GEM6"),
-            joined(2, b"M6")
-        )?
-    );
-    assert!(rt;
-        sends(
-            alloc,
-            field,
-            held(b"GEM6"),
-            ascii(b"ZZGEM6"),
-            joined(-1, b"ZZ")
-        )?
-    );
-    assert!(rt; sends(alloc, field, held(b"XAB"), ascii(b"AB"), joined(-2, b""))?);
-    assert!(rt; sends(alloc, field, held(b"AA"), ascii(b"A"), joined(1, b""))?);
-    assert!(rt; sends(alloc, field, Previous::Empty, ascii(b"A"), None)?);
-    let unicode = (Operator::Delta, Kind::Unicode, false, None);
-    let before = Previous::Assigned(Kind::Unicode, Scalar::Unicode(b"\xC3\xA9"));
-    let value = Some(Scalar::Unicode(b"\xC3\xA8"));
-    assert!(rt; sends(alloc, unicode, before, value, joined(1, b"\xA8"))?);
-    Ok(())
-}
-
-#[test]
-fn numbers(rt: HostRuntime) -> Result<(), Fail> {
-    let alloc = rt.alloc();
-    let count = (Operator::Increment, Kind::UInt32, false, None);
-    let greatest = Previous::Assigned(Kind::UInt32, Scalar::U(4_294_967_295));
-    assert!(rt; sends(alloc, count, greatest, Some(Scalar::U(0)), UNSENT)?);
-    let one = Some(Scalar::U(1));
-    assert!(rt;
-        sends(
-            alloc,
-            count,
-            greatest,
-            one,
-            Some((true, Sent::Value(Scalar::U(1))))
-        )?
-    );
-    let delta = (Operator::Delta, Kind::Int32, true, None);
-    let hundred = Previous::Assigned(Kind::Int32, Scalar::I(100));
-    let down = Some((true, Sent::IntegerDelta(-2)));
-    assert!(rt; sends(alloc, delta, hundred, Some(Scalar::I(98)), down)?);
-    assert!(rt; sends(alloc, delta, hundred, None, Some((true, Sent::Null)))?);
-    let price = (Operator::Delta, Kind::Decimal, false, None);
-    let value = Some(Scalar::Dec {
-        exponent: -1,
-        mantissa: 15,
-    });
-    let sum = Some((true, Sent::DecimalDelta(-1, 15)));
-    assert!(rt; sends(alloc, price, Previous::Undefined, value, sum)?);
-    Ok(())
-}
-
-#[test]
-fn constants_and_absence(rt: HostRuntime) -> Result<(), Fail> {
-    let alloc = rt.alloc();
-    let seven = Some(Scalar::U(7));
-    let eight = Some(Scalar::U(8));
-    let constant = (Operator::Constant, Kind::UInt32, false, seven);
-    let set = Some((true, Sent::Nothing));
-    assert!(rt; sends(alloc, constant, Previous::Undefined, seven, set)?);
-    assert!(rt; sends(alloc, constant, Previous::Undefined, eight, None)?);
-    let optional = (Operator::Constant, Kind::UInt32, true, seven);
-    assert!(rt; sends(alloc, optional, Previous::Undefined, seven, set)?);
-    assert!(rt; sends(alloc, optional, Previous::Undefined, None, UNSENT)?);
-    let default = (Operator::Default, Kind::UInt32, true, seven);
-    assert!(rt; sends(alloc, default, Previous::Undefined, seven, UNSENT)?);
-    assert!(rt;
-        sends(
-            alloc,
-            default,
-            Previous::Undefined,
-            None,
-            Some((true, Sent::Null))
-        )?
-    );
-    let exponent = (Operator::Copy, Kind::Int32, true, None);
-    assert!(rt; sends(alloc, exponent, Previous::Undefined, None, UNSENT)?);
-    let plain = (Operator::None, Kind::UInt32, true, None);
-    assert!(rt;
-        sends(
-            alloc,
-            plain,
-            Previous::Undefined,
-            None,
-            Some((true, Sent::Null))
-        )?
-    );
-    assert!(rt;
-        sends(
-            alloc,
-            plain,
-            Previous::Undefined,
-            seven,
-            Some((true, Sent::Value(Scalar::U(7))))
-        )?
-    );
+fn items_for_values(rt: HostRuntime) -> Result<(), Fail> {
+    for (k, (field, cases)) in FIELDS.iter().enumerate() {
+        for (previous, value, wanted) in *cases {
+            assert!(rt;
+                sends(rt.alloc(), *field, *previous, *value, *wanted)?,
+                "field {k}"
+            );
+        }
+    }
     Ok(())
 }

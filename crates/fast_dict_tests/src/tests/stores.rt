@@ -102,17 +102,21 @@ fn carries_out<D: Store>(rt: &impl Abort, store: &mut D, commands: &[StoreComman
     assert_eq!(rt; run(store, commands), commands.len());
 }
 
+/// Lists of commands one after the other, and what the entries then hold.
+const TURNS: [(&[StoreCommand<'static>], &[Previous<'static>]); 5] = [
+    (&[], &[Previous::Undefined; 5]),
+    (&COMMANDS, &AFTER),
+    (&[StoreCommand::Reset], &AFTER_RESET),
+    (&COMMANDS, &AFTER),
+    (&[StoreCommand::ResetAll], &[Previous::Undefined; 5]),
+];
+
 /// The commands, and then the resets.
 fn follows<D: Store>(rt: &impl Abort, store: &mut D) {
-    assert!(rt; holds(store, &[Previous::Undefined; 5]));
-    carries_out(rt, store, &COMMANDS);
-    assert!(rt; holds(store, &AFTER));
-    carries_out(rt, store, &[StoreCommand::Reset]);
-    assert!(rt; holds(store, &AFTER_RESET));
-    carries_out(rt, store, &COMMANDS);
-    assert!(rt; holds(store, &AFTER));
-    carries_out(rt, store, &[StoreCommand::ResetAll]);
-    assert!(rt; holds(store, &[Previous::Undefined; 5]));
+    for (commands, after) in TURNS {
+        carries_out(rt, store, commands);
+        assert!(rt; holds(store, after));
+    }
 }
 
 /// Whether the entry holds the number under a uInt32.
@@ -162,36 +166,13 @@ fn slots(rt: HostRuntime) -> Result<(), Fail> {
 #[test]
 fn entries_without_a_slot_take_no_text(rt: HostRuntime) -> Result<(), Fail> {
     let store = Slots::new(rt.alloc(), &[false, true], 16)?;
-    let text = Scalar::Ascii(b"AB");
-    assert!(rt;
-        !can_run(
-            &store,
-            &[StoreCommand::Set {
-                entry: 0,
-                kind: Kind::Ascii,
-                scalar: text
-            }]
-        )
-    );
-    assert!(rt;
-        can_run(
-            &store,
-            &[StoreCommand::Set {
-                entry: 1,
-                kind: Kind::Ascii,
-                scalar: text
-            }]
-        )
-    );
-    assert!(rt;
-        !can_run(
-            &store,
-            &[StoreCommand::Set {
-                entry: 2,
-                kind: Kind::Ascii,
-                scalar: text
-            }]
-        )
-    );
+    for (entry, is_possible) in [(0, false), (1, true), (2, false)] {
+        let command = StoreCommand::Set {
+            entry,
+            kind: Kind::Ascii,
+            scalar: Scalar::Ascii(b"AB"),
+        };
+        assert_eq!(rt; can_run(&store, &[command]), is_possible, "at {entry}");
+    }
     Ok(())
 }

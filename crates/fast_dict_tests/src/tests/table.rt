@@ -216,24 +216,18 @@ fn texts(kind: Kind, other: Kind) -> Samples {
 }
 
 #[test]
-fn integers(rt: HostRuntime) -> Result<(), Fail> {
-    assert!(rt; all_stand(rt.alloc(), &unsigned(Kind::UInt32))?);
-    assert!(rt; all_stand(rt.alloc(), &unsigned(Kind::UInt64))?);
-    assert!(rt; all_stand(rt.alloc(), &signed(Kind::Int32))?);
-    assert!(rt; all_stand(rt.alloc(), &signed(Kind::Int64))?);
-    Ok(())
-}
-
-#[test]
-fn scaled(rt: HostRuntime) -> Result<(), Fail> {
-    assert!(rt; all_stand(rt.alloc(), &decimals())?);
-    Ok(())
-}
-
-#[test]
-fn strings(rt: HostRuntime) -> Result<(), Fail> {
-    assert!(rt; all_stand(rt.alloc(), &texts(Kind::Ascii, Kind::Unicode))?);
-    assert!(rt; all_stand(rt.alloc(), &texts(Kind::Unicode, Kind::Bytes))?);
-    assert!(rt; all_stand(rt.alloc(), &texts(Kind::Bytes, Kind::Ascii))?);
+fn each_row_stands_at_each_kind(rt: HostRuntime) -> Result<(), Fail> {
+    for samples in [
+        unsigned(Kind::UInt32),
+        unsigned(Kind::UInt64),
+        signed(Kind::Int32),
+        signed(Kind::Int64),
+        decimals(),
+        texts(Kind::Ascii, Kind::Unicode),
+        texts(Kind::Unicode, Kind::Bytes),
+        texts(Kind::Bytes, Kind::Ascii),
+    ] {
+        assert!(rt; all_stand(rt.alloc(), &samples)?, "{:?}", samples.kind);
+    }
     Ok(())
 }
