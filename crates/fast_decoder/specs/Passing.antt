@@ -1,16 +1,15 @@
 -- What a machine's turns leave of its cursor.
-use Rattle.std.specs.Prelude.{◌≡◌, ℕ, zero, suc, ℤ, if◌then◌else◌, List, ◌∷◌, drop}
+use Rattle.std.specs.Prelude.{◌≡◌, ℕ, ℤ, if◌then◌else◌, List, drop}
 use Rattle.fast_wire.specs.Maps.{later_bits}
-use Rattle.fast_tree.specs.Tree.{FieldData, identifier, uses_bit, Body}
+use Rattle.fast_tree.specs.Tree.{FieldData, identifier, uses_bit}
 use Rattle.fast_dict.specs.Dictionary.{Dictionary}
 use Rattle.fast_value.specs.Kinds.{ScalarData}
 use Rattle.fast_value.specs.Limits.{Bounds}
 use Rattle.std.specs.Prelude.{Option}
-use Rattle.fast_stream.specs.Grammar.{Grammar, hand, ◌>>=◌}
-use Rattle.fast_stream.specs.Events.{SequenceEnd, ElementStart}
-use Rattle.fast_stream.specs.Messages.{Context, State, own_bits, decimal_with}
+use Rattle.fast_stream.specs.Grammar.{Grammar, ◌>>=◌}
+use Rattle.fast_stream.specs.Messages.{State, own_bits, decimal_with}
 use Rattle.fast_stream.specs.Continuations.{handed_then, mantissa_after_then, segment_then, body_then, sequence_from_then, message_behind_then}
-use Rattle.fast_stream.specs.Frames.{Frame, open_element, resume}
+use Rattle.fast_stream.specs.Frames.{resume, elements_turn}
 use Rattle.fast_cursor.specs.Cursors.{CursorData, bits_left}
 use Rattle.fast_decoder.specs.Positions.{Set, tree_in, body_in, frames_in, state_in}
 
