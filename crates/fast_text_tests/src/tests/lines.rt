@@ -1,5 +1,10 @@
 //! The line of each event.
 
+use Event::{
+    ElementEnd, ElementStart, Field, GroupEnd, GroupStart, MessageEnd, MessageStart, SequenceEnd,
+    SequenceStart,
+};
+use Scalar::{Ascii, Bytes, Dec, I, U, Unicode};
 use fast_decoder::{Event, Sink, Stop};
 use fast_template::Templates;
 use fast_text::{LineSink, Target, ToBytes};
@@ -21,112 +26,127 @@ fields = [
     Ok(Templates::read(alloc, text)?)
 }
 
-fn field(node: u32, value: Scalar<'_>) -> Event<'_> {
-    Event::Field { node, value }
+const EVENTS: &[Event<'static>] = &[
+    MessageStart { template: 0 },
+    Field {
+        node: 0,
+        value: U(5),
+    },
+    GroupStart { node: 1 },
+    Field {
+        node: 2,
+        value: Bytes(&[0x01, 0xff]),
+    },
+    GroupEnd,
+    SequenceStart { node: 3, count: 1 },
+    ElementStart,
+    Field {
+        node: 4,
+        value: Ascii(b"AB"),
+    },
+    Field {
+        node: 5,
+        value: I(-98),
+    },
+    ElementEnd,
+    SequenceEnd,
+    MessageEnd,
+];
+
+const VALUES: &[Event<'static>] = &[
+    Field {
+        node: 0,
+        value: U(u64::MAX),
+    },
+    Field {
+        node: 0,
+        value: I(i64::MAX),
+    },
+    Field {
+        node: 0,
+        value: Dec {
+            exponent: -1,
+            mantissa: -15,
+        },
+    },
+    Field {
+        node: 0,
+        value: Dec {
+            exponent: 63,
+            mantissa: i64::MIN,
+        },
+    },
+    Field {
+        node: 0,
+        value: Bytes(&[]),
+    },
+    Field {
+        node: 0,
+        value: Ascii(b""),
+    },
+    Field {
+        node: 0,
+        value: Unicode(b"\"\\\x00\x1f\x7f\xc3\xa9 a"),
+    },
+];
+
+/// A vector that is written in more than one piece.
+const LONG: &[Event<'static>] = &[Field {
+    node: 2,
+    value: Bytes(&[0xa5; 65]),
+}];
+
+/// Numbers that the set does not have, and that have no name.
+const UNKNOWN: &[Event<'static>] = &[MessageStart { template: 1 }, GroupStart { node: 6 }];
+
+/// Events, and their lines.
+const ROWS: [(&[Event<'static>], &[u8]); 4] = [
+    (
+        EVENTS,
+        b"message T15\nfield 0 x u 5\ngroup 1 g\nfield 2 b b 01ff\nend group\nsequence 3 legs 1\nelement\nfield 4 sym a \"AB\"\nfield 5 px i -98\nend element\nend sequence\nend message\n",
+    ),
+    (
+        VALUES,
+        b"field 0 x u 18446744073709551615\nfield 0 x i 9223372036854775807\nfield 0 x d -15e-1\nfield 0 x d -9223372036854775808e63\nfield 0 x b \nfield 0 x a \"\"\nfield 0 x s \"\\\"\\\\\\x00\\x1f\\x7f\xc3\xa9 a\"\n",
+    ),
+    (
+        LONG,
+        b"field 2 b b a5a5a5a5a5a5a5a5a5a5a5a5a5a5a5a5a5a5a5a5a5a5a5a5a5a5a5a5a5a5a5a5a5a5a5a5a5a5a5a5a5a5a5a5a5a5a5a5a5a5a5a5a5a5a5a5a5a5a5a5a5a5a5a5a5\n",
+    ),
+    (UNKNOWN, b"message \ngroup 6 \n"),
+];
+
+/// Whether a sink over the cells writes these bytes of the events, and stops or not.
+fn is_written(
+    set: &Templates,
+    cells: &mut [u8],
+    events: &[Event<'_>],
+    answer: Result<(), Stop>,
+    bytes: &[u8],
+) -> bool {
+    let mut target = ToBytes::new(cells);
+    let mut sink = LineSink::new(set, &mut target);
+    let mut taken = Ok(());
+    for event in events {
+        if taken.is_ok() {
+            taken = sink.take(*event);
+        }
+    }
+    taken == answer && target.failed() == answer.is_err() && target.bytes() == bytes
 }
 
 #[test]
 fn each_event_is_its_line(rt: HostRuntime) -> Result<(), Fail> {
     let set = set(rt.alloc())?;
-    let mut cells = [0; 512];
-    let mut target = ToBytes::new(&mut cells);
-    let mut sink = LineSink::new(&set, &mut target);
-    for event in [
-        Event::MessageStart { template: 0 },
-        field(0, Scalar::U(5)),
-        Event::GroupStart { node: 1 },
-        field(2, Scalar::Bytes(&[0x01, 0xff])),
-        Event::GroupEnd,
-        Event::SequenceStart { node: 3, count: 1 },
-        Event::ElementStart,
-        field(4, Scalar::Ascii(b"AB")),
-        field(5, Scalar::I(-98)),
-        Event::ElementEnd,
-        Event::SequenceEnd,
-        Event::MessageEnd,
-    ] {
-        assert_eq!(rt; sink.take(event), Ok(()));
+    for (events, lines) in ROWS {
+        let is_written = is_written(&set, &mut [0; 512], events, Ok(()), lines);
+        assert!(rt; is_written, "{events:?}");
     }
-    let lines =
-        b"message T15\nfield 0 x u 5\ngroup 1 g\nfield 2 b b 01ff\nend group\nsequence 3 legs 1\nelement\nfield 4 sym a \"AB\"\nfield 5 px i -98\nend element\nend sequence\nend message\n";
-    assert_eq!(rt; target.bytes(), lines.as_slice());
-    Ok(())
-}
-
-#[test]
-fn each_value_has_its_spelling(rt: HostRuntime) -> Result<(), Fail> {
-    let set = set(rt.alloc())?;
-    let mut cells = [0; 512];
-    let mut target = ToBytes::new(&mut cells);
-    let mut sink = LineSink::new(&set, &mut target);
-    let tenths = Scalar::Dec {
-        exponent: -1,
-        mantissa: -15,
-    };
-    let most = Scalar::Dec {
-        exponent: 63,
-        mantissa: i64::MIN,
-    };
-    for value in [
-        Scalar::U(u64::MAX),
-        Scalar::I(i64::MAX),
-        tenths,
-        most,
-        Scalar::Bytes(&[]),
-        Scalar::Ascii(b""),
-        Scalar::Unicode(b"\"\\\x00\x1f\x7f\xc3\xa9 a"),
-    ] {
-        assert_eq!(rt; sink.take(field(0, value)), Ok(()));
-    }
-    let lines =
-        b"field 0 x u 18446744073709551615\nfield 0 x i 9223372036854775807\nfield 0 x d -15e-1\nfield 0 x d -9223372036854775808e63\nfield 0 x b \nfield 0 x a \"\"\nfield 0 x s \"\\\"\\\\\\x00\\x1f\\x7f\xc3\xa9 a\"\n";
-    assert_eq!(rt; target.bytes(), lines.as_slice());
-    Ok(())
-}
-
-#[test]
-fn a_long_byte_vector_is_written_whole(rt: HostRuntime) -> Result<(), Fail> {
-    let set = set(rt.alloc())?;
-    let mut cells = [0; 512];
-    let mut target = ToBytes::new(&mut cells);
-    let mut sink = LineSink::new(&set, &mut target);
-    let value = Scalar::Bytes(&[0xa5; 65]);
-    assert_eq!(rt; sink.take(field(2, value)), Ok(()));
-    let written = target.bytes();
-    assert_eq!(rt; written.len(), 12 + 130 + 1);
-    assert!(rt;
-        written
-            .iter()
-            .skip(12)
-            .take(130)
-            .all(|byte| *byte == b'a' || *byte == b'5')
-    );
-    Ok(())
-}
-
-#[test]
-fn a_number_that_the_set_does_not_have_has_no_name(rt: HostRuntime) -> Result<(), Fail> {
-    let set = set(rt.alloc())?;
-    let mut cells = [0; 64];
-    let mut target = ToBytes::new(&mut cells);
-    let mut sink = LineSink::new(&set, &mut target);
-    assert_eq!(rt; sink.take(Event::MessageStart { template: 1 }), Ok(()));
-    assert_eq!(rt; sink.take(Event::GroupStart { node: 6 }), Ok(()));
-    assert_eq!(rt; target.bytes(), b"message \ngroup 6 \n".as_slice());
-    Ok(())
-}
-
-#[test]
-fn a_full_target_stops_in_the_line(rt: HostRuntime) -> Result<(), Fail> {
-    let set = set(rt.alloc())?;
     for room in 0..12 {
         let mut cells = [0; 12];
-        let mut target = ToBytes::new(&mut cells[..room]);
-        let mut sink = LineSink::new(&set, &mut target);
-        let event = Event::MessageStart { template: 0 };
-        assert_eq!(rt; sink.take(event), Err(Stop));
-        assert!(rt; target.failed());
-        assert_eq!(rt; target.bytes(), &b"message T15\n"[..room]);
+        let front = &b"message T15\n"[..room];
+        let stops = is_written(&set, &mut cells[..room], &EVENTS[..1], Err(Stop), front);
+        assert!(rt; stops, "in {room}");
     }
     Ok(())
 }

@@ -3,6 +3,7 @@
 use fast_text::{Failed, FromBytes, Source, Target, ToBytes, Watched};
 use std::io;
 use std::io::{ErrorKind, Read, Write};
+use std::process::Abort;
 
 /// Reads and writes one byte a call, and fails at a call.
 #[derive(Drop)]
@@ -55,28 +56,51 @@ impl Write for OneByOne<'_> {
     }
 }
 
+/// Each read answers so, leaves these bytes in front of the buffer, and leaves the reader failed or not.
+fn expect_reads<S: Source>(
+    rt: &impl Abort,
+    source: &mut S,
+    buf: &mut [u8],
+    reads: &[(Result<usize, Failed>, &[u8], bool)],
+) {
+    for (answer, front, failed) in reads {
+        let is_right = source.read(buf) == *answer && buf.starts_with(front);
+        assert!(rt;
+            is_right && source.failed() == *failed,
+            "{answer:?} {front:?}"
+        );
+    }
+}
+
+/// The piece is written whole, or fails.
+fn expect_write<T: Target>(
+    rt: &impl Abort,
+    target: &mut T,
+    piece: &[u8],
+    answer: Result<(), Failed>,
+) {
+    let is_right = target.write_all(piece) == answer && target.failed() == answer.is_err();
+    assert!(rt; is_right, "{piece:?}");
+}
+
 #[test]
 fn a_slice_is_read_to_its_end(rt: HostRuntime) {
-    let mut source = FromBytes::new(b"abcde");
-    let mut buf = [0; 3];
-    assert_eq!(rt; source.read(&mut buf), Ok(3));
-    assert_eq!(rt; buf, *b"abc");
-    assert_eq!(rt; source.read(&mut buf), Ok(2));
-    assert_eq!(rt; buf, *b"dec");
-    assert_eq!(rt; source.read(&mut buf), Ok(0));
-    assert!(rt; !source.failed());
+    let reads: [(_, &[u8], _); 3] = [
+        (Ok(3), b"abc", false),
+        (Ok(2), b"dec", false),
+        (Ok(0), b"dec", false),
+    ];
+    expect_reads(&rt, &mut FromBytes::new(b"abcde"), &mut [0; 3], &reads);
 }
 
 #[test]
 fn a_full_slice_fails(rt: HostRuntime) {
     let mut cells = [0; 4];
     let mut target = ToBytes::new(&mut cells);
-    assert_eq!(rt; target.write_all(b"abc"), Ok(()));
-    assert_eq!(rt; target.room(), 1);
-    assert!(rt; !target.failed());
-    assert_eq!(rt; target.write_all(b"de"), Err(Failed));
-    assert!(rt; target.failed());
-    assert_eq!(rt; target.bytes(), b"abcd".as_slice());
+    expect_write(&rt, &mut target, b"abc", Ok(()));
+    assert!(rt; target.room() == 1);
+    expect_write(&rt, &mut target, b"de", Err(Failed));
+    assert!(rt; target.bytes() == b"abcd".as_slice());
 }
 
 #[test]
@@ -87,32 +111,28 @@ fn a_reader_of_std_fails_where_a_call_does(rt: HostRuntime) {
         at: 0,
         calls: 3,
     });
-    let mut buf = [0; 8];
-    assert_eq!(rt; source.read(&mut buf), Ok(1));
-    assert_eq!(rt; source.read(&mut buf), Ok(1));
-    assert_eq!(rt; buf[0], b'b');
-    assert_eq!(rt; source.read(&mut buf), Ok(0));
-    assert!(rt; !Source::failed(&source));
-    assert_eq!(rt; source.read(&mut buf), Err(Failed));
-    assert!(rt; Source::failed(&source));
+    let reads: [(_, &[u8], _); 4] = [
+        (Ok(1), b"a", false),
+        (Ok(1), b"b", false),
+        (Ok(0), b"b", false),
+        (Err(Failed), b"b", true),
+    ];
+    expect_reads(&rt, &mut source, &mut [0; 8], &reads);
 }
 
 #[test]
 fn a_writer_of_std_fails_where_a_call_does_or_writes_nothing(rt: HostRuntime) {
-    for calls in [2, 9] {
+    for (calls, written) in [(2, *b"ab\0"), (9, *b"abc")] {
         let mut cells = [0; 3];
         let mut target = Watched::new(OneByOne {
             cells: &mut cells,
             at: 0,
             calls,
         });
-        assert_eq!(rt; target.write_all(b"ab"), Ok(()));
-        assert_eq!(rt; Target::flush(&mut target), Ok(()));
-        assert!(rt; !Target::failed(&target));
-        assert_eq!(rt; target.write_all(b"cd"), Err(Failed));
-        assert!(rt; Target::failed(&target));
+        expect_write(&rt, &mut target, b"ab", Ok(()));
+        let is_flushed = Target::flush(&mut target).is_ok() && !Target::failed(&target);
+        expect_write(&rt, &mut target, b"cd", Err(Failed));
         drop(target);
-        let written = if calls == 2 { *b"ab\0" } else { *b"abc" };
-        assert_eq!(rt; cells, written);
+        assert!(rt; is_flushed && cells == written, "{calls} calls");
     }
 }
