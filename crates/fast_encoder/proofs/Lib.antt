@@ -1,2 +1,5 @@
 pub mod Spelled
 pub mod Encoded
+pub mod Ledgers
+pub mod Bits
+pub mod Spelling

@@ -1,3 +1,5 @@
 pub mod Encoding
 pub mod Suiting
 pub mod Refusals
+pub mod Ledgers
+pub mod Drafts

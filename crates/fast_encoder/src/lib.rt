@@ -1,7 +1,11 @@
 //! The encoder of FAST streams: messages as trees go in, bytes come out.
 #![tactic(auto)]
 
+pub mod draft;
 pub mod faults;
+pub mod held;
+pub mod items;
 pub mod laws;
+pub mod ledger;
 
 pub use faults::EncodeFault;
