@@ -3,3 +3,5 @@ pub mod Encoded
 pub mod Ledgers
 pub mod Bits
 pub mod Spelling
+pub mod OneItem
+pub mod OneEncoding

@@ -12,6 +12,7 @@ ghost use Rattle.fast_decoder.specs.Events.{EventData, events};
 ghost use Rattle.fast_decoder.specs.Fields.{field_phrase};
 ghost use Rattle.fast_decoder.specs.Messages.{SpellsMessage};
 ghost use Rattle.fast_decoder.specs.Phrases.{whole};
+ghost use Rattle.fast_decoder.specs.Readers.{AreBytes};
 ghost use Rattle.fast_decoder.specs.Streams.{Stream, Chain, between};
 ghost use Rattle.fast_encoder.specs.Encoding.{EncodesMessage, SpellsSent};
 ghost use Rattle.fast_encoder.specs.Suiting.{SuitsTemplate, FitsLimits};
@@ -25,6 +26,11 @@ pub fn field_spelled()
 /// writes is wider than strict mode takes.
 pub fn encoded_is_spelled()
     ensures { (t : Tree) (l : Limits) (d : Dictionary) (m : MessageData) (w : List ℕ) (d' : Dictionary) → HasDistinctIds t → SuitsTemplate t m → FitsLimits l m.slots → EncodesMessage t l d m w d' → SpellsMessage t (in_mode true l) d m w d' }
+{}
+
+/// From one dictionary a message has one encoding, and it leads to one dictionary.
+pub fn one_encoding()
+    ensures { (t : Tree) (l : Limits) (d : Dictionary) (m : MessageData) (v w : List ℕ) (a b : Dictionary) → AreBytes v → AreBytes w → EncodesMessage t l d m v a → EncodesMessage t l d m w b → (v ≡ w) × (a ≡ b) }
 {}
 
 /// What an encoder writes behind a chain of messages is read back, in both modes: the stream goes on with the events of the message,
