@@ -5,3 +5,6 @@ pub mod Bits
 pub mod Spelling
 pub mod OneItem
 pub mod OneEncoding
+pub mod Ruled
+pub mod Sendable
+pub mod FieldsWritten

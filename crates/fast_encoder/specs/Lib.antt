@@ -3,3 +3,4 @@ pub mod Suiting
 pub mod Refusals
 pub mod Ledgers
 pub mod Drafts
+pub mod Fields

@@ -3,6 +3,7 @@
 
 pub mod draft;
 pub mod faults;
+pub mod fields;
 pub mod held;
 pub mod items;
 pub mod laws;
