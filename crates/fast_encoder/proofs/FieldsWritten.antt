@@ -1,11 +1,11 @@
 -- A field that was written is encoded.
-use Rattle.std.proofs.Common.{◌≡◌, ℕ, ◌≤◌, List, [], ◌∷◌, length, refl, ap, sym, subst, ◌∙◌, arith}
-use Rattle.std.specs.Prelude.{Bool, true, false, if◌then◌else◌, Option, Some, None, Result, Ok, Err, IfSome, unwrap_or}
+use Rattle.std.proofs.Common.{◌≡◌, ℕ, ◌≤◌, List, [], ◌∷◌, length, refl, subst, arith}
+use Rattle.std.specs.Prelude.{Bool, true, false, if◌then◌else◌, Option, Some, None, Ok, Err, IfSome, unwrap_or}
 use Rattle.fast_value.specs.declared.kinds.Kind.{Kind}
 use Rattle.fast_value.specs.declared.kinds.Kind.TheVariants.{UInt32, Int32, UInt64, Int64, Decimal, Ascii, Unicode, Bytes}
 use Rattle.fast_value.specs.declared.settings.Limits.{Limits}
 use Rattle.fast_value.specs.declared.codes.Code.TheVariants.{D4}
-use Rattle.fast_value.specs.Kinds.{ScalarData, Family, texts, family, text_of, same_kind}
+use Rattle.fast_value.specs.Kinds.{ScalarData, texts, family, text_of, same_kind}
 use Rattle.fast_template.specs.declared.operators.Operator.TheVariants.{Tail}
 use Rattle.fast_template.specs.Tree.{FieldData, uses_bit}
 use Rattle.fast_dict.specs.Dictionary.{Dictionary, PreviousData, undefined, empty, assigned, previous_at, write_at}
@@ -51,6 +51,13 @@ pub field_done : (l : Limits) (f : FieldData) (d : Dictionary) (p : PreviousData
     → p ≡ previous_at f.entry d → (f.operator ≡ Tail → family f.kind ≡ texts) → IsSuited l.max_text f v → Rule f p v bit x → IsSendable f x → SpellsItem f x w
     → b ≡ (if uses_bit f then bit ∷ [] else []) → d' ≡ write_at f.entry (next_of f (previous_at f.entry d) v) d → EncodesField l f d v b w d'
 field_done l f d p v bit x b w d' is tail suited rule sendable spelled bits written =
-    let ruled : Rule f (previous_at f.entry d) v bit x = subst (λ (z : PreviousData). Rule f z v bit x) is rule in
-    (bit, x, next_of f (previous_at f.entry d) v, ruled, rule_spelled l f (previous_at f.entry d) v bit x w suited ruled sendable spelled,
-    rule_gives f (previous_at f.entry d) v bit x tail (fit f l.max_text v suited) ruled, bits, written)
+    let ruled : Rule f (previous_at f.entry d) v bit x = subst (λ (z : PreviousData). Rule f z v bit x) is rule in (
+      bit,
+      x,
+      next_of f (previous_at f.entry d) v,
+      ruled,
+      rule_spelled l f (previous_at f.entry d) v bit x w suited ruled sendable spelled,
+      rule_gives f (previous_at f.entry d) v bit x tail (fit f l.max_text v suited) ruled,
+      bits,
+      written,
+    )

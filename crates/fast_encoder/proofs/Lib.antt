@@ -8,3 +8,5 @@ pub mod OneEncoding
 pub mod Ruled
 pub mod Sendable
 pub mod FieldsWritten
+pub mod Instructions
+pub mod Progress

@@ -1,10 +1,10 @@
 -- A message has one encoding, and one dictionary behind it.
 use Rattle.std.proofs.Common.{◌≡◌, ℕ, List, [], ◌∷◌, ◌++◌, refl, ap, sym, subst, ◌∙◌}
-use Rattle.std.specs.Prelude.{Bool, true, false, if◌then◌else◌, slice_get, Option, Some, None}
+use Rattle.std.specs.Prelude.{Bool, true, if◌then◌else◌, slice_get, Option, Some, None}
 use Rattle.std.proofs.lemmas.List.{append_assoc}
 use Rattle.fast_value.specs.declared.settings.Limits.{Limits}
-use Rattle.fast_value.specs.Kinds.{ScalarData, U, I, Dec}
-use Rattle.fast_value.specs.Messages.{ItemData, one, group as group_item, sequence as sequence_item, Slots, no_slots, Elements, no_elements, element, MessageData, count}
+use Rattle.fast_value.specs.Kinds.{U, I, Dec}
+use Rattle.fast_value.specs.Messages.{ItemData, one, group as group_item, sequence as sequence_item, Slots, Elements, no_elements, element, MessageData, count}
 use Rattle.fast_template.specs.Tree.{FieldData, identifier, uses_bit, Instruction, field, parts, group, sequence, Body, end, step, has_map, TemplateData, Tree}
 use Rattle.fast_dict.specs.Dictionary.{Dictionary, PreviousData, previous_at, write_at, reset}
 use Rattle.fast_dict.specs.Operators.{Sent, Op}

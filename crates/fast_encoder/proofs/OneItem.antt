@@ -1,10 +1,10 @@
 -- A value has one item by the rule, and an item one spelling in strict mode.
-use Rattle.std.proofs.Common.{◌≡◌, ◌≢◌, ◌⊎◌, inl, inr, ℕ, suc, ◌+◌, ◌*◌, ◌-◌, ◌/◌, ◌%◌, ◌<◌, ◌≤◌, List, [], ◌∷◌, ◌++◌, length, refl, ap, sym, subst, ◌∙◌, arith}
-use Rattle.std.specs.Prelude.{zero, Bool, true, false, nat_eq, All, slice_index_or, ℤ, pos, negsuc, Option, Some, None, Result, Ok, Err}
+use Rattle.std.proofs.Common.{◌≡◌, inl, inr, ℕ, suc, ◌+◌, ◌*◌, ◌-◌, ◌/◌, ◌%◌, ◌<◌, ◌≤◌, List, [], ◌∷◌, ◌++◌, length, refl, ap, sym, subst, ◌∙◌, arith}
+use Rattle.std.specs.Prelude.{zero, Bool, true, false, nat_eq, slice_index_or, ℤ, pos, negsuc, Option, Some, None, Result, Ok, Err}
 use Rattle.fast_wire.specs.Entities.{IsEntity, HaveNoStop}
-use Rattle.fast_wire.specs.Integers.{Range, unsigned_range, signed_range, exponent_range, delta_range, SpellsInt}
+use Rattle.fast_wire.specs.Integers.{Range, unsigned_range, signed_range, exponent_range, delta_range}
 use Rattle.fast_wire.specs.Texts.{SpellsAscii, SpellsVector, SpellsDec, Stopped}
-use Rattle.fast_wire.specs.Maps.{seven_bits, bits, IsMap}
+use Rattle.fast_wire.specs.Maps.{bits}
 use Rattle.fast_wire.proofs.Spellings.{one_spelling}
 use Rattle.fast_wire.proofs.Narrow.{map_is_shortest}
 use Rattle.fast_value.specs.declared.kinds.Kind.{Kind}
@@ -16,10 +16,10 @@ use Rattle.fast_template.specs.declared.operators.Operator.{Operator}
 use Rattle.fast_template.specs.declared.operators.Operator.TheVariants.{None as no_operator, Constant, Default, Copy, Increment, Delta, Tail}
 use Rattle.fast_template.specs.Tree.{FieldData}
 use Rattle.fast_dict.specs.Dictionary.{PreviousData}
-use Rattle.fast_dict.specs.Operators.{Outcome, Sent, nothing, null, value, integer_delta, decimal_delta, text_delta, Kept, kept_length, Op, delta_base, tail_base}
+use Rattle.fast_dict.specs.Operators.{Outcome, Sent, nothing, null, value, integer_delta, decimal_delta, text_delta, kept_length, Op, delta_base, tail_base}
 use Rattle.fast_dict.specs.Rule.{IsDelta, IsTextDelta, IsTail, SentBy, Rule}
 use Rattle.fast_decoder.specs.Readers.{AreBytes}
-use Rattle.fast_encoder.specs.Encoding.{SameBits, ShortestMap, Shortest, ShortestText, ShortestNull, ShortestNoDelta, ShortestValue, ShortestNullOf, SpellsSentBy, SpellsSent}
+use Rattle.fast_encoder.specs.Encoding.{ShortestMap, Shortest, ShortestText, ShortestNull, ShortestNoDelta, ShortestValue, ShortestNullOf, SpellsSentBy}
 
 abbrev ok_value : {A : Type 0} → A → Result A Code → A
 ok_value a (Ok b) = b
@@ -197,7 +197,7 @@ module _ (l : Limits) (f : FieldData) where
   one_spelled o p (decimal_delta k j) v w a b g h = one_pair delta_range delta_range f.optional k j v w a b g h
   one_spelled o p (text_delta k part) v w a b (n, u, x, _, g, h, e) (m, s, t, _, i, j, q) =
       two_parts v w u x s t e q (one_spelling (signed_range 31) f.optional (Some k) u s (bytes_left v u x e a) (bytes_left w s t q b) g i)
-          (one_text f.kind false (l.max_text - kept_length n) (l.max_text - kept_length m) (Some part) x t (bytes_right v u x e a) (bytes_right w s t q b) h j)
+      (one_text f.kind false (l.max_text - kept_length n) (l.max_text - kept_length m) (Some part) x t (bytes_right v u x e a) (bytes_right w s t q b) h j)
 
 -- bits that are the same, of bytes
 bit_same : (x y : ℕ) → x < 2 → y < 2 → nat_eq x 1 ≡ nat_eq y 1 → x ≡ y

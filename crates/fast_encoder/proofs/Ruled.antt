@@ -1,7 +1,6 @@
 -- What the rule sends of a value gives that value.
-use Rattle.std.proofs.Common.{◌≡◌, ◌≢◌, ◌⊎◌, inl, inr, ℕ, suc, ◌+◌, ◌-◌, ◌<◌, ◌≤◌, ◌^◌, List, [], ◌∷◌, ◌++◌, length, reverse, take, drop, refl, ap, sym, subst, ◌∙◌, arith}
-use Rattle.std.specs.Prelude.{zero, Bool, true, false, ◌&&◌, nat_eq, nat_le, nat_lt, int_le, if◌then◌else◌, All, ℤ, pos, negsuc, ◌+ℤ◌, ◌-ℤ◌, Option, Some, None, Result, Ok, Err, IsUtf8}
-use Rattle.std.specs.Str.{is_utf8}
+use Rattle.std.proofs.Common.{◌≡◌, ◌≢◌, ◌⊎◌, inl, inr, ℕ, suc, ◌-◌, ◌≤◌, List, [], ◌∷◌, ◌++◌, length, reverse, take, drop, refl, ap, sym, subst, ◌∙◌, arith}
+use Rattle.std.specs.Prelude.{Bool, true, false, ◌&&◌, nat_eq, nat_le, int_le, if◌then◌else◌, ℤ, pos, negsuc, ◌+ℤ◌, ◌-ℤ◌, Option, Some, None, Result, Ok, Err}
 use Rattle.std.proofs.lemmas.Str.{is_utf8-from_IsUtf8}
 use Rattle.std.proofs.lemmas.Int.{ints}
 use Rattle.std.proofs.lemmas.Bool.{le-leb, lt-leb}
@@ -12,13 +11,13 @@ use Rattle.fast_value.specs.declared.kinds.Kind.{Kind}
 use Rattle.fast_value.specs.declared.kinds.Kind.TheVariants.{UInt32, Int32, UInt64, Int64, Decimal, Ascii, Unicode, Bytes}
 use Rattle.fast_value.specs.declared.codes.Code.{Code}
 use Rattle.fast_value.specs.declared.codes.Code.TheVariants.{D2, D4, D5, D6, R1}
-use Rattle.fast_value.specs.Kinds.{Range, IsWithin, unsigned_range, signed_range, exponent_range, ScalarData, U, I, Dec, AsciiText, UnicodeText, ByteVector, Family, integers, decimals, texts, family, value_of_integer, value_of_text, integer_of, exponent_of, mantissa_of, text_of, same_kind}
+use Rattle.fast_value.specs.Kinds.{Range, IsWithin, signed_range, exponent_range, ScalarData, U, I, Dec, AsciiText, UnicodeText, ByteVector, Family, integers, decimals, texts, family, value_of_integer, value_of_text, integer_of, exponent_of, mantissa_of, text_of, same_kind}
 use Rattle.fast_template.specs.declared.operators.Operator.{Operator}
 use Rattle.fast_template.specs.declared.operators.Operator.TheVariants.{None as no_operator, Constant, Default, Copy, Increment, Delta, Tail}
-use Rattle.fast_template.specs.Tree.{FieldData, operator_uses_bit, uses_bit}
+use Rattle.fast_template.specs.Tree.{FieldData, operator_uses_bit}
 use Rattle.fast_dict.specs.Dictionary.{PreviousData, undefined, empty, assigned}
-use Rattle.fast_dict.specs.Operators.{◌>>=◌, Outcome, Sent, nothing, null, value, integer_delta, decimal_delta, text_delta, Kept, append_to, prepend_to, kept_of, kept_length, joined, with_tail, ranged, range_of, range_in, checked, checked_in, checked_text, keeps, gives, gives_none, from_initial, fixed, unsent, next_value, of_kind, delta_base, tail_base, integer_step, exponent_step, mantissa_step, subtraction_step, text_step, decide_by, decide, IsValueIn, IsDeltaIn, IsItemBy, Op}
-use Rattle.fast_dict.specs.Rule.{common_front, common_back, appending, prepending, IsTextDelta, IsTail, IsDelta, SentBy, SentFor, GoesUnsent, Rule}
+use Rattle.fast_dict.specs.Operators.{◌>>=◌, Outcome, Sent, nothing, null, value, text_delta, Kept, append_to, prepend_to, kept_of, joined, with_tail, ranged, range_of, range_in, checked, checked_in, checked_text, keeps, gives, from_initial, fixed, unsent, next_value, delta_base, tail_base, exponent_step, mantissa_step, subtraction_step, text_step, decide_by, IsValueIn, IsDeltaIn, IsItemBy, Op}
+use Rattle.fast_dict.specs.Rule.{common_front, common_back, IsTail, IsDelta, SentBy, Rule}
 use Rattle.fast_decoder.proofs.Integers.{decides-within}
 use Rattle.fast_encoder.specs.Fields.{next_by, next_of}
 use Rattle.fast_encoder.specs.Suiting.{IsRight}
@@ -153,22 +152,28 @@ text_gives : (f : FieldData) (p : PreviousData) (v base : ScalarData) (k : ℤ) 
     → decide_by Delta true f p (text_delta k part) ≡ Ok (record { value = Some v; next = assigned f.kind v })
 text_gives f p v base k part kept e g j h =
     then_ok (subtraction_step f p k) (λ q. text_step f q part) kept _ (then_ok (delta_base f p) (λ b. kept_of (text_of b) k) base kept e g)
-        (then_ok (checked_text f.kind (joined kept part)) (keeps f.kind) v _ (ap (checked_text f.kind) j ∙ h) refl)
+    (then_ok (checked_text f.kind (joined kept part)) (keeps f.kind) v _ (ap (checked_text f.kind) j ∙ h) refl)
 
 delta_gives : (k : Family) (f : FieldData) → family f.kind ≡ k → (p : PreviousData) (v base : ScalarData) (x : Sent) → delta_base f p ≡ Ok base → Fits k f.kind v → IsDelta k base v x → GivesDelta k f p v x
 delta_gives (integers range) f q p v base x e h g =
     let k = integer_of v -ℤ integer_of base in
     let r : ranged (range_of f.kind) D2 (integer_of base +ℤ k) ≡ Ok (integer_of v) = ap (ranged (range_of f.kind) D2) (sum_back (integer_of base) (integer_of v)) ∙ subst (λ (z : Family). ranged (range_in z) D2 (integer_of v) ≡ Ok (integer_of v)) (sym q) (ranged_in range D2 (integer_of v) h.0) in
-    subst (GivesDelta (integers range) f p v) (sym g) (tt, then_ok (delta_base f p) (λ b. ranged (range_of f.kind) D2 (integer_of b +ℤ k) >>= (λ y. keeps f.kind (value_of_integer f.kind y))) base _ e
-        (then_ok (ranged (range_of f.kind) D2 (integer_of base +ℤ k)) (λ y. keeps f.kind (value_of_integer f.kind y)) (integer_of v) _ r (ap (keeps f.kind) h.1)))
+    subst (GivesDelta (integers range) f p v) (sym g) (
+      tt,
+      then_ok (delta_base f p) (λ b. ranged (range_of f.kind) D2 (integer_of b +ℤ k) >>= (λ y. keeps f.kind (value_of_integer f.kind y))) base _ e
+          (then_ok (ranged (range_of f.kind) D2 (integer_of base +ℤ k)) (λ y. keeps f.kind (value_of_integer f.kind y)) (integer_of v) _ r (ap (keeps f.kind) h.1)),
+    )
 delta_gives decimals f q p v base x e h g =
     let k = exponent_of v -ℤ exponent_of base in
     let j = mantissa_of v -ℤ mantissa_of base in
     let r : ranged exponent_range R1 (exponent_of base +ℤ k) ≡ Ok (exponent_of v) = ap (ranged exponent_range R1) (sum_back (exponent_of base) (exponent_of v)) ∙ ranged_in exponent_range R1 (exponent_of v) h.0 in
     let s : ranged (signed_range 63) R1 (mantissa_of base +ℤ j) ≡ Ok (mantissa_of v) = ap (ranged (signed_range 63) R1) (sum_back (mantissa_of base) (mantissa_of v)) ∙ ranged_in (signed_range 63) R1 (mantissa_of v) h.1 in
-    subst (GivesDelta decimals f p v) (sym g) (tt, then_ok (exponent_step f p k) (λ y. mantissa_step f p y j) (exponent_of v) _ (then_ok (delta_base f p) (λ b. ranged exponent_range R1 (exponent_of b +ℤ k)) base _ e r)
-        (then_ok (delta_base f p) (λ b. ranged (signed_range 63) R1 (mantissa_of b +ℤ j) >>= (λ m. keeps f.kind (Dec (exponent_of v) m))) base _ e
-        (then_ok (ranged (signed_range 63) R1 (mantissa_of base +ℤ j)) (λ m. keeps f.kind (Dec (exponent_of v) m)) (mantissa_of v) _ s (ap (keeps f.kind) h.2))))
+    subst (GivesDelta decimals f p v) (sym g) (
+      tt,
+      then_ok (exponent_step f p k) (λ y. mantissa_step f p y j) (exponent_of v) _ (then_ok (delta_base f p) (λ b. ranged exponent_range R1 (exponent_of b +ℤ k)) base _ e r)
+          (then_ok (delta_base f p) (λ b. ranged (signed_range 63) R1 (mantissa_of b +ℤ j) >>= (λ m. keeps f.kind (Dec (exponent_of v) m))) base _ e
+          (then_ok (ranged (signed_range 63) R1 (mantissa_of base +ℤ j)) (λ m. keeps f.kind (Dec (exponent_of v) m)) (mantissa_of v) _ s (ap (keeps f.kind) h.2))),
+    )
 delta_gives texts f q p v base x e h (inl (_, g)) =
     let b = text_of base in
     let n = common_front b (text_of v) in

@@ -1,12 +1,11 @@
 -- What the rule sends can be written, and the bytes spell it.
-use Rattle.std.proofs.Common.{◌≡◌, ◌≢◌, ◌⊎◌, inl, inr, ℕ, suc, ◌+◌, ◌-◌, ◌<◌, ◌≤◌, ◌^◌, List, [], ◌∷◌, ◌++◌, length, reverse, take, drop, refl, ap, sym, subst, ◌∙◌, arith}
-use Rattle.std.specs.Prelude.{zero, Bool, true, false, All, ℤ, pos, negsuc, ◌-ℤ◌, Option, Some, None, Result, Ok, Err}
+use Rattle.std.proofs.Common.{◌≡◌, inl, inr, ℕ, suc, ◌+◌, ◌-◌, ◌<◌, ◌≤◌, List, [], ◌∷◌, length, reverse, take, drop, refl, ap, sym, subst, arith}
+use Rattle.std.specs.Prelude.{Bool, true, false, All, ℤ, pos, negsuc, ◌-ℤ◌, Option, Some, None, Ok}
 use Rattle.std.proofs.lemmas.Int.{ints}
 use Rattle.std.proofs.lemmas.Bool.{le-leb}
 use Rattle.std.proofs.lemmas.List.{length-drop, length-take, length-reverse}
 use Rattle.std.proofs.lemmas.List.Elements.{All-drop, All-take}
 use Rattle.fast_wire.specs.Integers.{SpellsInt, IsInteger, value as int_value}
-use Rattle.fast_wire.specs.Shortest.{IsShortest}
 use Rattle.fast_value.specs.declared.kinds.Kind.{Kind}
 use Rattle.fast_value.specs.declared.kinds.Kind.TheVariants.{UInt32, Int32, UInt64, Int64, Decimal, Ascii, Unicode, Bytes}
 use Rattle.fast_value.specs.declared.settings.Limits.{Limits}
@@ -15,8 +14,8 @@ use Rattle.fast_template.specs.declared.operators.Operator.{Operator}
 use Rattle.fast_template.specs.declared.operators.Operator.TheVariants.{None as no_operator, Constant, Default, Copy, Increment, Delta, Tail}
 use Rattle.fast_template.specs.Tree.{FieldData}
 use Rattle.fast_dict.specs.Dictionary.{PreviousData}
-use Rattle.fast_dict.specs.Operators.{◌>>=◌, Sent, nothing, null, value, integer_delta, decimal_delta, text_delta, Kept, append_to, prepend_to, kept_of, kept_length, delta_base, tail_base, subtraction_step}
-use Rattle.fast_dict.specs.Rule.{common_front, common_back, IsTextDelta, IsTail, IsDelta, SentBy, Rule}
+use Rattle.fast_dict.specs.Operators.{Sent, null, value, integer_delta, decimal_delta, text_delta, Kept, append_to, prepend_to, kept_of, kept_length, delta_base}
+use Rattle.fast_dict.specs.Rule.{common_front, common_back, IsTail, IsDelta, SentBy, Rule}
 use Rattle.fast_encoder.specs.Drafts.{IsSendable, IsSendableValue, IsSendablePart, SpellsItem, SpellsValue, SpellsPart}
 use Rattle.fast_encoder.specs.Encoding.{ShortestNull, ShortestNoDelta, ShortestNullOf, ShortestText, ShortestValue, SpellsSentBy}
 use Rattle.fast_encoder.specs.Fields.{IsSuited, IsNarrow}
@@ -246,7 +245,7 @@ module _ (l : Limits) (f : FieldData) where
       let kept_is : kept_of c (pos (length c - n)) ≡ Ok (append_to (take (length c - (length c - n)) c)) = rw (le-leb (length c - n) (length c) (omega arith)) refl in
       let fits : length (take (length c - (length c - n)) c) + length (drop n t) ≤ l.max_text = omega (arith, length-take (length c - (length c - n)) c, length-drop n t, i, base_fits, text_fits) in
       subst (λ (z : Sent). IsSendable f z → SpellsItem f z w → SpellsSentBy Delta l f p z w) (sym e)
-          (λ g j. text_delta_in p base (pos (length c - n)) (drop n t) (append_to (take (length c - (length c - n)) c)) w b kept_is fits g j) h s
+      (λ g j. text_delta_in p base (pos (length c - n)) (drop n t) (append_to (take (length c - (length c - n)) c)) w b kept_is fits g j) h s
   delta_in texts p v base x w b i (inr (_, e)) h s =
       let c = text_of base in
       let t = text_of v in
@@ -256,7 +255,7 @@ module _ (l : Limits) (f : FieldData) where
       let kept_is : kept_of c (negsuc (length c - n)) ≡ Ok (prepend_to (drop (length c - n) c)) = rw (le-leb (length c - n) (length c) (omega arith)) refl in
       let fits : length (drop (length c - n) c) + length (take (length t - n) t) ≤ l.max_text = omega (arith, length-drop (length c - n) c, length-take (length t - n) t, i, base_fits, text_fits) in
       subst (λ (z : Sent). IsSendable f z → SpellsItem f z w → SpellsSentBy Delta l f p z w) (sym e)
-          (λ g j. text_delta_in p base (negsuc (length c - n)) (take (length t - n) t) (prepend_to (drop (length c - n) c)) w b kept_is fits g j) h s
+      (λ g j. text_delta_in p base (negsuc (length c - n)) (take (length t - n) t) (prepend_to (drop (length c - n) c)) w b kept_is fits g j) h s
 
   abbrev Spells : Operator → PreviousData → List ℕ → Sent → Type 0
   Spells o p w z = IsSendable f z → SpellsItem f z w → SpellsSentBy o l f p z w

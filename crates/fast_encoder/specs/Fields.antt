@@ -1,10 +1,9 @@
 -- What the functions that write fields rely on, and what they do.
-use Rattle.std.specs.Prelude.{◌≡◌, ◌≢◌, ℕ, ◌++◌, ◌≤◌, ◌<◌, ◌^◌, Bool, true, List, length, Option, Some, None, IfSome, Ok, pos, neg_ℤ, ◌≤ℤ◌, ◌<ℤ◌}
+use Rattle.std.specs.Prelude.{◌≡◌, ℕ, ◌++◌, ◌≤◌, ◌<◌, ◌^◌, Bool, true, List, length, Option, Some, None, IfSome}
 use Rattle.fast_value.specs.declared.kinds.Kind.{Kind}
-use Rattle.fast_value.specs.declared.settings.Limits.{Limits}
 use Rattle.fast_value.specs.Kinds.{ScalarData, U, I, Dec, IsWithin, signed_range, text_of}
 use Rattle.fast_template.specs.declared.operators.Operator.{Operator}
-use Rattle.fast_template.specs.declared.operators.Operator.TheVariants.{None as no_operator, Constant, Default, Copy, Increment, Delta, Tail}
+use Rattle.fast_template.specs.declared.operators.Operator.TheVariants.{None as no_operator, Constant, Default, Delta}
 use Rattle.fast_template.specs.Tree.{FieldData}
 use Rattle.fast_template.specs.Usable.{IsUsable}
 use Rattle.fast_dict.specs.Dictionary.{Dictionary, PreviousData, empty, assigned}

@@ -4,3 +4,5 @@ pub mod Refusals
 pub mod Ledgers
 pub mod Drafts
 pub mod Fields
+pub mod Nodes
+pub mod Progress

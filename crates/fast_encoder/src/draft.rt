@@ -1,6 +1,6 @@
 //! A message in the making.
 
-ghost use Rattle.std.specs.Prelude.{◌≡◌, ◌≤◌, ◌∷◌, ◌++◌, ℕ, List, Bool, [], true, false, take, drop, vec_len, slice_index_or, IfSome, IfNone, OnOk, IfErr};
+ghost use Rattle.std.specs.Prelude.{◌≡◌, ◌≤◌, ◌∷◌, ◌++◌, ℕ, List, Bool, [], true, false, if◌then◌else◌, take, drop, vec_len, slice_index_or, IfSome, IfNone, OnOk, IfErr};
 ghost use Rattle.fast_wire.specs.Maps.{bits, IsMap};
 ghost use Rattle.fast_encoder.specs.declared.faults.EncodeFault.TheVariants.{E3};
 ghost use Rattle.fast_encoder.specs.Drafts.{IsTold, Closes};
@@ -61,6 +61,21 @@ impl Draft {
         ensures bytes { self.new.bytes.items ≡ self.old.bytes.items }
     {
         self.bits.push(bit)?;
+        Ok(())
+    }
+
+    /// Appends a presence bit where one is used.
+    ///
+    /// # Errors
+    ///
+    /// Memory was refused.
+    pub fn push_bit_if(&mut self, used: bool, bit: bool) -> Result<(), AllocError>
+        ensures bits { OnOk result (self.new.bits.items ≡ self.old.bits.items ++ (if used then bit ∷ [] else [])) }
+        ensures bytes { self.new.bytes.items ≡ self.old.bytes.items }
+    {
+        if used {
+            return self.push_bit(bit);
+        }
         Ok(())
     }
 

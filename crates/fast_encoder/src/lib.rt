@@ -8,5 +8,6 @@ pub mod held;
 pub mod items;
 pub mod laws;
 pub mod ledger;
+pub mod parts;
 
 pub use faults::EncodeFault;
