@@ -1,15 +1,15 @@
 -- The instructions of nodes, and what is written and refused of them.
 use Rattle.std.proofs.Common.{◌≡◌, ◌⊎◌, inl, inr, ℕ, ◌-◌, ◌<◌, ℤ, ◌≤◌, List, [], ◌∷◌, ◌++◌, length, refl, ap, sym, subst, ◌∙◌, arith}
-use Rattle.std.specs.Prelude.{Bool, true, false, Option, Some, None, Result, Ok, Err, IfErr, IfSome, slice_get, slice_index_or}
+use Rattle.std.specs.Prelude.{Bool, true, false, if◌then◌else◌, Option, Some, None, Result, Ok, Err, IfErr, IfSome, slice_get, slice_index_or}
 use Rattle.std.proofs.lemmas.List.{append_assoc}
 use Rattle.std.proofs.lemmas.Bool.{cases_lt}
 use Rattle.fast_value.specs.declared.settings.Limits.{Limits}
-use Rattle.fast_value.specs.Kinds.{ScalarData, I, Dec, text_of}
-use Rattle.fast_value.specs.Messages.{one}
+use Rattle.fast_value.specs.Kinds.{ScalarData, U, I, Dec, text_of}
+use Rattle.fast_value.specs.Messages.{ItemData, one, group as group_item, sequence as sequence_item, Slots, Elements, count}
 use Rattle.fast_template.specs.declared.instructions.Shape.{Shape}
 use Rattle.fast_template.specs.declared.instructions.Node.{Node}
 use Rattle.fast_template.specs.declared.sets.Templates.{Templates}
-use Rattle.fast_template.specs.Tree.{FieldData, Instruction, field, parts, group, sequence}
+use Rattle.fast_template.specs.Tree.{Label, FieldData, Instruction, field, parts, group, sequence, Body}
 use Rattle.fast_template.specs.Nodes.{label_of, instructions_from, no_instruction}
 use Rattle.fast_template.specs.NodeData.{shape_data}
 use Rattle.fast_template.specs.Flat.{nodes_of, tree_of}
@@ -22,12 +22,12 @@ use Rattle.fast_decoder.proofs.BodyNodes.{node_instruction}
 use Rattle.fast_encoder.specs.declared.faults.EncodeFault.{EncodeFault}
 use Rattle.fast_encoder.specs.declared.draft.Draft.{Draft}
 use Rattle.fast_encoder.specs.Drafts.{IsTold}
-use Rattle.fast_encoder.specs.Encoding.{EncodesField, EncodesDecimal, Encodes}
+use Rattle.fast_encoder.specs.Encoding.{EncodesField, EncodesDecimal, Encodes, EncodesBody, EncodesSegment, EncodesElements}
 use Rattle.fast_encoder.specs.Fields.{IsServed, Wrote}
 use Rattle.fast_encoder.specs.Ledgers.{LedgerData}
 use Rattle.fast_encoder.specs.Nodes.{instruction_in, head_in, IsReady}
-use Rattle.fast_encoder.specs.Refusals.{RefusesField, Refuses}
-use Rattle.fast_encoder.specs.Suiting.{Suits}
+use Rattle.fast_encoder.specs.Refusals.{RefusesField, RefusesDecimal, Refuses, RefusesBody, RefusesSegment, RefusesElements}
+use Rattle.fast_encoder.specs.Suiting.{Suits, IsWithinLimits}
 
 -- a node's instruction, by its shape
 pub at_shape : (nodes : List Node) (n : ℕ) (v : Node) (s : Shape) → slice_get nodes n ≡ Some v → AreBetween n (length nodes) (numbers_of v.shape) → v.shape ≡ s → instruction_in nodes n ≡ instruction_among nodes (label_of n v) s
@@ -105,3 +105,61 @@ wrote_twice e m l x y a b c d mid d' (b1, u, p, q, h) (b2, v, r, s, i) = (
   s ∙ ap (λ (z : List ℕ). z ++ v) q ∙ append_assoc a.bytes.items u v,
   (b1, b2, u, v, mid, h, i, refl, refl),
 )
+
+-- what suits an instruction, by another name of both
+pub suits_as : (i j : Instruction) (x y : Option ItemData) → i ≡ j → x ≡ y → Suits i x → Suits j y
+suits_as i j x y e f h = subst (λ (z : Option ItemData). Suits j z) f (subst (λ (z : Instruction). Suits z x) e h)
+
+-- The same of what is written, and of what is refused.
+pub encodes_as : (l : Limits) (i j : Instruction) (x y : Option ItemData) (d : Dictionary) (a b : Draft) (d' : Dictionary) → i ≡ j → x ≡ y → Wrote (Encodes l j d y) a b d' → Wrote (Encodes l i d x) a b d'
+encodes_as l i j x y d a b d' e f h = subst (λ (z : Option ItemData). Wrote (Encodes l i d z) a b d') (sym f) (subst (λ (z : Instruction). Wrote (Encodes l z d y) a b d') (sym e) h)
+
+pub refuses_as : (l : Limits) (i j : Instruction) (x y : Option ItemData) (d : Dictionary) (c : EncodeFault) → i ≡ j → x ≡ y → Refuses l j d y c → Refuses l i d x c
+refuses_as l i j x y d c e f h = subst (λ (z : Option ItemData). Refuses l i d z c) (sym f) (subst (λ (z : Instruction). Refuses l z d y c) (sym e) h)
+
+pub field_encodes : (l : Limits) (at : Label) (f : FieldData) (v : ScalarData) (d : Dictionary) (a b : Draft) (d' : Dictionary) → Wrote (EncodesField l f d (Some v)) a b d' → Wrote (Encodes l (field at f) d (Some (one v))) a b d'
+unfolding Encodes
+field_encodes l at f v d a b d' h = h
+
+pub field_refuses : (l : Limits) (at : Label) (f : FieldData) (v : ScalarData) (d : Dictionary) (c : EncodeFault) → RefusesField f d (Some v) c → Refuses l (field at f) d (Some (one v)) c
+unfolding Refuses
+field_refuses l at f v d c h = h
+
+pub decimal_encodes : (l : Limits) (at : Label) (e m : FieldData) (v : ScalarData) (d : Dictionary) (a b : Draft) (d' : Dictionary) → Wrote (EncodesDecimal l e m d (Some (one v))) a b d' → Wrote (Encodes l (parts at e m) d (Some (one v))) a b d'
+unfolding Encodes
+decimal_encodes l at e m v d a b d' h = h
+
+pub decimal_refuses : (l : Limits) (at : Label) (e m : FieldData) (v : ScalarData) (d : Dictionary) (c : EncodeFault) → RefusesDecimal l e m d (Some (one v)) c → Refuses l (parts at e m) d (Some (one v)) c
+unfolding Refuses
+decimal_refuses l at e m v d c h = h
+
+-- a group: its bit, and its segment
+pub group_encodes : (l : Limits) (at : Label) (optional : Bool) (body : Body) (vs : Slots) (d : Dictionary) (a p c : Draft) (w : List ℕ) (d' : Dictionary) → p.bits.items ≡ a.bits.items ++ (if optional then true ∷ [] else []) → p.bytes.items ≡ a.bytes.items
+    → c.bits.items ≡ p.bits.items → c.bytes.items ≡ p.bytes.items ++ w → EncodesSegment body (EncodesBody l body) d vs w d' → Wrote (Encodes l (group at optional body) d (Some (group_item vs))) a c d'
+unfolding Encodes
+group_encodes l at optional body vs d a p c w d' b u e f h = (if optional then true ∷ [] else [], w, e ∙ b, f ∙ ap (λ (z : List ℕ). z ++ w) u, (refl, h))
+
+pub group_refuses : (l : Limits) (at : Label) (optional : Bool) (body : Body) (vs : Slots) (d : Dictionary) (c : EncodeFault) → RefusesSegment body (EncodesBody l body) (RefusesBody l body) d vs c → Refuses l (group at optional body) d (Some (group_item vs)) c
+unfolding Refuses
+group_refuses l at optional body vs d c h = h
+
+-- a sequence: its length, and its elements
+pub sequence_encodes : (l : Limits) (at : Label) (f : FieldData) (body : Body) (rows : Elements) (d mid : Dictionary) (a b c : Draft) (w : List ℕ) (d' : Dictionary) → Wrote (EncodesField l f d (Some (U (count rows)))) a b mid
+    → c.bits.items ≡ b.bits.items → c.bytes.items ≡ b.bytes.items ++ w → EncodesElements (EncodesSegment body (EncodesBody l body)) mid rows w d' → Wrote (Encodes l (sequence at f body) d (Some (sequence_item rows))) a c d'
+unfolding Encodes
+sequence_encodes l at f body rows d mid a b c w d' (bits, u, p, q, h) e g k =
+    (bits, u ++ w, e ∙ p, g ∙ ap (λ (z : List ℕ). z ++ w) q ∙ append_assoc a.bytes.items u w, (u, w, mid, h, k, refl))
+
+pub length_refuses : (l : Limits) (at : Label) (f : FieldData) (body : Body) (rows : Elements) (d : Dictionary) (c : EncodeFault) → RefusesField f d (Some (U (count rows))) c → Refuses l (sequence at f body) d (Some (sequence_item rows)) c
+unfolding Refuses
+length_refuses l at f body rows d c h = inl h
+
+pub elements_refuse : (l : Limits) (at : Label) (f : FieldData) (body : Body) (rows : Elements) (d mid : Dictionary) (a b : Draft) (c : EncodeFault) → Wrote (EncodesField l f d (Some (U (count rows)))) a b mid
+    → RefusesElements (EncodesSegment body (EncodesBody l body)) (RefusesSegment body (EncodesBody l body) (RefusesBody l body)) mid rows c → Refuses l (sequence at f body) d (Some (sequence_item rows)) c
+unfolding Refuses
+elements_refuse l at f body rows d mid a b c (bits, u, p, q, h) r = inr (bits, u, mid, h, r)
+
+-- the limits of an item that is there
+abbrev pub IsWithinOption : Limits → Option ItemData → Type 0
+IsWithinOption l None = Unit {0}
+IsWithinOption l (Some x) = IsWithinLimits l x

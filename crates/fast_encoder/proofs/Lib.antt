@@ -10,3 +10,4 @@ pub mod Sendable
 pub mod FieldsWritten
 pub mod Instructions
 pub mod Progress
+pub mod Depths

@@ -9,5 +9,6 @@ pub mod items;
 pub mod laws;
 pub mod ledger;
 pub mod parts;
+pub mod writing;
 
 pub use faults::EncodeFault;
