@@ -1,0 +1,13 @@
+pub mod Spelled
+pub mod Encoded
+pub mod Ledgers
+pub mod Bits
+pub mod Spelling
+pub mod OneItem
+pub mod OneEncoding
+pub mod Ruled
+pub mod Sendable
+pub mod FieldsWritten
+pub mod Instructions
+pub mod Progress
+pub mod Depths
