@@ -1,5 +1,6 @@
 //! The most turns of a message, and how deep its segments are nested.
 
+use super::set_of;
 use fast_template::Templates;
 use fast_value::Limits;
 use std::test::Fail;
@@ -53,41 +54,50 @@ fn limits(max_elements: u32, max_total: u32) -> Limits {
     }
 }
 
-#[test]
-fn the_cap_is_that_of_the_longest_template(rt: HostRuntime) -> Result<(), Fail> {
-    let set = Templates::read(rt.alloc(), FLAT)?;
-    assert_eq!(rt; set.depth(), 0);
-    assert_eq!(rt; set.message_cap(limits(1000, 1000)), 5);
-    Ok(())
+/// A set, its depth, and the caps by the limits of a sequence and of a message.
+type Caps = (&'static str, u32, &'static [(u32, u32, u64)]);
+
+const ROWS: [Caps; 3] = [
+    // the cap is that of the longest template
+    (FLAT, 0, &[(1000, 1000, 5)]),
+    (
+        NESTED,
+        2,
+        &[
+            (0, 1000, 5),
+            (1000, 0, 5),
+            (1, 1000, 15),
+            (2, 1000, 31),
+            (1000, 3, 26),
+            (u32::MAX, u32::MAX, 30064771070),
+        ],
+    ),
+    // elements without bytes have caps
+    (
+        CONSTANTS,
+        1,
+        &[
+            (1000, 1000, 3004),
+            (1000, 0, 4),
+            (u32::MAX, u32::MAX, 12884901889),
+        ],
+    ),
+];
+
+/// Whether the cap by these limits is this.
+fn has_cap(set: &Templates, max_elements: u32, max_total: u32, cap: u64) -> bool {
+    set.message_cap(limits(max_elements, max_total)) == cap
 }
 
 #[test]
-fn caps_by_sequence_and_by_message(rt: HostRuntime) -> Result<(), Fail> {
-    let set = Templates::read(rt.alloc(), NESTED)?;
-    assert_eq!(rt; set.depth(), 2);
-    for (max_elements, max_total, cap) in [
-        (0, 1000, 5),
-        (1000, 0, 5),
-        (1, 1000, 15),
-        (2, 1000, 31),
-        (1000, 3, 26),
-        (u32::MAX, u32::MAX, 30064771070),
-    ] {
-        assert_eq!(rt; set.message_cap(limits(max_elements, max_total)), cap);
-    }
-    Ok(())
-}
-
-#[test]
-fn elements_without_bytes_have_caps(rt: HostRuntime) -> Result<(), Fail> {
-    let set = Templates::read(rt.alloc(), CONSTANTS)?;
-    assert_eq!(rt; set.depth(), 1);
-    for (max_elements, max_total, cap) in [
-        (1000, 1000, 3004),
-        (1000, 0, 4),
-        (u32::MAX, u32::MAX, 12884901889),
-    ] {
-        assert_eq!(rt; set.message_cap(limits(max_elements, max_total)), cap);
+fn depths_and_caps(rt: HostRuntime) -> Result<(), Fail> {
+    for (text, depth, caps) in ROWS {
+        let set = set_of(rt.alloc(), text)?;
+        assert!(rt; set.depth() == depth, "{text}");
+        for (max_elements, max_total, cap) in caps {
+            let is_right = has_cap(&set, *max_elements, *max_total, *cap);
+            assert!(rt; is_right, "{max_elements} {max_total} of {text}");
+        }
     }
     Ok(())
 }

@@ -1,8 +1,9 @@
 //! References: circles, chains that are too long or too deep, and too many nodes.
 
-use super::fault_of;
+use super::expect_fault;
 use fast_template::StaticCode;
 use std::alloc::{AllocError, Global};
+use std::test::Fail;
 
 /// A template for each word: its first letter is the name, the others are the names that it refers to.
 fn references(alloc: Global, words: &[&str]) -> Result<String, AllocError> {
@@ -53,84 +54,84 @@ const GROUPS: (&str, &str) = ("{kind='group', name='g', fields=[", "]}");
 
 const SEQUENCES: (&str, &str) = ("{kind='sequence', name='s', fields=[", "]}");
 
-#[test]
-fn cycles_of_references(rt: HostRuntime) {
-    let cases: [(&[&str], Option<u32>); 9] = [
-        (&["AA"], Some(0)),
-        (&["A", "BA", "CBC"], Some(2)),
-        (&["AB", "BA"], Some(0)),
-        (&["AB", "BB"], Some(1)),
-        (&["AC", "BC", "CB"], Some(1)),
-        (&["AD", "B", "CAB", "DE", "EBD"], Some(3)),
-        (&["ADC", "BD", "CB", "DC"], Some(1)),
-        (&["AE", "BEA", "CB", "DC", "ECD"], Some(0)),
-        (&["ABBC", "BC", "C"], None),
-    ];
-    for (words, template) in cases {
-        let text = references(rt.alloc(), words).expect(&rt, "memory");
-        let want = template.map(|k| (StaticCode::C3, Some(k)));
-        assert_eq!(rt; fault_of(rt.alloc(), text.as_str()), want, "{text}");
-    }
-}
+/// Words, and the first template of a circle.
+const CYCLES: [(&[&str], Option<u32>); 9] = [
+    (&["AA"], Some(0)),
+    (&["A", "BA", "CBC"], Some(2)),
+    (&["AB", "BA"], Some(0)),
+    (&["AB", "BB"], Some(1)),
+    (&["AC", "BC", "CB"], Some(1)),
+    (&["AD", "B", "CAB", "DE", "EBD"], Some(3)),
+    (&["ADC", "BD", "CB", "DC"], Some(1)),
+    (&["AE", "BEA", "CB", "DC", "ECD"], Some(0)),
+    (&["ABBC", "BC", "C"], None),
+];
 
 #[test]
-fn references_in_groups_and_sequences(rt: HostRuntime) {
+fn cycles_of_references(rt: HostRuntime) -> Result<(), Fail> {
+    for (words, template) in CYCLES {
+        let text = references(rt.alloc(), words)?;
+        let want = match template {
+            Some(_) => Some((StaticCode::C3, template)),
+            None => None,
+        };
+        expect_fault(&rt, rt.alloc(), text.as_str(), want, text.as_str());
+    }
     for (open, close) in [GROUPS, SEQUENCES] {
         let text = format!(in rt.alloc();
             "[[template]]\nname='A'\nfields=[{open}{open}{{kind='ref', name='A'}}{close}{close}]"
-        ).expect(&rt, "memory");
+        )?;
         let want = Some((StaticCode::C3, Some(0)));
-        assert_eq!(rt; fault_of(rt.alloc(), text.as_str()), want);
+        expect_fault(&rt, rt.alloc(), text.as_str(), want, text.as_str());
     }
+    Ok(())
 }
 
 #[test]
-fn the_longest_chain(rt: HostRuntime) {
+fn the_longest_and_the_deepest_chain(rt: HostRuntime) -> Result<(), Fail> {
     for (count, want) in [(65, None), (66, Some((StaticCode::C4, Some(65))))] {
-        let text = chain(rt.alloc(), "B", count, 1, PLAIN).expect(&rt, "memory");
-        assert_eq!(rt; fault_of(rt.alloc(), text.as_str()), want);
+        let text = chain(rt.alloc(), "B", count, 1, PLAIN)?;
+        expect_fault(&rt, rt.alloc(), text.as_str(), want, "plain references");
     }
-}
-
-#[test]
-fn the_deepest_nesting(rt: HostRuntime) {
     for brackets in [GROUPS, SEQUENCES] {
         for (count, want) in [(64, None), (65, Some((StaticCode::C4, Some(65))))] {
-            let mut text = references(rt.alloc(), &["A"]).expect(&rt, "memory");
-            let chain = chain(rt.alloc(), "G", count, 1, brackets).expect(&rt, "memory");
-            text.push_str(chain.as_str()).expect(&rt, "memory");
-            assert_eq!(rt; fault_of(rt.alloc(), text.as_str()), want);
+            let mut text = references(rt.alloc(), &["A"])?;
+            let nested = chain(rt.alloc(), "G", count, 1, brackets)?;
+            text.push_str(nested.as_str())?;
+            expect_fault(&rt, rt.alloc(), text.as_str(), want, brackets.0);
         }
     }
+    Ok(())
 }
 
 #[test]
-fn the_most_nodes(rt: HostRuntime) {
-    let doubled = chain(rt.alloc(), "A", 41, 2, PLAIN).expect(&rt, "memory");
+fn the_most_nodes(rt: HostRuntime) -> Result<(), Fail> {
+    let doubled = chain(rt.alloc(), "A", 41, 2, PLAIN)?;
     let want = Some((StaticCode::C6, Some(16)));
-    assert_eq!(rt; fault_of(rt.alloc(), doubled.as_str()), want);
+    expect_fault(&rt, rt.alloc(), doubled.as_str(), want, "doubled 40 times");
     // 65,535 nodes, and two more.
-    let mut text = chain(rt.alloc(), "A", 16, 2, PLAIN).expect(&rt, "memory");
+    let mut text = chain(rt.alloc(), "A", 16, 2, PLAIN)?;
     for (name, want) in [("Y", None), ("Z", Some((StaticCode::C6, Some(17))))] {
-        let one = references(rt.alloc(), &[name]).expect(&rt, "memory");
-        text.push_str(one.as_str()).expect(&rt, "memory");
-        assert_eq!(rt; fault_of(rt.alloc(), text.as_str()), want);
+        let one = references(rt.alloc(), &[name])?;
+        text.push_str(one.as_str())?;
+        expect_fault(&rt, rt.alloc(), text.as_str(), want, name);
     }
+    Ok(())
 }
 
 #[test]
-fn cycles_before_chains_before_nodes(rt: HostRuntime) {
-    let cycle = references(rt.alloc(), &["CC"]).expect(&rt, "memory");
-    let long = chain(rt.alloc(), "B", 66, 1, PLAIN).expect(&rt, "memory");
-    let many = chain(rt.alloc(), "A", 17, 2, PLAIN).expect(&rt, "memory");
-    let cases = [
-        (&long, &cycle, (StaticCode::C3, Some(66))),
-        (&many, &cycle, (StaticCode::C3, Some(17))),
-        (&many, &long, (StaticCode::C4, Some(82))),
-        (&long, &many, (StaticCode::C4, Some(65))),
-    ];
-    for (first, second, want) in cases {
-        let text = format!(in rt.alloc(); "{first}{second}").expect(&rt, "memory");
-        assert_eq!(rt; fault_of(rt.alloc(), text.as_str()), Some(want));
+fn cycles_before_chains_before_nodes(rt: HostRuntime) -> Result<(), Fail> {
+    let cycle = references(rt.alloc(), &["CC"])?;
+    let long = chain(rt.alloc(), "B", 66, 1, PLAIN)?;
+    let many = chain(rt.alloc(), "A", 17, 2, PLAIN)?;
+    for (what, first, second, want) in [
+        ("long, cycle", &long, &cycle, (StaticCode::C3, Some(66))),
+        ("many, cycle", &many, &cycle, (StaticCode::C3, Some(17))),
+        ("many, long", &many, &long, (StaticCode::C4, Some(82))),
+        ("long, many", &long, &many, (StaticCode::C4, Some(65))),
+    ] {
+        let text = format!(in rt.alloc(); "{first}{second}")?;
+        expect_fault(&rt, rt.alloc(), text.as_str(), Some(want), what);
     }
+    Ok(())
 }

@@ -1,6 +1,7 @@
 //! The opcodes of nodes.
 
-use fast_template::{Opcode, Sending, Templates};
+use super::set_of;
+use fast_template::{Opcode, Sending};
 use std::test::Fail;
 
 /// A field of each operator, mandatory and optional, and then what has no opcode of its own.
@@ -28,32 +29,32 @@ const ALL: &str = r#"
         ]
     "#;
 
+const OPCODES: [Opcode; 16] = [
+    Opcode::UInt32(Sending::Plain),
+    Opcode::Int32(Sending::NullablePlain),
+    Opcode::UInt64(Sending::Default),
+    Opcode::Int64(Sending::NullableDefault),
+    Opcode::UInt32(Sending::Copy),
+    Opcode::Int32(Sending::NullableCopy),
+    Opcode::UInt64(Sending::Increment),
+    Opcode::Int64(Sending::NullableIncrement),
+    Opcode::UInt32(Sending::Delta),
+    Opcode::Int64(Sending::NullableDelta),
+    Opcode::Other,
+    Opcode::Other,
+    Opcode::Other,
+    Opcode::Other,
+    Opcode::Other,
+    Opcode::Other,
+];
+
 #[test]
 fn fields_of_integers_have_opcodes(rt: HostRuntime) -> Result<(), Fail> {
-    let set = Templates::read(rt.alloc(), ALL)?;
-    let want = [
-        Opcode::UInt32(Sending::Plain),
-        Opcode::Int32(Sending::NullablePlain),
-        Opcode::UInt64(Sending::Default),
-        Opcode::Int64(Sending::NullableDefault),
-        Opcode::UInt32(Sending::Copy),
-        Opcode::Int32(Sending::NullableCopy),
-        Opcode::UInt64(Sending::Increment),
-        Opcode::Int64(Sending::NullableIncrement),
-        Opcode::UInt32(Sending::Delta),
-        Opcode::Int64(Sending::NullableDelta),
-        Opcode::Other,
-        Opcode::Other,
-        Opcode::Other,
-        Opcode::Other,
-        Opcode::Other,
-        Opcode::Other,
-    ];
-    assert_eq!(rt; set.nodes(), 16);
+    let set = set_of(rt.alloc(), ALL)?;
     let mut found = Vec::new(rt.alloc());
     for n in 0..set.nodes() {
         found.push(set.opcode(n))?;
     }
-    assert_eq!(rt; found.as_slice(), want.as_slice());
+    assert!(rt; found.as_slice() == OPCODES.as_slice(), "{found:?}");
     Ok(())
 }

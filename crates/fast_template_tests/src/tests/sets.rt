@@ -1,6 +1,6 @@
 //! Sets that are read: their numbers, entries and limits.
 
-use super::fault_of;
+use super::{Faults, expect_faults, finds, set_of};
 use fast_template::{FieldInstruction, Operator, Shape, StaticCode, Templates};
 use fast_value::Value;
 use std::alloc::{AllocError, Global};
@@ -128,137 +128,138 @@ fn spell_numbers(alloc: Global, text: &mut String, body: &[u32]) -> Result<(), A
     text.push_str(" }")
 }
 
-/// What a text stands for, spelled.
-fn read_and_spelled(alloc: Global, text: &str) -> Option<String> {
-    match Templates::read(alloc, text) {
-        Ok(set) => spelled(alloc, &set).ok(),
-        Err(_) => None,
+/// Whether the template has these nodes, and resets or not.
+fn is_template(set: &Templates, i: u32, body: &[u32], reset: bool) -> bool {
+    if i < set.count() {
+        let template = set.template(i);
+        template.body.as_slice() == body && template.reset == reset
+    } else {
+        false
     }
 }
 
+/// Whether the node is a constant 7.
+fn is_seven(set: &Templates, n: u32) -> bool {
+    n < set.nodes()
+        && matches!(
+            &set.node(n).shape,
+            Shape::Field(FieldInstruction {
+                operator: Operator::Constant,
+                initial: Some(Value::U(7)),
+                ..
+            })
+        )
+}
+
+const WORKED_SPELLED: &str =
+    "x -; s - { 2 }; c -; t 1; d 2; n 3; x ?4; p ?5 6; y 7; u -; z 8; w 4; i -; o ?-; q ?-; x -; g ?{ 17 }; b -; legs ?- { 19 20 }; sym 9; px 10; v ?11; e 12; a -; b ?-; r ?-; ";
+
 #[test]
 fn the_worked_set_has_its_numbers(rt: HostRuntime) -> Result<(), Fail> {
-    let set = Templates::read(rt.alloc(), WORKED)?;
-    assert_eq!(rt; set.count(), 19);
-    assert_eq!(rt; set.nodes(), 26);
-    assert_eq!(rt; set.entries(), 13);
-    assert_eq!(rt; set.by_id(15), Some(14));
-    assert_eq!(rt; set.by_id(0), None);
-    assert_eq!(rt; set.by_name("T19"), Some(18));
-    assert_eq!(rt; set.by_name("T"), None);
+    let set = set_of(rt.alloc(), WORKED)?;
+    let ids = [(15, Some(14)), (0, None)];
+    let names = [("T19", Some(18)), ("T", None)];
+    let has_numbers = finds(&set, 19, &ids, &names) && set.nodes() == 26 && set.entries() == 13;
+    assert!(rt; has_numbers);
     let text = spelled(rt.alloc(), &set)?;
-    assert_eq!(rt;
-        text.as_str(),
-        "x -; s - { 2 }; c -; t 1; d 2; n 3; x ?4; p ?5 6; y 7; u -; z 8; w 4; i -; o ?-; q ?-; x -; g ?{ 17 }; b -; legs ?- { 19 20 }; sym 9; px 10; v ?11; e 12; a -; b ?-; r ?-; "
-    );
-    if 14 < set.count() {
-        assert_eq!(rt; set.template(14).body.as_slice(), [15, 16, 18].as_slice());
-    }
-    if 2 < set.nodes() {
-        assert!(rt;
-            matches!(
-                &set.node(2).shape,
-                Shape::Field(FieldInstruction {
-                    operator: Operator::Constant,
-                    initial: Some(Value::U(7)),
-                    ..
-                })
-            )
-        );
-    }
-    if 8 < set.count() {
-        assert!(rt; set.template(8).reset);
-        assert!(rt; set.template(8).body.is_empty());
+    assert!(rt; text.as_str() == WORKED_SPELLED, "{text}");
+    let has_parts = is_template(&set, 14, &[15, 16, 18], false)
+        && is_template(&set, 8, &[], true)
+        && is_seven(&set, 2);
+    assert!(rt; has_parts);
+    Ok(())
+}
+
+/// The rest of a template, and what it is, spelled.
+const ENTRIES: [(&str, &str); 5] = [
+    // an exponent before a mantissa, a length before its element, and none for a constant or a default
+    (
+        "fields = [{kind='sequence', name='s', length={op='delta'}, fields=[{kind='decimal', name='p', mantissa={op='delta'}, exponent={op='copy'}}]}, {kind='uInt32', name='c', op='default', value='1'}]",
+        "s 1 { 1 }; p 2 3; c -; ",
+    ),
+    // a length with a name of its own is a field of that name; one without is no field
+    (
+        "fields = [{kind='sequence', name='s', length={name='n', op='copy'}}, {kind='uInt32', name='n', op='copy'}, {kind='uInt32', name='s', op='copy'}, {kind='sequence', name='s', length={op='copy'}}]",
+        "s 1 { }; n 1; s 2; s 3 { }; ",
+    ),
+    // a key of its own stands for a plain entry, whatever it is on
+    (
+        "fields = [{kind='decimal', name='p', exponent={op='copy', key='k'}, mantissa={op='copy', key='p'}}, {kind='decimal', name='p', op='copy'}, {kind='ascii', name='k', op='tail'}]",
+        "p 1 2; p 2; k 1; ",
+    ),
+    // dictionaries: the template's default, the template's own, one with a name, the global one
+    (
+        "dictionary = 'd'\nfields = [{kind='uInt32', name='x', op='copy'}, {kind='uInt32', name='x', op='copy', dictionary='template'}, {kind='uInt32', name='x', op='copy', dictionary='global'}, {kind='uInt32', name='x', op='copy', dictionary='d'}]\n[[template]]\nname = 'B'\nfields = [{kind='uInt32', name='x', op='copy', dictionary='template'}, {kind='uInt32', name='x', op='copy'}, {kind='uInt32', name='x', op='copy', dictionary='d'}]",
+        "x 1; x 2; x 3; x 1; x 4; x 3; x 1; ",
+    ),
+    // the operators of a reference stand in the text to which it leads, and are numbered there
+    (
+        "dictionary = 'template'\nfields = [{kind='ref', name='B'}, {kind='uInt32', name='x', op='copy'}, {kind='group', name='g', fields=[{kind='ref', name='B'}, {kind='ref', name='B'}]}]\n[[template]]\nname = 'B'\nfields = [{kind='uInt32', name='y', op='copy', dictionary='template'}, {kind='uInt32', name='x', op='copy'}]",
+        "y 2; x 3; x 1; g { 4 5 6 7 }; y 2; x 3; y 2; x 3; y 2; x 3; ",
+    ),
+];
+
+#[test]
+fn entries_are_those_of_the_text(rt: HostRuntime) -> Result<(), Fail> {
+    for (rest, want) in ENTRIES {
+        let text = format!(in rt.alloc(); "[[template]]\nname = 'A'\n{rest}")?;
+        let set = set_of(rt.alloc(), text.as_str())?;
+        let spelled = spelled(rt.alloc(), &set)?;
+        assert!(rt; spelled.as_str() == want, "{spelled} of {rest}");
     }
     Ok(())
 }
 
-#[test]
-fn entries_are_those_of_the_text(rt: HostRuntime) {
-    let cases = [
-        // an exponent before a mantissa, a length before its element, and none for a constant or a default
-        (
-            "fields = [{kind='sequence', name='s', length={op='delta'}, fields=[{kind='decimal', name='p', mantissa={op='delta'}, exponent={op='copy'}}]}, {kind='uInt32', name='c', op='default', value='1'}]",
-            "s 1 { 1 }; p 2 3; c -; ",
-        ),
-        // a length with a name of its own is a field of that name; one without is no field
-        (
-            "fields = [{kind='sequence', name='s', length={name='n', op='copy'}}, {kind='uInt32', name='n', op='copy'}, {kind='uInt32', name='s', op='copy'}, {kind='sequence', name='s', length={op='copy'}}]",
-            "s 1 { }; n 1; s 2; s 3 { }; ",
-        ),
-        // a key of its own stands for a plain entry, whatever it is on
-        (
-            "fields = [{kind='decimal', name='p', exponent={op='copy', key='k'}, mantissa={op='copy', key='p'}}, {kind='decimal', name='p', op='copy'}, {kind='ascii', name='k', op='tail'}]",
-            "p 1 2; p 2; k 1; ",
-        ),
-        // dictionaries: the template's default, the template's own, one with a name, the global one
-        (
-            "dictionary = 'd'\nfields = [{kind='uInt32', name='x', op='copy'}, {kind='uInt32', name='x', op='copy', dictionary='template'}, {kind='uInt32', name='x', op='copy', dictionary='global'}, {kind='uInt32', name='x', op='copy', dictionary='d'}]\n[[template]]\nname = 'B'\nfields = [{kind='uInt32', name='x', op='copy', dictionary='template'}, {kind='uInt32', name='x', op='copy'}, {kind='uInt32', name='x', op='copy', dictionary='d'}]",
-            "x 1; x 2; x 3; x 1; x 4; x 3; x 1; ",
-        ),
-        // the operators of a reference stand in the text to which it leads, and are numbered there
-        (
-            "dictionary = 'template'\nfields = [{kind='ref', name='B'}, {kind='uInt32', name='x', op='copy'}, {kind='group', name='g', fields=[{kind='ref', name='B'}, {kind='ref', name='B'}]}]\n[[template]]\nname = 'B'\nfields = [{kind='uInt32', name='y', op='copy', dictionary='template'}, {kind='uInt32', name='x', op='copy'}]",
-            "y 2; x 3; x 1; g { 4 5 6 7 }; y 2; x 3; y 2; x 3; y 2; x 3; ",
-        ),
-    ];
-    for (rest, want) in cases {
-        let text = format!(in rt.alloc(); "[[template]]\nname = 'A'\n{rest}").expect(&rt, "memory");
-        let spelled = read_and_spelled(rt.alloc(), text.as_str()).expect(&rt, "a set");
-        assert_eq!(rt; spelled.as_str(), want, "{rest}");
-    }
-}
-
-/// A template with so many mandatory fields that copy, and then this.
-fn copying(alloc: Global, count: usize, rest: &str) -> Result<String, AllocError> {
+/// A template with so many mandatory fields that copy.
+fn copying(alloc: Global, count: usize) -> Result<String, AllocError> {
     let mut text = String::from_str(alloc, "[[template]]\nname = 'A'\nfields = [")?;
     for n in 0..count {
         text.push_str(format!(in alloc; "{{kind='uInt32', name='f{n}', op='copy'}},")?.as_str())?;
     }
     text.push_str("]\n")?;
-    text.push_str(rest)?;
     Ok(text)
 }
 
-#[test]
-fn a_message_has_1022_bits(rt: HostRuntime) -> Result<(), Fail> {
-    let text = copying(rt.alloc(), 1021, "")?;
-    assert_eq!(rt; fault_of(rt.alloc(), text.as_str()), None);
-    let text = copying(rt.alloc(), 1022, "")?;
-    assert_eq!(rt;
-        fault_of(rt.alloc(), text.as_str()),
-        Some((StaticCode::C5, Some(0)))
-    );
-    let group =
-        "[[template]]\nname = 'B'\nfields = [{kind='group', name='g', fields=[{kind='ref', name='A'}]}]\n";
-    let text = copying(rt.alloc(), 1021, group)?;
-    assert_eq!(rt; fault_of(rt.alloc(), text.as_str()), None);
-    Ok(())
-}
+/// Behind as many bits as there may be.
+const ENOUGH_BITS: Faults = &[(
+    None,
+    &[
+        "",
+        "[[template]]\nname = 'B'\nfields = [{kind='group', name='g', fields=[{kind='ref', name='A'}]}]\n",
+    ],
+)];
+
+/// Behind one bit too many: earlier passes come first.
+const TOO_MANY_BITS: Faults = &[
+    (Some((StaticCode::C5, Some(0))), &[""]),
+    // a reference to itself, and one to nothing
+    (
+        Some((StaticCode::D8, Some(1))),
+        &["[[template]]\nname = 'B'\nfields = [{kind='ref', name='B'}, {kind='ref', name='X'}]"],
+    ),
+    // a reference to itself
+    (
+        Some((StaticCode::C3, Some(1))),
+        &["[[template]]\nname = 'B'\nfields = [{kind='ref', name='B'}]"],
+    ),
+    (
+        Some((StaticCode::C1, Some(1))),
+        &["[[template]]\nname = 'A'"],
+    ),
+    // 65 times as many nodes
+    (
+        Some((StaticCode::C6, Some(1))),
+        &[
+            "[[template]]\nname = 'B'\nfields = [{kind='ref', name='C'}, {kind='ref', name='C'}, {kind='ref', name='C'}, {kind='ref', name='C'}]\n[[template]]\nname = 'C'\nfields = [{kind='ref', name='D'}, {kind='ref', name='D'}, {kind='ref', name='D'}, {kind='ref', name='D'}]\n[[template]]\nname = 'D'\nfields = [{kind='ref', name='A'}, {kind='ref', name='A'}, {kind='ref', name='A'}, {kind='ref', name='A'}]",
+        ],
+    ),
+];
 
 #[test]
-fn earlier_passes_come_first(rt: HostRuntime) -> Result<(), Fail> {
-    let cases = [
-        // a reference to itself, and one to nothing
-        (
-            "[[template]]\nname = 'B'\nfields = [{kind='ref', name='B'}, {kind='ref', name='X'}]",
-            (StaticCode::D8, Some(1)),
-        ),
-        // too many bits, and a reference to itself
-        (
-            "[[template]]\nname = 'B'\nfields = [{kind='ref', name='B'}]",
-            (StaticCode::C3, Some(1)),
-        ),
-        ("[[template]]\nname = 'A'", (StaticCode::C1, Some(1))),
-        // too many bits, and 65 times as many nodes
-        (
-            "[[template]]\nname = 'B'\nfields = [{kind='ref', name='C'}, {kind='ref', name='C'}, {kind='ref', name='C'}, {kind='ref', name='C'}]\n[[template]]\nname = 'C'\nfields = [{kind='ref', name='D'}, {kind='ref', name='D'}, {kind='ref', name='D'}, {kind='ref', name='D'}]\n[[template]]\nname = 'D'\nfields = [{kind='ref', name='A'}, {kind='ref', name='A'}, {kind='ref', name='A'}, {kind='ref', name='A'}]",
-            (StaticCode::C6, Some(1)),
-        ),
-    ];
-    for (rest, want) in cases {
-        let text = copying(rt.alloc(), 1022, rest)?;
-        assert_eq!(rt; fault_of(rt.alloc(), text.as_str()), Some(want), "{rest}");
+fn a_message_has_1022_bits(rt: HostRuntime) -> Result<(), Fail> {
+    for (count, faults) in [(1021, ENOUGH_BITS), (1022, TOO_MANY_BITS)] {
+        let text = copying(rt.alloc(), count)?;
+        expect_faults(&rt, rt.alloc(), (text.as_str(), ""), faults)?;
     }
     Ok(())
 }
@@ -270,9 +271,9 @@ fn entries_of_texts_hold_texts(rt: HostRuntime) -> Result<(), Fail> {
 name = "A"
 fields = [{kind="uInt32", name="x", op="copy"}, {kind="ascii", name="y", op="copy"}]
 "#;
-    let set = Templates::read(rt.alloc(), text)?;
+    let set = set_of(rt.alloc(), text)?;
     for (entry, is_text) in [(0, false), (1, false), (2, true), (3, false)] {
-        assert_eq!(rt; set.holds_text(entry), is_text);
+        assert!(rt; set.holds_text(entry) == is_text, "entry {entry}");
     }
     Ok(())
 }

@@ -1,31 +1,31 @@
 //! The forms of a template set as a text, and the faults of each pass.
 
-use super::fault_of;
-use fast_template::{StaticCode, Templates};
+use super::{Faults, expect_faults, finds, set_of};
+use StaticCode::{C1, C2, D8, S1, S2, S3, S4, S5};
+use fast_template::StaticCode;
+use std::test::Fail;
 
-#[test]
-fn all_forms_are_read(rt: HostRuntime) {
-    let text =
-        "[[template]]\nname = 'A'\nid = 4294967295\nreset = true\ndictionary = 'd'\nfields = [
+const ALL_FORMS: &str =
+    "[[template]]\nname = 'A'\nid = 4294967295\nreset = true\ndictionary = 'd'\nfields = [
         {kind='ref', name='B'}, {kind='uInt32', name='x', optional=true, op='increment', value='0', key='k', dictionary='template'},
         {kind='decimal', name='p', exponent={op='copy', value='-63'}, mantissa={}},
         {kind='group', name='g', fields=[{kind='bytes', name='b', op='tail', value='0aF0'}]},
         {kind='sequence', name='s', length={name='n', op='delta'}, fields=[]}, {kind='sequence', name='t'}]
         [[template]]\nname = 'B'\n";
-    match Templates::read(rt.alloc(), text) {
-        Ok(set) => {
-            assert_eq!(rt; set.count(), 2);
-            assert_eq!(rt; set.by_name("B"), Some(1));
-            assert_eq!(rt; set.by_id(4294967295), Some(0));
-            assert_eq!(rt; set.by_id(0), None);
-        }
-        Err(_) => assert!(rt; false),
-    }
-}
 
 #[test]
-fn texts_that_write_no_set(rt: HostRuntime) {
-    let nowhere = [
+fn all_forms_are_read(rt: HostRuntime) -> Result<(), Fail> {
+    let set = set_of(rt.alloc(), ALL_FORMS)?;
+    let ids = [(4294967295, Some(0)), (0, None)];
+    let are_found = finds(&set, 2, &ids, &[("B", Some(1))]);
+    assert!(rt; are_found);
+    Ok(())
+}
+
+/// Texts that write no set.
+const WHOLE: Faults = &[(
+    Some((S1, None)),
+    &[
         "",
         "template = []",
         "template = 1",
@@ -33,15 +33,13 @@ fn texts_that_write_no_set(rt: HostRuntime) {
         "[[template]]\nname='A'\n[other]",
         "= ",
         "[[template]]\nname='A'\nid=9223372036854775808",
-    ];
-    for text in nowhere {
-        assert_eq!(rt;
-            fault_of(rt.alloc(), text),
-            Some((StaticCode::S1, None)),
-            "{text}"
-        );
-    }
-    let fields = [
+    ],
+)];
+
+/// Fields of the second template that write none.
+const SECOND_FIELDS: Faults = &[(
+    Some((S1, Some(1))),
+    &[
         "{kind='uInt32'}",
         "{name='x'}",
         "{kind='uint32', name='x'}",
@@ -58,119 +56,108 @@ fn texts_that_write_no_set(rt: HostRuntime) {
         "{kind='sequence', name='x', length={kind='uInt32'}}",
         "{kind='ref', name='x', optional=true}",
         "1",
-    ];
-    for field in fields {
-        let text = format!(in rt.alloc();
-            "[[template]]\nname='A'\n[[template]]\nname='B'\nfields=[{field}]"
-        ).expect(&rt, "memory");
-        assert_eq!(rt;
-            fault_of(rt.alloc(), text.as_str()),
-            Some((StaticCode::S1, Some(1))),
-            "{field}"
-        );
-    }
-    for key in [
+    ],
+)];
+
+/// Keys of a template that write none.
+const KEYS: Faults = &[(
+    Some((S1, Some(0))),
+    &[
         "id = -1",
         "id = 4294967296",
         "id = '1'",
         "dictionary = 'type'",
         "kind = 'x'",
         "reset = 1",
-    ] {
-        let text = format!(in rt.alloc(); "[[template]]\nname='A'\n{key}").expect(&rt, "memory");
-        assert_eq!(rt;
-            fault_of(rt.alloc(), text.as_str()),
-            Some((StaticCode::S1, Some(0))),
-            "{key}"
-        );
-    }
-}
+    ],
+)];
 
-#[test]
-fn operators_and_initial_values(rt: HostRuntime) {
-    let cases = [
-        ("{kind='ascii', name='x', op='increment'}", StaticCode::S2),
-        ("{kind='decimal', name='x', op='increment'}", StaticCode::S2),
-        ("{kind='uInt32', name='x', op='tail'}", StaticCode::S2),
-        (
+/// Fields of the first template: operators and initial values.
+const FIELDS: Faults = &[
+    (
+        Some((S2, Some(0))),
+        &[
+            "{kind='ascii', name='x', op='increment'}",
+            "{kind='decimal', name='x', op='increment'}",
+            "{kind='uInt32', name='x', op='tail'}",
             "{kind='decimal', name='x', exponent={op='tail', value='a'}}",
-            StaticCode::S2,
-        ),
-        (
+        ],
+    ),
+    (
+        Some((S3, Some(0))),
+        &[
             "{kind='uInt32', name='x', op='copy', value='4294967296'}",
-            StaticCode::S3,
-        ),
-        (
             "{kind='decimal', name='x', op='copy', value='1.5'}",
-            StaticCode::S3,
-        ),
-        (
             "{kind='decimal', name='x', exponent={op='copy', value='64'}}",
-            StaticCode::S3,
-        ),
-        (
             "{kind='bytes', name='x', op='copy', value='abc'}",
-            StaticCode::S3,
-        ),
-        ("{kind='uInt32', name='x', op='constant'}", StaticCode::S4),
-        (
+        ],
+    ),
+    (
+        Some((S4, Some(0))),
+        &[
+            "{kind='uInt32', name='x', op='constant'}",
             "{kind='sequence', name='x', length={op='constant'}}",
-            StaticCode::S4,
-        ),
-        (
             "{kind='group', name='g', fields=[{kind='uInt32', name='x', op='constant'}]}",
-            StaticCode::S4,
-        ),
-        ("{kind='uInt32', name='x', op='default'}", StaticCode::S5),
-        (
+        ],
+    ),
+    (
+        Some((S5, Some(0))),
+        &[
+            "{kind='uInt32', name='x', op='default'}",
             "{kind='decimal', name='x', optional=true, mantissa={op='default'}}",
-            StaticCode::S5,
-        ),
-        (
             "{kind='sequence', name='x', length={op='default'}}",
-            StaticCode::S5,
-        ),
-        ("{kind='ref', name='B'}", StaticCode::D8),
-        (
+        ],
+    ),
+    (
+        Some((D8, Some(0))),
+        &[
+            "{kind='ref', name='B'}",
             "{kind='group', name='g', fields=[{kind='ref', name='a'}]}",
-            StaticCode::D8,
-        ),
-        (
             "{kind='sequence', name='g', fields=[{kind='ref', name='AA'}]}",
-            StaticCode::D8,
-        ),
-    ];
-    for (field, code) in cases {
-        let text = format!(in rt.alloc(); "[[template]]\nname='A'\nfields=[{field}]").expect(
-            &rt, "memory",
-        );
-        assert_eq!(rt;
-            fault_of(rt.alloc(), text.as_str()),
-            Some((code, Some(0))),
-            "{field}"
-        );
-    }
-    let optional =
-        "[[template]]\nname='A'\nfields=[{kind='uInt32', name='x', op='default', optional=true}]";
-    assert_eq!(rt; fault_of(rt.alloc(), optional), None);
-}
+        ],
+    ),
+    (
+        None,
+        &["{kind='uInt32', name='x', op='default', optional=true}"],
+    ),
+];
+
+/// Behind a template with faults of three passes: earlier passes come first.
+const REST: Faults = &[
+    (Some((C1, Some(1))), &["[[template]]\nname='A'\nid=1"]),
+    (Some((C2, Some(1))), &["[[template]]\nname='B'\nid=1"]),
+    (Some((S4, Some(0))), &["[[template]]\nname='B'"]),
+    (
+        Some((S1, Some(1))),
+        &[
+            "[[template]]\nname='B'\nid='1'",
+            "[[template]]\nname='B'\nfields=1\n[[template]]\nname='A'",
+        ],
+    ),
+];
 
 #[test]
-fn earlier_passes_come_first(rt: HostRuntime) {
-    let second =
-        "[[template]]\nname='A'\nid=1\nfields=[{kind='ref', name='X'}, {kind='uInt32', name='x', op='constant'}]\n";
-    let cases = [
-        ("[[template]]\nname='A'\nid=1", (StaticCode::C1, Some(1))),
-        ("[[template]]\nname='B'\nid=1", (StaticCode::C2, Some(1))),
-        ("[[template]]\nname='B'", (StaticCode::S4, Some(0))),
-        ("[[template]]\nname='B'\nid='1'", (StaticCode::S1, Some(1))),
+fn texts_have_the_faults_of_the_passes(rt: HostRuntime) -> Result<(), Fail> {
+    for (around, faults) in [
+        (("", ""), WHOLE),
         (
-            "[[template]]\nname='B'\nfields=1\n[[template]]\nname='A'",
-            (StaticCode::S1, Some(1)),
+            (
+                "[[template]]\nname='A'\n[[template]]\nname='B'\nfields=[",
+                "]",
+            ),
+            SECOND_FIELDS,
         ),
-    ];
-    for (rest, want) in cases {
-        let text = format!(in rt.alloc(); "{second}{rest}").expect(&rt, "memory");
-        assert_eq!(rt; fault_of(rt.alloc(), text.as_str()), Some(want), "{rest}");
+        (("[[template]]\nname='A'\n", ""), KEYS),
+        (("[[template]]\nname='A'\nfields=[", "]"), FIELDS),
+        (
+            (
+                "[[template]]\nname='A'\nid=1\nfields=[{kind='ref', name='X'}, {kind='uInt32', name='x', op='constant'}]\n",
+                "",
+            ),
+            REST,
+        ),
+    ] {
+        expect_faults(&rt, rt.alloc(), around, faults)?;
     }
+    Ok(())
 }
