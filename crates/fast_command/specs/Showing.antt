@@ -5,7 +5,7 @@ use Rattle.fast_value.specs.declared.codes.Code.{Code}
 use Rattle.fast_tree.specs.Tree.{Tree}
 use Rattle.fast_template.specs.declared.sets.Templates.{Templates}
 use Rattle.fast_template.specs.Flat.{nodes_of}
-use Rattle.fast_decoder.specs.EntryTexts.{HasLongInitial}
+use Rattle.fast_dict.specs.EntryTexts.{HasLongInitial}
 use Rattle.fast_decoder.specs.Decoding.{AreBadLimits}
 use Rattle.fast_stream.specs.declared.faults.FaultCode.TheVariants.{Stream as FaultOfStream}
 use Rattle.fast_stream.specs.declared.faults.MakeError.{MakeError}

@@ -13,7 +13,7 @@ use Rattle.fast_template.proofs.UsableFields.{usable_shape}
 use Rattle.fast_dict.specs.Stores.{Terms, HasRoom}
 use Rattle.fast_dict.specs.Slots.{slots_terms}
 use Rattle.fast_dict.specs.declared.slots.Slots.{Slots}
-use Rattle.fast_decoder.specs.EntryTexts.{AnyField, SomeField, IsLongText, HasLongInitial, IsInitialText, HoldsTextAt, NeedsText}
+use Rattle.fast_dict.specs.EntryTexts.{AnyField, SomeField, IsLongText, HasLongInitial, IsInitialText, HoldsTextAt, NeedsText}
 use Rattle.fast_units.specs.Settling.{HasRoomFor, Serves}
 use Rattle.fast_decoder.specs.Serving.{ServesShape, ServesNodes}
 

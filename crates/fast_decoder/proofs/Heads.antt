@@ -12,9 +12,9 @@ use Rattle.fast_tree.specs.Tree.{step}
 use Rattle.fast_tree.specs.Nodes.{field_data, label_of}
 use Rattle.fast_cursor.specs.Cursors.{CursorData}
 use Rattle.fast_cursor.specs.Segments.{first_node}
-use Rattle.fast_decoder.specs.Serving.{body_among, instruction_among}
+use Rattle.fast_tree.specs.Bodies.{body_among, instruction_among}
 use Rattle.fast_decoder.specs.Positions.{set_of, IsAtField, IsAtParts, IsAtGroup, IsAtSequence}
-use Rattle.fast_decoder.proofs.BodyNodes.{body_step}
+use Rattle.fast_tree.proofs.BodyNodes.{body_step}
 
 -- the nodes of which one is the first
 pub record Head (nodes : List Node) (ns : List ℕ) (n : ℕ) (v : Node) : Type 0 where

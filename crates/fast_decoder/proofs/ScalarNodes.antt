@@ -16,7 +16,8 @@ use Rattle.fast_tree.specs.Tree.{Label, FieldData, Body, step}
 use Rattle.fast_cursor.specs.Cursors.{CursorData}
 use Rattle.fast_cursor.specs.Segments.{first_node}
 use Rattle.fast_stream.specs.Messages.{State}
-use Rattle.fast_decoder.specs.Serving.{ServesShape, body_among, instruction_among}
+use Rattle.fast_decoder.specs.Serving.{ServesShape}
+use Rattle.fast_tree.specs.Bodies.{body_among, instruction_among}
 use Rattle.fast_units.specs.UnitFronts.{IsSent, IsAsciiFirst}
 use Rattle.fast_decoder.specs.Scalars.{IsOfField, IsOfFieldLater}
 use Rattle.fast_decoder.specs.Positions.{Set, body_in, state_in, IsSupplied, IsReady, bit_of, IsAtField, IsAtParts, IsAtSequence, BeginsWithInteger, BeginsWithText, GoesOnWithMantissa, GoesOnWithNumber, GoesOnWithBytes, CanTake}
@@ -24,7 +25,7 @@ use Rattle.fast_units.specs.declared.stages.Stage.{Stage}
 use Rattle.fast_decoder.specs.declared.machine.Machine.{Machine}
 use Rattle.fast_decoder.specs.declared.machine.Waiting.{Waiting}
 use Rattle.fast_decoder.specs.declared.machine.Waiting.TheVariants.{Map, Identifier, SegmentMap, Field, Text, Number, Bytes, Mantissa}
-use Rattle.fast_decoder.proofs.BodyNodes.{body_step}
+use Rattle.fast_tree.proofs.BodyNodes.{body_step}
 
 -- The segment begins with the instruction of its first node.
 begins : (nodes : List Node) (ns : List ℕ) (n : ℕ) (v : Node) → NameLaterNodes nodes → first_node ns ≡ Some n → slice_get nodes n ≡ Some v

@@ -25,7 +25,8 @@ use Rattle.fast_stream.specs.GrammarReaders.{reader_of}
 use Rattle.fast_stream.specs.Continuations.{handed_then, message_behind_then}
 use Rattle.fast_stream.specs.Frames.{Frame, resume}
 use Rattle.fast_units.specs.Taking.{Waits, Stays}
-use Rattle.fast_decoder.specs.Serving.{body_among, instruction_among, ServesShape}
+use Rattle.fast_decoder.specs.Serving.{ServesShape}
+use Rattle.fast_tree.specs.Bodies.{body_among, instruction_among}
 use Rattle.fast_units.specs.Stages.{term_behind}
 use Rattle.fast_units.specs.UnitFronts.{IsSent, IsAsciiFirst}
 use Rattle.fast_decoder.specs.Positions.{Set, tree_in, body_in, frames_in, state_in, bit_of, unit_then, mantissa_then, term_at, front_at, unit_reader, meaning, meaning_at, BeginsWithInteger, BeginsWithText, GoesOnWithMantissa, GoesOnWithNumber, GoesOnWithBytes, CanTake, IsReady}
@@ -33,7 +34,7 @@ use Rattle.fast_units.specs.declared.stages.Stage.{Stage}
 use Rattle.fast_decoder.specs.declared.machine.Machine.{Machine}
 use Rattle.fast_decoder.specs.declared.machine.Waiting.{Waiting}
 use Rattle.fast_decoder.specs.declared.machine.Waiting.TheVariants.{Map, Identifier, SegmentMap, Field, Text, Number, Bytes, Mantissa}
-use Rattle.fast_decoder.proofs.BodyNodes.{body_step}
+use Rattle.fast_tree.proofs.BodyNodes.{body_step}
 use Rattle.fast_stream.proofs.Frames.{at_field, at_parts, at_sequence, mantissa_turn, sequence_turn}
 use Rattle.fast_decoder.proofs.SentFields.{before, field_then, field_sent}
 use Rattle.fast_units.proofs.Turning.{stays_on, stays_as, term_stays}

@@ -5,8 +5,8 @@ use Rattle.std.proofs.lemmas.List.{at_drop_more}
 use Rattle.fast_tree.specs.declared.instructions.Node.{Node}
 use Rattle.fast_tree.specs.Tree.{Label, Instruction, bits_used, bits_of}
 use Rattle.fast_tree.specs.Nodes.{label_of, no_instruction, instruction_of, instructions_from}
-use Rattle.fast_decoder.specs.Serving.{body_among}
-use Rattle.fast_decoder.proofs.BodyNodes.{instruction_by}
+use Rattle.fast_tree.specs.Bodies.{body_among}
+use Rattle.fast_tree.proofs.BodyNodes.{instruction_by}
 
 -- The bits that the instruction of a node uses are those of its shape, whatever the nodes behind it are.
 abbrev pub Uses : ℕ → Node → Type 0

@@ -2,10 +2,9 @@ pub mod Handing
 pub mod Recorded
 pub mod Positions
 pub mod Quick
-pub mod Serving
 pub mod Moving
 pub mod Passing
 pub mod Scalars
-pub mod EntryTexts
 pub mod TurnsLeft
 pub mod Decoding
+pub mod Serving

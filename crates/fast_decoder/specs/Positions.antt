@@ -25,7 +25,8 @@ use Rattle.fast_stream.specs.Continuations.{handed_then, message_behind_then, me
 use Rattle.fast_stream.specs.Frames.{Frame, open_group, open_element, resume}
 use Rattle.fast_stream.specs.Machine.{after_bytes}
 use Rattle.fast_cursor.specs.Cursors.{ElementsData, FrameData, CursorData, bits_behind, bits_left, at_rest}
-use Rattle.fast_decoder.specs.Serving.{ServesNodes, body_among, AreNodeWidths, AreTemplateWidths}
+use Rattle.fast_decoder.specs.Serving.{ServesNodes}
+use Rattle.fast_tree.specs.Bodies.{body_among, AreNodeWidths, AreTemplateWidths}
 use Rattle.fast_units.specs.Stages.{term_behind, IsStageOf}
 use Rattle.fast_units.specs.UnitFronts.{IsSent, IsAsciiFirst, IsNumberStage, IsBytesStage}
 use Rattle.fast_units.specs.declared.stages.Stage.{Stage}

@@ -1,14 +1,8 @@
--- A dictionary that serves all fields of a set, and the widths of its segments.
-use Rattle.std.specs.Prelude.{◌≡◌, ℕ, List, length, slice_get, slice_index, Some}
+-- A dictionary that serves all fields of a set.
+use Rattle.std.specs.Prelude.{◌≡◌, ℕ, List, slice_get, Some}
 use Rattle.fast_value.specs.declared.kinds.Kind.TheVariants.{UInt32, Int32, Int64}
 use Rattle.fast_tree.specs.declared.instructions.Node.{Node}
-use Rattle.fast_tree.specs.declared.instructions.Template.{Template}
-use Rattle.fast_tree.specs.declared.instructions.Shape.{Shape}
-use Rattle.fast_tree.specs.declared.instructions.Shape.TheVariants.{Field, Decimal, Group, Sequence}
-use Rattle.fast_tree.specs.Tree.{Label, Instruction, field, parts, group, sequence, Body, bits_of, message_bits}
-use Rattle.fast_tree.specs.Nodes.{field_data, body_of, instructions_from, template_data}
 use Rattle.fast_tree.specs.NodeData.{ShapeData, a_field, a_decimal, a_group, a_sequence, shape_data}
-use Rattle.fast_tree.specs.Numbers.{numbers_of}
 use Rattle.fast_dict.specs.Stores.{Terms}
 use Rattle.fast_units.specs.Settling.{Serves}
 
@@ -22,24 +16,3 @@ ServesShape entries terms (a_sequence length body) = Serves entries terms length
 -- It serves the fields of all nodes.
 abbrev pub ServesNodes : ℕ → Terms → List Node → Type 0
 ServesNodes entries terms ns = (n : ℕ) (v : Node) → slice_get ns n ≡ Some v → ServesShape entries terms (shape_data v.shape)
-
--- the body of nodes of a set
-abbrev pub body_among : List Node → List ℕ → Body
-body_among nodes ns = body_of 0 (instructions_from 0 nodes) ns
-
--- the instruction of a shape that names nodes of a set
-abbrev pub instruction_among : List Node → Label → Shape → Instruction
-instruction_among nodes at (Field f) = field at (field_data f)
-instruction_among nodes at (Decimal e m) = parts at (field_data e) (field_data m)
-instruction_among nodes at (Group optional body) = group at optional (body_among nodes body.items)
-instruction_among nodes at (Sequence length body) = sequence at (field_data length) (body_among nodes body.items)
-
--- The widths are the bits that the bodies of the nodes use.
-pub record AreNodeWidths (nodes : List Node) (widths : List ℕ) : Type 0 where
-  pub long : length widths ≡ length nodes
-  pub each : (n : ℕ) (v : Node) → slice_get nodes n ≡ Some v → slice_index widths n ≡ bits_of (body_among nodes (numbers_of v.shape))
-
--- The widths are the bits that the messages of the templates use, the identifier's among them.
-pub record AreTemplateWidths (nodes : List Node) (templates : List Template) (widths : List ℕ) : Type 0 where
-  pub long : length widths ≡ length templates
-  pub each : (i : ℕ) (t : Template) → slice_get templates i ≡ Some t → slice_index widths i ≡ message_bits (template_data (instructions_from 0 nodes) t)

@@ -3,7 +3,7 @@
 ghost use Rattle.std.specs.Prelude.{◌≡◌, ◌≢◌, ◌↔◌, ◌⊎◌, ℕ, ◌+◌, ◌-◌, ◌*◌, ◌<◌, ◌≤◌, ◌^◌, List, [], ◌∷◌, length, IfOk, IsOk, IsSome, None, Some, Err};
 ghost use Rattle.fast_template.specs.Flat.{tree_of, nodes_of};
 ghost use Rattle.fast_tree.specs.Sizes.{message_cap, turn_cap, stored_cap};
-ghost use Rattle.fast_decoder.specs.EntryTexts.{HasLongInitial};
+ghost use Rattle.fast_dict.specs.EntryTexts.{HasLongInitial};
 ghost use Rattle.fast_stream.specs.Events.{EventData};
 ghost use Rattle.fast_stream.specs.Streams.{End};
 ghost use Rattle.fast_stream.specs.Begins.{Begins};

@@ -11,8 +11,9 @@ ghost use Rattle.fast_tree.specs.Usable.{IsUsableShape};
 ghost use Rattle.fast_dict.specs.Dictionary.{fresh};
 ghost use Rattle.fast_dict.specs.Slots.{slots_dictionary, slots_terms};
 ghost use Rattle.fast_dict.specs.Stores.{IsText};
-ghost use Rattle.fast_decoder.specs.EntryTexts.{AnyField, IsLongText, HasLongInitial, MayHoldText, HoldsTextAt, NeedsText};
-ghost use Rattle.fast_decoder.specs.Serving.{body_among, ServesNodes, AreNodeWidths, AreTemplateWidths};
+ghost use Rattle.fast_dict.specs.EntryTexts.{AnyField, IsLongText, HasLongInitial, MayHoldText, HoldsTextAt, NeedsText};
+ghost use Rattle.fast_decoder.specs.Serving.{ServesNodes};
+ghost use Rattle.fast_tree.specs.Bodies.{body_among, AreNodeWidths, AreTemplateWidths};
 
 use fast_dict::Slots;
 use fast_template::{FieldInstruction, Node, Operator, Shape, Templates};

@@ -14,7 +14,7 @@ ghost use Rattle.fast_tree.specs.Tree.{FieldData, bits_of, identifier};
 ghost use Rattle.fast_dict.specs.Slots.{slots_dictionary, slots_terms};
 ghost use Rattle.fast_stream.specs.GrammarReaders.{spare, reader_of};
 ghost use Rattle.fast_stream.specs.Readers.{Reader};
-ghost use Rattle.fast_decoder.specs.EntryTexts.{HasLongInitial};
+ghost use Rattle.fast_dict.specs.EntryTexts.{HasLongInitial};
 ghost use Rattle.fast_decoder.specs.declared.machine.Machine.{Machine};
 ghost use Rattle.fast_dict.specs.Dictionary.{Dictionary, reset};
 ghost use Rattle.fast_decoder.specs.Handing.{Hands, Fed, stood};

@@ -7,3 +7,4 @@ pub mod Nodes
 pub mod NodeData
 pub mod Numbers
 pub mod Usable
+pub mod Bodies

@@ -4,7 +4,7 @@ use Rattle.fast_tree.specs.declared.instructions.Node.{Node}
 use Rattle.fast_tree.specs.Tree.{bits_of}
 use Rattle.fast_template.specs.Flat.{nodes_of}
 use Rattle.fast_tree.specs.Numbers.{numbers_of}
-use Rattle.fast_decoder.specs.Serving.{body_among}
+use Rattle.fast_tree.specs.Bodies.{body_among}
 use Rattle.fast_decoder.proofs.layout.node_widths.Given as goal
 
 -- the widths of the nodes so far

@@ -1,5 +1,0 @@
-use Rattle.fast_encoder.proofs.Spelled.{field_spelled}
-use Rattle.fast_encoder.proofs.laws.field_spelled.Goals as goal
-
-pub returns : goal.returns
-returns c = field_spelled

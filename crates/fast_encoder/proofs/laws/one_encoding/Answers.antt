@@ -1,5 +1,0 @@
-use Rattle.fast_encoder.proofs.OneEncoding.{one_encoding}
-use Rattle.fast_encoder.proofs.laws.one_encoding.Goals as goal
-
-pub returns : goal.returns
-returns c = one_encoding

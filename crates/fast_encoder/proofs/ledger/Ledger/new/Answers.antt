@@ -1,6 +1,0 @@
--- All entries are undefined.
-use Rattle.fast_encoder.proofs.Ledgers.{fresh_held}
-use Rattle.fast_encoder.proofs.ledger.Ledger.new.Goals as goal
-
-pub returns-clause-now : goal.returns-clause-now
-returns-clause-now c = rw c.in_ok-undefined_entries.ensures (fresh_held c.args.entries)

@@ -1,0 +1,31 @@
+-- Deltas are one or two signed integers, or one and a part of a text.
+use Rattle.std.proofs.Common.{◌++◌, List, ℕ, refl, ◌∙◌, ap, sym, subst, append_assoc, rules, false}
+use Rattle.fast_tree.specs.Nodes.{field_data}
+use Rattle.fast_dict.specs.Sending.{sent_data}
+use Rattle.fast_dict.specs.declared.operators.table.Sent.{Sent}
+use Rattle.fast_spelling.specs.Drafts.{SpellsItem}
+use Rattle.fast_spelling.proofs.Spelling.{on_ok, handed}
+use Rattle.fast_spelling.proofs.items.write_item.Goals as goal
+
+pub returns-in_ok-write_signed_as-in-IntegerDelta-clause-ok : goal.returns-in_ok-write_signed_as-in-IntegerDelta-clause-ok
+returns-in_ok-write_signed_as-in-IntegerDelta-clause-ok c =
+    let h = c.in_ok-write_signed_as-in-IntegerDelta.ensures in
+    (h.0, h.1, subst (λ (x : Sent). SpellsItem (field_data c.args.field.now) (sent_data x) h.0) (sym c.in-IntegerDelta.is) (handed c.args.field.now.optional c.in-IntegerDelta.delta h.0 (search rules) h.2))
+
+pub returns-in_ok-write_signed_as-in-DecimalDelta-2-clause-ok : goal.returns-in_ok-write_signed_as-in-DecimalDelta-2-clause-ok
+returns-in_ok-write_signed_as-in-DecimalDelta-2-clause-ok c =
+    let h = c.in_ok-write_signed_as-in-DecimalDelta.ensures in
+    let k = c.in_ok-write_signed_as-in-DecimalDelta-2.ensures in (
+      h.0 ++ k.0,
+      k.1 ∙ ap (λ (w : List ℕ). w ++ k.0) h.1 ∙ append_assoc c.args.bytes.now.items h.0 k.0,
+      subst (λ (x : Sent). SpellsItem (field_data c.args.field.now) (sent_data x) (h.0 ++ k.0)) (sym c.in-DecimalDelta.is) (h.0, k.0, handed c.args.field.now.optional c.in-DecimalDelta.exponent h.0 (search rules) h.2, handed false c.in-DecimalDelta.mantissa k.0 (search rules) k.2, refl),
+    )
+
+pub returns-in_ok-write_signed_as-in-TextDelta-clause-ok : goal.returns-in_ok-write_signed_as-in-TextDelta-clause-ok
+returns-in_ok-write_signed_as-in-TextDelta-clause-ok c =
+    let h = c.in_ok-write_signed_as-in-TextDelta.ensures in
+    on_ok c.write_text.result c.write_text.ensures.ok (λ k. (
+      h.0 ++ k.0,
+      k.1 ∙ ap (λ (w : List ℕ). w ++ k.0) h.1 ∙ append_assoc c.args.bytes.now.items h.0 k.0,
+      subst (λ (x : Sent). SpellsItem (field_data c.args.field.now) (sent_data x) (h.0 ++ k.0)) (sym c.in-TextDelta.is) (h.0, k.0, handed c.args.field.now.optional c.in-TextDelta.taken h.0 (search rules) h.2, k.2, refl),
+    ))

@@ -1,0 +1,147 @@
+//! A message in the making.
+
+ghost use Rattle.std.specs.Prelude.{◌≡◌, ◌≤◌, ◌∷◌, ◌++◌, ℕ, List, Bool, [], true, false, if◌then◌else◌, take, drop, vec_len, slice_index_or, IfSome, IfNone, OnOk, IfErr};
+ghost use Rattle.fast_wire.specs.Maps.{bits, IsMap};
+ghost use Rattle.fast_spelling.specs.declared.faults.EncodeFault.TheVariants.{E3};
+ghost use Rattle.fast_spelling.specs.Drafts.{IsTold, Closes};
+ghost use Rattle.fast_spelling.specs.Encoding.{SameBits};
+ghost use Rattle.fast_spelling.specs.Refusals.{HaveNoMap};
+
+use crate::faults::EncodeFault;
+use arrayvec::ArrayVec;
+use fast_wire::{MAP_LIMIT, MapBuilder};
+use std::alloc::{AllocError, Global};
+
+/// The bytes of a message so far, and the presence bits of its open segments.
+#[derive(Drop)]
+pub struct Draft {
+    /// The bytes of all that is whole, without the maps of open segments.
+    pub bytes: Vec<u8>,
+    /// The presence bits of the open segments, the innermost one's last.
+    pub bits: Vec<bool>,
+}
+
+/// Where a segment begins in a draft.
+#[derive(Clone, Copy)]
+pub struct Mark {
+    /// The bytes before it.
+    pub bytes: usize,
+    /// The bits before it.
+    pub bits: usize,
+}
+
+impl Draft {
+    /// A draft without bytes.
+    pub fn new(alloc: Global) -> Draft
+        ensures bytes { result.bytes.items ≡ [] }
+        ensures bits { result.bits.items ≡ [] }
+    {
+        Draft {
+            bytes: Vec::new(alloc),
+            bits: Vec::new(alloc),
+        }
+    }
+
+    /// The draft without bytes, which keeps its memory.
+    pub fn clear(&mut self)
+        ensures bytes { self.new.bytes.items ≡ [] }
+        ensures bits { self.new.bits.items ≡ [] }
+    {
+        self.bytes.clear();
+        self.bits.clear();
+    }
+
+    /// Appends a presence bit of the innermost segment.
+    ///
+    /// # Errors
+    ///
+    /// Memory was refused.
+    pub fn push_bit(&mut self, bit: bool) -> Result<(), AllocError>
+        ensures bits { OnOk result (self.new.bits.items ≡ self.old.bits.items ++ bit ∷ []) }
+        ensures bytes { self.new.bytes.items ≡ self.old.bytes.items }
+    {
+        self.bits.push(bit)?;
+        Ok(())
+    }
+
+    /// Appends a presence bit where one is used.
+    ///
+    /// # Errors
+    ///
+    /// Memory was refused.
+    pub fn push_bit_if(&mut self, used: bool, bit: bool) -> Result<(), AllocError>
+        ensures bits { OnOk result (self.new.bits.items ≡ self.old.bits.items ++ (if used then bit ∷ [] else [])) }
+        ensures bytes { self.new.bytes.items ≡ self.old.bytes.items }
+    {
+        if used {
+            return self.push_bit(bit);
+        }
+        Ok(())
+    }
+
+    /// Where a segment begins that is opened now.
+    pub fn mark(&self) -> Mark
+        ensures bytes { result.bytes ≡ vec_len self.now.bytes }
+        ensures bits { result.bits ≡ vec_len self.now.bits }
+    {
+        Mark {
+            bytes: self.bytes.len(),
+            bits: self.bits.len(),
+        }
+    }
+
+    /// Ends the segment that began at the mark: the map of its bits, if it has one, goes in front of its bytes.
+    ///
+    /// # Errors
+    ///
+    /// E3 if no map has room for the bits; memory was refused.
+    pub fn close(&mut self, mark: Mark, has_map: bool) -> Result<(), EncodeFault>
+        requires bytes { mark.bytes ≤ vec_len self.old.bytes }
+        requires bits { mark.bits ≤ vec_len self.old.bits }
+        ensures ok { OnOk result (Closes has_map (take mark.bytes self.old.bytes.items) (drop mark.bytes self.old.bytes.items)
+            (drop mark.bits self.old.bits.items) self.new.bytes.items) }
+        ensures bits { OnOk result (self.new.bits.items ≡ take mark.bits self.old.bits.items) }
+        ensures err { IfErr result (IsTold (λ c. (c ≡ E3) × (has_map ≡ true) × HaveNoMap (drop mark.bits self.old.bits.items))) }
+    {
+        if has_map {
+            match map_of(&self.bits[mark.bits..]) {
+                Some(map) => insert(&mut self.bytes, mark.bytes, map.as_slice())?,
+                None => return Err(EncodeFault::E3),
+            }
+        }
+        self.bits.truncate(mark.bits);
+        Ok(())
+    }
+}
+
+/// The shortest map of the bits, if there is one.
+fn map_of(presence: &[bool]) -> Option<ArrayVec<u8, MAP_LIMIT>>
+    ensures map { IfSome result (λ m. IsMap true m.items) }
+    ensures bits { IfSome result (λ m. SameBits (bits m.items) presence.now) }
+    ensures none { IfNone result (HaveNoMap presence.now) }
+{
+    let mut map = MapBuilder::new();
+    for (i, bit) in presence.iter().enumerate() {
+        if *bit {
+            if i >= MOST_BITS {
+                return None;
+            }
+            map.set(i);
+        }
+    }
+    Some(map.finish())
+}
+
+/// The most bits of a map.
+const MOST_BITS: usize = 7 * MAP_LIMIT;
+
+/// Puts a piece in front of what stands behind a place.
+fn insert(bytes: &mut Vec<u8>, place: usize, piece: &[u8]) -> Result<(), AllocError>
+    requires { place ≤ vec_len bytes.old }
+    ensures { OnOk result (bytes.new.items ≡ take place bytes.old.items ++ piece.now ++ drop place bytes.old.items) }
+{
+    for (i, byte) in piece.iter().enumerate() {
+        bytes.insert(place + i, *byte)?;
+    }
+    Ok(())
+}

@@ -1,0 +1,122 @@
+//! A field: its presence bit, its item, and the entry behind it.
+
+ghost use Rattle.std.specs.Prelude.{◌≡◌, ℕ, ◌<◌, ◌≤◌, length, option_map, IfSome, OnOk, IfErr, Ok};
+ghost use Rattle.fast_value.specs.declared.settings.Limits.{Limits};
+ghost use Rattle.fast_value.specs.Kinds.{ScalarData, text_of};
+ghost use Rattle.fast_value.specs.Values.{scalar_data};
+ghost use Rattle.fast_tree.specs.Nodes.{field_data};
+ghost use Rattle.fast_dict.specs.Dictionary.{previous_at, write_at};
+ghost use Rattle.fast_dict.specs.Held.{text_size};
+ghost use Rattle.fast_dict.specs.Operators.{delta_base};
+ghost use Rattle.fast_dict.specs.Previous.{previous_data};
+ghost use Rattle.fast_spelling.specs.Encoding.{EncodesField};
+ghost use Rattle.fast_spelling.specs.Drafts.{IsTold};
+ghost use Rattle.fast_spelling.specs.Fields.{IsServed, IsSuited, IsNarrow, Wrote, next_of};
+ghost use Rattle.fast_spelling.specs.Refusals.{RefusesField};
+
+use crate::draft::Draft;
+use crate::faults::EncodeFault;
+use crate::items::write_item;
+use crate::ledger::Ledger;
+use fast_dict::operators::delta_base;
+use fast_dict::rule::uses_bit;
+use fast_dict::{Previous, choose};
+use fast_template::{FieldInstruction, Operator};
+use fast_value::Scalar;
+use std::alloc::AllocError;
+
+/// Writes a field that has the value, or is absent.
+///
+/// # Errors
+///
+/// E3, R9; memory was refused. Then the draft is of no use.
+pub fn write_field(
+    draft: &mut Draft,
+    ledger: &mut Ledger,
+    field: &FieldInstruction,
+    value: Option<Scalar<'_>>,
+) -> Result<(), EncodeFault>
+    requires served { IsServed ledger.old (field_data field.now) }
+    requires suited { IsSuited ledger.old.max_text (field_data field.now) (option_map scalar_data value) }
+    ensures ok { OnOk result ((l : Limits) → l.max_text ≡ ledger.old.max_text
+        → Wrote (EncodesField l (field_data field.now) ledger.old.now (option_map scalar_data value.entry)) draft.old draft.new ledger.new.now) }
+    ensures err { IfErr result (IsTold (RefusesField (field_data field.now) ledger.old.now (option_map scalar_data value.entry))) }
+    ensures before { ledger.new.before ≡ ledger.old.before }
+    ensures max_text { ledger.new.max_text ≡ ledger.old.max_text }
+    ensures length { length ledger.new.now ≡ length ledger.old.now }
+{
+    let previous = previous_of(ledger, field);
+    note_base(field, previous);
+    let Some(choice) = choose(field, previous, value) else {
+        return Err(EncodeFault::E3);
+    };
+    if uses_bit(field) {
+        draft.push_bit(choice.bit)?;
+    }
+    write_item(&mut draft.bytes, field, choice.item)?;
+    keep(ledger, field, value)?;
+    Ok(())
+}
+
+/// What the field's operator reads.
+fn previous_of<'a>(ledger: &'a Ledger, field: &FieldInstruction) -> Previous<'a>
+    requires { IsServed ledger.now (field_data field.now) }
+    ensures value { previous_data result ≡ previous_at (field_data field.now).entry ledger.now.now }
+    ensures short { text_size (previous_data result) ≤ ledger.now.max_text }
+{
+    match field.entry {
+        Some(entry) => ledger.get(entry as usize),
+        None => Previous::Undefined,
+    }
+}
+
+/// Notes, for the proof alone, that the numbers of a delta's base lie in the range of a Rust type.
+fn note_base(field: &FieldInstruction, previous: Previous<'_>)
+    ensures { (base : ScalarData) → delta_base (field_data field.now) (previous_data previous.entry) ≡ Ok base → IsNarrow base }
+{
+    if let Ok(base) = delta_base(field, previous) {
+        note_range(base);
+    }
+}
+
+/// Notes the same of a value.
+fn note_range(value: Scalar<'_>)
+    ensures { IsNarrow (scalar_data value.entry) }
+{
+    match value {
+        Scalar::U(number) => {
+            let _ = number;
+        }
+        Scalar::I(number) => {
+            let _ = number;
+        }
+        Scalar::Dec { exponent, mantissa } => {
+            let _ = (exponent, mantissa);
+        }
+        Scalar::Ascii(_) | Scalar::Unicode(_) | Scalar::Bytes(_) => {}
+    }
+}
+
+/// Keeps what the field's operator writes for the value, or its absence.
+fn keep(
+    ledger: &mut Ledger,
+    field: &FieldInstruction,
+    value: Option<Scalar<'_>>,
+) -> Result<(), AllocError>
+    requires served { IsServed ledger.old (field_data field.now) }
+    requires suited { IsSuited ledger.old.max_text (field_data field.now) (option_map scalar_data value) }
+    ensures now { OnOk result (ledger.new.now ≡ write_at (field_data field.now).entry
+        (next_of (field_data field.now) (previous_at (field_data field.now).entry ledger.old.now) (option_map scalar_data value.entry)) ledger.old.now) }
+    ensures before { ledger.new.before ≡ ledger.old.before }
+    ensures max_text { ledger.new.max_text ≡ ledger.old.max_text }
+    ensures length { length ledger.new.now ≡ length ledger.old.now }
+{
+    let Some(entry) = field.entry else {
+        return Ok(());
+    };
+    match (value, field.operator) {
+        (Some(value), _) => ledger.set(entry as usize, field.kind, value),
+        (None, Operator::Delta) => Ok(()),
+        (None, _) => ledger.set_empty(entry as usize),
+    }
+}

@@ -1,0 +1,165 @@
+//! The bytes of what is sent for a field: each integer by its shortest form.
+
+ghost use Rattle.std.specs.Prelude.{◌≡◌, ℕ, ◌<◌, ◌≤◌, ◌^◌, ◌∷◌, [], List, Bool, true, false, All, length, Some, pos, OnOk, IfErr};
+ghost use Rattle.fast_wire.specs.Integers.{signed_range, IsWithin, SpellsInt};
+ghost use Rattle.fast_wire.specs.Shortest.{IsShortest};
+ghost use Rattle.fast_wire.specs.Texts.{SpellsAscii, SpellsVector};
+ghost use Rattle.fast_value.specs.declared.settings.Limits.{Limits};
+ghost use Rattle.fast_value.specs.Kinds.{family, text_of};
+ghost use Rattle.fast_value.specs.Values.{scalar_data};
+ghost use Rattle.fast_tree.specs.Nodes.{field_data};
+ghost use Rattle.fast_dict.specs.Operators.{Sent as SentData};
+ghost use Rattle.fast_dict.specs.Sending.{sent_data};
+ghost use Rattle.fast_spelling.specs.declared.faults.EncodeFault.TheVariants.{R9};
+ghost use Rattle.fast_spelling.specs.Drafts.{Adds, IsTold, IsSendable, IsSendableValue, IsSendablePart, SpellsItem, SpellsValue, SpellsPart};
+ghost use Rattle.fast_spelling.specs.Refusals.{HasZeroInFront};
+
+use crate::faults::EncodeFault;
+use fast_dict::Sent;
+use fast_template::FieldInstruction;
+use fast_value::{Kind, Scalar};
+use fast_wire::{write_nullable_signed, write_nullable_unsigned, write_signed, write_unsigned};
+use std::alloc::AllocError;
+
+/// Writes the item of a field: nothing for [`Sent::Nothing`].
+///
+/// # Errors
+///
+/// R9 if the item is an ASCII text that begins with a zero character; memory was refused.
+pub fn write_item(
+    bytes: &mut Vec<u8>,
+    field: &FieldInstruction,
+    item: Sent<'_>,
+) -> Result<(), EncodeFault>
+    requires { IsSendable (field_data field.now) (sent_data item) }
+    ensures ok { OnOk result (Adds (SpellsItem (field_data field.now) (sent_data item.entry)) bytes.old.items bytes.new.items) }
+    ensures err { IfErr result (IsTold (λ c. (c ≡ R9) × HasZeroInFront field.now.kind (sent_data item.entry))) }
+{
+    match item {
+        Sent::Nothing => Ok(()),
+        Sent::Null => {
+            bytes.extend_from_slice(&NULL)?;
+            Ok(())
+        }
+        Sent::Value(value) => write_value(bytes, field.kind, field.optional, value),
+        Sent::IntegerDelta(delta) => {
+            write_signed_as(bytes, field.optional, delta)?;
+            Ok(())
+        }
+        Sent::DecimalDelta(exponent, mantissa) => {
+            write_signed_as(bytes, field.optional, exponent)?;
+            write_signed_as(bytes, false, mantissa)?;
+            Ok(())
+        }
+        Sent::TextDelta(taken, part) => {
+            write_signed_as(bytes, field.optional, taken)?;
+            write_text(bytes, field.kind, false, part)
+        }
+    }
+}
+
+/// NULL, in every type.
+const NULL: [u8; 1] = [0x80];
+
+/// Writes a value of a kind.
+fn write_value(
+    bytes: &mut Vec<u8>,
+    kind: Kind,
+    nullable: bool,
+    value: Scalar<'_>,
+) -> Result<(), EncodeFault>
+    requires { IsSendableValue kind (scalar_data value) }
+    ensures ok { OnOk result (Adds (SpellsValue kind nullable (scalar_data value.entry)) bytes.old.items bytes.new.items) }
+    ensures err { IfErr result (IsTold (λ c. (c ≡ R9) × HasZeroInFront kind (SentData.value (scalar_data value.entry)))) }
+{
+    match value {
+        Scalar::U(number) => {
+            write_unsigned_as(bytes, nullable, number)?;
+            Ok(())
+        }
+        Scalar::I(number) => {
+            write_signed_as(bytes, nullable, i128::from(number))?;
+            Ok(())
+        }
+        Scalar::Dec { exponent, mantissa } => {
+            write_signed_as(bytes, nullable, i128::from(exponent))?;
+            write_signed_as(bytes, false, i128::from(mantissa))?;
+            Ok(())
+        }
+        Scalar::Ascii(text) | Scalar::Unicode(text) | Scalar::Bytes(text) => {
+            write_text(bytes, kind, nullable, text)
+        }
+    }
+}
+
+/// Writes a text of a kind of texts, or a part of one.
+fn write_text(
+    bytes: &mut Vec<u8>,
+    kind: Kind,
+    nullable: bool,
+    text: &[u8],
+) -> Result<(), EncodeFault>
+    requires { IsSendablePart kind text.now }
+    ensures ok { OnOk result (Adds (SpellsPart kind nullable text.now) bytes.old.items bytes.new.items) }
+    ensures err { IfErr result (IsTold (λ c. (c ≡ R9) × (kind ≡ Kind.Ascii) × ((rest : List ℕ) × (text.now ≡ 0 ∷ rest)))) }
+{
+    match kind {
+        Kind::Ascii => write_ascii(bytes, nullable, text),
+        _ => {
+            write_unsigned_as(bytes, nullable, text.len() as u64)?;
+            bytes.extend_from_slice(text)?;
+            Ok(())
+        }
+    }
+}
+
+/// Writes an ASCII text: its characters, with the stop bit on the last.
+fn write_ascii(bytes: &mut Vec<u8>, nullable: bool, text: &[u8]) -> Result<(), EncodeFault>
+    requires { All (λ c. c < 128) text.now }
+    ensures ok { OnOk result (Adds (λ w. (room : ℕ) → length text.now ≤ room → SpellsAscii nullable room (Some text.now) w) bytes.old.items bytes.new.items) }
+    ensures err { IfErr result (IsTold (λ c. (c ≡ R9) × ((rest : List ℕ) × (text.now ≡ 0 ∷ rest)))) }
+{
+    if text.is_empty() {
+        if nullable {
+            bytes.extend_from_slice(&EMPTY_NULLABLE)?;
+        } else {
+            bytes.extend_from_slice(&NULL)?;
+        }
+        return Ok(());
+    }
+    if text[0] == 0 {
+        return Err(EncodeFault::R9);
+    }
+    let last = text.len() - 1;
+    bytes.extend_from_slice(&text[..last])?;
+    bytes.extend_from_slice(&[text[last] + 128])?;
+    Ok(())
+}
+
+/// The empty ASCII text where NULL may be.
+const EMPTY_NULLABLE: [u8; 2] = [0x00, 0x80];
+
+/// Writes an unsigned integer.
+fn write_unsigned_as(bytes: &mut Vec<u8>, nullable: bool, number: u64) -> Result<(), AllocError>
+    ensures { OnOk result (Adds (IsShortest false nullable (Some (pos number))) bytes.old.items bytes.new.items) }
+{
+    let entity = if nullable {
+        write_nullable_unsigned(Some(number))
+    } else {
+        write_unsigned(number)
+    };
+    bytes.extend_from_slice(entity.as_slice())
+}
+
+/// Writes a signed integer.
+fn write_signed_as(bytes: &mut Vec<u8>, nullable: bool, number: i128) -> Result<(), AllocError>
+    requires { IsWithin (signed_range 68) number }
+    ensures { OnOk result (Adds (IsShortest true nullable (Some number)) bytes.old.items bytes.new.items) }
+{
+    let entity = if nullable {
+        write_nullable_signed(Some(number))
+    } else {
+        write_signed(number)
+    };
+    bytes.extend_from_slice(entity.as_slice())
+}

@@ -1,0 +1,40 @@
+//! Laws of what an encoder writes. They speak of the definitions alone, over all template sets, limits and messages.
+
+ghost use Rattle.std.specs.Prelude.{◌≡◌, ℕ, List, [], Bool, true, Option, slice_get, Some, ◌++◌};
+ghost use Rattle.fast_value.specs.declared.settings.Limits.{Limits};
+ghost use Rattle.fast_value.specs.Kinds.{ScalarData};
+ghost use Rattle.fast_value.specs.Limits.{in_mode};
+ghost use Rattle.fast_value.specs.Messages.{MessageData};
+ghost use Rattle.fast_tree.specs.Tree.{FieldData, Tree, HasDistinctIds};
+ghost use Rattle.fast_dict.specs.Dictionary.{Dictionary, PreviousData};
+ghost use Rattle.fast_dict.specs.Operators.{Op, Sent};
+ghost use Rattle.fast_stream.specs.Events.{EventData, events};
+ghost use Rattle.fast_stream.specs.Fields.{field_phrase};
+ghost use Rattle.fast_stream.specs.Messages.{SpellsMessage};
+ghost use Rattle.fast_stream.specs.Phrases.{whole};
+ghost use Rattle.fast_stream.specs.Readers.{AreBytes};
+ghost use Rattle.fast_stream.specs.Streams.{Stream, Chain, between};
+ghost use Rattle.fast_spelling.specs.Encoding.{EncodesMessage, SpellsSent};
+ghost use Rattle.fast_spelling.specs.Suiting.{SuitsTemplate, FitsLimits};
+
+/// The bytes of an item that the operator takes are the field in strict mode.
+pub fn field_spelled()
+    ensures { (l : Limits) (f : FieldData) (p : PreviousData) (bit : Bool) (x : Sent) (v : Option ScalarData) (next : PreviousData) (w : List ℕ) → SpellsSent (in_mode true l) f p x w → Op f p bit x v next → field_phrase (in_mode true l) f p bit w [] (whole (record { value = v; next = next })) }
+{}
+
+/// What an encoder writes for a message that suits its template and the limits spells the message in strict mode. So no map that it
+/// writes is wider than strict mode takes.
+pub fn encoded_is_spelled()
+    ensures { (t : Tree) (l : Limits) (d : Dictionary) (m : MessageData) (w : List ℕ) (d' : Dictionary) → HasDistinctIds t → SuitsTemplate t m → FitsLimits l m.slots → EncodesMessage t l d m w d' → SpellsMessage t (in_mode true l) d m w d' }
+{}
+
+/// From one dictionary a message has one encoding, and it leads to one dictionary.
+pub fn one_encoding()
+    ensures { (t : Tree) (l : Limits) (d : Dictionary) (m : MessageData) (v w : List ℕ) (a b : Dictionary) → AreBytes v → AreBytes w → EncodesMessage t l d m v a → EncodesMessage t l d m w b → (v ≡ w) × (a ≡ b) }
+{}
+
+/// What an encoder writes behind a chain of messages is read back, in both modes: the stream goes on with the events of the message,
+/// and the chain ends at the encoder's dictionary.
+pub fn encoded_is_read_back()
+    ensures { (t : Tree) (l : Limits) (w v : List ℕ) (es : List EventData) (m : MessageData) (d d' : Dictionary) → HasDistinctIds t → SuitsTemplate t m → FitsLimits l m.slots → Chain t l w es d → EncodesMessage t l d m v d' → Stream t l (w ++ v) (es ++ events t m) between × Chain t l (w ++ v) (es ++ events t m) d' }
+{}

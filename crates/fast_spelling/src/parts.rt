@@ -1,0 +1,92 @@
+//! What stands in a message where an instruction has no slots of its own: absence, and a decimal by parts.
+
+ghost use Rattle.std.specs.Prelude.{◌≡◌, ◌<◌, ℕ, length, Some, None, option_map, OnOk, IfErr, IfSome};
+ghost use Rattle.fast_value.specs.Messages.{one};
+ghost use Rattle.fast_value.specs.Values.{value_data};
+ghost use Rattle.fast_value.specs.declared.settings.Limits.{Limits};
+ghost use Rattle.fast_value.specs.declared.kinds.Kind.TheVariants.{Int32, Int64};
+ghost use Rattle.fast_template.specs.Flat.{nodes_of, tree_of, field_data};
+ghost use Rattle.fast_tree.specs.Usable.{IsUsable};
+ghost use Rattle.fast_dict.specs.EntryTexts.{HasLongInitial, IsLongText};
+ghost use Rattle.fast_spelling.specs.Drafts.{IsTold};
+ghost use Rattle.fast_spelling.specs.Encoding.{Encodes, EncodesDecimal};
+ghost use Rattle.fast_spelling.specs.Fields.{Wrote, IsServed};
+ghost use Rattle.fast_spelling.specs.Nodes.{instruction_in, head_in, IsReady, Keeps};
+ghost use Rattle.fast_spelling.specs.Refusals.{Refuses, RefusesDecimal};
+ghost use Rattle.fast_spelling.specs.Suiting.{Suits, IsRightDecimal};
+
+use crate::draft::Draft;
+use crate::faults::EncodeFault;
+use crate::fields::write_field;
+use crate::ledger::Ledger;
+use fast_template::{FieldInstruction, Shape, Templates};
+use fast_value::{Limits, Scalar, Value};
+
+/// Writes a decimal by parts: its exponent, and then its mantissa.
+pub fn write_decimal(
+    exponent: &FieldInstruction,
+    mantissa: &FieldInstruction,
+    value: &Value,
+    draft: &mut Draft,
+    ledger: &mut Ledger,
+) -> Result<(), EncodeFault>
+    requires exponent { IsServed ledger.old (field_data exponent.now) }
+    requires mantissa { IsServed ledger.old (field_data mantissa.now) }
+    requires kinds { (exponent.now.kind ≡ Int32) × (mantissa.now.kind ≡ Int64) }
+    requires right { IsRightDecimal (field_data exponent.now) (Some (one (value_data value.now))) }
+    ensures ok { OnOk result ((l : Limits) → l.max_text ≡ ledger.old.max_text
+        → Wrote (EncodesDecimal l (field_data exponent.now) (field_data mantissa.now) ledger.old.now (Some (one (value_data value.now)))) draft.old draft.new ledger.new.now) }
+    ensures err { IfErr result (IsTold (λ c. (l : Limits) → l.max_text ≡ ledger.old.max_text
+        → RefusesDecimal l (field_data exponent.now) (field_data mantissa.now) ledger.old.now (Some (one (value_data value.now))) c)) }
+    ensures keeps { Keeps ledger.old ledger.new }
+{
+    match value {
+        Value::Dec {
+            exponent: e,
+            mantissa: m,
+        } => {
+            write_field(draft, ledger, exponent, Some(Scalar::I(i64::from(*e))))?;
+            write_field(draft, ledger, mantissa, Some(Scalar::I(*m)))
+        }
+        _ => Err(EncodeFault::E3),
+    }
+}
+
+/// Writes the absence of what the instruction of a node stands for.
+pub fn write_absent(
+    templates: &Templates,
+    limits: Limits,
+    node: u32,
+    draft: &mut Draft,
+    ledger: &mut Ledger,
+) -> Result<(), EncodeFault>
+    requires node { node < length (nodes_of templates.now) }
+    requires ready { IsReady templates.now limits ledger.old }
+    requires suits { Suits (instruction_in (nodes_of templates.now) node) None }
+    ensures ok { OnOk result (Wrote (Encodes limits (instruction_in (nodes_of templates.now) node) ledger.old.now None) draft.old draft.new ledger.new.now) }
+    ensures err { IfErr result (IsTold (Refuses limits (instruction_in (nodes_of templates.now) node) ledger.old.now None)) }
+    ensures keeps { Keeps ledger.old ledger.new }
+{
+    match head_of(templates, node) {
+        Some(field) => write_field(draft, ledger, field, None),
+        None => {
+            draft.push_bit(false)?;
+            Ok(())
+        }
+    }
+}
+
+/// The field whose absence is that of the whole instruction: the field itself, an exponent, a length. A group has none.
+fn head_of(templates: &Templates, node: u32) -> Option<&FieldInstruction>
+    requires { node < length (nodes_of templates.now) }
+    ensures head { option_map (λ f. field_data f.now) result ≡ head_in (instruction_in (nodes_of templates.now) node) }
+    ensures usable { IfSome result (λ f. IsUsable (tree_of templates.now).entries (field_data f.now)) }
+    ensures initial { IfSome result (λ f. (m : ℕ) → ¬ (HasLongInitial m (nodes_of templates.now)) → ¬ (IsLongText m (field_data f.now).initial)) }
+{
+    match &templates.node(node).shape {
+        Shape::Field(field) => Some(field),
+        Shape::Decimal { exponent, .. } => Some(exponent),
+        Shape::Sequence { length, .. } => Some(length),
+        Shape::Group { .. } => None,
+    }
+}
