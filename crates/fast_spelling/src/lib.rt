@@ -1,4 +1,4 @@
-//! The encoder of FAST streams: messages as trees go in, bytes come out.
+//! What the encoder of FAST streams writes for a message, its laws, and the functions that write the body of one.
 #![tactic(auto)]
 
 pub mod draft;
