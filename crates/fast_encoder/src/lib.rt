@@ -1,4 +1,8 @@
 //! The encoder of FAST streams: messages go in, bytes come out.
 #![tactic(auto)]
 
+pub mod encoder;
+
+pub use encoder::Encoder;
+pub use fast_decoder::MakeError;
 pub use fast_spelling::EncodeFault;

@@ -6,6 +6,10 @@ use Rattle.fast_value.specs.declared.settings.Limits.{Limits}
 use Rattle.fast_value.specs.Messages.{ItemData, one, group as group_item, sequence as sequence_item, Slots, no_slots, absent, present, Elements, no_elements, element, count, total, MessageData}
 use Rattle.fast_tree.specs.Tree.{FieldData, Instruction, field, parts, group, sequence, Body, end, step, TemplateData, Tree}
 
+-- A template has the number, and it has this identifier.
+abbrev pub IsKnownAs : Tree → MessageData → ℕ → Type 0
+IsKnownAs t m id = (u : TemplateData) × (slice_get t.templates m.template ≡ Some u) × (u.id ≡ Some id)
+
 -- A template has the number, and it has an identifier.
 abbrev pub IsKnown : Tree → MessageData → Type 0
 IsKnown t m = (u : TemplateData) × (id : ℕ) × (slice_get t.templates m.template ≡ Some u) × (u.id ≡ Some id)

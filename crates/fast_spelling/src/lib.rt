@@ -7,6 +7,7 @@ pub mod fields;
 pub mod held;
 pub mod items;
 pub mod laws;
+pub mod messages;
 pub mod ledger;
 pub mod parts;
 pub mod writing;

@@ -1,0 +1,162 @@
+//! The encoder: a dictionary with its template set and its limits.
+
+ghost use Rattle.std.specs.Prelude.{◌≡◌, ◌⊎◌, ◌↔◌, ℕ, length, IfOk, IfErr, OnOk, OnErr, IfSome, IfNone, Err, Some, slice_get};
+ghost use Rattle.fast_value.specs.Views.{message_data, slots_data};
+ghost use Rattle.fast_tree.specs.Bodies.{AreNodeWidths};
+ghost use Rattle.fast_tree.specs.declared.instructions.Template.{Template};
+ghost use Rattle.fast_template.specs.Flat.{tree_of, nodes_of, templates_of};
+ghost use Rattle.fast_dict.specs.Dictionary.{fresh};
+ghost use Rattle.fast_dict.specs.EntryTexts.{HasLongInitial};
+ghost use Rattle.fast_decoder.specs.Decoding.{AreBadLimits};
+ghost use Rattle.fast_spelling.specs.Drafts.{IsTold};
+ghost use Rattle.fast_spelling.specs.Encoding.{EncodesMessage};
+ghost use Rattle.fast_spelling.specs.Nodes.{IsReady, Keeps};
+ghost use Rattle.fast_spelling.specs.Refusals.{IsRefused};
+ghost use Rattle.fast_spelling.specs.Suiting.{IsKnown, IsKnownAs, SuitsTemplate, FitsLimits};
+ghost use Rattle.fast_encoder.specs.Encoders.{EncoderData, IsEncoded, IsToldOf};
+
+use fast_decoder::MakeError;
+use fast_decoder::layout::{has_long_initial, measure};
+use fast_spelling::EncodeFault;
+use fast_spelling::draft::Draft;
+use fast_spelling::ledger::Ledger;
+use fast_spelling::measuring::fits_limits;
+use fast_spelling::messages::write_message;
+use fast_spelling::suiting::suits_body;
+use fast_template::{Template, Templates};
+use fast_value::{Limits, Message};
+use std::alloc::Global;
+use std::marker::Model;
+
+/// The least and the greatest length that texts may be limited to.
+const MIN_TEXT: usize = 16;
+
+const MAX_TEXT: usize = 1_048_576;
+
+/// Encodes messages, one after the other, each from the dictionary that the one before has left.
+#[derive(Drop)]
+pub struct Encoder<'t> {
+    templates: &'t Templates,
+    limits: Limits,
+    /// How many presence bits the segment within each node uses, by the node's number.
+    widths: Vec<usize>,
+    ledger: Ledger,
+    draft: Draft,
+}
+
+impl<'t> Model for Encoder<'t> {
+    ghost use Rattle.fast_template.specs.Flat.{tree_of};
+    ghost use Rattle.fast_encoder.specs.Encoders.{EncoderData, IsSound};
+
+    ghost Value = { EncoderData };
+
+    ghost view = { λ e. record { tree = tree_of e.templates.now; limits = e.limits; dictionary = e.ledger.now } };
+
+    ghost invariant = { λ e. IsSound e.templates.now e.limits e.widths.items e.ledger };
+}
+
+impl<'t> Encoder<'t> {
+    /// An encoder of messages under a template set and limits, with an empty dictionary.
+    ///
+    /// # Errors
+    ///
+    /// `BadLimits` where `max_text` is not one of 16 to 1,048,576; then `InitialTooLong` where a field has an initial value that is a
+    /// text longer than `max_text`; then `Memory` where memory was refused.
+    pub fn new(
+        alloc: Global,
+        templates: &'t Templates,
+        limits: Limits,
+    ) -> Result<Encoder<'t>, MakeError>
+        ensures made { IfOk result (λ e. (e.tree ≡ tree_of templates.entry.now) × (e.limits ≡ limits) × (e.dictionary ≡ fresh (tree_of templates.entry.now).entries)) }
+        ensures bad_limits { (result ≡ Err MakeError.BadLimits) ↔ (AreBadLimits limits) }
+        ensures long_initial { (result ≡ Err MakeError.InitialTooLong) ↔ (¬ (AreBadLimits limits) × HasLongInitial limits.max_text (nodes_of templates.entry.now)) }
+    {
+        if limits.max_text < MIN_TEXT || limits.max_text > MAX_TEXT {
+            return Err(MakeError::BadLimits);
+        }
+        if has_long_initial(templates, limits.max_text) {
+            return Err(MakeError::InitialTooLong);
+        }
+        let Ok(widths) = measure(alloc, templates) else {
+            return Err(MakeError::Memory);
+        };
+        match Ledger::new(alloc, templates.entries() as usize, limits.max_text) {
+            Err(_) => Err(MakeError::Memory),
+            Ok(ledger) => Ok(Encoder {
+                templates,
+                limits,
+                widths: widths.nodes,
+                ledger,
+                draft: Draft::new(alloc),
+            }),
+        }
+    }
+
+    /// The encoder as it was made: all entries of its dictionary are undefined.
+    pub fn reset(&mut self)
+        ensures fresh { self.new.dictionary ≡ fresh self.old.tree.entries }
+        ensures same_set { (self.new.tree ≡ self.old.tree) × (self.new.limits ≡ self.old.limits) }
+    {
+        self.ledger.reset_all();
+    }
+
+    /// Appends the bytes of a message.
+    ///
+    /// # Errors
+    ///
+    /// E1, E2 and E4 are decided for the whole message, in this order; then E3 and R9 at the first instruction of which one stands;
+    /// Memory where memory was refused. The encoder and `out` are as they were.
+    pub fn encode(&mut self, message: &Message, out: &mut Vec<u8>) -> Result<(), EncodeFault>
+        ensures ok { OnOk result (IsEncoded self.old (message_data message.now) out.old.items self.new out.new.items) }
+        ensures err { IfErr result (IsToldOf self.old (message_data message.now)) }
+        // A fault that stands is told, unless memory was refused.
+        ensures told { (c : EncodeFault) → IsRefused self.old.tree self.old.limits self.old.dictionary (message_data message.now) c → (result ≡ Err c) ⊎ (result ≡ Err EncodeFault.Memory) }
+        ensures unchanged { OnErr result ((self.new ≡ self.old) × (out.new.items ≡ out.old.items)) }
+        ensures same_set { (self.new.tree ≡ self.old.tree) × (self.new.limits ≡ self.old.limits) }
+    {
+        let Some((template, id)) = known(self.templates, message) else {
+            return Err(EncodeFault::E1);
+        };
+        if !suits_body(self.templates, &template.body, &message.items) {
+            return Err(EncodeFault::E2);
+        }
+        if !fits_limits(self.limits, &message.items) {
+            return Err(EncodeFault::E4);
+        }
+        let written = write_message(
+            self.templates,
+            self.limits,
+            &self.widths,
+            id,
+            message,
+            &mut self.draft,
+            &mut self.ledger,
+        );
+        if let Err(fault) = written {
+            self.ledger.take_back();
+            return Err(fault);
+        }
+        if out.extend_from_slice(&self.draft.bytes).is_err() {
+            self.ledger.take_back();
+            return Err(EncodeFault::Memory);
+        }
+        self.ledger.commit();
+        Ok(())
+    }
+}
+
+/// The template of a message, and its identifier.
+fn known<'t>(templates: &'t Templates, message: &Message) -> Option<(&'t Template, u32)>
+    ensures known { IfSome result (λ p. IsKnownAs (tree_of templates.now) (message_data message.now) p.1) }
+    ensures template { IfSome result (λ p. slice_get (templates_of templates.now) message.now.template ≡ Some p.0.now) }
+    ensures unknown { IfNone result (¬ (IsKnown (tree_of templates.now) (message_data message.now))) }
+{
+    if message.template >= templates.count() {
+        return None;
+    }
+    let template = templates.template(message.template);
+    match template.id {
+        Some(id) => Some((template, id)),
+        None => None,
+    }
+}

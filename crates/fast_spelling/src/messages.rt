@@ -1,0 +1,98 @@
+//! A whole message: its map, its identifier, and its instructions.
+
+ghost use Rattle.std.specs.Prelude.{◌≡◌, ◌<◌, ℕ, List, [], ◌≤◌, ◌^◌, if◌then◌else◌, length, slice_get, Some, OnOk, IfErr};
+ghost use Rattle.fast_value.specs.Views.{message_data, slots_data};
+ghost use Rattle.fast_value.specs.Kinds.{U};
+ghost use Rattle.fast_tree.specs.Tree.{identifier};
+ghost use Rattle.fast_tree.specs.Nodes.{field_data};
+ghost use Rattle.fast_tree.specs.Bodies.{AreNodeWidths};
+ghost use Rattle.fast_template.specs.Flat.{nodes_of, templates_of, tree_of};
+ghost use Rattle.fast_dict.specs.Dictionary.{reset};
+ghost use Rattle.fast_spelling.specs.declared.faults.EncodeFault.TheVariants.{Memory};
+ghost use Rattle.fast_spelling.specs.Drafts.{IsTold};
+ghost use Rattle.fast_spelling.specs.Encoding.{EncodesField, EncodesMessage};
+ghost use Rattle.fast_spelling.specs.Fields.{Wrote};
+ghost use Rattle.fast_spelling.specs.Nodes.{IsReady, Keeps};
+ghost use Rattle.fast_spelling.specs.Refusals.{RefusesMessage};
+ghost use Rattle.fast_spelling.specs.Suiting.{IsKnownAs, SuitsTemplate, FitsLimits};
+
+use crate::draft::Draft;
+use crate::faults::EncodeFault;
+use crate::fields::write_field;
+use crate::ledger::Ledger;
+use crate::writing::write_body;
+use fast_template::{FieldInstruction, Operator, Templates};
+use fast_value::{Kind, Limits, Message, Scalar};
+use std::alloc::AllocError;
+
+/// Writes a message that suits its template, which has this identifier, and the limits. The draft holds nothing else then.
+///
+/// # Errors
+///
+/// E3, R9; memory was refused. Then the draft is of no use.
+pub fn write_message(
+    templates: &Templates,
+    limits: Limits,
+    widths: &[usize],
+    id: u32,
+    message: &Message,
+    draft: &mut Draft,
+    ledger: &mut Ledger,
+) -> Result<(), EncodeFault>
+    requires known { IsKnownAs (tree_of templates.now) (message_data message.now) id }
+    requires widths { AreNodeWidths (nodes_of templates.now) widths.now }
+    requires ready { IsReady templates.now limits ledger.old }
+    requires suits { SuitsTemplate (tree_of templates.now) (message_data message.now) }
+    requires fits { FitsLimits limits (slots_data message.now.items.items) }
+    ensures ok { OnOk result (EncodesMessage (tree_of templates.now) limits ledger.old.now (message_data message.now) draft.new.bytes.items ledger.new.now) }
+    ensures err { IfErr result (IsTold (RefusesMessage (tree_of templates.now) limits ledger.old.now (message_data message.now))) }
+    ensures keeps { Keeps ledger.old ledger.new }
+{
+    let template = templates.template(message.template);
+    draft.clear();
+    let mark = draft.mark();
+    write_identifier(templates, limits, id, draft, ledger)?;
+    reset_if(template.reset, ledger)?;
+    write_body(templates, limits, widths, &template.body, &message.items, draft, ledger)?;
+    draft.close(mark, true)
+}
+
+/// Writes the template identifier (FAST 1.1, Transfer Encoding, Template Identifier).
+fn write_identifier(
+    templates: &Templates,
+    limits: Limits,
+    id: u32,
+    draft: &mut Draft,
+    ledger: &mut Ledger,
+) -> Result<(), EncodeFault>
+    requires ready { IsReady templates.now limits ledger.old }
+    ensures ok { OnOk result (Wrote (EncodesField limits identifier ledger.old.now (Some (U id))) draft.old draft.new ledger.new.now) }
+    ensures err { IfErr result (λ c. c ≡ Memory) }
+    ensures keeps { Keeps ledger.old ledger.new }
+{
+    write_field(draft, ledger, &identifier(), Some(Scalar::U(u64::from(id))))
+}
+
+/// The instruction of the template identifier: a mandatory uInt32 with the operator copy, at the first entry.
+fn identifier() -> FieldInstruction
+    ensures { field_data result ≡ identifier }
+{
+    FieldInstruction {
+        kind: Kind::UInt32,
+        optional: false,
+        operator: Operator::Copy,
+        initial: None,
+        entry: Some(0),
+    }
+}
+
+/// Resets the dictionary, as a template with the key `reset` does behind the identifier.
+fn reset_if(resets: bool, ledger: &mut Ledger) -> Result<(), AllocError>
+    ensures now { OnOk result (ledger.new.now ≡ (if resets then reset ledger.old.now else ledger.old.now)) }
+    ensures keeps { Keeps ledger.old ledger.new }
+{
+    if resets {
+        return ledger.reset_others();
+    }
+    Ok(())
+}
