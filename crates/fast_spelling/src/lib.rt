@@ -9,6 +9,7 @@ pub mod items;
 pub mod laws;
 pub mod messages;
 pub mod ledger;
+pub mod measuring;
 pub mod parts;
 pub mod writing;
 

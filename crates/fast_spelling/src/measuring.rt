@@ -1,0 +1,77 @@
+//! Whether a message keeps to the limits.
+
+ghost use Rattle.std.specs.Prelude.{◌≡◌, ◌+◌, ◌≤◌, ◌↔◌, IsTrue, IfSome, IfNone, length};
+ghost use Rattle.fast_value.specs.Kinds.{text_of};
+ghost use Rattle.fast_value.specs.Messages.{sequence, item_total, total};
+ghost use Rattle.fast_value.specs.Values.{value_data};
+ghost use Rattle.fast_value.specs.Views.{item_data, slots_data, elements_data};
+ghost use Rattle.fast_spelling.specs.Suiting.{IsWithinLimits, AreWithinLimits, FitsLimits};
+
+use fast_value::{Item, Limits, Value};
+
+/// Whether every text, every count and the sum of the counts are within the limits.
+pub fn fits_limits(limits: Limits, slots: &[Option<Item>]) -> bool
+    ensures { IsTrue result ↔ FitsLimits limits (slots_data slots.now) }
+{
+    room_after_slots(limits, slots, limits.max_total).is_some()
+}
+
+/// What the elements of all sequences in the slots leave of the room; `None` where a text or a count is over its limit, or
+/// the room does not suffice.
+#[cycle(room)]
+fn room_after_slots(limits: Limits, slots: &[Option<Item>], room: u32) -> Option<u32>
+    ensures some { IfSome result (λ left. AreWithinLimits limits (slots_data slots.now) × (left + total (slots_data slots.now) ≡ room)) }
+    ensures none { IfNone result (¬ (AreWithinLimits limits (slots_data slots.now) × (total (slots_data slots.now) ≤ room))) }
+{
+    let mut left = room;
+    for slot in slots {
+        if let Some(item) = slot {
+            left = room_after_item(limits, item, left)?;
+        }
+    }
+    Some(left)
+}
+
+/// What the elements of all sequences in the item leave of the room.
+#[cycle(room)]
+fn room_after_item(limits: Limits, item: &Item, room: u32) -> Option<u32>
+    ensures some { IfSome result (λ left. IsWithinLimits limits (item_data item.now) × (left + item_total (item_data item.now) ≡ room)) }
+    ensures none { IfNone result (¬ (IsWithinLimits limits (item_data item.now) × (item_total (item_data item.now) ≤ room))) }
+{
+    match item {
+        Item::One(value) => {
+            if text_len(value) > limits.max_text {
+                return None;
+            }
+            Some(room)
+        }
+        Item::Group(slots) => room_after_slots(limits, slots, room),
+        Item::Sequence(rows) => room_after_sequence(limits, rows, room),
+    }
+}
+
+/// What the elements of a sequence, and those of all sequences in them, leave of the room.
+#[cycle(room)]
+fn room_after_sequence(limits: Limits, rows: &[Vec<Option<Item>>], room: u32) -> Option<u32>
+    ensures some { IfSome result (λ left. IsWithinLimits limits (sequence (elements_data rows.now)) × (left + item_total (sequence (elements_data rows.now)) ≡ room)) }
+    ensures none { IfNone result (¬ (IsWithinLimits limits (sequence (elements_data rows.now)) × (item_total (sequence (elements_data rows.now)) ≤ room))) }
+{
+    if rows.len() > limits.max_elements as usize {
+        return None;
+    }
+    let mut left = room.checked_sub(rows.len() as u32)?;
+    for row in rows {
+        left = room_after_slots(limits, row, left)?;
+    }
+    Some(left)
+}
+
+/// The length of a text, 0 of a number.
+fn text_len(value: &Value) -> usize
+    ensures { result ≡ length (text_of (value_data value.now)) }
+{
+    match value {
+        Value::U(_) | Value::I(_) | Value::Dec { .. } => 0,
+        Value::Ascii(text) | Value::Unicode(text) | Value::Bytes(text) => text.len(),
+    }
+}
