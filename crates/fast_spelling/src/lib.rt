@@ -9,6 +9,7 @@ pub mod items;
 pub mod laws;
 pub mod ledger;
 pub mod parts;
+pub mod suiting;
 pub mod writing;
 
 pub use faults::EncodeFault;
