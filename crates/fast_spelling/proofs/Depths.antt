@@ -1,6 +1,6 @@
 -- How deep groups and sequences nest in an item.
 use Rattle.std.proofs.Common.{◌≡◌, ℕ, suc, ◌<◌, ◌≤◌, List, [], ◌∷◌, length, get_or, arith, sym, subst}
-use Rattle.std.specs.Prelude.{zero, max, Option, Some, None}
+use Rattle.std.specs.Prelude.{zero, max, Option, Some, None, option_map}
 use Rattle.std.specs.declared.vec.Vec.{Vec}
 use Rattle.std.specs.declared.alloc.Global.{Global}
 use Rattle.std.proofs.Math.Nat.{le_trans, le-max_left, le-max_right}
@@ -23,6 +23,11 @@ abbrev mutual
   rows_depth no_elements = 0
   rows_depth (element vs rows) = max (slots_depth vs) (rows_depth rows)
 
+-- of an item, if it is there
+abbrev pub option_depth : Option ItemData → ℕ
+option_depth None = 0
+option_depth (Some x) = item_depth x
+
 -- what stands in slots, and in elements, is no deeper than they are
 pub slot_depth : (xs : List (Option Item)) (i : ℕ) (x : Item) → i < length xs → Some x ≡ get_or xs i (Some x) → item_depth (item_data x) ≤ slots_depth (slots_data xs)
 slot_depth [] i x h e = absurd (omega (arith, h))
@@ -32,6 +37,10 @@ slot_depth (Some y ∷ xs) zero x h e =
     subst (λ (z : Item). item_depth (item_data z) ≤ max (item_depth (item_data y)) (slots_depth (slots_data xs))) (sym k) (le-max_left (item_depth (item_data y)) (slots_depth (slots_data xs)))
 slot_depth (None ∷ xs) (suc i) x h e = slot_depth xs i x (omega (arith, h)) e
 slot_depth (Some y ∷ xs) (suc i) x h e = le_trans (slot_depth xs i x (omega (arith, h)) e) (le-max_right (item_depth (item_data y)) (slots_depth (slots_data xs)))
+
+pub option_depth_at : (xs : List (Option Item)) (i : ℕ) (x : Option Item) → i < length xs → x ≡ get_or xs i x → option_depth (option_map item_data x) ≤ slots_depth (slots_data xs)
+option_depth_at xs i None h e = omega arith
+option_depth_at xs i (Some x) h e = slot_depth xs i x h e
 
 pub row_depth : (rs : List (Vec (Option Item) Global)) (i : ℕ) (r : Vec (Option Item) Global) → i < length rs → r ≡ get_or rs i r → slots_depth (slots_data r.items) ≤ rows_depth (elements_data rs)
 row_depth [] i r h e = absurd (omega (arith, h))

@@ -11,3 +11,4 @@ pub mod FieldsWritten
 pub mod Instructions
 pub mod Progress
 pub mod Depths
+pub mod Suited

@@ -11,6 +11,7 @@ pub mod messages;
 pub mod ledger;
 pub mod measuring;
 pub mod parts;
+pub mod suiting;
 pub mod writing;
 
 pub use faults::EncodeFault;
