@@ -113,7 +113,7 @@ IsWithinOption l None = Unit {0}
 IsWithinOption l (Some x) = IsWithinLimits l x
 
 -- how many bits stand for a field, an instruction, a body
-field-length : (l : Limits) (f : FieldData) (d : Dictionary) (v : Option ScalarData) (b : List Bool) (w : List ℕ) (d' : Dictionary) → EncodesField l f d v b w d' → length b ≤ one_if (uses_bit f)
+pub field-length : (l : Limits) (f : FieldData) (d : Dictionary) (v : Option ScalarData) (b : List Bool) (w : List ℕ) (d' : Dictionary) → EncodesField l f d v b w d' → length b ≤ one_if (uses_bit f)
 field-length l f d v b w d' (bit, item, next, r, s, o, e, g) = rw e (on (uses_bit f))
   where
     on : (u : Bool) → length (if u then bit ∷ [] else []) ≤ one_if u
@@ -157,7 +157,7 @@ instruction-length l (parts at e m) d x b w d' h = decimal-length l e m d x b w 
 instruction-length l (group at optional body) d x b w d' h = group-length optional (EncodesSegment body (EncodesBody l body)) d x b w d' h
 instruction-length l (sequence at f body) d x b w d' h = sequence-length l f (EncodesSegment body (EncodesBody l body)) d x b w d' h
 
-body-length : (l : Limits) (body : Body) (d : Dictionary) (vs : Slots) (b : List Bool) (w : List ℕ) (d' : Dictionary) → EncodesBody l body d vs b w d' → length b ≤ bits_of body
+pub body-length : (l : Limits) (body : Body) (d : Dictionary) (vs : Slots) (b : List Bool) (w : List ℕ) (d' : Dictionary) → EncodesBody l body d vs b w d' → length b ≤ bits_of body
 unfolding Encodes
 body-length l end d vs b w d' (e, f, h, i) = rw f (omega arith)
 body-length l (step i is) d vs b w d' (x, rest, b1, b2, u, v, mid, h, j, e, eb, ew) = rw eb (both b1 b2 (bits_used i) (bits_of is) (instruction-length l i d x b1 u mid h) (body-length l is mid rest b2 v d' j))

@@ -12,3 +12,5 @@ pub mod Instructions
 pub mod Progress
 pub mod Depths
 pub mod Suited
+pub mod Mapped
+pub mod Excluded

@@ -1,0 +1,5 @@
+use Rattle.fast_spelling.proofs.Mapped.{message_has_map}
+use Rattle.fast_spelling.proofs.laws.message_has_map.Goals as goal
+
+pub returns : goal.returns
+returns c = message_has_map
