@@ -14,3 +14,4 @@ pub mod Depths
 pub mod Suited
 pub mod Mapped
 pub mod Excluded
+pub mod Whole

@@ -53,7 +53,15 @@ pub fn write_message(
     let mark = draft.mark();
     write_identifier(templates, limits, id, draft, ledger)?;
     reset_if(template.reset, ledger)?;
-    write_body(templates, limits, widths, &template.body, &message.items, draft, ledger)?;
+    write_body(
+        templates,
+        limits,
+        widths,
+        &template.body,
+        &message.items,
+        draft,
+        ledger,
+    )?;
     draft.close(mark, true)
 }
 

@@ -1,0 +1,22 @@
+-- The identifier is a mandatory copy of an integer.
+use Rattle.std.proofs.Common.{◌≡◌, ℕ, sym, subst}
+use Rattle.std.specs.Prelude.{Some}
+use Rattle.fast_value.specs.Kinds.{U}
+use Rattle.fast_tree.specs.Tree.{FieldData, identifier}
+use Rattle.fast_spelling.specs.declared.faults.EncodeFault.{EncodeFault}
+use Rattle.fast_spelling.specs.Encoding.{EncodesField}
+use Rattle.fast_spelling.specs.Fields.{Wrote}
+use Rattle.fast_spelling.specs.Refusals.{RefusesField}
+use Rattle.fast_spelling.proofs.Spelling.{on_ok}
+use Rattle.fast_spelling.proofs.Whole.{identifier_goes, only_memory}
+use Rattle.fast_spelling.proofs.messages.write_identifier.Goals as goal
+
+pub returns-clause-ok : goal.returns-clause-ok
+returns-clause-ok c = on_ok c.write_field.result c.write_field.ensures.ok (λ wrote.
+    subst (λ (n : ℕ). Wrote (EncodesField c.args.limits identifier c.args.ledger.now.now (Some (U n))) c.args.draft.now c.write_field.new.draft c.write_field.new.ledger.now) c.from.ensures
+    (subst (λ (f : FieldData). Wrote (EncodesField c.args.limits f c.args.ledger.now.now (Some (U c.from.result))) c.args.draft.now c.write_field.new.draft c.write_field.new.ledger.now) c.identifier.ensures
+    (wrote c.args.limits c.requires.ready.room)))
+
+pub returns-clause-err : goal.returns-clause-err
+returns-clause-err c = only_memory c.write_field.result c.write_field.ensures.err
+    (subst (λ (f : FieldData). (e : EncodeFault) → ¬ (RefusesField f c.args.ledger.now.now (Some (U c.from.result)) e)) (sym c.identifier.ensures) (identifier_goes c.args.ledger.now.now c.from.result))
