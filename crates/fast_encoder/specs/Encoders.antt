@@ -1,5 +1,5 @@
 -- What a contract sees of an encoder, and what one answers.
-use Rattle.std.specs.Prelude.{◌≡◌, ◌⊎◌, ℕ, List, ◌++◌, Result, Ok, Err}
+use Rattle.std.specs.Prelude.{◌≡◌, ◌⊎◌, ℕ, true, List, ◌++◌}
 use Rattle.fast_value.specs.declared.settings.Limits.{Limits}
 use Rattle.fast_value.specs.Limits.{in_mode}
 use Rattle.fast_value.specs.Messages.{MessageData}
@@ -7,6 +7,7 @@ use Rattle.fast_tree.specs.Tree.{Tree}
 use Rattle.fast_tree.specs.Bodies.{AreNodeWidths}
 use Rattle.fast_template.specs.declared.sets.Templates.{Templates}
 use Rattle.fast_template.specs.Flat.{nodes_of}
+use Rattle.fast_decoder.specs.Positions.{Set, tree_in}
 use Rattle.fast_dict.specs.Dictionary.{Dictionary}
 use Rattle.fast_stream.specs.Messages.{SpellsMessage}
 use Rattle.fast_spelling.specs.declared.faults.EncodeFault.{EncodeFault}
@@ -17,16 +18,20 @@ use Rattle.fast_spelling.specs.Nodes.{IsReady}
 use Rattle.fast_spelling.specs.Refusals.{IsRefused}
 use Rattle.fast_spelling.specs.Suiting.{SuitsTemplate, FitsLimits}
 
--- An encoder: the tree of its template set, its limits, and its dictionary.
+-- An encoder: its template set and limits, and its dictionary.
 pub record EncoderData : Type 0 where
-  pub tree : Tree
+  pub set : Set
   pub limits : Limits
   pub dictionary : Dictionary
+
+-- the tree of the encoder's template set
+abbrev pub tree : EncoderData → Tree
+tree e = tree_in e.set
 
 -- Between two messages: the ledger serves the set, and nothing in it could be taken back.
 pub record IsSound (t : Templates) (l : Limits) (widths : List ℕ) (s : LedgerData) : Type 0 where
   pub ready : IsReady t l s
-  pub widths : AreNodeWidths (nodes_of t) widths
+  pub bits : AreNodeWidths (nodes_of t) widths
   pub committed : s.before ≡ s.now
 
 -- The message suits its template and keeps to the limits, and behind the bytes that there were stands what spells it in strict mode, by the
@@ -34,11 +39,11 @@ pub record IsSound (t : Templates) (l : Limits) (widths : List ℕ) (s : LedgerD
 pub record IsEncoded (old : EncoderData) (m : MessageData) (out : List ℕ) (new : EncoderData) (longer : List ℕ) : Type 0 where
   pub bytes : List ℕ
   pub appended : longer ≡ out ++ bytes
-  pub suits : SuitsTemplate old.tree m
+  pub suits : SuitsTemplate (tree old) m
   pub fits : FitsLimits old.limits m.slots
-  pub ruled : EncodesMessage old.tree old.limits old.dictionary m bytes new.dictionary
-  pub spelled : SpellsMessage old.tree (in_mode true old.limits) old.dictionary m bytes new.dictionary
+  pub ruled : EncodesMessage (tree old) old.limits old.dictionary m bytes new.dictionary
+  pub spelled : SpellsMessage (tree old) (in_mode true old.limits) old.dictionary m bytes new.dictionary
 
 -- memory was refused, or the encoder refuses the message with this fault
 abbrev pub IsToldOf : EncoderData → MessageData → EncodeFault → Type 0
-IsToldOf e m c = (c ≡ Memory) ⊎ IsRefused e.tree e.limits e.dictionary m c
+IsToldOf e m c = (c ≡ Memory) ⊎ IsRefused (tree e) e.limits e.dictionary m c

@@ -13,7 +13,7 @@ ghost use Rattle.fast_spelling.specs.Encoding.{EncodesMessage};
 ghost use Rattle.fast_spelling.specs.Nodes.{IsReady, Keeps};
 ghost use Rattle.fast_spelling.specs.Refusals.{IsRefused};
 ghost use Rattle.fast_spelling.specs.Suiting.{IsKnown, IsKnownAs, SuitsTemplate, FitsLimits};
-ghost use Rattle.fast_encoder.specs.Encoders.{EncoderData, IsEncoded, IsToldOf};
+ghost use Rattle.fast_encoder.specs.Encoders.{tree, IsEncoded, IsToldOf};
 
 use fast_decoder::MakeError;
 use fast_decoder::layout::{has_long_initial, measure};
@@ -45,12 +45,12 @@ pub struct Encoder<'t> {
 }
 
 impl<'t> Model for Encoder<'t> {
-    ghost use Rattle.fast_template.specs.Flat.{tree_of};
+    ghost use Rattle.fast_decoder.specs.Positions.{set_of};
     ghost use Rattle.fast_encoder.specs.Encoders.{EncoderData, IsSound};
 
     ghost Value = { EncoderData };
 
-    ghost view = { λ e. record { tree = tree_of e.templates.now; limits = e.limits; dictionary = e.ledger.now } };
+    ghost view = { λ e. record { set = set_of e.templates.now; limits = e.limits; dictionary = e.ledger.now } };
 
     ghost invariant = { λ e. IsSound e.templates.now e.limits e.widths.items e.ledger };
 }
@@ -67,7 +67,7 @@ impl<'t> Encoder<'t> {
         templates: &'t Templates,
         limits: Limits,
     ) -> Result<Encoder<'t>, MakeError>
-        ensures made { IfOk result (λ e. (e.tree ≡ tree_of templates.entry.now) × (e.limits ≡ limits) × (e.dictionary ≡ fresh (tree_of templates.entry.now).entries)) }
+        ensures made { IfOk result (λ e. (tree e ≡ tree_of templates.entry.now) × (e.limits ≡ limits) × (e.dictionary ≡ fresh (tree_of templates.entry.now).entries)) }
         ensures bad_limits { (result ≡ Err MakeError.BadLimits) ↔ (AreBadLimits limits) }
         ensures long_initial { (result ≡ Err MakeError.InitialTooLong) ↔ (¬ (AreBadLimits limits) × HasLongInitial limits.max_text (nodes_of templates.entry.now)) }
     {
@@ -94,8 +94,8 @@ impl<'t> Encoder<'t> {
 
     /// The encoder as it was made: all entries of its dictionary are undefined.
     pub fn reset(&mut self)
-        ensures fresh { self.new.dictionary ≡ fresh self.old.tree.entries }
-        ensures same_set { (self.new.tree ≡ self.old.tree) × (self.new.limits ≡ self.old.limits) }
+        ensures fresh { self.new.dictionary ≡ fresh (tree self.old).entries }
+        ensures same_set { (self.new.set ≡ self.old.set) × (self.new.limits ≡ self.old.limits) }
     {
         self.ledger.reset_all();
     }
@@ -110,9 +110,9 @@ impl<'t> Encoder<'t> {
         ensures ok { OnOk result (IsEncoded self.old (message_data message.now) out.old.items self.new out.new.items) }
         ensures err { IfErr result (IsToldOf self.old (message_data message.now)) }
         // A fault that stands is told, unless memory was refused.
-        ensures told { (c : EncodeFault) → IsRefused self.old.tree self.old.limits self.old.dictionary (message_data message.now) c → (result ≡ Err c) ⊎ (result ≡ Err EncodeFault.Memory) }
+        ensures told { (c : EncodeFault) → IsRefused (tree self.old) self.old.limits self.old.dictionary (message_data message.now) c → (result ≡ Err c) ⊎ (result ≡ Err EncodeFault.Memory) }
         ensures unchanged { OnErr result ((self.new ≡ self.old) × (out.new.items ≡ out.old.items)) }
-        ensures same_set { (self.new.tree ≡ self.old.tree) × (self.new.limits ≡ self.old.limits) }
+        ensures same_set { (self.new.set ≡ self.old.set) × (self.new.limits ≡ self.old.limits) }
     {
         let Some((template, id)) = known(self.templates, message) else {
             return Err(EncodeFault::E1);

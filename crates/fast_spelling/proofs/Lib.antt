@@ -15,3 +15,4 @@ pub mod Suited
 pub mod Mapped
 pub mod Excluded
 pub mod Whole
+pub mod Late

@@ -41,13 +41,16 @@ only_memory (Err c) (inr p) never = absurd (never c p)
 pub template_there : (t : Templates) (i : ℕ) (v : Template) → slice_get (templates_of t) i ≡ Some v → slice_get (tree_of t).templates i ≡ Some (template_data (instructions_from 0 (nodes_of t)) v)
 template_there t i v found = slice_get-map (template_data (instructions_from 0 (nodes_of t))) (templates_of t) i ∙ ap (option_map (template_data (instructions_from 0 (nodes_of t)))) found
 
-same_template : (t : Templates) (i : ℕ) (v : Template) (u : TemplateData) → slice_get (templates_of t) i ≡ Some v → slice_get (tree_of t).templates i ≡ Some u → u ≡ template_data (instructions_from 0 (nodes_of t)) v
+pub same_template : (t : Templates) (i : ℕ) (v : Template) (u : TemplateData) → slice_get (templates_of t) i ≡ Some v → slice_get (tree_of t).templates i ≡ Some u → u ≡ template_data (instructions_from 0 (nodes_of t)) v
 same_template t i v u found at = let both : Some u ≡ Some (template_data (instructions_from 0 (nodes_of t)) v) = sym at ∙ template_there t i v found in cc both
 
 pub slots_suit : (t : Templates) (m : MessageData) (v : Template) → slice_get (templates_of t) m.template ≡ Some v → SuitsTemplate (tree_of t) m → SuitsBody (body_among (nodes_of t) v.body.items) m.slots
 slots_suit t m v found (u, at, suits) = subst (λ (z : TemplateData). SuitsBody z.body m.slots) (same_template t m.template v u found at) suits
 
-identified : (t : Templates) (m : MessageData) (id : ℕ) (v : Template) → slice_get (templates_of t) m.template ≡ Some v → IsKnownAs (tree_of t) m id → v.id ≡ Some id
+pub template_suits : (t : Templates) (m : MessageData) (v : Template) → slice_get (templates_of t) m.template ≡ Some v → SuitsBody (body_among (nodes_of t) v.body.items) m.slots → SuitsTemplate (tree_of t) m
+template_suits t m v found suits = (template_data (instructions_from 0 (nodes_of t)) v, template_there t m.template v found, suits)
+
+pub identified : (t : Templates) (m : MessageData) (id : ℕ) (v : Template) → slice_get (templates_of t) m.template ≡ Some v → IsKnownAs (tree_of t) m id → v.id ≡ Some id
 identified t m id v found (u, at, is) = ap (λ (z : TemplateData). z.id) (sym (same_template t m.template v u found at)) ∙ is
 
 -- An instruction is refused behind the identifier and the reset.
