@@ -28,12 +28,16 @@ const LIMITS: Limits = Limits {
 enum Part {
     Field(u32, Scalar<'static>),
     Absent,
+    /// So many absent ones.
+    Absents(u32),
     Group(u32),
     EndGroup,
     /// A node, and how many elements follow.
     Sequence(u32, u32),
     Element,
     EndElement,
+    /// So many elements, each with a node and this number.
+    Elements(u32, u32, u64),
     EndSequence,
 }
 
@@ -88,6 +92,28 @@ fn end_element(alloc: Global, open: &mut Vec<Open>) -> Result<(), AllocError> {
     Ok(())
 }
 
+/// Adds so many absent items to what is open innermost.
+fn add_absent(open: &mut Vec<Open>, count: u32) -> Result<(), AllocError> {
+    for _ in 0..count {
+        add(open, None)?;
+    }
+    Ok(())
+}
+
+/// Adds so many elements of a number to what is open innermost.
+fn add_elements(
+    alloc: Global,
+    open: &mut Vec<Open>,
+    count: u32,
+    number: u64,
+) -> Result<(), AllocError> {
+    for _ in 0..count {
+        add(open, Some(Item::One(Value::U(number))))?;
+        end_element(alloc, open)?;
+    }
+    Ok(())
+}
+
 /// Ends what is open innermost.
 fn end(alloc: Global, open: &mut Vec<Open>) -> Open {
     match open.pop() {
@@ -101,6 +127,7 @@ fn add_part(alloc: Global, open: &mut Vec<Open>, part: Part) -> Result<(), Alloc
     match part {
         Part::Field(_, value) => add(open, Some(Item::One(Value::copy_of(alloc, value)?))),
         Part::Absent => add(open, None),
+        Part::Absents(count) => add_absent(open, count),
         Part::Group(_) | Part::Sequence(..) => Ok(open.push(Open::new(alloc))?),
         Part::EndGroup => {
             let group = end(alloc, open);
@@ -108,6 +135,7 @@ fn add_part(alloc: Global, open: &mut Vec<Open>, part: Part) -> Result<(), Alloc
         }
         Part::Element => Ok(()),
         Part::EndElement => end_element(alloc, open),
+        Part::Elements(count, _, number) => add_elements(alloc, open, count, number),
         Part::EndSequence => {
             let sequence = end(alloc, open);
             add(open, Some(Item::Sequence(sequence.elements)))
@@ -128,21 +156,42 @@ fn message_of(alloc: Global, template: u32, parts: &[Part]) -> Result<Message, A
     })
 }
 
-/// The event that comes of a part.
-fn event_of(alloc: Global, part: Part) -> Result<Option<Recorded>, AllocError> {
-    match part {
+/// Adds the events of so many elements of a number.
+fn add_element_events(
+    events: &mut Vec<Recorded>,
+    count: u32,
+    node: u32,
+    number: u64,
+) -> Result<(), AllocError> {
+    for _ in 0..count {
+        events.push(Recorded::ElementStart)?;
+        let value = Value::U(number);
+        events.push(Recorded::Field { node, value })?;
+        events.push(Recorded::ElementEnd)?;
+    }
+    Ok(())
+}
+
+/// Adds the events of a part.
+fn add_events(alloc: Global, events: &mut Vec<Recorded>, part: Part) -> Result<(), AllocError> {
+    let event = match part {
         Part::Field(node, value) => {
             let value = Value::copy_of(alloc, value)?;
-            Ok(Some(Recorded::Field { node, value }))
+            Recorded::Field { node, value }
         }
-        Part::Absent => Ok(None),
-        Part::Group(node) => Ok(Some(Recorded::GroupStart { node })),
-        Part::EndGroup => Ok(Some(Recorded::GroupEnd)),
-        Part::Sequence(node, count) => Ok(Some(Recorded::SequenceStart { node, count })),
-        Part::Element => Ok(Some(Recorded::ElementStart)),
-        Part::EndElement => Ok(Some(Recorded::ElementEnd)),
-        Part::EndSequence => Ok(Some(Recorded::SequenceEnd)),
-    }
+        Part::Absent | Part::Absents(_) => return Ok(()),
+        Part::Group(node) => Recorded::GroupStart { node },
+        Part::EndGroup => Recorded::GroupEnd,
+        Part::Sequence(node, count) => Recorded::SequenceStart { node, count },
+        Part::Element => Recorded::ElementStart,
+        Part::EndElement => Recorded::ElementEnd,
+        Part::Elements(count, node, number) => {
+            return add_element_events(events, count, node, number);
+        }
+        Part::EndSequence => Recorded::SequenceEnd,
+    };
+    events.push(event)?;
+    Ok(())
 }
 
 /// The events of a message.
@@ -150,9 +199,7 @@ fn events_of(alloc: Global, template: u32, parts: &[Part]) -> Result<Vec<Recorde
     let mut events = Vec::new(alloc);
     events.push(Recorded::MessageStart { template })?;
     for part in parts {
-        if let Some(event) = event_of(alloc, *part)? {
-            events.push(event)?;
-        }
+        add_events(alloc, &mut events, *part)?;
     }
     events.push(Recorded::MessageEnd)?;
     Ok(events)

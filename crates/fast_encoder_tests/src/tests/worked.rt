@@ -2,9 +2,8 @@
 
 use super::Part::*;
 use super::Step::{Gives, Refuses, Reset};
-use super::{LIMITS, Part, Row, Step, expect_row, expect_rows};
+use super::{LIMITS, Part, Row, expect_rows};
 use fast_encoder::EncodeFault;
-use fast_template::Templates;
 use fast_value::Scalar::{Ascii, Bytes, Dec, I, U, Unicode};
 use std::alloc::{AllocError, Global};
 use std::test::Fail;
@@ -114,10 +113,11 @@ pub const LONG_BYTES: &[u8] = &[
 
 const MESSAGES: &[Row<'static>] = &[
     Row(
-        "a message, and another of its template",
+        "a message, one without its field, and another of its template",
         LIMITS,
         &[
             Gives(0, &[Field(0, U(942_755))], &[0xC0, 0x81, 0x39, 0x45, 0xA3]),
+            Refuses(0, &[Absent], EncodeFault::E2),
             Gives(0, &[Field(0, U(0))], &[0x80, 0x80]),
         ],
     ),
@@ -160,6 +160,32 @@ const MESSAGES: &[Row<'static>] = &[
             Refuses(19, &[Field(0, U(1))], EncodeFault::E1),
             Refuses(u32::MAX, &[], EncodeFault::E1),
             Gives(18, &[Absent], &[0xC0, 0x93, 0x80]),
+        ],
+    ),
+    Row(
+        "elements that take no byte, too many, and another",
+        LIMITS,
+        &[
+            Refuses(
+                1,
+                &[Sequence(1, 1001), Elements(1001, 2, 7), EndSequence],
+                EncodeFault::E4,
+            ),
+            Gives(
+                1,
+                &[Sequence(1, 1000), Elements(1000, 2, 7), EndSequence],
+                &[0xC0, 0x82, 0x07, 0xE8],
+            ),
+            Refuses(
+                1,
+                &[Sequence(1, 1), Elements(1, 2, 8), EndSequence],
+                EncodeFault::E3,
+            ),
+            Gives(
+                1,
+                &[Sequence(1, 1), Elements(1, 2, 7), EndSequence],
+                &[0x80, 0x81],
+            ),
         ],
     ),
 ];
@@ -356,10 +382,11 @@ const TEXTS: &[Row<'static>] = &[
         ],
     ),
     Row(
-        "an absent text, and an empty one",
+        "an absent text, one with a zero in front, and an empty one",
         LIMITS,
         &[
             Gives(18, &[Absent], &[0xC0, 0x93, 0x80]),
+            Refuses(18, &[Field(25, Ascii(b"\0A"))], EncodeFault::R9),
             Gives(18, &[Field(25, Ascii(b""))], &[0x80, 0x00, 0x80]),
         ],
     ),
@@ -404,44 +431,8 @@ fn texts(rt: HostRuntime) -> Result<(), Fail> {
     expect_rows(&rt, rt.alloc(), WORKED, TEXTS)
 }
 
-/// A sequence of so many elements, each with this number.
-pub fn elements(alloc: Global, number: u64, count: u32) -> Result<Vec<Part>, AllocError> {
-    let mut parts = Vec::new(alloc);
-    parts.push(Sequence(1, count))?;
-    for _ in 0..count {
-        parts.extend_from_slice(&[Element, Field(2, U(number)), EndElement])?;
-    }
-    parts.push(EndSequence)?;
-    Ok(parts)
-}
-
-#[test]
-fn elements_that_take_no_byte(rt: HostRuntime) -> Result<(), Fail> {
-    let alloc = rt.alloc();
-    let one = elements(alloc, 7, 1)?;
-    let other = elements(alloc, 8, 1)?;
-    let most = elements(alloc, 7, 1000)?;
-    let more = elements(alloc, 7, 1001)?;
-    let set = Templates::read(alloc, WORKED)?;
-    expect_row(
-        &rt,
-        alloc,
-        &set,
-        Row(
-            "elements of a constant",
-            LIMITS,
-            &[
-                Refuses(1, &more, EncodeFault::E4),
-                Gives(1, &most, &[0xC0, 0x82, 0x07, 0xE8]),
-                Refuses(1, &other, EncodeFault::E3),
-                Gives(1, &one, &[0x80, 0x81]),
-            ],
-        ),
-    )
-}
-
 /// A template of 300 optional fields.
-fn wide_set(alloc: Global) -> Result<String, AllocError> {
+fn wide_text(alloc: Global) -> Result<String, AllocError> {
     let mut text = String::from_str(alloc, "[[template]]\nname = 'Wide'\nid = 1\nfields = [")?;
     for i in 0..300u32 {
         let field = format!(in alloc; "{{kind='uInt32', name='f{i}', optional=true, op='copy'}},")?;
@@ -451,25 +442,28 @@ fn wide_set(alloc: Global) -> Result<String, AllocError> {
     Ok(text)
 }
 
+const WIDE: &[Row<'static>] = &[Row(
+    "the last of 300 fields",
+    LIMITS,
+    &[
+        Gives(
+            0,
+            &[Absents(299), Field(299, U(5))],
+            &[
+                0x40, 0x00, 0x00, 0x00, 0x00, 0x00, 0x00, 0x00, 0x00, 0x00, 0x00, 0x00, 0x00, 0x00,
+                0x00, 0x00, 0x00, 0x00, 0x00, 0x00, 0x00, 0x00, 0x00, 0x00, 0x00, 0x00, 0x00, 0x00,
+                0x00, 0x00, 0x00, 0x00, 0x00, 0x00, 0x00, 0x00, 0x00, 0x00, 0x00, 0x00, 0x00, 0x00,
+                0x81, 0x81, 0x86,
+            ],
+        ),
+        Gives(0, &[Absents(299), Field(299, U(5))], &[0x80]),
+    ],
+)];
+
 #[test]
 fn a_wide_map(rt: HostRuntime) -> Result<(), Fail> {
-    let alloc = rt.alloc();
-    let mut last = vec![in alloc; Absent; 299]?;
-    last.push(Field(299, U(5)))?;
-    let mut bytes = Vec::from_slice(alloc, &[0x40])?;
-    bytes.extend_from_slice(&[0x00; 41])?;
-    bytes.extend_from_slice(&[0x81, 0x81, 0x86])?;
-    let set = wide_set(alloc)?;
-    expect_rows(
-        &rt,
-        alloc,
-        set.as_str(),
-        &[Row(
-            "the last of 300 fields",
-            LIMITS,
-            &[Gives(0, &last, &bytes), Gives(0, &last, &[0x80])],
-        )],
-    )
+    let text = wide_text(rt.alloc())?;
+    expect_rows(&rt, rt.alloc(), text.as_str(), WIDE)
 }
 
 /// Fields whose values need not be sent.
