@@ -19,8 +19,8 @@ fn made<'t>(alloc: Global, set: &'t Templates) -> Result<Encoder<'t>, MakeError>
     }
 }
 
-/// Whether the message is encoded behind what `out` has, at the second try where memory was refused at the first and `out` had what it
-/// has before.
+/// Whether the message is encoded behind what `out` has, at the second try where memory was refused at the first and
+/// `out` had what it has before.
 fn is_encoded(
     encoder: &mut Encoder<'_>,
     message: &Message,

@@ -22,7 +22,8 @@ fn make_error(alloc: Global, text: &str, max_text: usize) -> Option<MakeError> {
     }
 }
 
-/// Initial values: of four characters, of 17 characters in a template without an identifier, of 17 bytes, and of 17 bytes in a group.
+/// Initial values: of four characters, of 17 characters in a template without an identifier, of 17 bytes, and of 17
+/// bytes in a group.
 const INITIAL: [&str; 4] = [
     "[[template]]\nname = 'T'\nfields = [{kind='ascii', name='f', op='default', value='ABCD'}]",
     "[[template]]\nname = 'T'\nfields = [{kind='ascii', name='f', op='constant', value='12345678901234567'}]",
