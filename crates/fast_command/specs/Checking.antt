@@ -2,7 +2,7 @@
 use Rattle.std.specs.Prelude.{ℕ, List, [], ◌∷◌, ◌++◌, length, codes, decimal}
 use Rattle.fast_value.specs.declared.settings.Limits.{Limits}
 use Rattle.fast_tree.specs.Tree.{Tree}
-use Rattle.fast_template.specs.Labels.{template_labels}
+use Rattle.fast_notation.specs.Labels.{template_labels}
 use Rattle.fast_tree.specs.Sizes.{set_depth, message_cap}
 
 -- a name and a number

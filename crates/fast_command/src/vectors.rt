@@ -3,7 +3,7 @@
 ghost use Rattle.std.specs.Prelude.{◌≡◌, Some, IfOk};
 ghost use Rattle.toml.specs.Data.{Members};
 ghost use Rattle.toml.specs.Parse.{parse_document};
-ghost use Rattle.fast_template.specs.Checked.{IsTree};
+ghost use Rattle.fast_notation.specs.Checked.{IsTree};
 ghost use Rattle.fast_template.specs.Flat.{tree_of};
 
 use fast_template::{StaticFault, Templates};

@@ -14,7 +14,7 @@ use Rattle.fast_tree.specs.declared.instructions.Shape.{Shape}
 use Rattle.fast_tree.specs.Numbers.{numbers_of}
 use Rattle.fast_tree.specs.Tree.{Instruction, Body, end, step, bits_of, has_map}
 use Rattle.fast_tree.specs.Nodes.{instructions_from}
-use Rattle.fast_template.proofs.Bodies.{next_instruction}
+use Rattle.fast_notation.proofs.Bodies.{next_instruction}
 use Rattle.fast_dict.specs.Dictionary.{Dictionary}
 use Rattle.fast_stream.specs.Messages.{with_slot}
 use Rattle.fast_tree.specs.Bodies.{body_among, AreNodeWidths}

@@ -5,7 +5,7 @@ use Rattle.fast_tree.specs.declared.instructions.Node.{Node}
 use Rattle.fast_template.specs.declared.sets.Templates.{Templates}
 use Rattle.fast_tree.specs.Tree.{Instruction, field, parts, group, sequence, Body, end, step, TemplateData}
 use Rattle.fast_template.specs.Flat.{tree_of, nodes_of}
-use Rattle.fast_template.specs.Labels.{labels, body_labels, template_labels, labels_from}
+use Rattle.fast_notation.specs.Labels.{labels, body_labels, template_labels, labels_from}
 use Rattle.fast_tree.specs.Sizes.{depth, body_depth, set_depth, greatest, event_weights, outer, body_outer, widest, body_widest, sum_cap}
 use Rattle.fast_value.specs.declared.settings.Limits.{Limits}
 

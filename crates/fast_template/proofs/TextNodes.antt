@@ -9,11 +9,10 @@ use Rattle.fast_tree.specs.declared.instructions.Template.{Template}
 use Rattle.fast_template.specs.declared.sets.Templates.{Templates}
 use Rattle.fast_tree.specs.Tree.{Label, Instruction, TemplateData}
 use Rattle.fast_template.specs.Flat.{tree_of, nodes_of, templates_of, label_of, instruction_of, instructions_from, body_of, no_instruction, template_data}
-use Rattle.fast_template.specs.Labels.{labels, body_labels, template_labels, labels_from}
+use Rattle.fast_notation.specs.Labels.{labels, body_labels, template_labels, labels_from}
 use Rattle.fast_tree.specs.Numbers.{numbers_of, NameNodes}
 use Rattle.fast_template.specs.TextFields.{HoldsText, BodyHoldsText, SetHoldsText, IsTextShape, IsTextNode}
-use Rattle.fast_template.proofs.SetTrees.{template_behind}
-use Rattle.fast_template.proofs.Walks.{instruction_at}
+use Rattle.fast_template.proofs.SetTrees.{template_behind, instruction_at}
 
 -- an element by its place
 at_place : {A : Type 0} (P : A → Type 0) (xs : List A) (k : ℕ) (x : A) → slice_get xs k ≡ Some x → P x → Any P xs

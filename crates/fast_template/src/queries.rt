@@ -4,7 +4,7 @@ ghost use Rattle.std.specs.Prelude.{◌≡◌, ◌≢◌, ◌≤◌, ◌<◌, �
 ghost use Rattle.fast_tree.specs.declared.instructions.Template.{Template};
 ghost use Rattle.fast_tree.specs.declared.instructions.Node.{Node};
 ghost use Rattle.fast_template.specs.Flat.{templates_of, nodes_of, tree_of};
-ghost use Rattle.fast_template.specs.Labels.{template_labels, labels_from};
+ghost use Rattle.fast_notation.specs.Labels.{template_labels, labels_from};
 ghost use Rattle.fast_tree.specs.Tree.{HasDistinctIds};
 ghost use Rattle.fast_tree.specs.NodeData.{shape_data};
 ghost use Rattle.fast_template.specs.Opcodes.{opcode_of};

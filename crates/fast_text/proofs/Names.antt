@@ -8,7 +8,7 @@ use Rattle.fast_tree.specs.declared.instructions.Template.{Template}
 use Rattle.fast_template.specs.declared.sets.Templates.{Templates}
 use Rattle.fast_tree.specs.Tree.{Label}
 use Rattle.fast_tree.specs.Nodes.{label_of, instructions_from, template_data}
-use Rattle.fast_template.specs.Labels.{labels_from, template_labels}
+use Rattle.fast_notation.specs.Labels.{labels_from, template_labels}
 use Rattle.fast_template.specs.Flat.{tree_of, nodes_of, templates_of}
 use Rattle.fast_text.specs.Lines.{name_among, node_name, name_if, template_name}
 

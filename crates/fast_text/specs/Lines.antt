@@ -3,7 +3,7 @@ use Rattle.std.specs.Prelude.{ℕ, ◌+◌, ◌/◌, ◌%◌, ◌||◌, nat_eq, 
 use Rattle.std.specs.Fmt.{signed_decimal}
 use Rattle.fast_value.specs.Kinds.{ScalarData, U, I, Dec, AsciiText, UnicodeText, ByteVector}
 use Rattle.fast_tree.specs.Tree.{Label, TemplateData, Tree}
-use Rattle.fast_template.specs.Labels.{template_labels}
+use Rattle.fast_notation.specs.Labels.{template_labels}
 use Rattle.fast_stream.specs.Events.{EventData, MessageStart, FieldValue, GroupStart, GroupEnd, SequenceStart, ElementStart, ElementEnd, SequenceEnd, MessageEnd}
 
 -- The name of a node, and of a template; empty for a number that the set doesn't have.

@@ -6,9 +6,9 @@ use Rattle.fast_template.specs.Counts.{AreCountsOf, AreCountsOfBody}
 use Rattle.fast_template.specs.Flat.{no_instruction, body_of, instructions_from}
 use Rattle.fast_tree.specs.Numbers.{AreBetween}
 use Rattle.fast_template.specs.Saturation.{in_64_bits}
-use Rattle.fast_template.proofs.Walks.{body_at_end}
-use Rattle.fast_template.proofs.Bodies.{instruction_here, next_instruction, names_later}
-use Rattle.fast_template.proofs.Measures.{left_at_node, left_at_body, smaller_at_node, smaller_at_body, all_below}
+use Rattle.fast_notation.proofs.Walks.{body_at_end}
+use Rattle.fast_notation.proofs.Bodies.{instruction_here, next_instruction, names_later}
+use Rattle.fast_notation.proofs.Measures.{left_at_node, left_at_body, smaller_at_node, smaller_at_body, all_below}
 use Rattle.fast_template.proofs.Saturation.{max_assoc}
 use Rattle.fast_template.proofs.caps.+counts.Goals as goal
 

@@ -1,0 +1,17 @@
+use Rattle.std.proofs.Common.{◌<◌, length, get_or, Some, ap, sym, ◌∙◌, subst}
+use Rattle.std.proofs.lemmas.List.Elements.{All-pop}
+use Rattle.fast_notation.specs.declared.components.Step.{Step}
+use Rattle.fast_notation.specs.Cycles.{numbers}
+use Rattle.fast_notation.proofs.CycleLaws.{refers_here}
+use Rattle.fast_notation.proofs.components.Walk.turn.Goals as goal
+
+pub follow-requires-clause-target : goal.follow-requires-clause-target
+follow-requires-clause-target c =
+    let graph = c.args.self.now.graph.now in
+    let k = c.in-Some.step.template in
+    let targets = c.deref.result.now in
+    let i = c.in-Some.step.followed in
+    let (below, is) = c.in-Some-get.ensures.lookup.3 in
+    let here : k < length graph = (All-pop (λ (s : Step). s.template < length graph) c.args.self.now.path.items c.pop.new.self.items (Some c.in-Some.step) c.in-Some.ensures.items c.args.self.now.path_within).1 in
+    let refers = refers_here graph k c.index-self-step.result targets i here c.index-self-step.is (c.deref.ensures.value ∙ ap numbers (sym c.index-self-step.is)) below in
+    subst (λ target. target < length graph) (sym (is 0)) (c.args.self.now.graph_within k (get_or targets i 0) refers)

@@ -1,0 +1,355 @@
+//! From a set as it is written to its nodes, with references in place.
+
+ghost use Rattle.std.specs.Prelude.{ℕ, suc, Bool, false, List, Option, ◌≡◌, ◌<◌, ◌≤◌, ◌*◌, ◌^◌, All, sum_by, ◌++◌, ◌∷◌, [], length, map, option_map, IfOk, OnOk};
+ghost use Rattle.std.specs.HashMap.{get_by_text};
+ghost use Rattle.fast_value.specs.Values.{value_data};
+ghost use Rattle.fast_tree.specs.AsWritten.{Written, group, sequence, reference, no_more, more, length_use};
+ghost use Rattle.fast_notation.specs.Built.{with_shape, data_of, IsReady, IsIndexed, CanBuild, IsBuilt, AreBuilt};
+ghost use Rattle.fast_notation.specs.Chains.{Fits, nodes_in};
+ghost use Rattle.fast_notation.specs.EntryKeys.{scope_data, use_data, entries_of};
+ghost use Rattle.fast_notation.specs.ReadSets.{IsChecked, IsSetBuilt};
+ghost use Rattle.fast_tree.specs.NodeData.{a_group, node_data, shape_data, outline};
+ghost use Rattle.fast_tree.specs.Nodes.{field_data};
+ghost use Rattle.fast_tree.specs.Sizes.{nesting_limit, node_limit};
+ghost use Rattle.fast_notation.specs.Uses.{IsInitialOf, IsField};
+ghost use Rattle.fast_notation.specs.Sound.{IsSound};
+ghost use Rattle.fast_notation.specs.WrittenSets.{instruction_data, fields_data, written_data};
+
+use crate::codes::StaticCode;
+use crate::entries::{Entries, collect_entries};
+use crate::passes::WrittenSet;
+use crate::scopes::{OperatorUse, TextScope, exponent_use, length_use, mantissa_use, scalar_use};
+use crate::uses::{OperatorPart, initial_in};
+use crate::written::{WrittenInstruction, WrittenTemplate};
+use fast_tree::{FieldInstruction, Node, Shape, Template};
+use fast_value::{Kind, Value};
+use std::alloc::{AllocError, Global};
+
+/// The longest chain of references.
+const NESTING_LIMIT: usize = 64;
+
+/// The initial value of an operator, where it has one.
+fn initial_of(alloc: Global, used: OperatorUse<'_>) -> Result<Option<Value>, AllocError>
+    requires sound { IsSound (use_data used) }
+    requires exponent { used.part ≡ OperatorPart.Exponent → used.kind ≡ Kind.Int32 }
+    ensures { IfOk result (λ v. IsInitialOf (use_data used.entry) (use_data used.entry).written.value (option_map value_data v)) }
+{
+    let Some(text) = &used.written.value else {
+        return Ok(None);
+    };
+    match initial_in(alloc, used.part, used.kind, text.as_str()) {
+        Ok(value) => Ok(Some(value)),
+        Err(StaticCode::S3) => unreachable!(),
+        Err(_) => Err(AllocError),
+    }
+}
+
+/// Puts a node behind the others, and its number behind those of its body.
+fn add_node(
+    alloc: Global,
+    nodes: &mut Vec<Node>,
+    body: &mut Vec<u32>,
+    name: &str,
+    shape: Shape,
+) -> Result<(), AllocError>
+    requires { length (data_of nodes.old) < node_limit }
+    ensures nodes { OnOk result (data_of nodes.new ≡ data_of nodes.old ++ record { name = name.now; shape = shape_data shape } ∷ []) }
+    ensures body { OnOk result (body.new.items ≡ body.old.items ++ length (data_of nodes.old) ∷ []) }
+{
+    body.push(nodes.len() as u32)?;
+    nodes.push(Node {
+        name: String::from_str(alloc, name)?,
+        shape,
+    })?;
+    Ok(())
+}
+
+/// The shape of a node whose body is not built yet.
+fn empty_group(alloc: Global) -> Shape
+    ensures { shape_data result ≡ a_group false [] }
+{
+    Shape::Group {
+        optional: false,
+        body: Vec::new(alloc),
+    }
+}
+
+/// Gives a node its shape.
+fn set_shape(nodes: &mut [Node], number: usize, shape: Shape)
+    requires { number < length nodes.old }
+    ensures { map node_data nodes.new ≡ with_shape (map node_data nodes.old) number (shape_data shape) }
+{
+    nodes[number].shape = shape;
+}
+
+/// The template that is written, with the nodes of its body.
+fn template_of(
+    alloc: Global,
+    written: &WrittenTemplate,
+    body: Vec<u32>,
+) -> Result<Template, AllocError>
+    ensures { IfOk result (λ t. outline t ≡ record { name = (written_data written.now).name; id = written.now.id; reset = written.now.reset; body = body.items }) }
+{
+    Ok(Template {
+        name: String::from_str(alloc, written.name.as_str())?,
+        id: written.id,
+        reset: written.reset,
+        body,
+    })
+}
+
+/// Where instructions stand: in the text of a template, from which so many references may still lead on.
+#[derive(Clone, Copy, Debug)]
+pub(crate) struct Standing<'a> {
+    pub(crate) scope: TextScope<'a>,
+    pub(crate) chain: usize,
+}
+
+/// Templates with their nodes, and the number of entries.
+#[derive(Debug, Drop)]
+pub(crate) struct BuiltSet {
+    pub(crate) templates: Vec<Template>,
+    pub(crate) nodes: Vec<Node>,
+    pub(crate) entries: u32,
+}
+
+/// A set whose nodes are built, with its entries.
+#[derive(Clone, Copy, Debug)]
+pub(crate) struct Builder<'a> {
+    pub(crate) alloc: Global,
+    pub(crate) set: &'a WrittenSet,
+    pub(crate) entries: &'a Entries,
+}
+
+impl Builder<'_> {
+    /// Builds all templates.
+    pub(crate) fn build(&self) -> Result<BuiltSet, AllocError>
+        requires many { length self.now.set.now.templates.items < 2 ^ 32 }
+        requires set { IsIndexed (get_by_text self.now.set.now.names) (map written_data self.now.set.now.templates.items) (entries_of self.now.entries.now) }
+        requires fits { All (λ t. Fits (map written_data self.now.set.now.templates.items) nesting_limit t.fields) (map written_data self.now.set.now.templates.items) }
+        requires few { sum_by (λ t. nodes_in (map written_data self.now.set.now.templates.items) nesting_limit t.fields) (map written_data self.now.set.now.templates.items) ≤ node_limit }
+        ensures entries { IfOk result (λ b. b.entries ≡ suc (length (entries_of self.now.entries.now))) }
+        ensures built { IfOk result (λ b. AreBuilt (map written_data self.now.set.now.templates.items) (entries_of self.now.entries.now) (map written_data self.now.set.now.templates.items) (map node_data b.nodes.items) (map outline b.templates.items)) }
+    {
+        let mut nodes = Vec::new(self.alloc);
+        let mut templates = Vec::new(self.alloc);
+        for (k, written) in self.set.templates.iter().enumerate() {
+            let scope = TextScope {
+                template: k as u32,
+                dictionary: written.dictionary.as_str(),
+            };
+            let at = Standing {
+                scope,
+                chain: NESTING_LIMIT,
+            };
+            let mut body = Vec::new(self.alloc);
+            self.build_fields(&mut nodes, &mut body, at, &written.fields)?;
+            templates.push(template_of(self.alloc, written, body)?)?;
+        }
+        Ok(BuiltSet {
+            templates,
+            nodes,
+            entries: self.entries.count(),
+        })
+    }
+
+    /// How a value is sent under an operator.
+    fn field_of(
+        &self,
+        scope: TextScope<'_>,
+        used: OperatorUse<'_>,
+    ) -> Result<FieldInstruction, AllocError>
+        requires few { length (entries_of self.now.entries.now) ≤ 2 * node_limit }
+        requires ready { IsReady (entries_of self.now.entries.now) (scope_data scope) (use_data used) }
+        requires exponent { used.part ≡ OperatorPart.Exponent → used.kind ≡ Kind.Int32 }
+        ensures { IfOk result (λ f. IsField (entries_of self.now.entries.now) (scope_data scope.entry) (use_data used.entry) (field_data f)) }
+    {
+        Ok(FieldInstruction {
+            kind: used.kind,
+            optional: used.optional,
+            operator: used.written.operator,
+            initial: initial_of(self.alloc, used)?,
+            entry: self.entries.number_of(self.alloc, scope, used)?,
+        })
+    }
+    /// Builds the nodes of instructions, and puts their numbers behind those of the body.
+    #[cycle(building)]
+    pub(crate) fn build_fields(
+        &self,
+        nodes: &mut Vec<Node>,
+        body: &mut Vec<u32>,
+        at: Standing<'_>,
+        fields: &[WrittenInstruction],
+    ) -> Result<(), AllocError>
+        requires set { IsIndexed (get_by_text self.now.set.now.names) (map written_data self.now.set.now.templates.items) (entries_of self.now.entries.now) }
+        requires can { CanBuild (map written_data self.now.set.now.templates.items) (entries_of self.now.entries.now) at.chain (scope_data at.scope) (fields_data fields.now) (length (data_of nodes.old)) }
+        ensures { OnOk result (IsBuilt (map written_data self.now.set.now.templates.items) (entries_of self.now.entries.now) at.entry.chain (scope_data at.entry.scope) (fields_data fields.now) (data_of nodes.old) (data_of nodes.new) body.old.items body.new.items) }
+    {
+        for field in fields {
+            self.build_instruction(nodes, body, at, field)?;
+        }
+        Ok(())
+    }
+
+    /// Builds the node of an instruction, and those of all that it holds.
+    #[cycle(building)]
+    fn build_instruction(
+        &self,
+        nodes: &mut Vec<Node>,
+        body: &mut Vec<u32>,
+        at: Standing<'_>,
+        instruction: &WrittenInstruction,
+    ) -> Result<(), AllocError>
+        requires set { IsIndexed (get_by_text self.now.set.now.names) (map written_data self.now.set.now.templates.items) (entries_of self.now.entries.now) }
+        requires can { CanBuild (map written_data self.now.set.now.templates.items) (entries_of self.now.entries.now) at.chain (scope_data at.scope) (more (instruction_data instruction.now) no_more) (length (data_of nodes.old)) }
+        ensures { OnOk result (IsBuilt (map written_data self.now.set.now.templates.items) (entries_of self.now.entries.now) at.entry.chain (scope_data at.entry.scope) (more (instruction_data instruction.now) no_more) (data_of nodes.old) (data_of nodes.new) body.old.items body.new.items) }
+    {
+        match instruction {
+            WrittenInstruction::Scalar {
+                name,
+                optional,
+                kind,
+                operator,
+            } => {
+                let name = name.as_str();
+                let used = scalar_use(name, *optional, *kind, operator);
+                let field = self.field_of(at.scope, used)?;
+                add_node(self.alloc, nodes, body, name, Shape::Field(field))
+            }
+            WrittenInstruction::Parts {
+                name,
+                optional,
+                exponent,
+                mantissa,
+            } => {
+                let name = name.as_str();
+                let exponent = self.field_of(at.scope, exponent_use(name, *optional, exponent))?;
+                let mantissa = self.field_of(at.scope, mantissa_use(name, mantissa))?;
+                add_node(
+                    self.alloc,
+                    nodes,
+                    body,
+                    name,
+                    Shape::Decimal { exponent, mantissa },
+                )
+            }
+            WrittenInstruction::Group {
+                name,
+                optional,
+                fields,
+            } => self.build_group(nodes, body, at, name.as_str(), *optional, fields),
+            WrittenInstruction::Sequence {
+                name,
+                optional,
+                length_name,
+                length,
+                fields,
+            } => {
+                let name = name.as_str();
+                let used = length_use(name, *optional, length_name, length);
+                let length = self.field_of(at.scope, used)?;
+                self.build_sequence(nodes, body, at, name, length, fields)
+            }
+            WrittenInstruction::Reference(name) => {
+                self.build_reference(nodes, body, at, name.as_str())
+            }
+        }
+    }
+
+    /// Builds the node of a group before those of its instructions.
+    #[cycle(building)]
+    fn build_group(
+        &self,
+        nodes: &mut Vec<Node>,
+        body: &mut Vec<u32>,
+        at: Standing<'_>,
+        name: &str,
+        optional: bool,
+        fields: &[WrittenInstruction],
+    ) -> Result<(), AllocError>
+        requires set { IsIndexed (get_by_text self.now.set.now.names) (map written_data self.now.set.now.templates.items) (entries_of self.now.entries.now) }
+        requires can { CanBuild (map written_data self.now.set.now.templates.items) (entries_of self.now.entries.now) at.chain (scope_data at.scope) (fields_data fields.now) (suc (length (data_of nodes.old))) }
+        ensures { OnOk result (IsBuilt (map written_data self.now.set.now.templates.items) (entries_of self.now.entries.now) at.entry.chain (scope_data at.entry.scope) (more (group name.now optional (fields_data fields.now)) no_more) (data_of nodes.old) (data_of nodes.new) body.old.items body.new.items) }
+    {
+        let number = nodes.len();
+        add_node(self.alloc, nodes, body, name, empty_group(self.alloc))?;
+        let mut inner = Vec::new(self.alloc);
+        self.build_fields(nodes, &mut inner, at, fields)?;
+        let shape = Shape::Group {
+            optional,
+            body: inner,
+        };
+        set_shape(nodes, number, shape);
+        Ok(())
+    }
+
+    /// Builds the node of a sequence before those of an element's instructions.
+    #[cycle(building)]
+    fn build_sequence(
+        &self,
+        nodes: &mut Vec<Node>,
+        body: &mut Vec<u32>,
+        at: Standing<'_>,
+        name: &str,
+        sent: FieldInstruction,
+        fields: &[WrittenInstruction],
+    ) -> Result<(), AllocError>
+        requires set { IsIndexed (get_by_text self.now.set.now.names) (map written_data self.now.set.now.templates.items) (entries_of self.now.entries.now) }
+        requires can { CanBuild (map written_data self.now.set.now.templates.items) (entries_of self.now.entries.now) at.chain (scope_data at.scope) (fields_data fields.now) (suc (length (data_of nodes.old))) }
+        ensures { OnOk result ((optional : Bool) (own : Option (List ℕ)) (w : Written) → IsField (entries_of self.now.entries.now) (scope_data at.entry.scope) (length_use name.now optional own w) (field_data sent)
+            → IsBuilt (map written_data self.now.set.now.templates.items) (entries_of self.now.entries.now) at.entry.chain (scope_data at.entry.scope) (more (sequence name.now optional own w (fields_data fields.now)) no_more) (data_of nodes.old) (data_of nodes.new) body.old.items body.new.items) }
+    {
+        let number = nodes.len();
+        add_node(self.alloc, nodes, body, name, empty_group(self.alloc))?;
+        let mut inner = Vec::new(self.alloc);
+        self.build_fields(nodes, &mut inner, at, fields)?;
+        let shape = Shape::Sequence {
+            length: sent,
+            body: inner,
+        };
+        set_shape(nodes, number, shape);
+        Ok(())
+    }
+
+    /// Builds the nodes of the instructions of the template to which a reference leads.
+    #[cycle(building)]
+    fn build_reference(
+        &self,
+        nodes: &mut Vec<Node>,
+        body: &mut Vec<u32>,
+        at: Standing<'_>,
+        name: &str,
+    ) -> Result<(), AllocError>
+        requires set { IsIndexed (get_by_text self.now.set.now.names) (map written_data self.now.set.now.templates.items) (entries_of self.now.entries.now) }
+        requires can { CanBuild (map written_data self.now.set.now.templates.items) (entries_of self.now.entries.now) at.chain (scope_data at.scope) (more (reference name.now) no_more) (length (data_of nodes.old)) }
+        ensures { OnOk result (IsBuilt (map written_data self.now.set.now.templates.items) (entries_of self.now.entries.now) at.entry.chain (scope_data at.entry.scope) (more (reference name.now) no_more) (data_of nodes.old) (data_of nodes.new) body.old.items body.new.items) }
+    {
+        let Some(number) = self.set.names.get(name).copied() else {
+            unreachable!();
+        };
+        let template = &self.set.templates[number as usize];
+        let scope = TextScope {
+            template: number,
+            dictionary: template.dictionary.as_str(),
+        };
+        let at = Standing {
+            scope,
+            chain: at.chain - 1,
+        };
+        self.build_fields(nodes, body, at, &template.fields)
+    }
+}
+
+/// Numbers the entries of a set, and builds its nodes.
+pub(crate) fn build_set(alloc: Global, set: &WrittenSet) -> Result<BuiltSet, AllocError>
+    requires { IsChecked (get_by_text set.now.names) (map written_data set.now.templates.items) }
+    ensures { IfOk result (λ b. IsSetBuilt (map written_data set.now.templates.items) b) }
+{
+    let entries = collect_entries(alloc, &set.templates)?;
+    let builder = Builder {
+        alloc,
+        set,
+        entries: &entries,
+    };
+    builder.build()
+}

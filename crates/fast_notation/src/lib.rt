@@ -1,0 +1,25 @@
+//! The TOML notation of template sets: from a text to its templates, with all faults found and references in place.
+#![tactic(auto)]
+
+mod building;
+mod chains;
+mod checks;
+pub mod codes;
+mod components;
+mod cycles;
+mod documents;
+mod entries;
+mod extents;
+mod keys;
+mod names;
+mod passes;
+mod read;
+mod reading;
+mod scopes;
+mod segments;
+pub mod sets;
+mod uses;
+mod written;
+
+pub use codes::{StaticCode, StaticFault};
+pub use sets::CheckedSet;

@@ -1,0 +1,45 @@
+//! The first five passes over the text of a template set, in their order.
+
+ghost use Rattle.std.specs.Prelude.{◌≡◌, ℕ, List, nat_eq, map, IfOk, IfErr};
+ghost use Rattle.std.specs.HashMap.{get, get_by_text};
+ghost use Rattle.toml.specs.Parse.{parse_document};
+ghost use Rattle.fast_notation.specs.Firsts.{IsFirstFault};
+ghost use Rattle.fast_notation.specs.FivePasses.{IsWellWritten, IsAtFault};
+ghost use Rattle.fast_tree.specs.Places.{place_of_name, place_of_id};
+ghost use Rattle.fast_notation.specs.WrittenSets.{written_data};
+
+use crate::checks::{check_references, check_uses, index_ids, index_names};
+use crate::codes::StaticFault;
+use crate::documents::read_written;
+use crate::written::WrittenTemplate;
+use std::alloc::Global;
+use std::collections::HashMap;
+
+/// A set as it is written, with the number of each template by its name and by its identifier.
+#[derive(Debug, Drop)]
+pub(crate) struct WrittenSet {
+    pub(crate) templates: Vec<WrittenTemplate>,
+    pub(crate) names: HashMap<String, u32>,
+    pub(crate) ids: HashMap<u32, u32>,
+}
+
+/// The set that a text writes, where the first five passes find no fault: shape, names, identifiers, operators,
+/// references.
+pub(crate) fn read_set(alloc: Global, text: &str) -> Result<WrittenSet, StaticFault>
+    ensures set { IfOk result (λ s. IsWellWritten (parse_document text.now) (map written_data s.templates.items)) }
+    ensures names { IfOk result (λ s. (q : List ℕ) → get_by_text s.names q ≡ place_of_name q (map written_data s.templates.items)) }
+    ensures ids { IfOk result (λ s. (q : ℕ) → get nat_eq s.ids q ≡ place_of_id q (map written_data s.templates.items)) }
+    ensures fault { IfErr result (λ e. IsAtFault (parse_document text.now) e.code e.template) }
+    ensures first { IfErr result (λ e. IsFirstFault (parse_document text.now) e.code e.template) }
+{
+    let templates = read_written(alloc, text)?;
+    let names = index_names(alloc, &templates)?;
+    let ids = index_ids(alloc, &templates)?;
+    check_uses(alloc, &templates)?;
+    check_references(&names, &templates)?;
+    Ok(WrittenSet {
+        templates,
+        names,
+        ids,
+    })
+}

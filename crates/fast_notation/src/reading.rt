@@ -1,0 +1,406 @@
+//! From the tables of a template text to template sets as they are written.
+
+ghost use Rattle.std.specs.Prelude.{◌≡◌, codes, option_map, Some, None, Err, IfOk, IfErr, string_bytes};
+ghost use Rattle.toml.specs.Data.{get_member};
+ghost use Rattle.toml.specs.View.{view, items_view, table_view};
+ghost use Rattle.fast_notation.specs.Reading.{kind_named, operator_named, operator_of, text_of, name_or_none, dictionary_or_none, is_dictionary, takes, written_of, operator_keys, part_of, own_name_of, length_of, scalar_of, parts_of, group_of, sequence_of, reference_of, field_of, has_part, all_fields, fields_of, declared_of};
+ghost use Rattle.fast_notation.specs.WrittenSets.{operator_data, instruction_data, fields_data};
+ghost use Rattle.fast_tree.specs.AsWritten.{plain};
+
+use crate::keys::{Unread, flag_at, has_only, items_at, name_at, text_at, value_at};
+use crate::names::is_name;
+use crate::written::{WrittenInstruction, WrittenOperator};
+use fast_tree::Operator;
+use fast_value::Kind;
+use std::alloc::Global;
+use toml::{Table, Value};
+
+/// The kind of a name.
+fn kind_named(name: &str) -> Option<Kind>
+    ensures { result ≡ kind_named name.now }
+{
+    match name {
+        "uInt32" => Some(Kind::UInt32),
+        "int32" => Some(Kind::Int32),
+        "uInt64" => Some(Kind::UInt64),
+        "int64" => Some(Kind::Int64),
+        "decimal" => Some(Kind::Decimal),
+        "ascii" => Some(Kind::Ascii),
+        "unicode" => Some(Kind::Unicode),
+        "bytes" => Some(Kind::Bytes),
+        _ => None,
+    }
+}
+
+/// The operator of a name.
+fn operator_named(name: &str) -> Option<Operator>
+    ensures { result ≡ operator_named name.now }
+{
+    match name {
+        "none" => Some(Operator::None),
+        "constant" => Some(Operator::Constant),
+        "default" => Some(Operator::Default),
+        "copy" => Some(Operator::Copy),
+        "increment" => Some(Operator::Increment),
+        "delta" => Some(Operator::Delta),
+        "tail" => Some(Operator::Tail),
+        _ => None,
+    }
+}
+
+/// The operator of a table, which is none where nothing is written.
+fn operator_at(table: &Table) -> Result<Operator, Unread>
+    ensures operator { IfOk result (λ o. operator_of (get_member (codes "op") (table_view table.now)) ≡ Some o) }
+    ensures shape { result ≡ Err Unread.Shape → operator_of (get_member (codes "op") (table_view table.now)) ≡ None }
+{
+    let Some(name) = text_at(table, "op")? else {
+        return Ok(Operator::None);
+    };
+    match operator_named(name) {
+        Some(operator) => Ok(operator),
+        None => Err(Unread::Shape),
+    }
+}
+
+/// The text at a key in memory of its own, if there is something.
+fn string_at(alloc: Global, table: &Table, key: &str) -> Result<Option<String>, Unread>
+    ensures text { IfOk result (λ o. text_of (get_member key.now (table_view table.now)) ≡ Some (option_map string_bytes o)) }
+    ensures shape { result ≡ Err Unread.Shape → text_of (get_member key.now (table_view table.now)) ≡ None }
+{
+    let Some(text) = text_at(table, key)? else {
+        return Ok(None);
+    };
+    match String::from_str(alloc, text) {
+        Ok(text) => Ok(Some(text)),
+        Err(_) => Err(Unread::Memory),
+    }
+}
+
+/// Whether a name stands there, if something does.
+fn is_name_or_none(text: Option<&String>) -> bool
+    ensures { result ≡ name_or_none (option_map (λ s. string_bytes s.now) text.entry) }
+{
+    match text {
+        Some(name) => is_name(name.as_str()),
+        None => true,
+    }
+}
+
+/// Whether the name of a dictionary stands there, if something does.
+fn is_dictionary_or_none(text: Option<&String>) -> bool
+    ensures { result ≡ dictionary_or_none (option_map (λ s. string_bytes s.now) text.entry) }
+{
+    match text {
+        Some(name) => is_dictionary(name.as_str()),
+        None => true,
+    }
+}
+
+/// Whether the text names a dictionary.
+pub(crate) fn is_dictionary(name: &str) -> bool
+    ensures { result ≡ is_dictionary name.now }
+{
+    is_name(name) && name != "type"
+}
+
+/// Whether the operator takes what is written beside it.
+fn is_in_use(written: &WrittenOperator) -> bool
+    ensures { result ≡ takes written.now.operator (operator_data written.now) }
+{
+    match written.operator {
+        Operator::None => written.value.is_none()
+            && written.key.is_none()
+            && written.dictionary.is_none(),
+        Operator::Constant | Operator::Default => written.key.is_none()
+            && written.dictionary.is_none(),
+        _ => is_name_or_none(written.key.as_ref())
+            && is_dictionary_or_none(written.dictionary.as_ref()),
+    }
+}
+
+/// The operator that the four keys of a table write.
+fn operator_in(alloc: Global, table: &Table) -> Result<WrittenOperator, Unread>
+    ensures written { IfOk result (λ w. written_of (table_view table.now) ≡ Some (operator_data w)) }
+    ensures shape { result ≡ Err Unread.Shape → written_of (table_view table.now) ≡ None }
+{
+    let operator = operator_at(table)?;
+    let value = string_at(alloc, table, "value")?;
+    let key = string_at(alloc, table, "key")?;
+    let dictionary = string_at(alloc, table, "dictionary")?;
+    let written = WrittenOperator {
+        operator,
+        value,
+        key,
+        dictionary,
+    };
+    if !is_in_use(&written) {
+        return Err(Unread::Shape);
+    }
+    Ok(written)
+}
+
+/// A text in memory of its own.
+pub(crate) fn owned(alloc: Global, text: &str) -> Result<String, Unread>
+    ensures text { IfOk result (λ s. string_bytes s ≡ text.now) }
+    ensures memory { IfErr result (λ e. e ≡ Unread.Memory) }
+{
+    match String::from_str(alloc, text) {
+        Ok(text) => Ok(text),
+        Err(_) => Err(Unread::Memory),
+    }
+}
+
+/// The operator of the part at a key, which has none where nothing is written.
+fn part_at(alloc: Global, table: &Table, key: &str) -> Result<WrittenOperator, Unread>
+    ensures part { IfOk result (λ w. part_of operator_keys (get_member key.now (table_view table.now)) ≡ Some (operator_data w)) }
+    ensures shape { result ≡ Err Unread.Shape → part_of operator_keys (get_member key.now (table_view table.now)) ≡ None }
+{
+    let Some(value) = value_at(table, key) else {
+        return Ok(plain());
+    };
+    let Some(part) = value.as_table() else {
+        return Err(Unread::Shape);
+    };
+    if !has_only(part, &["op", "value", "key", "dictionary"]) {
+        return Err(Unread::Shape);
+    }
+    operator_in(alloc, part)
+}
+
+/// No operator.
+fn plain() -> WrittenOperator
+    ensures { operator_data result ≡ plain }
+{
+    WrittenOperator {
+        operator: Operator::None,
+        value: None,
+        key: None,
+        dictionary: None,
+    }
+}
+
+/// The name of a length, if it has one.
+fn own_name_at(alloc: Global, table: &Table) -> Result<Option<String>, Unread>
+    ensures name { IfOk result (λ o. own_name_of (get_member (codes "name") (table_view table.now)) ≡ Some (option_map string_bytes o)) }
+    ensures shape { result ≡ Err Unread.Shape → own_name_of (get_member (codes "name") (table_view table.now)) ≡ None }
+{
+    let name = string_at(alloc, table, "name")?;
+    if !is_name_or_none(name.as_ref()) {
+        return Err(Unread::Shape);
+    }
+    Ok(name)
+}
+
+/// The length of a sequence.
+#[derive(Debug, Drop)]
+struct WrittenLength {
+    name: Option<String>,
+    operator: WrittenOperator,
+}
+
+/// The length that a table writes.
+fn length_at(alloc: Global, table: &Table) -> Result<WrittenLength, Unread>
+    ensures length { IfOk result (λ l. length_of (get_member (codes "length") (table_view table.now)) ≡ Some (option_map string_bytes l.name, operator_data l.operator)) }
+    ensures shape { result ≡ Err Unread.Shape → length_of (get_member (codes "length") (table_view table.now)) ≡ None }
+{
+    let Some(value) = value_at(table, "length") else {
+        return Ok(WrittenLength {
+            name: None,
+            operator: plain(),
+        });
+    };
+    let Some(length) = value.as_table() else {
+        return Err(Unread::Shape);
+    };
+    if !has_only(length, &["name", "op", "value", "key", "dictionary"]) {
+        return Err(Unread::Shape);
+    }
+    let name = own_name_at(alloc, length)?;
+    let operator = operator_in(alloc, length)?;
+    Ok(WrittenLength { name, operator })
+}
+
+/// A field of a kind.
+fn scalar_in(alloc: Global, table: &Table, kind: Kind) -> Result<WrittenInstruction, Unread>
+    ensures scalar { IfOk result (λ w. scalar_of kind (table_view table.now) ≡ Some (instruction_data w)) }
+    ensures shape { result ≡ Err Unread.Shape → scalar_of kind (table_view table.now) ≡ None }
+{
+    if !has_only(
+        table,
+        &[
+            "kind",
+            "name",
+            "optional",
+            "op",
+            "value",
+            "key",
+            "dictionary",
+        ],
+    ) {
+        return Err(Unread::Shape);
+    }
+    let name = name_at(table, "name")?;
+    let optional = flag_at(table, "optional")?;
+    let operator = operator_in(alloc, table)?;
+    let name = owned(alloc, name)?;
+    Ok(WrittenInstruction::Scalar {
+        name,
+        optional,
+        kind,
+        operator,
+    })
+}
+
+/// A decimal by parts.
+fn parts_in(alloc: Global, table: &Table) -> Result<WrittenInstruction, Unread>
+    ensures parts { IfOk result (λ w. parts_of (table_view table.now) ≡ Some (instruction_data w)) }
+    ensures shape { result ≡ Err Unread.Shape → parts_of (table_view table.now) ≡ None }
+{
+    if !has_only(table, &["kind", "name", "optional", "exponent", "mantissa"]) {
+        return Err(Unread::Shape);
+    }
+    let name = name_at(table, "name")?;
+    let optional = flag_at(table, "optional")?;
+    let exponent = part_at(alloc, table, "exponent")?;
+    let mantissa = part_at(alloc, table, "mantissa")?;
+    let name = owned(alloc, name)?;
+    Ok(WrittenInstruction::Parts {
+        name,
+        optional,
+        exponent,
+        mantissa,
+    })
+}
+
+/// A group of these instructions.
+fn group_in(
+    alloc: Global,
+    table: &Table,
+    fields: Vec<WrittenInstruction>,
+) -> Result<WrittenInstruction, Unread>
+    ensures group { IfOk result (λ w. group_of (table_view table.now) (Some (fields_data fields.items)) ≡ Some (instruction_data w)) }
+    ensures shape { result ≡ Err Unread.Shape → group_of (table_view table.now) (Some (fields_data fields.items)) ≡ None }
+{
+    if !has_only(table, &["kind", "name", "optional", "fields"]) {
+        return Err(Unread::Shape);
+    }
+    let name = name_at(table, "name")?;
+    let optional = flag_at(table, "optional")?;
+    let name = owned(alloc, name)?;
+    Ok(WrittenInstruction::Group {
+        name,
+        optional,
+        fields,
+    })
+}
+
+/// A sequence of elements of these instructions.
+fn sequence_in(
+    alloc: Global,
+    table: &Table,
+    fields: Vec<WrittenInstruction>,
+) -> Result<WrittenInstruction, Unread>
+    ensures sequence { IfOk result (λ w. sequence_of (table_view table.now) (Some (fields_data fields.items)) ≡ Some (instruction_data w)) }
+    ensures shape { result ≡ Err Unread.Shape → sequence_of (table_view table.now) (Some (fields_data fields.items)) ≡ None }
+{
+    if !has_only(table, &["kind", "name", "optional", "fields", "length"]) {
+        return Err(Unread::Shape);
+    }
+    let name = name_at(table, "name")?;
+    let optional = flag_at(table, "optional")?;
+    let length = length_at(alloc, table)?;
+    let name = owned(alloc, name)?;
+    Ok(WrittenInstruction::Sequence {
+        name,
+        optional,
+        length_name: length.name,
+        length: length.operator,
+        fields,
+    })
+}
+
+/// A reference to a template.
+fn reference_in(alloc: Global, table: &Table) -> Result<WrittenInstruction, Unread>
+    ensures reference { IfOk result (λ w. reference_of (table_view table.now) ≡ Some (instruction_data w)) }
+    ensures shape { result ≡ Err Unread.Shape → reference_of (table_view table.now) ≡ None }
+{
+    if !has_only(table, &["kind", "name"]) {
+        return Err(Unread::Shape);
+    }
+    let name = owned(alloc, name_at(table, "name")?)?;
+    Ok(WrittenInstruction::Reference(name))
+}
+
+/// A field of a kind, which is a decimal by parts where it has one.
+fn field_in(alloc: Global, table: &Table, kind: Kind) -> Result<WrittenInstruction, Unread>
+    ensures field { IfOk result (λ w. field_of kind (table_view table.now) ≡ Some (instruction_data w)) }
+    ensures shape { result ≡ Err Unread.Shape → field_of kind (table_view table.now) ≡ None }
+{
+    match kind {
+        Kind::Decimal if has_part(table) => parts_in(alloc, table),
+        _ => scalar_in(alloc, table, kind),
+    }
+}
+
+/// Whether a decimal's table has a part.
+fn has_part(table: &Table) -> bool
+    ensures { result ≡ has_part (table_view table.now) }
+{
+    value_at(table, "exponent").is_some() || value_at(table, "mantissa").is_some()
+}
+
+/// The instructions of the items of an array.
+#[cycle(fields)]
+fn fields_in(alloc: Global, items: &[Value]) -> Result<Vec<WrittenInstruction>, Unread>
+    ensures fields { IfOk result (λ v. all_fields (items_view items.now) ≡ Some (fields_data v.items)) }
+    ensures shape { result ≡ Err Unread.Shape → all_fields (items_view items.now) ≡ None }
+{
+    let mut fields = Vec::new(alloc);
+    for item in items {
+        let field = instruction_in(alloc, item)?;
+        match fields.push(field) {
+            Ok(()) => {}
+            Err(_) => return Err(Unread::Memory),
+        }
+    }
+    Ok(fields)
+}
+
+/// The instructions at the key `fields` of a table, if there are some.
+#[cycle(fields)]
+pub(crate) fn nested_fields(alloc: Global, table: &Table) -> Result<Vec<WrittenInstruction>, Unread>
+    ensures fields { IfOk result (λ v. fields_of (table_view table.now) ≡ Some (fields_data v.items)) }
+    ensures shape { result ≡ Err Unread.Shape → fields_of (table_view table.now) ≡ None }
+{
+    let items = items_at(table, "fields")?;
+    fields_in(alloc, items)
+}
+
+/// The instruction of a table.
+#[cycle(fields)]
+fn instruction_in(alloc: Global, value: &Value) -> Result<WrittenInstruction, Unread>
+    ensures instruction { IfOk result (λ w. declared_of (view value.now) ≡ Some (instruction_data w)) }
+    ensures shape { result ≡ Err Unread.Shape → declared_of (view value.now) ≡ None }
+{
+    let Some(table) = value.as_table() else {
+        return Err(Unread::Shape);
+    };
+    let Some(kind) = text_at(table, "kind")? else {
+        return Err(Unread::Shape);
+    };
+    match kind {
+        "group" => {
+            let fields = nested_fields(alloc, table)?;
+            group_in(alloc, table, fields)
+        }
+        "sequence" => {
+            let fields = nested_fields(alloc, table)?;
+            sequence_in(alloc, table, fields)
+        }
+        "ref" => reference_in(alloc, table),
+        _ => match kind_named(kind) {
+            Some(kind) => field_in(alloc, table, kind),
+            None => Err(Unread::Shape),
+        },
+    }
+}

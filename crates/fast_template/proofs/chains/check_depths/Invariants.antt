@@ -1,7 +1,0 @@
-use Rattle.std.proofs.Common.{take}
-use Rattle.std.specs.Prelude.{All}
-use Rattle.fast_template.specs.Extents.{IsShallow}
-use Rattle.fast_template.proofs.chains.check_depths.Given as goal
-
-abbrev pub invariant-loop-k : goal.invariant-loop-k
-invariant-loop-k l = All IsShallow (take l.k l.extents)

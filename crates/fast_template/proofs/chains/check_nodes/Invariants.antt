@@ -1,8 +1,0 @@
-use Rattle.std.proofs.Common.{◌≡◌, ◌+◌, take}
-use Rattle.std.specs.Prelude.{sum_by}
-use Rattle.fast_template.specs.Extents.{known_nodes}
-use Rattle.fast_tree.specs.Sizes.{node_limit}
-use Rattle.fast_template.proofs.chains.check_nodes.Given as goal
-
-abbrev pub invariant-loop-k : goal.invariant-loop-k
-invariant-loop-k l = l.room + sum_by known_nodes (take l.k l.extents) ≡ node_limit

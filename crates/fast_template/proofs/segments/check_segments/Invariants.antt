@@ -1,8 +1,0 @@
-use Rattle.std.proofs.Common.{take}
-use Rattle.std.specs.Prelude.{All}
-use Rattle.fast_tree.specs.Nodes.{template_data, instructions_from}
-use Rattle.fast_template.specs.Segments.{IsNarrow}
-use Rattle.fast_template.proofs.segments.check_segments.Given as goal
-
-abbrev pub invariant-loop-k : goal.invariant-loop-k
-invariant-loop-k l = All (λ t. IsNarrow (template_data (instructions_from 0 l.nodes) t)) (take l.k l.templates)
