@@ -1,1 +1,2 @@
 pub mod Encoders
+pub mod ReadBack

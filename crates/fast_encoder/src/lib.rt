@@ -2,6 +2,7 @@
 #![tactic(auto)]
 
 pub mod encoder;
+pub mod laws;
 
 pub use encoder::Encoder;
 pub use fast_decoder::MakeError;

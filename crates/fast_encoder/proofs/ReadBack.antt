@@ -1,0 +1,87 @@
+-- What an encoder wrote is read back by a decoder.
+use Rattle.std.proofs.Common.{◌≡◌, ℕ, ◌+◌, ◌<◌, ◌≤◌, ◌^◌, List, [], ◌∷◌, ◌++◌, length, refl, ap, sym, subst, ◌∙◌, arith}
+use Rattle.std.specs.Prelude.{Bool, true, ◌&&◌, is_none, Option, Some, None, Result, Ok, Err}
+use Rattle.fast_value.specs.declared.settings.Limits.{Limits}
+use Rattle.fast_value.specs.Limits.{in_mode}
+use Rattle.fast_value.specs.Messages.{MessageData}
+use Rattle.fast_tree.specs.Tree.{Tree}
+use Rattle.fast_stream.specs.declared.faults.Fault.{Fault}
+use Rattle.fast_stream.specs.declared.faults.FaultCode.{FaultCode}
+use Rattle.fast_stream.specs.declared.faults.FaultCode.TheVariants as Why
+use Rattle.fast_stream.specs.Events.{EventData, events}
+use Rattle.fast_stream.specs.Messages.{SpellsMessage}
+use Rattle.fast_stream.specs.Sinks.{Takes}
+use Rattle.fast_stream.specs.Standing.{standing_at}
+use Rattle.fast_stream.specs.Streams.{between, Stream, Chain}
+use Rattle.fast_stream.proofs.Reading.{one_answer, read_back}
+use Rattle.fast_decoder.specs.Decoding.{DecoderData, So, Carries, CarriesAt, Carried, answer, standing, tree as decoded_tree}
+use Rattle.fast_decoder.proofs.Ends.{so-stream}
+use Rattle.fast_encoder.specs.Encoders.{EncoderData, IsEncoded, tree}
+use Rattle.fast_encoder.specs.ReadBack.{AreLevel, IsReadBack}
+
+-- lists with the same front
+same_back : {A : Type 0} (u v w : List A) → u ++ v ≡ u ++ w → v ≡ w
+same_back [] v w h = h
+same_back (x ∷ u) v w h = same_back u v w (cc h)
+
+no_fault : (f : Option Fault) (b : Bool) → (is_none f && b) ≡ true → f ≡ None
+no_fault None b h = refl
+no_fault (Some f) b h = absurd (cc h)
+
+-- the message behind the chain
+module _ (e : EncoderData) (d : DecoderData) (m : MessageData) (out : List ℕ) (f : EncoderData) (longer w : List ℕ) (es : List EventData) (level : AreLevel e d w es) (written : IsEncoded e m out f longer) where
+  spelled : SpellsMessage (decoded_tree d) (in_mode true d.limits) e.dictionary m written.bytes f.dictionary
+  spelled = subst (λ (t : Tree). SpellsMessage t (in_mode true d.limits) e.dictionary m written.bytes f.dictionary) (sym level.same_tree)
+      (subst (λ (l : Limits). SpellsMessage (tree e) l e.dictionary m written.bytes f.dictionary) (sym level.same_limits) written.spelled)
+
+  pub behind : Stream (decoded_tree d) d.limits (w ++ written.bytes) (es ++ events (decoded_tree d) m) between × Chain (decoded_tree d) d.limits (w ++ written.bytes) (es ++ events (decoded_tree d) m) f.dictionary
+  behind = read_back (decoded_tree d) d.limits w written.bytes es m e.dictionary f.dictionary level.chain spelled
+
+  -- What was read of the bytes, and where it has led.
+  pub read : (g : DecoderData) (more : List EventData) → decoded_tree g ≡ decoded_tree d → g.limits ≡ d.limits → So g (w ++ written.bytes) (es ++ more) → (more ≡ events (tree e) m) × (standing g ≡ standing_at (w ++ written.bytes) between)
+  read g more same_tree same_limits so =
+      let (ending, stream, stands) = so-stream g (w ++ written.bytes) (es ++ more) so in
+      let here : Stream (decoded_tree d) d.limits (w ++ written.bytes) (es ++ more) ending
+      = subst (λ (t : Tree). Stream t d.limits (w ++ written.bytes) (es ++ more) ending) same_tree (subst (λ (l : Limits). Stream (decoded_tree g) l (w ++ written.bytes) (es ++ more) ending) same_limits stream) in
+      let one = one_answer (decoded_tree d) d.limits (w ++ written.bytes) (es ++ more) (es ++ events (decoded_tree d) m) ending between here behind.0 in
+      (same_back es more (events (decoded_tree d) m) one.0 ∙ ap (λ (t : Tree). events t m) level.same_tree, stands ∙ ap (standing_at (w ++ written.bytes)) one.1)
+
+-- The two are level again.
+module _ {S : Type 0} (takes stops : S → EventData → S → Type 0) (e f : EncoderData) (d g : DecoderData) (m : MessageData) (out longer w : List ℕ) (es : List EventData) (s t : S) (level : AreLevel e d w es) (written : IsEncoded e m out f longer)
+    (kept_tree : tree f ≡ tree e) (kept_limits : f.limits ≡ e.limits) (same_tree : decoded_tree g ≡ decoded_tree d) (same_limits : g.limits ≡ d.limits) where
+  carried_on : (r : Result Unit Fault) → r ≡ answer g.fault → Carries takes w es written.bytes s g t → IsReadBack takes m written.bytes w es s r f g t
+  carried_on r told carried =
+      let (all, stands) = read e d m out f longer w es level written g carried.more same_tree same_limits carried.so in
+      let whole : carried.more ≡ events (tree f) m = all ∙ ap (λ (z : Tree). events z m) (sym kept_tree) in
+      let chain = (behind e d m out f longer w es level written).1 in
+      let here : Chain (decoded_tree g) g.limits (w ++ written.bytes) (es ++ events (decoded_tree d) m) f.dictionary
+      = subst (λ (z : Tree). Chain z g.limits (w ++ written.bytes) (es ++ events (decoded_tree d) m) f.dictionary) (sym same_tree) (subst (λ (l : Limits). Chain (decoded_tree d) l (w ++ written.bytes) (es ++ events (decoded_tree d) m) f.dictionary) (sym same_limits) chain) in
+      record {
+        answered = told ∙ ap (λ z. answer z.fault) stands;
+        took = subst (λ (xs : List EventData). Takes takes s xs t) whole carried.took;
+        level = record {
+          same_tree = same_tree ∙ level.same_tree ∙ sym kept_tree;
+          same_limits = ap (in_mode true) same_limits ∙ level.same_limits ∙ ap (in_mode true) (sym kept_limits);
+          so = subst (λ (xs : List EventData). So g (w ++ written.bytes) (es ++ xs)) whole carried.so;
+          is_between = ap (λ z. z.is_between) stands;
+          chain = subst (λ (z : Tree). Chain (decoded_tree g) g.limits (w ++ written.bytes) (es ++ events z m) f.dictionary) (level.same_tree ∙ sym kept_tree) here;
+        };
+      }
+
+  counted : (n : ℕ) → d.consumed + n < 2 ^ 64 → 2 ^ 64 ≤ d.consumed + n → ⊥
+  counted n below above = omega (arith, below, above)
+
+  read_on : ((x y : S) (a : EventData) → ¬ (stops x a y)) → d.consumed + length written.bytes < 2 ^ 64 → (r : Result Unit Fault) → Carried takes stops d w es written.bytes s r g t → r ≡ answer g.fault → IsReadBack takes m written.bytes w es s r f g t
+  read_on goes few (Ok u) carried told = carried_on (Ok u) told carried
+  read_on goes few (Err x) carried told = by x.code x.place refl carried
+    where
+      by : (c : FaultCode) (place : ℕ) → c ≡ x.code → CarriesAt takes stops d w es written.bytes s c place g t → IsReadBack takes m written.bytes w es s (Err x) f g t
+      by (Why.Stream c) place is c' = carried_on (Err x) told c'
+      by Why.L4 place is c' = absurd (counted (length written.bytes) few c'.many)
+      by Why.SinkStopped place is c' = let (front, rest, a, mid, split, taken, stop) = c'.stopped in absurd (goes mid t a stop)
+
+pub reading_back : {S : Type 0} (takes stops : S → EventData → S → Type 0) (e f : EncoderData) (d g : DecoderData) (m : MessageData) (out longer w : List ℕ) (es : List EventData) (s t : S) (r : Result Unit Fault)
+    → AreLevel e d w es → (written : IsEncoded e m out f longer) → tree f ≡ tree e → f.limits ≡ e.limits → ((x y : S) (a : EventData) → ¬ (stops x a y)) → d.consumed + length written.bytes < 2 ^ 64
+    → Carried takes stops d w es written.bytes s r g t → r ≡ answer g.fault → decoded_tree g ≡ decoded_tree d → g.limits ≡ d.limits → IsReadBack takes m written.bytes w es s r f g t
+reading_back takes stops e f d g m out longer w es s t r level written kept_tree kept_limits goes few carried told same_tree same_limits =
+    read_on takes stops e f d g m out longer w es s t level written kept_tree kept_limits same_tree same_limits goes few r carried told
