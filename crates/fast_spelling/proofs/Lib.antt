@@ -11,3 +11,5 @@ pub mod FieldsWritten
 pub mod Instructions
 pub mod Progress
 pub mod Depths
+pub mod Respelled
+pub mod Resent

@@ -6,3 +6,4 @@ pub mod Drafts
 pub mod Fields
 pub mod Nodes
 pub mod Progress
+pub mod Again

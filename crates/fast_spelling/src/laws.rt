@@ -1,6 +1,7 @@
 //! Laws of what an encoder writes. They speak of the definitions alone, over all template sets, limits and messages.
 
-ghost use Rattle.std.specs.Prelude.{◌≡◌, ℕ, List, [], Bool, true, Option, slice_get, Some, ◌++◌};
+ghost use Rattle.std.specs.Prelude.{◌≡◌, ◌≤◌, length, ℤ, ℕ, List, [], Bool, true, Option, slice_get, Some, ◌++◌};
+ghost use Rattle.fast_wire.specs.Integers.{Range, SpellsInt};
 ghost use Rattle.fast_value.specs.declared.settings.Limits.{Limits};
 ghost use Rattle.fast_value.specs.Kinds.{ScalarData};
 ghost use Rattle.fast_value.specs.Limits.{in_mode};
@@ -37,4 +38,9 @@ pub fn one_encoding()
 /// and the chain ends at the encoder's dictionary.
 pub fn encoded_is_read_back()
     ensures { (t : Tree) (l : Limits) (w v : List ℕ) (es : List EventData) (m : MessageData) (d d' : Dictionary) → HasDistinctIds t → SuitsTemplate t m → FitsLimits l m.slots → Chain t l w es d → EncodesMessage t l d m v d' → Stream t l (w ++ v) (es ++ events t m) between × Chain t l (w ++ v) (es ++ events t m) d' }
+{}
+
+/// Every spelling of an integer has one in strict mode that is no longer.
+pub fn respelled()
+    ensures { (strict : Bool) (range : Range) (nullable : Bool) (x : Option ℤ) (w : List ℕ) → SpellsInt strict range nullable x w → (v : List ℕ) × SpellsInt true range nullable x v × (length v ≤ length w) }
 {}

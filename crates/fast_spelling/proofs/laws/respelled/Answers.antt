@@ -1,0 +1,6 @@
+use Rattle.fast_spelling.proofs.Respelled.{respelled}
+use Rattle.fast_spelling.proofs.Resent.{field_read}
+use Rattle.fast_spelling.proofs.laws.respelled.Goals as goal
+
+pub returns : goal.returns
+returns c = respelled
