@@ -13,3 +13,5 @@ pub mod Progress
 pub mod Depths
 pub mod Respelled
 pub mod Resent
+pub mod Sound
+pub mod Chosen

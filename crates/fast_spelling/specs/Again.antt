@@ -1,11 +1,12 @@
 -- What is relied on where a message that was read is encoded again.
 use Rattle.std.specs.Prelude.{◌≡◌, ◌≢◌, ◌⊎◌, ℕ, Bool, true, false, All, List, [], ◌∷◌, ◌++◌, slice_get, slice_index_or, Option, Some, None, IfSome}
 use Rattle.fast_value.specs.declared.kinds.Kind.{Kind}
-use Rattle.fast_value.specs.declared.kinds.Kind.TheVariants.{UInt32, Int32, Int64}
+use Rattle.fast_value.specs.declared.kinds.Kind.TheVariants.{UInt32, Int32, Int64, Ascii}
 use Rattle.fast_value.specs.declared.settings.Limits.{Limits}
 use Rattle.fast_value.specs.Kinds.{ScalarData, AsciiText, IsOfKind, texts, family}
 use Rattle.fast_value.specs.Messages.{ItemData, one, group as group_item, sequence as sequence_item, Slots, no_slots, absent, present, Elements, no_elements, element, MessageData}
-use Rattle.fast_tree.specs.declared.operators.Operator.TheVariants.{Constant, Default, Delta}
+use Rattle.fast_tree.specs.declared.operators.Operator.{Operator}
+use Rattle.fast_tree.specs.declared.operators.Operator.TheVariants.{Constant, Default, Delta, Tail}
 use Rattle.fast_tree.specs.Tree.{FieldData, Instruction, field, parts, group, sequence, Body, end, step, Tree}
 use Rattle.fast_template.specs.Uses.{suits}
 use Rattle.fast_dict.specs.Dictionary.{Dictionary, PreviousData, undefined, assigned}
@@ -44,9 +45,13 @@ abbrev mutual
 abbrev pub IsGrantedTree : Limits → Tree → Type 0
 IsGrantedTree l t = All (λ u. GrantsBody l u.body) t.templates
 
--- The operator isn't a delta of texts, or the field is mandatory.
+-- Where the operator is this one, the field is no optional delta of a text, and no optional tail of an ASCII text.
+abbrev pub IsPlainBy : Operator → FieldData → Type 0
+IsPlainBy o f = (o ≡ Delta → family f.kind ≡ texts → f.optional ≡ false) × (o ≡ Tail → f.kind ≡ Ascii → f.optional ≡ false)
+
+-- the field is neither
 abbrev pub HasPlainLength : FieldData → Type 0
-HasPlainLength f = f.operator ≡ Delta → family f.kind ≡ texts → f.optional ≡ false
+HasPlainLength f = IsPlainBy f.operator f
 
 -- the same of all fields of a body
 abbrev mutual

@@ -1,5 +1,7 @@
 use Rattle.fast_spelling.proofs.Respelled.{respelled}
 use Rattle.fast_spelling.proofs.Resent.{field_read}
+use Rattle.fast_spelling.proofs.Sound.{sound_write}
+use Rattle.fast_spelling.proofs.Chosen.{length_shorter}
 use Rattle.fast_spelling.proofs.laws.respelled.Goals as goal
 
 pub returns : goal.returns
