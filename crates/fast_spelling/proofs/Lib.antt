@@ -15,3 +15,6 @@ pub mod Respelled
 pub mod Resent
 pub mod Sound
 pub mod Chosen
+pub mod Resending
+pub mod FieldsAgain
+pub mod MapsAgain
