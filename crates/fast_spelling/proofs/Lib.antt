@@ -18,3 +18,6 @@ pub mod Chosen
 pub mod Resending
 pub mod FieldsAgain
 pub mod MapsAgain
+pub mod BodiesAgain
+pub mod MessagesAgain
+pub mod NoZeros

@@ -78,7 +78,7 @@ module _ (l : Limits) where
       }
 
   -- a number in its range
-  ranged_is : (range : Range) (c : Code) (x y : ℤ) → ranged range c x ≡ Ok y → IsWithin range y × (x ≡ y)
+  pub ranged_is : (range : Range) (c : Code) (x y : ℤ) → ranged range c x ≡ Ok y → IsWithin range y × (x ≡ y)
   ranged_is range c x y e = by (int_le range.low x && int_le x range.high) refl e
     where
       by : (b : Bool) → (int_le range.low x && int_le x range.high) ≡ b → (if b then Ok x else Err c) ≡ Ok y → IsWithin range y × (x ≡ y)

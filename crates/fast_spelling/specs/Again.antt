@@ -65,6 +65,10 @@ abbrev mutual
   ArePlainIn end = Unit {0}
   ArePlainIn (step i is) = ArePlain i × ArePlainIn is
 
+-- the same of all templates
+abbrev pub IsPlainTree : Tree → Type 0
+IsPlainTree t = All (λ u. ArePlainIn u.body) t.templates
+
 -- No ASCII text has the character U+0000.
 abbrev pub HasNoZero : ScalarData → Type 0
 HasNoZero (AsciiText v) = All (λ c. c ≢ 0) v

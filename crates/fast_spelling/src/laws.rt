@@ -1,22 +1,24 @@
 //! Laws of what an encoder writes. They speak of the definitions alone, over all template sets, limits and messages.
 
-ghost use Rattle.std.specs.Prelude.{◌≡◌, ◌≤◌, length, ℤ, ℕ, List, [], Bool, true, Option, slice_get, Some, ◌++◌};
-ghost use Rattle.fast_wire.specs.Integers.{Range, SpellsInt};
+ghost use Rattle.std.specs.Prelude.{◌≡◌, ◌⊎◌, ◌≤◌, All, length, ℕ, List, [], Bool, true, Option, slice_get, Some, ◌++◌};
 ghost use Rattle.fast_value.specs.declared.settings.Limits.{Limits};
 ghost use Rattle.fast_value.specs.Kinds.{ScalarData};
 ghost use Rattle.fast_value.specs.Limits.{in_mode};
 ghost use Rattle.fast_value.specs.Messages.{MessageData};
 ghost use Rattle.fast_tree.specs.Tree.{FieldData, Tree, HasDistinctIds};
-ghost use Rattle.fast_dict.specs.Dictionary.{Dictionary, PreviousData};
+ghost use Rattle.fast_dict.specs.Dictionary.{Dictionary, PreviousData, fresh};
 ghost use Rattle.fast_dict.specs.Operators.{Op, Sent};
 ghost use Rattle.fast_stream.specs.Events.{EventData, events};
 ghost use Rattle.fast_stream.specs.Fields.{field_phrase};
 ghost use Rattle.fast_stream.specs.Messages.{SpellsMessage};
 ghost use Rattle.fast_stream.specs.Phrases.{whole};
 ghost use Rattle.fast_stream.specs.Readers.{AreBytes};
-ghost use Rattle.fast_stream.specs.Streams.{Stream, Chain, between};
+ghost use Rattle.fast_stream.specs.Streams.{Stream, Chain, between, SpellsAll};
+ghost use Rattle.fast_spelling.specs.Again.{IsGrantedTree, IsSound, IsPlainTree, HaveNoZero, EncodesAll};
 ghost use Rattle.fast_spelling.specs.Encoding.{EncodesMessage, SpellsSent};
-ghost use Rattle.fast_spelling.specs.Suiting.{SuitsTemplate, FitsLimits};
+ghost use Rattle.fast_spelling.specs.Refusals.{IsRefused};
+ghost use Rattle.fast_spelling.specs.declared.faults.EncodeFault.TheVariants.{R9};
+ghost use Rattle.fast_spelling.specs.Suiting.{IsKnown, SuitsTemplate, FitsLimits};
 
 /// The bytes of an item that the operator takes are the field in strict mode.
 pub fn field_spelled()
@@ -40,7 +42,26 @@ pub fn encoded_is_read_back()
     ensures { (t : Tree) (l : Limits) (w v : List ℕ) (es : List EventData) (m : MessageData) (d d' : Dictionary) → HasDistinctIds t → SuitsTemplate t m → FitsLimits l m.slots → Chain t l w es d → EncodesMessage t l d m v d' → Stream t l (w ++ v) (es ++ events t m) between × Chain t l (w ++ v) (es ++ events t m) d' }
 {}
 
-/// Every spelling of an integer has one in strict mode that is no longer.
-pub fn respelled()
-    ensures { (strict : Bool) (range : Range) (nullable : Bool) (x : Option ℤ) (w : List ℕ) → SpellsInt strict range nullable x w → (v : List ℕ) × SpellsInt true range nullable x v × (length v ≤ length w) }
+/// What was read of a message suits its template and the limits, and keeps previous values sound.
+pub fn spelled_suits()
+    ensures { (t : Tree) (l : Limits) (d : Dictionary) (m : MessageData) (w : List ℕ) (d' : Dictionary) → IsGrantedTree l t → IsSound l d → SpellsMessage t l d m w d' → IsKnown t m × SuitsTemplate t m × FitsLimits l m.slots × IsSound l d' }
+{}
+
+/// A message that was read in either mode is encoded again, and leads to the same dictionary, or it is refused with R9 and with
+/// nothing else. No more bytes are written than were read, but where an optional field is a delta of a text or a tail of an ASCII text.
+pub fn encoded_again()
+    ensures { (t : Tree) (l : Limits) (d : Dictionary) (m : MessageData) (w : List ℕ) (d' : Dictionary) → IsGrantedTree l t → IsSound l d → SpellsMessage t l d m w d'
+        → ((v : List ℕ) × EncodesMessage t l d m v d' × (IsPlainTree t → length v ≤ length w)) ⊎ IsRefused t l d m R9 }
+{}
+
+/// Where no ASCII text of the message has U+0000, it isn't refused.
+pub fn encoded_without_zero()
+    ensures { (t : Tree) (l : Limits) (d : Dictionary) (m : MessageData) (w : List ℕ) (d' : Dictionary) → IsGrantedTree l t → IsSound l d → HaveNoZero m.slots → SpellsMessage t l d m w d'
+        → (v : List ℕ) × EncodesMessage t l d m v d' × (IsPlainTree t → length v ≤ length w) }
+{}
+
+/// All messages of a chain are encoded again, from the same dictionaries, where no ASCII text has U+0000.
+pub fn all_encoded_again()
+    ensures { (t : Tree) (l : Limits) (ms : List MessageData) (w : List ℕ) (d : Dictionary) → IsGrantedTree l t → All (λ m. HaveNoZero m.slots) ms → SpellsAll t l (fresh t.entries) ms w d
+        → (v : List ℕ) × EncodesAll t l (fresh t.entries) ms v d × (IsPlainTree t → length v ≤ length w) }
 {}
