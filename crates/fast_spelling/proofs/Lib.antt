@@ -21,3 +21,4 @@ pub mod MapsAgain
 pub mod BodiesAgain
 pub mod MessagesAgain
 pub mod NoZeros
+pub mod GrantedSets

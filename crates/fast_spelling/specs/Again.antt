@@ -1,9 +1,8 @@
 -- What is relied on where a message that was read is encoded again.
-use Rattle.std.specs.Prelude.{◌≡◌, ◌≢◌, ◌⊎◌, ℕ, Bool, true, false, All, List, [], ◌∷◌, ◌++◌, slice_get, slice_index_or, Option, Some, None, IfSome}
-use Rattle.fast_value.specs.declared.kinds.Kind.{Kind}
+use Rattle.std.specs.Prelude.{◌≡◌, ◌≢◌, ℕ, ◌≤◌, true, false, All, List, [], ◌∷◌, ◌++◌, length, slice_index_or, Option, Some, None, IfSome}
 use Rattle.fast_value.specs.declared.kinds.Kind.TheVariants.{UInt32, Int32, Int64, Ascii}
 use Rattle.fast_value.specs.declared.settings.Limits.{Limits}
-use Rattle.fast_value.specs.Kinds.{ScalarData, AsciiText, IsOfKind, texts, family}
+use Rattle.fast_value.specs.Kinds.{ScalarData, AsciiText, text_of, IsOfKind, texts, family}
 use Rattle.fast_value.specs.Messages.{ItemData, one, group as group_item, sequence as sequence_item, Slots, no_slots, absent, present, Elements, no_elements, element, MessageData}
 use Rattle.fast_tree.specs.declared.operators.Operator.{Operator}
 use Rattle.fast_tree.specs.declared.operators.Operator.TheVariants.{Constant, Default, Delta, Tail}
@@ -44,6 +43,26 @@ abbrev mutual
 -- the same of all templates
 abbrev pub IsGrantedTree : Limits → Tree → Type 0
 IsGrantedTree l t = All (λ u. GrantsBody l u.body) t.templates
+
+-- The initial value is no text that is longer than the limit.
+abbrev pub HasShortInitial : Limits → FieldData → Type 0
+HasShortInitial l f = IfSome f.initial (λ v. length (text_of v) ≤ l.max_text)
+
+-- the same of all fields of a body
+abbrev mutual
+  pub HaveShortInitials : Limits → Instruction → Type 0
+  HaveShortInitials l (field at f) = HasShortInitial l f
+  HaveShortInitials l (parts at e m) = HasShortInitial l e × HasShortInitial l m
+  HaveShortInitials l (group at optional body) = HaveShortInitialsIn l body
+  HaveShortInitials l (sequence at length body) = HasShortInitial l length × HaveShortInitialsIn l body
+
+  pub HaveShortInitialsIn : Limits → Body → Type 0
+  HaveShortInitialsIn l end = Unit {0}
+  HaveShortInitialsIn l (step i is) = HaveShortInitials l i × HaveShortInitialsIn l is
+
+-- the same of all templates
+abbrev pub IsShortTree : Limits → Tree → Type 0
+IsShortTree l t = All (λ u. HaveShortInitialsIn l u.body) t.templates
 
 -- Where the operator is this one, the field is no optional delta of a text, and no optional tail of an ASCII text.
 abbrev pub IsPlainBy : Operator → FieldData → Type 0

@@ -1,11 +1,13 @@
 //! Laws of what an encoder writes. They speak of the definitions alone, over all template sets, limits and messages.
 
 ghost use Rattle.std.specs.Prelude.{◌≡◌, ◌⊎◌, ◌≤◌, All, length, ℕ, List, [], Bool, true, Option, slice_get, Some, ◌++◌};
+ghost use Rattle.toml.specs.Data.{Members};
 ghost use Rattle.fast_value.specs.declared.settings.Limits.{Limits};
 ghost use Rattle.fast_value.specs.Kinds.{ScalarData};
 ghost use Rattle.fast_value.specs.Limits.{in_mode};
 ghost use Rattle.fast_value.specs.Messages.{MessageData};
 ghost use Rattle.fast_tree.specs.Tree.{FieldData, Tree, HasDistinctIds};
+ghost use Rattle.fast_template.specs.Checked.{IsTree};
 ghost use Rattle.fast_dict.specs.Dictionary.{Dictionary, PreviousData, fresh};
 ghost use Rattle.fast_dict.specs.Operators.{Op, Sent};
 ghost use Rattle.fast_stream.specs.Events.{EventData, events};
@@ -14,7 +16,7 @@ ghost use Rattle.fast_stream.specs.Messages.{SpellsMessage};
 ghost use Rattle.fast_stream.specs.Phrases.{whole};
 ghost use Rattle.fast_stream.specs.Readers.{AreBytes};
 ghost use Rattle.fast_stream.specs.Streams.{Stream, Chain, between, SpellsAll};
-ghost use Rattle.fast_spelling.specs.Again.{IsGrantedTree, IsSound, IsPlainTree, HaveNoZero, EncodesAll};
+ghost use Rattle.fast_spelling.specs.Again.{IsGrantedTree, IsShortTree, IsSound, IsPlainTree, HaveNoZero, EncodesAll};
 ghost use Rattle.fast_spelling.specs.Encoding.{EncodesMessage, SpellsSent};
 ghost use Rattle.fast_spelling.specs.Refusals.{IsRefused};
 ghost use Rattle.fast_spelling.specs.declared.faults.EncodeFault.TheVariants.{R9};
@@ -40,6 +42,11 @@ pub fn one_encoding()
 /// and the chain ends at the encoder's dictionary.
 pub fn encoded_is_read_back()
     ensures { (t : Tree) (l : Limits) (w v : List ℕ) (es : List EventData) (m : MessageData) (d d' : Dictionary) → HasDistinctIds t → SuitsTemplate t m → FitsLimits l m.slots → Chain t l w es d → EncodesMessage t l d m v d' → Stream t l (w ++ v) (es ++ events t m) between × Chain t l (w ++ v) (es ++ events t m) d' }
+{}
+
+/// A checked set grants what the laws behind this one ask of it, wherever no initial text is longer than the limit.
+pub fn read_is_granted()
+    ensures { (document : Members) (t : Tree) (l : Limits) → IsTree document t → IsShortTree l t → IsGrantedTree l t }
 {}
 
 /// What was read of a message suits its template and the limits, and keeps previous values sound.
