@@ -1,28 +1,27 @@
 -- What was read of a segment is encoded again, or some ASCII text is refused.
-use Rattle.std.proofs.Common.{append-nil, ◌≡◌, ◌≢◌, ◌⊎◌, inl, inr, ℕ, zero, suc, ◌+◌, ◌*◌, ◌-◌, ◌<◌, ◌≤◌, ◌^◌, List, [], ◌∷◌, ◌++◌, length, refl, ap, sym, subst, ◌∙◌, arith}
-use Rattle.std.specs.Prelude.{Bool, true, false, ◌&&◌, nat_le, nat_abs, int_le, if◌then◌else◌, ℤ, pos, Option, Some, None, Result, Ok, Err}
+use Rattle.std.proofs.Common.{append-nil, ◌≡◌, ◌⊎◌, inl, inr, ℕ, zero, suc, ◌+◌, ◌<◌, ◌≤◌, ◌^◌, List, [], ◌∷◌, ◌++◌, length, refl, ap, sym, subst, ◌∙◌, arith}
+use Rattle.std.specs.Prelude.{Bool, true, false, nat_le, nat_abs, if◌then◌else◌, ℤ, Option, Some, None, Ok, Err}
 use Rattle.std.proofs.lemmas.Bool.{leb-true}
 use Rattle.std.proofs.lemmas.List.{length-append}
-use Rattle.fast_wire.specs.Integers.{Range, IsWithin, signed_range}
-use Rattle.fast_wire.specs.Maps.{bits, first_bit, later_bits, IsMap}
+use Rattle.fast_wire.specs.Integers.{IsWithin, signed_range}
+use Rattle.fast_wire.specs.Maps.{bits, first_bit, later_bits}
 use Rattle.fast_value.specs.declared.kinds.Kind.{Kind}
-use Rattle.fast_value.specs.declared.kinds.Kind.TheVariants.{UInt32, Int32, Int64, Ascii}
+use Rattle.fast_value.specs.declared.kinds.Kind.TheVariants.{UInt32, Int32, Int64}
 use Rattle.fast_value.specs.declared.settings.Limits.{Limits}
-use Rattle.fast_value.specs.declared.codes.Code.{Code}
 use Rattle.fast_value.specs.declared.codes.Code.TheVariants.{R1, L2, L5}
 use Rattle.fast_value.specs.Limits.{Bounds, bounds}
-use Rattle.fast_value.specs.Kinds.{ScalarData, U, I, Dec, AsciiText, UnicodeText, ByteVector, texts, family, integer_of, exponent_range, IsOfKind}
-use Rattle.fast_value.specs.Messages.{ItemData, one, group as group_item, sequence as sequence_item, Slots, no_slots, absent, present, Elements, no_elements, element, count, item_total, total, rows_total}
+use Rattle.fast_value.specs.Kinds.{ScalarData, U, I, Dec, texts, family, integer_of, exponent_range, IsOfKind}
+use Rattle.fast_value.specs.Messages.{ItemData, one, group as group_item, sequence as sequence_item, Slots, no_slots, Elements, no_elements, element, count, total, rows_total}
 use Rattle.fast_tree.specs.Tree.{Label, FieldData, Instruction, field, parts, group, sequence, Body, end, step, bits_of, has_map}
 use Rattle.fast_dict.specs.Dictionary.{Dictionary}
 use Rattle.fast_dict.specs.Operators.{ranged}
 use Rattle.fast_stream.specs.Events.{FieldValue, GroupStart, GroupEnd, SequenceStart, ElementStart, ElementEnd, SequenceEnd}
-use Rattle.fast_stream.specs.Grammar.{Grammar, give, hand, presence_map, narrow, ◌>>=◌, of_result}
-use Rattle.fast_stream.specs.Messages.{Context, State, Found, field_in, Read, ReadAll, with_slot, handed, signed_of, decimal_with, mantissa_after, map_bits, own_bits, Segment, segment, elements, group_from, group_if, group_in, within_limits, length_in, count_more, sequence_from, instruction, body_term}
+use Rattle.fast_stream.specs.Grammar.{give, hand, narrow, ◌>>=◌}
+use Rattle.fast_stream.specs.Messages.{Context, State, field_in, Read, ReadAll, with_slot, handed, signed_of, decimal_with, mantissa_after, map_bits, own_bits, Segment, segment, elements, group_from, group_if, group_in, within_limits, length_in, count_more, sequence_from, instruction, body_term}
 use Rattle.fast_spelling.specs.Again.{IsSound, IsGranted, Grants, GrantsBody, HasPlainLength, ArePlain, ArePlainIn}
 use Rattle.fast_spelling.specs.Encoding.{EncodesField, ShortestMap, EncodesSegment, EncodesElements, EncodesScalar, EncodesDecimal, EncodesGroup, EncodesSequence, Encodes, EncodesBody}
 use Rattle.fast_spelling.specs.Refusals.{RefusesField, RefusesScalar, RefusesDecimal, RefusesSegment, RefusesElements, RefusesGroup, RefusesSequence, Refuses, RefusesBody}
-use Rattle.fast_spelling.specs.Suiting.{AreRight, IsRightScalar, IsRightDecimal, IsRightGroup, IsRightSequence, Suits, SuitsBody, IsWithinLimits, AreWithinLimits, RowsWithinLimits}
+use Rattle.fast_spelling.specs.Suiting.{AreRight, IsRightScalar, IsRightDecimal, IsRightGroup, IsRightSequence, Suits, SuitsBody, AreWithinLimits, RowsWithinLimits}
 use Rattle.fast_spelling.specs.declared.faults.EncodeFault.{EncodeFault}
 use Rattle.fast_spelling.specs.declared.faults.EncodeFault.TheVariants.{R9}
 use Rattle.fast_spelling.proofs.Encoded.{option_total, IsWithinOption}
@@ -30,7 +29,7 @@ use Rattle.fast_spelling.proofs.FieldsAgain.{Uses, uses_more, Again, FoundBack, 
 use Rattle.fast_spelling.proofs.MapsAgain.{map_again}
 use Rattle.fast_spelling.proofs.Resent.{Says, InTurn, in_turn, given, resulted, handed_over, map_read, narrowed}
 use Rattle.fast_spelling.proofs.Resending.{ranged_is}
-use Rattle.fast_spelling.proofs.Sound.{IsSoundValue, same_ok, right_of, short_of}
+use Rattle.fast_spelling.proofs.Sound.{same_ok, right_of, short_of}
 
 -- the bytes of two parts
 pub two_lengths : (u v w : List ℕ) → w ≡ u ++ v → length w ≡ length u + length v
@@ -202,9 +201,9 @@ module _ (l : Limits) (s : Bool) where
     pub again : Bytes (λ u. encodes c.dictionary r.0 u r.1.dictionary) (refuses c.dictionary r.0) plain w
 
   -- the bits of a segment's own map, and a map of those that are used
-  own_read : (has : Bool) (n : ℕ) (u : List ℕ) (b0 : List Bool) → Says s (map_bits n has) u b0 → (b left' : List Bool) → Uses b b0 left' → has ≡ false × (b ≡ b) ⊎ (has ≡ true) → (m : List ℕ) × ShortestMap has b m × (length m ≤ length u)
-  own_read false n u b0 h b left' uses _ = ([], refl, omega arith)
-  own_read true n u b0 h b left' uses _ =
+  own_read : (has : Bool) (n : ℕ) (u : List ℕ) (b0 : List Bool) → Says s (map_bits n has) u b0 → (b left' : List Bool) → Uses b b0 left' → (m : List ℕ) × ShortestMap has b m × (length m ≤ length u)
+  own_read false n u b0 h b left' uses = ([], refl, omega arith)
+  own_read true n u b0 h b left' uses =
       let (m, v, form, j, e) = map_read s (λ m. narrow n m (give (bits m))) u b0 h in
       let k = given s (bits m) v b0 (narrowed s n m (give (bits m)) v b0 j) in
       let (m', form', same, short) = map_again s m b left' form (subst (λ (z : List Bool). Uses b z left') k.1 uses) in
@@ -228,16 +227,12 @@ module _ (l : Limits) (s : Bool) where
         again = by u y b0 vs st' i all b.again;
       })
     where
-      which : (has : Bool) (b : List Bool) → has ≡ false × (b ≡ b) ⊎ (has ≡ true)
-      which true b = inr refl
-      which false b = inl (refl, refl)
-
       by : (u y : List ℕ) (b0 : List Bool) (vs : Slots) (st' : State) → Says s (own_bits body) u b0 → length w ≡ length u + length y
           → Again (λ b u. EncodesBody l body c.dictionary vs b u st'.context.dictionary) (RefusesBody l body c.dictionary vs R9) (ArePlainIn body) b0 st'.bits y
           → Bytes (λ u. EncodesSegment body (EncodesBody l body) c.dictionary vs u st'.context.dictionary) (RefusesSegment body (EncodesBody l body) (RefusesBody l body) c.dictionary vs R9) (ArePlainIn body) w
       by u y b0 vs st' i all (inr z) = inr (inl z)
       by u y b0 vs st' i all (inl (b, x, enc, uses, short)) =
-          let (m, map, brief) = own_read (has_map body) (bits_of body) u b0 i b st'.bits uses (which (has_map body) b) in
+          let (m, map, brief) = own_read (has_map body) (bits_of body) u b0 i b st'.bits uses in
           inl (m ++ x, (b, m, x, enc, map, refl), λ p. omega (arith, length-append m x, brief, short p, all))
 
   module _ (seg : Segment) (right : Slots → Type 0) (enc : Dictionary → Slots → List ℕ → Dictionary → Type 0) (ref : Dictionary → Slots → EncodeFault → Type 0) (plain : Type 0)
@@ -383,9 +378,6 @@ module _ (l : Limits) (s : Bool) where
 
   abbrev InstructionBack : Instruction → State → List ℕ → Read → Type 0
   InstructionBack i st w r = Back (Suits i) (Encodes l i) (λ d x. Refuses l i d x R9) (ArePlain i) st w r
-
-  abbrev StepsBack : Instruction → Body → State → List ℕ → ReadAll → Type 0
-  StepsBack i is st w r = BodyBack (step i is) st w r
 
   suited_slot : (i : Instruction) (is : Body) (x : Option ItemData) (vs : Slots) → Suits i x → SuitsBody is vs → SuitsBody (step i is) (with_slot x vs)
   suited_slot i is None vs h k = (h, k)

@@ -1,20 +1,19 @@
 -- Deltas and tails of texts that are chosen by common fronts and backs are no longer than others.
-use Rattle.std.proofs.Common.{◌≡◌, ◌≢◌, ◌⊎◌, inl, inr, ℕ, zero, suc, ◌+◌, ◌*◌, ◌-◌, ◌<◌, ◌≤◌, ◌^◌, List, [], ◌∷◌, ◌++◌, length, reverse, take, drop, get_or, refl, ap, sym, subst, ◌∙◌, arith, lit<}
-use Rattle.std.specs.Prelude.{Bool, true, false, All, nat_eq, nat_le, if◌then◌else◌, ℤ, pos, negsuc, Option, Some, None, Result, Ok, Err}
+use Rattle.std.proofs.Common.{◌≡◌, ◌≢◌, ◌⊎◌, inl, inr, ℕ, zero, suc, ◌+◌, ◌*◌, ◌-◌, ◌<◌, ◌≤◌, ◌^◌, List, [], ◌∷◌, ◌++◌, length, reverse, take, drop, get_or, refl, ap, sym, subst, ◌∙◌, arith}
+use Rattle.std.specs.Prelude.{Bool, true, false, All, nat_eq, nat_le, if◌then◌else◌, ℤ, pos, negsuc, Some, Ok, Err}
 use Rattle.std.proofs.lemmas.Int.{ints}
 use Rattle.std.proofs.lemmas.Bool.{cases_lt, le-leb, leb-true, lt-leb}
 use Rattle.std.proofs.lemmas.Bool.Decides.{eqb_tells}
 use Rattle.std.proofs.lemmas.List.{length-append, length-take, length-take-le, length-drop, length-reverse, reverse-append, reverse-reverse}
-use Rattle.std.proofs.lemmas.List.Elements.{All-append, All-drop, All-take}
+use Rattle.std.proofs.lemmas.List.Elements.{All-drop, All-take}
 use lib.Signed.{mag}
-use Rattle.fast_wire.specs.Integers.{IsWithin, unsigned_range, signed_range, SpellsInt}
+use Rattle.fast_wire.specs.Integers.{IsWithin, signed_range}
 use Rattle.fast_wire.specs.Texts.{SpellsAscii, SpellsVector}
 use Rattle.fast_value.specs.declared.kinds.Kind.{Kind}
 use Rattle.fast_value.specs.declared.kinds.Kind.TheVariants.{UInt32, Int32, UInt64, Int64, Decimal, Ascii, Unicode, Bytes}
-use Rattle.fast_value.specs.declared.codes.Code.{Code}
 use Rattle.fast_value.specs.declared.codes.Code.TheVariants.{D7}
-use Rattle.fast_dict.specs.Operators.{Sent, text_delta, Kept, append_to, prepend_to, kept_of, kept_length, joined, with_tail}
-use Rattle.fast_dict.specs.Rule.{common_front, common_back, appending, prepending, IsTextDelta, IsTail}
+use Rattle.fast_dict.specs.Operators.{text_delta, Kept, append_to, prepend_to, kept_of, kept_length, joined, with_tail}
+use Rattle.fast_dict.specs.Rule.{common_front, common_back, IsTextDelta, IsTail}
 use Rattle.fast_spelling.specs.Encoding.{Shortest, ShortestText}
 use Rattle.fast_spelling.proofs.Respelled.{sent_for, shorter_signed, some_signed, shorter_unsigned}
 use Rattle.fast_spelling.proofs.Ruled.{front_base, front_text, drop_turned}
@@ -162,8 +161,7 @@ choose_tail b part t e = by (cases_lt (length b) (length part))
         let is : t ≡ take n b ++ part = sym e ∙ rw (le-leb (length part) (length b) fits) refl in
         let long : length t ≡ length b = ap length is ∙ length-append (take n b) part ∙ omega (arith, length-take n b, fits) in
         let front = common_front b t in
-        let most : n ≤ front = subst (λ (z : List ℕ). n ≤ common_front b z) (sym is) (front_more b part n (omega arith)) in
-        (
+        let most : n ≤ front = subst (λ (z : List ℕ). n ≤ common_front b z) (sym is) (front_more b part n (omega arith)) in (
           record { part_sent = drop front t; chosen = inl (long, refl); shorter = omega (arith, length-drop front t, long, most, fits); all = λ a. All-drop (λ c. c < 128) front t a },
           inl (omega (arith, long)),
         )

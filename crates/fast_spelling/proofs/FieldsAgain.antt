@@ -1,5 +1,5 @@
 -- A field that was read is encoded again, or it is an ASCII text of which a part that begins with U+0000 would be sent.
-use Rattle.std.proofs.Common.{◌≡◌, ◌≢◌, ◌⊎◌, inl, inr, ℕ, zero, suc, ◌≤◌, List, [], ◌∷◌, ◌++◌, length, refl, ap, sym, subst, ◌∙◌, arith}
+use Rattle.std.proofs.Common.{◌≡◌, ◌⊎◌, inl, inr, ℕ, ◌≤◌, List, [], ◌∷◌, ◌++◌, length, refl, ap, sym, subst, ◌∙◌, arith}
 use Rattle.std.specs.Prelude.{Bool, true, false, if◌then◌else◌, Option, Some, None, Result, Ok, Err, IfSome}
 use Rattle.std.proofs.lemmas.List.{length-append}
 use Rattle.fast_wire.specs.Maps.{first_bit, later_bits}
@@ -14,12 +14,11 @@ use Rattle.fast_template.specs.Uses.{suits}
 use Rattle.fast_dict.specs.Dictionary.{Dictionary, PreviousData, previous_at, write_at}
 use Rattle.fast_dict.specs.Operators.{Outcome, Sent, nothing, Op, IsItemBy, decide, decide_by}
 use Rattle.fast_dict.specs.Rule.{GoesUnsent, Rule}
-use Rattle.fast_stream.specs.Grammar.{give, ◌>>=◌}
+use Rattle.fast_stream.specs.Grammar.{give}
 use Rattle.fast_stream.specs.Fields.{field_term}
 use Rattle.fast_stream.specs.Messages.{State, Found, found, field_in}
 use Rattle.fast_spelling.specs.Again.{IsSoundEntry, IsSound, IsGranted, HasPlainLength}
 use Rattle.fast_spelling.specs.Encoding.{EncodesField, SpellsSentBy}
-use Rattle.fast_spelling.specs.Fields.{next_by}
 use Rattle.fast_spelling.specs.Refusals.{HasZeroInFront, RefusesField}
 use Rattle.fast_spelling.specs.declared.faults.EncodeFault.TheVariants.{R9}
 use Rattle.fast_spelling.proofs.Resent.{Says, in_turn, given, Resent, field_read}

@@ -1,6 +1,6 @@
 -- What a set's text grants of the fields of its tree.
-use Rattle.std.proofs.Common.{◌≡◌, ◌≢◌, ◌⊎◌, inl, inr, ℕ, zero, suc, ◌<◌, ◌≤◌, List, [], ◌∷◌, ◌++◌, length, refl, ap, sym, subst, ◌∙◌, arith}
-use Rattle.std.specs.Prelude.{Bool, true, false, All, Option, Some, None, IfSome, slice_get}
+use Rattle.std.proofs.Common.{◌≡◌, inl, inr, ℕ, suc, ◌≤◌, List, [], ◌∷◌, ◌++◌, length, refl, ap, sym, subst, ◌∙◌, arith}
+use Rattle.std.specs.Prelude.{Bool, All, Option, Some, None, IfSome, slice_get}
 use Rattle.std.proofs.lemmas.Int.{ints}
 use Rattle.std.proofs.lemmas.Bool.{true_from_ne_false}
 use Rattle.std.proofs.lemmas.List.Elements.{All-nil, All-cons, All-get_or}
@@ -10,7 +10,7 @@ use Rattle.fast_wire.specs.Integers.{IsWithin, unsigned_range, signed_range, exp
 use Rattle.fast_value.specs.declared.kinds.Kind.{Kind}
 use Rattle.fast_value.specs.declared.kinds.Kind.TheVariants.{UInt32, Int32, UInt64, Int64, Decimal, Ascii, Unicode, Bytes}
 use Rattle.fast_value.specs.declared.settings.Limits.{Limits}
-use Rattle.fast_value.specs.Initial.{IsInitial, IsDecimal, IsInteger}
+use Rattle.fast_value.specs.Initial.{IsInitial, IsDecimal}
 use Rattle.fast_value.specs.Kinds.{ScalarData, family, text_of, IsOfKind}
 use Rattle.fast_tree.specs.AsWritten.{Written, DeclaredList, DeclaredTemplate, Use, scalar_use, exponent_use, mantissa_use, length_use, all_uses}
 use Rattle.fast_tree.specs.Entries.{Entry, Scope, scope_of, in_scope, uses_from}
@@ -19,8 +19,8 @@ use Rattle.fast_template.specs.Checked.{IsTree}
 use Rattle.fast_template.specs.InPlace.{◌then◌, InPlace, nothing, a_field, some_parts, a_group, a_sequence, a_reference, AreInPlace}
 use Rattle.fast_template.specs.Uses.{suits, IsInitialOf, IsS2, IsS4, IsS5, IsField}
 use Rattle.fast_template.proofs.BuildingNeeds.{all_left, all_right, all_first, all_but_first}
-use Rattle.fast_spelling.specs.Again.{IsGranted, Grants, GrantsBody, IsGrantedTree, HasShortInitial, HaveShortInitialsIn, IsShortTree}
-use Rattle.fast_spelling.proofs.Sound.{integer_right, decimal_of}
+use Rattle.fast_spelling.specs.Again.{IsGranted, GrantsBody, IsGrantedTree, HasShortInitial, HaveShortInitialsIn, IsShortTree}
+use Rattle.fast_spelling.proofs.Sound.{integer_right}
 
 -- the use has none of these faults
 abbrev IsFaultless : Use → Type 0
@@ -80,8 +80,7 @@ module _ (l : Limits) where
   granted_body all here (some_parts {name = name} {optional = optional} {v = v} {w = w} {ds = ds} is_exponent is_mantissa rest) short =
       let u = exponent_use name optional v in
       let m = mantissa_use name w in
-      let later = all_but_first IsFaultless u (m ∷ all_uses ds) here in
-      (
+      let later = all_but_first IsFaultless u (m ∷ all_uses ds) here in (
         (
           granted_field (all_first IsFaultless u (m ∷ all_uses ds) here) is_exponent short.0.0,
           granted_field (all_first IsFaultless m (all_uses ds) later) is_mantissa short.0.1,
@@ -95,8 +94,7 @@ module _ (l : Limits) where
       (granted_body all (all_left IsFaultless (all_uses inner) (all_uses ds) here) within short.0, granted_body all (all_right IsFaultless (all_uses inner) (all_uses ds) here) rest short.1)
   granted_body all here (a_sequence {name = name} {optional = optional} {own = own} {w = w} {inner = inner} {ds = ds} is_length within rest) short =
       let u = length_use name optional own w in
-      let later = all_but_first IsFaultless u (all_uses inner ++ all_uses ds) here in
-      (
+      let later = all_but_first IsFaultless u (all_uses inner ++ all_uses ds) here in (
         (
           granted_field (all_first IsFaultless u (all_uses inner ++ all_uses ds) here) is_length short.0.0,
           is_length.kind ∙ length_kind name optional own w,

@@ -1,17 +1,17 @@
 -- Bits of which none was clear in a map have a map, which is no longer.
-use Rattle.std.proofs.Common.{◌≡◌, ◌≢◌, ◌⊎◌, inl, inr, ℕ, zero, suc, ◌+◌, ◌*◌, ◌-◌, ◌/◌, ◌%◌, ◌<◌, ◌≤◌, ◌^◌, List, [], ◌∷◌, ◌++◌, length, get_or, refl, ap, sym, subst, ◌∙◌, arith}
+use Rattle.std.proofs.Common.{◌≡◌, ◌⊎◌, inl, inr, ℕ, zero, suc, ◌+◌, ◌*◌, ◌-◌, ◌/◌, ◌%◌, ◌<◌, ◌≤◌, ◌^◌, List, [], ◌∷◌, length, get_or, refl, ap, sym, ◌∙◌, arith}
 use Rattle.std.specs.Prelude.{Bool, true, false, max, bit_or, replicate, slice_index_or, slice_set}
 use Rattle.std.proofs.Math.Nat.{zero-div}
 use Rattle.std.proofs.lemmas.Bool.{cases_lt, cases_eq, cases_Bool, false_from_ne_true}
 use Rattle.std.proofs.lemmas.List.{get_or_past, get_or-set_same, get_or-set_other}
-use Rattle.fast_wire.specs.Maps.{bits, first_bit, later_bits, IsMap, IsBuilt, map_limit, bytes_for}
+use Rattle.fast_wire.specs.Maps.{bits, first_bit, later_bits, IsMap, IsBuilt}
 use Rattle.fast_wire.proofs.Bits.{bit_of, bit-at}
 use Rattle.fast_wire.proofs.Building.{bit_set, built_blank, built_more, some_bit}
 use Rattle.fast_wire.proofs.Finishing.{finished, finished_map, finished_bits}
 use Rattle.fast_wire.proofs.FirstStop.{entity_is_long}
 use Rattle.fast_wire.proofs.Narrow.{map_is_narrow}
 use Rattle.fast_spelling.specs.Encoding.{SameBits}
-use Rattle.fast_spelling.proofs.Bits.{blank, length_bits}
+use Rattle.fast_spelling.proofs.Bits.{length_bits}
 use Rattle.fast_spelling.proofs.FieldsAgain.{Uses}
 
 -- a bit that is used and set was set before

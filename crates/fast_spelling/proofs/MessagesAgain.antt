@@ -1,30 +1,28 @@
 -- A message that was read is encoded again, or some ASCII text of it is refused.
-use Rattle.std.proofs.Common.{◌≡◌, ◌≢◌, ◌⊎◌, inl, inr, ℕ, zero, suc, ◌+◌, ◌<◌, ◌≤◌, List, [], ◌∷◌, ◌++◌, length, get_or, refl, ap, sym, subst, ◌∙◌, arith, append_assoc, append-nil}
-use Rattle.std.specs.Prelude.{Bool, true, false, All, nat_eq, nat_abs, if◌then◌else◌, slice_get, slice_index_or, Option, Some, None, Result, Ok, Err, ℤ}
-use Rattle.std.proofs.lemmas.Bool.Decides.{eqb_tells}
+use Rattle.std.proofs.Common.{◌≡◌, ◌⊎◌, inl, inr, ℕ, zero, suc, ◌+◌, ◌≤◌, List, [], ◌∷◌, ◌++◌, length, refl, ap, sym, subst, ◌∙◌, arith, append_assoc, append-nil}
+use Rattle.std.specs.Prelude.{Bool, true, false, All, nat_abs, if◌then◌else◌, slice_get, slice_index_or, Option, Some, None, Ok}
 use Rattle.std.proofs.lemmas.List.{length-append}
 use Rattle.std.proofs.lemmas.List.Elements.{All-head, All-tail}
 use Rattle.fast_wire.specs.Maps.{bits, IsMap}
 use Rattle.fast_value.specs.declared.kinds.Kind.TheVariants.{UInt32}
 use Rattle.fast_value.specs.declared.settings.Limits.{Limits}
-use Rattle.fast_value.specs.declared.codes.Code.{Code}
-use Rattle.fast_value.specs.Limits.{Bounds, bounds}
-use Rattle.fast_value.specs.Kinds.{ScalarData, U, texts, integer_of}
-use Rattle.fast_value.specs.Messages.{MessageData, Slots, total}
-use Rattle.fast_tree.specs.Tree.{identifier, bits_of, message_bits, TemplateData, Tree}
-use Rattle.fast_dict.specs.Dictionary.{Dictionary, PreviousData, undefined, fresh, reset}
+use Rattle.fast_value.specs.Limits.{bounds}
+use Rattle.fast_value.specs.Kinds.{ScalarData, U, integer_of}
+use Rattle.fast_value.specs.Messages.{MessageData, Slots}
+use Rattle.fast_tree.specs.Tree.{identifier, message_bits, TemplateData, Tree}
+use Rattle.fast_dict.specs.Dictionary.{Dictionary, undefined, fresh, reset}
 use Rattle.fast_stream.specs.Events.{MessageStart, MessageEnd, events}
-use Rattle.fast_stream.specs.Grammar.{Grammar, give, hand, narrow, ◌>>=◌, of_result}
-use Rattle.fast_stream.specs.Messages.{Context, State, begin, Found, field_in, body_term, has_id, with_id, template_of, reset_if, message_of, message_behind, message_term, message, SpellsMessage}
+use Rattle.fast_stream.specs.Grammar.{give, hand, narrow, ◌>>=◌}
+use Rattle.fast_stream.specs.Messages.{State, begin, field_in, body_term, has_id, with_id, template_of, reset_if, message_of, message_behind, message_term, SpellsMessage}
 use Rattle.fast_stream.specs.Streams.{SpellsAll}
 use Rattle.fast_spelling.specs.Again.{IsSound, IsGranted, GrantsBody, IsGrantedTree, HasPlainLength, ArePlainIn, IsPlainTree, HaveNoZero, EncodesAll}
 use Rattle.fast_spelling.specs.Encoding.{EncodesField, EncodesBody, EncodesMessage, ShortestMap}
 use Rattle.fast_spelling.specs.Refusals.{RefusesField, RefusesBody, RefusesMessage, IsRefused}
-use Rattle.fast_spelling.specs.Suiting.{IsKnown, SuitsBody, SuitsTemplate, AreWithinLimits, FitsLimits}
+use Rattle.fast_spelling.specs.Suiting.{IsKnown, SuitsTemplate, FitsLimits}
 use Rattle.fast_spelling.specs.declared.faults.EncodeFault.TheVariants.{R9}
 use Rattle.fast_spelling.proofs.Encoded.{has-own}
-use Rattle.fast_spelling.proofs.BodiesAgain.{two_lengths, first_all, uint32_is, plain_of, BodyBack, body_back}
-use Rattle.fast_spelling.proofs.FieldsAgain.{Uses, uses_more, Again, FoundBack, found_back}
+use Rattle.fast_spelling.proofs.BodiesAgain.{two_lengths, uint32_is, plain_of, BodyBack, body_back}
+use Rattle.fast_spelling.proofs.FieldsAgain.{uses_more, Again, FoundBack, found_back}
 use Rattle.fast_spelling.proofs.MapsAgain.{map_again}
 use Rattle.fast_spelling.proofs.NoZeros.{message_none}
 use Rattle.fast_spelling.proofs.Resent.{Says, in_turn, given, resulted, handed_over, map_read, narrowed}

@@ -1,25 +1,24 @@
 -- Where no ASCII text has U+0000, none is refused.
-use Rattle.std.proofs.Common.{◌≡◌, ◌≢◌, ◌⊎◌, inl, inr, ℕ, zero, suc, ◌+◌, ◌-◌, ◌<◌, ◌≤◌, List, [], ◌∷◌, ◌++◌, length, take, drop, refl, ap, sym, subst, ◌∙◌, arith}
-use Rattle.std.specs.Prelude.{Bool, true, false, All, ℤ, Option, Some, None, if◌then◌else◌, slice_get}
+use Rattle.std.proofs.Common.{◌≡◌, ◌≢◌, ◌⊎◌, inl, inr, ℕ, ◌-◌, List, [], ◌∷◌, length, refl, sym, subst, ◌∙◌, arith}
+use Rattle.std.specs.Prelude.{Bool, true, false, All, Option, Some, None, if◌then◌else◌}
 use Rattle.std.proofs.lemmas.List.Elements.{All-head, All-drop, All-take}
 use Rattle.fast_value.specs.declared.kinds.Kind.{Kind}
-use Rattle.fast_value.specs.declared.kinds.Kind.TheVariants.{UInt32, Int32, UInt64, Int64, Decimal, Ascii, Unicode, Bytes}
+use Rattle.fast_value.specs.declared.kinds.Kind.TheVariants.{Ascii}
 use Rattle.fast_value.specs.declared.settings.Limits.{Limits}
-use Rattle.fast_value.specs.Kinds.{ScalarData, U, I, Dec, AsciiText, UnicodeText, ByteVector, Family, integers, decimals, texts, family, text_of}
-use Rattle.fast_value.specs.Messages.{ItemData, one, group as group_item, sequence as sequence_item, Slots, no_slots, absent, present, Elements, no_elements, element, count, MessageData}
+use Rattle.fast_value.specs.Kinds.{ScalarData, U, I, Dec, AsciiText, Family, integers, decimals, texts, family, text_of}
+use Rattle.fast_value.specs.Messages.{ItemData, one, group as group_item, sequence as sequence_item, Slots, Elements, no_elements, element, count, MessageData}
 use Rattle.fast_tree.specs.declared.operators.Operator.{Operator}
 use Rattle.fast_tree.specs.declared.operators.Operator.TheVariants.{None as no_operator, Constant, Default, Copy, Increment, Delta, Tail}
-use Rattle.fast_tree.specs.Tree.{FieldData, Instruction, field, parts, group, sequence, Body, end, step, has_map, TemplateData, Tree}
+use Rattle.fast_tree.specs.Tree.{FieldData, Instruction, field, parts, group, sequence, Body, end, step, TemplateData, Tree}
 use Rattle.fast_dict.specs.Dictionary.{Dictionary, PreviousData, previous_at, reset}
-use Rattle.fast_dict.specs.Operators.{Sent, nothing, null, value, integer_delta, decimal_delta, text_delta}
+use Rattle.fast_dict.specs.Operators.{Sent, value, text_delta}
 use Rattle.fast_dict.specs.Rule.{common_front, common_back, IsDelta, IsTail, SentBy, Rule}
 use Rattle.fast_stream.specs.Messages.{with_slot}
 use Rattle.fast_spelling.specs.Again.{HasNoZero, HasNoZeroIn, HaveNoZero, RowsHaveNoZero}
-use Rattle.fast_spelling.specs.Encoding.{EncodesSegment, EncodesBody, Encodes}
-use Rattle.fast_spelling.specs.Refusals.{HasZeroInFront, RefusesField, RefusesScalar, RefusesDecimal, RefusesSegment, RefusesElements, RefusesGroup, RefusesSequence, Refuses, RefusesBody, RefusesMessage}
+use Rattle.fast_spelling.specs.Encoding.{EncodesSegment, EncodesBody}
+use Rattle.fast_spelling.specs.Refusals.{HasZeroInFront, RefusesField, RefusesScalar, RefusesDecimal, RefusesSegment, RefusesElements, Refuses, RefusesBody, RefusesMessage}
 use Rattle.fast_spelling.specs.Suiting.{IsRight, AreRight, IsRightScalar, Suits, SuitsBody, SuitsTemplate}
-use Rattle.fast_spelling.specs.declared.faults.EncodeFault.{EncodeFault}
-use Rattle.fast_spelling.specs.declared.faults.EncodeFault.TheVariants.{E3, R9}
+use Rattle.fast_spelling.specs.declared.faults.EncodeFault.TheVariants.{R9}
 use Rattle.fast_spelling.proofs.OneItem.{text_kept}
 
 -- The item has a text that begins with a zero.

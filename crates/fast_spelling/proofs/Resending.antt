@@ -1,33 +1,31 @@
 -- Of a value that an operator gave, the rule has an item. It can be sent, unless it is an ASCII text that begins with U+0000.
-use Rattle.std.proofs.Common.{int_eq, ◌≡◌, ◌≢◌, ◌⊎◌, inl, inr, ℕ, zero, suc, ◌+◌, ◌-◌, ◌<◌, ◌≤◌, List, [], ◌∷◌, ◌++◌, length, take, drop, refl, ap, sym, subst, ◌∙◌, arith}
-use Rattle.std.specs.Prelude.{Bool, true, false, ◌&&◌, All, int_le, nat_eq, if◌then◌else◌, ℤ, pos, negsuc, ◌+ℤ◌, ◌-ℤ◌, Option, Some, None, Result, Ok, Err}
+use Rattle.std.proofs.Common.{int_eq, ◌≡◌, ◌≢◌, ◌⊎◌, inl, inr, ℕ, ◌-◌, ◌<◌, ◌≤◌, List, [], ◌∷◌, ◌++◌, length, take, drop, refl, ap, sym, subst, ◌∙◌, arith}
+use Rattle.std.specs.Prelude.{Bool, true, false, ◌&&◌, All, int_le, nat_eq, if◌then◌else◌, ℤ, pos, negsuc, ◌+ℤ◌, ◌-ℤ◌, Option, Some, None, Result, Ok, Err, nat_le, IfSome}
 use Rattle.std.proofs.lemmas.Int.{ints}
 use Rattle.std.proofs.lemmas.Bool.{cases_Bool}
 use Rattle.std.proofs.lemmas.Bool.Decides.{eqb_tells, Decides-int_eq}
 use Rattle.std.proofs.lemmas.List.{length-append}
 use Rattle.std.proofs.lemmas.List.Elements.{All-append, All-take, All-drop}
-use Rattle.fast_wire.specs.Texts.{SpellsDec}
 use Rattle.fast_value.specs.declared.kinds.Kind.{Kind}
-use Rattle.fast_value.specs.declared.kinds.Kind.TheVariants.{Ascii}
 use Rattle.fast_value.specs.declared.codes.Code.{Code}
-use Rattle.fast_value.specs.declared.codes.Code.TheVariants.{D2, D4, D7, R1}
+use Rattle.fast_value.specs.declared.codes.Code.TheVariants.{D2, D7, R1}
 use Rattle.fast_value.specs.declared.settings.Limits.{Limits}
 use Rattle.fast_value.specs.Kinds.{Range, IsWithin, signed_range, exponent_range, ScalarData, U, I, Dec, AsciiText, UnicodeText, ByteVector, Family, integers, decimals, texts, family, value_of_integer, value_of_text, integer_of, exponent_of, mantissa_of, text_of, IsOfKind}
 use Rattle.fast_tree.specs.declared.operators.Operator.{Operator}
 use Rattle.fast_tree.specs.declared.operators.Operator.TheVariants.{None as no_operator, Constant, Default, Copy, Increment, Delta, Tail}
-use Rattle.fast_tree.specs.Tree.{FieldData, uses_bit, operator_uses_bit}
+use Rattle.fast_tree.specs.Tree.{FieldData}
 use Rattle.fast_template.specs.Uses.{suits}
-use Rattle.fast_dict.specs.Dictionary.{PreviousData, undefined, empty, assigned}
-use Rattle.fast_dict.specs.Operators.{◌>>=◌, Outcome, Sent, nothing, null, value, integer_delta, decimal_delta, text_delta, Kept, append_to, prepend_to, kept_of, kept_length, joined, with_tail, ranged, range_in, range_of, checked, checked_text, gives, gives_none, keeps, fixed, unsent, delta_base, tail_base, integer_step, exponent_step, mantissa_step, subtraction_step, text_step, sent_delta, decide_by, IsValueIn, IsDeltaIn, IsItemBy}
-use Rattle.fast_dict.specs.Rule.{IsDelta, IsTail, SentBy}
+use Rattle.fast_dict.specs.Dictionary.{PreviousData, empty, assigned}
+use Rattle.fast_dict.specs.Operators.{◌>>=◌, Outcome, Sent, nothing, null, value, integer_delta, decimal_delta, text_delta, Kept, append_to, prepend_to, kept_of, kept_length, joined, with_tail, ranged, range_in, range_of, checked, checked_text, gives, keeps, fixed, delta_base, tail_base, exponent_step, mantissa_step, subtraction_step, text_step, sent_delta, decide_by, IsValueIn, IsDeltaIn, IsItemBy}
+use Rattle.fast_dict.specs.Rule.{IsDelta, SentBy}
 use Rattle.fast_stream.proofs.Integers.{decides-within}
 use Rattle.fast_spelling.specs.Again.{IsSoundEntry, IsGranted, IsPlainBy}
-use Rattle.fast_spelling.specs.Encoding.{Shortest, ShortestText, ShortestValue, SpellsSentBy}
+use Rattle.fast_spelling.specs.Encoding.{ShortestValue, SpellsSentBy}
 use Rattle.fast_spelling.specs.Fields.{next_by}
 use Rattle.fast_spelling.specs.Refusals.{HasZeroInFront}
 use Rattle.fast_spelling.proofs.OneItem.{text_kept, integer_kept}
-use Rattle.fast_spelling.proofs.Sound.{IsSoundValue, same_ok, steps, short_of, ascii_of, text_right, text_spelled, integer_right, decimal_of, plain_right, delta_base_right, tail_base_right}
-use Rattle.fast_spelling.proofs.Chosen.{takes, IsJoined, is_joined, Chosen, choose, ChosenTail, choose_tail, HasZero, SpelledShorter, text_shorter, length_shorter}
+use Rattle.fast_spelling.proofs.Sound.{IsSoundValue, same_ok, steps, short_of, ascii_of, text_right, text_spelled, integer_right, decimal_right, plain_right, delta_base_right, tail_base_right}
+use Rattle.fast_spelling.proofs.Chosen.{IsJoined, is_joined, Chosen, choose, choose_tail, HasZero, SpelledShorter, text_shorter, length_shorter}
 
 -- The bytes of an item in strict mode, no more than these but where a length or an empty text is nullable.
 abbrev pub BytesOf : Operator → Limits → FieldData → PreviousData → Sent → List ℕ → Type 0
@@ -42,7 +40,7 @@ pub record Resends (l : Limits) (o : Operator) (f : FieldData) (p : PreviousData
   pub next : out.next ≡ next_by o f.kind p out.value
 
 -- What an operator needs to know of its field.
-record IsKnown (l : Limits) (o : Operator) (f : FieldData) (p : PreviousData) : Type 0 where
+record IsAt (l : Limits) (o : Operator) (f : FieldData) (p : PreviousData) : Type 0 where
   pub suited : suits o (family f.kind) ≡ true
   pub sound : IsSoundEntry l p
   pub granted : IsGranted l f
@@ -123,7 +121,7 @@ module _ (l : Limits) where
         item = decimal_delta k j;
         ruled = (base, b, subst (λ (z : Family). IsDelta z base (Dec x y) (decimal_delta k j)) (sym q) delta);
         sent = inl (as_it_was Delta f p (decimal_delta k j) w s);
-        right = decimal_of l f.kind q x y x_in y_in;
+        right = decimal_right l f.kind q x y x_in y_in;
         next = refl;
       })
 
@@ -133,15 +131,12 @@ module _ (l : Limits) where
     pub right : IsOfKind l f.kind v
 
   kept_ascii : (b : List ℕ) (k : ℤ) (part : List ℕ) (kept : Kept) → kept_of b k ≡ Ok kept → All (λ c. c < 128) b → All (λ c. c < 128) part → All (λ c. c < 128) (joined kept part)
-  kept_ascii b (pos j) part kept e a c = by (kept_of b (pos j)) refl e
+  kept_ascii b (pos j) part kept e a c = on (nat_le j (length b)) e
     where
-      by : (r : Result Kept Code) → kept_of b (pos j) ≡ r → r ≡ Ok kept → All (λ c. c < 128) (joined kept part)
-      by r g h = on (Rattle.std.specs.Prelude.nat_le j (length b)) e
-        where
-          on : (t : Bool) → (if t then Ok (append_to (take (length b - j) b)) else Err D7) ≡ Ok kept → All (λ c. c < 128) (joined kept part)
-          on true m = subst (λ (z : Kept). All (λ c. c < 128) (joined z part)) (same_ok (append_to (take (length b - j) b)) kept m) (All-append (λ c. c < 128) (take (length b - j) b) part (All-take (λ c. c < 128) (length b - j) b a) c)
-          on false m = absurd (cc m)
-  kept_ascii b (negsuc j) part kept e a c = on (Rattle.std.specs.Prelude.nat_le j (length b)) e
+      on : (t : Bool) → (if t then Ok (append_to (take (length b - j) b)) else Err D7) ≡ Ok kept → All (λ c. c < 128) (joined kept part)
+      on true m = subst (λ (z : Kept). All (λ c. c < 128) (joined z part)) (same_ok (append_to (take (length b - j) b)) kept m) (All-append (λ c. c < 128) (take (length b - j) b) part (All-take (λ c. c < 128) (length b - j) b a) c)
+      on false m = absurd (cc m)
+  kept_ascii b (negsuc j) part kept e a c = on (nat_le j (length b)) e
     where
       on : (t : Bool) → (if t then Ok (prepend_to (drop j b)) else Err D7) ≡ Ok kept → All (λ c. c < 128) (joined kept part)
       on true m = subst (λ (z : Kept). All (λ c. c < 128) (joined z part)) (same_ok (prepend_to (drop j b)) kept m) (All-append (λ c. c < 128) part (drop j b) c (All-drop (λ c. c < 128) j b a))
@@ -153,7 +148,7 @@ module _ (l : Limits) where
   zero_in_value : (kind : Kind) (t : List ℕ) → HasZero kind t → HasZeroInFront kind (value (value_of_text kind t))
   zero_in_value kind t (e, z) = subst (λ (n : Kind). HasZeroInFront n (value (value_of_text kind t))) (sym e) (z.0, text_kept kind t ∙ z.1)
 
-  text_resends : (f : FieldData) (p : PreviousData) → family f.kind ≡ texts → IsKnown l Delta f p → (k : ℤ) (part : List ℕ) (w : List ℕ) (out : Outcome) → Gave f p (text_delta k part) w out
+  text_resends : (f : FieldData) (p : PreviousData) → family f.kind ≡ texts → IsAt l Delta f p → (k : ℤ) (part : List ℕ) (w : List ℕ) (out : Outcome) → Gave f p (text_delta k part) w out
   text_resends f p q known k part w out (kept, u, v, step, s, i, parts) e =
       let (kept', step', e1) = steps (subtraction_step f p k) (λ kept. text_step f kept part) out e in
       let one : kept' ≡ kept = same_ok kept' kept (sym step' ∙ step) in
@@ -190,7 +185,7 @@ module _ (l : Limits) where
             λ plain. omega (arith, length-append u' v', ap length parts, length-append u v, short (plain.0 refl q), brief (λ _. refl)),
           )
 
-  delta_resends : (k : Family) (f : FieldData) → family f.kind ≡ k → (p : PreviousData) → IsKnown l Delta f p → (x : Sent) (w : List ℕ) (out : Outcome) → IsDeltaIn k f.optional x → Gave f p x w out
+  delta_resends : (k : Family) (f : FieldData) → family f.kind ≡ k → (p : PreviousData) → IsAt l Delta f p → (x : Sent) (w : List ℕ) (out : Outcome) → IsDeltaIn k f.optional x → Gave f p x w out
   delta_resends (integers range) f q p known (integer_delta k) w out i s e = integer_resends range f p q k w out s e
   delta_resends decimals f q p known (decimal_delta k j) w out i s e = decimal_resends f p q k j w out s e
   delta_resends texts f q p known (text_delta k part) w out i s e = text_resends f p q known k part w out s e
@@ -199,7 +194,7 @@ module _ (l : Limits) where
   delta_resends texts f q p known null w out i s e = null_resends Delta f p w (record { value = None; next = p }) out refl refl refl i s e
   delta_resends k f q p known x w out i s e = absurd i
 
-  tail_resends : (f : FieldData) (p : PreviousData) → family f.kind ≡ texts → IsKnown l Tail f p → (x : ScalarData) (w : List ℕ) (out : Outcome) → ShortestValue l f texts x w
+  tail_resends : (f : FieldData) (p : PreviousData) → family f.kind ≡ texts → IsAt l Tail f p → (x : ScalarData) (w : List ℕ) (out : Outcome) → ShortestValue l f texts x w
       → (tail_base f p >>= (λ base. checked_text f.kind (with_tail (text_of base) (text_of x)) >>= keeps f.kind)) ≡ Ok out → Resends l Tail f p w out
   tail_resends f p q known x w out (part, x_is, i) e =
       let (base, b, e1) = steps (tail_base f p) _ out e in
@@ -227,7 +222,7 @@ module _ (l : Limits) where
       short n b m (inr h) i j = omega (arith, h, j)
 
       tail_ascii : (b part : List ℕ) → All (λ c. c < 128) b → All (λ c. c < 128) part → All (λ c. c < 128) (with_tail b part)
-      tail_ascii b part a c = on (Rattle.std.specs.Prelude.nat_le (length part) (length b))
+      tail_ascii b part a c = on (nat_le (length part) (length b))
         where
           on : (t : Bool) → All (λ c. c < 128) (if t then take (length b - length part) b ++ part else part)
           on true = All-append (λ c. c < 128) (take (length b - length part) b) part (All-take (λ c. c < 128) (length b - length part) b a) c
@@ -247,7 +242,7 @@ module _ (l : Limits) where
 
   some_initial : (f : FieldData) (o : Operator) → IsGranted l f → f.operator ≡ Constant → (i : Option ScalarData) → f.initial ≡ i → IsSoundValue l f i
   some_initial f o g c None e = absurd (g.constant c e)
-  some_initial f o g c (Some v) e = subst (λ (z : Option ScalarData). Rattle.std.specs.Prelude.IfSome z (IsOfKind l f.kind)) e g.initial
+  some_initial f o g c (Some v) e = subst (λ (z : Option ScalarData). IfSome z (IsOfKind l f.kind)) e g.initial
 
   pub fixed_is : (i : Option ScalarData) (p : PreviousData) (out : Outcome) → fixed i p ≡ Ok out → (out.value ≡ i) × (out.next ≡ p)
   fixed_is None p out e = let k = same_ok (record { value = None; next = p }) out e in (ap (λ (z : Outcome). z.value) (sym k), ap (λ (z : Outcome). z.next) (sym k))

@@ -1,15 +1,15 @@
 -- The item that a field's bytes are, with its bytes in strict mode.
-use Rattle.std.proofs.Common.{◌≡◌, ◌≢◌, ◌⊎◌, inl, inr, ℕ, ◌+◌, ◌-◌, ◌<◌, ◌≤◌, List, [], ◌∷◌, ◌++◌, length, refl, ap, sym, subst, ◌∙◌, arith, append_assoc, append-nil}
-use Rattle.std.specs.Prelude.{Bool, true, false, nat_le, nat_abs, if◌then◌else◌, ℤ, pos, negsuc, Option, Some, None, Result, Ok, Err}
+use Rattle.std.proofs.Common.{◌≡◌, ℕ, ◌+◌, ◌-◌, ◌≤◌, List, [], ◌++◌, length, refl, ap, sym, subst, ◌∙◌, arith, append_assoc, append-nil}
+use Rattle.std.specs.Prelude.{Bool, true, false, nat_le, if◌then◌else◌, ℤ, pos, negsuc, Option, Some, None, Result, Ok, Err}
 use Rattle.std.proofs.lemmas.Int.{ints}
 use Rattle.std.proofs.lemmas.Bool.{leb-true}
 use Rattle.std.proofs.lemmas.List.{length-append}
-use Rattle.fast_wire.specs.Integers.{Range, IsWithin, unsigned_range, signed_range, exponent_range, delta_range, Means, SpellsInt}
-use Rattle.fast_wire.specs.Texts.{SpellsAscii, SpellsVector, SpellsDec}
+use Rattle.fast_wire.specs.Integers.{Range, unsigned_range, signed_range, exponent_range, delta_range, SpellsInt}
+use Rattle.fast_wire.specs.Texts.{SpellsAscii, SpellsVector}
 use Rattle.fast_wire.specs.Maps.{IsMap}
 use Rattle.fast_value.specs.declared.kinds.Kind.{Kind}
 use Rattle.fast_value.specs.declared.kinds.Kind.TheVariants.{UInt32, Int32, UInt64, Int64, Decimal, Ascii, Unicode, Bytes}
-use Rattle.fast_value.specs.Kinds.{ScalarData, Dec, Family, integers, decimals, texts, family, value_of_integer, value_of_text}
+use Rattle.fast_value.specs.Kinds.{Dec, Family, integers, decimals, texts, family}
 use Rattle.fast_value.specs.declared.settings.Limits.{Limits}
 use Rattle.fast_value.specs.Limits.{Bounds, bounds}
 use Rattle.fast_value.specs.declared.codes.Code.{Code}
@@ -20,10 +20,10 @@ use Rattle.fast_tree.specs.Tree.{FieldData}
 use Rattle.fast_dict.specs.Dictionary.{PreviousData}
 use Rattle.fast_dict.specs.Operators.{Op, Outcome, Sent, nothing, null, value, integer_delta, decimal_delta, text_delta, Kept, kept_length, IsValueIn, IsPlainItem, IsDeltaIn, IsItemBy, decide, decide_by, sent_delta, gives_none, integer_step, exponent_step, mantissa_step, subtraction_step, text_step}
 use Rattle.fast_stream.specs.Events.{EventData}
-use Rattle.fast_stream.specs.Phrases.{Reached, whole, Phrase, gives, hands, settles, ◌followed_by◌}
+use Rattle.fast_stream.specs.Phrases.{whole, Phrase, gives, hands, settles, ◌followed_by◌}
 use Rattle.fast_stream.specs.Units
 use Rattle.fast_stream.specs.Grammar.{Grammar, give, fault, hand, integer, ascii_text, raw, presence_map, narrow, ◌>>=◌, of_result, phrase_of}
-use Rattle.fast_stream.specs.Fields.{sized, text, sent_integer, sent_text, sent_decimal, decimal_from, item_in, item, integer_change, mantissa_change, decimal_change, part_change, text_change, change_in, change, sent, not_sent, field_by, field_term, field_phrase}
+use Rattle.fast_stream.specs.Fields.{sized, text, sent_integer, sent_text, sent_decimal, decimal_from, item_in, item, integer_change, mantissa_change, decimal_change, part_change, text_change, change_in, sent, not_sent, field_by, field_term}
 use Rattle.fast_spelling.specs.Encoding.{Shortest, ShortestText, ShortestNull, ShortestNoDelta, ShortestValue, SpellsSentBy}
 use Rattle.fast_spelling.proofs.Respelled.{respelled}
 
@@ -240,8 +240,7 @@ module _ (s : Bool) (l : Limits) where
           let g = result_is s (mantissa_step f p e m) z o n in
           let (u', i', short) = respelled s delta_range f.optional (Some k) u i in
           let (y', j', brief) = respelled s delta_range false (Some m) y j in
-          let all : length w ≡ length u + (length y + length z) = ap length d ∙ length-append u v ∙ ap (λ (n : ℕ). length u + n) (ap length c ∙ length-append y z) in
-          (
+          let all : length w ≡ length u + (length y + length z) = ap length d ∙ length-append u v ∙ ap (λ (n : ℕ). length u + n) (ap length c ∙ length-append y z) in (
             decimal_delta k m,
             tt,
             joined_steps (exponent_step f p k) (λ e. mantissa_step f p e m) e o step g.1,
@@ -266,8 +265,7 @@ module _ (s : Bool) (l : Limits) where
           let g = result_is s (text_step f kept part) z o n in
           let (u', i', short) = respelled s (signed_range 31) f.optional (Some k) u i in
           let (y', j', brief) = text_read f.kind false (l.max_text - kept_length kept) y (Some part) j in
-          let all : length w ≡ length u + (length y + length z) = ap length d ∙ length-append u v ∙ ap (λ (n : ℕ). length u + n) (ap length c ∙ length-append y z) in
-          (
+          let all : length w ≡ length u + (length y + length z) = ap length d ∙ length-append u v ∙ ap (λ (n : ℕ). length u + n) (ap length c ∙ length-append y z) in (
             text_delta k part,
             tt,
             joined_steps (subtraction_step f p k) (λ kept. text_step f kept part) kept o step g.1,

@@ -1,12 +1,12 @@
 -- Integers that are spelled have a spelling in strict mode, and smaller ones a spelling that is no longer.
-use Rattle.std.proofs.Common.{◌≡◌, ◌⊎◌, inl, inr, ℕ, zero, suc, ◌+◌, ◌*◌, ◌-◌, ◌/◌, ◌%◌, ◌^◌, ◌<◌, ◌≤◌, List, [], ◌∷◌, ◌++◌, length, refl, ap, sym, subst, ◌∙◌, arith, lit<}
-use Rattle.std.specs.Prelude.{Bool, true, false, if◌then◌else◌, ◌≤ℤ◌, ℤ, pos, negsuc, Option, Some, None, IfSome}
+use Rattle.std.proofs.Common.{◌≡◌, ◌⊎◌, inl, inr, ℕ, zero, suc, ◌+◌, ◌*◌, ◌-◌, ◌/◌, ◌%◌, ◌^◌, ◌<◌, ◌≤◌, List, [], ◌∷◌, length, refl, ap, sym, subst, ◌∙◌, arith, lit<}
+use Rattle.std.specs.Prelude.{Bool, true, false, if◌then◌else◌, ◌≤ℤ◌, ℤ, pos, negsuc, Option, Some}
 use Rattle.std.proofs.Math.Nat.{pow-suc, one-le-pow, div-add-mod, mod-lt, mod-eq_of_lt, div-lt_iff_lt-mul}
 use Rattle.std.proofs.lemmas.Bool.{cases_Bool}
 use Rattle.std.proofs.lemmas.Int.{ints}
 use lib.Signed.{mag}
-use Rattle.fast_wire.specs.Entities.{HaveNoStop, IsEntity, number, has_sign, signed, IsOverlong}
-use Rattle.fast_wire.specs.Integers.{Range, IsWithin, unsigned_range, signed_range, value, raised, Means, IsInteger, SpellsInt}
+use Rattle.fast_wire.specs.Entities.{IsEntity, number, has_sign, signed, IsOverlong}
+use Rattle.fast_wire.specs.Integers.{Range, IsWithin, value, raised, Means, SpellsInt}
 use Rattle.fast_wire.proofs.FirstStop.{entity_is_long}
 use Rattle.fast_wire.proofs.Numbers.{number-lt}
 use Rattle.fast_wire.proofs.Overlong.{overlong_by_zero, overlong_by_sign}
@@ -140,8 +140,7 @@ twos_is k (negsuc c) h =
     let n = 128 ^ suc k - 1 - c in
     let small : n < 128 ^ suc k = omega (arith, positive (suc k)) in
     let long = digits_length k n in
-    let is = digits_number k n small in
-    (
+    let is = digits_number k n small in (
       digits_entity k n small,
       long,
       signed_negative (digits k n) c (omega (arith, long)) (rw (long, ← power_of_128 (suc k)) (omega (arith, half k, h))) (rw (long, ← power_of_128 (suc k)) is),

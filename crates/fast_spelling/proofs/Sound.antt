@@ -1,23 +1,22 @@
 -- What operators make of values that are right is right.
-use Rattle.std.proofs.Common.{◌≡◌, ◌≢◌, ◌⊎◌, inl, inr, ℕ, zero, suc, ◌+◌, ◌-◌, ◌<◌, ◌≤◌, ◌^◌, List, [], ◌∷◌, ◌++◌, length, refl, ap, sym, subst, ◌∙◌, arith}
-use Rattle.std.specs.Prelude.{Bool, true, false, All, IsUtf8, int_lt, int_le, if◌then◌else◌, ℤ, pos, negsuc, ◌+ℤ◌, ◌≤ℤ◌, Option, Some, None, Result, Ok, Err, IfSome, unwrap_or, slice_index_or, slice_set}
+use Rattle.std.proofs.Common.{◌≡◌, ℕ, zero, suc, ◌<◌, ◌≤◌, List, [], ◌∷◌, length, refl, ap, sym, subst, ◌∙◌, arith}
+use Rattle.std.specs.Prelude.{Bool, true, false, All, int_lt, if◌then◌else◌, ℤ, pos, negsuc, ◌+ℤ◌, Option, Some, None, Result, Ok, Err, IfSome, unwrap_or, slice_set}
 use Rattle.std.specs.Str.{is_utf8}
 use Rattle.std.proofs.lemmas.Str.{IsUtf8-from_is_utf8, IsUtf8-nil}
 use Rattle.std.proofs.lemmas.Int.{ints}
-use Rattle.std.proofs.lemmas.List.Elements.{All-append}
-use Rattle.fast_wire.specs.Texts.{SpellsAscii, SpellsVector, SpellsDec}
+use Rattle.fast_wire.specs.Texts.{SpellsAscii}
 use Rattle.fast_value.specs.declared.kinds.Kind.{Kind}
 use Rattle.fast_value.specs.declared.kinds.Kind.TheVariants.{UInt32, Int32, UInt64, Int64, Decimal, Ascii, Unicode, Bytes}
 use Rattle.fast_value.specs.declared.codes.Code.{Code}
-use Rattle.fast_value.specs.declared.codes.Code.TheVariants.{D2, D4, D5, D6, R1, R2}
+use Rattle.fast_value.specs.declared.codes.Code.TheVariants.{D4, D5, D6, R2}
 use Rattle.fast_value.specs.declared.settings.Limits.{Limits}
-use Rattle.fast_value.specs.Kinds.{Range, IsWithin, unsigned_range, signed_range, exponent_range, ScalarData, U, I, Dec, AsciiText, UnicodeText, ByteVector, Family, integers, decimals, texts, family, value_of_integer, value_of_text, integer_of, exponent_of, mantissa_of, text_of, IsOfKind, same_kind}
+use Rattle.fast_value.specs.Kinds.{Range, IsWithin, unsigned_range, signed_range, exponent_range, ScalarData, U, I, Dec, AsciiText, UnicodeText, ByteVector, Family, integers, decimals, texts, family, value_of_integer, value_of_text, integer_of, text_of, IsOfKind, same_kind}
 use Rattle.fast_tree.specs.declared.operators.Operator.{Operator}
 use Rattle.fast_tree.specs.declared.operators.Operator.TheVariants.{None as no_operator, Constant, Default, Copy, Increment, Delta, Tail}
 use Rattle.fast_tree.specs.Tree.{FieldData}
 use Rattle.fast_template.specs.Uses.{suits}
 use Rattle.fast_dict.specs.Dictionary.{Dictionary, PreviousData, undefined, empty, assigned, previous_at, write_at}
-use Rattle.fast_dict.specs.Operators.{◌>>=◌, Outcome, of_kind, checked, checked_in, checked_text, ranged, range_in, range_of, from_initial, incremented, next_value, unsent, fixed, zero_in, start_value, delta_base, tail_base, IsValueIn}
+use Rattle.fast_dict.specs.Operators.{◌>>=◌, Outcome, of_kind, checked_in, checked_text, range_in, range_of, from_initial, incremented, next_value, unsent, zero_in, start_value, delta_base, tail_base, IsValueIn}
 use Rattle.fast_spelling.specs.Again.{IsSoundEntry, IsSound}
 use Rattle.fast_spelling.specs.Encoding.{ShortestText, ShortestValue}
 use Rattle.fast_spelling.specs.Fields.{next_by}
@@ -137,7 +136,7 @@ module _ (l : Limits) where
   integer_within Bytes range q v h = absurd (cc q)
   integer_within kind range q v h = absurd h
 
-  decimal_right : (kind : Kind) → family kind ≡ decimals → (e m : ℤ) → IsWithin exponent_range e → IsWithin (signed_range 63) m → IsOfKind l kind (Dec e m)
+  pub decimal_right : (kind : Kind) → family kind ≡ decimals → (e m : ℤ) → IsWithin exponent_range e → IsWithin (signed_range 63) m → IsOfKind l kind (Dec e m)
   decimal_right Decimal q e m h i = (h, i)
   decimal_right UInt32 q e m h i = absurd (cc q)
   decimal_right Int32 q e m h i = absurd (cc q)
@@ -146,9 +145,6 @@ module _ (l : Limits) where
   decimal_right Ascii q e m h i = absurd (cc q)
   decimal_right Unicode q e m h i = absurd (cc q)
   decimal_right Bytes q e m h i = absurd (cc q)
-
-  pub decimal_of : (kind : Kind) → family kind ≡ decimals → (e m : ℤ) → IsWithin exponent_range e → IsWithin (signed_range 63) m → IsOfKind l kind (Dec e m)
-  decimal_of = decimal_right
 
   -- A value that stands in the stream as it is.
   pub plain_right : (k : Family) (f : FieldData) → family f.kind ≡ k → (x y : ScalarData) (w : List ℕ) → IsValueIn k f.kind x → ShortestValue l f k x w → checked_in k f.kind x ≡ Ok y → IsOfKind l f.kind y × (y ≡ x)

@@ -1,5 +1,5 @@
 -- What is relied on where a message that was read is encoded again.
-use Rattle.std.specs.Prelude.{◌≡◌, ◌≢◌, ℕ, ◌≤◌, true, false, All, List, [], ◌∷◌, ◌++◌, length, slice_index_or, Option, Some, None, IfSome}
+use Rattle.std.specs.Prelude.{◌≡◌, ◌≢◌, ℕ, ◌≤◌, true, false, All, List, [], ◌∷◌, ◌++◌, length, slice_index_or, None, IfSome}
 use Rattle.fast_value.specs.declared.kinds.Kind.TheVariants.{UInt32, Int32, Int64, Ascii}
 use Rattle.fast_value.specs.declared.settings.Limits.{Limits}
 use Rattle.fast_value.specs.Kinds.{ScalarData, AsciiText, text_of, IsOfKind, texts, family}
