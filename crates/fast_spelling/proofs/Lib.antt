@@ -22,3 +22,4 @@ pub mod BodiesAgain
 pub mod MessagesAgain
 pub mod NoZeros
 pub mod GrantedSets
+pub mod Examples

@@ -7,3 +7,4 @@ pub mod Fields
 pub mod Nodes
 pub mod Progress
 pub mod Again
+pub mod Refused

@@ -1,11 +1,12 @@
 //! Laws of what an encoder writes. They speak of the definitions alone, over all template sets, limits and messages.
 
-ghost use Rattle.std.specs.Prelude.{◌≡◌, ◌⊎◌, ◌≤◌, All, length, ℕ, List, [], Bool, true, Option, slice_get, Some, ◌++◌};
+ghost use Rattle.std.specs.Prelude.{◌≡◌, ◌⊎◌, ◌≤◌, All, length, ℕ, List, [], ◌∷◌, Bool, true, Option, slice_get, Some, ◌++◌};
 ghost use Rattle.toml.specs.Data.{Members};
 ghost use Rattle.fast_value.specs.declared.settings.Limits.{Limits};
 ghost use Rattle.fast_value.specs.Kinds.{ScalarData};
 ghost use Rattle.fast_value.specs.Limits.{in_mode};
 ghost use Rattle.fast_value.specs.Messages.{MessageData};
+ghost use Rattle.fast_tree.specs.declared.operators.Operator.TheVariants.{Delta, Tail};
 ghost use Rattle.fast_tree.specs.Tree.{FieldData, Tree, HasDistinctIds};
 ghost use Rattle.fast_template.specs.Checked.{IsTree};
 ghost use Rattle.fast_dict.specs.Dictionary.{Dictionary, PreviousData, fresh};
@@ -19,6 +20,7 @@ ghost use Rattle.fast_stream.specs.Streams.{Stream, Chain, between, SpellsAll};
 ghost use Rattle.fast_spelling.specs.Again.{IsGrantedTree, IsShortTree, IsSound, IsPlainTree, HaveNoZero, EncodesAll};
 ghost use Rattle.fast_spelling.specs.Encoding.{EncodesMessage, SpellsSent};
 ghost use Rattle.fast_spelling.specs.Refusals.{IsRefused};
+ghost use Rattle.fast_spelling.specs.Refused.{IsReadButRefused};
 ghost use Rattle.fast_spelling.specs.declared.faults.EncodeFault.TheVariants.{R9};
 ghost use Rattle.fast_spelling.specs.Suiting.{IsKnown, SuitsTemplate, FitsLimits};
 
@@ -71,4 +73,10 @@ pub fn encoded_without_zero()
 pub fn all_encoded_again()
     ensures { (t : Tree) (l : Limits) (ms : List MessageData) (w : List ℕ) (d : Dictionary) → IsGrantedTree l t → All (λ m. HaveNoZero m.slots) ms → SpellsAll t l (fresh t.entries) ms w d
         → (v : List ℕ) × EncodesAll t l (fresh t.entries) ms v d × (IsPlainTree t → length v ≤ length w) }
+{}
+
+/// Two texts that are read and refused: under a delta, and under a tail.
+pub fn read_but_refused()
+    ensures { IsReadButRefused Delta (0xC0 ∷ 0x81 ∷ 0x80 ∷ 0x41 ∷ 0xC3 ∷ 0x80 ∷ 0x82 ∷ 0x41 ∷ 0x00 ∷ 0xC2 ∷ []) (0x41 ∷ 0x43 ∷ []) (0x41 ∷ 0x00 ∷ 0x42 ∷ [])
+        × IsReadButRefused Tail (0xE0 ∷ 0x81 ∷ 0x41 ∷ 0x41 ∷ 0xC3 ∷ 0xA0 ∷ 0x41 ∷ 0x00 ∷ 0xC2 ∷ []) (0x41 ∷ 0x41 ∷ 0x43 ∷ []) (0x41 ∷ 0x00 ∷ 0x42 ∷ []) }
 {}
