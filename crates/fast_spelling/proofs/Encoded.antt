@@ -104,11 +104,11 @@ ranged-in range c x h = on (int_le range.low x && int_le x range.high) ((decides
     on false e = absurd (cc e)
 
 -- the elements of an item that may be absent
-abbrev option_total : Option ItemData → ℕ
+abbrev pub option_total : Option ItemData → ℕ
 option_total None = 0
 option_total (Some x) = item_total x
 
-abbrev IsWithinOption : Limits → Option ItemData → Type 0
+abbrev pub IsWithinOption : Limits → Option ItemData → Type 0
 IsWithinOption l None = Unit {0}
 IsWithinOption l (Some x) = IsWithinLimits l x
 
@@ -342,7 +342,7 @@ module _ (l : Limits) where
         (left2, says-step i is x vs' vs d mid d' c (c + option_total x) ((c + option_total x) + total vs') left left1 left2 u v w e ew (add_assoc c (option_total x) (total vs') ∙ ap (λ z. c + z) (sym all)) k1 k2, i2)
 
 -- The template that alone has an identifier is found by it.
-has-own : (o : Option ℕ) (id : ℕ) → has_id o id ≡ true → o ≡ Some id
+pub has-own : (o : Option ℕ) (id : ℕ) → has_id o id ≡ true → o ≡ Some id
 has-own None id e = absurd (cc e)
 has-own (Some k) id e = by (eqb_tells k id)
   where

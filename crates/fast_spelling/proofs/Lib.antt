@@ -16,3 +16,15 @@ pub mod Mapped
 pub mod Excluded
 pub mod Whole
 pub mod Late
+pub mod Respelled
+pub mod Resent
+pub mod Sound
+pub mod Chosen
+pub mod Resending
+pub mod FieldsAgain
+pub mod MapsAgain
+pub mod BodiesAgain
+pub mod MessagesAgain
+pub mod NoZeros
+pub mod GrantedSets
+pub mod Examples

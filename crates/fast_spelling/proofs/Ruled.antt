@@ -76,7 +76,7 @@ front_joins b v f e =
     rw k (ap (λ (z : List ℕ). z ++ drop f v) (ap (λ (n : ℕ). take n b) e ∙ front_take b v ∙ ap (λ (n : ℕ). take n v) (sym e)) ∙ take-append-drop f v)
 
 -- a text without its first items, of the text turned round
-drop_turned : (xs : List ℕ) (s : ℕ) → s ≤ length xs → drop (length xs - s) xs ≡ reverse (take s (reverse xs))
+pub drop_turned : (xs : List ℕ) (s : ℕ) → s ≤ length xs → drop (length xs - s) xs ≡ reverse (take s (reverse xs))
 drop_turned xs s h =
     let ys = reverse xs in
     let long : length ys ≡ length xs = length-reverse xs in
@@ -123,7 +123,7 @@ checked_right kind (integers range) v h = refl
 checked_right kind decimals v h = refl
 checked_right kind texts v h = h.0
 
-value_right : (kind : Kind) (k : Family) (v : ScalarData) → Fits k kind v → IsValueIn k kind v
+pub value_right : (kind : Kind) (k : Family) (v : ScalarData) → Fits k kind v → IsValueIn k kind v
 value_right kind (integers range) v h = (integer_of v, h.0, sym h.1)
 value_right kind decimals v h = (exponent_of v, mantissa_of v, h.0, h.1, sym h.2)
 value_right kind texts v h = (text_of v, sym h.1)
@@ -226,7 +226,7 @@ initial_next kind b c (Some v) o e = subst (λ (z : Outcome). z.next ≡ kept_ne
 initial_next kind true c None o e = subst (λ (z : Outcome). z.next ≡ kept_next kind z.value) (one_ok (Ok _) _ o refl e) refl
 initial_next kind false c None o e = absurd (cc e)
 
-unsent_kept : (f : FieldData) (p : PreviousData) (o : Outcome) → unsent f p ≡ Ok o → o.next ≡ kept_next f.kind o.value
+pub unsent_kept : (f : FieldData) (p : PreviousData) (o : Outcome) → unsent f p ≡ Ok o → o.next ≡ kept_next f.kind o.value
 unsent_kept f undefined o e = initial_next f.kind f.optional D5 f.initial o e
 unsent_kept f empty o e = initial_next f.kind f.optional D6 None o e
 unsent_kept f (assigned kind v) o e = on (same_kind f.kind kind) e
@@ -239,7 +239,7 @@ fixed_next : (i : Option ScalarData) (p : PreviousData) (o : Outcome) → fixed 
 fixed_next None p o e = subst (λ (z : Outcome). z.next ≡ p) (one_ok (Ok _) _ o refl e) refl
 fixed_next (Some v) p o e = subst (λ (z : Outcome). z.next ≡ p) (one_ok (Ok _) _ o refl e) refl
 
-unsent_next : (o : Operator) (f : FieldData) (p : PreviousData) (v : Option ScalarData) (n : PreviousData) → operator_uses_bit o f.optional ≡ true → decide_by o false f p nothing ≡ Ok (record { value = v; next = n }) → n ≡ next_by o f.kind p v
+pub unsent_next : (o : Operator) (f : FieldData) (p : PreviousData) (v : Option ScalarData) (n : PreviousData) → operator_uses_bit o f.optional ≡ true → decide_by o false f p nothing ≡ Ok (record { value = v; next = n }) → n ≡ next_by o f.kind p v
 unsent_next no_operator f p v n u e = absurd (cc u)
 unsent_next Delta f p v n u e = absurd (cc u)
 unsent_next Constant f p v n u e = ap (λ (z : Outcome). z.next) (one_ok (Ok _) (record { value = v; next = n }) (record { value = None; next = p }) (sym (sym e)) refl)

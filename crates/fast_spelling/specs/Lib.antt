@@ -6,3 +6,5 @@ pub mod Drafts
 pub mod Fields
 pub mod Nodes
 pub mod Progress
+pub mod Again
+pub mod Refused

@@ -1,24 +1,30 @@
 //! Laws of what an encoder writes. They speak of the definitions alone, over all template sets, limits and messages.
 
-ghost use Rattle.std.specs.Prelude.{◌≡◌, ℕ, ◌≤◌, List, [], Bool, true, Option, slice_get, Some, ◌++◌};
+ghost use Rattle.std.specs.Prelude.{◌≡◌, ◌⊎◌, ◌≤◌, All, length, ℕ, List, [], ◌∷◌, Bool, true, Option, slice_get, Some, ◌++◌};
+ghost use Rattle.toml.specs.Data.{Members};
 ghost use Rattle.fast_value.specs.declared.settings.Limits.{Limits};
 ghost use Rattle.fast_value.specs.Kinds.{ScalarData, U};
 ghost use Rattle.fast_value.specs.Limits.{in_mode};
 ghost use Rattle.fast_value.specs.Messages.{Slots, MessageData};
 ghost use Rattle.fast_tree.specs.Sizes.{segment_limit};
+ghost use Rattle.fast_tree.specs.declared.operators.Operator.TheVariants.{Delta, Tail};
 ghost use Rattle.fast_tree.specs.Tree.{FieldData, identifier, Body, bits_of, TemplateData, message_bits, Tree, HasDistinctIds};
-ghost use Rattle.fast_dict.specs.Dictionary.{Dictionary, PreviousData};
+ghost use Rattle.fast_notation.specs.Checked.{IsTree};
+ghost use Rattle.fast_dict.specs.Dictionary.{Dictionary, PreviousData, fresh};
 ghost use Rattle.fast_dict.specs.Operators.{Op, Sent};
 ghost use Rattle.fast_stream.specs.Events.{EventData, events};
 ghost use Rattle.fast_stream.specs.Fields.{field_phrase};
 ghost use Rattle.fast_stream.specs.Messages.{SpellsMessage};
 ghost use Rattle.fast_stream.specs.Phrases.{whole};
 ghost use Rattle.fast_stream.specs.Readers.{AreBytes};
-ghost use Rattle.fast_stream.specs.Streams.{Stream, Chain, between};
+ghost use Rattle.fast_stream.specs.Streams.{Stream, Chain, between, SpellsAll};
 ghost use Rattle.fast_spelling.specs.declared.faults.EncodeFault.{EncodeFault};
+ghost use Rattle.fast_spelling.specs.declared.faults.EncodeFault.TheVariants.{R9};
+ghost use Rattle.fast_spelling.specs.Again.{IsGrantedTree, IsShortTree, IsSound, IsPlainTree, HaveNoZero, EncodesAll};
 ghost use Rattle.fast_spelling.specs.Encoding.{EncodesField, EncodesBody, EncodesMessage, SpellsSent};
 ghost use Rattle.fast_spelling.specs.Refusals.{HaveNoMap, IsRefused};
-ghost use Rattle.fast_spelling.specs.Suiting.{SuitsTemplate, FitsLimits};
+ghost use Rattle.fast_spelling.specs.Refused.{IsReadButRefused};
+ghost use Rattle.fast_spelling.specs.Suiting.{IsKnown, SuitsTemplate, FitsLimits};
 
 /// The bytes of an item that the operator takes are the field in strict mode.
 pub fn field_spelled()
@@ -61,4 +67,39 @@ pub fn segment_has_map()
 /// The same of a message's own segment, to which the identifier's bit belongs.
 pub fn message_has_map()
     ensures { (l : Limits) (u : TemplateData) (id : ℕ) (d mid e d' : Dictionary) (vs : Slots) (b c : List Bool) (v w : List ℕ) → EncodesField l identifier d (Some (U id)) b v mid → EncodesBody l u.body e vs c w d' → message_bits u ≤ segment_limit → ¬ (HaveNoMap (b ++ c)) }
+{}
+
+/// A checked set grants what the laws behind this one ask of it, wherever no initial text is longer than the limit.
+pub fn read_is_granted()
+    ensures { (document : Members) (t : Tree) (l : Limits) → IsTree document t → IsShortTree l t → IsGrantedTree l t }
+{}
+
+/// What was read of a message suits its template and the limits, and keeps previous values sound.
+pub fn spelled_suits()
+    ensures { (t : Tree) (l : Limits) (d : Dictionary) (m : MessageData) (w : List ℕ) (d' : Dictionary) → IsGrantedTree l t → IsSound l d → SpellsMessage t l d m w d' → IsKnown t m × SuitsTemplate t m × FitsLimits l m.slots × IsSound l d' }
+{}
+
+/// A message that was read in either mode is encoded again, and leads to the same dictionary, or it is refused with R9 and with
+/// nothing else. No more bytes are written than were read, but where an optional field is a delta of a text or a tail of an ASCII text.
+pub fn encoded_again()
+    ensures { (t : Tree) (l : Limits) (d : Dictionary) (m : MessageData) (w : List ℕ) (d' : Dictionary) → IsGrantedTree l t → IsSound l d → SpellsMessage t l d m w d'
+        → ((v : List ℕ) × EncodesMessage t l d m v d' × (IsPlainTree t → length v ≤ length w)) ⊎ IsRefused t l d m R9 }
+{}
+
+/// Where no ASCII text of the message has U+0000, it isn't refused.
+pub fn encoded_without_zero()
+    ensures { (t : Tree) (l : Limits) (d : Dictionary) (m : MessageData) (w : List ℕ) (d' : Dictionary) → IsGrantedTree l t → IsSound l d → HaveNoZero m.slots → SpellsMessage t l d m w d'
+        → (v : List ℕ) × EncodesMessage t l d m v d' × (IsPlainTree t → length v ≤ length w) }
+{}
+
+/// All messages of a chain are encoded again, from the same dictionaries, where no ASCII text has U+0000.
+pub fn all_encoded_again()
+    ensures { (t : Tree) (l : Limits) (ms : List MessageData) (w : List ℕ) (d : Dictionary) → IsGrantedTree l t → All (λ m. HaveNoZero m.slots) ms → SpellsAll t l (fresh t.entries) ms w d
+        → (v : List ℕ) × EncodesAll t l (fresh t.entries) ms v d × (IsPlainTree t → length v ≤ length w) }
+{}
+
+/// Two texts that are read and refused: under a delta, and under a tail.
+pub fn read_but_refused()
+    ensures { IsReadButRefused Delta (0xC0 ∷ 0x81 ∷ 0x80 ∷ 0x41 ∷ 0xC3 ∷ 0x80 ∷ 0x82 ∷ 0x41 ∷ 0x00 ∷ 0xC2 ∷ []) (0x41 ∷ 0x43 ∷ []) (0x41 ∷ 0x00 ∷ 0x42 ∷ [])
+        × IsReadButRefused Tail (0xE0 ∷ 0x81 ∷ 0x41 ∷ 0x41 ∷ 0xC3 ∷ 0xA0 ∷ 0x41 ∷ 0x00 ∷ 0xC2 ∷ []) (0x41 ∷ 0x41 ∷ 0x43 ∷ []) (0x41 ∷ 0x00 ∷ 0x42 ∷ []) }
 {}
