@@ -1,6 +1,7 @@
 pub mod Encoding
 pub mod Suiting
 pub mod Refusals
+pub mod Entries
 pub mod Ledgers
 pub mod Drafts
 pub mod Fields

@@ -117,6 +117,9 @@ fn keep(
     match (value, field.operator) {
         (Some(value), _) => ledger.set(entry as usize, field.kind, value),
         (None, Operator::Delta) => Ok(()),
-        (None, _) => ledger.set_empty(entry as usize),
+        (None, _) => {
+            ledger.set_empty(entry as usize);
+            Ok(())
+        }
     }
 }

@@ -1,49 +1,38 @@
 //! The encoder's dictionary: what is changed in a message can be taken back, without memory.
 
-ghost use Rattle.std.specs.Prelude.{◌≡◌, ◌<◌, ◌≤◌, ◌∷◌, ◌++◌, [], ℕ, All, map, length, replicate, slice_set, slice_index_or, vec_len, IfOk, OnOk, OnErr};
+ghost use Rattle.std.specs.Prelude.{◌≡◌, ◌<◌, ◌≤◌, ◌-◌, ◌++◌, ℕ, All, length, take, slice_set, Some, IfOk, OnOk};
 ghost use Rattle.fast_value.specs.Kinds.{text_of};
 ghost use Rattle.fast_value.specs.Values.{scalar_data};
 ghost use Rattle.fast_dict.specs.Dictionary.{assigned, empty, undefined, fresh, reset, previous_at, write_at};
 ghost use Rattle.fast_dict.specs.Held.{text_size};
 ghost use Rattle.fast_dict.specs.Previous.{previous_data};
-ghost use Rattle.fast_spelling.specs.Ledgers.{held_data, taken_back, AreShort};
-ghost use Rattle.fast_spelling.specs.declared.held.Held.{Held};
-ghost use Rattle.fast_spelling.specs.declared.held.Held.TheVariants.{Undefined};
+ghost use Rattle.fast_spelling.specs.Entries.{IsShort};
+ghost use Rattle.fast_spelling.specs.Ledgers.{all_now, all_before, AreKept};
 
-use crate::held::Held;
+use crate::entry::Entry;
 use fast_dict::Previous;
-use fast_value::{Kind, Scalar, Value};
+use fast_value::{Kind, Scalar};
 use std::alloc::{AllocError, Global};
 use std::marker::Model;
-use std::mem;
 
-/// What an entry held before it was changed.
-#[derive(Debug, Drop)]
-pub struct Change {
-    /// The entry's number.
-    pub entry: usize,
-    /// What it held.
-    pub held: Held,
-}
-
-/// A dictionary of previous values (FAST 1.1, Dictionaries and Previous Values), with a journal of the changes since the last
-/// [`Ledger::commit`].
+/// A dictionary of previous values (FAST 1.1, Dictionaries and Previous Values). Messages are numbered: an entry keeps what it held
+/// before the message in which it was changed last, until [`Ledger::commit`] begins the next one.
 #[derive(Debug, Drop)]
 pub struct Ledger {
-    entries: Vec<Held>,
-    journal: Vec<Change>,
+    entries: Vec<Entry>,
+    epoch: u64,
     max_text: usize,
 }
 
 impl Model for Ledger {
-    ghost use Rattle.std.specs.Prelude.{map, All, length};
-    ghost use Rattle.fast_spelling.specs.Ledgers.{LedgerData, held_data, taken_back, AreShort, IsRecorded};
+    ghost use Rattle.std.specs.Prelude.{◌≤◌};
+    ghost use Rattle.fast_spelling.specs.Ledgers.{LedgerData, all_now, all_before, AreKept};
 
     ghost Value = { LedgerData };
 
-    ghost view = { λ s. record { now = map held_data s.entries.items; before = taken_back s.journal.items (map held_data s.entries.items); max_text = s.max_text } };
+    ghost view = { λ s. record { now = all_now s.entries.items; before = all_before s.epoch s.entries.items; max_text = s.max_text } };
 
-    ghost invariant = { λ s. record { short : AreShort s.max_text s.entries.items; recorded : All (IsRecorded (length s.entries.items) s.max_text) s.journal.items } };
+    ghost invariant = { λ s. record { kept : AreKept s.epoch s.max_text s.entries.items; begun : 1 ≤ s.epoch } };
 }
 
 impl Ledger {
@@ -59,7 +48,7 @@ impl Ledger {
     {
         Ok(Ledger {
             entries: undefined_entries(alloc, entries)?,
-            journal: Vec::with_capacity(alloc, entries)?,
+            epoch: 1,
             max_text,
         })
     }
@@ -86,44 +75,28 @@ impl Ledger {
         ensures max_text { self.new.max_text ≡ self.old.max_text }
         ensures length { length self.new.now ≡ length self.old.now }
     {
-        let alloc = *self.entries.allocator();
-        let value = Value::copy_of(alloc, scalar)?;
-        self.put(entry, Held::Assigned(kind, value))
+        assign_at(&mut self.entries, self.epoch, entry, kind, scalar)
     }
 
     /// Makes the entry empty.
-    ///
-    /// # Errors
-    ///
-    /// Memory was refused.
-    pub fn set_empty(&mut self, entry: usize) -> Result<(), AllocError>
+    pub fn set_empty(&mut self, entry: usize)
         requires there { entry < length self.old.now }
-        ensures now { OnOk result (self.new.now ≡ write_at (Some entry) empty self.old.now) }
+        ensures now { self.new.now ≡ write_at (Some entry) empty self.old.now }
         ensures before { self.new.before ≡ self.old.before }
         ensures max_text { self.new.max_text ≡ self.old.max_text }
         ensures length { length self.new.now ≡ length self.old.now }
     {
-        self.put(entry, Held::Empty)
+        clear_at(&mut self.entries, self.epoch, entry);
     }
 
     /// Makes all entries but the template identifier's undefined, as a template with the key `reset` does.
-    ///
-    /// # Errors
-    ///
-    /// Memory was refused.
-    pub fn reset_others(&mut self) -> Result<(), AllocError>
-        ensures now { OnOk result (self.new.now ≡ reset self.old.now) }
+    pub fn reset_others(&mut self)
+        ensures now { self.new.now ≡ reset self.old.now }
         ensures before { self.new.before ≡ self.old.before }
         ensures max_text { self.new.max_text ≡ self.old.max_text }
         ensures length { length self.new.now ≡ length self.old.now }
     {
-        if self.entries.is_empty() {
-            return Ok(());
-        }
-        for entry in 1..self.entries.len() {
-            self.put(entry, Held::Undefined)?;
-        }
-        Ok(())
+        undefine_from(&mut self.entries, self.epoch, 1);
     }
 
     /// Makes all entries undefined, for good.
@@ -132,8 +105,8 @@ impl Ledger {
         ensures before { self.new.before ≡ self.new.now }
         ensures max_text { self.new.max_text ≡ self.old.max_text }
     {
-        self.journal.clear();
-        clear_all(&mut self.entries);
+        undefine_from(&mut self.entries, self.epoch, 0);
+        self.commit();
     }
 
     /// What was changed stays.
@@ -142,7 +115,12 @@ impl Ledger {
         ensures before { self.new.before ≡ self.old.now }
         ensures max_text { self.new.max_text ≡ self.old.max_text }
     {
-        self.journal.clear();
+        if self.epoch == u64::MAX {
+            settle_all(&mut self.entries);
+            self.epoch = 1;
+            return;
+        }
+        self.epoch += 1;
     }
 
     /// What was changed since the last commit is as it was.
@@ -151,80 +129,88 @@ impl Ledger {
         ensures before { self.new.before ≡ self.old.before }
         ensures max_text { self.new.max_text ≡ self.old.max_text }
     {
-        undo(&mut self.entries, &mut self.journal);
-    }
-
-    /// Puts something into an entry, and what it held into the journal.
-    fn put(&mut self, entry: usize, held: Held) -> Result<(), AllocError>
-        requires there { entry < length self.old.now }
-        requires short { text_size (held_data held) ≤ self.old.max_text }
-        ensures now { OnOk result (self.new.now ≡ write_at (Some entry) (held_data held) self.old.now) }
-        ensures err { OnErr result (self.new ≡ self.old) }
-        ensures before { self.new.before ≡ self.old.before }
-        ensures max_text { self.new.max_text ≡ self.old.max_text }
-        ensures length { length self.new.now ≡ length self.old.now }
-    {
-        exchange(&mut self.entries, &mut self.journal, entry, held)
+        take_all_back(&mut self.entries, self.epoch);
     }
 }
 
-/// Puts something into an entry, and what it held behind the changes.
-fn exchange(
-    entries: &mut Vec<Held>,
-    journal: &mut Vec<Change>,
+/// Assigns the value to the entry.
+fn assign_at(
+    entries: &mut Vec<Entry>,
+    epoch: u64,
     entry: usize,
-    held: Held,
+    kind: Kind,
+    scalar: Scalar<'_>,
 ) -> Result<(), AllocError>
-    requires { entry < vec_len entries.old }
-    ensures entries { OnOk result (entries.new.items ≡ slice_set entries.old.items entry held) }
-    ensures journal { OnOk result ((old : Held) × (old ≡ slice_index_or entries.old.items entry old)
-        × (journal.new.items ≡ journal.old.items ++ (record { entry = entry; held = old }) ∷ [])) }
-    ensures err { OnErr result ((entries.new.items ≡ entries.old.items) × (journal.new.items ≡ journal.old.items)) }
+    requires { entry < length entries.old.items }
+    ensures now { OnOk result (all_now entries.new.items ≡ slice_set (all_now entries.old.items) entry (assigned kind (scalar_data scalar.entry))) }
+    ensures before { all_before epoch entries.new.items ≡ all_before epoch entries.old.items }
+    ensures kept { (m : ℕ) → AreKept epoch m entries.old.items → length (text_of (scalar_data scalar.entry)) ≤ m → AreKept epoch m entries.new.items }
+    ensures length { length entries.new.items ≡ length entries.old.items }
 {
-    journal.reserve(1)?;
-    let old = mem::replace(&mut entries[entry], held);
-    match journal.push(Change { entry, held: old }) {
-        Ok(()) => Ok(()),
-        Err(_) => Err(AllocError),
+    let slot = &mut entries[entry];
+    slot.touch(epoch);
+    slot.assign(kind, scalar)
+}
+
+/// Makes the entry empty.
+fn clear_at(entries: &mut Vec<Entry>, epoch: u64, entry: usize)
+    requires { entry < length entries.old.items }
+    ensures now { all_now entries.new.items ≡ slice_set (all_now entries.old.items) entry empty }
+    ensures before { all_before epoch entries.new.items ≡ all_before epoch entries.old.items }
+    ensures kept { (m : ℕ) → AreKept epoch m entries.old.items → AreKept epoch m entries.new.items }
+    ensures length { length entries.new.items ≡ length entries.old.items }
+{
+    let slot = &mut entries[entry];
+    slot.touch(epoch);
+    slot.clear();
+}
+
+/// Makes the entries from a number on undefined.
+fn undefine_from(entries: &mut Vec<Entry>, epoch: u64, first: usize)
+    ensures now { all_now entries.new.items ≡ take first (all_now entries.old.items) ++ fresh (length entries.old.items - first) }
+    ensures before { all_before epoch entries.new.items ≡ all_before epoch entries.old.items }
+    ensures kept { (m : ℕ) → AreKept epoch m entries.old.items → AreKept epoch m entries.new.items }
+    ensures length { length entries.new.items ≡ length entries.old.items }
+{
+    for i in first..entries.len() {
+        let slot = &mut entries[i];
+        slot.touch(epoch);
+        slot.undefine();
     }
 }
 
-/// Takes the changes back, the last one first.
-fn undo(entries: &mut Vec<Held>, journal: &mut Vec<Change>)
-    requires { All (λ c. c.entry < vec_len entries.old) journal.old.items }
-    ensures entries { map held_data entries.new.items ≡ taken_back journal.old.items (map held_data entries.old.items) }
-    ensures short { (m : ℕ) → AreShort m entries.old.items → All (λ c. text_size (held_data c.held) ≤ m) journal.old.items → AreShort m entries.new.items }
-    ensures journal { journal.new.items ≡ [] }
+/// Takes back what was changed in this message.
+fn take_all_back(entries: &mut Vec<Entry>, epoch: u64)
+    requires { 1 ≤ epoch }
+    ensures now { all_now entries.new.items ≡ all_before epoch entries.old.items }
+    ensures before { all_before epoch entries.new.items ≡ all_before epoch entries.old.items }
+    ensures kept { (m : ℕ) → AreKept epoch m entries.old.items → AreKept epoch m entries.new.items }
 {
-    while let Some(Change { entry, held }) = journal.pop() {
-        mem::drop(mem::replace(&mut entries[entry], held));
+    for i in 0..entries.len() {
+        entries[i].take_back(epoch);
+    }
+}
+
+/// Forgets in which messages the entries were changed.
+fn settle_all(entries: &mut Vec<Entry>)
+    ensures now { all_now entries.new.items ≡ all_now entries.old.items }
+    ensures short { (m : ℕ) → All (IsShort m) entries.old.items → All (IsShort m) entries.new.items }
+    ensures settled { All (λ e. e.epoch ≡ 0) entries.new.items }
+{
+    for i in 0..entries.len() {
+        entries[i].settle();
     }
 }
 
 /// So many entries, all undefined.
-fn undefined_entries(alloc: Global, count: usize) -> Result<Vec<Held>, AllocError>
-    ensures { IfOk result (λ v. v.items ≡ replicate count Undefined) }
+fn undefined_entries(alloc: Global, count: usize) -> Result<Vec<Entry>, AllocError>
+    ensures now { IfOk result (λ v. all_now v.items ≡ fresh count) }
+    ensures settled { IfOk result (λ v. All (λ e. e.epoch ≡ 0) v.items) }
+    ensures short { IfOk result (λ v. (m : ℕ) → All (IsShort m) v.items) }
 {
     let mut entries = Vec::with_capacity(alloc, count)?;
     for _ in 0..count {
-        entries.push(Held::Undefined)?;
+        entries.push(Entry::new(alloc))?;
     }
     Ok(entries)
-}
-
-/// Makes all entries undefined.
-fn clear_all(entries: &mut Vec<Held>)
-    ensures items { entries.new.items ≡ replicate (vec_len entries.old) Undefined }
-    ensures len { vec_len entries.new ≡ vec_len entries.old }
-{
-    clear(entries);
-}
-
-/// Makes entries undefined.
-fn clear(entries: &mut [Held])
-    ensures { entries.new ≡ replicate (length entries.old) Undefined }
-{
-    for entry in entries.iter_mut() {
-        *entry = Held::Undefined;
-    }
 }

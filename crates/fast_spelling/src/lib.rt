@@ -2,9 +2,9 @@
 #![tactic(auto)]
 
 pub mod draft;
+pub mod entry;
 pub mod faults;
 pub mod fields;
-pub mod held;
 pub mod items;
 pub mod laws;
 pub mod ledger;

@@ -23,7 +23,6 @@ use crate::ledger::Ledger;
 use crate::writing::write_body;
 use fast_template::{FieldInstruction, Operator, Templates};
 use fast_value::{Kind, Limits, Message, Scalar};
-use std::alloc::AllocError;
 
 /// Writes a message that suits its template, which has this identifier, and the limits. The draft holds nothing else then.
 ///
@@ -52,7 +51,7 @@ pub fn write_message(
     draft.clear();
     let mark = draft.mark();
     write_identifier(templates, limits, id, draft, ledger)?;
-    reset_if(template.reset, ledger)?;
+    reset_if(template.reset, ledger);
     write_body(
         templates,
         limits,
@@ -95,12 +94,11 @@ fn identifier() -> FieldInstruction
 }
 
 /// Resets the dictionary, as a template with the key `reset` does behind the identifier.
-fn reset_if(resets: bool, ledger: &mut Ledger) -> Result<(), AllocError>
-    ensures now { OnOk result (ledger.new.now ≡ (if resets then reset ledger.old.now else ledger.old.now)) }
+fn reset_if(resets: bool, ledger: &mut Ledger)
+    ensures now { ledger.new.now ≡ (if resets then reset ledger.old.now else ledger.old.now) }
     ensures keeps { Keeps ledger.old ledger.new }
 {
     if resets {
-        return ledger.reset_others();
+        ledger.reset_others();
     }
-    Ok(())
 }

@@ -29,7 +29,7 @@ returns-in_err-write_body-clause-err c =
     let f = c.in_err-write_body.field-0.0 in
     let h = told_at (RefusesBody c.args.limits (body_among (nodes_of t) c.deref.result.now) c.reset_if.new.ledger.now (slots_data c.deref-2.result.now)) Q f c.in_err-write_body.ensures.err
     (λ r. body_refused t c.args.limits c.args.ledger.now.now c.write_identifier.new.ledger.now c.reset_if.new.ledger.now (message_data c.args.message.now) c.args.id c.template-template.result.now c.clear.new.self c.write_identifier.new.draft f
-    c.template-template.ensures.found c.requires.known c.in_ok-write_identifier.ensures.ok c.in_ok-reset_if.ensures.now
+    c.template-template.ensures.found c.requires.known c.in_ok-write_identifier.ensures.ok c.reset_if.ensures.now
     (rw (sym c.deref-2.ensures.value) (rw (sym c.deref.ensures.value) r))) in
     rw p.1 (subst (IsTold Q) (sym p.2) h)
 
@@ -46,11 +46,11 @@ returns-clause-ok c = on_ok c.close.result c.close.ensures.ok
     c.clear.new.self c.write_identifier.new.draft c.write_body.new.draft c.mark-mark.result.bytes c.mark-mark.result.bits c.close.new.self.bytes.items
     c.template-template.ensures.found c.requires.known c.clear.ensures.bits c.clear.ensures.bytes
     (c.mark-mark.ensures.bytes ∙ c.clear.new.self.bytes.ok.0 ∙ ap length c.clear.ensures.bytes) (c.mark-mark.ensures.bits ∙ c.clear.new.self.bits.ok.0 ∙ ap length c.clear.ensures.bits)
-    c.in_ok-write_identifier.ensures.ok c.in_ok-reset_if.ensures.now (body_wrote c))
+    c.in_ok-write_identifier.ensures.ok c.reset_if.ensures.now (body_wrote c))
 
 pub returns-clause-err : goal.returns-clause-err
 returns-clause-err c = told c.close.result c.close.ensures.err (λ e h.
     message_unmapped c.args.templates.now c.args.limits c.args.ledger.now.now c.write_identifier.new.ledger.now c.reset_if.new.ledger.now c.write_body.new.ledger.now (message_data c.args.message.now) c.args.id c.template-template.result.now
     c.clear.new.self c.write_identifier.new.draft c.write_body.new.draft c.mark-mark.result.bits e
     c.template-template.ensures.found c.requires.known c.clear.ensures.bits (c.mark-mark.ensures.bits ∙ c.clear.new.self.bits.ok.0 ∙ ap length c.clear.ensures.bits)
-    c.in_ok-write_identifier.ensures.ok c.in_ok-reset_if.ensures.now (body_wrote c) h.2 h.0)
+    c.in_ok-write_identifier.ensures.ok c.reset_if.ensures.now (body_wrote c) h.2 h.0)

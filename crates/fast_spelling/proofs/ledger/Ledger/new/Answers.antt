@@ -1,6 +1,13 @@
--- All entries are undefined.
-use Rattle.fast_spelling.proofs.Ledgers.{fresh_held}
+-- All entries are undefined, and of no message.
+use Rattle.std.proofs.Common.{◌≤◌, arith}
+use Rattle.fast_spelling.proofs.Ledgers.{all_unchanged, settled_kept, settled_before}
 use Rattle.fast_spelling.proofs.ledger.Ledger.new.Goals as goal
 
-pub returns-clause-now : goal.returns-clause-now
-returns-clause-now c = rw c.in_ok-undefined_entries.ensures (fresh_held c.args.entries)
+pub invariant_of-result : goal.invariant_of-result
+invariant_of-result c = record {
+  kept = settled_kept c.args.max_text 1 c.in_ok-undefined_entries.field-0.items (c.in_ok-undefined_entries.ensures.short c.args.max_text) c.in_ok-undefined_entries.ensures.settled;
+  begun = omega arith;
+}
+
+pub returns-clause-before : goal.returns-clause-before
+returns-clause-before c = all_unchanged 1 c.in_ok-undefined_entries.field-0.items (settled_before 1 c.in_ok-undefined_entries.field-0.items (omega arith) c.in_ok-undefined_entries.ensures.settled)

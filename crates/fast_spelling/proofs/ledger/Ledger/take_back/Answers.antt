@@ -1,0 +1,5 @@
+-- The entries are as short as they were.
+use Rattle.fast_spelling.proofs.ledger.Ledger.take_back.Goals as goal
+
+pub invariant_of-self : goal.invariant_of-self
+invariant_of-self c = record { kept = c.take_all_back.ensures.kept c.self.inside.max_text c.self.invariant.kept; begun = c.self.invariant.begun }

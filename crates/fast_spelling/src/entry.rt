@@ -1,0 +1,183 @@
+//! An entry of the encoder's dictionary: what it holds, and what it held before the message that changes it.
+
+ghost use Rattle.std.specs.Prelude.{◌≡◌, ◌≤◌, ℕ, length, OnOk};
+ghost use Rattle.fast_value.specs.Kinds.{text_of};
+ghost use Rattle.fast_value.specs.Values.{scalar_data};
+ghost use Rattle.fast_dict.specs.Dictionary.{assigned, empty, undefined};
+ghost use Rattle.fast_dict.specs.Held.{text_size};
+ghost use Rattle.fast_dict.specs.Previous.{previous_data};
+ghost use Rattle.fast_spelling.specs.Entries.{entry_now, entry_before, IsShort};
+
+use fast_dict::Previous;
+use fast_value::{Kind, Scalar};
+use std::alloc::{AllocError, Global};
+use std::mem;
+
+/// What an entry holds, but for the bytes of a text.
+#[derive(Clone, Copy, Debug)]
+pub enum Held {
+    /// Nothing has been kept since the entry was reset.
+    Undefined,
+    /// The field that was kept last was absent.
+    Empty,
+    /// An unsigned integer, and the type of the field that kept it.
+    U(Kind, u64),
+    /// A signed integer.
+    I(Kind, i64),
+    /// A decimal: its exponent and its mantissa.
+    Dec(Kind, i32, i64),
+    /// An ASCII string.
+    Ascii(Kind),
+    /// A Unicode string.
+    Unicode(Kind),
+    /// A byte vector.
+    Bytes(Kind),
+}
+
+/// An entry, with what it held before the message in which it was changed last. A text is written where the one before the last
+/// change stood, so that none is moved.
+#[derive(Debug, Drop)]
+pub struct Entry {
+    /// What it holds.
+    held: Held,
+    /// The bytes of the text that it holds.
+    text: Vec<u8>,
+    /// What it held before.
+    old_held: Held,
+    /// The bytes of the text that it held before.
+    old_text: Vec<u8>,
+    /// The number of the message in which it was changed last.
+    epoch: u64,
+}
+
+impl Entry {
+    /// An entry that is undefined, and was not changed in any message.
+    pub fn new(alloc: Global) -> Entry
+        ensures now { entry_now result ≡ undefined }
+        ensures epoch { result.epoch ≡ 0 }
+        ensures short { (m : ℕ) → IsShort m result }
+    {
+        Entry {
+            held: Held::Undefined,
+            text: Vec::new(alloc),
+            old_held: Held::Undefined,
+            old_text: Vec::new(alloc),
+            epoch: 0,
+        }
+    }
+
+    /// What it holds. A text is lent.
+    pub fn as_previous(&self) -> Previous<'_>
+        ensures { previous_data result ≡ entry_now self.now }
+    {
+        match self.held {
+            Held::Undefined => Previous::Undefined,
+            Held::Empty => Previous::Empty,
+            Held::U(kind, number) => Previous::Assigned(kind, Scalar::U(number)),
+            Held::I(kind, number) => Previous::Assigned(kind, Scalar::I(number)),
+            Held::Dec(kind, exponent, mantissa) => {
+                Previous::Assigned(kind, Scalar::Dec { exponent, mantissa })
+            }
+            Held::Ascii(kind) => Previous::Assigned(kind, Scalar::Ascii(&self.text)),
+            Held::Unicode(kind) => Previous::Assigned(kind, Scalar::Unicode(&self.text)),
+            Held::Bytes(kind) => Previous::Assigned(kind, Scalar::Bytes(&self.text)),
+        }
+    }
+
+    /// Notes that it is changed in this message: what it holds is kept, unless that was noted already.
+    pub fn touch(&mut self, epoch: u64)
+        ensures epoch { self.new.epoch ≡ epoch }
+        ensures before { entry_before epoch self.new ≡ entry_before epoch self.old }
+        ensures short { (m : ℕ) → IsShort m self.old → IsShort m self.new }
+    {
+        if self.epoch != epoch {
+            mem::swap(&mut self.text, &mut self.old_text);
+            self.old_held = self.held;
+            self.held = Held::Undefined;
+            self.epoch = epoch;
+        }
+    }
+
+    /// Holds this value, as a field of the type keeps it. What it held before stays.
+    ///
+    /// # Errors
+    ///
+    /// Memory was refused.
+    pub fn assign(&mut self, kind: Kind, scalar: Scalar<'_>) -> Result<(), AllocError>
+        ensures now { OnOk result (entry_now self.new ≡ assigned kind (scalar_data scalar.entry)) }
+        ensures epoch { self.new.epoch ≡ self.old.epoch }
+        ensures before { (e : ℕ) → e ≡ self.old.epoch → entry_before e self.new ≡ entry_before e self.old }
+        ensures short { (m : ℕ) → IsShort m self.old → length (text_of (scalar_data scalar.entry)) ≤ m → IsShort m self.new }
+    {
+        self.held = match scalar {
+            Scalar::U(number) => Held::U(kind, number),
+            Scalar::I(number) => Held::I(kind, number),
+            Scalar::Dec { exponent, mantissa } => Held::Dec(kind, exponent, mantissa),
+            Scalar::Ascii(text) => {
+                write_over(&mut self.text, text)?;
+                Held::Ascii(kind)
+            }
+            Scalar::Unicode(text) => {
+                write_over(&mut self.text, text)?;
+                Held::Unicode(kind)
+            }
+            Scalar::Bytes(text) => {
+                write_over(&mut self.text, text)?;
+                Held::Bytes(kind)
+            }
+        };
+        Ok(())
+    }
+
+    /// Holds that the field was absent.
+    pub fn clear(&mut self)
+        ensures now { entry_now self.new ≡ empty }
+        ensures epoch { self.new.epoch ≡ self.old.epoch }
+        ensures before { (e : ℕ) → e ≡ self.old.epoch → entry_before e self.new ≡ entry_before e self.old }
+        ensures short { (m : ℕ) → IsShort m self.old → IsShort m self.new }
+    {
+        self.held = Held::Empty;
+    }
+
+    /// Holds nothing.
+    pub fn undefine(&mut self)
+        ensures now { entry_now self.new ≡ undefined }
+        ensures epoch { self.new.epoch ≡ self.old.epoch }
+        ensures before { (e : ℕ) → e ≡ self.old.epoch → entry_before e self.new ≡ entry_before e self.old }
+        ensures short { (m : ℕ) → IsShort m self.old → IsShort m self.new }
+    {
+        self.held = Held::Undefined;
+    }
+
+    /// Takes back what was changed in this message.
+    pub fn take_back(&mut self, epoch: u64)
+        ensures now { entry_now self.new ≡ entry_before epoch self.old }
+        ensures epoch { (self.new.epoch ≡ epoch → epoch ≡ 0) × (self.new.epoch ≤ self.old.epoch) }
+        ensures short { (m : ℕ) → IsShort m self.old → IsShort m self.new }
+    {
+        if self.epoch == epoch {
+            mem::swap(&mut self.text, &mut self.old_text);
+            self.held = self.old_held;
+            self.old_held = Held::Undefined;
+            self.epoch = 0;
+        }
+    }
+
+    /// Forgets in which message it was changed.
+    pub fn settle(&mut self)
+        ensures now { entry_now self.new ≡ entry_now self.old }
+        ensures epoch { self.new.epoch ≡ 0 }
+        ensures short { (m : ℕ) → IsShort m self.old → IsShort m self.new }
+    {
+        self.epoch = 0;
+    }
+}
+
+/// Puts other bytes in place of those of a text.
+fn write_over(text: &mut Vec<u8>, bytes: &[u8]) -> Result<(), AllocError>
+    ensures ok { OnOk result (text.new.items ≡ bytes.now) }
+    ensures short { (m : ℕ) → length bytes.now ≤ m → length text.new.items ≤ m }
+{
+    text.clear();
+    text.extend_from_slice(bytes)
+}
