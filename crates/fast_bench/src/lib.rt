@@ -1,12 +1,14 @@
-//! One run of the decoder over a stream in memory, for callers from C that measure or test it.
+//! One run of the decoder or the encoder over a stream in memory, for callers from C that measure or test them.
 #![tactic(auto)]
 
 ghost use Rattle.std.specs.Prelude.{◌<◌};
 
+mod encode;
 mod sinks;
+mod trees;
 
 use crate::sinks::{Check, Count, Tallied};
-use fast_decoder::{Decoder, FaultCode};
+use fast_decoder::{Decoder, FaultCode, Sink};
 use fast_template::Templates;
 use fast_value::{Code, Limits};
 use std::alloc::Global;
@@ -66,7 +68,7 @@ fn status_of(code: FaultCode) -> u64 {
 }
 
 /// Feeds a stream, in pieces of so many bytes, to a decoder.
-fn feed_all<S: Tallied>(decoder: &mut Decoder<'_>, stream: &[u8], piece: usize, sink: &mut S) -> u64
+fn feed_all<S: Sink>(decoder: &mut Decoder<'_>, stream: &[u8], piece: usize, sink: &mut S) -> u64
     requires { 0 < piece }
 {
     for bytes in stream.chunks(piece) {

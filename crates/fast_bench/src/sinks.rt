@@ -129,6 +129,11 @@ fn with_text(sum: u64, kind: u64, node: u32, text: &[u8]) -> u64 {
     sum
 }
 
+/// The checksum of bytes alone, as that of one field of bytes at node 0.
+pub fn with_bytes(bytes: &[u8]) -> u64 {
+    with_text(BASIS, 7, 0, bytes)
+}
+
 /// The checksum with a field's value.
 fn with_field(sum: u64, node: u32, value: Scalar<'_>) -> u64 {
     match value {

@@ -1,0 +1,132 @@
+//! One run of the encoder over the messages of a stream in memory, for callers from C that measure or test it.
+
+use crate::sinks::with_bytes;
+use crate::trees::Trees;
+use crate::{BETWEEN, NOT_MADE, feed_all};
+use fast_decoder::Decoder;
+use fast_encoder::{EncodeFault, Encoder};
+use fast_template::Templates;
+use fast_value::{Limits, Message};
+use std::alloc::Global;
+
+/// What a run came to.
+#[derive(Clone, Copy)]
+struct Encoded {
+    status: u64,
+    messages: u64,
+    bytes: u64,
+    sum: u64,
+}
+
+impl Encoded {
+    /// The answer where nothing is encoded, or not all.
+    fn failed(status: u64) -> Encoded {
+        Encoded {
+            status,
+            messages: 0,
+            bytes: 0,
+            sum: 0,
+        }
+    }
+}
+
+/// The status of a run in which a message was refused, from 513.
+fn status_of(fault: EncodeFault) -> u64 {
+    match fault {
+        EncodeFault::E1 => 513,
+        EncodeFault::E2 => 514,
+        EncodeFault::E3 => 515,
+        EncodeFault::E4 => 516,
+        EncodeFault::R9 => 517,
+        EncodeFault::Memory => 518,
+    }
+}
+
+/// Encodes messages, one after the other, into an emptied list.
+fn encode_all(
+    encoder: &mut Encoder<'_>,
+    messages: &[Message],
+    list: &mut Vec<u8>,
+) -> Result<(), EncodeFault> {
+    encoder.reset();
+    list.clear();
+    for message in messages {
+        encoder.encode(message, list)?;
+    }
+    Ok(())
+}
+
+/// Encodes messages so many times, each time from a reset encoder.
+fn encode_rounds(
+    alloc: Global,
+    encoder: &mut Encoder<'_>,
+    messages: &[Message],
+    rounds: u32,
+) -> Result<Encoded, EncodeFault> {
+    let mut list = Vec::new(alloc);
+    let mut bytes: u64 = 0;
+    for _ in 0..rounds {
+        encode_all(encoder, messages, &mut list)?;
+        bytes = bytes.wrapping_add(list.len() as u64);
+    }
+    Ok(Encoded {
+        status: BETWEEN,
+        messages: messages.len() as u64,
+        bytes,
+        sum: with_bytes(&list),
+    })
+}
+
+/// Decodes a stream into messages, and encodes these so many times.
+fn run(alloc: Global, templates: &[u8], limits: Limits, stream: &[u8], rounds: u32) -> Encoded {
+    let Ok(text) = std::str::from_utf8(templates) else {
+        return Encoded::failed(NOT_MADE);
+    };
+    let Ok(set) = Templates::read(alloc, text) else {
+        return Encoded::failed(NOT_MADE);
+    };
+    let Ok(mut decoder) = Decoder::new(alloc, &set, limits) else {
+        return Encoded::failed(NOT_MADE);
+    };
+    let Ok(mut encoder) = Encoder::new(alloc, &set, limits) else {
+        return Encoded::failed(NOT_MADE);
+    };
+    let mut trees = Trees::new(alloc, &set);
+    let status = feed_all(&mut decoder, stream, usize::MAX, &mut trees);
+    if status != BETWEEN {
+        return Encoded::failed(status);
+    }
+    match encode_rounds(alloc, &mut encoder, &trees.messages, rounds) {
+        Ok(encoded) => encoded,
+        Err(fault) => Encoded::failed(status_of(fault)),
+    }
+}
+
+/// Decodes a stream under a template set into messages, once, and encodes these so many times, each time from a reset encoder.
+///
+/// Four numbers are written to `out`, each as eight bytes, the least first: the status (as `fast_bench_run` tells how the stream
+/// ended, 0 to 19; 256 where a set, a decoder or an encoder was not made; from 513 where a message was refused: E1, E2, E3, E4, R9, no
+/// memory), the number of messages, the number of bytes of all rounds, and the checksum of the last round's bytes.
+#[unsafe(no_mangle)]
+pub extern "C" fn fast_bench_encode(
+    alloc: Global,
+    templates: &[u8],
+    stream: &[u8],
+    rounds: u32,
+    max_text: u32,
+    max_elements: u32,
+    max_total: u32,
+    out: &mut [u8; 32],
+) {
+    let limits = Limits {
+        strict: false,
+        max_text: max_text as usize,
+        max_elements,
+        max_total,
+    };
+    let answer = run(alloc, templates, limits, stream, rounds);
+    out[..8].copy_from_slice(&answer.status.to_le_bytes());
+    out[8..16].copy_from_slice(&answer.messages.to_le_bytes());
+    out[16..24].copy_from_slice(&answer.bytes.to_le_bytes());
+    out[24..].copy_from_slice(&answer.sum.to_le_bytes());
+}
