@@ -1,0 +1,5 @@
+pub mod HexDigits
+pub mod Numerals
+pub mod Escapes
+pub mod Splits
+pub mod Words

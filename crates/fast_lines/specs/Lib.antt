@@ -1,0 +1,6 @@
+pub mod Lines
+pub mod Hex
+pub mod Texts
+pub mod Bytes
+pub mod Values
+pub mod Forms
