@@ -3,3 +3,5 @@ pub mod Numerals
 pub mod Escapes
 pub mod Splits
 pub mod Words
+pub mod OneLine
+pub mod OneValue

@@ -12,14 +12,14 @@ abbrev pub node_words : ℕ → List ℕ → List ℕ
 node_words n name = decimal n ++ codes " " ++ name
 
 -- the number of a node has no space
-number_lacks : (n : ℕ) → n < 2 ^ 32 → Lacks 0x20 (decimal n)
+pub number_lacks : (n : ℕ) → n < 2 ^ 32 → Lacks 0x20 (decimal n)
 number_lacks n small = decimal_lacks 0x20 n (omega (arith, small)) (inl (omega arith))
 
 -- the words with the space as one character
-node_as_words : (n : ℕ) (name : List ℕ) → node_words n name ≡ decimal n ++ 0x20 ∷ name
+pub node_as_words : (n : ℕ) (name : List ℕ) → node_words n name ≡ decimal n ++ 0x20 ∷ name
 node_as_words n name = append_assoc (decimal n) (codes " ") name
 
-more_as_words : (n : ℕ) (name rest : List ℕ) → node_words n name ++ codes " " ++ rest ≡ decimal n ++ 0x20 ∷ (name ++ 0x20 ∷ rest)
+pub more_as_words : (n : ℕ) (name rest : List ℕ) → node_words n name ++ codes " " ++ rest ≡ decimal n ++ 0x20 ∷ (name ++ 0x20 ∷ rest)
 more_as_words n name rest = simp append_assoc
 
 -- a node's words split at the space
