@@ -1,8 +1,9 @@
 //! Integers in decimal digits, as lines have them.
 
-ghost use Rattle.std.specs.Prelude.{◌≡◌, ◌≢◌, ℕ, ◌<◌, ◌^◌, ℤ, decimal, IfSome, IfNone};
+ghost use Rattle.std.specs.Prelude.{◌≡◌, ◌≢◌, ◌↔◌, ℕ, ◌<◌, ◌^◌, ℤ, decimal, IsTrue, IfSome, IfNone};
 ghost use Rattle.std.specs.Fmt.{signed_decimal};
 ghost use Rattle.fast_value.specs.Kinds.{IsWithin, signed_range};
+ghost use Rattle.fast_lines.specs.Numbers.{IsDigits, IsSignedDigits};
 
 use itoa::Buffer;
 use std::str;
@@ -56,5 +57,25 @@ pub fn parse_number(text: &[u8]) -> Option<u32>
     match parse_unsigned(text) {
         Some(number) if number <= u32::MAX as u64 => Some(number as u32),
         _ => None,
+    }
+}
+
+/// Whether the text is decimal digits without leading zeros, however many.
+pub fn is_digits(text: &[u8]) -> bool
+    ensures { IsTrue result ↔ IsDigits text.now }
+{
+    match text {
+        [] | [b'0', _, ..] => false,
+        _ => text.iter().all(|digit| digit.is_ascii_digit()),
+    }
+}
+
+/// The same, where a minus may stand before them.
+pub fn is_signed_digits(text: &[u8]) -> bool
+    ensures { IsTrue result ↔ IsSignedDigits text.now }
+{
+    match text {
+        [b'-', digits @ ..] => is_digits(digits) & (digits != b"0".as_slice()),
+        _ => is_digits(text),
     }
 }

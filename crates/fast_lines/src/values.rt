@@ -1,14 +1,15 @@
 //! The values of fields, as lines have them.
 
-ghost use Rattle.std.specs.Prelude.{◌≡◌, ◌≢◌, ℕ, ℤ, List, ◌∷◌, ◌++◌, IfSome, IfNone, IfOk};
+ghost use Rattle.std.specs.Prelude.{◌≡◌, ◌≢◌, ◌↔◌, ℕ, ℤ, List, ◌∷◌, ◌++◌, IsTrue, IfSome, IfNone, IfOk};
 ghost use Rattle.std.specs.Fmt.{signed_decimal};
 ghost use Rattle.fast_value.specs.Kinds.{ScalarData, IsWithin, signed_range};
 ghost use Rattle.fast_value.specs.Values.{value_data};
 ghost use Rattle.fast_lines.specs.Lines.{written};
+ghost use Rattle.fast_lines.specs.Numbers.{IsDecimalDigits, IsNumberOf, IsNumberText};
 ghost use Rattle.fast_lines.specs.Values.{IsHeld, Lacks};
 
 use crate::bytes::parse_bytes;
-use crate::numbers::{parse_exponent, parse_signed, parse_unsigned};
+use crate::numbers::{is_digits, is_signed_digits, parse_exponent, parse_signed, parse_unsigned};
 use crate::texts::unquote;
 use fast_value::Value;
 use std::alloc::{AllocError, Global};
@@ -36,6 +37,38 @@ fn parse_decimal(text: &[u8]) -> Option<(i32, i64)>
     match (parse_exponent(exponent), parse_signed(mantissa)) {
         (Some(exponent), Some(mantissa)) => Some((exponent, mantissa)),
         _ => None,
+    }
+}
+
+/// Whether the text is a mantissa, `e` and an exponent, however great.
+fn is_decimal_digits(text: &[u8]) -> bool
+    ensures { IsTrue result ↔ IsDecimalDigits text.now }
+{
+    match split_at_byte(text, b'e') {
+        Some((mantissa, exponent)) => is_signed_digits(mantissa) & is_signed_digits(exponent),
+        None => false,
+    }
+}
+
+/// Whether these are the digits of a number with this letter, however great.
+fn is_number_of(letter: u8, digits: &[u8]) -> bool
+    ensures { IsTrue result ↔ IsNumberOf letter digits.now }
+{
+    match letter {
+        b'u' => is_digits(digits),
+        b'i' => is_signed_digits(digits),
+        b'd' => is_decimal_digits(digits),
+        _ => false,
+    }
+}
+
+/// Whether the text is a letter and a number of its kind, however great.
+pub fn is_number(text: &[u8]) -> bool
+    ensures { IsTrue result ↔ IsNumberText text.now }
+{
+    match text {
+        [letter, b' ', digits @ ..] => is_number_of(*letter, digits),
+        _ => false,
     }
 }
 
