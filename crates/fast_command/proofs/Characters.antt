@@ -4,7 +4,7 @@ use Rattle.std.specs.Prelude.{nat_eq}
 use Rattle.std.proofs.lemmas.Bool.{ne_eqb}
 use Rattle.std.proofs.lemmas.Bool.Decides.{nat_tests}
 use Rattle.fast_value.specs.Initial.{IsHexDigit}
-use Rattle.fast_text.specs.Hex.{IsBlank}
+use Rattle.fast_lines.specs.Hex.{IsBlank}
 use Rattle.hex.specs.Hex.{hex_digit_value, decode_pairs, decode_sized}
 
 -- digits from `0` to `9`

@@ -11,7 +11,7 @@ use Rattle.fast_stream.specs.declared.faults.FaultCode.TheVariants as Why
 use Rattle.fast_stream.specs.Events.{EventData}
 use Rattle.fast_stream.specs.Sinks.{Takes}
 use Rattle.fast_decoder.specs.Decoding.{DecoderData, tree, Carried, CarriesAt, Carries, SinkEnds}
-use Rattle.fast_text.specs.Lines.{line_of, lines}
+use Rattle.fast_lines.specs.Lines.{line_of, lines}
 use Rattle.fast_text.specs.Streams.{Appends}
 use Rattle.fast_text.specs.declared.line_sink.LineSink.{LineSink}
 use Rattle.fast_text.specs.LineSink.{TakesLine, StopsInLine}

@@ -13,8 +13,8 @@ use Rattle.fast_stream.specs.Streams.{End, between, inside, faulted, Stream}
 use Rattle.fast_stream.specs.Standing.{Standing, standing_at}
 use Rattle.fast_decoder.specs.Decoding.{DecoderData, So, tree, standing, answer}
 use Rattle.fast_decoder.proofs.Ends.{so-stream}
-use Rattle.fast_text.specs.Lines.{lines}
-use Rattle.fast_text.specs.Hex.{Unhexed, digits_in, ArePairs}
+use Rattle.fast_lines.specs.Lines.{lines}
+use Rattle.fast_lines.specs.Hex.{Unhexed, digits_in, ArePairs}
 use Rattle.fast_text.specs.Streams.{Appends, AppendsFront}
 use Rattle.fast_text.proofs.Writing.{appends_none, appends_both}
 use Rattle.fast_command.specs.declared.unhexer.Unhexer.{Unhexer}

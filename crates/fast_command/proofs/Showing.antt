@@ -7,7 +7,7 @@ use Rattle.fast_stream.specs.declared.faults.MakeError.{MakeError}
 use Rattle.fast_stream.specs.declared.faults.MakeError.TheVariants as Why
 use Rattle.fast_stream.specs.Events.{EventData}
 use Rattle.fast_decoder.specs.Decoding.{standing}
-use Rattle.fast_text.specs.Lines.{lines}
+use Rattle.fast_lines.specs.Lines.{lines}
 use Rattle.fast_text.specs.Streams.{Appends}
 use Rattle.fast_text.proofs.Writing.{appends_none, appends_both}
 use Rattle.fast_command.specs.declared.unhexer.Unhexer.{Unhexer}

@@ -3,7 +3,7 @@ use Rattle.std.proofs.Common.{◌≡◌, ℕ, ◌+◌, ◌*◌, Bool, cond, List
 use Rattle.std.specs.Prelude.{All, filter}
 use Rattle.std.proofs.lemmas.List.Elements.{All-append, All-cons, All-nil, filter-append}
 use Rattle.fast_value.specs.Initial.{IsHex, IsHexDigit}
-use Rattle.fast_text.specs.Hex.{IsBlank, IsHexOrBlank, digits_in}
+use Rattle.fast_lines.specs.Hex.{IsBlank, IsHexOrBlank, digits_in}
 use Rattle.fast_command.specs.declared.unhexer.Place.{Place}
 use Rattle.fast_command.specs.declared.unhexer.Place.TheVariants.{Between, InPair, Bad}
 use Rattle.fast_command.specs.Unhexing.{StandsAt}

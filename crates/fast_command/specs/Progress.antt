@@ -9,9 +9,9 @@ use Rattle.fast_stream.specs.declared.faults.FaultCode.TheVariants as Why
 use Rattle.fast_stream.specs.Events.{EventData}
 use Rattle.fast_stream.specs.Streams.{End, Stream}
 use Rattle.fast_decoder.specs.Decoding.{DecoderData, So, tree}
-use Rattle.fast_text.specs.Lines.{lines}
+use Rattle.fast_lines.specs.Lines.{lines}
 use Rattle.fast_text.specs.Streams.{Appends, AppendsFront}
-use Rattle.fast_text.specs.Hex.{Unhexed}
+use Rattle.fast_lines.specs.Hex.{Unhexed}
 use Rattle.fast_command.specs.declared.unhexer.Unhexer.{Unhexer}
 use Rattle.fast_command.specs.declared.show.Show.{Show}
 use Rattle.fast_command.specs.declared.faults.ShowEnd.{ShowEnd}

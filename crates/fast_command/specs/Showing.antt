@@ -12,8 +12,8 @@ use Rattle.fast_stream.specs.declared.faults.MakeError.{MakeError}
 use Rattle.fast_stream.specs.declared.faults.MakeError.TheVariants as Why
 use Rattle.fast_stream.specs.Events.{EventData}
 use Rattle.fast_stream.specs.Streams.{End, between, inside, faulted, Stream}
-use Rattle.fast_text.specs.Lines.{lines}
-use Rattle.fast_text.specs.Hex.{Unhexed}
+use Rattle.fast_lines.specs.Lines.{lines}
+use Rattle.fast_lines.specs.Hex.{Unhexed}
 use Rattle.fast_command.specs.declared.faults.ShowEnd.{ShowEnd}
 use Rattle.fast_command.specs.declared.faults.ShowEnd.TheVariants.{Good, Faulted, Truncated}
 use Rattle.fast_command.specs.declared.faults.RunFault.{RunFault}

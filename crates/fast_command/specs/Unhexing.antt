@@ -1,7 +1,7 @@
 -- A hexadecimal text as far as it was taken.
 use Rattle.std.specs.Prelude.{◌≡◌, ℕ, List, [], ◌∷◌, ◌++◌, length, All}
 use Rattle.fast_value.specs.Initial.{IsHex, IsHexDigit}
-use Rattle.fast_text.specs.Hex.{IsBlank, IsHexOrBlank, digits_in, ArePairs}
+use Rattle.fast_lines.specs.Hex.{IsBlank, IsHexOrBlank, digits_in, ArePairs}
 use Rattle.fast_command.specs.declared.unhexer.Class.{Class}
 use Rattle.fast_command.specs.declared.unhexer.Class.TheVariants.{Blank, Digit, Other}
 use Rattle.fast_command.specs.declared.unhexer.Place.{Place}

@@ -7,7 +7,7 @@ ghost use Rattle.fast_value.specs.declared.settings.Limits.{Limits};
 ghost use Rattle.fast_stream.specs.Events.{EventData};
 ghost use Rattle.fast_decoder.specs.Decoding.{So, standing, tree, answer, AreBadLimits};
 ghost use Rattle.fast_text.specs.Streams.{Appends};
-ghost use Rattle.fast_text.specs.Hex.{IsHexOrBlank};
+ghost use Rattle.fast_lines.specs.Hex.{IsHexOrBlank};
 ghost use Rattle.fast_command.specs.Showing.{IsShown, IsRefusal, StandsFor, refusal_of};
 ghost use Rattle.fast_command.specs.Progress.{HasRoom, IsTaken, Progress, GoesOn, Ended, IsFed, IsBadPlace, IsClosedAt, changed};
 

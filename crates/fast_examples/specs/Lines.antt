@@ -1,6 +1,6 @@
 -- The lines of a message, as a statement.
 use Rattle.std.specs.Prelude.{◌≡◌, ℕ, List, [], ◌∷◌, ◌++◌, codes, flat_map}
-use Rattle.fast_text.specs.Lines.{lines}
+use Rattle.fast_lines.specs.Lines.{lines}
 use Rattle.fast_examples.specs.Vectors.{vectors}
 use Rattle.fast_examples.specs.Messages.{nested_events}
 

@@ -5,7 +5,7 @@ use Rattle.fast_template.specs.declared.sets.Templates.{Templates}
 use Rattle.fast_template.specs.Flat.{tree_of}
 use Rattle.fast_stream.specs.Events.{EventData}
 use Rattle.fast_text.specs.declared.line_sink.LineSink.{LineSink}
-use Rattle.fast_text.specs.Lines.{line_of}
+use Rattle.fast_lines.specs.Lines.{line_of}
 use Rattle.fast_text.specs.Streams.{Appends, AppendsFront}
 
 -- the sink writes to the target, with the names of the set

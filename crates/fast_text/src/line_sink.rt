@@ -3,7 +3,7 @@
 ghost use Rattle.std.specs.Prelude.{◌≡◌, slice_get, string_bytes};
 ghost use Rattle.fast_template.specs.Flat.{tree_of};
 ghost use Rattle.fast_stream.specs.Handed.{event_data};
-ghost use Rattle.fast_text.specs.Lines.{line_of, template_name, node_name, node as node_words};
+ghost use Rattle.fast_lines.specs.Lines.{line_of, template_name, node_name, node as node_words};
 ghost use Rattle.fast_text.specs.LineWriter.{Writes};
 ghost use Rattle.fast_text.specs.LineSink.{TakesLine, StopsInLine, IsOver};
 

@@ -3,7 +3,7 @@
 ghost use Rattle.std.specs.Prelude.{◌≡◌, ◌≤◌, [], ◌∷◌, ◌++◌, IsTrue, All, length, take, codes, decimal, flat_map};
 ghost use Rattle.std.specs.Fmt.{signed_decimal};
 ghost use Rattle.fast_value.specs.Values.{scalar_data};
-ghost use Rattle.fast_text.specs.Lines.{escaped, quoted, hex_byte, written as value_text};
+ghost use Rattle.fast_lines.specs.Lines.{escaped, quoted, hex_byte, written as value_text};
 ghost use Rattle.fast_text.specs.LineWriter.{Begins, Writes, outcome_of};
 
 use crate::streams::{Failed, Target};

@@ -1,5 +1,5 @@
 use Rattle.std.proofs.Common.{◌≡◌, ℕ, List, ◌++◌, length, flat_map}
-use Rattle.fast_text.specs.Lines.{hex_byte}
+use Rattle.fast_lines.specs.Lines.{hex_byte}
 use Rattle.fast_text.specs.LineWriter.{Writes}
 use Rattle.fast_text.proofs.line_writer.LineWriter.put_hex.Given as goal
 

@@ -1,7 +1,7 @@
 use Rattle.std.proofs.Common.{arith, ◌≡◌, ◌∙◌, ◌<◌, ℕ, get_or}
 use Rattle.std.proofs.lemmas.Grind.{common_steps}
 use Rattle.hex.specs.Hex.{encode_lower}
-use Rattle.fast_text.proofs.HexDigits.{lower_bytes}
+use Rattle.fast_lines.proofs.HexDigits.{lower_bytes}
 use Rattle.fast_text.proofs.Writing.{writes_same}
 use Rattle.fast_text.proofs.line_writer.LineWriter.put_hex_chunk.Goals as goal
 

@@ -1,0 +1,56 @@
+-- Numbers of any size.
+use Rattle.std.proofs.Common.{◌≡◌, ◌≢◌, ℕ, List, [], ◌∷◌, ◌++◌, refl, sym, ◌∙◌, inl, inr, arith}
+use Rattle.std.specs.Prelude.{Bool, true, false, IsTrue, ◌&&◌}
+use Rattle.std.specs.Char.{IsAsciiDigit}
+use Rattle.std.proofs.lemmas.List.Elements.{All-cons, All-head, All-weaker}
+use Rattle.fast_lines.specs.Numbers.{IsDigits, IsSignedDigits, IsDecimalDigits, IsNumberOf, IsNumberText}
+use Rattle.fast_lines.specs.Values.{Lacks}
+use Rattle.fast_lines.proofs.Splits.{first_split}
+
+-- what stands behind a minus
+pub minus_signed : (ds : List ℕ) → IsDigits ds → ds ≢ 0x30 ∷ [] → IsSignedDigits (0x2D ∷ ds)
+minus_signed ds digits some = record { how = inr (ds, refl, digits, some) }
+
+pub signed_minus : (ds : List ℕ) → IsSignedDigits (0x2D ∷ ds) → IsDigits ds × (ds ≢ 0x30 ∷ [])
+signed_minus ds h = elim h.how [
+  | inl digits ↦ let d : IsAsciiDigit 0x2D = All-head IsAsciiDigit 0x2D ds digits.digits in absurd (omega (arith, d))
+  | inr minus ↦ let same : ds ≡ minus.0 = cc minus.1 in rw same (minus.2, minus.3)
+]
+
+-- digits lack an `e`
+digits_lack : (ds : List ℕ) → IsDigits ds → Lacks 0x65 ds
+digits_lack ds digits = All-weaker IsAsciiDigit (λ c. c ≢ 0x65) (λ c (d : IsAsciiDigit c) (e : c ≡ 0x65). omega (arith, d, e)) ds digits.digits
+
+pub signed_lack : (text : List ℕ) → IsSignedDigits text → Lacks 0x65 text
+signed_lack text h = elim h.how [
+  | inl digits ↦ digits_lack text digits
+  | inr minus ↦ rw minus.1 (All-cons (λ c. c ≢ 0x65) 0x2D minus.0 (λ (e : 0x2D ≡ 0x65). omega (arith, e)) (digits_lack minus.0 minus.2))
+]
+
+-- the parts of a decimal
+pub decimal_split : (text front back : List ℕ) → Lacks 0x65 front → text ≡ front ++ 0x65 ∷ back → IsDecimalDigits text → IsSignedDigits front × IsSignedDigits back
+decimal_split text front back lacks split h =
+    let parts = first_split 0x65 front h.mantissa back h.exponent lacks (signed_lack h.mantissa h.before) (sym split ∙ h.is) in
+    rw (parts.0, parts.1) (h.before, h.behind)
+
+-- both tests
+pub both_true : (a b : Bool) → IsTrue (a && b) → IsTrue a × IsTrue b
+both_true true b h = (refl, h)
+both_true false b h = absurd (true_apart h)
+  where
+    true_apart : IsTrue false → ⊥
+    true_apart e = cc e
+
+pub and_true : (a b : Bool) → IsTrue a → IsTrue b → IsTrue (a && b)
+and_true a b p q = rw (p, q) refl
+
+-- a letter, a space and digits
+pub is_number_text : (text : List ℕ) (letter : ℕ) (digits : List ℕ) (r : Bool) → (IsTrue r → IsNumberOf letter digits) × (IsNumberOf letter digits → IsTrue r) → text ≡ letter ∷ 0x20 ∷ digits
+    → (IsTrue r → IsNumberText text) × (IsNumberText text → IsTrue r)
+is_number_text text letter digits r both split = (
+  λ t. record { letter = letter; digits = digits; is = split; number = both.0 t },
+  λ h. both.1 (at h.letter h.digits h.number (sym split ∙ h.is)),
+)
+  where
+    at : (a : ℕ) (ds : List ℕ) → IsNumberOf a ds → letter ∷ 0x20 ∷ digits ≡ a ∷ 0x20 ∷ ds → IsNumberOf letter digits
+    at a ds n e = let first : letter ≡ a = cc in let rest : digits ≡ ds = cc in rw (first, rest) n

@@ -1,0 +1,35 @@
+//! Laws of lines. They speak of the definitions alone, over all sets, events and texts.
+
+ghost use Rattle.std.specs.Prelude.{◌≡◌, ℕ, List};
+ghost use Rattle.fast_value.specs.Kinds.{ScalarData};
+ghost use Rattle.fast_tree.specs.AsWritten.{IsName};
+ghost use Rattle.fast_tree.specs.Tree.{Tree};
+ghost use Rattle.fast_stream.specs.Events.{EventData};
+ghost use Rattle.fast_lines.specs.Forms.{LineData, IsWord, IsForm, text_of_line, line_of_event};
+ghost use Rattle.fast_lines.specs.Lines.{line_of, quoted, written};
+ghost use Rattle.fast_lines.specs.Values.{IsHeld};
+
+/// The line of an event is of a line's form, but for its names.
+pub fn line_of_event_is_its_line()
+    ensures { (t : Tree) (e : EventData) → line_of t e ≡ text_of_line (line_of_event t e) }
+{}
+
+/// A text says one thing as a line.
+pub fn one_line()
+    ensures { (d e : LineData) → IsForm d → IsForm e → text_of_line d ≡ text_of_line e → d ≡ e }
+{}
+
+/// Between quotes stands one text.
+pub fn one_quoted()
+    ensures { (v w : List ℕ) → quoted v ≡ quoted w → v ≡ w }
+{}
+
+/// A text is one value.
+pub fn one_value()
+    ensures { (v w : ScalarData) → IsHeld v → IsHeld w → written v ≡ written w → v ≡ w }
+{}
+
+/// The names of template sets are words.
+pub fn names_are_words()
+    ensures { (name : List ℕ) → IsName name → IsWord name }
+{}
