@@ -20,7 +20,7 @@ mod worked;
 
 ghost use Rattle.std.specs.Prelude.{◌<◌};
 
-use fast_decoder::{Decoder, Event, Fault, Sink, Stop};
+use fast_decoder::{Decoder, Event, Fault, MakeError, Sink, Stop};
 use fast_template::Templates;
 use fast_value::{Limits, Scalar};
 use itoa::{Buffer, Integer};
@@ -203,8 +203,8 @@ fn set_of(alloc: Global, text: &str) -> Result<Templates, Fail> {
     Ok(Templates::read(alloc, text)?)
 }
 
-fn decoder_of(alloc: Global, set: &Templates, limits: Limits) -> Result<Decoder<'_>, Fail> {
-    Ok(Decoder::new(alloc, set, limits)?)
+fn decoder_of(alloc: Global, set: &Templates, limits: Limits) -> Result<Decoder<'_>, MakeError> {
+    Decoder::new(alloc, set, limits)
 }
 
 /// One comparison, of what a test names so.
@@ -248,10 +248,14 @@ fn feed_cut<S: Sink>(
     cut: usize,
     sink: &mut S,
 ) -> Standing {
-    let (front, rest) = bytes.split_at(cut.min(bytes.len()));
-    let mut answer = feed(decoder, front, sink);
-    if answer.is_ok() {
-        answer = feed(decoder, rest, sink);
+    let mut answer = Ok(());
+    if cut <= bytes.len() {
+        let (front, rest) = bytes.split_at(cut);
+        for piece in [front, rest] {
+            if answer.is_ok() {
+                answer = feed(decoder, piece, sink);
+            }
+        }
     }
     standing_of(decoder, answer)
 }
@@ -263,26 +267,26 @@ fn is_played_in_pieces(decoder: &mut Decoder<'_>, row: Row<'_>, size: usize) -> 
     let mut script = Script::of(row.events);
     decoder.reset();
     let heard = feed_pieces(decoder, row.bytes, size, &mut script);
-    let is_played = heard == row.end && script.is_played();
+    let is_played = row.is_end(heard) && script.is_played();
     if heard.fault.is_none() {
         return is_played;
     }
     let again = feed(decoder, &[0xC0, 0x81, 0x81], &mut script);
-    is_played && standing_of(decoder, again) == row.end && script.is_played()
+    is_played && standing_of(decoder, again) == heard && script.is_played()
 }
 
 /// Whether the row comes of its bytes one after the other.
 fn is_played_by_bytes(decoder: &mut Decoder<'_>, row: Row<'_>) -> bool {
     let mut script = Script::of(row.events);
     decoder.reset();
-    push_all(decoder, row.bytes, &mut script) == row.end && script.is_played()
+    row.is_end(push_all(decoder, row.bytes, &mut script)) && script.is_played()
 }
 
 /// Whether the row comes of its bytes in two pieces.
 fn is_played_cut(decoder: &mut Decoder<'_>, row: Row<'_>, cut: usize) -> bool {
     let mut script = Script::of(row.events);
     decoder.reset();
-    feed_cut(decoder, row.bytes, cut, &mut script) == row.end && script.is_played()
+    row.is_end(feed_cut(decoder, row.bytes, cut, &mut script)) && script.is_played()
 }
 
 /// A row that is fed to a decoder, reset before each time: whole, in pieces, and byte after byte. No memory is taken.
@@ -332,11 +336,13 @@ fn expect_line_cut(
     Ok(())
 }
 
-/// Each row comes of the template set with this text.
-fn expect_rows(rt: &impl Abort, alloc: Global, text: &str, rows: &str) -> Result<(), Fail> {
+/// Each row of the tables comes of the template set with this text.
+fn expect_rows(rt: &impl Abort, alloc: Global, text: &str, tables: &[&str]) -> Result<(), Fail> {
     let set = set_of(alloc, text)?;
-    for line in rows.lines() {
-        expect_line_cut(rt, alloc, &set, line)?;
+    for table in tables {
+        for line in table.lines() {
+            expect_line_cut(rt, alloc, &set, line)?;
+        }
     }
     Ok(())
 }

@@ -62,11 +62,6 @@ the same map of a group in lenient mode | lenient | C0 82 40 81 85 | m1 g1 u2=5 
 nothing to copy in a group | lenient | C0 82 80 | m1 g1 | D5@3
 ";
 
-#[test]
-fn maps_and_identifiers(rt: HostRuntime) -> Result<(), Fail> {
-    expect_rows(&rt, rt.alloc(), PLACES, MAPS_AND_IDENTIFIERS)
-}
-
 const LENGTHS: &str = "\
 a length that is not sent, and elements with a map each | strict | C0 83 80 C0 87 80 \
     | m2 s3*3 e u4=1 /e e u4=7 /e e u4=1 /e /s /m | between
@@ -81,11 +76,6 @@ an overlong length | strict | E0 83 00 81 | m2 | R6@4
 a length past its type | lenient | E0 83 10 00 00 00 80 | m2 | D2@7
 ";
 
-#[test]
-fn lengths(rt: HostRuntime) -> Result<(), Fail> {
-    expect_rows(&rt, rt.alloc(), PLACES, LENGTHS)
-}
-
 const INTEGERS: &str = "\
 an overlong integer past its type | lenient | C0 81 00 10 00 00 00 80 | m0 | D2@8
 overlong comes before past its type | strict | C0 81 00 10 00 00 00 80 | m0 | R6@8
@@ -99,11 +89,6 @@ a copy of an empty previous value | lenient | E0 87 80 C0 88 | m6 /m m7 | D6@5
 a value that is sent takes the place of another type | strict | E0 87 86 E0 88 FF C0 88 \
     | m6 u9=5 /m m7 i10=-1 /m m7 i10=-1 /m | between
 ";
-
-#[test]
-fn integers(rt: HostRuntime) -> Result<(), Fail> {
-    expect_rows(&rt, rt.alloc(), PLACES, INTEGERS)
-}
 
 const DECIMALS: &str = "\
 an exponent out of range | strict | C0 84 00 C0 | m3 | R1@4
@@ -123,11 +108,6 @@ a mantissa by parts past its type | strict | E0 85 80 01 00*8 80 | m4 | D2@13
 no exponent to go on from | lenient | C0 85 | m4 | D5@2
 ";
 
-#[test]
-fn decimals(rt: HostRuntime) -> Result<(), Fail> {
-    expect_rows(&rt, rt.alloc(), PLACES, DECIMALS)
-}
-
 const SIZES_AND_SUBTRACTION_LENGTHS: &str = "\
 an empty vector | strict | C0 89 80 | m8 b11= /m | between
 an overlong size | strict | C0 89 00 82 | m8 | R6@4
@@ -139,6 +119,17 @@ a subtraction length that never stops | lenient | C0 8A 00*10 | m9 | D2@12
 ";
 
 #[test]
-fn sizes_and_subtraction_lengths(rt: HostRuntime) -> Result<(), Fail> {
-    expect_rows(&rt, rt.alloc(), PLACES, SIZES_AND_SUBTRACTION_LENGTHS)
+fn rows_of_places(rt: HostRuntime) -> Result<(), Fail> {
+    expect_rows(
+        &rt,
+        rt.alloc(),
+        PLACES,
+        &[
+            MAPS_AND_IDENTIFIERS,
+            LENGTHS,
+            INTEGERS,
+            DECIMALS,
+            SIZES_AND_SUBTRACTION_LENGTHS,
+        ],
+    )
 }

@@ -101,11 +101,6 @@ tail | strict | D0 8D 86 | m12 a24='X' u25=5 /m | between
 tail, optional | strict | D0 8E 86 | m13 u27=5 /m | between
 ";
 
-#[test]
-fn the_bits_of_fields(rt: HostRuntime) -> Result<(), Fail> {
-    expect_rows(&rt, rt.alloc(), BITS, THE_BITS_OF_FIELDS)
-}
-
 const THE_BITS_OF_OTHER_INSTRUCTIONS: &str = "\
 a decimal by parts | strict | F8 8F 83 85 86 | m14 d28=5e2 u29=5 /m | between
 a group | strict | E0 90 85 86 | m15 g30 u31=5 /g u32=5 /m | between
@@ -117,8 +112,13 @@ an optional sequence of constant length that is absent | strict | D0 93 86 | m18
 ";
 
 #[test]
-fn the_bits_of_other_instructions(rt: HostRuntime) -> Result<(), Fail> {
-    expect_rows(&rt, rt.alloc(), BITS, THE_BITS_OF_OTHER_INSTRUCTIONS)
+fn rows_of_bits(rt: HostRuntime) -> Result<(), Fail> {
+    expect_rows(
+        &rt,
+        rt.alloc(),
+        BITS,
+        &[THE_BITS_OF_FIELDS, THE_BITS_OF_OTHER_INSTRUCTIONS],
+    )
 }
 
 /// Templates whose fields use no bit.
@@ -138,18 +138,13 @@ a second byte | strict | 40 81 87 | | R8@3
 a second byte, of a message without fields | strict | 40 81 89 | | R8@3
 ";
 
-#[test]
-fn a_flat_message_has_the_bit_of_its_identifier(rt: HostRuntime) -> Result<(), Fail> {
-    expect_rows(&rt, rt.alloc(), FLAT, A_FLAT_MESSAGE)
-}
-
 const A_FLAT_SET: &str = "\
 the identifier is kept | strict | C0 87 81 82 80 83 84 | m0 u0=1 u1=2 /m m0 u0=3 u1=4 /m | between
 ";
 
 #[test]
-fn a_flat_set_has_the_entry_of_the_identifier(rt: HostRuntime) -> Result<(), Fail> {
-    expect_rows(&rt, rt.alloc(), FLAT, A_FLAT_SET)
+fn rows_of_flat(rt: HostRuntime) -> Result<(), Fail> {
+    expect_rows(&rt, rt.alloc(), FLAT, &[A_FLAT_MESSAGE, A_FLAT_SET])
 }
 
 /// An entry of texts and one of numbers.
@@ -232,11 +227,6 @@ maps of three, one and two bytes, and a segment without a map | strict \
     /s u23=12 u24=13 u25=14 u26=15 u27=16 u28=17 /g u30=18 u38=19 u44=20 /m | between
 ";
 
-#[test]
-fn segments_come_back(rt: HostRuntime) -> Result<(), Fail> {
-    expect_rows(&rt, rt.alloc(), SEGMENTS, SEGMENTS_COME_BACK)
-}
-
 const MAPS_ARE_TAKEN: &str = "\
 a map of two bytes | strict | C0 81 80 80 25 C1 82 83 80 80 84 85 86 \
     | m0 g4 s6*0 /s /g /m m0 u0=1 u3=2 g4 s6*0 /s /g u30=3 u31=4 u37=5 /m | between
@@ -247,6 +237,11 @@ no bit but that of the identifier | strict | C0 81 80 80 | m0 g4 s6*0 /s /g /m |
 ";
 
 #[test]
-fn maps_are_taken(rt: HostRuntime) -> Result<(), Fail> {
-    expect_rows(&rt, rt.alloc(), SEGMENTS, MAPS_ARE_TAKEN)
+fn rows_of_segments(rt: HostRuntime) -> Result<(), Fail> {
+    expect_rows(
+        &rt,
+        rt.alloc(),
+        SEGMENTS,
+        &[SEGMENTS_COME_BACK, MAPS_ARE_TAKEN],
+    )
 }

@@ -167,11 +167,6 @@ a value in a default's place | strict | E0 88 85 | m7 u7=5 /m | between
 a negative value in a default's place | strict | E0 89 FF | m8 i8=-1 /m | between
 ";
 
-#[test]
-fn integers_without_an_entry(rt: HostRuntime) -> Result<(), Fail> {
-    expect_rows(&rt, rt.alloc(), WITHOUT_ENTRY, INTEGERS_WITHOUT_AN_ENTRY)
-}
-
 const INTEGERS_THAT_ARE_KEPT: &str = "\
 copy: a value that is sent is kept | strict | E0 81 85 C0 81 | m0 u0=5 /m m0 u0=5 /m | between
 copy: absent empties the entry | strict | E0 81 87 E0 82 80 C0 81 | m0 u0=7 /m m1 /m m0 | D6@8
@@ -188,11 +183,6 @@ delta: a base of another kind | strict | E0 83 87 C0 86 81 | m2 i2=7 /m m5 | D4@
 delta: signed, below 0 | strict | E0 83 87 C0 88 F8 C0 83 | m2 i2=7 /m m7 i7=-1 /m m2 i2=-1 /m | between
 ";
 
-#[test]
-fn integers_that_are_kept(rt: HostRuntime) -> Result<(), Fail> {
-    expect_rows(&rt, rt.alloc(), KEPT, INTEGERS_THAT_ARE_KEPT)
-}
-
 const DECIMALS_WITHOUT_AN_ENTRY: &str = "\
 a decimal | strict | C0 8A 82 39 45 A3 | m9 d9=942755e2 /m | between
 a decimal that may be absent | strict | C0 8B 83 39 45 A3 | m10 d10=942755e2 /m | between
@@ -201,11 +191,6 @@ a default decimal that is sent as absent | strict | E0 8C 80 | m11 /m | between
 an exponent past 63 | strict | C0 8A 00 C0 | m9 | R1@4
 an overlong mantissa | strict | C0 8A BF 00 81 | m9 | R6@5
 ";
-
-#[test]
-fn decimals_without_an_entry(rt: HostRuntime) -> Result<(), Fail> {
-    expect_rows(&rt, rt.alloc(), WITHOUT_ENTRY, DECIMALS_WITHOUT_AN_ENTRY)
-}
 
 const DECIMALS_THAT_ARE_KEPT: &str = "\
 copy: absent empties the entry | strict | E0 89 81 81 E0 8A 80 C0 89 | m8 d8=1e1 /m m9 /m m8 | D6@9
@@ -218,22 +203,12 @@ delta: an exponent past 63 | strict | E0 89 BF 85 C0 8B 81 | m8 d8=5e63 /m m10 |
 delta: a base of another kind | strict | E0 81 85 C0 8B 81 | m0 u0=5 /m m10 | D4@6
 ";
 
-#[test]
-fn decimals_that_are_kept(rt: HostRuntime) -> Result<(), Fail> {
-    expect_rows(&rt, rt.alloc(), KEPT, DECIMALS_THAT_ARE_KEPT)
-}
-
 const NOTHING_IS_SENT: &str = "\
 a constant | strict | C0 8D | m12 u12=7 /m | between
 a constant that is absent | strict | C0 8E | m13 /m | between
 a default | strict | C0 8F | m14 u14=7 /m | between
 no default | strict | C0 90 | m15 /m | between
 ";
-
-#[test]
-fn nothing_is_sent(rt: HostRuntime) -> Result<(), Fail> {
-    expect_rows(&rt, rt.alloc(), WITHOUT_ENTRY, NOTHING_IS_SENT)
-}
 
 const NOTHING_IS_SENT_OF_WHAT_IS_KEPT: &str = "\
 copy: the initial value is kept | strict | C0 8E C0 81 | m13 u13=7 /m m0 u0=7 /m | between
@@ -252,8 +227,17 @@ increment: behind the greatest of 64 bits the least | strict | E0 83 00 7F*8 FF 
 ";
 
 #[test]
-fn nothing_is_sent_of_what_is_kept(rt: HostRuntime) -> Result<(), Fail> {
-    expect_rows(&rt, rt.alloc(), KEPT, NOTHING_IS_SENT_OF_WHAT_IS_KEPT)
+fn rows_of_kept(rt: HostRuntime) -> Result<(), Fail> {
+    expect_rows(
+        &rt,
+        rt.alloc(),
+        KEPT,
+        &[
+            INTEGERS_THAT_ARE_KEPT,
+            DECIMALS_THAT_ARE_KEPT,
+            NOTHING_IS_SENT_OF_WHAT_IS_KEPT,
+        ],
+    )
 }
 
 const MANDATORY_INTEGERS: &str = "\
@@ -282,11 +266,6 @@ overlong | strict | C0 81 00 81 | m0 | R6@4
 an overlong exponent | strict | C0 8A 00 81 | m9 | R6@4
 ";
 
-#[test]
-fn mandatory_integers(rt: HostRuntime) -> Result<(), Fail> {
-    expect_rows(&rt, rt.alloc(), WITHOUT_ENTRY, MANDATORY_INTEGERS)
-}
-
 const NULLABLE_AND_SIGNED_INTEGERS: &str = "\
 absent | strict | C0 82 80 | m1 /m | between
 absent, in lenient mode | lenient | C0 82 80 | m1 /m | between
@@ -311,6 +290,17 @@ ten bytes of a negative integer without a stop bit, in lenient mode | lenient | 
 ";
 
 #[test]
-fn nullable_and_signed_integers(rt: HostRuntime) -> Result<(), Fail> {
-    expect_rows(&rt, rt.alloc(), WITHOUT_ENTRY, NULLABLE_AND_SIGNED_INTEGERS)
+fn rows_of_without_entry(rt: HostRuntime) -> Result<(), Fail> {
+    expect_rows(
+        &rt,
+        rt.alloc(),
+        WITHOUT_ENTRY,
+        &[
+            INTEGERS_WITHOUT_AN_ENTRY,
+            DECIMALS_WITHOUT_AN_ENTRY,
+            NOTHING_IS_SENT,
+            MANDATORY_INTEGERS,
+            NULLABLE_AND_SIGNED_INTEGERS,
+        ],
+    )
 }

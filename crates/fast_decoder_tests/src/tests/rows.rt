@@ -1,7 +1,7 @@
 //! Rows that are read from their lines.
 
-use super::{LENIENT, Standing, stopped_at};
-use fast_decoder::{Fault, FaultCode};
+use super::{LENIENT, Script, Standing, stopped_at};
+use fast_decoder::FaultCode;
 use fast_value::{Code, Limits};
 use std::alloc::Global;
 use std::test::Fail;
@@ -15,37 +15,65 @@ pub struct Row<'t> {
     pub bytes: &'t [u8],
     /// The events, as a `Script` writes them.
     pub events: &'t str,
-    /// What a decoder says behind them.
-    pub end: Standing,
+    /// The end, as `is_end` writes it.
+    pub end: &'t str,
 }
 
-/// The codes of faults.
-const CODES: [(&str, Code); 16] = [
-    ("D2", Code::D2),
-    ("D4", Code::D4),
-    ("D5", Code::D5),
-    ("D6", Code::D6),
-    ("D7", Code::D7),
-    ("D9", Code::D9),
-    ("R1", Code::R1),
-    ("R2", Code::R2),
-    ("R6", Code::R6),
-    ("R7", Code::R7),
-    ("R8", Code::R8),
-    ("R9", Code::R9),
-    ("L1", Code::L1),
-    ("L2", Code::L2),
-    ("L3", Code::L3),
-    ("L5", Code::L5),
-];
-
-fn code_of(word: &str) -> Option<Code> {
-    for (name, code) in CODES {
-        if name == word {
-            return Some(code);
-        }
+impl Row<'_> {
+    /// Whether a decoder that says this behind the bytes is at the end that is due.
+    pub fn is_end(self, heard: Standing) -> bool {
+        let mut script = Script::of(self.end);
+        let due = match heard.answer {
+            Ok(()) => {
+                script.write(if heard.between { b"between" } else { b"inside" });
+                fed(heard.between, self.bytes.len())
+            }
+            Err(fault) => {
+                script.write(name_of(fault.code));
+                script.write_number(b"@", fault.place);
+                stopped_at(fault)
+            }
+        };
+        heard == due && script.is_played()
     }
-    None
+}
+
+/// What a decoder says that has taken so many bytes.
+fn fed(between: bool, len: usize) -> Standing {
+    Standing {
+        answer: Ok(()),
+        fault: None,
+        between,
+        consumed: len as u64,
+    }
+}
+
+fn name_of(code: FaultCode) -> &'static [u8] {
+    match code {
+        FaultCode::Stream(code) => stream_name_of(code),
+        _ => b"another fault",
+    }
+}
+
+fn stream_name_of(code: Code) -> &'static [u8] {
+    match code {
+        Code::D2 => b"D2",
+        Code::D4 => b"D4",
+        Code::D5 => b"D5",
+        Code::D6 => b"D6",
+        Code::D7 => b"D7",
+        Code::D9 => b"D9",
+        Code::R1 => b"R1",
+        Code::R2 => b"R2",
+        Code::R6 => b"R6",
+        Code::R7 => b"R7",
+        Code::R8 => b"R8",
+        Code::R9 => b"R9",
+        Code::L1 => b"L1",
+        Code::L2 => b"L2",
+        Code::L3 => b"L3",
+        Code::L5 => b"L5",
+    }
 }
 
 /// The columns of a line.
@@ -85,19 +113,16 @@ fn set_limit(limits: &mut Limits, word: &str) -> Option<()> {
         Some(("elements", number)) => limits.max_elements = number.parse().ok()?,
         Some(("total", number)) => limits.max_total = number.parse().ok()?,
         Some(_) => return None,
-        None => limits.strict = is_first(word, "strict", "lenient")?,
+        None => limits.strict = is_strict(word)?,
     }
     Some(())
 }
 
-/// Whether a word is the first of two, if it is one of them.
-fn is_first(word: &str, first: &str, second: &str) -> Option<bool> {
-    if word == first {
-        Some(true)
-    } else if word == second {
-        Some(false)
-    } else {
-        None
+fn is_strict(word: &str) -> Option<bool> {
+    match word {
+        "strict" => Some(true),
+        "lenient" => Some(false),
+        _ => None,
     }
 }
 
@@ -122,33 +147,16 @@ pub fn bytes_of(alloc: Global, words: &str) -> Result<Vec<u8>, Fail> {
     Ok(bytes)
 }
 
-/// What a decoder says at this end, behind so many bytes.
-fn end_of(text: &str, len: usize) -> Option<Standing> {
-    match text.split_once('@') {
-        Some((code, place)) => Some(stopped_at(Fault {
-            code: FaultCode::Stream(code_of(code)?),
-            place: place.parse().ok()?,
-        })),
-        None => Some(Standing {
-            answer: Ok(()),
-            fault: None,
-            between: is_first(text, "between", "inside")?,
-            consumed: len as u64,
-        }),
-    }
-}
-
 /// The row of columns, with its bytes.
 pub fn row_of<'t>(columns: Columns<'t>, bytes: &'t [u8]) -> Result<Row<'t>, Fail> {
-    let (Some(limits), Some(end)) = (limits_of(columns.limits), end_of(columns.end, bytes.len()))
-    else {
-        return Err(Fail::new("no limits, or no end"));
+    let Some(limits) = limits_of(columns.limits) else {
+        return Err(Fail::new("no limits"));
     };
     Ok(Row {
         name: columns.name,
         limits,
         bytes,
         events: columns.events,
-        end,
+        end: columns.end,
     })
 }

@@ -90,12 +90,6 @@ sent, absent, empty, not sent, put in front | strict \
     m1 a8='CD' a11='WX' /m m1 a8='CD' a10='VIZ' a11='WX' /m | between
 ";
 
-/// Text after text under each operator.
-#[test]
-fn ascii(rt: HostRuntime) -> Result<(), Fail> {
-    expect_rows(&rt, rt.alloc(), OPERATORS, ASCII)
-}
-
 const UNICODE: &str = "\
 sent, not sent, cut at the front, cut to nothing | strict \
     | F8 83 82 C3 A9 82 45 46 82 47 48 80 82 49 4A 83 4B 4C 4D 80 80 81 81 5A 88 81 41 FE 81 51 81 4E 88 81 41 82 80 \
@@ -109,12 +103,6 @@ sent, absent, empty, not sent, put in front | strict \
     | m3 t18='é' t19='AB' t21='GH' t22='IJ' t23='KLM' /m m3 t18='' t20='CD' t21='GH' t23='KLM' /m m3 t20='CD' \
     t22='IZ' /m m3 t20='CD' t23='WX' /m m3 t20='CD' t22='VIZ' t23='WX' /m | between
 ";
-
-/// Text after text under each operator.
-#[test]
-fn unicode(rt: HostRuntime) -> Result<(), Fail> {
-    expect_rows(&rt, rt.alloc(), OPERATORS, UNICODE)
-}
 
 const BYTES: &str = "\
 sent, not sent, cut at the front, cut to nothing | strict \
@@ -130,10 +118,9 @@ sent, absent, empty, not sent, put in front | strict \
     b34=495A /m m5 b32=C0 b35=5758 /m m5 b32=C0 b34=56495A b35=5758 /m | between
 ";
 
-/// Text after text under each operator.
 #[test]
-fn bytes(rt: HostRuntime) -> Result<(), Fail> {
-    expect_rows(&rt, rt.alloc(), OPERATORS, BYTES)
+fn rows_of_operators(rt: HostRuntime) -> Result<(), Fail> {
+    expect_rows(&rt, rt.alloc(), OPERATORS, &[ASCII, UNICODE, BYTES])
 }
 
 /// Texts under one key: of several operators, and of several kinds.
@@ -188,11 +175,6 @@ a vector that fits behind its base | lenient text=16 | C0 87 80 83 09 08 07 80 8
 a size without room behind the base | lenient text=16 | C0 87 80 83 09 08 07 80 80 8E | m6 b6=090807 /m m6 | L1@10
 ";
 
-#[test]
-fn the_room_behind_a_base(rt: HostRuntime) -> Result<(), Fail> {
-    expect_rows(&rt, rt.alloc(), SHARED, THE_ROOM_BEHIND_A_BASE)
-}
-
 const BASES: &str = "\
 an initial value is the base of a delta and of a tail | strict | C0 88 82 C1 80 FF C2 \
     | m7 a7='WXA' a8='WXYZ' /m m7 a7='BWXA' a8='WXYZ' /m | between
@@ -214,6 +196,6 @@ a copy that is sent takes the place of another kind | lenient | E0 85 83 42 43 E
 ";
 
 #[test]
-fn bases(rt: HostRuntime) -> Result<(), Fail> {
-    expect_rows(&rt, rt.alloc(), SHARED, BASES)
+fn rows_of_shared(rt: HostRuntime) -> Result<(), Fail> {
+    expect_rows(&rt, rt.alloc(), SHARED, &[THE_ROOM_BEHIND_A_BASE, BASES])
 }

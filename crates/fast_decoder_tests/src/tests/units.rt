@@ -63,11 +63,6 @@ room for none | lenient text=16 | C0 85 80 C1 | m4 | L1@4
 room for none, and none comes | lenient text=16 | C0 85 80 80 | m4 a4='ABCDEFGHIJKLMNOP' /m | between
 ";
 
-#[test]
-fn texts(rt: HostRuntime) -> Result<(), Fail> {
-    expect_rows(&rt, rt.alloc(), UNITS, TEXTS)
-}
-
 const RUNS_OF_BYTES: &str = "\
 three bytes, and one behind them | lenient text=16 | C0 86 83 00 80 FF 80 81 41 | m5 b5=0080FF /m m5 b5=41 /m \
     | between
@@ -75,6 +70,6 @@ four bytes of five | lenient text=16 | C0 86 85 00 80 FF 41 | m5 | inside
 ";
 
 #[test]
-fn runs_of_bytes(rt: HostRuntime) -> Result<(), Fail> {
-    expect_rows(&rt, rt.alloc(), UNITS, RUNS_OF_BYTES)
+fn rows_of_units(rt: HostRuntime) -> Result<(), Fail> {
+    expect_rows(&rt, rt.alloc(), UNITS, &[TEXTS, RUNS_OF_BYTES])
 }

@@ -96,11 +96,6 @@ a template that makes all previous values undefined but the identifier's | lenie
     | m5 u6=0 /m m8 /m m8 /m m5 /m | between
 ";
 
-#[test]
-fn messages(rt: HostRuntime) -> Result<(), Fail> {
-    expect_rows(&rt, rt.alloc(), WORKED, MESSAGES)
-}
-
 /// A message with a group and two elements.
 pub const LONG: &[u8] = &[
     0xE0, 0x8F, 0x85, 0x82, 0x01, 0xFF, 0x83, 0xC0, 0x41, 0xC2, 0x00, 0xE4, 0x80, 0xFE,
@@ -128,11 +123,6 @@ an overlong integer | lenient | C0 81 00 81 | m0 u0=1 /m | between
 an overlong integer is refused | strict | C0 81 00 81 | m0 | R6@4
 ";
 
-#[test]
-fn integers(rt: HostRuntime) -> Result<(), Fail> {
-    expect_rows(&rt, rt.alloc(), WORKED, INTEGERS)
-}
-
 const PRESENCE_MAPS: &str = "\
 a map with seven bits to spare | lenient | 40 80 81 81 | m0 u0=1 /m | between
 a map with seven bits to spare is refused | strict | 40 80 81 81 | | R7@2
@@ -141,11 +131,6 @@ a map wider than its segment is refused | strict | 40 81 81 81 | | R8@3
 thirty-two bytes of a map | lenient | 00*32 | | inside
 a map that never stops | lenient | 00*146 | | L3@146
 ";
-
-#[test]
-fn presence_maps(rt: HostRuntime) -> Result<(), Fail> {
-    expect_rows(&rt, rt.alloc(), WORKED, PRESENCE_MAPS)
-}
 
 const NUMBERS_WITH_OPERATORS: &str = "\
 after the greatest value comes the least | lenient | E0 85 0F 7F 7F 7F FF 80 80 \
@@ -157,11 +142,6 @@ a delta, none, and one more | lenient | C0 90 86 80 80 80 82 | m15 i21=5 /m m15 
 a delta past every type | lenient | C0 90 3F 7F*8 FF | m15 | D2@12
 ";
 
-#[test]
-fn numbers_with_operators(rt: HostRuntime) -> Result<(), Fail> {
-    expect_rows(&rt, rt.alloc(), WORKED, NUMBERS_WITH_OPERATORS)
-}
-
 const DECIMALS: &str = "\
 a decimal, and one with an exponent out of range | lenient | C0 92 FF 8F 80 80 BF 81 81 85 80 00 C0 \
     | m17 d23=15e-1 /m m17 d23=1e63 d24=5e0 /m m17 | R1@13
@@ -169,11 +149,6 @@ an absent exponent leaves the next bit to the next field | lenient | F0 87 80 85
 a decimal by parts | lenient | F8 87 FF 8F 85 | m6 d7=15e-1 u8=5 /m | between
 an exponent by parts out of range | lenient | F8 87 00 C1 | m6 | R1@4
 ";
-
-#[test]
-fn decimals(rt: HostRuntime) -> Result<(), Fail> {
-    expect_rows(&rt, rt.alloc(), WORKED, DECIMALS)
-}
 
 const ASCII_TEXTS: &str = "\
 a tail replaces the end of the base, or nothing | lenient | E0 83 41 42 43 44 C5 A0 58 D9 80 \
@@ -191,11 +166,6 @@ the longest text | lenient text=16 | C0 93 41*15 C1 | m18 a25='AAAAAAAAAAAAAAAA'
 a text longer than the limit | lenient text=16 | C0 93 41*17 | m18 | L1@19
 ";
 
-#[test]
-fn ascii_texts(rt: HostRuntime) -> Result<(), Fail> {
-    expect_rows(&rt, rt.alloc(), WORKED, ASCII_TEXTS)
-}
-
 const VECTORS: &str = "\
 a text of two bytes | lenient text=16 | C0 88 82 C3 A9 | m7 t9='é' /m | between
 the longest text | lenient text=16 | C0 88 90 41*16 | m7 t9='AAAAAAAAAAAAAAAA' /m | between
@@ -207,11 +177,6 @@ a delta whose part is no UTF-8 by itself | lenient | C0 91 80 82 C3 A9 80 81 81 
     | between
 a delta that leaves no UTF-8 | lenient | C0 91 80 82 C3 A9 80 81 80 | m16 t22='é' /m m16 | R2@9
 ";
-
-#[test]
-fn vectors(rt: HostRuntime) -> Result<(), Fail> {
-    expect_rows(&rt, rt.alloc(), WORKED, VECTORS)
-}
 
 const GROUPS_AND_SEQUENCES: &str = "\
 a field, a group and two elements | lenient | E0 8F 85 82 01 FF 83 C0 41 C2 00 E4 80 FE \
@@ -225,8 +190,22 @@ elements that take no byte | lenient | C0 82 82 | m1 s1*2 e u2=7 /e e u2=7 /e /s
 ";
 
 #[test]
-fn groups_and_sequences(rt: HostRuntime) -> Result<(), Fail> {
-    expect_rows(&rt, rt.alloc(), WORKED, GROUPS_AND_SEQUENCES)
+fn rows_of_worked(rt: HostRuntime) -> Result<(), Fail> {
+    expect_rows(
+        &rt,
+        rt.alloc(),
+        WORKED,
+        &[
+            MESSAGES,
+            INTEGERS,
+            PRESENCE_MAPS,
+            NUMBERS_WITH_OPERATORS,
+            DECIMALS,
+            ASCII_TEXTS,
+            VECTORS,
+            GROUPS_AND_SEQUENCES,
+        ],
+    )
 }
 
 /// How many events the message is to have handed over behind each of its bytes.
@@ -273,5 +252,5 @@ texts that are not sent | strict | C0 82 | m1 a3='AB' b4=01FF /m | between
 
 #[test]
 fn initial_values(rt: HostRuntime) -> Result<(), Fail> {
-    expect_rows(&rt, rt.alloc(), INITIAL, INITIAL_VALUES)
+    expect_rows(&rt, rt.alloc(), INITIAL, &[INITIAL_VALUES])
 }
