@@ -1,9 +1,18 @@
 //! Streams with the events and the fault that come of them, however they are cut.
+//!
+//! A table is a text, which costs the prover nothing, and each of its lines is a row:
+//!
+//!     what it shows | the limits | the bytes | the events | the end
+//!
+//! The limits are `lenient` or `strict`, and behind it each limit that is not the usual one, as `text=16`, `elements=2`
+//! or `total=2`. A byte is two digits, and `00*146` stands for 146 bytes. The events are as `Script` writes them. The
+//! end is `between` two messages, `inside` a message, or a fault with its place, as `D9@2`.
 
 mod faults;
 mod limits;
 mod maps;
 mod numbers;
+mod rows;
 mod sinks;
 mod texts;
 mod units;
@@ -11,9 +20,11 @@ mod worked;
 
 ghost use Rattle.std.specs.Prelude.{◌<◌};
 
-use fast_decoder::{Decoder, Event, Fault, FaultCode, MakeError, Sink, Stop};
+use fast_decoder::{Decoder, Event, Fault, MakeError, Sink, Stop};
 use fast_template::Templates;
-use fast_value::{Code, Limits, Scalar};
+use fast_value::{Limits, Scalar};
+use itoa::{Buffer, Integer};
+use rows::{Columns, Row, bytes_of, row_of};
 use std::alloc::Global;
 use std::process::Abort;
 use std::test::Fail;
@@ -31,93 +42,23 @@ const STRICT: Limits = Limits {
     ..LENIENT
 };
 
-/// Texts of at most 16 bytes, the least limit.
-const SHORT: Limits = Limits {
-    max_text: 16,
-    ..LENIENT
-};
-
-/// An event that a stream should give. Numbers come first: of a template or of a node.
-#[derive(Clone, Copy)]
-enum Due {
-    Message(u32),
-    U(u32, u64),
-    I(u32, i64),
-    /// An exponent and a mantissa.
-    Dec(u32, i32, i64),
-    Ascii(u32, &'static [u8]),
-    Unicode(u32, &'static [u8]),
-    Bytes(u32, &'static [u8]),
-    Group(u32),
-    EndGroup,
-    /// A node, and how many elements follow.
-    Sequence(u32, u32),
-    Element,
-    EndElement,
-    EndSequence,
-    EndMessage,
-}
-
-/// How a stream should end.
-#[derive(Clone, Copy, PartialEq)]
-enum End {
-    /// Between two messages.
-    Between,
-    /// Inside a message.
-    Inside,
-    /// At a fault, with so many bytes consumed.
-    Wrong(Code, u64),
-}
-
-/// A stream, and what should come of it: what it shows, the limits, the bytes, the events and the end.
-#[derive(Clone, Copy)]
-struct Row<'b>(&'static str, Limits, &'b [u8], &'static [Due], End);
-
-/// Whether an event is the one that is due.
-fn is_due(due: Due, event: Event<'_>) -> bool {
-    match (due, event) {
-        (Due::Message(number), Event::MessageStart { template }) => number == template,
-        (Due::Group(number), Event::GroupStart { node }) => number == node,
-        (Due::Sequence(number, many), Event::SequenceStart { node, count }) => {
-            number == node && many == count
-        }
-        (Due::EndGroup, Event::GroupEnd)
-        | (Due::Element, Event::ElementStart)
-        | (Due::EndElement, Event::ElementEnd)
-        | (Due::EndSequence, Event::SequenceEnd)
-        | (Due::EndMessage, Event::MessageEnd) => true,
-        (due, Event::Field { node, value }) => is_due_value(due, node, value),
-        _ => false,
-    }
-}
-
-/// Whether the value of a node is the one that is due.
-fn is_due_value(due: Due, node: u32, value: Scalar<'_>) -> bool {
-    match (due, value) {
-        (Due::U(number, x), Scalar::U(y)) => number == node && x == y,
-        (Due::I(number, x), Scalar::I(y)) => number == node && x == y,
-        (Due::Dec(number, e, m), Scalar::Dec { exponent, mantissa }) => {
-            number == node && e == exponent && m == mantissa
-        }
-        (Due::Ascii(number, x), Scalar::Ascii(y))
-        | (Due::Unicode(number, x), Scalar::Unicode(y))
-        | (Due::Bytes(number, x), Scalar::Bytes(y)) => number == node && x == y,
-        _ => false,
-    }
-}
-
-/// A sink that compares each event with the one that is due. It takes no memory.
+/// A sink that writes each event, and compares what it writes with the text that is due. It takes no memory.
+///
+/// An event is `m` and the number of a template, or a letter and the number of a node: `g` for a group, `s` for a
+/// sequence, behind which `*` and the count stand, and for a field `u`, `i` or `d` with a number, `a` or `t` (Unicode)
+/// with a text, or `b` with bytes. `e` is an element, and `/m`, `/g`, `/s` and `/e` are ends.
 #[derive(Drop)]
-struct Script {
-    due: &'static [Due],
+struct Script<'t> {
+    /// What is still due.
+    due: &'t [u8],
     taken: usize,
     same: bool,
 }
 
-impl Script {
-    fn of(due: &'static [Due]) -> Script {
+impl Script<'_> {
+    fn of(events: &str) -> Script<'_> {
         Script {
-            due,
+            due: events.as_bytes(),
             taken: 0,
             same: true,
         }
@@ -125,20 +66,98 @@ impl Script {
 
     /// Whether all that was due was taken, and nothing else.
     fn is_played(&self) -> bool {
-        self.same && self.taken == self.due.len()
+        self.same && self.due.is_empty()
+    }
+
+    fn write(&mut self, piece: &[u8]) {
+        match self.due.strip_prefix(piece) {
+            Some(rest) => self.due = rest,
+            None => self.same = false,
+        }
+    }
+
+    /// Writes a number behind a word.
+    fn write_number<I: Integer>(&mut self, word: &[u8], number: I) {
+        self.write(word);
+        self.write(Buffer::new().format(number).as_bytes());
+    }
+
+    fn write_quoted(&mut self, text: &[u8]) {
+        self.write(b"='");
+        self.write(text);
+        self.write(b"'");
+    }
+
+    fn write_bytes(&mut self, bytes: &[u8]) {
+        self.write(b"=");
+        for byte in bytes {
+            self.write(&[digit_of(*byte / 16), digit_of(*byte % 16)]);
+        }
+    }
+
+    fn write_field(&mut self, node: u32, value: Scalar<'_>) {
+        self.write_number(letter_of(value), node);
+        match value {
+            Scalar::U(number) => self.write_number(b"=", number),
+            Scalar::I(number) => self.write_number(b"=", number),
+            Scalar::Dec { exponent, mantissa } => {
+                self.write_number(b"=", mantissa);
+                self.write_number(b"e", exponent);
+            }
+            Scalar::Ascii(text) | Scalar::Unicode(text) => self.write_quoted(text),
+            Scalar::Bytes(bytes) => self.write_bytes(bytes),
+        }
+    }
+
+    fn write_event(&mut self, event: Event<'_>) {
+        match event {
+            Event::MessageStart { template } => self.write_number(b"m", template),
+            Event::Field { node, value } => self.write_field(node, value),
+            Event::GroupStart { node } => self.write_number(b"g", node),
+            Event::GroupEnd => self.write(b"/g"),
+            Event::SequenceStart { node, count } => {
+                self.write_number(b"s", node);
+                self.write_number(b"*", count);
+            }
+            Event::ElementStart => self.write(b"e"),
+            Event::ElementEnd => self.write(b"/e"),
+            Event::SequenceEnd => self.write(b"/s"),
+            Event::MessageEnd => self.write(b"/m"),
+        }
     }
 }
 
-impl Sink for Script {
+/// A digit of a byte.
+fn digit_of(half: u8) -> u8 {
+    b"0123456789ABCDEF"
+        .get(usize::from(half))
+        .copied()
+        .unwrap_or(b'?')
+}
+
+/// The letter of a field with this value.
+fn letter_of(value: Scalar<'_>) -> &'static [u8] {
+    match value {
+        Scalar::U(_) => b"u",
+        Scalar::I(_) => b"i",
+        Scalar::Dec { .. } => b"d",
+        Scalar::Ascii(_) => b"a",
+        Scalar::Unicode(_) => b"t",
+        Scalar::Bytes(_) => b"b",
+    }
+}
+
+impl Sink for Script<'_> {
     ghost takes = { λ _ _ _. Unit {0} };
 
     ghost stops = { λ _ _ _. Unit {0} };
 
     fn take(&mut self, event: Event<'_>) -> Result<(), Stop> {
-        match self.due.get(self.taken) {
-            Some(due) if is_due(*due, event) => self.taken += 1,
-            _ => self.same = false,
+        if self.taken > 0 {
+            self.write(b" ");
         }
+        self.write_event(event);
+        self.taken = self.taken.saturating_add(1);
         Ok(())
     }
 }
@@ -161,28 +180,36 @@ fn standing_of(decoder: &Decoder<'_>, answer: Result<(), Fault>) -> Standing {
     }
 }
 
-/// What a decoder should say behind the bytes of a row.
-fn due_of(bytes: &[u8], end: End) -> Standing {
-    match end {
-        End::Wrong(code, place) => {
-            let fault = Fault {
-                code: FaultCode::Stream(code),
-                place,
-            };
-            Standing {
-                answer: Err(fault),
-                fault: Some(fault),
-                between: false,
-                consumed: place,
-            }
-        }
-        end => Standing {
-            answer: Ok(()),
-            fault: None,
-            between: end == End::Between,
-            consumed: bytes.len() as u64,
-        },
+/// What a decoder says that has stopped with this fault, behind the bytes of its place.
+fn stopped_at(fault: Fault) -> Standing {
+    Standing {
+        answer: Err(fault),
+        fault: Some(fault),
+        between: false,
+        consumed: fault.place,
     }
+}
+
+/// Feeds a piece. Without a contract, so that a call is cheap to prove, as those of the next functions.
+fn feed<S: Sink>(decoder: &mut Decoder<'_>, piece: &[u8], sink: &mut S) -> Result<(), Fault> {
+    decoder.feed(piece, sink)
+}
+
+fn push<S: Sink>(decoder: &mut Decoder<'_>, byte: u8, sink: &mut S) -> Result<(), Fault> {
+    decoder.push(byte, sink)
+}
+
+fn set_of(alloc: Global, text: &str) -> Result<Templates, Fail> {
+    Ok(Templates::read(alloc, text)?)
+}
+
+fn decoder_of(alloc: Global, set: &Templates, limits: Limits) -> Result<Decoder<'_>, MakeError> {
+    Decoder::new(alloc, set, limits)
+}
+
+/// One comparison, of what a test names so.
+fn expect(rt: &impl Abort, is_right: bool, of: &str, at: usize) {
+    assert!(rt; is_right, "{of} ({at})");
 }
 
 /// Feeds the bytes in pieces of this size, as far as there is no fault.
@@ -197,7 +224,7 @@ fn feed_pieces<S: Sink>(
     let mut answer = Ok(());
     for piece in bytes.chunks(size) {
         if answer.is_ok() {
-            answer = decoder.feed(piece, sink);
+            answer = feed(decoder, piece, sink);
         }
     }
     standing_of(decoder, answer)
@@ -208,7 +235,7 @@ fn push_all<S: Sink>(decoder: &mut Decoder<'_>, bytes: &[u8], sink: &mut S) -> S
     let mut answer = Ok(());
     for byte in bytes {
         if answer.is_ok() {
-            answer = decoder.push(*byte, sink);
+            answer = push(decoder, *byte, sink);
         }
     }
     standing_of(decoder, answer)
@@ -221,10 +248,14 @@ fn feed_cut<S: Sink>(
     cut: usize,
     sink: &mut S,
 ) -> Standing {
-    let (front, rest) = bytes.split_at(cut.min(bytes.len()));
-    let mut answer = decoder.feed(front, sink);
-    if answer.is_ok() {
-        answer = decoder.feed(rest, sink);
+    let mut answer = Ok(());
+    if cut <= bytes.len() {
+        let (front, rest) = bytes.split_at(cut);
+        for piece in [front, rest] {
+            if answer.is_ok() {
+                answer = feed(decoder, piece, sink);
+            }
+        }
     }
     standing_of(decoder, answer)
 }
@@ -233,71 +264,85 @@ fn feed_cut<S: Sink>(
 fn is_played_in_pieces(decoder: &mut Decoder<'_>, row: Row<'_>, size: usize) -> bool
     requires { 0 < size }
 {
-    let Row(_, _, bytes, events, end) = row;
-    let due = due_of(bytes, end);
-    let mut script = Script::of(events);
+    let mut script = Script::of(row.events);
     decoder.reset();
-    let heard = feed_pieces(decoder, bytes, size, &mut script);
-    let is_played = heard == due && script.is_played();
-    if due.fault.is_none() {
+    let heard = feed_pieces(decoder, row.bytes, size, &mut script);
+    let is_played = row.is_end(heard) && script.is_played();
+    if heard.fault.is_none() {
         return is_played;
     }
-    let again = decoder.feed(&[0xC0, 0x81, 0x81], &mut script);
-    is_played && standing_of(decoder, again) == due && script.is_played()
+    let again = feed(decoder, &[0xC0, 0x81, 0x81], &mut script);
+    is_played && standing_of(decoder, again) == heard && script.is_played()
 }
 
 /// Whether the row comes of its bytes one after the other.
 fn is_played_by_bytes(decoder: &mut Decoder<'_>, row: Row<'_>) -> bool {
-    let Row(_, _, bytes, events, end) = row;
-    let mut script = Script::of(events);
+    let mut script = Script::of(row.events);
     decoder.reset();
-    push_all(decoder, bytes, &mut script) == due_of(bytes, end) && script.is_played()
+    row.is_end(push_all(decoder, row.bytes, &mut script)) && script.is_played()
 }
 
 /// Whether the row comes of its bytes in two pieces.
 fn is_played_cut(decoder: &mut Decoder<'_>, row: Row<'_>, cut: usize) -> bool {
-    let Row(_, _, bytes, events, end) = row;
-    let mut script = Script::of(events);
+    let mut script = Script::of(row.events);
     decoder.reset();
-    feed_cut(decoder, bytes, cut, &mut script) == due_of(bytes, end) && script.is_played()
+    row.is_end(feed_cut(decoder, row.bytes, cut, &mut script)) && script.is_played()
 }
 
 /// A row that is fed to a decoder, reset before each time: whole, in pieces, and byte after byte. No memory is taken.
 fn expect_row(rt: &impl Abort, decoder: &mut Decoder<'_>, row: Row<'_>) {
     for size in [1, 2, 3, 16, 17, 4096] {
         let is_played = is_played_in_pieces(decoder, row, size);
-        assert!(rt; is_played, "{} by {size}", row.0);
+        expect(rt, is_played, row.name, size);
     }
     let is_played = is_played_by_bytes(decoder, row);
-    assert!(rt; is_played, "{} by push", row.0);
+    expect(rt, is_played, row.name, 0);
 }
 
 /// A row that is cut once, at each of its bytes.
 fn expect_row_cut(rt: &impl Abort, decoder: &mut Decoder<'_>, row: Row<'_>) {
-    for cut in 0..row.2.len() {
+    for cut in 0..row.bytes.len() {
         let is_played = is_played_cut(decoder, row, cut);
-        assert!(rt; is_played, "{} cut at {cut}", row.0);
+        expect(rt, is_played, row.name, cut);
     }
 }
 
-/// A row comes of the template set.
-fn expect_of(
+/// The row on a line comes of a decoder, whole, in pieces, and byte after byte.
+fn expect_line(
+    rt: &impl Abort,
+    alloc: Global,
+    decoder: &mut Decoder<'_>,
+    line: &str,
+) -> Result<(), Fail> {
+    let columns = Columns::of(line);
+    let bytes = bytes_of(alloc, columns.bytes)?;
+    expect_row(rt, decoder, row_of(columns, &bytes)?);
+    Ok(())
+}
+
+/// The row on a line comes of the template set, however it is cut.
+fn expect_line_cut(
     rt: &impl Abort,
     alloc: Global,
     set: &Templates,
-    row: Row<'_>,
-) -> Result<(), MakeError> {
-    let mut decoder = Decoder::new(alloc, set, row.1)?;
+    line: &str,
+) -> Result<(), Fail> {
+    let columns = Columns::of(line);
+    let bytes = bytes_of(alloc, columns.bytes)?;
+    let row = row_of(columns, &bytes)?;
+    let mut decoder = decoder_of(alloc, set, row.limits)?;
     expect_row(rt, &mut decoder, row);
     expect_row_cut(rt, &mut decoder, row);
     Ok(())
 }
 
-/// Each row comes of the template set with this text.
-fn expect_rows(rt: &impl Abort, alloc: Global, text: &str, rows: &[Row<'_>]) -> Result<(), Fail> {
-    let set = Templates::read(alloc, text)?;
-    for row in rows {
-        expect_of(rt, alloc, &set, *row)?;
+/// Each row of the tables comes of the template set with this text.
+fn expect_rows(rt: &impl Abort, alloc: Global, text: &str, tables: &[&str]) -> Result<(), Fail> {
+    let set = set_of(alloc, text)?;
+    for table in tables {
+        for line in table.lines() {
+            expect_line_cut(rt, alloc, &set, line)?;
+        }
     }
     Ok(())
 }

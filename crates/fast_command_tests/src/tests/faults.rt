@@ -1,10 +1,20 @@
 //! How a run ends: the status, and the line for standard error.
 
+use super::expect;
 use fast_command::{RunFault, ShowEnd, report};
 use fast_decoder::{Fault, FaultCode, MakeError};
 use fast_template::{StaticCode, StaticFault};
 use fast_text::ToBytes;
 use fast_value::Code;
+use std::process::Abort;
+
+/// An end has this status and this line.
+fn expect_report(rt: &impl Abort, ending: Result<ShowEnd, RunFault>, status: u8, line: &str) {
+    let mut cells = [0; 64];
+    let mut target = ToBytes::new(&mut cells);
+    let is_right = report(&ending, &mut target) == status && target.bytes() == line.as_bytes();
+    expect(rt, is_right, line, usize::from(status));
+}
 
 #[test]
 fn each_end_has_its_status_and_its_line(rt: HostRuntime) {
@@ -12,62 +22,51 @@ fn each_end_has_its_status_and_its_line(rt: HostRuntime) {
         code: FaultCode::Stream(Code::D9),
         place: 2,
     };
-    for (ending, status, line) in [
-        (Ok(ShowEnd::Good), 0, b"".as_slice()),
-        (Ok(ShowEnd::Faulted(fault)), 1, b"".as_slice()),
-        (Ok(ShowEnd::Truncated(1)), 1, b"".as_slice()),
-        (
-            Err(RunFault::Templates(StaticFault {
-                code: StaticCode::S2,
-                template: Some(0),
-            })),
-            2,
-            b"fastcat: templates S2 in template 0\n".as_slice(),
-        ),
-        (
-            Err(RunFault::Templates(StaticFault {
-                code: StaticCode::S1,
-                template: None,
-            })),
-            2,
-            b"fastcat: templates S1\n".as_slice(),
-        ),
-        (
-            Err(RunFault::Make(MakeError::BadLimits)),
-            2,
-            b"fastcat: limits 1\n".as_slice(),
-        ),
-        (
-            Err(RunFault::Make(MakeError::InitialTooLong)),
-            2,
-            b"fastcat: limits 2\n".as_slice(),
-        ),
-        (
-            Err(RunFault::Read),
-            3,
-            b"fastcat: reading failed\n".as_slice(),
-        ),
-        (
-            Err(RunFault::Write),
-            3,
-            b"fastcat: writing failed\n".as_slice(),
-        ),
-        (
-            Err(RunFault::BadHex(4)),
-            3,
-            b"fastcat: hex at 4\n".as_slice(),
-        ),
-        (Err(RunFault::Memory), 3, b"fastcat: no memory\n".as_slice()),
+    for ending in [
+        ShowEnd::Good,
+        ShowEnd::Faulted(fault),
+        ShowEnd::Truncated(1),
     ] {
-        let mut cells = [0; 64];
-        let mut target = ToBytes::new(&mut cells);
-        assert_eq!(rt; report(&ending, &mut target), status);
-        assert_eq!(rt; target.bytes(), line);
+        let status = if ending == ShowEnd::Good { 0 } else { 1 };
+        expect_report(&rt, Ok(ending), status, "");
+    }
+    let in_template = StaticFault {
+        code: StaticCode::S2,
+        template: Some(0),
+    };
+    let in_text = StaticFault {
+        code: StaticCode::S1,
+        template: None,
+    };
+    for (fault, status, line) in [
+        (
+            RunFault::Templates(in_template),
+            2,
+            "fastcat: templates S2 in template 0\n",
+        ),
+        (RunFault::Templates(in_text), 2, "fastcat: templates S1\n"),
+        (
+            RunFault::Make(MakeError::BadLimits),
+            2,
+            "fastcat: limits 1\n",
+        ),
+        (
+            RunFault::Make(MakeError::InitialTooLong),
+            2,
+            "fastcat: limits 2\n",
+        ),
+        (RunFault::Read, 3, "fastcat: reading failed\n"),
+        (RunFault::Write, 3, "fastcat: writing failed\n"),
+        (RunFault::BadHex(4), 3, "fastcat: hex at 4\n"),
+        (RunFault::Memory, 3, "fastcat: no memory\n"),
+    ] {
+        expect_report(&rt, Err(fault), status, line);
     }
 }
 
 #[test]
 fn a_status_does_not_need_its_line(rt: HostRuntime) {
     let mut target = ToBytes::new(&mut []);
-    assert_eq!(rt; report(&Err(RunFault::Read), &mut target), 3);
+    let status = report(&Err(RunFault::Read), &mut target);
+    expect(&rt, status == 3, "without a line", 3);
 }

@@ -1,147 +1,233 @@
 //! Streams as lines.
 
-ghost use Rattle.std.specs.Prelude.{None, false};
-
+use super::sinks::{Drip, Flushed, Lines};
+use super::{LENIENT, expect, set_of};
 use fast_command::{RunFault, ShowEnd, built_in, run_show};
-use fast_decoder::{Fault, FaultCode, MakeError};
 use fast_template::Templates;
-use fast_text::{Failed, FromBytes, Source, Target, ToBytes};
-use fast_value::{Code, Limits};
-use std::alloc::Global;
+use fast_text::{FromBytes, Source, Target, ToBytes};
+use fast_value::Limits;
+use std::alloc::{AllocError, Global};
+use std::process::Abort;
 use std::test::Fail;
-
-const LENIENT: Limits = Limits {
-    strict: false,
-    max_text: 1024,
-    max_elements: 1000,
-    max_total: 1000,
-};
 
 const STRICT: Limits = Limits {
     strict: true,
-    max_text: 1024,
-    max_elements: 1000,
-    max_total: 1000,
+    ..LENIENT
 };
 
 const SHORT: Limits = Limits {
-    strict: false,
     max_text: 15,
-    max_elements: 1000,
-    max_total: 1000,
+    ..LENIENT
 };
 
+const SET: &str = "[[template]]\nname = 'T1'\nid = 1\nfields = [{kind='uInt32', name='x'}]";
+
+/// The lines of the stream C0 81 39 45 A3.
 const ROW_1: &str = "message T1\nfield 0 x u 942755\nend message\n";
 
-fn set(alloc: Global) -> Result<Templates, Fail> {
-    let text = "[[template]]\nname = 'T1'\nid = 1\nfields = [{kind='uInt32', name='x'}]";
-    Ok(Templates::read(alloc, text)?)
+/// The bytes of a stream, and whether they are hexadecimal digits.
+#[derive(Clone, Copy)]
+struct Stream<'b> {
+    bytes: &'b [u8],
+    is_hex: bool,
 }
 
-fn fault(code: Code, place: u64) -> Result<ShowEnd, RunFault> {
-    let code = FaultCode::Stream(code);
-    Ok(ShowEnd::Faulted(Fault { code, place }))
+/// Shows a stream, in at most so many reads.
+fn show<S: Source, T: Target>(
+    alloc: Global,
+    set: &Templates,
+    limits: Limits,
+    is_hex: bool,
+    max_reads: u32,
+    source: &mut S,
+    target: &mut T,
+) -> Result<ShowEnd, RunFault> {
+    run_show(
+        alloc,
+        set,
+        limits,
+        is_hex,
+        u64::from(max_reads),
+        source,
+        target,
+    )
 }
+
+/// A stream has this end, as `Debug` writes it, and these lines. What `show` gives behind them is an end of line.
+fn expect_shown(
+    rt: &impl Abort,
+    alloc: Global,
+    set: &Templates,
+    limits: Limits,
+    stream: Stream<'_>,
+    end: &str,
+    lines: &str,
+) -> Result<(), Fail> {
+    let mut cells = [0; 512];
+    let mut target = ToBytes::new(&mut cells);
+    let mut source = FromBytes::new(stream.bytes);
+    let found = show(
+        alloc,
+        set,
+        limits,
+        stream.is_hex,
+        100,
+        &mut source,
+        &mut target,
+    );
+    let found = format!(in alloc; "{found:?}")?;
+    let shown = target.bytes();
+    let has_lines = match shown.strip_suffix(b"\n") {
+        Some(shown) => shown == lines.as_bytes(),
+        None => shown.is_empty() && lines.is_empty(),
+    };
+    expect(rt, has_lines && found.as_str() == end, lines, shown.len());
+    Ok(())
+}
+
+/// Takes the next column of a row.
+fn column<'t>(rest: &mut &'t str) -> &'t str {
+    let (column, behind) = rest.split_once('|').unwrap_or((*rest, ""));
+    *rest = behind;
+    column.trim()
+}
+
+/// Each row comes of the set: hexadecimal digits, the end and the lines, with an empty line before the next row.
+fn expect_rows(
+    rt: &impl Abort,
+    alloc: Global,
+    set: &Templates,
+    limits: Limits,
+    rows: &str,
+) -> Result<(), Fail> {
+    for row in rows.split("\n\n") {
+        let mut rest = row;
+        let stream = Stream {
+            bytes: column(&mut rest).as_bytes(),
+            is_hex: true,
+        };
+        let end = column(&mut rest);
+        expect_shown(rt, alloc, set, limits, stream, end, rest.trim())?;
+    }
+    Ok(())
+}
+
+const LENIENT_ROWS: &str = "\
+C0 81 39 45 A3 | Ok(Good) |
+message T1
+field 0 x u 942755
+end message
+
+c081\t394\n5a\r3 | Ok(Good) |
+message T1
+field 0 x u 942755
+end message
+
+C0 81 39 45 A3 80 80 | Ok(Good) |
+message T1
+field 0 x u 942755
+end message
+message T1
+field 0 x u 0
+end message
+
+| Ok(Good) |
+
+C0 | Ok(Truncated(1)) |
+truncated at 1
+
+C0 81 | Ok(Truncated(2)) |
+message T1
+truncated at 2
+
+80 | Ok(Faulted(Fault { code: Stream(D5), place: 1 })) |
+fault D5 at 1
+
+C0 D5 | Ok(Faulted(Fault { code: Stream(D9), place: 2 })) |
+fault D9 at 2
+
+C0 D5 G | Ok(Faulted(Fault { code: Stream(D9), place: 2 })) |
+fault D9 at 2
+
+C0 81 10 00 00 00 80 | Ok(Faulted(Fault { code: Stream(D2), place: 7 })) |
+message T1
+fault D2 at 7
+
+C0 81 00 81 | Ok(Good) |
+message T1
+field 0 x u 1
+end message
+
+40 80 81 81 | Ok(Good) |
+message T1
+field 0 x u 1
+end message
+
+40 81 81 81 | Ok(Good) |
+message T1
+field 0 x u 1
+end message
+
+C0 8G | Err(BadHex(4)) |
+
+C0 81 3 | Err(BadHex(7)) |
+message T1";
+
+const STRICT_ROWS: &str = "\
+C0 81 00 81 | Ok(Faulted(Fault { code: Stream(R6), place: 4 })) |
+message T1
+fault R6 at 4
+
+40 80 81 81 | Ok(Faulted(Fault { code: Stream(R7), place: 2 })) |
+fault R7 at 2
+
+40 81 81 81 | Ok(Faulted(Fault { code: Stream(R8), place: 3 })) |
+fault R8 at 3";
+
+const SHORT_ROWS: &str = "C0 | Err(Make(BadLimits)) |";
 
 #[test]
 fn rows_through_show(rt: HostRuntime) -> Result<(), Fail> {
-    let templates = set(rt.alloc())?;
-    let one = "message T1\nfield 0 x u 1\nend message\n";
-    let two =
-        "message T1\nfield 0 x u 942755\nend message\nmessage T1\nfield 0 x u 0\nend message\n";
-    let good = Ok(ShowEnd::Good);
-    for (limits, input, ending, shown) in [
-        (LENIENT, "C0 81 39 45 A3", good, ROW_1),
-        (LENIENT, "c081\t394\n5a\r3", good, ROW_1),
-        (LENIENT, "C0 81 39 45 A3 80 80", good, two),
-        (LENIENT, "", good, ""),
-        (LENIENT, "C0", Ok(ShowEnd::Truncated(1)), "truncated at 1\n"),
-        (
-            LENIENT,
-            "C0 81",
-            Ok(ShowEnd::Truncated(2)),
-            "message T1\ntruncated at 2\n",
-        ),
-        (LENIENT, "80", fault(Code::D5, 1), "fault D5 at 1\n"),
-        (LENIENT, "C0 D5", fault(Code::D9, 2), "fault D9 at 2\n"),
-        (LENIENT, "C0 D5 G", fault(Code::D9, 2), "fault D9 at 2\n"),
-        (
-            LENIENT,
-            "C0 81 10 00 00 00 80",
-            fault(Code::D2, 7),
-            "message T1\nfault D2 at 7\n",
-        ),
-        (LENIENT, "C0 81 00 81", good, one),
-        (LENIENT, "40 80 81 81", good, one),
-        (LENIENT, "40 81 81 81", good, one),
-        (
-            STRICT,
-            "C0 81 00 81",
-            fault(Code::R6, 4),
-            "message T1\nfault R6 at 4\n",
-        ),
-        (STRICT, "40 80 81 81", fault(Code::R7, 2), "fault R7 at 2\n"),
-        (STRICT, "40 81 81 81", fault(Code::R8, 3), "fault R8 at 3\n"),
-        (LENIENT, "C0 8G", Err(RunFault::BadHex(4)), ""),
-        (LENIENT, "C0 81 3", Err(RunFault::BadHex(7)), "message T1\n"),
-        (SHORT, "C0", Err(RunFault::Make(MakeError::BadLimits)), ""),
+    let set = set_of(rt.alloc(), SET)?;
+    for (limits, rows) in [
+        (LENIENT, LENIENT_ROWS),
+        (STRICT, STRICT_ROWS),
+        (SHORT, SHORT_ROWS),
     ] {
-        let mut cells = [0; 512];
-        let mut target = ToBytes::new(&mut cells);
-        let mut source = FromBytes::new(input.as_bytes());
-        let end = run_show(
-            rt.alloc(),
-            &templates,
-            limits,
-            true,
-            100,
-            &mut source,
-            &mut target,
-        );
-        assert_eq!(rt; end, ending, "of {input}");
-        assert_eq!(rt; target.bytes(), shown.as_bytes());
+        expect_rows(&rt, rt.alloc(), &set, limits, rows)?;
     }
     Ok(())
 }
 
+const BUILT_IN_ROWS: &str = "\
+| Ok(Good) |
+
+C0 | Ok(Truncated(1)) |
+truncated at 1
+
+C0 81 | Ok(Truncated(2)) |
+message T1
+truncated at 2
+
+C0 81 39 45 A3 | Ok(Good) |
+message T1
+field 0 x u 942755
+end message
+
+C0 82 0F 7F 7F 7F FF | Ok(Faulted(Fault { code: Stream(L2), place: 7 })) |
+message T2
+fault L2 at 7
+
+C0 82 0F 7F 7F 7F FF C0 81 39 45 A3 | Ok(Faulted(Fault { code: Stream(L2), place: 7 })) |
+message T2
+fault L2 at 7
+
+C0 8G | Err(BadHex(4)) |";
+
 #[test]
 fn streams_of_the_built_in_set(rt: HostRuntime) -> Result<(), Fail> {
-    let templates = built_in(rt.alloc())?;
-    let good = Ok(ShowEnd::Good);
-    let many = "message T2\nfault L2 at 7\n";
-    for (input, ending, shown) in [
-        ("", good, ""),
-        ("C0", Ok(ShowEnd::Truncated(1)), "truncated at 1\n"),
-        (
-            "C0 81",
-            Ok(ShowEnd::Truncated(2)),
-            "message T1\ntruncated at 2\n",
-        ),
-        ("C0 81 39 45 A3", good, ROW_1),
-        ("C0 82 0F 7F 7F 7F FF", fault(Code::L2, 7), many),
-        (
-            "C0 82 0F 7F 7F 7F FF C0 81 39 45 A3",
-            fault(Code::L2, 7),
-            many,
-        ),
-        ("C0 8G", Err(RunFault::BadHex(4)), ""),
-    ] {
-        let mut cells = [0; 512];
-        let mut target = ToBytes::new(&mut cells);
-        let mut source = FromBytes::new(input.as_bytes());
-        let end = run_show(
-            rt.alloc(),
-            &templates,
-            LENIENT,
-            true,
-            100,
-            &mut source,
-            &mut target,
-        );
-        assert_eq!(rt; end, ending, "of {input}");
-        assert_eq!(rt; target.bytes(), shown.as_bytes());
-    }
-    Ok(())
+    let set = built_in(rt.alloc())?;
+    expect_rows(&rt, rt.alloc(), &set, LENIENT, BUILT_IN_ROWS)
 }
 
 /// A message with a group and a sequence of two elements.
@@ -150,131 +236,96 @@ const NESTED: [u8; 14] = [
 ];
 
 /// The lines of `NESTED`.
-const NESTED_LINES: [&str; 16] = [
-    "message T15\n",
-    "field 15 x u 5\n",
-    "group 16 g\n",
-    "field 17 b b 01ff\n",
-    "end group\n",
-    "sequence 18 legs 2\n",
-    "element\n",
-    "field 19 sym a \"AB\"\n",
-    "field 20 px i 100\n",
-    "end element\n",
-    "element\n",
-    "field 19 sym a \"AB\"\n",
-    "field 20 px i 98\n",
-    "end element\n",
-    "end sequence\n",
-    "end message\n",
-];
+const NESTED_LINES: &str = "\
+message T15
+field 15 x u 5
+group 16 g
+field 17 b b 01ff
+end group
+sequence 18 legs 2
+element
+field 19 sym a \"AB\"
+field 20 px i 100
+end element
+element
+field 19 sym a \"AB\"
+field 20 px i 98
+end element
+end sequence
+end message
+";
+
+/// How many of these lines are decided by so many bytes: none, one, two and so on.
+const DECIDED: [usize; 15] = [0, 0, 1, 3, 3, 3, 5, 7, 7, 7, 8, 8, 11, 12, 16];
+
+/// The end and the lines of the front of `NESTED` with so many bytes, which decide so many lines.
+fn nested_front(alloc: Global, len: usize, decided: usize) -> Result<(String, String), AllocError> {
+    let mut lines = String::new(alloc);
+    for line in NESTED_LINES.lines().take(decided) {
+        lines.push_str(line)?;
+        lines.push_str("\n")?;
+    }
+    if len == 0 || len == NESTED.len() {
+        return Ok((format!(in alloc; "Ok(Good)")?, lines));
+    }
+    let end = format!(in alloc; "truncated at {len}")?;
+    lines.push_str(end.as_str())?;
+    Ok((format!(in alloc; "Ok(Truncated({len}))")?, lines))
+}
 
 #[test]
 fn a_nested_message_cut_anywhere(rt: HostRuntime) -> Result<(), Fail> {
-    let templates = built_in(rt.alloc())?;
-    let lines_until = [0, 0, 1, 3, 3, 3, 5, 7, 7, 7, 8, 8, 11, 12, 16];
-    for (len, lines) in lines_until.iter().enumerate() {
-        let mut shown = String::new(rt.alloc());
-        for line in NESTED_LINES.iter().take(*lines) {
-            shown.push_str(line)?;
-        }
-        let ending = if len == 0 || len == 14 {
-            ShowEnd::Good
-        } else {
-            shown.push_str(format!(in rt.alloc(); "truncated at {len}\n")?.as_str())?;
-            ShowEnd::Truncated(len as u64)
+    let alloc = rt.alloc();
+    let set = built_in(alloc)?;
+    for (len, decided) in DECIDED.into_iter().enumerate() {
+        let (end, lines) = nested_front(alloc, len, decided)?;
+        let stream = Stream {
+            bytes: NESTED.get(..len).unwrap_or(&[]),
+            is_hex: false,
         };
-        let mut cells = [0; 512];
-        let mut target = ToBytes::new(&mut cells);
-        let mut source = FromBytes::new(&NESTED[..len]);
-        let end = run_show(
-            rt.alloc(),
-            &templates,
-            LENIENT,
-            false,
-            100,
-            &mut source,
-            &mut target,
-        );
-        assert_eq!(rt; end, Ok(ending), "of {len} bytes");
-        assert_eq!(rt; target.bytes(), shown.as_bytes());
+        expect_shown(&rt, alloc, &set, LENIENT, stream, &end, lines.trim())?;
     }
     Ok(())
 }
 
+/// An initial value of 17 characters.
+const LONG_INITIAL: &str =
+    "[[template]]\nname = 'A'\nfields = [{kind='ascii', name='x', op='default', value='12345678901234567'}]";
+
 #[test]
 fn limits_without_a_decoder(rt: HostRuntime) -> Result<(), Fail> {
-    let text =
-        "[[template]]\nname = 'A'\nfields = [{kind='ascii', name='x', op='default', value='12345678901234567'}]";
-    let templates = Templates::read(rt.alloc(), text)?;
-    for (max_text, ending) in [
-        (15, Err(RunFault::Make(MakeError::BadLimits))),
-        (16, Err(RunFault::Make(MakeError::InitialTooLong))),
-        (17, Ok(ShowEnd::Good)),
+    let set = set_of(rt.alloc(), LONG_INITIAL)?;
+    for (max_text, end) in [
+        (15, "Err(Make(BadLimits))"),
+        (16, "Err(Make(InitialTooLong))"),
+        (17, "Ok(Good)"),
     ] {
         let limits = Limits {
             max_text,
             ..LENIENT
         };
-        let mut target = ToBytes::new(&mut []);
-        let mut source = FromBytes::new(b"");
-        let end = run_show(
-            rt.alloc(),
-            &templates,
-            limits,
-            false,
-            100,
-            &mut source,
-            &mut target,
-        );
-        assert_eq!(rt; end, ending, "with {max_text}");
-        assert!(rt; target.bytes().is_empty());
+        let stream = Stream {
+            bytes: b"",
+            is_hex: false,
+        };
+        expect_shown(&rt, rt.alloc(), &set, limits, stream, end, "")?;
     }
     Ok(())
 }
 
-/// Gives one byte a read: those of a slice, and then zeros for ever. It can fail at a read.
-#[derive(Drop)]
-struct Drip<'a> {
-    bytes: &'a [u8],
-    reads: u64,
-    fails_at: u64,
-    failed: bool,
-}
-
-impl Source for Drip<'_> {
-    ghost left = { λ _. None };
-
-    ghost has_failed = { λ s. s.failed };
-
-    fn read(&mut self, buf: &mut [u8]) -> Result<usize, Failed> {
-        self.reads = self.reads.saturating_add(1);
-        if self.reads == self.fails_at {
-            self.failed = true;
-            return Err(Failed);
-        }
-        let (byte, rest) = match self.bytes.split_first() {
-            Some((byte, rest)) => (*byte, rest),
-            None => (0, self.bytes),
-        };
-        self.bytes = rest;
-        match buf.first_mut() {
-            Some(cell) => {
-                *cell = byte;
-                Ok(1)
-            }
-            None => Ok(0),
-        }
-    }
-
-    fn failed(&self) -> bool {
-        self.failed
+/// The message of `ROW_1`, a byte a read, with a read that fails, if there is one.
+fn drip(fails_at: u64) -> Drip<'static> {
+    Drip {
+        bytes: &[0xc0, 0x81, 0x39, 0x45, 0xa3],
+        reads: 0,
+        fails_at,
+        failed: false,
     }
 }
 
 #[test]
 fn reads_come_to_an_end(rt: HostRuntime) -> Result<(), Fail> {
-    let templates = set(rt.alloc())?;
+    let set = set_of(rt.alloc(), SET)?;
     for (max_reads, fails_at, shown, reads) in [
         (3, 0, "message T1\n", 3),
         (100, 4, "message T1\n", 4),
@@ -282,89 +333,57 @@ fn reads_come_to_an_end(rt: HostRuntime) -> Result<(), Fail> {
         (0, 0, "", 0),
         (6, 0, ROW_1, 6),
     ] {
-        let mut source = Drip {
-            bytes: &[0xc0, 0x81, 0x39, 0x45, 0xa3],
-            reads: 0,
-            fails_at,
-            failed: false,
-        };
+        let mut source = drip(fails_at);
         let mut cells = [0; 512];
         let mut target = ToBytes::new(&mut cells);
-        let ending = run_show(
+        let end = show(
             rt.alloc(),
-            &templates,
+            &set,
             LENIENT,
             false,
             max_reads,
             &mut source,
             &mut target,
         );
-        assert_eq!(rt; ending, Err(RunFault::Read));
-        assert_eq!(rt; target.bytes(), shown.as_bytes());
-        assert_eq!(rt; source.reads, reads);
+        let is_right = end == Err(RunFault::Read)
+            && target.bytes() == shown.as_bytes()
+            && source.reads == reads;
+        expect(&rt, is_right, shown, max_reads as usize);
     }
     Ok(())
 }
 
+/// What `C0 81 39 45 A3 C0` gives.
+const CUT_LINES: &str = "message T1\nfield 0 x u 942755\nend message\ntruncated at 6\n";
+
 #[test]
 fn a_writer_that_fails_leaves_a_front(rt: HostRuntime) -> Result<(), Fail> {
-    let templates = set(rt.alloc())?;
-    let all = b"message T1\nfield 0 x u 942755\nend message\ntruncated at 6\n";
-    for room in 0..57 {
+    let set = set_of(rt.alloc(), SET)?;
+    for room in 0..CUT_LINES.len() {
         let mut cells = [0; 64];
-        let mut target = ToBytes::new(&mut cells[..room]);
+        let (cells, _) = cells.split_at_mut(room.min(64));
+        let mut target = ToBytes::new(cells);
         let mut source = FromBytes::new(b"C0 81 39 45 A3 C0");
-        let ending = run_show(
+        let end = show(
             rt.alloc(),
-            &templates,
+            &set,
             LENIENT,
             true,
             100,
             &mut source,
             &mut target,
         );
-        assert_eq!(rt; ending, Err(RunFault::Write));
-        assert!(rt; target.failed());
-        assert_eq!(rt; target.bytes(), &all[..room]);
+        let is_right = end == Err(RunFault::Write)
+            && target.failed()
+            && target.bytes() == &CUT_LINES.as_bytes()[..room];
+        expect(&rt, is_right, "room", room);
     }
     Ok(())
 }
 
-/// Counts the lines that it is given, and takes one byte a write.
-#[derive(Drop)]
-struct Lines {
-    count: u64,
-}
-
-impl Target for Lines {
-    ghost written = { λ _. None };
-
-    ghost has_failed = { λ _. false };
-
-    fn write(&mut self, piece: &[u8]) -> Result<usize, Failed> {
-        match piece.first() {
-            Some(byte) => {
-                if *byte == b'\n' {
-                    self.count = self.count.saturating_add(1);
-                }
-                Ok(1)
-            }
-            None => Ok(0),
-        }
-    }
-
-    fn flush(&mut self) -> Result<(), Failed> {
-        Ok(())
-    }
-
-    fn failed(&self) -> bool {
-        false
-    }
-}
-
 #[test]
 fn a_long_stream_is_shown_whole(rt: HostRuntime) -> Result<(), Fail> {
-    let templates = set(rt.alloc())?;
+    let set = set_of(rt.alloc(), SET)?;
     let mut stream = Vec::new(rt.alloc());
     stream.extend_from_slice(&[0xc0, 0x81, 0x39, 0x45, 0xa3])?;
     for _ in 0..5000 {
@@ -372,78 +391,44 @@ fn a_long_stream_is_shown_whole(rt: HostRuntime) -> Result<(), Fail> {
     }
     let mut source = FromBytes::new(stream.as_slice());
     let mut target = Lines { count: 0 };
-    let ending = run_show(
+    let end = show(
         rt.alloc(),
-        &templates,
+        &set,
         LENIENT,
         false,
         100,
         &mut source,
         &mut target,
     );
-    assert_eq!(rt; ending, Ok(ShowEnd::Good));
-    assert_eq!(rt; target.count, 3 * 5001);
+    let is_right = end == Ok(ShowEnd::Good) && target.count == 3 * 5001;
+    expect(&rt, is_right, "lines", stream.len());
     Ok(())
-}
-
-/// Takes all that is written, and fails at a flush.
-#[derive(Drop)]
-struct Flushed {
-    flushes: u64,
-    fails_at: u64,
-    failed: bool,
-}
-
-impl Target for Flushed {
-    ghost written = { λ _. None };
-
-    ghost has_failed = { λ s. s.failed };
-
-    fn write(&mut self, piece: &[u8]) -> Result<usize, Failed> {
-        Ok(piece.len())
-    }
-
-    fn flush(&mut self) -> Result<(), Failed> {
-        self.flushes = self.flushes.saturating_add(1);
-        if self.flushes == self.fails_at {
-            self.failed = true;
-            return Err(Failed);
-        }
-        Ok(())
-    }
-
-    fn failed(&self) -> bool {
-        self.failed
-    }
 }
 
 #[test]
 fn lines_can_be_seen_before_each_read(rt: HostRuntime) -> Result<(), Fail> {
-    let templates = set(rt.alloc())?;
-    for (fails_at, ending, reads) in [(0, RunFault::Read, 6), (3, RunFault::Write, 2)] {
-        let mut source = Drip {
-            bytes: &[0xc0, 0x81, 0x39, 0x45, 0xa3],
-            reads: 0,
-            fails_at: 0,
-            failed: false,
-        };
+    let set = set_of(rt.alloc(), SET)?;
+    for (fails_at, fault, reads, flushes) in [
+        (0, RunFault::Read, 6, 6),
+        (3, RunFault::Write, 2, 3),
+    ] {
+        let mut source = drip(0);
         let mut target = Flushed {
             flushes: 0,
             fails_at,
             failed: false,
         };
-        let end = run_show(
+        let end = show(
             rt.alloc(),
-            &templates,
+            &set,
             LENIENT,
             false,
             6,
             &mut source,
             &mut target,
         );
-        assert_eq!(rt; end, Err(ending));
-        assert_eq!(rt; source.reads, reads);
-        assert_eq!(rt; target.flushes, if fails_at == 0 { 6 } else { 3 });
+        let is_right = end == Err(fault) && source.reads == reads && target.flushes == flushes;
+        expect(&rt, is_right, "flushes", 6);
     }
     Ok(())
 }

@@ -1,5 +1,6 @@
 //! Texts that are read whole.
 
+use super::expect;
 use fast_command::read_whole;
 use fast_text::FromBytes;
 use std::test::Fail;
@@ -11,6 +12,6 @@ fn a_text_is_read_to_its_end(rt: HostRuntime) -> Result<(), Fail> {
     let Ok(read) = read_whole(rt.alloc(), &mut source) else {
         return Err(Fail::from("the text is not read"));
     };
-    assert_eq!(rt; read.as_slice(), text.as_slice());
+    expect(&rt, read.as_slice() == text.as_slice(), "whole", read.len());
     Ok(())
 }

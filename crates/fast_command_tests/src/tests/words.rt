@@ -1,7 +1,10 @@
 //! Words, and what they ask for.
 
+use super::expect;
 use clap::error::ErrorKind;
 use fast_command::{BUILT_IN, Plan, Task, plan};
+use std::alloc::Global;
+use std::process::Abort;
 use std::test::Fail;
 
 const DEFAULTS: Plan<'static> = Plan {
@@ -14,6 +17,36 @@ const DEFAULTS: Plan<'static> = Plan {
     max_elements: 1000,
     max_total: 1000,
 };
+
+/// These words ask for this.
+fn expect_plan(
+    rt: &impl Abort,
+    alloc: Global,
+    words: &[&str],
+    wanted: Plan<'_>,
+) -> Result<(), Fail> {
+    let Ok(found) = plan(alloc, words) else {
+        return Err(Fail::from("the words are refused"));
+    };
+    expect(rt, found == wanted, "words", words.len());
+    Ok(())
+}
+
+/// These words are refused, for this cause and with this status.
+fn expect_refusal(
+    rt: &impl Abort,
+    alloc: Global,
+    words: &[&str],
+    kind: ErrorKind,
+    status: i32,
+) -> Result<(), Fail> {
+    let Err(error) = plan(alloc, words) else {
+        return Err(Fail::from("the words are taken"));
+    };
+    let is_right = error.kind() == kind && error.exit_code() == status;
+    expect(rt, is_right, "refused words", words.len());
+    Ok(())
+}
 
 #[test]
 fn words_and_their_plans(rt: HostRuntime) -> Result<(), Fail> {
@@ -60,16 +93,13 @@ fn words_and_their_plans(rt: HostRuntime) -> Result<(), Fail> {
             },
         ),
     ] {
-        let Ok(found) = plan(rt.alloc(), words) else {
-            return Err(Fail::from("the words are refused"));
-        };
-        assert_eq!(rt; found, wanted);
+        expect_plan(&rt, rt.alloc(), words, wanted)?;
     }
     Ok(())
 }
 
 #[test]
-fn words_that_are_refused(rt: HostRuntime) {
+fn words_that_are_refused(rt: HostRuntime) -> Result<(), Fail> {
     for (words, kind, status) in [
         (["fastcat"].as_slice(), ErrorKind::MissingSubcommand, 2),
         (
@@ -103,8 +133,7 @@ fn words_that_are_refused(rt: HostRuntime) {
             0,
         ),
     ] {
-        let error = plan(rt.alloc(), words).err().expect(&rt, "a refusal");
-        assert_eq!(rt; error.kind(), kind);
-        assert_eq!(rt; error.exit_code(), status);
+        expect_refusal(&rt, rt.alloc(), words, kind, status)?;
     }
+    Ok(())
 }

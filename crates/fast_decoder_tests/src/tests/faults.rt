@@ -1,9 +1,6 @@
 //! The bytes at which faults are decided, and which fault comes first where several could.
 
-use super::Due::*;
-use super::End::{Between, Wrong};
-use super::{LENIENT, Row, STRICT, expect_rows};
-use fast_value::{Code, Limits};
+use super::expect_rows;
 use std::test::Fail;
 
 /// A template for each kind of instruction.
@@ -50,509 +47,89 @@ id = 10
 fields = [{kind="ascii", name="a", op="delta"}]
 "#;
 
-const MAPS_AND_IDENTIFIERS: &[Row<'static>] = &[
-    Row(
-        "an overlong identifier comes before an unknown one",
-        STRICT,
-        &[0xC0, 0x00, 0xD5],
-        &[],
-        Wrong(Code::R6, 3),
-    ),
-    Row(
-        "an overlong identifier that is unknown",
-        LENIENT,
-        &[0xC0, 0x00, 0xD5],
-        &[],
-        Wrong(Code::D9, 3),
-    ),
-    Row(
-        "an identifier past its type",
-        LENIENT,
-        &[0xC0, 0x10, 0x00, 0x00, 0x00, 0x80],
-        &[],
-        Wrong(Code::D2, 6),
-    ),
-    Row(
-        "an unknown identifier comes before a wide map",
-        STRICT,
-        &[0x40, 0x81, 0xD5],
-        &[],
-        Wrong(Code::D9, 3),
-    ),
-    Row(
-        "an overlong map comes before the identifier",
-        STRICT,
-        &[0x40, 0x80, 0xD5],
-        &[],
-        Wrong(Code::R7, 2),
-    ),
-    Row(
-        "no identifier to copy comes before a wide map",
-        STRICT,
-        &[0x00, 0x81],
-        &[],
-        Wrong(Code::D5, 2),
-    ),
-    Row(
-        "a wide map and a copied identifier",
-        STRICT,
-        &[0xC0, 0x81, 0x81, 0x00, 0x81],
-        &[Message(0), U(0, 1), EndMessage],
-        Wrong(Code::R8, 5),
-    ),
-    Row(
-        "the same map in lenient mode",
-        LENIENT,
-        &[0xC0, 0x81, 0x81, 0x00, 0x81, 0x82],
-        &[
-            Message(0),
-            U(0, 1),
-            EndMessage,
-            Message(0),
-            U(0, 2),
-            EndMessage,
-        ],
-        Between,
-    ),
-    Row(
-        "an overlong map of a group",
-        STRICT,
-        &[0xC0, 0x82, 0x00, 0x80],
-        &[Message(1), Group(1)],
-        Wrong(Code::R7, 4),
-    ),
-    Row(
-        "a wide map of a group",
-        STRICT,
-        &[0xC0, 0x82, 0x40, 0x81],
-        &[Message(1), Group(1)],
-        Wrong(Code::R8, 4),
-    ),
-    Row(
-        "the same map of a group in lenient mode",
-        LENIENT,
-        &[0xC0, 0x82, 0x40, 0x81, 0x85],
-        &[Message(1), Group(1), U(2, 5), EndGroup, EndMessage],
-        Between,
-    ),
-    Row(
-        "nothing to copy in a group",
-        LENIENT,
-        &[0xC0, 0x82, 0x80],
-        &[Message(1), Group(1)],
-        Wrong(Code::D5, 3),
-    ),
-];
+const MAPS_AND_IDENTIFIERS: &str = "\
+an overlong identifier comes before an unknown one | strict | C0 00 D5 | | R6@3
+an overlong identifier that is unknown | lenient | C0 00 D5 | | D9@3
+an identifier past its type | lenient | C0 10 00 00 00 80 | | D2@6
+an unknown identifier comes before a wide map | strict | 40 81 D5 | | D9@3
+an overlong map comes before the identifier | strict | 40 80 D5 | | R7@2
+no identifier to copy comes before a wide map | strict | 00 81 | | D5@2
+a wide map and a copied identifier | strict | C0 81 81 00 81 | m0 u0=1 /m | R8@5
+the same map in lenient mode | lenient | C0 81 81 00 81 82 | m0 u0=1 /m m0 u0=2 /m | between
+an overlong map of a group | strict | C0 82 00 80 | m1 g1 | R7@4
+a wide map of a group | strict | C0 82 40 81 | m1 g1 | R8@4
+the same map of a group in lenient mode | lenient | C0 82 40 81 85 | m1 g1 u2=5 /g /m | between
+nothing to copy in a group | lenient | C0 82 80 | m1 g1 | D5@3
+";
+
+const LENGTHS: &str = "\
+a length that is not sent, and elements with a map each | strict | C0 83 80 C0 87 80 \
+    | m2 s3*3 e u4=1 /e e u4=7 /e e u4=1 /e /s /m | between
+a length that is sent | strict | E0 83 80 | m2 s3*0 /s /m | between
+an overlong map of an element | strict | C0 83 80 00 80 | m2 s3*3 e u4=1 /e e | R7@5
+a length past the limit that is not sent | lenient elements=2 | C0 83 | m2 | L2@2
+the limit of the message | lenient total=2 | C0 83 | m2 | L5@2
+the limit of the sequence comes before that of the message | lenient elements=2 total=2 | C0 83 | m2 | L2@2
+the elements of a message before it do not count | lenient total=3 | C0 83 80*7 \
+    | m2 s3*3 e u4=1 /e e u4=1 /e e u4=1 /e /s /m m2 s3*3 e u4=1 /e e u4=1 /e e u4=1 /e /s /m | between
+an overlong length | strict | E0 83 00 81 | m2 | R6@4
+a length past its type | lenient | E0 83 10 00 00 00 80 | m2 | D2@7
+";
+
+const INTEGERS: &str = "\
+an overlong integer past its type | lenient | C0 81 00 10 00 00 00 80 | m0 | D2@8
+overlong comes before past its type | strict | C0 81 00 10 00 00 00 80 | m0 | R6@8
+an overlong delta of another type | strict | E0 87 86 C0 86 00 81 | m6 u9=5 /m m5 | R6@7
+a delta of another type | lenient | E0 87 86 C0 86 81 | m6 u9=5 /m m5 | D4@6
+a delta of an empty previous value | lenient | E0 87 80 C0 86 81 | m6 /m m5 | D6@6
+a delta past its type | strict | C0 86 07 7F 7F 7F FF 80 81 | m5 i8=2147483647 /m m5 | D2@9
+nothing to copy | lenient | C0 88 | m7 | D5@2
+a copy of another type | lenient | E0 87 86 C0 88 | m6 u9=5 /m m7 | D4@5
+a copy of an empty previous value | lenient | E0 87 80 C0 88 | m6 /m m7 | D6@5
+a value that is sent takes the place of another type | strict | E0 87 86 E0 88 FF C0 88 \
+    | m6 u9=5 /m m7 i10=-1 /m m7 i10=-1 /m | between
+";
+
+const DECIMALS: &str = "\
+an exponent out of range | strict | C0 84 00 C0 | m3 | R1@4
+an exponent past 31 bits | strict | C0 84 08 00 00 00 80 | m3 | R1@7
+an overlong exponent out of range | strict | C0 84 00 00 C0 | m3 | R6@5
+an overlong exponent out of range, in lenient mode | lenient | C0 84 00 00 C0 | m3 | R1@5
+a mantissa past 63 bits | strict | C0 84 80 01 00*8 80 | m3 | R1@13
+a mantissa that never stops | lenient | C0 84 80 00*10 | m3 | D2@13
+an overlong mantissa | strict | C0 84 80 00 81 | m3 | R6@5
+an exponent delta out of range | strict | C0 84 80 81 BF 81 80 80 81 81 | m3 d5=1e0 d6=1e63 /m m3 d5=1e0 | R1@10
+a mantissa delta out of range | strict | C0 84 80 81 80 81 80 80 81 80 00 7F*8 FF | m3 d5=1e0 d6=1e0 /m m3 d5=1e0 \
+    | R1@20
+an increment past the exponents | strict | E0 85 BF 81 80 | m4 d7=1e63 /m m4 | R1@5
+an exponent by parts out of range | strict | E0 85 00 C0 | m4 | R1@4
+an exponent by parts past its type | strict | E0 85 08 00 00 00 80 | m4 | D2@7
+a mantissa by parts past its type | strict | E0 85 80 01 00*8 80 | m4 | D2@13
+no exponent to go on from | lenient | C0 85 | m4 | D5@2
+";
+
+const SIZES_AND_SUBTRACTION_LENGTHS: &str = "\
+an empty vector | strict | C0 89 80 | m8 b11= /m | between
+an overlong size | strict | C0 89 00 82 | m8 | R6@4
+the same in lenient mode | lenient | C0 89 00 82 01 80 | m8 b11=0180 /m | between
+a size one past the limit | lenient | C0 89 08 81 | m8 | L1@4
+a size past its type | lenient | C0 89 10 00 00 00 80 | m8 | D2@7
+an overlong subtraction length | strict | C0 8A 00 80 | m9 | R6@4
+a subtraction length that never stops | lenient | C0 8A 00*10 | m9 | D2@12
+";
 
 #[test]
-fn maps_and_identifiers(rt: HostRuntime) -> Result<(), Fail> {
-    expect_rows(&rt, rt.alloc(), PLACES, MAPS_AND_IDENTIFIERS)
-}
-
-const LENGTHS: &[Row<'static>] = &[
-    Row(
-        "a length that is not sent, and elements with a map each",
-        STRICT,
-        &[0xC0, 0x83, 0x80, 0xC0, 0x87, 0x80],
+fn rows_of_places(rt: HostRuntime) -> Result<(), Fail> {
+    expect_rows(
+        &rt,
+        rt.alloc(),
+        PLACES,
         &[
-            Message(2),
-            Sequence(3, 3),
-            Element,
-            U(4, 1),
-            EndElement,
-            Element,
-            U(4, 7),
-            EndElement,
-            Element,
-            U(4, 1),
-            EndElement,
-            EndSequence,
-            EndMessage,
+            MAPS_AND_IDENTIFIERS,
+            LENGTHS,
+            INTEGERS,
+            DECIMALS,
+            SIZES_AND_SUBTRACTION_LENGTHS,
         ],
-        Between,
-    ),
-    Row(
-        "a length that is sent",
-        STRICT,
-        &[0xE0, 0x83, 0x80],
-        &[Message(2), Sequence(3, 0), EndSequence, EndMessage],
-        Between,
-    ),
-    Row(
-        "an overlong map of an element",
-        STRICT,
-        &[0xC0, 0x83, 0x80, 0x00, 0x80],
-        &[
-            Message(2),
-            Sequence(3, 3),
-            Element,
-            U(4, 1),
-            EndElement,
-            Element,
-        ],
-        Wrong(Code::R7, 5),
-    ),
-    Row(
-        "a length past the limit that is not sent",
-        Limits {
-            max_elements: 2,
-            ..LENIENT
-        },
-        &[0xC0, 0x83],
-        &[Message(2)],
-        Wrong(Code::L2, 2),
-    ),
-    Row(
-        "the limit of the message",
-        Limits {
-            max_total: 2,
-            ..LENIENT
-        },
-        &[0xC0, 0x83],
-        &[Message(2)],
-        Wrong(Code::L5, 2),
-    ),
-    Row(
-        "the limit of the sequence comes before that of the message",
-        Limits {
-            max_elements: 2,
-            max_total: 2,
-            ..LENIENT
-        },
-        &[0xC0, 0x83],
-        &[Message(2)],
-        Wrong(Code::L2, 2),
-    ),
-    Row(
-        "the elements of a message before it do not count",
-        Limits {
-            max_total: 3,
-            ..LENIENT
-        },
-        &[0xC0, 0x83, 0x80, 0x80, 0x80, 0x80, 0x80, 0x80, 0x80],
-        &[
-            Message(2),
-            Sequence(3, 3),
-            Element,
-            U(4, 1),
-            EndElement,
-            Element,
-            U(4, 1),
-            EndElement,
-            Element,
-            U(4, 1),
-            EndElement,
-            EndSequence,
-            EndMessage,
-            Message(2),
-            Sequence(3, 3),
-            Element,
-            U(4, 1),
-            EndElement,
-            Element,
-            U(4, 1),
-            EndElement,
-            Element,
-            U(4, 1),
-            EndElement,
-            EndSequence,
-            EndMessage,
-        ],
-        Between,
-    ),
-    Row(
-        "an overlong length",
-        STRICT,
-        &[0xE0, 0x83, 0x00, 0x81],
-        &[Message(2)],
-        Wrong(Code::R6, 4),
-    ),
-    Row(
-        "a length past its type",
-        LENIENT,
-        &[0xE0, 0x83, 0x10, 0x00, 0x00, 0x00, 0x80],
-        &[Message(2)],
-        Wrong(Code::D2, 7),
-    ),
-];
-
-#[test]
-fn lengths(rt: HostRuntime) -> Result<(), Fail> {
-    expect_rows(&rt, rt.alloc(), PLACES, LENGTHS)
-}
-
-const INTEGERS: &[Row<'static>] = &[
-    Row(
-        "an overlong integer past its type",
-        LENIENT,
-        &[0xC0, 0x81, 0x00, 0x10, 0x00, 0x00, 0x00, 0x80],
-        &[Message(0)],
-        Wrong(Code::D2, 8),
-    ),
-    Row(
-        "overlong comes before past its type",
-        STRICT,
-        &[0xC0, 0x81, 0x00, 0x10, 0x00, 0x00, 0x00, 0x80],
-        &[Message(0)],
-        Wrong(Code::R6, 8),
-    ),
-    Row(
-        "an overlong delta of another type",
-        STRICT,
-        &[0xE0, 0x87, 0x86, 0xC0, 0x86, 0x00, 0x81],
-        &[Message(6), U(9, 5), EndMessage, Message(5)],
-        Wrong(Code::R6, 7),
-    ),
-    Row(
-        "a delta of another type",
-        LENIENT,
-        &[0xE0, 0x87, 0x86, 0xC0, 0x86, 0x81],
-        &[Message(6), U(9, 5), EndMessage, Message(5)],
-        Wrong(Code::D4, 6),
-    ),
-    Row(
-        "a delta of an empty previous value",
-        LENIENT,
-        &[0xE0, 0x87, 0x80, 0xC0, 0x86, 0x81],
-        &[Message(6), EndMessage, Message(5)],
-        Wrong(Code::D6, 6),
-    ),
-    Row(
-        "a delta past its type",
-        STRICT,
-        &[0xC0, 0x86, 0x07, 0x7F, 0x7F, 0x7F, 0xFF, 0x80, 0x81],
-        &[Message(5), I(8, 2_147_483_647), EndMessage, Message(5)],
-        Wrong(Code::D2, 9),
-    ),
-    Row(
-        "nothing to copy",
-        LENIENT,
-        &[0xC0, 0x88],
-        &[Message(7)],
-        Wrong(Code::D5, 2),
-    ),
-    Row(
-        "a copy of another type",
-        LENIENT,
-        &[0xE0, 0x87, 0x86, 0xC0, 0x88],
-        &[Message(6), U(9, 5), EndMessage, Message(7)],
-        Wrong(Code::D4, 5),
-    ),
-    Row(
-        "a copy of an empty previous value",
-        LENIENT,
-        &[0xE0, 0x87, 0x80, 0xC0, 0x88],
-        &[Message(6), EndMessage, Message(7)],
-        Wrong(Code::D6, 5),
-    ),
-    Row(
-        "a value that is sent takes the place of another type",
-        STRICT,
-        &[0xE0, 0x87, 0x86, 0xE0, 0x88, 0xFF, 0xC0, 0x88],
-        &[
-            Message(6),
-            U(9, 5),
-            EndMessage,
-            Message(7),
-            I(10, -1),
-            EndMessage,
-            Message(7),
-            I(10, -1),
-            EndMessage,
-        ],
-        Between,
-    ),
-];
-
-#[test]
-fn integers(rt: HostRuntime) -> Result<(), Fail> {
-    expect_rows(&rt, rt.alloc(), PLACES, INTEGERS)
-}
-
-const DECIMALS: &[Row<'static>] = &[
-    Row(
-        "an exponent out of range",
-        STRICT,
-        &[0xC0, 0x84, 0x00, 0xC0],
-        &[Message(3)],
-        Wrong(Code::R1, 4),
-    ),
-    Row(
-        "an exponent past 31 bits",
-        STRICT,
-        &[0xC0, 0x84, 0x08, 0x00, 0x00, 0x00, 0x80],
-        &[Message(3)],
-        Wrong(Code::R1, 7),
-    ),
-    Row(
-        "an overlong exponent out of range",
-        STRICT,
-        &[0xC0, 0x84, 0x00, 0x00, 0xC0],
-        &[Message(3)],
-        Wrong(Code::R6, 5),
-    ),
-    Row(
-        "an overlong exponent out of range, in lenient mode",
-        LENIENT,
-        &[0xC0, 0x84, 0x00, 0x00, 0xC0],
-        &[Message(3)],
-        Wrong(Code::R1, 5),
-    ),
-    Row(
-        "a mantissa past 63 bits",
-        STRICT,
-        &[
-            0xC0, 0x84, 0x80, 0x01, 0x00, 0x00, 0x00, 0x00, 0x00, 0x00, 0x00, 0x00, 0x80,
-        ],
-        &[Message(3)],
-        Wrong(Code::R1, 13),
-    ),
-    Row(
-        "a mantissa that never stops",
-        LENIENT,
-        &[
-            0xC0, 0x84, 0x80, 0x00, 0x00, 0x00, 0x00, 0x00, 0x00, 0x00, 0x00, 0x00, 0x00,
-        ],
-        &[Message(3)],
-        Wrong(Code::D2, 13),
-    ),
-    Row(
-        "an overlong mantissa",
-        STRICT,
-        &[0xC0, 0x84, 0x80, 0x00, 0x81],
-        &[Message(3)],
-        Wrong(Code::R6, 5),
-    ),
-    Row(
-        "an exponent delta out of range",
-        STRICT,
-        &[0xC0, 0x84, 0x80, 0x81, 0xBF, 0x81, 0x80, 0x80, 0x81, 0x81],
-        &[
-            Message(3),
-            Dec(5, 0, 1),
-            Dec(6, 63, 1),
-            EndMessage,
-            Message(3),
-            Dec(5, 0, 1),
-        ],
-        Wrong(Code::R1, 10),
-    ),
-    Row(
-        "a mantissa delta out of range",
-        STRICT,
-        &[
-            0xC0, 0x84, 0x80, 0x81, 0x80, 0x81, 0x80, 0x80, 0x81, 0x80, 0x00, 0x7F, 0x7F, 0x7F,
-            0x7F, 0x7F, 0x7F, 0x7F, 0x7F, 0xFF,
-        ],
-        &[
-            Message(3),
-            Dec(5, 0, 1),
-            Dec(6, 0, 1),
-            EndMessage,
-            Message(3),
-            Dec(5, 0, 1),
-        ],
-        Wrong(Code::R1, 20),
-    ),
-    Row(
-        "an increment past the exponents",
-        STRICT,
-        &[0xE0, 0x85, 0xBF, 0x81, 0x80],
-        &[Message(4), Dec(7, 63, 1), EndMessage, Message(4)],
-        Wrong(Code::R1, 5),
-    ),
-    Row(
-        "an exponent by parts out of range",
-        STRICT,
-        &[0xE0, 0x85, 0x00, 0xC0],
-        &[Message(4)],
-        Wrong(Code::R1, 4),
-    ),
-    Row(
-        "an exponent by parts past its type",
-        STRICT,
-        &[0xE0, 0x85, 0x08, 0x00, 0x00, 0x00, 0x80],
-        &[Message(4)],
-        Wrong(Code::D2, 7),
-    ),
-    Row(
-        "a mantissa by parts past its type",
-        STRICT,
-        &[
-            0xE0, 0x85, 0x80, 0x01, 0x00, 0x00, 0x00, 0x00, 0x00, 0x00, 0x00, 0x00, 0x80,
-        ],
-        &[Message(4)],
-        Wrong(Code::D2, 13),
-    ),
-    Row(
-        "no exponent to go on from",
-        LENIENT,
-        &[0xC0, 0x85],
-        &[Message(4)],
-        Wrong(Code::D5, 2),
-    ),
-];
-
-#[test]
-fn decimals(rt: HostRuntime) -> Result<(), Fail> {
-    expect_rows(&rt, rt.alloc(), PLACES, DECIMALS)
-}
-
-const SIZES_AND_SUBTRACTION_LENGTHS: &[Row<'static>] = &[
-    Row(
-        "an empty vector",
-        STRICT,
-        &[0xC0, 0x89, 0x80],
-        &[Message(8), Bytes(11, &[]), EndMessage],
-        Between,
-    ),
-    Row(
-        "an overlong size",
-        STRICT,
-        &[0xC0, 0x89, 0x00, 0x82],
-        &[Message(8)],
-        Wrong(Code::R6, 4),
-    ),
-    Row(
-        "the same in lenient mode",
-        LENIENT,
-        &[0xC0, 0x89, 0x00, 0x82, 0x01, 0x80],
-        &[Message(8), Bytes(11, &[0x01, 0x80]), EndMessage],
-        Between,
-    ),
-    Row(
-        "a size one past the limit",
-        LENIENT,
-        &[0xC0, 0x89, 0x08, 0x81],
-        &[Message(8)],
-        Wrong(Code::L1, 4),
-    ),
-    Row(
-        "a size past its type",
-        LENIENT,
-        &[0xC0, 0x89, 0x10, 0x00, 0x00, 0x00, 0x80],
-        &[Message(8)],
-        Wrong(Code::D2, 7),
-    ),
-    Row(
-        "an overlong subtraction length",
-        STRICT,
-        &[0xC0, 0x8A, 0x00, 0x80],
-        &[Message(9)],
-        Wrong(Code::R6, 4),
-    ),
-    Row(
-        "a subtraction length that never stops",
-        LENIENT,
-        &[
-            0xC0, 0x8A, 0x00, 0x00, 0x00, 0x00, 0x00, 0x00, 0x00, 0x00, 0x00, 0x00,
-        ],
-        &[Message(9)],
-        Wrong(Code::D2, 12),
-    ),
-];
-
-#[test]
-fn sizes_and_subtraction_lengths(rt: HostRuntime) -> Result<(), Fail> {
-    expect_rows(&rt, rt.alloc(), PLACES, SIZES_AND_SUBTRACTION_LENGTHS)
+    )
 }

@@ -1,11 +1,7 @@
 //! Presence maps: the bits that instructions use, and segments within one another.
 
-use super::Due::*;
-use super::End::{Between, Inside, Wrong};
-use super::{Row, STRICT, expect_rows};
+use super::{expect, expect_rows, set_of};
 use fast_decoder::layout::text_marks;
-use fast_template::Templates;
-use fast_value::Code;
 use std::test::Fail;
 
 /// An instruction each, and behind it a field whose bit shows how many the instruction uses.
@@ -88,199 +84,41 @@ id = 19
 fields = [{kind="sequence", name="s", optional=true, length={op="constant", value="1"}, fields=[{kind="uInt32", name="x"}]}, {kind="uInt32", name="y", optional=true, op="copy"}]
 "#;
 
-const THE_BITS_OF_FIELDS: &[Row<'static>] = &[
-    Row(
-        "no operator",
-        STRICT,
-        &[0xE0, 0x81, 0xC1, 0x86],
-        &[Message(0), Ascii(0, b"A"), U(1, 5), EndMessage],
-        Between,
-    ),
-    Row(
-        "no operator, optional",
-        STRICT,
-        &[0xE0, 0x82, 0xC1, 0x86],
-        &[Message(1), Ascii(2, b"A"), U(3, 5), EndMessage],
-        Between,
-    ),
-    Row(
-        "constant",
-        STRICT,
-        &[0xE0, 0x83, 0x86],
-        &[Message(2), Ascii(4, b"X"), U(5, 5), EndMessage],
-        Between,
-    ),
-    Row(
-        "constant, optional",
-        STRICT,
-        &[0xD0, 0x84, 0x86],
-        &[Message(3), U(7, 5), EndMessage],
-        Between,
-    ),
-    Row(
-        "default",
-        STRICT,
-        &[0xD0, 0x85, 0x86],
-        &[Message(4), Ascii(8, b"X"), U(9, 5), EndMessage],
-        Between,
-    ),
-    Row(
-        "default, optional",
-        STRICT,
-        &[0xD0, 0x86, 0x86],
-        &[Message(5), U(11, 5), EndMessage],
-        Between,
-    ),
-    Row(
-        "copy",
-        STRICT,
-        &[0xD0, 0x87, 0x86],
-        &[Message(6), Ascii(12, b"X"), U(13, 5), EndMessage],
-        Between,
-    ),
-    Row(
-        "copy, optional",
-        STRICT,
-        &[0xD0, 0x88, 0x86],
-        &[Message(7), U(15, 5), EndMessage],
-        Between,
-    ),
-    Row(
-        "increment",
-        STRICT,
-        &[0xD0, 0x89, 0x86],
-        &[Message(8), U(16, 3), U(17, 5), EndMessage],
-        Between,
-    ),
-    Row(
-        "increment, optional",
-        STRICT,
-        &[0xD0, 0x8A, 0x86],
-        &[Message(9), U(19, 5), EndMessage],
-        Between,
-    ),
-    Row(
-        "delta",
-        STRICT,
-        &[0xE0, 0x8B, 0x80, 0xC1, 0x86],
-        &[Message(10), Ascii(20, b"A"), U(21, 5), EndMessage],
-        Between,
-    ),
-    Row(
-        "delta, optional",
-        STRICT,
-        &[0xE0, 0x8C, 0x81, 0xC1, 0x86],
-        &[Message(11), Ascii(22, b"A"), U(23, 5), EndMessage],
-        Between,
-    ),
-    Row(
-        "tail",
-        STRICT,
-        &[0xD0, 0x8D, 0x86],
-        &[Message(12), Ascii(24, b"X"), U(25, 5), EndMessage],
-        Between,
-    ),
-    Row(
-        "tail, optional",
-        STRICT,
-        &[0xD0, 0x8E, 0x86],
-        &[Message(13), U(27, 5), EndMessage],
-        Between,
-    ),
-];
+const THE_BITS_OF_FIELDS: &str = "\
+no operator | strict | E0 81 C1 86 | m0 a0='A' u1=5 /m | between
+no operator, optional | strict | E0 82 C1 86 | m1 a2='A' u3=5 /m | between
+constant | strict | E0 83 86 | m2 a4='X' u5=5 /m | between
+constant, optional | strict | D0 84 86 | m3 u7=5 /m | between
+default | strict | D0 85 86 | m4 a8='X' u9=5 /m | between
+default, optional | strict | D0 86 86 | m5 u11=5 /m | between
+copy | strict | D0 87 86 | m6 a12='X' u13=5 /m | between
+copy, optional | strict | D0 88 86 | m7 u15=5 /m | between
+increment | strict | D0 89 86 | m8 u16=3 u17=5 /m | between
+increment, optional | strict | D0 8A 86 | m9 u19=5 /m | between
+delta | strict | E0 8B 80 C1 86 | m10 a20='A' u21=5 /m | between
+delta, optional | strict | E0 8C 81 C1 86 | m11 a22='A' u23=5 /m | between
+tail | strict | D0 8D 86 | m12 a24='X' u25=5 /m | between
+tail, optional | strict | D0 8E 86 | m13 u27=5 /m | between
+";
+
+const THE_BITS_OF_OTHER_INSTRUCTIONS: &str = "\
+a decimal by parts | strict | F8 8F 83 85 86 | m14 d28=5e2 u29=5 /m | between
+a group | strict | E0 90 85 86 | m15 g30 u31=5 /g u32=5 /m | between
+an optional group | strict | F0 91 85 86 | m16 g33 u34=5 /g u35=5 /m | between
+an optional group that is absent | strict | D0 91 86 | m16 u35=5 /m | between
+a sequence of constant length | strict | E0 92 85 86 | m17 s36*1 e u37=5 /e /s u38=5 /m | between
+an optional sequence of constant length | strict | F0 93 85 86 | m18 s39*1 e u40=5 /e /s u41=5 /m | between
+an optional sequence of constant length that is absent | strict | D0 93 86 | m18 u41=5 /m | between
+";
 
 #[test]
-fn the_bits_of_fields(rt: HostRuntime) -> Result<(), Fail> {
-    expect_rows(&rt, rt.alloc(), BITS, THE_BITS_OF_FIELDS)
-}
-
-const THE_BITS_OF_OTHER_INSTRUCTIONS: &[Row<'static>] = &[
-    Row(
-        "a decimal by parts",
-        STRICT,
-        &[0xF8, 0x8F, 0x83, 0x85, 0x86],
-        &[Message(14), Dec(28, 2, 5), U(29, 5), EndMessage],
-        Between,
-    ),
-    Row(
-        "a group",
-        STRICT,
-        &[0xE0, 0x90, 0x85, 0x86],
-        &[
-            Message(15),
-            Group(30),
-            U(31, 5),
-            EndGroup,
-            U(32, 5),
-            EndMessage,
-        ],
-        Between,
-    ),
-    Row(
-        "an optional group",
-        STRICT,
-        &[0xF0, 0x91, 0x85, 0x86],
-        &[
-            Message(16),
-            Group(33),
-            U(34, 5),
-            EndGroup,
-            U(35, 5),
-            EndMessage,
-        ],
-        Between,
-    ),
-    Row(
-        "an optional group that is absent",
-        STRICT,
-        &[0xD0, 0x91, 0x86],
-        &[Message(16), U(35, 5), EndMessage],
-        Between,
-    ),
-    Row(
-        "a sequence of constant length",
-        STRICT,
-        &[0xE0, 0x92, 0x85, 0x86],
-        &[
-            Message(17),
-            Sequence(36, 1),
-            Element,
-            U(37, 5),
-            EndElement,
-            EndSequence,
-            U(38, 5),
-            EndMessage,
-        ],
-        Between,
-    ),
-    Row(
-        "an optional sequence of constant length",
-        STRICT,
-        &[0xF0, 0x93, 0x85, 0x86],
-        &[
-            Message(18),
-            Sequence(39, 1),
-            Element,
-            U(40, 5),
-            EndElement,
-            EndSequence,
-            U(41, 5),
-            EndMessage,
-        ],
-        Between,
-    ),
-    Row(
-        "an optional sequence of constant length that is absent",
-        STRICT,
-        &[0xD0, 0x93, 0x86],
-        &[Message(18), U(41, 5), EndMessage],
-        Between,
-    ),
-];
-
-#[test]
-fn the_bits_of_other_instructions(rt: HostRuntime) -> Result<(), Fail> {
-    expect_rows(&rt, rt.alloc(), BITS, THE_BITS_OF_OTHER_INSTRUCTIONS)
+fn rows_of_bits(rt: HostRuntime) -> Result<(), Fail> {
+    expect_rows(
+        &rt,
+        rt.alloc(),
+        BITS,
+        &[THE_BITS_OF_FIELDS, THE_BITS_OF_OTHER_INSTRUCTIONS],
+    )
 }
 
 /// Templates whose fields use no bit.
@@ -294,62 +132,19 @@ name = "B"
 id = 9
 "#;
 
-const A_FLAT_MESSAGE: &[Row<'static>] = &[
-    Row(
-        "one byte of a map",
-        STRICT,
-        &[0xC0, 0x87, 0x81, 0x82, 0xC0, 0x89],
-        &[
-            Message(0),
-            U(0, 1),
-            U(1, 2),
-            EndMessage,
-            Message(1),
-            EndMessage,
-        ],
-        Between,
-    ),
-    Row(
-        "a second byte",
-        STRICT,
-        &[0x40, 0x81, 0x87],
-        &[],
-        Wrong(Code::R8, 3),
-    ),
-    Row(
-        "a second byte, of a message without fields",
-        STRICT,
-        &[0x40, 0x81, 0x89],
-        &[],
-        Wrong(Code::R8, 3),
-    ),
-];
+const A_FLAT_MESSAGE: &str = "\
+one byte of a map | strict | C0 87 81 82 C0 89 | m0 u0=1 u1=2 /m m1 /m | between
+a second byte | strict | 40 81 87 | | R8@3
+a second byte, of a message without fields | strict | 40 81 89 | | R8@3
+";
+
+const A_FLAT_SET: &str = "\
+the identifier is kept | strict | C0 87 81 82 80 83 84 | m0 u0=1 u1=2 /m m0 u0=3 u1=4 /m | between
+";
 
 #[test]
-fn a_flat_message_has_the_bit_of_its_identifier(rt: HostRuntime) -> Result<(), Fail> {
-    expect_rows(&rt, rt.alloc(), FLAT, A_FLAT_MESSAGE)
-}
-
-const A_FLAT_SET: &[Row<'static>] = &[Row(
-    "the identifier is kept",
-    STRICT,
-    &[0xC0, 0x87, 0x81, 0x82, 0x80, 0x83, 0x84],
-    &[
-        Message(0),
-        U(0, 1),
-        U(1, 2),
-        EndMessage,
-        Message(0),
-        U(0, 3),
-        U(1, 4),
-        EndMessage,
-    ],
-    Between,
-)];
-
-#[test]
-fn a_flat_set_has_the_entry_of_the_identifier(rt: HostRuntime) -> Result<(), Fail> {
-    expect_rows(&rt, rt.alloc(), FLAT, A_FLAT_SET)
+fn rows_of_flat(rt: HostRuntime) -> Result<(), Fail> {
+    expect_rows(&rt, rt.alloc(), FLAT, &[A_FLAT_MESSAGE, A_FLAT_SET])
 }
 
 /// An entry of texts and one of numbers.
@@ -363,9 +158,10 @@ fields = [{kind="bytes", name="b", optional=true, op="delta"}, {kind="uInt32", n
 /// The identifier's entry is the first.
 #[test]
 fn entries_of_texts_are_marked(rt: HostRuntime) -> Result<(), Fail> {
-    let set = Templates::read(rt.alloc(), ENTRIES)?;
+    let set = set_of(rt.alloc(), ENTRIES)?;
     let marks = text_marks(rt.alloc(), &set)?;
-    assert!(rt; marks.as_slice() == [false, true, false].as_slice());
+    let are_marked = marks.as_slice() == [false, true, false].as_slice();
+    expect(&rt, are_marked, "marks", marks.len());
     Ok(())
 }
 
@@ -424,135 +220,28 @@ fields = [
 ]
 "#;
 
-const SEGMENTS_COME_BACK: &[Row<'static>] = &[Row(
-    "maps of three, one and two bytes, and a segment without a map",
-    STRICT,
-    &[
-        0xC0, 0x81, 0x80, 0x80, 0x25, 0x00, 0xC1, 0x82, 0x83, 0xFF, 0x84, 0x81, 0x7F, 0x81, 0x85,
-        0x86, 0x87, 0x88, 0x89, 0x8A, 0x8B, 0x83, 0x8C, 0x8D, 0x8E, 0x8F, 0x90, 0x91, 0x92, 0x93,
-        0x94, 0x95,
-    ],
-    &[
-        Message(0),
-        Group(4),
-        Sequence(6, 0),
-        EndSequence,
-        EndGroup,
-        EndMessage,
-        Message(0),
-        U(0, 1),
-        U(3, 2),
-        Group(4),
-        U(5, 3),
-        Sequence(6, 1),
-        Element,
-        U(7, 4),
-        U(8, 5),
-        U(9, 6),
-        U(10, 7),
-        U(11, 8),
-        U(12, 9),
-        U(13, 10),
-        Group(17),
-        U(18, 3),
-        EndGroup,
-        U(22, 11),
-        EndElement,
-        EndSequence,
-        U(23, 12),
-        U(24, 13),
-        U(25, 14),
-        U(26, 15),
-        U(27, 16),
-        U(28, 17),
-        EndGroup,
-        U(30, 18),
-        U(38, 19),
-        U(44, 20),
-        EndMessage,
-    ],
-    Between,
-)];
+const SEGMENTS_COME_BACK: &str = "\
+maps of three, one and two bytes, and a segment without a map | strict \
+    | C0 81 80 80 25 00 C1 82 83 FF 84 81 7F 81 85 86 87 88 89 8A 8B 83 8C 8D 8E 8F 90 91 92 93 94 95 \
+    | m0 g4 s6*0 /s /g /m m0 u0=1 u3=2 g4 u5=3 s6*1 e u7=4 u8=5 u9=6 u10=7 u11=8 u12=9 u13=10 g17 u18=3 /g u22=11 /e \
+    /s u23=12 u24=13 u25=14 u26=15 u27=16 u28=17 /g u30=18 u38=19 u44=20 /m | between
+";
+
+const MAPS_ARE_TAKEN: &str = "\
+a map of two bytes | strict | C0 81 80 80 25 C1 82 83 80 80 84 85 86 \
+    | m0 g4 s6*0 /s /g /m m0 u0=1 u3=2 g4 s6*0 /s /g u30=3 u31=4 u37=5 /m | between
+a map of one byte | strict | C0 81 80 80 A0 82 80 80 | m0 g4 s6*0 /s /g /m m0 u0=1 g4 s6*0 /s /g /m | between
+no bit but that of the identifier | strict | C0 81 80 80 | m0 g4 s6*0 /s /g /m | between
+145 bytes of a map | strict | 00*145 | | inside
+200 bytes without a stop bit | strict | 00*200 | | L3@146
+";
 
 #[test]
-fn segments_come_back(rt: HostRuntime) -> Result<(), Fail> {
-    expect_rows(&rt, rt.alloc(), SEGMENTS, SEGMENTS_COME_BACK)
-}
-
-const MAPS_ARE_TAKEN: &[Row<'static>] = &[
-    Row(
-        "a map of two bytes",
-        STRICT,
-        &[
-            0xC0, 0x81, 0x80, 0x80, 0x25, 0xC1, 0x82, 0x83, 0x80, 0x80, 0x84, 0x85, 0x86,
-        ],
-        &[
-            Message(0),
-            Group(4),
-            Sequence(6, 0),
-            EndSequence,
-            EndGroup,
-            EndMessage,
-            Message(0),
-            U(0, 1),
-            U(3, 2),
-            Group(4),
-            Sequence(6, 0),
-            EndSequence,
-            EndGroup,
-            U(30, 3),
-            U(31, 4),
-            U(37, 5),
-            EndMessage,
-        ],
-        Between,
-    ),
-    Row(
-        "a map of one byte",
-        STRICT,
-        &[0xC0, 0x81, 0x80, 0x80, 0xA0, 0x82, 0x80, 0x80],
-        &[
-            Message(0),
-            Group(4),
-            Sequence(6, 0),
-            EndSequence,
-            EndGroup,
-            EndMessage,
-            Message(0),
-            U(0, 1),
-            Group(4),
-            Sequence(6, 0),
-            EndSequence,
-            EndGroup,
-            EndMessage,
-        ],
-        Between,
-    ),
-    Row(
-        "no bit but that of the identifier",
-        STRICT,
-        &[0xC0, 0x81, 0x80, 0x80],
-        &[
-            Message(0),
-            Group(4),
-            Sequence(6, 0),
-            EndSequence,
-            EndGroup,
-            EndMessage,
-        ],
-        Between,
-    ),
-    Row("145 bytes of a map", STRICT, &[0; 145], &[], Inside),
-    Row(
-        "200 bytes without a stop bit",
-        STRICT,
-        &[0; 200],
-        &[],
-        Wrong(Code::L3, 146),
-    ),
-];
-
-#[test]
-fn maps_are_taken(rt: HostRuntime) -> Result<(), Fail> {
-    expect_rows(&rt, rt.alloc(), SEGMENTS, MAPS_ARE_TAKEN)
+fn rows_of_segments(rt: HostRuntime) -> Result<(), Fail> {
+    expect_rows(
+        &rt,
+        rt.alloc(),
+        SEGMENTS,
+        &[SEGMENTS_COME_BACK, MAPS_ARE_TAKEN],
+    )
 }

@@ -1,9 +1,6 @@
 //! Fields of numbers: one field a template, and what its entry holds is shown by a field of another operator with the same key.
 
-use super::Due::*;
-use super::End::{Between, Inside, Wrong};
-use super::{LENIENT, Row, STRICT, expect_rows};
-use fast_value::Code;
+use super::expect_rows;
 use std::test::Fail;
 
 /// Fields without an entry.
@@ -150,954 +147,160 @@ id = 17
 fields = [{name="f", kind="uInt32", optional=true, op="increment", key="k"}]
 "#;
 
-const INTEGERS_WITHOUT_AN_ENTRY: &[Row<'static>] = &[
-    Row(
-        "an unsigned integer of three bytes",
-        STRICT,
-        &[0xC0, 0x81, 0x39, 0x45, 0xA3],
-        &[Message(0), U(0, 942755), EndMessage],
-        Between,
-    ),
-    Row(
-        "one more where it may be absent",
-        STRICT,
-        &[0xC0, 0x82, 0x39, 0x45, 0xA4],
-        &[Message(1), U(1, 942755), EndMessage],
-        Between,
-    ),
-    Row(
-        "absent",
-        STRICT,
-        &[0xC0, 0x82, 0x80],
-        &[Message(1), EndMessage],
-        Between,
-    ),
-    Row(
-        "0 where it may be absent",
-        STRICT,
-        &[0xC0, 0x82, 0x81],
-        &[Message(1), U(1, 0), EndMessage],
-        Between,
-    ),
-    Row(
-        "0",
-        STRICT,
-        &[0xC0, 0x81, 0x80],
-        &[Message(0), U(0, 0), EndMessage],
-        Between,
-    ),
-    Row(
-        "the greatest of 32 bits",
-        STRICT,
-        &[0xC0, 0x81, 0x0F, 0x7F, 0x7F, 0x7F, 0xFF],
-        &[Message(0), U(0, 4294967295), EndMessage],
-        Between,
-    ),
-    Row(
-        "one past 32 bits",
-        STRICT,
-        &[0xC0, 0x81, 0x10, 0x00, 0x00, 0x00, 0x80],
-        &[Message(0)],
-        Wrong(Code::D2, 7),
-    ),
-    Row(
-        "the greatest of 32 bits where it may be absent",
-        STRICT,
-        &[0xC0, 0x82, 0x10, 0x00, 0x00, 0x00, 0x80],
-        &[Message(1), U(1, 4294967295), EndMessage],
-        Between,
-    ),
-    Row(
-        "an overlong integer",
-        STRICT,
-        &[0xC0, 0x81, 0x00, 0x81],
-        &[Message(0)],
-        Wrong(Code::R6, 4),
-    ),
-    Row(
-        "ten bytes without a stop bit",
-        STRICT,
-        &[
-            0xC0, 0x83, 0x00, 0x00, 0x00, 0x00, 0x00, 0x00, 0x00, 0x00, 0x00, 0x00,
-        ],
-        &[Message(2)],
-        Wrong(Code::D2, 12),
-    ),
-    Row(
-        "a negative integer",
-        STRICT,
-        &[0xC0, 0x84, 0x46, 0x3A, 0xDD],
-        &[Message(3), I(3, -942755), EndMessage],
-        Between,
-    ),
-    Row(
-        "a negative integer that may be absent",
-        STRICT,
-        &[0xC0, 0x85, 0x7C, 0x1B, 0x1B, 0x9D],
-        &[Message(4), I(4, -7942755), EndMessage],
-        Between,
-    ),
-    Row(
-        "an absent signed integer",
-        STRICT,
-        &[0xC0, 0x85, 0x80],
-        &[Message(4), EndMessage],
-        Between,
-    ),
-    Row(
-        "a signed integer that is cut",
-        STRICT,
-        &[0xC0, 0x86, 0x40, 0x00],
-        &[Message(5)],
-        Inside,
-    ),
-    Row(
-        "a default that is sent as absent",
-        STRICT,
-        &[0xE0, 0x87, 0x80],
-        &[Message(6), EndMessage],
-        Between,
-    ),
-    Row(
-        "a value in a default's place",
-        STRICT,
-        &[0xE0, 0x88, 0x85],
-        &[Message(7), U(7, 5), EndMessage],
-        Between,
-    ),
-    Row(
-        "a negative value in a default's place",
-        STRICT,
-        &[0xE0, 0x89, 0xFF],
-        &[Message(8), I(8, -1), EndMessage],
-        Between,
-    ),
-];
+const INTEGERS_WITHOUT_AN_ENTRY: &str = "\
+an unsigned integer of three bytes | strict | C0 81 39 45 A3 | m0 u0=942755 /m | between
+one more where it may be absent | strict | C0 82 39 45 A4 | m1 u1=942755 /m | between
+absent | strict | C0 82 80 | m1 /m | between
+0 where it may be absent | strict | C0 82 81 | m1 u1=0 /m | between
+0 | strict | C0 81 80 | m0 u0=0 /m | between
+the greatest of 32 bits | strict | C0 81 0F 7F 7F 7F FF | m0 u0=4294967295 /m | between
+one past 32 bits | strict | C0 81 10 00 00 00 80 | m0 | D2@7
+the greatest of 32 bits where it may be absent | strict | C0 82 10 00 00 00 80 | m1 u1=4294967295 /m | between
+an overlong integer | strict | C0 81 00 81 | m0 | R6@4
+ten bytes without a stop bit | strict | C0 83 00*10 | m2 | D2@12
+a negative integer | strict | C0 84 46 3A DD | m3 i3=-942755 /m | between
+a negative integer that may be absent | strict | C0 85 7C 1B 1B 9D | m4 i4=-7942755 /m | between
+an absent signed integer | strict | C0 85 80 | m4 /m | between
+a signed integer that is cut | strict | C0 86 40 00 | m5 | inside
+a default that is sent as absent | strict | E0 87 80 | m6 /m | between
+a value in a default's place | strict | E0 88 85 | m7 u7=5 /m | between
+a negative value in a default's place | strict | E0 89 FF | m8 i8=-1 /m | between
+";
+
+const INTEGERS_THAT_ARE_KEPT: &str = "\
+copy: a value that is sent is kept | strict | E0 81 85 C0 81 | m0 u0=5 /m m0 u0=5 /m | between
+copy: absent empties the entry | strict | E0 81 87 E0 82 80 C0 81 | m0 u0=7 /m m1 /m m0 | D6@8
+increment: absent empties the entry | strict | E0 83 87 E0 84 80 C0 83 | m2 i2=7 /m m3 /m m2 | D6@8
+increment: a value that is sent is kept | strict | E0 83 87 E0 85 FF C0 83 | m2 i2=7 /m m4 i4=-1 /m m2 i2=-1 /m \
+    | between
+delta: the base of an undefined entry is 0 | strict | C0 86 85 C0 81 | m5 u5=5 /m m0 u0=5 /m | between
+delta: less than before | strict | E0 81 87 C0 86 FB C0 81 | m0 u0=7 /m m5 u5=2 /m m0 u0=2 /m | between
+delta: below 0 | strict | E0 81 87 C0 86 F8 | m0 u0=7 /m m5 | D2@6
+delta: absent leaves the entry | strict | E0 81 87 C0 87 80 C0 81 | m0 u0=7 /m m6 /m m0 u0=7 /m | between
+delta: absent leaves an empty entry | strict | E0 82 80 C0 87 80 C0 81 | m1 /m m6 /m m0 | D6@8
+delta: an empty entry is no base | strict | E0 82 80 C0 87 81 | m1 /m m6 | D6@6
+delta: a base of another kind | strict | E0 83 87 C0 86 81 | m2 i2=7 /m m5 | D4@6
+delta: signed, below 0 | strict | E0 83 87 C0 88 F8 C0 83 | m2 i2=7 /m m7 i7=-1 /m m2 i2=-1 /m | between
+";
+
+const DECIMALS_WITHOUT_AN_ENTRY: &str = "\
+a decimal | strict | C0 8A 82 39 45 A3 | m9 d9=942755e2 /m | between
+a decimal that may be absent | strict | C0 8B 83 39 45 A3 | m10 d10=942755e2 /m | between
+an absent decimal | strict | C0 8B 80 | m10 /m | between
+a default decimal that is sent as absent | strict | E0 8C 80 | m11 /m | between
+an exponent past 63 | strict | C0 8A 00 C0 | m9 | R1@4
+an overlong mantissa | strict | C0 8A BF 00 81 | m9 | R6@5
+";
+
+const DECIMALS_THAT_ARE_KEPT: &str = "\
+copy: absent empties the entry | strict | E0 89 81 81 E0 8A 80 C0 89 | m8 d8=1e1 /m m9 /m m8 | D6@9
+copy: a decimal that is sent is kept | strict | E0 89 FE 85 C0 89 | m8 d8=5e-2 /m m8 d8=5e-2 /m | between
+delta: of both parts | strict | E0 89 FE 85 C0 8B 81 FF C0 89 | m8 d8=5e-2 /m m10 d10=4e-1 /m m8 d8=4e-1 /m | between
+delta: absent leaves the entry | strict | E0 89 FE 85 C0 8C 80 C0 89 | m8 d8=5e-2 /m m11 /m m8 d8=5e-2 /m | between
+delta: absent leaves an empty entry | strict | E0 8A 80 C0 8C 80 C0 89 | m9 /m m11 /m m8 | D6@8
+delta: an empty entry is no base | strict | E0 8A 80 C0 8C 81 | m9 /m m11 | D6@6
+delta: an exponent past 63 | strict | E0 89 BF 85 C0 8B 81 | m8 d8=5e63 /m m10 | R1@7
+delta: a base of another kind | strict | E0 81 85 C0 8B 81 | m0 u0=5 /m m10 | D4@6
+";
+
+const NOTHING_IS_SENT: &str = "\
+a constant | strict | C0 8D | m12 u12=7 /m | between
+a constant that is absent | strict | C0 8E | m13 /m | between
+a default | strict | C0 8F | m14 u14=7 /m | between
+no default | strict | C0 90 | m15 /m | between
+";
+
+const NOTHING_IS_SENT_OF_WHAT_IS_KEPT: &str = "\
+copy: the initial value is kept | strict | C0 8E C0 81 | m13 u13=7 /m m0 u0=7 /m | between
+copy: the previous value comes before the initial value | strict | E0 81 85 C0 8E C0 81 \
+    | m0 u0=5 /m m13 u13=5 /m m0 u0=5 /m | between
+copy: a previous value of another kind | strict | E0 8D 85 C0 8E | m12 i12=5 /m m13 | D4@5
+copy: an empty entry | strict | E0 82 80 C0 8E | m1 /m m13 | D6@5
+copy: an empty entry makes it absent | strict | E0 82 80 C0 8F C0 81 | m1 /m m14 /m m0 | D6@7
+increment: an undefined entry | strict | C0 90 | m15 | D5@2
+increment: an undefined entry makes it absent, and is empty then | strict | C0 91 C0 81 | m16 /m m0 | D6@4
+increment: one more | strict | E0 81 85 C0 90 C0 81 | m0 u0=5 /m m15 u15=6 /m m0 u0=6 /m | between
+increment: behind the greatest the least | strict | E0 81 0F 7F 7F 7F FF C0 90 C0 81 \
+    | m0 u0=4294967295 /m m15 u15=0 /m m0 u0=0 /m | between
+increment: behind the greatest of 64 bits the least | strict | E0 83 00 7F*8 FF C0 85 C0 83 \
+    | m2 i2=9223372036854775807 /m m4 i4=-9223372036854775808 /m m2 i2=-9223372036854775808 /m | between
+";
 
 #[test]
-fn integers_without_an_entry(rt: HostRuntime) -> Result<(), Fail> {
-    expect_rows(&rt, rt.alloc(), WITHOUT_ENTRY, INTEGERS_WITHOUT_AN_ENTRY)
+fn rows_of_kept(rt: HostRuntime) -> Result<(), Fail> {
+    expect_rows(
+        &rt,
+        rt.alloc(),
+        KEPT,
+        &[
+            INTEGERS_THAT_ARE_KEPT,
+            DECIMALS_THAT_ARE_KEPT,
+            NOTHING_IS_SENT_OF_WHAT_IS_KEPT,
+        ],
+    )
 }
 
-const INTEGERS_THAT_ARE_KEPT: &[Row<'static>] = &[
-    Row(
-        "copy: a value that is sent is kept",
-        STRICT,
-        &[0xE0, 0x81, 0x85, 0xC0, 0x81],
-        &[
-            Message(0),
-            U(0, 5),
-            EndMessage,
-            Message(0),
-            U(0, 5),
-            EndMessage,
-        ],
-        Between,
-    ),
-    Row(
-        "copy: absent empties the entry",
-        STRICT,
-        &[0xE0, 0x81, 0x87, 0xE0, 0x82, 0x80, 0xC0, 0x81],
-        &[
-            Message(0),
-            U(0, 7),
-            EndMessage,
-            Message(1),
-            EndMessage,
-            Message(0),
-        ],
-        Wrong(Code::D6, 8),
-    ),
-    Row(
-        "increment: absent empties the entry",
-        STRICT,
-        &[0xE0, 0x83, 0x87, 0xE0, 0x84, 0x80, 0xC0, 0x83],
-        &[
-            Message(2),
-            I(2, 7),
-            EndMessage,
-            Message(3),
-            EndMessage,
-            Message(2),
-        ],
-        Wrong(Code::D6, 8),
-    ),
-    Row(
-        "increment: a value that is sent is kept",
-        STRICT,
-        &[0xE0, 0x83, 0x87, 0xE0, 0x85, 0xFF, 0xC0, 0x83],
-        &[
-            Message(2),
-            I(2, 7),
-            EndMessage,
-            Message(4),
-            I(4, -1),
-            EndMessage,
-            Message(2),
-            I(2, -1),
-            EndMessage,
-        ],
-        Between,
-    ),
-    Row(
-        "delta: the base of an undefined entry is 0",
-        STRICT,
-        &[0xC0, 0x86, 0x85, 0xC0, 0x81],
-        &[
-            Message(5),
-            U(5, 5),
-            EndMessage,
-            Message(0),
-            U(0, 5),
-            EndMessage,
-        ],
-        Between,
-    ),
-    Row(
-        "delta: less than before",
-        STRICT,
-        &[0xE0, 0x81, 0x87, 0xC0, 0x86, 0xFB, 0xC0, 0x81],
-        &[
-            Message(0),
-            U(0, 7),
-            EndMessage,
-            Message(5),
-            U(5, 2),
-            EndMessage,
-            Message(0),
-            U(0, 2),
-            EndMessage,
-        ],
-        Between,
-    ),
-    Row(
-        "delta: below 0",
-        STRICT,
-        &[0xE0, 0x81, 0x87, 0xC0, 0x86, 0xF8],
-        &[Message(0), U(0, 7), EndMessage, Message(5)],
-        Wrong(Code::D2, 6),
-    ),
-    Row(
-        "delta: absent leaves the entry",
-        STRICT,
-        &[0xE0, 0x81, 0x87, 0xC0, 0x87, 0x80, 0xC0, 0x81],
-        &[
-            Message(0),
-            U(0, 7),
-            EndMessage,
-            Message(6),
-            EndMessage,
-            Message(0),
-            U(0, 7),
-            EndMessage,
-        ],
-        Between,
-    ),
-    Row(
-        "delta: absent leaves an empty entry",
-        STRICT,
-        &[0xE0, 0x82, 0x80, 0xC0, 0x87, 0x80, 0xC0, 0x81],
-        &[Message(1), EndMessage, Message(6), EndMessage, Message(0)],
-        Wrong(Code::D6, 8),
-    ),
-    Row(
-        "delta: an empty entry is no base",
-        STRICT,
-        &[0xE0, 0x82, 0x80, 0xC0, 0x87, 0x81],
-        &[Message(1), EndMessage, Message(6)],
-        Wrong(Code::D6, 6),
-    ),
-    Row(
-        "delta: a base of another kind",
-        STRICT,
-        &[0xE0, 0x83, 0x87, 0xC0, 0x86, 0x81],
-        &[Message(2), I(2, 7), EndMessage, Message(5)],
-        Wrong(Code::D4, 6),
-    ),
-    Row(
-        "delta: signed, below 0",
-        STRICT,
-        &[0xE0, 0x83, 0x87, 0xC0, 0x88, 0xF8, 0xC0, 0x83],
-        &[
-            Message(2),
-            I(2, 7),
-            EndMessage,
-            Message(7),
-            I(7, -1),
-            EndMessage,
-            Message(2),
-            I(2, -1),
-            EndMessage,
-        ],
-        Between,
-    ),
-];
+const MANDATORY_INTEGERS: &str = "\
+one byte each | strict | C0 81 81 C0 81 82 | m0 u0=1 /m m0 u0=2 /m | between
+one byte each, in lenient mode | lenient | C0 81 81 C0 81 82 | m0 u0=1 /m m0 u0=2 /m | between
+three bytes | strict | C0 81 39 45 A3 | m0 u0=942755 /m | between
+three bytes, in lenient mode | lenient | C0 81 39 45 A3 | m0 u0=942755 /m | between
+the greatest | strict | C0 81 0F 7F 7F 7F FF | m0 u0=4294967295 /m | between
+the greatest, in lenient mode | lenient | C0 81 0F 7F 7F 7F FF | m0 u0=4294967295 /m | between
+one past the greatest | strict | C0 81 10 00 00 00 80 | m0 | D2@7
+one past the greatest, in lenient mode | lenient | C0 81 10 00 00 00 80 | m0 | D2@7
+ten bytes, none of them 0, without a stop bit | strict | C0 81 01*10 | m0 | D2@12
+ten bytes, none of them 0, without a stop bit, in lenient mode | lenient | C0 81 01*10 | m0 | D2@12
+nine bytes without a stop bit | strict | C0 81 01*9 | m0 | inside
+nine bytes without a stop bit, in lenient mode | lenient | C0 81 01*9 | m0 | inside
+a mantissa of three bytes | strict | C0 8A 80 39 45 A3 | m9 d9=942755e0 /m | between
+a mantissa of three bytes, in lenient mode | lenient | C0 8A 80 39 45 A3 | m9 d9=942755e0 /m | between
+an exponent past 31 bits | strict | C0 8A 10 00 00 00 80 | m9 | R1@7
+an exponent past 31 bits, in lenient mode | lenient | C0 8A 10 00 00 00 80 | m9 | R1@7
+an exponent of ten bytes without a stop bit | strict | C0 8A 01*10 | m9 | D2@12
+an exponent of ten bytes without a stop bit, in lenient mode | lenient | C0 8A 01*10 | m9 | D2@12
+nine bytes of an exponent | strict | C0 8A 01*9 | m9 | inside
+nine bytes of an exponent, in lenient mode | lenient | C0 8A 01*9 | m9 | inside
+overlong, in lenient mode | lenient | C0 81 00 81 | m0 u0=1 /m | between
+overlong | strict | C0 81 00 81 | m0 | R6@4
+an overlong exponent | strict | C0 8A 00 81 | m9 | R6@4
+";
+
+const NULLABLE_AND_SIGNED_INTEGERS: &str = "\
+absent | strict | C0 82 80 | m1 /m | between
+absent, in lenient mode | lenient | C0 82 80 | m1 /m | between
+0 where it may be absent | strict | C0 82 81 | m1 u1=0 /m | between
+0 where it may be absent, in lenient mode | lenient | C0 82 81 | m1 u1=0 /m | between
+the greatest exponent | strict | C0 8A BF 81 | m9 d9=1e63 /m | between
+the greatest exponent, in lenient mode | lenient | C0 8A BF 81 | m9 d9=1e63 /m | between
+the least exponent | strict | C0 8A C1 81 | m9 d9=1e-63 /m | between
+the least exponent, in lenient mode | lenient | C0 8A C1 81 | m9 d9=1e-63 /m | between
+an exponent below the least | strict | C0 8A C0 | m9 | R1@3
+an exponent below the least, in lenient mode | lenient | C0 8A C0 | m9 | R1@3
+the greatest exponent where it may be absent | strict | C0 8B 00 C0 81 | m10 d10=1e63 /m | between
+the greatest exponent where it may be absent, in lenient mode | lenient | C0 8B 00 C0 81 | m10 d10=1e63 /m | between
+an exponent past the greatest where it may be absent | strict | C0 8B 00 C1 | m10 | R1@4
+an exponent past the greatest where it may be absent, in lenient mode | lenient | C0 8B 00 C1 | m10 | R1@4
+no exponent | strict | C0 8B 80 | m10 /m | between
+no exponent, in lenient mode | lenient | C0 8B 80 | m10 /m | between
+a negative integer | strict | C0 84 46 3A DD | m3 i3=-942755 /m | between
+a negative integer, in lenient mode | lenient | C0 84 46 3A DD | m3 i3=-942755 /m | between
+ten bytes of a negative integer without a stop bit | strict | C0 91 7F*10 | m16 | D2@12
+ten bytes of a negative integer without a stop bit, in lenient mode | lenient | C0 91 7F*10 | m16 | D2@12
+";
 
 #[test]
-fn integers_that_are_kept(rt: HostRuntime) -> Result<(), Fail> {
-    expect_rows(&rt, rt.alloc(), KEPT, INTEGERS_THAT_ARE_KEPT)
-}
-
-const DECIMALS_WITHOUT_AN_ENTRY: &[Row<'static>] = &[
-    Row(
-        "a decimal",
-        STRICT,
-        &[0xC0, 0x8A, 0x82, 0x39, 0x45, 0xA3],
-        &[Message(9), Dec(9, 2, 942755), EndMessage],
-        Between,
-    ),
-    Row(
-        "a decimal that may be absent",
-        STRICT,
-        &[0xC0, 0x8B, 0x83, 0x39, 0x45, 0xA3],
-        &[Message(10), Dec(10, 2, 942755), EndMessage],
-        Between,
-    ),
-    Row(
-        "an absent decimal",
-        STRICT,
-        &[0xC0, 0x8B, 0x80],
-        &[Message(10), EndMessage],
-        Between,
-    ),
-    Row(
-        "a default decimal that is sent as absent",
-        STRICT,
-        &[0xE0, 0x8C, 0x80],
-        &[Message(11), EndMessage],
-        Between,
-    ),
-    Row(
-        "an exponent past 63",
-        STRICT,
-        &[0xC0, 0x8A, 0x00, 0xC0],
-        &[Message(9)],
-        Wrong(Code::R1, 4),
-    ),
-    Row(
-        "an overlong mantissa",
-        STRICT,
-        &[0xC0, 0x8A, 0xBF, 0x00, 0x81],
-        &[Message(9)],
-        Wrong(Code::R6, 5),
-    ),
-];
-
-#[test]
-fn decimals_without_an_entry(rt: HostRuntime) -> Result<(), Fail> {
-    expect_rows(&rt, rt.alloc(), WITHOUT_ENTRY, DECIMALS_WITHOUT_AN_ENTRY)
-}
-
-const DECIMALS_THAT_ARE_KEPT: &[Row<'static>] = &[
-    Row(
-        "copy: absent empties the entry",
-        STRICT,
-        &[0xE0, 0x89, 0x81, 0x81, 0xE0, 0x8A, 0x80, 0xC0, 0x89],
+fn rows_of_without_entry(rt: HostRuntime) -> Result<(), Fail> {
+    expect_rows(
+        &rt,
+        rt.alloc(),
+        WITHOUT_ENTRY,
         &[
-            Message(8),
-            Dec(8, 1, 1),
-            EndMessage,
-            Message(9),
-            EndMessage,
-            Message(8),
+            INTEGERS_WITHOUT_AN_ENTRY,
+            DECIMALS_WITHOUT_AN_ENTRY,
+            NOTHING_IS_SENT,
+            MANDATORY_INTEGERS,
+            NULLABLE_AND_SIGNED_INTEGERS,
         ],
-        Wrong(Code::D6, 9),
-    ),
-    Row(
-        "copy: a decimal that is sent is kept",
-        STRICT,
-        &[0xE0, 0x89, 0xFE, 0x85, 0xC0, 0x89],
-        &[
-            Message(8),
-            Dec(8, -2, 5),
-            EndMessage,
-            Message(8),
-            Dec(8, -2, 5),
-            EndMessage,
-        ],
-        Between,
-    ),
-    Row(
-        "delta: of both parts",
-        STRICT,
-        &[0xE0, 0x89, 0xFE, 0x85, 0xC0, 0x8B, 0x81, 0xFF, 0xC0, 0x89],
-        &[
-            Message(8),
-            Dec(8, -2, 5),
-            EndMessage,
-            Message(10),
-            Dec(10, -1, 4),
-            EndMessage,
-            Message(8),
-            Dec(8, -1, 4),
-            EndMessage,
-        ],
-        Between,
-    ),
-    Row(
-        "delta: absent leaves the entry",
-        STRICT,
-        &[0xE0, 0x89, 0xFE, 0x85, 0xC0, 0x8C, 0x80, 0xC0, 0x89],
-        &[
-            Message(8),
-            Dec(8, -2, 5),
-            EndMessage,
-            Message(11),
-            EndMessage,
-            Message(8),
-            Dec(8, -2, 5),
-            EndMessage,
-        ],
-        Between,
-    ),
-    Row(
-        "delta: absent leaves an empty entry",
-        STRICT,
-        &[0xE0, 0x8A, 0x80, 0xC0, 0x8C, 0x80, 0xC0, 0x89],
-        &[Message(9), EndMessage, Message(11), EndMessage, Message(8)],
-        Wrong(Code::D6, 8),
-    ),
-    Row(
-        "delta: an empty entry is no base",
-        STRICT,
-        &[0xE0, 0x8A, 0x80, 0xC0, 0x8C, 0x81],
-        &[Message(9), EndMessage, Message(11)],
-        Wrong(Code::D6, 6),
-    ),
-    Row(
-        "delta: an exponent past 63",
-        STRICT,
-        &[0xE0, 0x89, 0xBF, 0x85, 0xC0, 0x8B, 0x81],
-        &[Message(8), Dec(8, 63, 5), EndMessage, Message(10)],
-        Wrong(Code::R1, 7),
-    ),
-    Row(
-        "delta: a base of another kind",
-        STRICT,
-        &[0xE0, 0x81, 0x85, 0xC0, 0x8B, 0x81],
-        &[Message(0), U(0, 5), EndMessage, Message(10)],
-        Wrong(Code::D4, 6),
-    ),
-];
-
-#[test]
-fn decimals_that_are_kept(rt: HostRuntime) -> Result<(), Fail> {
-    expect_rows(&rt, rt.alloc(), KEPT, DECIMALS_THAT_ARE_KEPT)
-}
-
-const NOTHING_IS_SENT: &[Row<'static>] = &[
-    Row(
-        "a constant",
-        STRICT,
-        &[0xC0, 0x8D],
-        &[Message(12), U(12, 7), EndMessage],
-        Between,
-    ),
-    Row(
-        "a constant that is absent",
-        STRICT,
-        &[0xC0, 0x8E],
-        &[Message(13), EndMessage],
-        Between,
-    ),
-    Row(
-        "a default",
-        STRICT,
-        &[0xC0, 0x8F],
-        &[Message(14), U(14, 7), EndMessage],
-        Between,
-    ),
-    Row(
-        "no default",
-        STRICT,
-        &[0xC0, 0x90],
-        &[Message(15), EndMessage],
-        Between,
-    ),
-];
-
-#[test]
-fn nothing_is_sent(rt: HostRuntime) -> Result<(), Fail> {
-    expect_rows(&rt, rt.alloc(), WITHOUT_ENTRY, NOTHING_IS_SENT)
-}
-
-const NOTHING_IS_SENT_OF_WHAT_IS_KEPT: &[Row<'static>] = &[
-    Row(
-        "copy: the initial value is kept",
-        STRICT,
-        &[0xC0, 0x8E, 0xC0, 0x81],
-        &[
-            Message(13),
-            U(13, 7),
-            EndMessage,
-            Message(0),
-            U(0, 7),
-            EndMessage,
-        ],
-        Between,
-    ),
-    Row(
-        "copy: the previous value comes before the initial value",
-        STRICT,
-        &[0xE0, 0x81, 0x85, 0xC0, 0x8E, 0xC0, 0x81],
-        &[
-            Message(0),
-            U(0, 5),
-            EndMessage,
-            Message(13),
-            U(13, 5),
-            EndMessage,
-            Message(0),
-            U(0, 5),
-            EndMessage,
-        ],
-        Between,
-    ),
-    Row(
-        "copy: a previous value of another kind",
-        STRICT,
-        &[0xE0, 0x8D, 0x85, 0xC0, 0x8E],
-        &[Message(12), I(12, 5), EndMessage, Message(13)],
-        Wrong(Code::D4, 5),
-    ),
-    Row(
-        "copy: an empty entry",
-        STRICT,
-        &[0xE0, 0x82, 0x80, 0xC0, 0x8E],
-        &[Message(1), EndMessage, Message(13)],
-        Wrong(Code::D6, 5),
-    ),
-    Row(
-        "copy: an empty entry makes it absent",
-        STRICT,
-        &[0xE0, 0x82, 0x80, 0xC0, 0x8F, 0xC0, 0x81],
-        &[Message(1), EndMessage, Message(14), EndMessage, Message(0)],
-        Wrong(Code::D6, 7),
-    ),
-    Row(
-        "increment: an undefined entry",
-        STRICT,
-        &[0xC0, 0x90],
-        &[Message(15)],
-        Wrong(Code::D5, 2),
-    ),
-    Row(
-        "increment: an undefined entry makes it absent, and is empty then",
-        STRICT,
-        &[0xC0, 0x91, 0xC0, 0x81],
-        &[Message(16), EndMessage, Message(0)],
-        Wrong(Code::D6, 4),
-    ),
-    Row(
-        "increment: one more",
-        STRICT,
-        &[0xE0, 0x81, 0x85, 0xC0, 0x90, 0xC0, 0x81],
-        &[
-            Message(0),
-            U(0, 5),
-            EndMessage,
-            Message(15),
-            U(15, 6),
-            EndMessage,
-            Message(0),
-            U(0, 6),
-            EndMessage,
-        ],
-        Between,
-    ),
-    Row(
-        "increment: behind the greatest the least",
-        STRICT,
-        &[
-            0xE0, 0x81, 0x0F, 0x7F, 0x7F, 0x7F, 0xFF, 0xC0, 0x90, 0xC0, 0x81,
-        ],
-        &[
-            Message(0),
-            U(0, 4294967295),
-            EndMessage,
-            Message(15),
-            U(15, 0),
-            EndMessage,
-            Message(0),
-            U(0, 0),
-            EndMessage,
-        ],
-        Between,
-    ),
-    Row(
-        "increment: behind the greatest of 64 bits the least",
-        STRICT,
-        &[
-            0xE0, 0x83, 0x00, 0x7F, 0x7F, 0x7F, 0x7F, 0x7F, 0x7F, 0x7F, 0x7F, 0xFF, 0xC0, 0x85,
-            0xC0, 0x83,
-        ],
-        &[
-            Message(2),
-            I(2, 9223372036854775807),
-            EndMessage,
-            Message(4),
-            I(4, -9223372036854775808),
-            EndMessage,
-            Message(2),
-            I(2, -9223372036854775808),
-            EndMessage,
-        ],
-        Between,
-    ),
-];
-
-#[test]
-fn nothing_is_sent_of_what_is_kept(rt: HostRuntime) -> Result<(), Fail> {
-    expect_rows(&rt, rt.alloc(), KEPT, NOTHING_IS_SENT_OF_WHAT_IS_KEPT)
-}
-
-const MANDATORY_INTEGERS: &[Row<'static>] = &[
-    Row(
-        "one byte each",
-        STRICT,
-        &[0xC0, 0x81, 0x81, 0xC0, 0x81, 0x82],
-        &[
-            Message(0),
-            U(0, 1),
-            EndMessage,
-            Message(0),
-            U(0, 2),
-            EndMessage,
-        ],
-        Between,
-    ),
-    Row(
-        "one byte each, in lenient mode",
-        LENIENT,
-        &[0xC0, 0x81, 0x81, 0xC0, 0x81, 0x82],
-        &[
-            Message(0),
-            U(0, 1),
-            EndMessage,
-            Message(0),
-            U(0, 2),
-            EndMessage,
-        ],
-        Between,
-    ),
-    Row(
-        "three bytes",
-        STRICT,
-        &[0xC0, 0x81, 0x39, 0x45, 0xA3],
-        &[Message(0), U(0, 942755), EndMessage],
-        Between,
-    ),
-    Row(
-        "three bytes, in lenient mode",
-        LENIENT,
-        &[0xC0, 0x81, 0x39, 0x45, 0xA3],
-        &[Message(0), U(0, 942755), EndMessage],
-        Between,
-    ),
-    Row(
-        "the greatest",
-        STRICT,
-        &[0xC0, 0x81, 0x0F, 0x7F, 0x7F, 0x7F, 0xFF],
-        &[Message(0), U(0, 4294967295), EndMessage],
-        Between,
-    ),
-    Row(
-        "the greatest, in lenient mode",
-        LENIENT,
-        &[0xC0, 0x81, 0x0F, 0x7F, 0x7F, 0x7F, 0xFF],
-        &[Message(0), U(0, 4294967295), EndMessage],
-        Between,
-    ),
-    Row(
-        "one past the greatest",
-        STRICT,
-        &[0xC0, 0x81, 0x10, 0x00, 0x00, 0x00, 0x80],
-        &[Message(0)],
-        Wrong(Code::D2, 7),
-    ),
-    Row(
-        "one past the greatest, in lenient mode",
-        LENIENT,
-        &[0xC0, 0x81, 0x10, 0x00, 0x00, 0x00, 0x80],
-        &[Message(0)],
-        Wrong(Code::D2, 7),
-    ),
-    Row(
-        "ten bytes, none of them 0, without a stop bit",
-        STRICT,
-        &[
-            0xC0, 0x81, 0x01, 0x01, 0x01, 0x01, 0x01, 0x01, 0x01, 0x01, 0x01, 0x01,
-        ],
-        &[Message(0)],
-        Wrong(Code::D2, 12),
-    ),
-    Row(
-        "ten bytes, none of them 0, without a stop bit, in lenient mode",
-        LENIENT,
-        &[
-            0xC0, 0x81, 0x01, 0x01, 0x01, 0x01, 0x01, 0x01, 0x01, 0x01, 0x01, 0x01,
-        ],
-        &[Message(0)],
-        Wrong(Code::D2, 12),
-    ),
-    Row(
-        "nine bytes without a stop bit",
-        STRICT,
-        &[
-            0xC0, 0x81, 0x01, 0x01, 0x01, 0x01, 0x01, 0x01, 0x01, 0x01, 0x01,
-        ],
-        &[Message(0)],
-        Inside,
-    ),
-    Row(
-        "nine bytes without a stop bit, in lenient mode",
-        LENIENT,
-        &[
-            0xC0, 0x81, 0x01, 0x01, 0x01, 0x01, 0x01, 0x01, 0x01, 0x01, 0x01,
-        ],
-        &[Message(0)],
-        Inside,
-    ),
-    Row(
-        "a mantissa of three bytes",
-        STRICT,
-        &[0xC0, 0x8A, 0x80, 0x39, 0x45, 0xA3],
-        &[Message(9), Dec(9, 0, 942755), EndMessage],
-        Between,
-    ),
-    Row(
-        "a mantissa of three bytes, in lenient mode",
-        LENIENT,
-        &[0xC0, 0x8A, 0x80, 0x39, 0x45, 0xA3],
-        &[Message(9), Dec(9, 0, 942755), EndMessage],
-        Between,
-    ),
-    Row(
-        "an exponent past 31 bits",
-        STRICT,
-        &[0xC0, 0x8A, 0x10, 0x00, 0x00, 0x00, 0x80],
-        &[Message(9)],
-        Wrong(Code::R1, 7),
-    ),
-    Row(
-        "an exponent past 31 bits, in lenient mode",
-        LENIENT,
-        &[0xC0, 0x8A, 0x10, 0x00, 0x00, 0x00, 0x80],
-        &[Message(9)],
-        Wrong(Code::R1, 7),
-    ),
-    Row(
-        "an exponent of ten bytes without a stop bit",
-        STRICT,
-        &[
-            0xC0, 0x8A, 0x01, 0x01, 0x01, 0x01, 0x01, 0x01, 0x01, 0x01, 0x01, 0x01,
-        ],
-        &[Message(9)],
-        Wrong(Code::D2, 12),
-    ),
-    Row(
-        "an exponent of ten bytes without a stop bit, in lenient mode",
-        LENIENT,
-        &[
-            0xC0, 0x8A, 0x01, 0x01, 0x01, 0x01, 0x01, 0x01, 0x01, 0x01, 0x01, 0x01,
-        ],
-        &[Message(9)],
-        Wrong(Code::D2, 12),
-    ),
-    Row(
-        "nine bytes of an exponent",
-        STRICT,
-        &[
-            0xC0, 0x8A, 0x01, 0x01, 0x01, 0x01, 0x01, 0x01, 0x01, 0x01, 0x01,
-        ],
-        &[Message(9)],
-        Inside,
-    ),
-    Row(
-        "nine bytes of an exponent, in lenient mode",
-        LENIENT,
-        &[
-            0xC0, 0x8A, 0x01, 0x01, 0x01, 0x01, 0x01, 0x01, 0x01, 0x01, 0x01,
-        ],
-        &[Message(9)],
-        Inside,
-    ),
-    Row(
-        "overlong, in lenient mode",
-        LENIENT,
-        &[0xC0, 0x81, 0x00, 0x81],
-        &[Message(0), U(0, 1), EndMessage],
-        Between,
-    ),
-    Row(
-        "overlong",
-        STRICT,
-        &[0xC0, 0x81, 0x00, 0x81],
-        &[Message(0)],
-        Wrong(Code::R6, 4),
-    ),
-    Row(
-        "an overlong exponent",
-        STRICT,
-        &[0xC0, 0x8A, 0x00, 0x81],
-        &[Message(9)],
-        Wrong(Code::R6, 4),
-    ),
-];
-
-#[test]
-fn mandatory_integers(rt: HostRuntime) -> Result<(), Fail> {
-    expect_rows(&rt, rt.alloc(), WITHOUT_ENTRY, MANDATORY_INTEGERS)
-}
-
-const NULLABLE_AND_SIGNED_INTEGERS: &[Row<'static>] = &[
-    Row(
-        "absent",
-        STRICT,
-        &[0xC0, 0x82, 0x80],
-        &[Message(1), EndMessage],
-        Between,
-    ),
-    Row(
-        "absent, in lenient mode",
-        LENIENT,
-        &[0xC0, 0x82, 0x80],
-        &[Message(1), EndMessage],
-        Between,
-    ),
-    Row(
-        "0 where it may be absent",
-        STRICT,
-        &[0xC0, 0x82, 0x81],
-        &[Message(1), U(1, 0), EndMessage],
-        Between,
-    ),
-    Row(
-        "0 where it may be absent, in lenient mode",
-        LENIENT,
-        &[0xC0, 0x82, 0x81],
-        &[Message(1), U(1, 0), EndMessage],
-        Between,
-    ),
-    Row(
-        "the greatest exponent",
-        STRICT,
-        &[0xC0, 0x8A, 0xBF, 0x81],
-        &[Message(9), Dec(9, 63, 1), EndMessage],
-        Between,
-    ),
-    Row(
-        "the greatest exponent, in lenient mode",
-        LENIENT,
-        &[0xC0, 0x8A, 0xBF, 0x81],
-        &[Message(9), Dec(9, 63, 1), EndMessage],
-        Between,
-    ),
-    Row(
-        "the least exponent",
-        STRICT,
-        &[0xC0, 0x8A, 0xC1, 0x81],
-        &[Message(9), Dec(9, -63, 1), EndMessage],
-        Between,
-    ),
-    Row(
-        "the least exponent, in lenient mode",
-        LENIENT,
-        &[0xC0, 0x8A, 0xC1, 0x81],
-        &[Message(9), Dec(9, -63, 1), EndMessage],
-        Between,
-    ),
-    Row(
-        "an exponent below the least",
-        STRICT,
-        &[0xC0, 0x8A, 0xC0],
-        &[Message(9)],
-        Wrong(Code::R1, 3),
-    ),
-    Row(
-        "an exponent below the least, in lenient mode",
-        LENIENT,
-        &[0xC0, 0x8A, 0xC0],
-        &[Message(9)],
-        Wrong(Code::R1, 3),
-    ),
-    Row(
-        "the greatest exponent where it may be absent",
-        STRICT,
-        &[0xC0, 0x8B, 0x00, 0xC0, 0x81],
-        &[Message(10), Dec(10, 63, 1), EndMessage],
-        Between,
-    ),
-    Row(
-        "the greatest exponent where it may be absent, in lenient mode",
-        LENIENT,
-        &[0xC0, 0x8B, 0x00, 0xC0, 0x81],
-        &[Message(10), Dec(10, 63, 1), EndMessage],
-        Between,
-    ),
-    Row(
-        "an exponent past the greatest where it may be absent",
-        STRICT,
-        &[0xC0, 0x8B, 0x00, 0xC1],
-        &[Message(10)],
-        Wrong(Code::R1, 4),
-    ),
-    Row(
-        "an exponent past the greatest where it may be absent, in lenient mode",
-        LENIENT,
-        &[0xC0, 0x8B, 0x00, 0xC1],
-        &[Message(10)],
-        Wrong(Code::R1, 4),
-    ),
-    Row(
-        "no exponent",
-        STRICT,
-        &[0xC0, 0x8B, 0x80],
-        &[Message(10), EndMessage],
-        Between,
-    ),
-    Row(
-        "no exponent, in lenient mode",
-        LENIENT,
-        &[0xC0, 0x8B, 0x80],
-        &[Message(10), EndMessage],
-        Between,
-    ),
-    Row(
-        "a negative integer",
-        STRICT,
-        &[0xC0, 0x84, 0x46, 0x3A, 0xDD],
-        &[Message(3), I(3, -942755), EndMessage],
-        Between,
-    ),
-    Row(
-        "a negative integer, in lenient mode",
-        LENIENT,
-        &[0xC0, 0x84, 0x46, 0x3A, 0xDD],
-        &[Message(3), I(3, -942755), EndMessage],
-        Between,
-    ),
-    Row(
-        "ten bytes of a negative integer without a stop bit",
-        STRICT,
-        &[
-            0xC0, 0x91, 0x7F, 0x7F, 0x7F, 0x7F, 0x7F, 0x7F, 0x7F, 0x7F, 0x7F, 0x7F,
-        ],
-        &[Message(16)],
-        Wrong(Code::D2, 12),
-    ),
-    Row(
-        "ten bytes of a negative integer without a stop bit, in lenient mode",
-        LENIENT,
-        &[
-            0xC0, 0x91, 0x7F, 0x7F, 0x7F, 0x7F, 0x7F, 0x7F, 0x7F, 0x7F, 0x7F, 0x7F,
-        ],
-        &[Message(16)],
-        Wrong(Code::D2, 12),
-    ),
-];
-
-#[test]
-fn nullable_and_signed_integers(rt: HostRuntime) -> Result<(), Fail> {
-    expect_rows(&rt, rt.alloc(), WITHOUT_ENTRY, NULLABLE_AND_SIGNED_INTEGERS)
+    )
 }

@@ -1,13 +1,17 @@
 //! Sinks that keep, stop or count, and what a decoder says when it stops.
 
+use super::limits::{CONSTANTS, THOUSAND, thousand_events};
+use super::rows::{Columns, row_of};
 use super::worked::{LONG, LONG_EVENTS, WORKED};
 use super::{
-    Due, End, LENIENT, Row, STRICT, Script, Standing, expect_row, feed_pieces, is_due_value,
-    standing_of,
+    LENIENT, STRICT, Script, decoder_of, expect, expect_line, expect_row, feed, feed_pieces, push,
+    set_of, standing_of, stopped_at,
 };
 use fast_decoder::{Decoder, Event, Fault, FaultCode, Recorded, Recorder, Sink, Stop};
 use fast_template::Templates;
 use fast_value::Code;
+use std::alloc::Global;
+use std::process::Abort;
 use std::test::Fail;
 
 /// Counts the events that it takes, and stops behind the greatest count.
@@ -38,13 +42,24 @@ const PLACES: [u64; 16] = [2, 3, 3, 6, 6, 7, 7, 10, 12, 12, 12, 13, 14, 14, 14, 
 
 /// Whether the decoder has stopped with this fault, behind the bytes of its place.
 fn has_stopped(decoder: &Decoder<'_>, answer: Result<(), Fault>, fault: Fault) -> bool {
-    let stopped = Standing {
-        answer: Err(fault),
-        fault: Some(fault),
-        between: false,
-        consumed: fault.place,
-    };
-    standing_of(decoder, answer) == stopped
+    standing_of(decoder, answer) == stopped_at(fault)
+}
+
+/// Whether a decoder that has stopped with this fault stays so, whatever it is fed.
+fn stays_stopped<S: Sink>(decoder: &mut Decoder<'_>, sink: &mut S, fault: Fault) -> bool {
+    for _ in 0..3 {
+        for piece in [LONG, &[]] {
+            let answer = feed(decoder, piece, sink);
+            if !has_stopped(decoder, answer, fault) {
+                return false;
+            }
+        }
+        let answer = push(decoder, 0xC0, sink);
+        if !has_stopped(decoder, answer, fault) {
+            return false;
+        }
+    }
+    true
 }
 
 /// Whether a sink of so many events stops the decoder at the place, and is not called again though it would take more.
@@ -55,107 +70,106 @@ fn is_stopped(decoder: &mut Decoder<'_>, most: usize, place: u64) -> bool {
     };
     decoder.reset();
     let mut sink = StopsAt { taken: 0, most };
-    let answer = decoder.feed(LONG, &mut sink);
+    let answer = feed(decoder, LONG, &mut sink);
     let stops = has_stopped(decoder, answer, fault) && sink.taken == most;
     sink.most = 100;
-    let answer = decoder.feed(LONG, &mut sink);
-    let stays = has_stopped(decoder, answer, fault);
-    let answer = decoder.push(0xC0, &mut sink);
-    stops && stays && has_stopped(decoder, answer, fault) && sink.taken == most
+    stops && stays_stopped(decoder, &mut sink, fault) && sink.taken == most
 }
 
 #[test]
 fn a_sink_stops_the_decoder(rt: HostRuntime) -> Result<(), Fail> {
-    let set = Templates::read(rt.alloc(), WORKED)?;
-    let mut decoder = Decoder::new(rt.alloc(), &set, LENIENT)?;
+    let set = set_of(rt.alloc(), WORKED)?;
+    let mut decoder = decoder_of(rt.alloc(), &set, LENIENT)?;
     for (most, place) in PLACES.into_iter().enumerate() {
         let is_stopped = is_stopped(&mut decoder, most, place);
-        assert!(rt; is_stopped, "behind {most} events");
+        expect(&rt, is_stopped, "behind so many events", most);
     }
     Ok(())
 }
 
-/// Whether a kept event is the one that is due.
-fn is_due_kept(due: Due, event: &Recorded) -> bool {
-    match (due, event) {
-        (Due::Message(number), Recorded::MessageStart { template }) => number == *template,
-        (Due::Group(number), Recorded::GroupStart { node }) => number == *node,
-        (Due::Sequence(number, many), Recorded::SequenceStart { node, count }) => {
-            number == *node && many == *count
-        }
-        (Due::EndGroup, Recorded::GroupEnd)
-        | (Due::Element, Recorded::ElementStart)
-        | (Due::EndElement, Recorded::ElementEnd)
-        | (Due::EndSequence, Recorded::SequenceEnd)
-        | (Due::EndMessage, Recorded::MessageEnd) => true,
-        (due, Recorded::Field { node, value }) => is_due_value(due, *node, value.as_scalar()),
-        _ => false,
+/// The event that was kept.
+fn event_of(kept: &Recorded) -> Event<'_> {
+    match kept {
+        Recorded::MessageStart { template } => Event::MessageStart {
+            template: *template,
+        },
+        Recorded::Field { node, value } => Event::Field {
+            node: *node,
+            value: value.as_scalar(),
+        },
+        Recorded::GroupStart { node } => Event::GroupStart { node: *node },
+        Recorded::GroupEnd => Event::GroupEnd,
+        Recorded::SequenceStart { node, count } => Event::SequenceStart {
+            node: *node,
+            count: *count,
+        },
+        Recorded::ElementStart => Event::ElementStart,
+        Recorded::ElementEnd => Event::ElementEnd,
+        Recorded::SequenceEnd => Event::SequenceEnd,
+        Recorded::MessageEnd => Event::MessageEnd,
     }
 }
 
 /// Whether the kept events are those that are due.
-fn are_due(due: &[Due], events: &[Recorded]) -> bool {
-    for (due, event) in due.iter().zip(events) {
-        if !is_due_kept(*due, event) {
-            return false;
-        }
-    }
-    due.len() == events.len()
-}
-
-#[test]
-fn a_recorder_keeps_each_event(rt: HostRuntime) -> Result<(), Fail> {
-    let set = Templates::read(rt.alloc(), WORKED)?;
-    let mut decoder = Decoder::new(rt.alloc(), &set, STRICT)?;
-    let mut recorder = Recorder::new(rt.alloc());
-    let answer = decoder.feed(LONG, &mut recorder);
-    assert!(rt; answer.is_ok() && are_due(LONG_EVENTS, recorder.events()));
-    Ok(())
-}
-
-/// Whether a decoder that has stopped with this fault stays so, whatever it is fed.
-fn stays_stopped(decoder: &mut Decoder<'_>, script: &mut Script, fault: Fault) -> bool {
-    for _ in 0..3 {
-        let answer = decoder.feed(&[0xC0, 0x81, 0x81], script);
-        let by_feed = has_stopped(decoder, answer, fault);
-        let answer = decoder.feed(&[], script);
-        let by_none = has_stopped(decoder, answer, fault);
-        let answer = decoder.push(0xC0, script);
-        if !by_feed || !by_none || !has_stopped(decoder, answer, fault) {
+fn are_due(events: &str, kept: &[Recorded]) -> bool {
+    let mut script = Script::of(events);
+    for event in kept {
+        if script.take(event_of(event)).is_err() {
             return false;
         }
     }
     script.is_played()
 }
 
+/// A recorder keeps the events of a message.
+fn expect_kept(
+    rt: &impl Abort,
+    alloc: Global,
+    text: &str,
+    bytes: &[u8],
+    events: &str,
+) -> Result<(), Fail> {
+    let set = set_of(alloc, text)?;
+    let mut decoder = decoder_of(alloc, &set, STRICT)?;
+    let mut recorder = Recorder::new(alloc);
+    let answer = feed(&mut decoder, bytes, &mut recorder);
+    let is_kept = answer.is_ok() && are_due(events, recorder.events());
+    expect(rt, is_kept, "kept", recorder.events().len());
+    Ok(())
+}
+
+#[test]
+fn a_recorder_keeps_each_event(rt: HostRuntime) -> Result<(), Fail> {
+    let alloc = rt.alloc();
+    expect_kept(&rt, alloc, WORKED, LONG, LONG_EVENTS)?;
+    let events = thousand_events(alloc)?;
+    expect_kept(&rt, alloc, CONSTANTS, THOUSAND, &events)
+}
+
 /// Whether a claim of too many elements stops the decoder.
 fn is_stopped_by_a_claim(decoder: &mut Decoder<'_>) -> bool {
-    let mut script = Script::of(&[Due::Message(1)]);
+    let mut script = Script::of("m1");
     let fault = Fault {
         code: FaultCode::Stream(Code::L2),
         place: 7,
     };
     let claim = [0xC0, 0x82, 0x0F, 0x7F, 0x7F, 0x7F, 0xFF];
-    let answer = decoder.feed(&claim, &mut script);
-    has_stopped(decoder, answer, fault) && stays_stopped(decoder, &mut script, fault)
+    let answer = feed(decoder, &claim, &mut script);
+    has_stopped(decoder, answer, fault)
+        && stays_stopped(decoder, &mut script, fault)
+        && script.is_played()
 }
 
-const A_FIRST_MESSAGE: Row<'static> = Row(
-    "a message as of a new decoder",
-    LENIENT,
-    &[0xC0, 0x81, 0x39, 0x45, 0xA3],
-    &[Due::Message(0), Due::U(0, 942_755), Due::EndMessage],
-    End::Between,
-);
+const A_FIRST_MESSAGE: &str =
+    "a message as of a new decoder | lenient | C0 81 39 45 A3 | m0 u0=942755 /m | between";
 
 #[test]
 fn a_fault_stays_until_reset(rt: HostRuntime) -> Result<(), Fail> {
-    let set = Templates::read(rt.alloc(), WORKED)?;
-    let mut decoder = Decoder::new(rt.alloc(), &set, LENIENT)?;
+    let set = set_of(rt.alloc(), WORKED)?;
+    let mut decoder = decoder_of(rt.alloc(), &set, LENIENT)?;
     let is_stopped = is_stopped_by_a_claim(&mut decoder);
-    assert!(rt; is_stopped);
-    expect_row(&rt, &mut decoder, A_FIRST_MESSAGE);
-    Ok(())
+    expect(&rt, is_stopped, "a claim", 0);
+    expect_line(&rt, rt.alloc(), &mut decoder, A_FIRST_MESSAGE)
 }
 
 /// Messages that are cut: within an integer behind the identifier, twice within the first field, and in an element.
@@ -166,21 +180,9 @@ const CUTS: [&[u8]; 4] = [
     &[0xE0, 0x8F, 0x85, 0x82, 0x01, 0xFF, 0x83, 0xC0, 0x41],
 ];
 
-const NO_IDENTIFIER: Row<'static> = Row(
-    "no identifier to copy",
-    LENIENT,
-    &[0x80],
-    &[],
-    End::Wrong(Code::D5, 1),
-);
+const NO_IDENTIFIER: &str = "no identifier to copy | lenient | 80 | | D5@1";
 
-const NOTHING_TO_COPY: Row<'static> = Row(
-    "nothing to copy",
-    LENIENT,
-    &[0xC0, 0x8A],
-    &[Due::Message(9)],
-    End::Wrong(Code::D5, 2),
-);
+const NOTHING_TO_COPY: &str = "nothing to copy | lenient | C0 8A | m9 | D5@2";
 
 /// Whether the bytes cut a message.
 fn is_cut(decoder: &mut Decoder<'_>, bytes: &[u8]) -> bool {
@@ -188,62 +190,52 @@ fn is_cut(decoder: &mut Decoder<'_>, bytes: &[u8]) -> bool {
         taken: 0,
         most: 100,
     };
-    decoder.feed(bytes, &mut sink).is_ok() && !decoder.between()
+    feed(decoder, bytes, &mut sink).is_ok() && !decoder.between()
 }
 
 /// A reset forgets the identifier, the previous values, and the bytes of a unit that was cut.
 #[test]
 fn a_reset_forgets(rt: HostRuntime) -> Result<(), Fail> {
-    let set = Templates::read(rt.alloc(), WORKED)?;
-    let mut decoder = Decoder::new(rt.alloc(), &set, LENIENT)?;
+    let set = set_of(rt.alloc(), WORKED)?;
+    let mut decoder = decoder_of(rt.alloc(), &set, LENIENT)?;
     for bytes in CUTS {
-        let is_cut = is_cut(&mut decoder, bytes);
-        assert!(rt; is_cut);
-        expect_row(&rt, &mut decoder, NO_IDENTIFIER);
-        expect_row(&rt, &mut decoder, NOTHING_TO_COPY);
-        decoder.reset();
+        for line in [NO_IDENTIFIER, NOTHING_TO_COPY] {
+            decoder.reset();
+            let is_cut = is_cut(&mut decoder, bytes);
+            expect(&rt, is_cut, "cut", bytes.len());
+            expect_line(&rt, rt.alloc(), &mut decoder, line)?;
+        }
     }
     Ok(())
 }
 
-const A_LONG_MESSAGE: Row<'static> = Row(
-    "a field, a group and two elements",
-    LENIENT,
-    LONG,
-    LONG_EVENTS,
-    End::Between,
-);
-
-const CUT_AND_JOINED: Row<'static> = Row(
-    "texts that are cut and joined",
-    LENIENT,
-    &[
-        0xC0, 0x84, 0x80, 0x47, 0x45, 0x48, 0xB6, 0x80, 0x82, 0x4D, 0xB6,
-    ],
-    &[
-        Due::Message(3),
-        Due::Ascii(4, b"GEH6"),
-        Due::EndMessage,
-        Due::Message(3),
-        Due::Ascii(4, b"GEM6"),
-        Due::EndMessage,
-    ],
-    End::Between,
-);
+/// Texts that are cut and joined.
+const JOINED: &[u8] = &[
+    0xC0, 0x84, 0x80, 0x47, 0x45, 0x48, 0xB6, 0x80, 0x82, 0x4D, 0xB6,
+];
 
 /// A decoder takes all its memory when it is made: where a growth is refused, it is one of the set or of `new`, and rows that are
 /// only compared come out the same.
 #[test]
-fn feeds_take_no_memory(rt: HostRuntime) {
+fn feeds_take_no_memory(rt: HostRuntime) -> Result<(), Fail> {
     let alloc = rt.alloc();
     let Ok(set) = Templates::read(alloc, WORKED) else {
-        return;
+        return Ok(());
     };
     let Ok(mut decoder) = Decoder::new(alloc, &set, LENIENT) else {
-        return;
+        return Ok(());
     };
-    expect_row(&rt, &mut decoder, A_LONG_MESSAGE);
-    expect_row(&rt, &mut decoder, CUT_AND_JOINED);
+    for (bytes, events) in [
+        (LONG, LONG_EVENTS),
+        (JOINED, "m3 a4='GEH6' /m m3 a4='GEM6' /m"),
+    ] {
+        let columns = Columns {
+            events,
+            ..Columns::of("no memory | lenient | | | between")
+        };
+        expect_row(&rt, &mut decoder, row_of(columns, bytes)?);
+    }
+    Ok(())
 }
 
 /// Whether two bytes, and two more integers, end in events or in a fault that they can have.
@@ -264,17 +256,18 @@ fn ends_as_it_may(decoder: &mut Decoder<'_>, first: u8, second: u8) -> bool {
     is_known && heard == standing_of(decoder, heard.answer)
 }
 
+/// A template with a field.
+const PLAIN: &str = "[[template]]\nname = 'T'\nid = 1\nfields = [{kind='uInt32', name='x'}]";
+
 #[test]
 fn any_two_bytes_end_in_events_or_a_fault(rt: HostRuntime) -> Result<(), Fail> {
-    let set = Templates::read(
-        rt.alloc(),
-        "[[template]]\nname = 'T'\nid = 1\nfields = [{kind='uInt32', name='x'}]",
-    )?;
-    let mut decoder = Decoder::new(rt.alloc(), &set, STRICT)?;
+    let set = set_of(rt.alloc(), PLAIN)?;
+    let mut decoder = decoder_of(rt.alloc(), &set, STRICT)?;
     for first in 0..=255u8 {
         for second in 0..=255u8 {
             let ends = ends_as_it_may(&mut decoder, first, second);
-            assert!(rt; ends, "{first} {second}");
+            let both = u16::from_be_bytes([first, second]);
+            expect(&rt, ends, "two bytes", usize::from(both));
         }
     }
     Ok(())

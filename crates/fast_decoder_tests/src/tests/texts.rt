@@ -1,9 +1,6 @@
 //! Texts of every kind under every operator.
 
-use super::Due::*;
-use super::End::{Between, Wrong};
-use super::{LENIENT, Row, SHORT, STRICT, expect_rows};
-use fast_value::Code;
+use super::expect_rows;
 use std::test::Fail;
 
 /// A template for each kind, mandatory and optional. Its fields are: no operator, constant, default, copy, delta, tail.
@@ -82,276 +79,48 @@ fields = [
 ]
 "#;
 
-const ASCII: &[Row<'static>] = &[
-    Row(
-        "sent, not sent, cut at the front, cut to nothing",
-        STRICT,
-        &[
-            0xF8, 0x81, 0x58, 0xD9, 0x45, 0xC6, 0x47, 0xC8, 0x80, 0x49, 0xCA, 0x4B, 0x4C, 0xCD,
-            0x80, 0x80, 0x81, 0xDA, 0x88, 0xC1, 0xFE, 0xD1, 0xCE, 0x88, 0xC1, 0x82, 0x80, 0x80,
-        ],
-        &[
-            Message(0),
-            Ascii(0, b"XY"),
-            Ascii(1, b"AB"),
-            Ascii(2, b"EF"),
-            Ascii(3, b"GH"),
-            Ascii(4, b"IJ"),
-            Ascii(5, b"KLM"),
-            EndMessage,
-            Message(0),
-            Ascii(0, b""),
-            Ascii(1, b"AB"),
-            Ascii(2, b"CD"),
-            Ascii(3, b"GH"),
-            Ascii(4, b"IZ"),
-            Ascii(5, b"KLM"),
-            EndMessage,
-            Message(0),
-            Ascii(0, b"A"),
-            Ascii(1, b"AB"),
-            Ascii(2, b"CD"),
-            Ascii(3, b"GH"),
-            Ascii(4, b"QZ"),
-            Ascii(5, b"KLN"),
-            EndMessage,
-            Message(0),
-            Ascii(0, b"A"),
-            Ascii(1, b"AB"),
-            Ascii(2, b"CD"),
-            Ascii(3, b"GH"),
-            Ascii(4, b""),
-            Ascii(5, b"KLN"),
-            EndMessage,
-        ],
-        Between,
-    ),
-    Row(
-        "sent, absent, empty, not sent, put in front",
-        STRICT,
-        &[
-            0xFC, 0x82, 0x58, 0xD9, 0x80, 0x47, 0xC8, 0x81, 0x49, 0xCA, 0x4B, 0x4C, 0xCD, 0x80,
-            0x00, 0x80, 0x80, 0x8C, 0x80, 0x80, 0x82, 0xDA, 0x80, 0x84, 0x80, 0x80, 0x57, 0xD8,
-            0x80, 0x80, 0xFF, 0xD6,
-        ],
-        &[
-            Message(1),
-            Ascii(6, b"XY"),
-            Ascii(7, b"AB"),
-            Ascii(9, b"GH"),
-            Ascii(10, b"IJ"),
-            Ascii(11, b"KLM"),
-            EndMessage,
-            Message(1),
-            Ascii(6, b""),
-            Ascii(8, b"CD"),
-            Ascii(9, b"GH"),
-            Ascii(11, b"KLM"),
-            EndMessage,
-            Message(1),
-            Ascii(8, b"CD"),
-            Ascii(10, b"IZ"),
-            EndMessage,
-            Message(1),
-            Ascii(8, b"CD"),
-            Ascii(11, b"WX"),
-            EndMessage,
-            Message(1),
-            Ascii(8, b"CD"),
-            Ascii(10, b"VIZ"),
-            Ascii(11, b"WX"),
-            EndMessage,
-        ],
-        Between,
-    ),
-];
+const ASCII: &str = "\
+sent, not sent, cut at the front, cut to nothing | strict \
+    | F8 81 58 D9 45 C6 47 C8 80 49 CA 4B 4C CD 80 80 81 DA 88 C1 FE D1 CE 88 C1 82 80 80 \
+    | m0 a0='XY' a1='AB' a2='EF' a3='GH' a4='IJ' a5='KLM' /m m0 a0='' a1='AB' a2='CD' a3='GH' a4='IZ' a5='KLM' /m m0 \
+    a0='A' a1='AB' a2='CD' a3='GH' a4='QZ' a5='KLN' /m m0 a0='A' a1='AB' a2='CD' a3='GH' a4='' a5='KLN' /m | between
+sent, absent, empty, not sent, put in front | strict \
+    | FC 82 58 D9 80 47 C8 81 49 CA 4B 4C CD 80 00 80 80 8C 80 80 82 DA 80 84 80 80 57 D8 80 80 FF D6 \
+    | m1 a6='XY' a7='AB' a9='GH' a10='IJ' a11='KLM' /m m1 a6='' a8='CD' a9='GH' a11='KLM' /m m1 a8='CD' a10='IZ' /m \
+    m1 a8='CD' a11='WX' /m m1 a8='CD' a10='VIZ' a11='WX' /m | between
+";
 
-/// Text after text under each operator.
+const UNICODE: &str = "\
+sent, not sent, cut at the front, cut to nothing | strict \
+    | F8 83 82 C3 A9 82 45 46 82 47 48 80 82 49 4A 83 4B 4C 4D 80 80 81 81 5A 88 81 41 FE 81 51 81 4E 88 81 41 82 80 \
+    80 \
+    | m2 t12='é' t13='AB' t14='EF' t15='GH' t16='IJ' t17='KLM' /m m2 t12='' t13='AB' t14='CD' t15='GH' t16='IZ' \
+    t17='KLM' /m m2 t12='A' t13='AB' t14='CD' t15='GH' t16='QZ' t17='KLN' /m m2 t12='A' t13='AB' t14='CD' t15='GH' \
+    t16='' t17='KLN' /m | between
+sent, absent, empty, not sent, put in front | strict \
+    | FC 84 83 C3 A9 80 83 47 48 81 82 49 4A 84 4B 4C 4D 80 81 80 8C 80 80 82 81 5A 80 84 80 80 83 57 58 80 80 FF 81 \
+    56 \
+    | m3 t18='é' t19='AB' t21='GH' t22='IJ' t23='KLM' /m m3 t18='' t20='CD' t21='GH' t23='KLM' /m m3 t20='CD' \
+    t22='IZ' /m m3 t20='CD' t23='WX' /m m3 t20='CD' t22='VIZ' t23='WX' /m | between
+";
+
+const BYTES: &str = "\
+sent, not sent, cut at the front, cut to nothing | strict \
+    | F8 85 83 FF 00 80 82 45 46 82 47 48 80 82 49 4A 83 4B 4C 4D 80 80 81 81 5A 88 81 41 FE 81 51 81 4E 88 81 41 82 \
+    80 80 \
+    | m4 b24=FF0080 b25=01FF b26=4546 b27=4748 b28=494A b29=4B4C4D /m m4 b24= b25=01FF b26=C0 b27=4748 b28=495A \
+    b29=4B4C4D /m m4 b24=41 b25=01FF b26=C0 b27=4748 b28=515A b29=4B4C4E /m m4 b24=41 b25=01FF b26=C0 b27=4748 b28= \
+    b29=4B4C4E /m | between
+sent, absent, empty, not sent, put in front | strict \
+    | FC 86 84 FF 00 80 80 83 47 48 81 82 49 4A 84 4B 4C 4D 80 81 80 8C 80 80 82 81 5A 80 84 80 80 83 57 58 80 80 FF \
+    81 56 \
+    | m5 b30=FF0080 b31=01FF b33=4748 b34=494A b35=4B4C4D /m m5 b30= b32=C0 b33=4748 b35=4B4C4D /m m5 b32=C0 \
+    b34=495A /m m5 b32=C0 b35=5758 /m m5 b32=C0 b34=56495A b35=5758 /m | between
+";
+
 #[test]
-fn ascii(rt: HostRuntime) -> Result<(), Fail> {
-    expect_rows(&rt, rt.alloc(), OPERATORS, ASCII)
-}
-
-const UNICODE: &[Row<'static>] = &[
-    Row(
-        "sent, not sent, cut at the front, cut to nothing",
-        STRICT,
-        &[
-            0xF8, 0x83, 0x82, 0xC3, 0xA9, 0x82, 0x45, 0x46, 0x82, 0x47, 0x48, 0x80, 0x82, 0x49,
-            0x4A, 0x83, 0x4B, 0x4C, 0x4D, 0x80, 0x80, 0x81, 0x81, 0x5A, 0x88, 0x81, 0x41, 0xFE,
-            0x81, 0x51, 0x81, 0x4E, 0x88, 0x81, 0x41, 0x82, 0x80, 0x80,
-        ],
-        &[
-            Message(2),
-            Unicode(12, &[0xC3, 0xA9]),
-            Unicode(13, b"AB"),
-            Unicode(14, b"EF"),
-            Unicode(15, b"GH"),
-            Unicode(16, b"IJ"),
-            Unicode(17, b"KLM"),
-            EndMessage,
-            Message(2),
-            Unicode(12, b""),
-            Unicode(13, b"AB"),
-            Unicode(14, b"CD"),
-            Unicode(15, b"GH"),
-            Unicode(16, b"IZ"),
-            Unicode(17, b"KLM"),
-            EndMessage,
-            Message(2),
-            Unicode(12, b"A"),
-            Unicode(13, b"AB"),
-            Unicode(14, b"CD"),
-            Unicode(15, b"GH"),
-            Unicode(16, b"QZ"),
-            Unicode(17, b"KLN"),
-            EndMessage,
-            Message(2),
-            Unicode(12, b"A"),
-            Unicode(13, b"AB"),
-            Unicode(14, b"CD"),
-            Unicode(15, b"GH"),
-            Unicode(16, b""),
-            Unicode(17, b"KLN"),
-            EndMessage,
-        ],
-        Between,
-    ),
-    Row(
-        "sent, absent, empty, not sent, put in front",
-        STRICT,
-        &[
-            0xFC, 0x84, 0x83, 0xC3, 0xA9, 0x80, 0x83, 0x47, 0x48, 0x81, 0x82, 0x49, 0x4A, 0x84,
-            0x4B, 0x4C, 0x4D, 0x80, 0x81, 0x80, 0x8C, 0x80, 0x80, 0x82, 0x81, 0x5A, 0x80, 0x84,
-            0x80, 0x80, 0x83, 0x57, 0x58, 0x80, 0x80, 0xFF, 0x81, 0x56,
-        ],
-        &[
-            Message(3),
-            Unicode(18, &[0xC3, 0xA9]),
-            Unicode(19, b"AB"),
-            Unicode(21, b"GH"),
-            Unicode(22, b"IJ"),
-            Unicode(23, b"KLM"),
-            EndMessage,
-            Message(3),
-            Unicode(18, b""),
-            Unicode(20, b"CD"),
-            Unicode(21, b"GH"),
-            Unicode(23, b"KLM"),
-            EndMessage,
-            Message(3),
-            Unicode(20, b"CD"),
-            Unicode(22, b"IZ"),
-            EndMessage,
-            Message(3),
-            Unicode(20, b"CD"),
-            Unicode(23, b"WX"),
-            EndMessage,
-            Message(3),
-            Unicode(20, b"CD"),
-            Unicode(22, b"VIZ"),
-            Unicode(23, b"WX"),
-            EndMessage,
-        ],
-        Between,
-    ),
-];
-
-/// Text after text under each operator.
-#[test]
-fn unicode(rt: HostRuntime) -> Result<(), Fail> {
-    expect_rows(&rt, rt.alloc(), OPERATORS, UNICODE)
-}
-
-const BYTES: &[Row<'static>] = &[
-    Row(
-        "sent, not sent, cut at the front, cut to nothing",
-        STRICT,
-        &[
-            0xF8, 0x85, 0x83, 0xFF, 0x00, 0x80, 0x82, 0x45, 0x46, 0x82, 0x47, 0x48, 0x80, 0x82,
-            0x49, 0x4A, 0x83, 0x4B, 0x4C, 0x4D, 0x80, 0x80, 0x81, 0x81, 0x5A, 0x88, 0x81, 0x41,
-            0xFE, 0x81, 0x51, 0x81, 0x4E, 0x88, 0x81, 0x41, 0x82, 0x80, 0x80,
-        ],
-        &[
-            Message(4),
-            Bytes(24, &[0xFF, 0x00, 0x80]),
-            Bytes(25, &[0x01, 0xFF]),
-            Bytes(26, b"EF"),
-            Bytes(27, b"GH"),
-            Bytes(28, b"IJ"),
-            Bytes(29, b"KLM"),
-            EndMessage,
-            Message(4),
-            Bytes(24, b""),
-            Bytes(25, &[0x01, 0xFF]),
-            Bytes(26, &[0xC0]),
-            Bytes(27, b"GH"),
-            Bytes(28, b"IZ"),
-            Bytes(29, b"KLM"),
-            EndMessage,
-            Message(4),
-            Bytes(24, b"A"),
-            Bytes(25, &[0x01, 0xFF]),
-            Bytes(26, &[0xC0]),
-            Bytes(27, b"GH"),
-            Bytes(28, b"QZ"),
-            Bytes(29, b"KLN"),
-            EndMessage,
-            Message(4),
-            Bytes(24, b"A"),
-            Bytes(25, &[0x01, 0xFF]),
-            Bytes(26, &[0xC0]),
-            Bytes(27, b"GH"),
-            Bytes(28, b""),
-            Bytes(29, b"KLN"),
-            EndMessage,
-        ],
-        Between,
-    ),
-    Row(
-        "sent, absent, empty, not sent, put in front",
-        STRICT,
-        &[
-            0xFC, 0x86, 0x84, 0xFF, 0x00, 0x80, 0x80, 0x83, 0x47, 0x48, 0x81, 0x82, 0x49, 0x4A,
-            0x84, 0x4B, 0x4C, 0x4D, 0x80, 0x81, 0x80, 0x8C, 0x80, 0x80, 0x82, 0x81, 0x5A, 0x80,
-            0x84, 0x80, 0x80, 0x83, 0x57, 0x58, 0x80, 0x80, 0xFF, 0x81, 0x56,
-        ],
-        &[
-            Message(5),
-            Bytes(30, &[0xFF, 0x00, 0x80]),
-            Bytes(31, &[0x01, 0xFF]),
-            Bytes(33, b"GH"),
-            Bytes(34, b"IJ"),
-            Bytes(35, b"KLM"),
-            EndMessage,
-            Message(5),
-            Bytes(30, b""),
-            Bytes(32, &[0xC0]),
-            Bytes(33, b"GH"),
-            Bytes(35, b"KLM"),
-            EndMessage,
-            Message(5),
-            Bytes(32, &[0xC0]),
-            Bytes(34, b"IZ"),
-            EndMessage,
-            Message(5),
-            Bytes(32, &[0xC0]),
-            Bytes(35, b"WX"),
-            EndMessage,
-            Message(5),
-            Bytes(32, &[0xC0]),
-            Bytes(34, b"VIZ"),
-            Bytes(35, b"WX"),
-            EndMessage,
-        ],
-        Between,
-    ),
-];
-
-/// Text after text under each operator.
-#[test]
-fn bytes(rt: HostRuntime) -> Result<(), Fail> {
-    expect_rows(&rt, rt.alloc(), OPERATORS, BYTES)
+fn rows_of_operators(rt: HostRuntime) -> Result<(), Fail> {
+    expect_rows(&rt, rt.alloc(), OPERATORS, &[ASCII, UNICODE, BYTES])
 }
 
 /// Texts under one key: of several operators, and of several kinds.
@@ -390,305 +159,43 @@ id = 8
 fields = [{kind="ascii", name="i", op="delta", value="WXYZ"}, {kind="ascii", name="j", op="tail", value="WXYZ"}]
 "#;
 
-const THE_ROOM_BEHIND_A_BASE: &[Row<'static>] = &[
-    Row(
-        "the base alone fills the room",
-        SHORT,
-        &[
-            0xE0, 0x81, 0x41, 0x41, 0x41, 0x41, 0x41, 0x41, 0x41, 0x41, 0x41, 0x41, 0x41, 0x41,
-            0x41, 0x41, 0x41, 0xC1, 0xC0, 0x82, 0x80, 0x80,
-        ],
-        &[
-            Message(0),
-            Ascii(0, b"AAAAAAAAAAAAAAAA"),
-            EndMessage,
-            Message(1),
-            Ascii(1, b"AAAAAAAAAAAAAAAA"),
-            EndMessage,
-        ],
-        Between,
-    ),
-    Row(
-        "a character without room",
-        SHORT,
-        &[
-            0xE0, 0x81, 0x41, 0x41, 0x41, 0x41, 0x41, 0x41, 0x41, 0x41, 0x41, 0x41, 0x41, 0x41,
-            0x41, 0x41, 0x41, 0xC1, 0xC0, 0x82, 0x80, 0xC2,
-        ],
-        &[
-            Message(0),
-            Ascii(0, b"AAAAAAAAAAAAAAAA"),
-            EndMessage,
-            Message(1),
-        ],
-        Wrong(Code::L1, 22),
-    ),
-    Row(
-        "a character without room, of which more follow",
-        SHORT,
-        &[
-            0xE0, 0x81, 0x41, 0x41, 0x41, 0x41, 0x41, 0x41, 0x41, 0x41, 0x41, 0x41, 0x41, 0x41,
-            0x41, 0x41, 0x41, 0xC1, 0xC0, 0x82, 0x80, 0x42,
-        ],
-        &[
-            Message(0),
-            Ascii(0, b"AAAAAAAAAAAAAAAA"),
-            EndMessage,
-            Message(1),
-        ],
-        Wrong(Code::L1, 22),
-    ),
-    Row(
-        "a leading zero comes before the room",
-        SHORT,
-        &[
-            0xE0, 0x81, 0x41, 0x41, 0x41, 0x41, 0x41, 0x41, 0x41, 0x41, 0x41, 0x41, 0x41, 0x41,
-            0x41, 0x41, 0x41, 0xC1, 0xC0, 0x82, 0x80, 0x00,
-        ],
-        &[
-            Message(0),
-            Ascii(0, b"AAAAAAAAAAAAAAAA"),
-            EndMessage,
-            Message(1),
-        ],
-        Wrong(Code::R9, 22),
-    ),
-    Row(
-        "room for one",
-        SHORT,
-        &[
-            0xE0, 0x81, 0x41, 0x41, 0x41, 0x41, 0x41, 0x41, 0x41, 0x41, 0x41, 0x41, 0x41, 0x41,
-            0x41, 0x41, 0x41, 0xC1, 0xC0, 0x82, 0x81, 0xC2,
-        ],
-        &[
-            Message(0),
-            Ascii(0, b"AAAAAAAAAAAAAAAA"),
-            EndMessage,
-            Message(1),
-            Ascii(1, b"AAAAAAAAAAAAAAAB"),
-            EndMessage,
-        ],
-        Between,
-    ),
-    Row(
-        "room for one, and two come",
-        SHORT,
-        &[
-            0xE0, 0x81, 0x41, 0x41, 0x41, 0x41, 0x41, 0x41, 0x41, 0x41, 0x41, 0x41, 0x41, 0x41,
-            0x41, 0x41, 0x41, 0xC1, 0xC0, 0x82, 0x81, 0x42, 0xC2,
-        ],
-        &[
-            Message(0),
-            Ascii(0, b"AAAAAAAAAAAAAAAA"),
-            EndMessage,
-            Message(1),
-        ],
-        Wrong(Code::L1, 23),
-    ),
-    Row(
-        "a vector that fits behind its base",
-        SHORT,
-        &[
-            0xC0, 0x87, 0x80, 0x83, 0x09, 0x08, 0x07, 0x80, 0x80, 0x8D, 0x01, 0x01, 0x01, 0x01,
-            0x01, 0x01, 0x01, 0x01, 0x01, 0x01, 0x01, 0x01, 0x01,
-        ],
-        &[
-            Message(6),
-            Bytes(6, &[9, 8, 7]),
-            EndMessage,
-            Message(6),
-            Bytes(6, &[9, 8, 7, 1, 1, 1, 1, 1, 1, 1, 1, 1, 1, 1, 1, 1]),
-            EndMessage,
-        ],
-        Between,
-    ),
-    Row(
-        "a size without room behind the base",
-        SHORT,
-        &[0xC0, 0x87, 0x80, 0x83, 0x09, 0x08, 0x07, 0x80, 0x80, 0x8E],
-        &[Message(6), Bytes(6, &[9, 8, 7]), EndMessage, Message(6)],
-        Wrong(Code::L1, 10),
-    ),
-];
+const THE_ROOM_BEHIND_A_BASE: &str = "\
+the base alone fills the room | lenient text=16 | E0 81 41*15 C1 C0 82 80 80 \
+    | m0 a0='AAAAAAAAAAAAAAAA' /m m1 a1='AAAAAAAAAAAAAAAA' /m | between
+a character without room | lenient text=16 | E0 81 41*15 C1 C0 82 80 C2 | m0 a0='AAAAAAAAAAAAAAAA' /m m1 | L1@22
+a character without room, of which more follow | lenient text=16 | E0 81 41*15 C1 C0 82 80 42 \
+    | m0 a0='AAAAAAAAAAAAAAAA' /m m1 | L1@22
+a leading zero comes before the room | lenient text=16 | E0 81 41*15 C1 C0 82 80 00 | m0 a0='AAAAAAAAAAAAAAAA' /m m1 \
+    | R9@22
+room for one | lenient text=16 | E0 81 41*15 C1 C0 82 81 C2 \
+    | m0 a0='AAAAAAAAAAAAAAAA' /m m1 a1='AAAAAAAAAAAAAAAB' /m | between
+room for one, and two come | lenient text=16 | E0 81 41*15 C1 C0 82 81 42 C2 | m0 a0='AAAAAAAAAAAAAAAA' /m m1 | L1@23
+a vector that fits behind its base | lenient text=16 | C0 87 80 83 09 08 07 80 80 8D 01*13 \
+    | m6 b6=090807 /m m6 b6=09080701010101010101010101010101 /m | between
+a size without room behind the base | lenient text=16 | C0 87 80 83 09 08 07 80 80 8E | m6 b6=090807 /m m6 | L1@10
+";
+
+const BASES: &str = "\
+an initial value is the base of a delta and of a tail | strict | C0 88 82 C1 80 FF C2 \
+    | m7 a7='WXA' a8='WXYZ' /m m7 a7='BWXA' a8='WXYZ' /m | between
+a tail replaces the end of an initial value | strict | E0 88 80 80 C1 | m7 a7='WXYZ' a8='WXYA' /m | between
+a tail of characters that do not join to UTF-8 | lenient | E0 86 82 C3 A9 A0 81 41 | m5 t5='é' /m m5 | R2@8
+a tail that does join | lenient | E0 86 82 C3 A9 A0 81 A8 | m5 t5='é' /m m5 t5='è' /m | between
+a delta of an empty previous value | lenient | E0 81 C1 A0 80 C0 82 80 | m0 a0='A' /m m0 /m m1 | D6@8
+a tail of an empty previous value | lenient | E0 81 C1 A0 80 E0 83 C2 | m0 a0='A' /m m0 /m m2 a2='B' /m | between
+no tail, and an empty previous value | lenient | E0 81 C1 A0 80 C0 83 | m0 a0='A' /m m0 /m m2 | D6@7
+no tail, and no previous value | lenient | C0 83 | m2 | D5@2
+no tail, and a previous value of another kind | lenient | E0 81 C1 C0 85 | m0 a0='A' /m m4 | D4@5
+a tail of another kind, at its last byte | lenient | E0 81 C1 E0 85 83 42 43 | m0 a0='A' /m m4 | D4@8
+a null tail of another kind empties the entry | lenient | E0 81 C1 E0 85 80 C0 85 | m0 a0='A' /m m4 /m m4 /m | between
+a delta of another kind, at its subtraction length | lenient | E0 81 C1 C0 84 81 | m0 a0='A' /m m3 | D4@6
+a null delta of another kind leaves the entry | lenient | E0 81 C1 C0 84 80 C0 81 | m0 a0='A' /m m3 /m m0 a0='A' /m \
+    | between
+a copy that is sent takes the place of another kind | lenient | E0 85 83 42 43 E0 81 C1 C0 81 \
+    | m4 t4='BC' /m m0 a0='A' /m m0 a0='A' /m | between
+";
 
 #[test]
-fn the_room_behind_a_base(rt: HostRuntime) -> Result<(), Fail> {
-    expect_rows(&rt, rt.alloc(), SHARED, THE_ROOM_BEHIND_A_BASE)
-}
-
-const BASES: &[Row<'static>] = &[
-    Row(
-        "an initial value is the base of a delta and of a tail",
-        STRICT,
-        &[0xC0, 0x88, 0x82, 0xC1, 0x80, 0xFF, 0xC2],
-        &[
-            Message(7),
-            Ascii(7, b"WXA"),
-            Ascii(8, b"WXYZ"),
-            EndMessage,
-            Message(7),
-            Ascii(7, b"BWXA"),
-            Ascii(8, b"WXYZ"),
-            EndMessage,
-        ],
-        Between,
-    ),
-    Row(
-        "a tail replaces the end of an initial value",
-        STRICT,
-        &[0xE0, 0x88, 0x80, 0x80, 0xC1],
-        &[Message(7), Ascii(7, b"WXYZ"), Ascii(8, b"WXYA"), EndMessage],
-        Between,
-    ),
-    Row(
-        "a tail of characters that do not join to UTF-8",
-        LENIENT,
-        &[0xE0, 0x86, 0x82, 0xC3, 0xA9, 0xA0, 0x81, 0x41],
-        &[
-            Message(5),
-            Unicode(5, &[0xC3, 0xA9]),
-            EndMessage,
-            Message(5),
-        ],
-        Wrong(Code::R2, 8),
-    ),
-    Row(
-        "a tail that does join",
-        LENIENT,
-        &[0xE0, 0x86, 0x82, 0xC3, 0xA9, 0xA0, 0x81, 0xA8],
-        &[
-            Message(5),
-            Unicode(5, &[0xC3, 0xA9]),
-            EndMessage,
-            Message(5),
-            Unicode(5, &[0xC3, 0xA8]),
-            EndMessage,
-        ],
-        Between,
-    ),
-    Row(
-        "a delta of an empty previous value",
-        LENIENT,
-        &[0xE0, 0x81, 0xC1, 0xA0, 0x80, 0xC0, 0x82, 0x80],
-        &[
-            Message(0),
-            Ascii(0, b"A"),
-            EndMessage,
-            Message(0),
-            EndMessage,
-            Message(1),
-        ],
-        Wrong(Code::D6, 8),
-    ),
-    Row(
-        "a tail of an empty previous value",
-        LENIENT,
-        &[0xE0, 0x81, 0xC1, 0xA0, 0x80, 0xE0, 0x83, 0xC2],
-        &[
-            Message(0),
-            Ascii(0, b"A"),
-            EndMessage,
-            Message(0),
-            EndMessage,
-            Message(2),
-            Ascii(2, b"B"),
-            EndMessage,
-        ],
-        Between,
-    ),
-    Row(
-        "no tail, and an empty previous value",
-        LENIENT,
-        &[0xE0, 0x81, 0xC1, 0xA0, 0x80, 0xC0, 0x83],
-        &[
-            Message(0),
-            Ascii(0, b"A"),
-            EndMessage,
-            Message(0),
-            EndMessage,
-            Message(2),
-        ],
-        Wrong(Code::D6, 7),
-    ),
-    Row(
-        "no tail, and no previous value",
-        LENIENT,
-        &[0xC0, 0x83],
-        &[Message(2)],
-        Wrong(Code::D5, 2),
-    ),
-    Row(
-        "no tail, and a previous value of another kind",
-        LENIENT,
-        &[0xE0, 0x81, 0xC1, 0xC0, 0x85],
-        &[Message(0), Ascii(0, b"A"), EndMessage, Message(4)],
-        Wrong(Code::D4, 5),
-    ),
-    Row(
-        "a tail of another kind, at its last byte",
-        LENIENT,
-        &[0xE0, 0x81, 0xC1, 0xE0, 0x85, 0x83, 0x42, 0x43],
-        &[Message(0), Ascii(0, b"A"), EndMessage, Message(4)],
-        Wrong(Code::D4, 8),
-    ),
-    Row(
-        "a null tail of another kind empties the entry",
-        LENIENT,
-        &[0xE0, 0x81, 0xC1, 0xE0, 0x85, 0x80, 0xC0, 0x85],
-        &[
-            Message(0),
-            Ascii(0, b"A"),
-            EndMessage,
-            Message(4),
-            EndMessage,
-            Message(4),
-            EndMessage,
-        ],
-        Between,
-    ),
-    Row(
-        "a delta of another kind, at its subtraction length",
-        LENIENT,
-        &[0xE0, 0x81, 0xC1, 0xC0, 0x84, 0x81],
-        &[Message(0), Ascii(0, b"A"), EndMessage, Message(3)],
-        Wrong(Code::D4, 6),
-    ),
-    Row(
-        "a null delta of another kind leaves the entry",
-        LENIENT,
-        &[0xE0, 0x81, 0xC1, 0xC0, 0x84, 0x80, 0xC0, 0x81],
-        &[
-            Message(0),
-            Ascii(0, b"A"),
-            EndMessage,
-            Message(3),
-            EndMessage,
-            Message(0),
-            Ascii(0, b"A"),
-            EndMessage,
-        ],
-        Between,
-    ),
-    Row(
-        "a copy that is sent takes the place of another kind",
-        LENIENT,
-        &[0xE0, 0x85, 0x83, 0x42, 0x43, 0xE0, 0x81, 0xC1, 0xC0, 0x81],
-        &[
-            Message(4),
-            Unicode(4, b"BC"),
-            EndMessage,
-            Message(0),
-            Ascii(0, b"A"),
-            EndMessage,
-            Message(0),
-            Ascii(0, b"A"),
-            EndMessage,
-        ],
-        Between,
-    ),
-];
-
-#[test]
-fn bases(rt: HostRuntime) -> Result<(), Fail> {
-    expect_rows(&rt, rt.alloc(), SHARED, BASES)
+fn rows_of_shared(rt: HostRuntime) -> Result<(), Fail> {
+    expect_rows(&rt, rt.alloc(), SHARED, &[THE_ROOM_BEHIND_A_BASE, BASES])
 }

@@ -1,9 +1,6 @@
 //! Texts and runs of bytes by themselves, and the room that there is for them.
 
-use super::Due::*;
-use super::End::{Between, Inside, Wrong};
-use super::{LENIENT, Row, SHORT, expect_rows};
-use fast_value::Code;
+use super::expect_rows;
 use std::test::Fail;
 
 /// A text that is sent whole, or behind a base that leaves little room; and bytes.
@@ -34,268 +31,45 @@ id = 6
 fields = [{kind="bytes", name="f"}]
 "#;
 
-const TEXTS: &[Row<'static>] = &[
-    Row(
-        "a text, and another behind it",
-        SHORT,
-        &[0xC0, 0x81, 0x41, 0x42, 0xC3, 0x80, 0xC4],
-        &[
-            Message(0),
-            Ascii(0, b"ABC"),
-            EndMessage,
-            Message(0),
-            Ascii(0, b"D"),
-            EndMessage,
-        ],
-        Between,
-    ),
-    Row(
-        "as long as there is room",
-        SHORT,
-        &[
-            0xC0, 0x81, 0x41, 0x41, 0x41, 0x41, 0x41, 0x41, 0x41, 0x41, 0x41, 0x41, 0x41, 0x41,
-            0x41, 0x41, 0x41, 0xC1,
-        ],
-        &[Message(0), Ascii(0, b"AAAAAAAAAAAAAAAA"), EndMessage],
-        Between,
-    ),
-    Row(
-        "one character more",
-        SHORT,
-        &[
-            0xC0, 0x81, 0x41, 0x41, 0x41, 0x41, 0x41, 0x41, 0x41, 0x41, 0x41, 0x41, 0x41, 0x41,
-            0x41, 0x41, 0x41, 0x41, 0xC1,
-        ],
-        &[Message(0)],
-        Wrong(Code::L1, 19),
-    ),
-    Row(
-        "no stop bit in sight",
-        SHORT,
-        &[
-            0xC0, 0x81, 0x41, 0x41, 0x41, 0x41, 0x41, 0x41, 0x41, 0x41, 0x41, 0x41, 0x41, 0x41,
-            0x41, 0x41, 0x41, 0x41, 0x41,
-        ],
-        &[Message(0)],
-        Wrong(Code::L1, 19),
-    ),
-    Row(
-        "two zeros at the end",
-        SHORT,
-        &[0xC0, 0x81, 0x41, 0x00, 0x80],
-        &[Message(0), Ascii(0, b"A\0\0"), EndMessage],
-        Between,
-    ),
-    Row(
-        "a zero at the end",
-        SHORT,
-        &[0xC0, 0x81, 0x41, 0x80],
-        &[Message(0), Ascii(0, b"A\0"), EndMessage],
-        Between,
-    ),
-    Row(
-        "16 characters without a stop bit",
-        SHORT,
-        &[
-            0xC0, 0x81, 0x41, 0x41, 0x41, 0x41, 0x41, 0x41, 0x41, 0x41, 0x41, 0x41, 0x41, 0x41,
-            0x41, 0x41, 0x41, 0x41,
-        ],
-        &[Message(0)],
-        Inside,
-    ),
-    Row(
-        "a text, and another behind it, optional",
-        SHORT,
-        &[0xC0, 0x82, 0x41, 0x42, 0xC3, 0x80, 0xC4],
-        &[
-            Message(1),
-            Ascii(1, b"ABC"),
-            EndMessage,
-            Message(1),
-            Ascii(1, b"D"),
-            EndMessage,
-        ],
-        Between,
-    ),
-    Row(
-        "as long as there is room, optional",
-        SHORT,
-        &[
-            0xC0, 0x82, 0x41, 0x41, 0x41, 0x41, 0x41, 0x41, 0x41, 0x41, 0x41, 0x41, 0x41, 0x41,
-            0x41, 0x41, 0x41, 0xC1,
-        ],
-        &[Message(1), Ascii(1, b"AAAAAAAAAAAAAAAA"), EndMessage],
-        Between,
-    ),
-    Row(
-        "one character more, optional",
-        SHORT,
-        &[
-            0xC0, 0x82, 0x41, 0x41, 0x41, 0x41, 0x41, 0x41, 0x41, 0x41, 0x41, 0x41, 0x41, 0x41,
-            0x41, 0x41, 0x41, 0x41, 0xC1,
-        ],
-        &[Message(1)],
-        Wrong(Code::L1, 19),
-    ),
-    Row(
-        "no stop bit in sight, optional",
-        SHORT,
-        &[
-            0xC0, 0x82, 0x41, 0x41, 0x41, 0x41, 0x41, 0x41, 0x41, 0x41, 0x41, 0x41, 0x41, 0x41,
-            0x41, 0x41, 0x41, 0x41, 0x41,
-        ],
-        &[Message(1)],
-        Wrong(Code::L1, 19),
-    ),
-    Row(
-        "two zeros at the end, optional",
-        SHORT,
-        &[0xC0, 0x82, 0x41, 0x00, 0x80],
-        &[Message(1), Ascii(1, b"A\0\0"), EndMessage],
-        Between,
-    ),
-    Row(
-        "a zero at the end, optional",
-        SHORT,
-        &[0xC0, 0x82, 0x41, 0x80],
-        &[Message(1), Ascii(1, b"A\0"), EndMessage],
-        Between,
-    ),
-    Row(
-        "16 characters without a stop bit, optional",
-        SHORT,
-        &[
-            0xC0, 0x82, 0x41, 0x41, 0x41, 0x41, 0x41, 0x41, 0x41, 0x41, 0x41, 0x41, 0x41, 0x41,
-            0x41, 0x41, 0x41, 0x41,
-        ],
-        &[Message(1)],
-        Inside,
-    ),
-    Row(
-        "empty",
-        SHORT,
-        &[0xC0, 0x81, 0x80],
-        &[Message(0), Ascii(0, b""), EndMessage],
-        Between,
-    ),
-    Row(
-        "absent",
-        SHORT,
-        &[0xC0, 0x82, 0x80],
-        &[Message(1), EndMessage],
-        Between,
-    ),
-    Row(
-        "a zero in front of nothing",
-        SHORT,
-        &[0xC0, 0x81, 0x00],
-        &[Message(0)],
-        Wrong(Code::R9, 3),
-    ),
-    Row(
-        "empty, optional",
-        SHORT,
-        &[0xC0, 0x82, 0x00, 0x80],
-        &[Message(1), Ascii(1, b""), EndMessage],
-        Between,
-    ),
-    Row(
-        "a zero in front of a character, optional",
-        SHORT,
-        &[0xC0, 0x82, 0x00, 0xC1],
-        &[Message(1)],
-        Wrong(Code::R9, 4),
-    ),
-    Row(
-        "a zero, optional",
-        SHORT,
-        &[0xC0, 0x82, 0x00],
-        &[Message(1)],
-        Inside,
-    ),
-    Row(
-        "forty characters and one",
-        LENIENT,
-        &[
-            0xC0, 0x82, 0x66, 0x6F, 0x72, 0x74, 0x79, 0x20, 0x63, 0x68, 0x61, 0x72, 0x61, 0x63,
-            0x74, 0x65, 0x72, 0x73, 0x2C, 0x20, 0x61, 0x6C, 0x6C, 0x20, 0x6F, 0x66, 0x20, 0x74,
-            0x68, 0x65, 0x6D, 0x20, 0x69, 0x6E, 0x20, 0x6F, 0x6E, 0x65, 0x20, 0x72, 0x75, 0x6E,
-            0xAE,
-        ],
-        &[
-            Message(1),
-            Ascii(1, b"forty characters, all of them in one run."),
-            EndMessage,
-        ],
-        Between,
-    ),
-    Row(
-        "room for three behind a base",
-        SHORT,
-        &[0xC0, 0x83, 0x80, 0x41, 0x42, 0xC3],
-        &[Message(2), Ascii(2, b"ABCDEFGHIJKLMABC"), EndMessage],
-        Between,
-    ),
-    Row(
-        "room for two",
-        SHORT,
-        &[0xC0, 0x84, 0x80, 0x41, 0x42, 0xC3],
-        &[Message(3)],
-        Wrong(Code::L1, 6),
-    ),
-    Row(
-        "room for two, and no stop bit in sight",
-        SHORT,
-        &[0xC0, 0x84, 0x80, 0x41, 0x41, 0x41],
-        &[Message(3)],
-        Wrong(Code::L1, 6),
-    ),
-    Row(
-        "room for none",
-        SHORT,
-        &[0xC0, 0x85, 0x80, 0xC1],
-        &[Message(4)],
-        Wrong(Code::L1, 4),
-    ),
-    Row(
-        "room for none, and none comes",
-        SHORT,
-        &[0xC0, 0x85, 0x80, 0x80],
-        &[Message(4), Ascii(4, b"ABCDEFGHIJKLMNOP"), EndMessage],
-        Between,
-    ),
-];
+const TEXTS: &str = "\
+a text, and another behind it | lenient text=16 | C0 81 41 42 C3 80 C4 | m0 a0='ABC' /m m0 a0='D' /m | between
+as long as there is room | lenient text=16 | C0 81 41*15 C1 | m0 a0='AAAAAAAAAAAAAAAA' /m | between
+one character more | lenient text=16 | C0 81 41*16 C1 | m0 | L1@19
+no stop bit in sight | lenient text=16 | C0 81 41*17 | m0 | L1@19
+two zeros at the end | lenient text=16 | C0 81 41 00 80 | m0 a0='A\0\0' /m | between
+a zero at the end | lenient text=16 | C0 81 41 80 | m0 a0='A\0' /m | between
+16 characters without a stop bit | lenient text=16 | C0 81 41*16 | m0 | inside
+a text, and another behind it, optional | lenient text=16 | C0 82 41 42 C3 80 C4 | m1 a1='ABC' /m m1 a1='D' /m \
+    | between
+as long as there is room, optional | lenient text=16 | C0 82 41*15 C1 | m1 a1='AAAAAAAAAAAAAAAA' /m | between
+one character more, optional | lenient text=16 | C0 82 41*16 C1 | m1 | L1@19
+no stop bit in sight, optional | lenient text=16 | C0 82 41*17 | m1 | L1@19
+two zeros at the end, optional | lenient text=16 | C0 82 41 00 80 | m1 a1='A\0\0' /m | between
+a zero at the end, optional | lenient text=16 | C0 82 41 80 | m1 a1='A\0' /m | between
+16 characters without a stop bit, optional | lenient text=16 | C0 82 41*16 | m1 | inside
+empty | lenient text=16 | C0 81 80 | m0 a0='' /m | between
+absent | lenient text=16 | C0 82 80 | m1 /m | between
+a zero in front of nothing | lenient text=16 | C0 81 00 | m0 | R9@3
+empty, optional | lenient text=16 | C0 82 00 80 | m1 a1='' /m | between
+a zero in front of a character, optional | lenient text=16 | C0 82 00 C1 | m1 | R9@4
+a zero, optional | lenient text=16 | C0 82 00 | m1 | inside
+forty characters and one | lenient \
+    | C0 82 66 6F 72 74 79 20 63 68 61 72 61 63 74 65 72 73 2C 20 61 6C 6C 20 6F 66 20 74 68 65 6D 20 69 6E 20 6F 6E \
+    65 20 72 75 6E AE | m1 a1='forty characters, all of them in one run.' /m | between
+room for three behind a base | lenient text=16 | C0 83 80 41 42 C3 | m2 a2='ABCDEFGHIJKLMABC' /m | between
+room for two | lenient text=16 | C0 84 80 41 42 C3 | m3 | L1@6
+room for two, and no stop bit in sight | lenient text=16 | C0 84 80 41 41 41 | m3 | L1@6
+room for none | lenient text=16 | C0 85 80 C1 | m4 | L1@4
+room for none, and none comes | lenient text=16 | C0 85 80 80 | m4 a4='ABCDEFGHIJKLMNOP' /m | between
+";
+
+const RUNS_OF_BYTES: &str = "\
+three bytes, and one behind them | lenient text=16 | C0 86 83 00 80 FF 80 81 41 | m5 b5=0080FF /m m5 b5=41 /m \
+    | between
+four bytes of five | lenient text=16 | C0 86 85 00 80 FF 41 | m5 | inside
+";
 
 #[test]
-fn texts(rt: HostRuntime) -> Result<(), Fail> {
-    expect_rows(&rt, rt.alloc(), UNITS, TEXTS)
-}
-
-const RUNS_OF_BYTES: &[Row<'static>] = &[
-    Row(
-        "three bytes, and one behind them",
-        SHORT,
-        &[0xC0, 0x86, 0x83, 0x00, 0x80, 0xFF, 0x80, 0x81, 0x41],
-        &[
-            Message(5),
-            Bytes(5, &[0x00, 0x80, 0xFF]),
-            EndMessage,
-            Message(5),
-            Bytes(5, b"A"),
-            EndMessage,
-        ],
-        Between,
-    ),
-    Row(
-        "four bytes of five",
-        SHORT,
-        &[0xC0, 0x86, 0x85, 0x00, 0x80, 0xFF, 0x41],
-        &[Message(5)],
-        Inside,
-    ),
-];
-
-#[test]
-fn runs_of_bytes(rt: HostRuntime) -> Result<(), Fail> {
-    expect_rows(&rt, rt.alloc(), UNITS, RUNS_OF_BYTES)
+fn rows_of_units(rt: HostRuntime) -> Result<(), Fail> {
+    expect_rows(&rt, rt.alloc(), UNITS, &[TEXTS, RUNS_OF_BYTES])
 }
