@@ -1,20 +1,25 @@
 -- Lines that are written by a writer of their own.
-use Rattle.std.proofs.Common.{◌≡◌, ℕ, Bool, true, List, Option, Result, Ok, Err, ap, sym}
-use Rattle.std.specs.Prelude.{is_ok, OnErr, OnOk}
+use Rattle.std.proofs.Common.{◌≡◌, Bool, ℕ, IsTrue, List, Option, Result, Ok, Err, refl}
+use Rattle.std.specs.Prelude.{OnErr, OnOk}
 use Rattle.fast_text.specs.declared.streams.Failed.{Failed}
 use Rattle.fast_text.specs.declared.line_writer.LineWriter.{LineWriter}
 use Rattle.fast_text.specs.Streams.{Appends, AppendsFront}
-use Rattle.fast_text.specs.LineWriter.{Writes}
+use Rattle.fast_text.specs.LineWriter.{Writes, IsFresh, Finishes}
 use Rattle.fast_text.proofs.Writing.{ended_short, ended_whole}
 
--- a front was written where the writer has failed
-pub part_written : {T : Type 0} {written : T → Option (List ℕ)} {failed : T → Bool} {s t : LineWriter T} {text : List ℕ} (begun ended : T) (r : Result (Unit {0}) Failed)
-    → s.target.now ≡ begun → ended ≡ t.target.now → is_ok s.outcome ≡ true → r ≡ t.outcome → Writes written failed s text t → OnErr r (AppendsFront (written begun) (written ended) text)
-part_written begun ended (Ok x) begins ends began outcome h = tt
-part_written begun ended (Err e) begins ends began outcome h = rw (← begins, ends) (ended_short h began (ap is_ok (sym outcome))).0
+-- What became of a text: it was written, or a front of it was and the target failed.
+pub record IsPut {T : Type 0} (written : T → Option (List ℕ)) (failed : T → Bool) (begun ended : T) (text : List ℕ) (r : Result (Unit {0}) Failed) : Type 0 where
+  pub whole : OnOk r (Appends (written begun) (written ended) text)
+  pub part : OnErr r (AppendsFront (written begun) (written ended) text)
+  pub fails : OnErr r (IsTrue (failed ended))
+  pub stays : OnOk r (failed ended ≡ failed begun)
 
--- all was written where the writer has not failed
-pub whole_written : {T : Type 0} {written : T → Option (List ℕ)} {failed : T → Bool} {s t : LineWriter T} {text : List ℕ} (begun ended : T) (r : Result (Unit {0}) Failed)
-    → s.target.now ≡ begun → ended ≡ t.target.now → r ≡ t.outcome → Writes written failed s text t → OnOk r (Appends (written begun) (written ended) text)
-whole_written begun ended (Ok x) begins ends outcome h = rw (← begins, ends) (ended_whole h (ap is_ok (sym outcome))).0
-whole_written begun ended (Err e) begins ends outcome h = tt
+-- from a writer that begins to one that has finished
+pub is_put : {T : Type 0} {written : T → Option (List ℕ)} {failed : T → Bool} {s t u : LineWriter T} {text : List ℕ} (begun ended : T) (r : Result (Unit {0}) Failed)
+    → s.target.now ≡ begun → ended ≡ u.target.now → IsFresh s → Writes written failed s text t → Finishes written failed t u r → IsPut written failed begun ended text r
+is_put begun ended (Ok x) begins ends fresh h end =
+    let w = ended_whole fresh h end refl in
+    rw (← begins, ends) (record { whole = w.0; part = tt; fails = tt; stays = w.1 })
+is_put begun ended (Err e) begins ends fresh h end =
+    let w = ended_short e fresh h end refl in
+    rw (← begins, ends) (record { whole = tt; part = w.0; fails = w.1; stays = tt })

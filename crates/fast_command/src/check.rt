@@ -8,7 +8,7 @@ ghost use Rattle.fast_command.specs.Checking.{number_line, set_lines};
 
 use crate::faults::RunFault;
 use fast_template::Templates;
-use fast_text::{Failed, LineWriter, Target};
+use fast_text::{Failed, LineWriter, Room, Target};
 use fast_value::Limits;
 
 /// Writes a line with a name and a number.
@@ -28,7 +28,8 @@ fn write_set<T: Target>(templates: &Templates, limits: Limits, target: &mut T) -
     ensures fails { OnErr result (IsTrue (T.has_failed target.new)) }
     ensures stays { OnOk result (T.has_failed target.new ≡ T.has_failed target.old) }
 {
-    let mut line = LineWriter::new(target);
+    let mut room = Room::new();
+    let mut line = LineWriter::new(target, &mut room);
     put_number(&mut line, "templates", u64::from(templates.count()));
     put_number(&mut line, "nodes", u64::from(templates.nodes()));
     put_number(&mut line, "entries", u64::from(templates.entries()));

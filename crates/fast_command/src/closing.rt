@@ -5,7 +5,7 @@ ghost use Rattle.fast_text.specs.Streams.{Appends, AppendsFront};
 ghost use Rattle.fast_command.specs.Closing.{code_text, fault_line, truncated_line};
 
 use fast_decoder::{Fault, FaultCode};
-use fast_text::{Failed, LineWriter, Target};
+use fast_text::{Failed, LineWriter, Room, Target};
 use fast_value::Code;
 
 /// The name of a code.
@@ -41,7 +41,8 @@ pub fn write_fault<T: Target>(fault: Fault, target: &mut T) -> Result<(), Failed
     ensures fails { OnErr result (IsTrue (T.has_failed target.new)) }
     ensures stays { OnOk result (T.has_failed target.new ≡ T.has_failed target.old) }
 {
-    let mut line = LineWriter::new(target);
+    let mut room = Room::new();
+    let mut line = LineWriter::new(target, &mut room);
     line.put(b"fault ");
     line.put(code_name(fault.code).as_bytes());
     line.put(b" at ");
@@ -57,7 +58,8 @@ pub fn write_truncated<T: Target>(consumed: u64, target: &mut T) -> Result<(), F
     ensures fails { OnErr result (IsTrue (T.has_failed target.new)) }
     ensures stays { OnOk result (T.has_failed target.new ≡ T.has_failed target.old) }
 {
-    let mut line = LineWriter::new(target);
+    let mut room = Room::new();
+    let mut line = LineWriter::new(target, &mut room);
     line.put(b"truncated at ");
     line.put_unsigned(consumed);
     line.put(b"\n");

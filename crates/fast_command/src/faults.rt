@@ -5,7 +5,7 @@ ghost use Rattle.fast_command.specs.Report.{status_of, cause_number, static_code
 
 use fast_decoder::{Fault, MakeError};
 use fast_template::{StaticCode, StaticFault};
-use fast_text::{LineWriter, Target};
+use fast_text::{LineWriter, Room, Target};
 use std::fmt;
 use std::fmt::{Display, Formatter, Write};
 use thiserror::Error;
@@ -113,8 +113,10 @@ pub fn report<T: Target>(ending: &Result<ShowEnd, RunFault>, target: &mut T) -> 
         Ok(ShowEnd::Good) => 0,
         Ok(ShowEnd::Faulted(_) | ShowEnd::Truncated(_)) => 1,
         Err(fault) => {
-            let mut line = LineWriter::new(target);
+            let mut room = Room::new();
+            let mut line = LineWriter::new(target, &mut room);
             let _ = writeln!(line, "fastcat: {fault}");
+            let _ = line.finish();
             match fault {
                 RunFault::Templates(_) | RunFault::Make(_) => 2,
                 RunFault::Read | RunFault::Write | RunFault::BadHex(_) | RunFault::Memory => 3,

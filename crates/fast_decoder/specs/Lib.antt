@@ -8,3 +8,4 @@ pub mod Scalars
 pub mod TurnsLeft
 pub mod Decoding
 pub mod Serving
+pub mod Feeding

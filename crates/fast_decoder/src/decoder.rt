@@ -9,6 +9,7 @@ ghost use Rattle.fast_stream.specs.Streams.{End};
 ghost use Rattle.fast_stream.specs.Begins.{Begins};
 ghost use Rattle.fast_stream.specs.Standing.{StandsAfter, standing_at, held};
 ghost use Rattle.fast_decoder.specs.Decoding.{DecoderData, tree, AreBadLimits, IsUncounted, So, turns, stored, standing, answer, Carried};
+ghost use Rattle.fast_decoder.specs.Feeding.{IsAtPlace, ConsumesAtMost, all_bytes, Followed};
 
 use crate::layout::has_long_initial;
 use crate::machine::Machine;
@@ -94,6 +95,12 @@ impl<'t> Decoder<'t> {
         // L4 comes exactly where the bytes can no longer be counted.
         ensures counted { self.old.fault ≡ None → (IsUncounted result ↔ (2 ^ 64 ≤ self.old.consumed + length piece.now)) }
         ensures bounded { held (stored self.new) ≤ stored_cap (tree self.new) self.new.limits }
+        // At every fault what is consumed is the fault's place.
+        ensures at_place { IsAtPlace self.new }
+        ensures consumed { ConsumesAtMost (length piece.now) self.old self.new }
+        // The same in terms of the stream, with the bound on the events, which holds at L4 and at the sink's stop too.
+        ensures followed { (w : List ℕ) (es : List EventData) → So self.old w es
+            → Followed S.takes S.stops (tree self.old) self.old.limits w es piece.now sink.old result self.new sink.new }
         // The turns of the call are at most the cap of a message and one for each byte that it consumes.
         ensures turns { turns self.new ≤ (self.new.consumed - self.old.consumed) * (1 + turn_cap (tree self.new) self.new.limits) }
     {
@@ -134,9 +141,40 @@ impl<'t> Decoder<'t> {
         ensures stopped { IsSome self.old.fault → (standing self.new ≡ standing self.old) × (sink.new ≡ sink.old) }
         ensures counted { self.old.fault ≡ None → (IsUncounted result ↔ (2 ^ 64 ≤ self.old.consumed + 1)) }
         ensures bounded { held (stored self.new) ≤ stored_cap (tree self.new) self.new.limits }
+        ensures at_place { IsAtPlace self.new }
+        ensures consumed { ConsumesAtMost 1 self.old self.new }
+        ensures followed { (w : List ℕ) (es : List EventData) → So self.old w es
+            → Followed S.takes S.stops (tree self.old) self.old.limits w es (byte ∷ []) sink.old result self.new sink.new }
         ensures turns { turns self.new ≤ (self.new.consumed - self.old.consumed) * (1 + turn_cap (tree self.new) self.new.limits) }
     {
         self.feed(&[byte], sink)
+    }
+
+    /// Feeds the pieces of a stream, one after the other, up to the first fault.
+    ///
+    /// The sink takes exactly what the stream means; where the stream is wrong, the call tells which fault and where. All that has been
+    /// handed over is at most the cap of a message for each byte consumed, and what is stored at most the cap of the set. Both bounds
+    /// are clauses of `feed`, which takes each piece, so they hold behind each piece, and with pieces of one byte behind each byte.
+    pub fn feed_all<S: Sink>(&mut self, pieces: &[&[u8]], sink: &mut S) -> Result<(), Fault>
+        // Behind bytes that led to the decoder, the pieces are fed as if they were one.
+        ensures followed { (w : List ℕ) (es : List EventData) → So self.old w es
+            → Followed S.takes S.stops (tree self.old) self.old.limits w es (all_bytes pieces.now) sink.old result self.new sink.new }
+        // The same of a decoder that was made or reset: the stream is that of the pieces alone.
+        ensures from_start { So self.old [] []
+            → Followed S.takes S.stops (tree self.old) self.old.limits [] [] (all_bytes pieces.now) sink.old result self.new sink.new }
+        ensures answer { result ≡ answer self.new.fault }
+        ensures same_set { (tree self.new ≡ tree self.old) × (self.new.limits ≡ self.old.limits) }
+        ensures stopped { IsSome self.old.fault → (standing self.new ≡ standing self.old) × (sink.new ≡ sink.old) }
+        ensures bounded { held (stored self.new) ≤ stored_cap (tree self.new) self.new.limits }
+        ensures at_place { IsAtPlace self.new }
+        ensures consumed { ConsumesAtMost (length (all_bytes pieces.now)) self.old self.new }
+    {
+        // An empty piece first: a decoder that has stopped answers its fault, however few the pieces are.
+        self.feed(&[], sink)?;
+        for piece in pieces {
+            self.feed(piece, sink)?;
+        }
+        Ok(())
     }
 
     /// The decoder as it was made: before the first byte, without a fault.
@@ -193,7 +231,7 @@ pub fn so_bounds_messages()
 
 /// All of a decoder at once, whatever its template set, its limits and the bytes: what leads to it is a stream with these events,
 /// whose end the decoder tells; what it stores is at most the cap of the set; and the events are no more than the cap of a message
-/// for each byte consumed.
+/// for each byte consumed. That a sink takes these events is said of a call: by `Decoder::feed_all`, and by `feed` and `push`.
 pub fn headline()
     ensures { (d : DecoderData) (w : List ℕ) (es : List EventData) → So d w es → StandsAfter (tree d) d.limits w es (standing d)
         × (held (stored d) ≤ stored_cap (tree d) d.limits)

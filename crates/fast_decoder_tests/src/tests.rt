@@ -12,6 +12,7 @@ mod faults;
 mod limits;
 mod maps;
 mod numbers;
+mod pieces;
 mod rows;
 mod sinks;
 mod texts;

@@ -1,6 +1,6 @@
 -- Texts that are written one after the other.
-use Rattle.std.proofs.Common.{◌≡◌, ◌⊎◌, ℕ, Bool, true, false, IsTrue, List, [], ◌∷◌, ◌++◌, Option, Some, None, refl, ap, sym, ◌∙◌, inl, inr, append_assoc, append-nil}
-use Rattle.std.specs.Prelude.{option_map, is_ok, flat_map, All}
+use Rattle.std.proofs.Common.{◌≡◌, ℕ, Bool, true, false, IsTrue, List, [], ◌∷◌, ◌++◌, Option, Some, None, refl, ap, sym, ◌∙◌, inl, inr, append_assoc, append-nil}
+use Rattle.std.specs.Prelude.{option_map, is_ok, flat_map, All, Result, Ok, Err, OnOk, OnErr}
 use Rattle.std.proofs.lemmas.Grind.{flat_map-append}
 use Rattle.std.proofs.lemmas.List.Elements.{All-head, All-tail}
 use Rattle.fast_text.specs.declared.line_writer.LineWriter.{LineWriter}
@@ -8,7 +8,8 @@ use Rattle.fast_text.specs.Streams.{Appends, AppendsFront}
 use Rattle.fast_stream.specs.Events.{EventData}
 use Rattle.fast_text.specs.declared.line_sink.LineSink.{LineSink}
 use Rattle.fast_text.specs.LineSink.{whole_line, TakesLine, StopsInLine}
-use Rattle.fast_text.specs.LineWriter.{Point, Puts, Writes, point_of}
+use Rattle.fast_text.specs.declared.streams.Failed.{Failed}
+use Rattle.fast_text.specs.LineWriter.{Point, Puts, Stands, Writes, IsFresh, Finishes, point_of}
 
 -- no text
 pub appends_none : (old : Option (List ℕ)) → Appends old old []
@@ -41,60 +42,83 @@ front_of_first old new a b first = record {
   added = first.added;
 }
 
--- the point after one text and then another
+-- the same text
+stands_same : (begun : Option (List ℕ)) (had_failed : Bool) (a b : List ℕ) (p : Point) → a ≡ b → Stands begun had_failed a p → Stands begun had_failed b p
+stands_same begun had_failed a b p same h = rw (← same) h
+
+apart : true ≡ false → ⊥
+apart h = cc
+
+-- one text and then another
 pub puts_both : (p q r : Point) (a b : List ℕ) → Puts p a q → Puts q b r → Puts p (a ++ b) r
-puts_both p q r a b first second = record {
+puts_both p q r a b first second begun had_failed before h =
+    stands_same begun had_failed ((before ++ a) ++ b) (before ++ (a ++ b)) r (append_assoc before a b) (second begun had_failed (before ++ a) (first begun had_failed before h))
+
+-- The text is kept.
+pub puts_kept : (p q : Point) (text : List ℕ) → q.written ≡ p.written → q.failed ≡ p.failed → q.is_writing ≡ p.is_writing → q.kept ≡ p.kept ++ text → Puts p text q
+puts_kept p q text written failed writing kept begun had_failed before h = record {
   how =
-      elim first.how [
-        | inl f ↦ elim second.how [
-          | inl s ↦ inl (f.0, s.1, appends_both _ _ _ a b f.2 s.2, s.3 ∙ f.3)
-          | inr t ↦ elim t [
-            | inl s ↦ inr (inl (f.0, s.1, front_of_second _ _ _ a b f.2 s.2, s.3))
-            | inr s ↦ absurd (apart (sym f.1 ∙ s.0))
-          ]
-        ]
-        | inr g ↦ elim g [
-          | inl f ↦ elim second.how [
-            | inl s ↦ absurd (apart (sym s.0 ∙ f.1))
-            | inr t ↦ elim t [
-              | inl s ↦ absurd (apart (sym s.0 ∙ f.1))
-              | inr s ↦ inr (inl (f.0, s.1, front_kept f.2 s.2, s.3 ∙ f.3))
-            ]
-          ]
-          | inr f ↦ elim second.how [
-            | inl s ↦ absurd (apart (sym s.0 ∙ f.1))
-            | inr t ↦ elim t [
-              | inl s ↦ absurd (apart (sym s.0 ∙ f.1))
-              | inr s ↦ inr (inr (f.0, s.1, s.2 ∙ f.2, s.3 ∙ f.3))
-            ]
-          ]
-        ]
+      elim h.how [
+        | inl f ↦ inl (writing ∙ f.0, (f.1.0, ap (λ (xs : List ℕ). xs ++ text) f.1.1 ∙ append_assoc f.1.0 p.kept text ∙ ap (λ (xs : List ℕ). f.1.0 ++ xs) (sym kept), rw written f.1.2), failed ∙ f.2)
+        | inr f ↦ inr (writing ∙ f.0, rw written (front_of_first begun p.written before text f.1), rw failed f.2)
       ];
 }
-  where
-    apart : true ≡ false → ⊥
-    apart h = cc
 
-    front_kept : AppendsFront p.written q.written a → r.written ≡ q.written → AppendsFront p.written r.written (a ++ b)
-    front_kept f same = rw same (front_of_first _ _ a b f)
+-- What was kept is written, and the text behind it.
+pub puts_written : (p q : Point) (text whole : List ℕ) → p.is_writing ≡ true → q.is_writing ≡ true → q.kept ≡ [] → whole ≡ p.kept ++ text → Appends p.written q.written whole → q.failed ≡ p.failed → Puts p text q
+puts_written p q text whole was_writing writing kept whole_is added failed begun had_failed before h = record {
+  how =
+      elim h.how [
+        | inl f ↦ inl (
+          writing,
+          (
+            f.1.0 ++ whole,
+            ap (λ (xs : List ℕ). xs ++ text) f.1.1 ∙ append_assoc f.1.0 p.kept text ∙ ap (λ (xs : List ℕ). f.1.0 ++ xs) (sym whole_is) ∙ sym (append-nil (f.1.0 ++ whole)) ∙ ap (λ (xs : List ℕ). (f.1.0 ++ whole) ++ xs) (sym kept),
+            appends_both begun p.written q.written f.1.0 whole f.1.2 added,
+          ),
+          failed ∙ f.2,
+        )
+        | inr f ↦ absurd (apart (sym was_writing ∙ f.0))
+      ];
+}
+
+-- The target fails when it has written a front of what was kept and the text behind it.
+pub puts_failing : (p q : Point) (text whole : List ℕ) → p.is_writing ≡ true → q.is_writing ≡ false → whole ≡ p.kept ++ text → AppendsFront p.written q.written whole → IsTrue q.failed → Puts p text q
+puts_failing p q text whole was_writing writing whole_is added failed begun had_failed before h = record {
+  how =
+      elim h.how [
+        | inl f ↦
+            let all : before ++ text ≡ f.1.0 ++ whole = ap (λ (xs : List ℕ). xs ++ text) f.1.1 ∙ append_assoc f.1.0 p.kept text ∙ ap (λ (xs : List ℕ). f.1.0 ++ xs) (sym whole_is) in
+            inr (writing, rw all (front_of_second begun p.written q.written f.1.0 whole f.1.2 added), failed)
+        | inr f ↦ absurd (apart (sym was_writing ∙ f.0))
+      ];
+}
+
+-- Nothing is written where the target has failed.
+pub puts_nothing : (p q : Point) (text : List ℕ) → p.is_writing ≡ false → q.is_writing ≡ false → q.written ≡ p.written → q.failed ≡ p.failed → Puts p text q
+puts_nothing p q text was_failing failing written failed begun had_failed before h = record {
+  how =
+      elim h.how [
+        | inl f ↦ absurd (apart (sym f.0 ∙ was_failing))
+        | inr f ↦ inr (failing, rw written (front_of_first begun p.written before text f.1), rw failed f.2)
+      ];
+}
 
 -- one text and then another
 pub writes_both : {T : Type 0} {written : T → Option (List ℕ)} {failed : T → Bool} {s t u : LineWriter T} {a b : List ℕ} → Writes written failed s a t → Writes written failed t b u → Writes written failed s (a ++ b) u
 writes_both {T} {written} {failed} {s} {t} {u} {a} {b} first second = record {
   same_target = second.same_target ∙ first.same_target;
+  same_room = second.same_room ∙ first.same_room;
   puts = puts_both (point_of written failed s) (point_of written failed t) (point_of written failed u) a b first.puts second.puts;
 }
 
 -- no text
 pub writes_none : {T : Type 0} (written : T → Option (List ℕ)) (failed : T → Bool) (s : LineWriter T) → Writes written failed s [] s
-writes_none written failed s = record { same_target = refl; puts = record { how = as_it_is (is_ok s.outcome) refl } }
-  where
-    as_it_is : (b : Bool) → is_ok s.outcome ≡ b → let p = point_of written failed s in
-        (IsTrue p.is_writing × IsTrue p.is_writing × Appends p.written p.written [] × (p.failed ≡ p.failed))
-        ⊎ (IsTrue p.is_writing × (p.is_writing ≡ false) × AppendsFront p.written p.written [] × IsTrue p.failed)
-        ⊎ ((p.is_writing ≡ false) × (p.is_writing ≡ false) × (p.written ≡ p.written) × (p.failed ≡ p.failed))
-    as_it_is true h = inl (h, h, appends_none _, refl)
-    as_it_is false h = inr (inr (h, h, refl, refl))
+writes_none written failed s = record {
+  same_target = refl;
+  same_room = refl;
+  puts = λ begun had_failed before h. stands_same begun had_failed before (before ++ []) (point_of written failed s) (sym (append-nil before)) h;
+}
 
 -- the same text
 pub writes_same : {T : Type 0} {written : T → Option (List ℕ)} {failed : T → Bool} {s t : LineWriter T} {a b : List ℕ} → a ≡ b → Writes written failed s a t → Writes written failed s b t
@@ -112,44 +136,90 @@ plain_text text (c ∷ cs) h =
     let rest : flat_map text cs ≡ cs = plain_text text cs (All-tail (λ (d : ℕ). text d ≡ d ∷ []) c cs h) in
     rw (here, rest) refl
 
--- from a writer that begins to one that has written all
-pub ended_whole : {T : Type 0} {written : T → Option (List ℕ)} {failed : T → Bool} {s t : LineWriter T} {text : List ℕ} → Writes written failed s text t → is_ok t.outcome ≡ true → Appends (written s.target.now) (written t.target.now) text × (failed t.target.now ≡ failed s.target.now)
-ended_whole {T} {written} {failed} {s} {t} {text} h ok = elim h.puts.how [
-  | inl f ↦ (f.2, f.3)
-  | inr g ↦ elim g [
-    | inl f ↦ absurd (apart (sym ok ∙ f.1))
-    | inr f ↦ absurd (apart (sym ok ∙ f.1))
-  ]
-]
+-- Nothing is kept, and a text goes to the target.
+pub written_directly : {T : Type 0} (written : T → Option (List ℕ)) (failed : T → Bool) (s t : LineWriter T) (text : List ℕ) (r : Result (Unit {0}) Failed)
+    → s.kept.now.items ≡ [] → t.kept.now.items ≡ [] → t.target.ghost_name ≡ s.target.ghost_name → t.kept.ghost_name ≡ s.kept.ghost_name → is_ok s.outcome ≡ true → t.outcome ≡ r
+    → OnOk r (Appends (written s.target.now) (written t.target.now) text) → OnErr r (AppendsFront (written s.target.now) (written t.target.now) text)
+    → OnErr r (IsTrue (failed t.target.now)) → OnOk r (failed t.target.now ≡ failed s.target.now) → Writes written failed s text t
+written_directly written failed s t text (Ok x) empty emptied same_target same_room writing outcome added part fails stays = record {
+  same_target = same_target;
+  same_room = same_room;
+  puts = puts_written (point_of written failed s) (point_of written failed t) text text writing (ap is_ok outcome) emptied (ap (λ (xs : List ℕ). xs ++ text) (sym empty)) added stays;
+}
+written_directly written failed s t text (Err x) empty emptied same_target same_room writing outcome added part fails stays = record {
+  same_target = same_target;
+  same_room = same_room;
+  puts = puts_failing (point_of written failed s) (point_of written failed t) text text writing (ap is_ok outcome) (ap (λ (xs : List ℕ). xs ++ text) (sym empty)) part fails;
+}
+
+-- What was kept is written, and nothing more is put.
+pub finished : {T : Type 0} {written : T → Option (List ℕ)} {failed : T → Bool} {s t : LineWriter T} → Writes written failed s [] t → t.kept.now.items ≡ [] → Finishes written failed s t t.outcome
+finished {T} {written} {failed} {s} {t} h empty = record { same_target = h.same_target; same_room = h.same_room; whole = on_ok t.outcome refl; part = on_err t.outcome refl }
   where
-    apart : true ≡ false → ⊥
-    apart e = cc
+    behind : (begun : Option (List ℕ)) (had_failed : Bool) (text : List ℕ) → Stands begun had_failed text (point_of written failed s) → Stands begun had_failed text (point_of written failed t)
+    behind begun had_failed text stands = stands_same begun had_failed (text ++ []) text (point_of written failed t) (append-nil text) (h.puts begun had_failed text stands)
+
+    front_is : (text front : List ℕ) → text ≡ front ++ t.kept.now.items → text ≡ front
+    front_is text front e = e ∙ ap (λ (xs : List ℕ). front ++ xs) empty ∙ append-nil front
+
+    on_ok : (r : Result (Unit {0}) Failed) → t.outcome ≡ r → OnOk r ((begun : Option (List ℕ)) (had_failed : Bool) (text : List ℕ) → Stands begun had_failed text (point_of written failed s)
+        → Appends begun (written t.target.now) text × (failed t.target.now ≡ had_failed))
+    on_ok (Err x) e = tt
+    on_ok (Ok x) e = λ begun had_failed text stands. elim (behind begun had_failed text stands).how [
+      | inl f ↦ (rw (front_is text f.1.0 f.1.1) f.1.2, f.2)
+      | inr f ↦ absurd (apart (sym (ap is_ok e) ∙ f.0))
+    ]
+
+    on_err : (r : Result (Unit {0}) Failed) → t.outcome ≡ r → OnErr r ((begun : Option (List ℕ)) (had_failed : Bool) (text : List ℕ) → Stands begun had_failed text (point_of written failed s)
+        → AppendsFront begun (written t.target.now) text × IsTrue (failed t.target.now))
+    on_err (Ok x) e = tt
+    on_err (Err x) e = λ begun had_failed text stands. elim (behind begun had_failed text stands).how [
+      | inl f ↦ absurd (apart (sym f.0 ∙ ap is_ok e))
+      | inr f ↦ (f.1, f.2)
+    ]
+
+-- a writer that keeps nothing
+pub stands_fresh : {T : Type 0} (written : T → Option (List ℕ)) (failed : T → Bool) (s : LineWriter T) → IsFresh s → Stands (written s.target.now) (failed s.target.now) [] (point_of written failed s)
+stands_fresh written failed s fresh = record { how = inl (ap is_ok fresh.is_open, ([], sym fresh.empty, appends_none (written s.target.now)), refl) }
+
+-- from a writer that begins to one that has written all
+pub ended_whole : {T : Type 0} {written : T → Option (List ℕ)} {failed : T → Bool} {s t u : LineWriter T} {r : Result (Unit {0}) Failed} {text : List ℕ}
+    → IsFresh s → Writes written failed s text t → Finishes written failed t u r → r ≡ Ok tt → Appends (written s.target.now) (written u.target.now) text × (failed u.target.now ≡ failed s.target.now)
+ended_whole {T} {written} {failed} {s} {t} {u} {r} {text} fresh h end ok = on_ok r ok end.whole
+  where
+    put : Stands (written s.target.now) (failed s.target.now) text (point_of written failed t)
+    put = h.puts (written s.target.now) (failed s.target.now) [] (stands_fresh written failed s fresh)
+
+    on_ok : (r : Result (Unit {0}) Failed) → r ≡ Ok tt → OnOk r ((begun : Option (List ℕ)) (had_failed : Bool) (xs : List ℕ) → Stands begun had_failed xs (point_of written failed t) → Appends begun (written u.target.now) xs × (failed u.target.now ≡ had_failed))
+        → Appends (written s.target.now) (written u.target.now) text × (failed u.target.now ≡ failed s.target.now)
+    on_ok (Ok x) e w = w (written s.target.now) (failed s.target.now) text put
+    on_ok (Err x) e w = absurd (cc)
 
 -- from a writer that begins to one that has failed
-pub ended_short : {T : Type 0} {written : T → Option (List ℕ)} {failed : T → Bool} {s t : LineWriter T} {text : List ℕ} → Writes written failed s text t → is_ok s.outcome ≡ true → is_ok t.outcome ≡ false → AppendsFront (written s.target.now) (written t.target.now) text × IsTrue (failed t.target.now)
-ended_short {T} {written} {failed} {s} {t} {text} h began failing = elim h.puts.how [
-  | inl f ↦ absurd (apart (sym f.1 ∙ failing))
-  | inr g ↦ elim g [
-    | inl f ↦ (f.2, f.3)
-    | inr f ↦ absurd (apart (sym began ∙ f.0))
-  ]
-]
+pub ended_short : {T : Type 0} {written : T → Option (List ℕ)} {failed : T → Bool} {s t u : LineWriter T} {r : Result (Unit {0}) Failed} {text : List ℕ} (e : Failed)
+    → IsFresh s → Writes written failed s text t → Finishes written failed t u r → r ≡ Err e → AppendsFront (written s.target.now) (written u.target.now) text × IsTrue (failed u.target.now)
+ended_short {T} {written} {failed} {s} {t} {u} {r} {text} e fresh h end failing = on_err r failing end.part
   where
-    apart : true ≡ false → ⊥
-    apart e = cc
+    put : Stands (written s.target.now) (failed s.target.now) text (point_of written failed t)
+    put = h.puts (written s.target.now) (failed s.target.now) [] (stands_fresh written failed s fresh)
 
--- a sink's line, from a writer that begins at its target to one that has ended
-pub takes_line : {T : Type 0} {written : T → Option (List ℕ)} {failed : T → Bool} {s t : LineWriter T} (old new : LineSink T) (e : EventData)
-    → new.templates.now ≡ old.templates.now → new.target.ghost_name ≡ old.target.ghost_name → s.target.now ≡ old.target.now → new.target.now ≡ t.target.now
-    → Writes written failed s (whole_line old e) t → is_ok t.outcome ≡ true → TakesLine written failed old e new
-takes_line {T} {written} {failed} {s} {t} old new e set same_target begins ends h ok =
-    let w = ended_whole h ok in
+    on_err : (r : Result (Unit {0}) Failed) → r ≡ Err e → OnErr r ((begun : Option (List ℕ)) (had_failed : Bool) (xs : List ℕ) → Stands begun had_failed xs (point_of written failed t) → AppendsFront begun (written u.target.now) xs × IsTrue (failed u.target.now))
+        → AppendsFront (written s.target.now) (written u.target.now) text × IsTrue (failed u.target.now)
+    on_err (Ok x) e w = absurd (cc)
+    on_err (Err x) e w = w (written s.target.now) (failed s.target.now) text put
+
+-- a sink's line, which is written
+pub takes_line : {T : Type 0} {written : T → Option (List ℕ)} {failed : T → Bool} {s t u : LineWriter T} {r : Result (Unit {0}) Failed} (old new : LineSink T) (e : EventData)
+    → new.templates.now ≡ old.templates.now → new.target.ghost_name ≡ old.target.ghost_name → s.target.now ≡ old.target.now → new.target.now ≡ u.target.now → IsFresh s
+    → Writes written failed s (whole_line old e) t → Finishes written failed t u r → r ≡ Ok tt → TakesLine written failed old e new
+takes_line {T} {written} {failed} {s} {t} {u} {r} old new e set same_target begins ends fresh h end ok =
+    let w = ended_whole fresh h end ok in
     record { set = set; same_target = same_target; line = rw (← begins, ends) w.0; as_before = rw (← begins, ends) w.1 }
 
 -- a front of a sink's line
-pub stops_in_line : {T : Type 0} {written : T → Option (List ℕ)} {failed : T → Bool} {s t : LineWriter T} (old new : LineSink T) (e : EventData)
-    → new.templates.now ≡ old.templates.now → new.target.ghost_name ≡ old.target.ghost_name → s.target.now ≡ old.target.now → new.target.now ≡ t.target.now
-    → Writes written failed s (whole_line old e) t → is_ok s.outcome ≡ true → is_ok t.outcome ≡ false → StopsInLine written failed old e new
-stops_in_line {T} {written} {failed} {s} {t} old new e set same_target begins ends h ok failing =
-    let w = ended_short h ok failing in
+pub stops_in_line : {T : Type 0} {written : T → Option (List ℕ)} {failed : T → Bool} {s t u : LineWriter T} {r : Result (Unit {0}) Failed} (old new : LineSink T) (e : EventData) (f : Failed)
+    → new.templates.now ≡ old.templates.now → new.target.ghost_name ≡ old.target.ghost_name → s.target.now ≡ old.target.now → new.target.now ≡ u.target.now → IsFresh s
+    → Writes written failed s (whole_line old e) t → Finishes written failed t u r → r ≡ Err f → StopsInLine written failed old e new
+stops_in_line {T} {written} {failed} {s} {t} {u} {r} old new e f set same_target begins ends fresh h end failing =
+    let w = ended_short f fresh h end failing in
     record { set = set; same_target = same_target; front = rw (← begins, ends) w.0; has_failed = rw ends w.1 }

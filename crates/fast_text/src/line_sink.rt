@@ -7,9 +7,9 @@ ghost use Rattle.fast_lines.specs.Lines.{line_of, template_name, node_name, node
 ghost use Rattle.fast_text.specs.LineWriter.{Writes};
 ghost use Rattle.fast_text.specs.LineSink.{TakesLine, StopsInLine, IsOver};
 
-use crate::line_writer::LineWriter;
+use crate::line_writer::{LineWriter, Room};
 use crate::streams::{Failed, Target};
-use fast_decoder::{Event, Sink, Stop};
+use fast_stream::{Event, Sink, Stop};
 use fast_template::Templates;
 
 /// A sink that writes a line for each event, with the names of a template set. It takes no memory, and stops only where the
@@ -18,6 +18,7 @@ use fast_template::Templates;
 pub struct LineSink<'a, T> {
     templates: &'a Templates,
     target: &'a mut T,
+    kept: Room,
 }
 
 /// The name of a template, or nothing if the set has no such template.
@@ -89,7 +90,11 @@ impl<'a, T: Target> LineSink<'a, T> {
     pub fn new(templates: &'a Templates, target: &'a mut T) -> LineSink<'a, T>
         ensures { IsOver templates.entry target.entry result }
     {
-        LineSink { templates, target }
+        LineSink {
+            templates,
+            target,
+            kept: Room::new(),
+        }
     }
 }
 
@@ -99,7 +104,7 @@ impl<T: Target> Sink for LineSink<'_, T> {
     ghost stops = { StopsInLine T.written T.has_failed };
 
     fn take(&mut self, event: Event<'_>) -> Result<(), Stop> {
-        let mut line = LineWriter::new(&mut *self.target);
+        let mut line = LineWriter::new(&mut *self.target, &mut self.kept);
         put_event(&mut line, self.templates, event);
         line.put(b"\n");
         match line.finish() {

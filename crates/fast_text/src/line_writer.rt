@@ -4,17 +4,24 @@ ghost use Rattle.std.specs.Prelude.{◌≡◌, ◌≤◌, [], ◌∷◌, ◌++�
 ghost use Rattle.std.specs.Fmt.{signed_decimal};
 ghost use Rattle.fast_value.specs.Values.{scalar_data};
 ghost use Rattle.fast_lines.specs.Lines.{escaped, quoted, hex_byte, written as value_text};
-ghost use Rattle.fast_text.specs.LineWriter.{Begins, Writes, outcome_of};
+ghost use Rattle.fast_text.specs.LineWriter.{Begins, Finishes, Writes};
 
 use crate::streams::{Failed, Target};
+use arrayvec::ArrayVec;
 use fast_value::Scalar;
 use itoa::Buffer;
 use std::fmt;
 
-/// Writes texts to a target, one after the other. It keeps the first failure, and writes nothing after it.
+/// Room for what a writer keeps before it writes: most lines are shorter.
+pub type Room = ArrayVec<u8, 512>;
+
+/// Writes texts to a target, one after the other, in as few pieces as there is room for. It keeps the first failure, and writes
+/// nothing after it. What is still kept at the end is written by [`LineWriter::finish`].
 #[derive(Drop)]
 pub struct LineWriter<'a, T> {
     target: &'a mut T,
+    /// What is not written yet.
+    kept: &'a mut Room,
     outcome: Result<(), Failed>,
 }
 
@@ -48,18 +55,32 @@ fn plain_len(text: &[u8]) -> usize
 }
 
 impl<'a, T: Target> LineWriter<'a, T> {
-    /// A writer that has written nothing.
-    pub fn new(target: &'a mut T) -> LineWriter<'a, T>
-        ensures { Begins target.entry result }
+    /// A writer that has written nothing. What the room holds is dropped.
+    pub fn new(target: &'a mut T, kept: &'a mut Room) -> LineWriter<'a, T>
+        ensures { Begins target.entry kept.entry result }
     {
+        kept.clear();
         LineWriter {
             target,
+            kept,
             outcome: Ok(()),
         }
     }
 
-    /// Writes a text.
-    pub fn put(&mut self, text: &[u8])
+    /// Writes what is kept to the target.
+    fn write_on(&mut self)
+        ensures written { Writes T.written T.has_failed self.old [] self.new }
+        ensures empty { self.new.kept.now.items ≡ [] }
+    {
+        if self.outcome.is_ok() {
+            self.outcome = self.target.write_all(self.kept.as_slice());
+        }
+        self.kept.clear();
+    }
+
+    /// Writes a text to the target where nothing is kept.
+    fn write_directly(&mut self, text: &[u8])
+        requires { self.old.kept.now.items ≡ [] }
         ensures { Writes T.written T.has_failed self.old text.now self.new }
     {
         if self.outcome.is_ok() {
@@ -67,7 +88,26 @@ impl<'a, T: Target> LineWriter<'a, T> {
         }
     }
 
+    /// Puts a text that there is no room for behind what is kept.
+    fn put_past(&mut self, text: &[u8])
+        ensures { Writes T.written T.has_failed self.old text.now self.new }
+    {
+        self.write_on();
+        self.write_directly(text);
+    }
+
+    /// Puts a text behind what was put before. It is inlined so that texts of a known length are stored without a call.
+    #[inline(always)]
+    pub fn put(&mut self, text: &[u8])
+        ensures { Writes T.written T.has_failed self.old text.now self.new }
+    {
+        if self.kept.try_extend_from_slice(text).is_err() {
+            self.put_past(text);
+        }
+    }
+
     /// Writes an integer of 0 or more in decimal digits.
+    #[inline]
     pub fn put_unsigned(&mut self, number: u64)
         ensures { Writes T.written T.has_failed self.old (decimal number) self.new }
     {
@@ -170,12 +210,11 @@ impl<'a, T: Target> LineWriter<'a, T> {
         }
     }
 
-    /// Whether all was written, or the first failure.
-    pub fn finish(self) -> Result<(), Failed>
-        ensures outcome { result ≡ outcome_of self.entry }
-        ensures left { self.exit.0.now ≡ self.entry.target.now }
+    /// Writes what is still kept, and tells whether all was written, or the first failure.
+    pub fn finish(&mut self) -> Result<(), Failed>
+        ensures { Finishes T.written T.has_failed self.old self.new result }
     {
-        let LineWriter { target: _, outcome } = self;
-        outcome
+        self.write_on();
+        self.outcome
     }
 }

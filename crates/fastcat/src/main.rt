@@ -10,12 +10,15 @@ use fast_command::{
 use fast_template::{StaticCode, StaticFault, Templates};
 use fast_text::{Source, Target, Watched};
 use std::alloc::{AllocError, Global};
-use std::io::BufWriter;
+use std::io::{self, BufWriter};
 use std::process::ExitCode;
 use std::{env, fs};
 
 /// What a call without words stands for.
 const NO_WORDS: [&str; 4] = ["fastcat", "show", "--hex", BUILT_IN];
+
+/// The status of a mistake in the words.
+const MISTAKE: u8 = 2;
 
 /// How often a run reads at most.
 const MAX_READS: u64 = 1 << 40;
@@ -99,9 +102,16 @@ fn explained(rt: &HostRuntime, error: &Error) -> ExitCode {
         return ended(rt, Err(RunFault::Memory));
     }
     match error.print(rt) {
-        Ok(()) => ExitCode::from(error.exit_code() as u8),
-        Err(_) => ended(rt, Err(RunFault::Write)),
+        Err(_) if !error.use_stderr() => ended(rt, Err(RunFault::Write)),
+        // A mistake has its status also where what is said of it cannot be written.
+        _ => ExitCode::from(error.exit_code() as u8),
     }
+}
+
+/// Says that a word is not UTF-8, which is a mistake in the words too.
+fn not_text(rt: &HostRuntime) -> ExitCode {
+    let _ = eprintln!(rt; "error: a word is not UTF-8");
+    ExitCode::from(MISTAKE)
 }
 
 /// Runs the command on its words, of which the first is the program's name.
@@ -128,6 +138,7 @@ fn main(rt: HostRuntime) -> ExitCode {
             Ok(words) => words,
             Err(_) => return ended(&rt, Err(RunFault::Memory)),
         },
+        Err(error) if error.kind() == io::ErrorKind::InvalidData => return not_text(&rt),
         Err(_) => return ended(&rt, Err(RunFault::Memory)),
     };
     if words.len() < 2 {

@@ -1,21 +1,20 @@
 //! The limits of an encoder, and messages that come near them.
 
-use super::Part::*;
-use super::Step::{Gives, Refuses};
 use super::worked::WORKED;
-use super::{LIMITS, Row, expect_rows};
+use super::{LENIENT, expect_rows};
 use fast_decoder::MakeError;
-use fast_encoder::EncodeFault::{E2, E4};
 use fast_encoder::Encoder;
 use fast_template::Templates;
 use fast_value::Limits;
-use fast_value::Scalar::{Ascii, Bytes, I, U, Unicode};
 use std::alloc::Global;
 use std::test::Fail;
 
 /// Why no encoder of the set with this text is made.
 fn make_error(alloc: Global, text: &str, max_text: usize) -> Option<MakeError> {
-    let limits = Limits { max_text, ..LIMITS };
+    let limits = Limits {
+        max_text,
+        ..LENIENT
+    };
     match Templates::read(alloc, text) {
         Ok(set) => Encoder::new(alloc, &set, limits).err(),
         Err(_) => Some(MakeError::Memory),
@@ -58,114 +57,26 @@ fn the_length_of_texts_has_bounds(rt: HostRuntime) {
     }
 }
 
-/// Texts of at most 16 bytes, the least limit.
-const SHORT: Limits = Limits {
-    max_text: 16,
-    ..LIMITS
-};
-
-const SIXTEEN: &[u8] = b"ABCDEFGHIJKLMNOP";
-
-const SEVENTEEN: &[u8] = b"ABCDEFGHIJKLMNOPQ";
-
-/// Nine characters of two bytes each.
-const NINE: &[u8] = &[
-    0xC3, 0xA9, 0xC3, 0xA9, 0xC3, 0xA9, 0xC3, 0xA9, 0xC3, 0xA9, 0xC3, 0xA9, 0xC3, 0xA9, 0xC3, 0xA9,
-    0xC3, 0xA9,
-];
-
-const TEXTS: &[Row<'static>] = &[
-    Row(
-        "ASCII",
-        SHORT,
-        &[
-            Refuses(18, &[Field(25, Ascii(SEVENTEEN))], E4),
-            Gives(
-                18,
-                &[Field(25, Ascii(SIXTEEN))],
-                &[
-                    0xC0, 0x93, 0x41, 0x42, 0x43, 0x44, 0x45, 0x46, 0x47, 0x48, 0x49, 0x4A, 0x4B,
-                    0x4C, 0x4D, 0x4E, 0x4F, 0xD0,
-                ],
-            ),
-        ],
-    ),
-    Row(
-        "Unicode, of two bytes a character",
-        SHORT,
-        &[
-            Refuses(7, &[Field(9, Unicode(SEVENTEEN))], E4),
-            Refuses(7, &[Field(9, Unicode(NINE))], E4),
-            Gives(
-                7,
-                &[Field(9, Unicode(SIXTEEN))],
-                &[
-                    0xC0, 0x88, 0x90, 0x41, 0x42, 0x43, 0x44, 0x45, 0x46, 0x47, 0x48, 0x49, 0x4A,
-                    0x4B, 0x4C, 0x4D, 0x4E, 0x4F, 0x50,
-                ],
-            ),
-        ],
-    ),
-    Row(
-        "bytes in a group, and ASCII in an element",
-        SHORT,
-        &[
-            Refuses(
-                14,
-                &[
-                    Field(15, U(5)),
-                    Group(16),
-                    Field(17, Bytes(SEVENTEEN)),
-                    EndGroup,
-                    Absent,
-                ],
-                E4,
-            ),
-            Refuses(
-                14,
-                &[
-                    Field(15, U(5)),
-                    Absent,
-                    Sequence(18, 1),
-                    Element,
-                    Field(19, Ascii(SEVENTEEN)),
-                    Field(20, I(1)),
-                    EndElement,
-                    EndSequence,
-                ],
-                E4,
-            ),
-            Gives(
-                14,
-                &[
-                    Field(15, U(5)),
-                    Group(16),
-                    Field(17, Bytes(&[1])),
-                    EndGroup,
-                    Absent,
-                ],
-                &[0xE0, 0x8F, 0x85, 0x81, 0x01, 0x80],
-            ),
-        ],
-    ),
-    Row(
-        "a text that does not suit and is too long",
-        SHORT,
-        &[
-            Refuses(18, &[Field(25, Ascii(&[0x80; 17]))], E2),
-            Refuses(18, &[Field(25, Ascii(&[0x00; 17]))], E4),
-            Gives(18, &[Absent], &[0xC0, 0x93, 0x80]),
-        ],
-    ),
-    Row(
-        "a tail that would be short, of a text that is too long",
-        SHORT,
-        &[
-            Gives(2, &[Field(3, Ascii(b"A"))], &[0xE0, 0x83, 0xC1]),
-            Refuses(2, &[Field(3, Ascii(SEVENTEEN))], E4),
-            Gives(2, &[Field(3, Ascii(b"A"))], &[0x80]),
-        ],
-    ),
+const TEXTS: &[&str] = &[
+    "ASCII | lenient text=16
+     m18 a25='ABCDEFGHIJKLMNOPQ' /m > E4
+     m18 a25='ABCDEFGHIJKLMNOP' /m > C0 93 41 42 43 44 45 46 47 48 49 4A 4B 4C 4D 4E 4F D0",
+    "Unicode, of two bytes a character | lenient text=16
+     m7 t9='ABCDEFGHIJKLMNOPQ' /m > E4
+     m7 t9='ééééééééé' /m > E4
+     m7 t9='ABCDEFGHIJKLMNOP' /m > C0 88 90 41 42 43 44 45 46 47 48 49 4A 4B 4C 4D 4E 4F 50",
+    "bytes in a group, and ASCII in an element | lenient text=16
+     m14 u15=5 g16 b17=4142434445464748494A4B4C4D4E4F5051 /g - /m > E4
+     m14 u15=5 - s18*1 e a19='ABCDEFGHIJKLMNOPQ' i20=1 /e /s /m > E4
+     m14 u15=5 g16 b17=01 /g - /m > E0 8F 85 81 01 80",
+    "a text that does not suit and is too long | lenient text=16
+     m18 a25=x8080808080808080808080808080808080 /m > E2
+     m18 a25='\0\0\0\0\0\0\0\0\0\0\0\0\0\0\0\0\0' /m > E4
+     m18 - /m > C0 93 80",
+    "a tail that would be short, of a text that is too long | lenient text=16
+     m2 a3='A' /m > E0 83 C1
+     m2 a3='ABCDEFGHIJKLMNOPQ' /m > E4
+     m2 a3='A' /m > 80",
 ];
 
 #[test]
@@ -185,227 +96,25 @@ id = 2
 fields = [{kind="sequence", name="d", length={op="constant", value="2"}, fields=[{kind="uInt32", name="e"}]}, {kind="group", name="f", fields=[{kind="sequence", name="g", fields=[{kind="uInt32", name="h"}]}]}]
 "#;
 
-/// At most five elements in all, three of a sequence.
-const FEW: Limits = Limits {
-    max_elements: 3,
-    max_total: 5,
-    ..LIMITS
-};
-
-/// At most two elements in all.
-const TWO: Limits = Limits {
-    max_elements: 2,
-    max_total: 2,
-    ..LIMITS
-};
-
-/// No element at all.
-const NONE: Limits = Limits {
-    max_elements: 0,
-    max_total: 0,
-    ..LIMITS
-};
-
-/// Elements in all, as many as there may be.
-const ALL: Limits = Limits {
-    max_elements: 2,
-    max_total: u32::MAX,
-    ..LIMITS
-};
-
-const ELEMENTS: &[Row<'static>] = &[
-    Row(
-        "of all sequences",
-        FEW,
-        &[
-            Refuses(
-                0,
-                &[
-                    Sequence(0, 2),
-                    Element,
-                    Sequence(1, 2),
-                    Elements(2, 2, 7),
-                    EndSequence,
-                    EndElement,
-                    Element,
-                    Sequence(1, 2),
-                    Elements(2, 2, 7),
-                    EndSequence,
-                    EndElement,
-                    EndSequence,
-                ],
-                E4,
-            ),
-            Gives(
-                0,
-                &[
-                    Sequence(0, 2),
-                    Element,
-                    Sequence(1, 2),
-                    Elements(2, 2, 7),
-                    EndSequence,
-                    EndElement,
-                    Element,
-                    Sequence(1, 1),
-                    Elements(1, 2, 7),
-                    EndSequence,
-                    EndElement,
-                    EndSequence,
-                ],
-                &[0xC0, 0x81, 0x82, 0x82, 0x81],
-            ),
-        ],
-    ),
-    Row(
-        "of one sequence",
-        FEW,
-        &[
-            Refuses(
-                0,
-                &[
-                    Sequence(0, 1),
-                    Element,
-                    Sequence(1, 4),
-                    Elements(4, 2, 7),
-                    EndSequence,
-                    EndElement,
-                    EndSequence,
-                ],
-                E4,
-            ),
-            Gives(
-                0,
-                &[
-                    Sequence(0, 1),
-                    Element,
-                    Sequence(1, 3),
-                    Elements(3, 2, 7),
-                    EndSequence,
-                    EndElement,
-                    EndSequence,
-                ],
-                &[0xC0, 0x81, 0x81, 0x83],
-            ),
-        ],
-    ),
-    Row(
-        "of a length that is not sent, and in a group",
-        FEW,
-        &[
-            Refuses(
-                1,
-                &[
-                    Sequence(3, 2),
-                    Elements(2, 4, 1),
-                    EndSequence,
-                    Group(5),
-                    Sequence(6, 4),
-                    Elements(4, 7, 1),
-                    EndSequence,
-                    EndGroup,
-                ],
-                E4,
-            ),
-            Gives(
-                1,
-                &[
-                    Sequence(3, 2),
-                    Elements(2, 4, 1),
-                    EndSequence,
-                    Group(5),
-                    Sequence(6, 3),
-                    Elements(3, 7, 1),
-                    EndSequence,
-                    EndGroup,
-                ],
-                &[0xC0, 0x82, 0x81, 0x81, 0x83, 0x81, 0x81, 0x81],
-            ),
-        ],
-    ),
-    Row(
-        "of both together, neither of them too long",
-        TWO,
-        &[
-            Refuses(
-                1,
-                &[
-                    Sequence(3, 2),
-                    Elements(2, 4, 1),
-                    EndSequence,
-                    Group(5),
-                    Sequence(6, 1),
-                    Elements(1, 7, 1),
-                    EndSequence,
-                    EndGroup,
-                ],
-                E4,
-            ),
-            Gives(
-                1,
-                &[
-                    Sequence(3, 2),
-                    Elements(2, 4, 1),
-                    EndSequence,
-                    Group(5),
-                    Sequence(6, 0),
-                    EndSequence,
-                    EndGroup,
-                ],
-                &[0xC0, 0x82, 0x81, 0x81, 0x80],
-            ),
-        ],
-    ),
-    Row(
-        "where there may be none",
-        NONE,
-        &[
-            Refuses(
-                0,
-                &[
-                    Sequence(0, 1),
-                    Element,
-                    Sequence(1, 0),
-                    EndSequence,
-                    EndElement,
-                    EndSequence,
-                ],
-                E4,
-            ),
-            Gives(0, &[Sequence(0, 0), EndSequence], &[0xC0, 0x81, 0x80]),
-        ],
-    ),
-    Row(
-        "where a sequence alone has a limit",
-        ALL,
-        &[
-            Refuses(
-                0,
-                &[
-                    Sequence(0, 1),
-                    Element,
-                    Sequence(1, 3),
-                    Elements(3, 2, 7),
-                    EndSequence,
-                    EndElement,
-                    EndSequence,
-                ],
-                E4,
-            ),
-            Gives(
-                0,
-                &[
-                    Sequence(0, 1),
-                    Element,
-                    Sequence(1, 2),
-                    Elements(2, 2, 7),
-                    EndSequence,
-                    EndElement,
-                    EndSequence,
-                ],
-                &[0xC0, 0x81, 0x81, 0x82],
-            ),
-        ],
-    ),
+const ELEMENTS: &[&str] = &[
+    "of all sequences | lenient elements=3 total=5
+     m0 s0*2 e s1*2 2*u2=7 /s /e e s1*2 2*u2=7 /s /e /s /m > E4
+     m0 s0*2 e s1*2 2*u2=7 /s /e e s1*1 1*u2=7 /s /e /s /m > C0 81 82 82 81",
+    "of one sequence | lenient elements=3 total=5
+     m0 s0*1 e s1*4 4*u2=7 /s /e /s /m > E4
+     m0 s0*1 e s1*3 3*u2=7 /s /e /s /m > C0 81 81 83",
+    "of a length that is not sent, and in a group | lenient elements=3 total=5
+     m1 s3*2 2*u4=1 /s g5 s6*4 4*u7=1 /s /g /m > E4
+     m1 s3*2 2*u4=1 /s g5 s6*3 3*u7=1 /s /g /m > C0 82 81 81 83 81 81 81",
+    "of both together, neither of them too long | lenient elements=2 total=2
+     m1 s3*2 2*u4=1 /s g5 s6*1 1*u7=1 /s /g /m > E4
+     m1 s3*2 2*u4=1 /s g5 s6*0 /s /g /m > C0 82 81 81 80",
+    "where there may be none | lenient elements=0 total=0
+     m0 s0*1 e s1*0 /s /e /s /m > E4
+     m0 s0*0 /s /m > C0 81 80",
+    "where a sequence alone has a limit | lenient elements=2 total=4294967295
+     m0 s0*1 e s1*3 3*u2=7 /s /e /s /m > E4
+     m0 s0*1 e s1*2 2*u2=7 /s /e /s /m > C0 81 81 82",
 ];
 
 #[test]

@@ -1,10 +1,6 @@
 //! Operators: what stands for a value, and values that nothing stands for.
 
-use super::Part::*;
-use super::Step::{Gives, Refuses, Reset};
-use super::{LIMITS, Row, expect_rows};
-use fast_encoder::EncodeFault::{E3, R9};
-use fast_value::Scalar::{Ascii, Bytes, Dec, I, U, Unicode};
+use super::expect_rows;
 use std::test::Fail;
 
 /// Constants of each family, by themselves, as parts and as lengths; and behind what is copied.
@@ -36,197 +32,39 @@ reset = true
 fields = [{kind="uInt32", name="k", op="constant", value="7"}]
 "#;
 
-const CONSTANT_VALUES: &[Row<'static>] = &[
-    Row(
-        "other values",
-        LIMITS,
-        &[
-            Refuses(
-                0,
-                &[
-                    Field(0, U(8)),
-                    Field(1, Ascii(b"AB")),
-                    Field(
-                        2,
-                        Dec {
-                            exponent: -1,
-                            mantissa: 15,
-                        },
-                    ),
-                    Field(3, Bytes(&[0x01, 0xFF])),
-                ],
-                E3,
-            ),
-            Refuses(
-                0,
-                &[
-                    Field(0, U(7)),
-                    Field(1, Ascii(b"A")),
-                    Field(
-                        2,
-                        Dec {
-                            exponent: -1,
-                            mantissa: 15,
-                        },
-                    ),
-                    Field(3, Bytes(&[0x01, 0xFF])),
-                ],
-                E3,
-            ),
-            Refuses(
-                0,
-                &[
-                    Field(0, U(7)),
-                    Field(1, Ascii(b"AB")),
-                    Field(
-                        2,
-                        Dec {
-                            exponent: -2,
-                            mantissa: 150,
-                        },
-                    ),
-                    Field(3, Bytes(&[0x01, 0xFF])),
-                ],
-                E3,
-            ),
-            Refuses(
-                0,
-                &[
-                    Field(0, U(7)),
-                    Field(1, Ascii(b"AB")),
-                    Field(
-                        2,
-                        Dec {
-                            exponent: -1,
-                            mantissa: 15,
-                        },
-                    ),
-                    Field(3, Bytes(&[0x01, 0xFE])),
-                ],
-                E3,
-            ),
-            Gives(
-                0,
-                &[
-                    Field(0, U(7)),
-                    Field(1, Ascii(b"AB")),
-                    Field(
-                        2,
-                        Dec {
-                            exponent: -1,
-                            mantissa: 15,
-                        },
-                    ),
-                    Field(3, Bytes(&[0x01, 0xFF])),
-                ],
-                &[0xC0, 0x81],
-            ),
-        ],
-    ),
-    Row(
-        "one that may be absent",
-        LIMITS,
-        &[
-            Refuses(1, &[Field(4, U(6))], E3),
-            Gives(1, &[Field(4, U(7))], &[0xE0, 0x82]),
-            Refuses(1, &[Field(4, U(8))], E3),
-            Gives(1, &[Absent], &[0x80]),
-        ],
-    ),
-    Row(
-        "a length",
-        LIMITS,
-        &[
-            Refuses(2, &[Sequence(5, 0), EndSequence], E3),
-            Refuses(
-                2,
-                &[
-                    Sequence(5, 1),
-                    Element,
-                    Field(6, U(1)),
-                    EndElement,
-                    EndSequence,
-                ],
-                E3,
-            ),
-            Gives(
-                2,
-                &[
-                    Sequence(5, 2),
-                    Element,
-                    Field(6, U(1)),
-                    EndElement,
-                    Element,
-                    Field(6, U(2)),
-                    EndElement,
-                    EndSequence,
-                ],
-                &[0xC0, 0x83, 0x81, 0x82],
-            ),
-        ],
-    ),
-    Row(
-        "an exponent",
-        LIMITS,
-        &[
-            Refuses(
-                3,
-                &[Field(
-                    7,
-                    Dec {
-                        exponent: -1,
-                        mantissa: 1,
-                    },
-                )],
-                E3,
-            ),
-            Gives(
-                3,
-                &[Field(
-                    7,
-                    Dec {
-                        exponent: -2,
-                        mantissa: 5,
-                    },
-                )],
-                &[0xF0, 0x84, 0x85],
-            ),
-            Gives(3, &[Absent], &[0x80]),
-            Gives(
-                3,
-                &[Field(
-                    7,
-                    Dec {
-                        exponent: -2,
-                        mantissa: 5,
-                    },
-                )],
-                &[0xA0],
-            ),
-        ],
-    ),
-    Row(
-        "behind a value that is copied",
-        LIMITS,
-        &[
-            Gives(4, &[Field(8, U(1)), Field(9, U(7))], &[0xE0, 0x85, 0x82]),
-            Refuses(4, &[Field(8, U(2)), Field(9, U(8))], E3),
-            Gives(4, &[Field(8, U(1)), Field(9, U(7))], &[0x80]),
-            Refuses(4, &[Absent, Field(9, U(8))], E3),
-            Gives(4, &[Field(8, U(1)), Field(9, U(7))], &[0x80]),
-        ],
-    ),
-    Row(
-        "behind an identifier, and a reset",
-        LIMITS,
-        &[
-            Gives(4, &[Field(8, U(1)), Field(9, U(7))], &[0xE0, 0x85, 0x82]),
-            Refuses(5, &[Field(10, U(8))], E3),
-            Gives(4, &[Field(8, U(1)), Field(9, U(7))], &[0x80]),
-            Gives(5, &[Field(10, U(7))], &[0xC0, 0x86]),
-            Gives(4, &[Field(8, U(1)), Field(9, U(7))], &[0xE0, 0x85, 0x82]),
-        ],
-    ),
+const CONSTANT_VALUES: &[&str] = &[
+    "other values | lenient
+     m0 u0=8 a1='AB' d2=15e-1 b3=01FF /m > E3
+     m0 u0=7 a1='A' d2=15e-1 b3=01FF /m > E3
+     m0 u0=7 a1='AB' d2=150e-2 b3=01FF /m > E3
+     m0 u0=7 a1='AB' d2=15e-1 b3=01FE /m > E3
+     m0 u0=7 a1='AB' d2=15e-1 b3=01FF /m > C0 81",
+    "one that may be absent | lenient
+     m1 u4=6 /m > E3
+     m1 u4=7 /m > E0 82
+     m1 u4=8 /m > E3
+     m1 - /m > 80",
+    "a length | lenient
+     m2 s5*0 /s /m > E3
+     m2 s5*1 e u6=1 /e /s /m > E3
+     m2 s5*2 e u6=1 /e e u6=2 /e /s /m > C0 83 81 82",
+    "an exponent | lenient
+     m3 d7=1e-1 /m > E3
+     m3 d7=5e-2 /m > F0 84 85
+     m3 - /m > 80
+     m3 d7=5e-2 /m > A0",
+    "behind a value that is copied | lenient
+     m4 u8=1 u9=7 /m > E0 85 82
+     m4 u8=2 u9=8 /m > E3
+     m4 u8=1 u9=7 /m > 80
+     m4 - u9=8 /m > E3
+     m4 u8=1 u9=7 /m > 80",
+    "behind an identifier, and a reset | lenient
+     m4 u8=1 u9=7 /m > E0 85 82
+     m5 u10=8 /m > E3
+     m4 u8=1 u9=7 /m > 80
+     m5 u10=7 /m > C0 86
+     m4 u8=1 u9=7 /m > E0 85 82",
 ];
 
 #[test]
@@ -270,161 +108,37 @@ id = 8
 fields = [{kind="decimal", name="m", op="copy"}]
 "#;
 
-const COPIED_VALUES: &[Row<'static>] = &[
-    Row(
-        "a length",
-        LIMITS,
-        &[
-            Gives(
-                0,
-                &[
-                    Sequence(0, 1),
-                    Element,
-                    Field(1, U(5)),
-                    EndElement,
-                    EndSequence,
-                ],
-                &[0xE0, 0x81, 0x81, 0x85],
-            ),
-            Gives(
-                0,
-                &[
-                    Sequence(0, 1),
-                    Element,
-                    Field(1, U(6)),
-                    EndElement,
-                    EndSequence,
-                ],
-                &[0x80, 0x86],
-            ),
-            Gives(0, &[Sequence(0, 0), EndSequence], &[0xA0, 0x80]),
-        ],
-    ),
-    Row(
-        "a length that may be absent",
-        LIMITS,
-        &[
-            Gives(1, &[Absent], &[0xC0, 0x82]),
-            Gives(1, &[Sequence(2, 0), EndSequence], &[0xA0, 0x81]),
-            Gives(
-                1,
-                &[
-                    Sequence(2, 1),
-                    Element,
-                    Field(3, U(5)),
-                    EndElement,
-                    EndSequence,
-                ],
-                &[0x80, 0x85],
-            ),
-            Gives(1, &[Absent], &[0xA0, 0x80]),
-        ],
-    ),
-    Row(
-        "after the greatest value comes the least",
-        LIMITS,
-        &[
-            Gives(
-                2,
-                &[Field(4, I(2_147_483_647))],
-                &[0xE0, 0x83, 0x07, 0x7F, 0x7F, 0x7F, 0xFF],
-            ),
-            Gives(2, &[Field(4, I(-2_147_483_648))], &[0x80]),
-            Gives(
-                2,
-                &[Field(4, I(-2_147_483_648))],
-                &[0xA0, 0x78, 0x00, 0x00, 0x00, 0x80],
-            ),
-        ],
-    ),
-    Row(
-        "initial values",
-        LIMITS,
-        &[
-            Gives(3, &[Field(5, U(5))], &[0xC0, 0x84]),
-            Gives(4, &[Absent], &[0xE0, 0x85, 0x80]),
-            Gives(4, &[Absent], &[0x80]),
-            Gives(4, &[Field(6, U(5))], &[0xA0, 0x86]),
-            Gives(5, &[Absent], &[0xE0, 0x86, 0x80]),
-            Gives(5, &[Field(7, U(5))], &[0x80]),
-            Gives(5, &[Absent], &[0xA0, 0x80]),
-        ],
-    ),
-    Row(
-        "groups",
-        LIMITS,
-        &[
-            Gives(6, &[Absent], &[0xC0, 0x87]),
-            Gives(
-                6,
-                &[Group(8), Field(9, U(1)), Absent, EndGroup],
-                &[0xA0, 0xC0, 0x81],
-            ),
-            Gives(
-                6,
-                &[
-                    Group(8),
-                    Field(9, U(1)),
-                    Group(10),
-                    Absent,
-                    EndGroup,
-                    EndGroup,
-                ],
-                &[0xA0, 0xA0, 0x80],
-            ),
-            Gives(
-                6,
-                &[
-                    Group(8),
-                    Field(9, U(1)),
-                    Group(10),
-                    Field(11, U(2)),
-                    EndGroup,
-                    EndGroup,
-                ],
-                &[0xA0, 0xA0, 0x83],
-            ),
-        ],
-    ),
-    Row(
-        "a decimal",
-        LIMITS,
-        &[
-            Gives(
-                7,
-                &[Field(
-                    12,
-                    Dec {
-                        exponent: -1,
-                        mantissa: 15,
-                    },
-                )],
-                &[0xE0, 0x88, 0xFF, 0x8F],
-            ),
-            Gives(
-                7,
-                &[Field(
-                    12,
-                    Dec {
-                        exponent: -1,
-                        mantissa: 15,
-                    },
-                )],
-                &[0x80],
-            ),
-            Gives(
-                7,
-                &[Field(
-                    12,
-                    Dec {
-                        exponent: -2,
-                        mantissa: 150,
-                    },
-                )],
-                &[0xA0, 0xFE, 0x01, 0x96],
-            ),
-        ],
-    ),
+const COPIED_VALUES: &[&str] = &[
+    "a length | lenient
+     m0 s0*1 e u1=5 /e /s /m > E0 81 81 85
+     m0 s0*1 e u1=6 /e /s /m > 80 86
+     m0 s0*0 /s /m > A0 80",
+    "a length that may be absent | lenient
+     m1 - /m > C0 82
+     m1 s2*0 /s /m > A0 81
+     m1 s2*1 e u3=5 /e /s /m > 80 85
+     m1 - /m > A0 80",
+    "after the greatest value comes the least | lenient
+     m2 i4=2147483647 /m > E0 83 07 7F 7F 7F FF
+     m2 i4=-2147483648 /m > 80
+     m2 i4=-2147483648 /m > A0 78 00 00 00 80",
+    "initial values | lenient
+     m3 u5=5 /m > C0 84
+     m4 - /m > E0 85 80
+     m4 - /m > 80
+     m4 u6=5 /m > A0 86
+     m5 - /m > E0 86 80
+     m5 u7=5 /m > 80
+     m5 - /m > A0 80",
+    "groups | lenient
+     m6 - /m > C0 87
+     m6 g8 u9=1 - /g /m > A0 C0 81
+     m6 g8 u9=1 g10 - /g /g /m > A0 A0 80
+     m6 g8 u9=1 g10 u11=2 /g /g /m > A0 A0 83",
+    "a decimal | lenient
+     m7 d12=15e-1 /m > E0 88 FF 8F
+     m7 d12=15e-1 /m > 80
+     m7 d12=150e-2 /m > A0 FE 01 96",
 ];
 
 #[test]
@@ -484,204 +198,59 @@ id = 12
 fields = [{kind="unicode", name="m", op="copy", key="d"}]
 "#;
 
-const DIFFERENCES: &[Row<'static>] = &[
-    Row(
-        "over all of 32 bits",
-        LIMITS,
-        &[
-            Gives(
-                0,
-                &[Field(0, I(-2_147_483_648))],
-                &[0xC0, 0x81, 0x78, 0x00, 0x00, 0x00, 0x80],
-            ),
-            Gives(
-                0,
-                &[Field(0, I(2_147_483_647))],
-                &[0x80, 0x0F, 0x7F, 0x7F, 0x7F, 0xFF],
-            ),
-        ],
-    ),
-    Row(
-        "over all of 64 bits",
-        LIMITS,
-        &[
-            Gives(
-                1,
-                &[Field(1, U(u64::MAX))],
-                &[
-                    0xC0, 0x82, 0x01, 0x7F, 0x7F, 0x7F, 0x7F, 0x7F, 0x7F, 0x7F, 0x7F, 0xFF,
-                ],
-            ),
-            Gives(
-                1,
-                &[Field(1, U(0))],
-                &[
-                    0x80, 0x7E, 0x00, 0x00, 0x00, 0x00, 0x00, 0x00, 0x00, 0x00, 0x81,
-                ],
-            ),
-        ],
-    ),
-    Row(
-        "over all decimals",
-        LIMITS,
-        &[
-            Gives(
-                2,
-                &[Field(
-                    2,
-                    Dec {
-                        exponent: -63,
-                        mantissa: i64::MIN,
-                    },
-                )],
-                &[
-                    0xC0, 0x83, 0xC1, 0x7F, 0x00, 0x00, 0x00, 0x00, 0x00, 0x00, 0x00, 0x00, 0x80,
-                ],
-            ),
-            Gives(
-                2,
-                &[Field(
-                    2,
-                    Dec {
-                        exponent: 63,
-                        mantissa: i64::MAX,
-                    },
-                )],
-                &[
-                    0x80, 0x00, 0xFE, 0x01, 0x7F, 0x7F, 0x7F, 0x7F, 0x7F, 0x7F, 0x7F, 0x7F, 0xFF,
-                ],
-            ),
-        ],
-    ),
-    Row(
-        "the shorter part, and the appended one of two that are as long",
-        LIMITS,
-        &[
-            Gives(
-                3,
-                &[Field(3, Ascii(b"ABCDEF"))],
-                &[0xC0, 0x84, 0x80, 0x41, 0x42, 0x43, 0x44, 0x45, 0xC6],
-            ),
-            Gives(3, &[Field(3, Ascii(b"XYDEF"))], &[0x80, 0xFC, 0x58, 0xD9]),
-            Gives(3, &[Field(3, Ascii(b"XYDE"))], &[0x80, 0x81, 0x80]),
-            Gives(3, &[Field(3, Ascii(b""))], &[0x80, 0x84, 0x80]),
-            Gives(3, &[Field(3, Ascii(b"AB"))], &[0x80, 0x80, 0x41, 0xC2]),
-            Gives(3, &[Field(3, Ascii(b"AC"))], &[0x80, 0x81, 0xC3]),
-            Gives(3, &[Field(3, Ascii(b"XY"))], &[0x80, 0x82, 0x58, 0xD9]),
-            Gives(3, &[Field(3, Ascii(b"XYXY"))], &[0x80, 0x80, 0x58, 0xD9]),
-            Gives(3, &[Field(3, Ascii(b"XYXY"))], &[0x80, 0x80, 0x80]),
-        ],
-    ),
-    Row(
-        "absence leaves the base as it is",
-        LIMITS,
-        &[
-            Gives(
-                4,
-                &[Field(4, Bytes(&[1, 2, 3]))],
-                &[0xC0, 0x85, 0x81, 0x83, 0x01, 0x02, 0x03],
-            ),
-            Gives(4, &[Absent], &[0x80, 0x80]),
-            Gives(4, &[Field(4, Bytes(&[9, 2, 3]))], &[0x80, 0xFE, 0x81, 0x09]),
-        ],
-    ),
-    Row(
-        "from initial values",
-        LIMITS,
-        &[
-            Gives(
-                5,
-                &[Field(5, I(10)), Field(6, Unicode(&[0xC3, 0xA8]))],
-                &[0xC0, 0x86, 0x80, 0x81, 0x81, 0xA8],
-            ),
-            Gives(
-                5,
-                &[Field(5, I(9)), Field(6, Unicode(&[0xC3, 0xA8]))],
-                &[0x80, 0xFF, 0x80, 0x80],
-            ),
-        ],
-    ),
-    Row(
-        "none from an empty number",
-        LIMITS,
-        &[
-            Gives(6, &[Absent], &[0xC0, 0x87]),
-            Refuses(1, &[Field(1, U(4))], E3),
-            Refuses(8, &[Field(9, U(4))], E3),
-            Gives(6, &[Absent], &[0x80]),
-            Gives(8, &[Absent], &[0xC0, 0x89, 0x80]),
-            Reset,
-            Gives(1, &[Field(1, U(4))], &[0xC0, 0x82, 0x84]),
-        ],
-    ),
-    Row(
-        "none from a number of another type",
-        LIMITS,
-        &[
-            Gives(7, &[Field(8, U(3))], &[0xE0, 0x88, 0x83]),
-            Refuses(1, &[Field(1, U(4))], E3),
-            Gives(7, &[Field(8, U(3))], &[0x80]),
-            Gives(8, &[Absent], &[0xC0, 0x89, 0x80]),
-        ],
-    ),
-    Row(
-        "none from an empty decimal",
-        LIMITS,
-        &[
-            Gives(9, &[Absent], &[0xC0, 0x8A]),
-            Refuses(
-                2,
-                &[Field(
-                    2,
-                    Dec {
-                        exponent: 0,
-                        mantissa: 1,
-                    },
-                )],
-                E3,
-            ),
-            Gives(
-                9,
-                &[Field(
-                    10,
-                    Dec {
-                        exponent: 0,
-                        mantissa: 1,
-                    },
-                )],
-                &[0xA0, 0x81, 0x81],
-            ),
-            Gives(
-                2,
-                &[Field(
-                    2,
-                    Dec {
-                        exponent: 1,
-                        mantissa: 1,
-                    },
-                )],
-                &[0xC0, 0x83, 0x81, 0x80],
-            ),
-        ],
-    ),
-    Row(
-        "none from an empty text",
-        LIMITS,
-        &[
-            Gives(10, &[Absent], &[0xC0, 0x8B]),
-            Refuses(3, &[Field(3, Ascii(b"A"))], E3),
-            Gives(10, &[Absent], &[0x80]),
-        ],
-    ),
-    Row(
-        "none from a text of another type",
-        LIMITS,
-        &[
-            Gives(11, &[Field(12, Unicode(b"A"))], &[0xE0, 0x8C, 0x81, 0x41]),
-            Refuses(3, &[Field(3, Ascii(b"A"))], E3),
-            Gives(11, &[Field(12, Unicode(b"A"))], &[0x80]),
-        ],
-    ),
+const DIFFERENCES: &[&str] = &[
+    "over all of 32 bits | lenient
+     m0 i0=-2147483648 /m > C0 81 78 00 00 00 80
+     m0 i0=2147483647 /m > 80 0F 7F 7F 7F FF",
+    "over all of 64 bits | lenient
+     m1 u1=18446744073709551615 /m > C0 82 01 7F*8 FF
+     m1 u1=0 /m > 80 7E 00*8 81",
+    "over all decimals | lenient
+     m2 d2=-9223372036854775808e-63 /m > C0 83 C1 7F 00*8 80
+     m2 d2=9223372036854775807e63 /m > 80 00 FE 01 7F*8 FF",
+    "the shorter part, and the appended one of two that are as long | lenient
+     m3 a3='ABCDEF' /m > C0 84 80 41 42 43 44 45 C6
+     m3 a3='XYDEF' /m > 80 FC 58 D9
+     m3 a3='XYDE' /m > 80 81 80
+     m3 a3='' /m > 80 84 80
+     m3 a3='AB' /m > 80 80 41 C2
+     m3 a3='AC' /m > 80 81 C3
+     m3 a3='XY' /m > 80 82 58 D9
+     m3 a3='XYXY' /m > 80 80 58 D9
+     m3 a3='XYXY' /m > 80 80 80",
+    "absence leaves the base as it is | lenient
+     m4 b4=010203 /m > C0 85 81 83 01 02 03
+     m4 - /m > 80 80
+     m4 b4=090203 /m > 80 FE 81 09",
+    "from initial values | lenient
+     m5 i5=10 t6='è' /m > C0 86 80 81 81 A8
+     m5 i5=9 t6='è' /m > 80 FF 80 80",
+    "none from an empty number | lenient
+     m6 - /m > C0 87
+     m1 u1=4 /m > E3
+     m8 u9=4 /m > E3
+     m6 - /m > 80
+     m8 - /m > C0 89 80
+     reset
+     m1 u1=4 /m > C0 82 84",
+    "none from a number of another type | lenient
+     m7 u8=3 /m > E0 88 83
+     m1 u1=4 /m > E3
+     m7 u8=3 /m > 80
+     m8 - /m > C0 89 80",
+    "none from an empty decimal | lenient
+     m9 - /m > C0 8A
+     m2 d2=1e0 /m > E3
+     m9 d10=1e0 /m > A0 81 81
+     m2 d2=1e1 /m > C0 83 81 80",
+    "none from an empty text | lenient
+     m10 - /m > C0 8B
+     m3 a3='A' /m > E3
+     m10 - /m > 80",
+    "none from a text of another type | lenient
+     m11 t12='A' /m > E0 8C 81 41
+     m3 a3='A' /m > E3
+     m11 t12='A' /m > 80",
 ];
 
 #[test]
@@ -717,74 +286,34 @@ id = 6
 fields = [{kind="bytes", name="f", optional=true, op="tail"}]
 "#;
 
-const ENDS: &[Row<'static>] = &[
-    Row(
-        "from an initial value",
-        LIMITS,
-        &[
-            Refuses(1, &[Field(1, Ascii(b"AB"))], E3),
-            Gives(1, &[Field(1, Ascii(b"ABC"))], &[0xC0, 0x82]),
-            Gives(1, &[Field(1, Ascii(b"ABD"))], &[0xA0, 0xC4]),
-            Gives(
-                1,
-                &[Field(1, Ascii(b"ABDE"))],
-                &[0xA0, 0x41, 0x42, 0x44, 0xC5],
-            ),
-        ],
-    ),
-    Row(
-        "the end of an initial value",
-        LIMITS,
-        &[Gives(1, &[Field(1, Ascii(b"AXC"))], &[0xE0, 0x82, 0x58, 0xC3])],
-    ),
-    Row(
-        "nothing at the end of an initial value",
-        LIMITS,
-        &[
-            Gives(2, &[Absent], &[0xE0, 0x83, 0x80]),
-            Refuses(2, &[Field(2, Ascii(b""))], E3),
-            Gives(2, &[Absent], &[0x80]),
-            Gives(1, &[Field(1, Ascii(b"ABC"))], &[0xE0, 0x82, 0x80]),
-            Gives(2, &[Field(2, Ascii(b"ABC"))], &[0xC0, 0x83]),
-        ],
-    ),
-    Row(
-        "none of another type",
-        LIMITS,
-        &[
-            Gives(3, &[Field(3, U(3))], &[0xE0, 0x84, 0x83]),
-            Refuses(0, &[Field(0, Ascii(b"ABC"))], E3),
-            Gives(3, &[Field(3, U(3))], &[0x80]),
-        ],
-    ),
-    Row(
-        "no UTF-8 by itself",
-        LIMITS,
-        &[
-            Gives(
-                4,
-                &[Field(4, Unicode(&[0xC3, 0xA9]))],
-                &[0xE0, 0x85, 0x82, 0xC3, 0xA9],
-            ),
-            Refuses(4, &[Field(4, Unicode(b"A"))], E3),
-            Gives(4, &[Field(4, Unicode(&[0xC3, 0xA8]))], &[0xA0, 0x81, 0xA8]),
-        ],
-    ),
-    Row(
-        "behind absence",
-        LIMITS,
-        &[
-            Gives(
-                5,
-                &[Field(5, Bytes(&[1, 2]))],
-                &[0xE0, 0x86, 0x83, 0x01, 0x02],
-            ),
-            Refuses(5, &[Field(5, Bytes(&[1]))], E3),
-            Gives(5, &[Absent], &[0xA0, 0x80]),
-            Gives(5, &[Absent], &[0x80]),
-            Gives(5, &[Field(5, Bytes(&[1]))], &[0xA0, 0x82, 0x01]),
-        ],
-    ),
+const ENDS: &[&str] = &[
+    "from an initial value | lenient
+     m1 a1='AB' /m > E3
+     m1 a1='ABC' /m > C0 82
+     m1 a1='ABD' /m > A0 C4
+     m1 a1='ABDE' /m > A0 41 42 44 C5",
+    "the end of an initial value | lenient
+     m1 a1='AXC' /m > E0 82 58 C3",
+    "nothing at the end of an initial value | lenient
+     m2 - /m > E0 83 80
+     m2 a2='' /m > E3
+     m2 - /m > 80
+     m1 a1='ABC' /m > E0 82 80
+     m2 a2='ABC' /m > C0 83",
+    "none of another type | lenient
+     m3 u3=3 /m > E0 84 83
+     m0 a0='ABC' /m > E3
+     m3 u3=3 /m > 80",
+    "no UTF-8 by itself | lenient
+     m4 t4='é' /m > E0 85 82 C3 A9
+     m4 t4='A' /m > E3
+     m4 t4='è' /m > A0 81 A8",
+    "behind absence | lenient
+     m5 b5=0102 /m > E0 86 83 01 02
+     m5 b5=01 /m > E3
+     m5 - /m > A0 80
+     m5 - /m > 80
+     m5 b5=01 /m > A0 82 01",
 ];
 
 #[test]
@@ -832,121 +361,41 @@ id = 9
 fields = [{kind="sequence", name="k", fields=[{kind="ascii", name="l", op="copy"}]}]
 "#;
 
-const ZEROS_IN_FRONT: &[Row<'static>] = &[
-    Row(
-        "of a text",
-        LIMITS,
-        &[
-            Refuses(0, &[Field(0, Ascii(b"\0"))], R9),
-            Refuses(0, &[Field(0, Ascii(b"\0A"))], R9),
-            Gives(0, &[Field(0, Ascii(b"A\0"))], &[0xC0, 0x81, 0x41, 0x80]),
-        ],
-    ),
-    Row(
-        "of a text that is copied",
-        LIMITS,
-        &[
-            Gives(1, &[Field(1, Ascii(b"A"))], &[0xE0, 0x82, 0xC1]),
-            Refuses(1, &[Field(1, Ascii(b"\0A"))], R9),
-            Gives(1, &[Field(1, Ascii(b"A"))], &[0x80]),
-        ],
-    ),
-    Row(
-        "of a delta's part",
-        LIMITS,
-        &[
-            Gives(
-                2,
-                &[Field(2, Ascii(b"ABC"))],
-                &[0xC0, 0x83, 0x80, 0x41, 0x42, 0xC3],
-            ),
-            Refuses(2, &[Field(2, Ascii(b"AB\0"))], R9),
-            Refuses(2, &[Field(2, Ascii(b"A\0C"))], R9),
-            Refuses(2, &[Field(2, Ascii(b"\0ABC"))], R9),
-            Gives(2, &[Field(2, Ascii(b"A\0BC"))], &[0x80, 0xFE, 0x41, 0x80]),
-        ],
-    ),
-    Row(
-        "of a tail's part",
-        LIMITS,
-        &[
-            Gives(
-                3,
-                &[Field(3, Ascii(b"ABC"))],
-                &[0xE0, 0x84, 0x41, 0x42, 0xC3],
-            ),
-            Refuses(3, &[Field(3, Ascii(b"AB\0"))], R9),
-            Refuses(3, &[Field(3, Ascii(b"\0ABC"))], R9),
-            Gives(3, &[Field(3, Ascii(b"XB\0"))], &[0xA0, 0x58, 0x42, 0x80]),
-        ],
-    ),
-    Row(
-        "of a text that is not sent, or not in front",
-        LIMITS,
-        &[
-            Refuses(4, &[Field(4, Ascii(b"\0B"))], R9),
-            Gives(4, &[Field(4, Ascii(b"\0A"))], &[0xC0, 0x85]),
-            Gives(4, &[Field(4, Ascii(b"B"))], &[0xA0, 0xC2]),
-            Gives(5, &[Field(5, Ascii(b"\0B"))], &[0xC0, 0x86, 0x81, 0xC2]),
-        ],
-    ),
-    Row(
-        "before and behind another constant",
-        LIMITS,
-        &[
-            Refuses(6, &[Field(6, Ascii(b"\0")), Field(7, U(8))], R9),
-            Refuses(6, &[Field(6, Ascii(b"A")), Field(7, U(8))], E3),
-            Refuses(7, &[Field(8, U(8)), Field(9, Ascii(b"\0"))], E3),
-            Refuses(7, &[Field(8, U(7)), Field(9, Ascii(b"\0"))], R9),
-            Gives(
-                7,
-                &[Field(8, U(7)), Field(9, Ascii(b"A"))],
-                &[0xC0, 0x88, 0xC1],
-            ),
-        ],
-    ),
-    Row(
-        "in the second element",
-        LIMITS,
-        &[
-            Gives(
-                8,
-                &[
-                    Sequence(10, 1),
-                    Element,
-                    Field(11, Ascii(b"A")),
-                    EndElement,
-                    EndSequence,
-                ],
-                &[0xC0, 0x89, 0x81, 0xC0, 0xC1],
-            ),
-            Refuses(
-                8,
-                &[
-                    Sequence(10, 2),
-                    Element,
-                    Field(11, Ascii(b"B")),
-                    EndElement,
-                    Element,
-                    Field(11, Ascii(b"\0")),
-                    EndElement,
-                    EndSequence,
-                ],
-                R9,
-            ),
-            Gives(
-                8,
-                &[
-                    Sequence(10, 1),
-                    Element,
-                    Field(11, Ascii(b"A")),
-                    EndElement,
-                    EndSequence,
-                ],
-                &[0x80, 0x81, 0x80],
-            ),
-        ],
-    ),
+const ZEROS_IN_FRONT: &[&str] = &[
+    "of a text | lenient
+     m0 a0='\0' /m > R9
+     m0 a0='\0A' /m > R9
+     m0 a0='A\0' /m > C0 81 41 80",
+    "of a text that is copied | lenient
+     m1 a1='A' /m > E0 82 C1
+     m1 a1='\0A' /m > R9
+     m1 a1='A' /m > 80",
+    "of a delta's part | lenient
+     m2 a2='ABC' /m > C0 83 80 41 42 C3
+     m2 a2='AB\0' /m > R9
+     m2 a2='A\0C' /m > R9
+     m2 a2='\0ABC' /m > R9
+     m2 a2='A\0BC' /m > 80 FE 41 80",
+    "of a tail's part | lenient
+     m3 a3='ABC' /m > E0 84 41 42 C3
+     m3 a3='AB\0' /m > R9
+     m3 a3='\0ABC' /m > R9
+     m3 a3='XB\0' /m > A0 58 42 80",
+    "of a text that is not sent, or not in front | lenient
+     m4 a4='\0B' /m > R9
+     m4 a4='\0A' /m > C0 85
+     m4 a4='B' /m > A0 C2
+     m5 a5='\0B' /m > C0 86 81 C2",
+    "before and behind another constant | lenient
+     m6 a6='\0' u7=8 /m > R9
+     m6 a6='A' u7=8 /m > E3
+     m7 u8=8 a9='\0' /m > E3
+     m7 u8=7 a9='\0' /m > R9
+     m7 u8=7 a9='A' /m > C0 88 C1",
+    "in the second element | lenient
+     m8 s10*1 e a11='A' /e /s /m > C0 89 81 C0 C1
+     m8 s10*2 e a11='B' /e e a11='\0' /e /s /m > R9
+     m8 s10*1 e a11='A' /e /s /m > 80 81 80",
 ];
 
 #[test]

@@ -1,11 +1,6 @@
 //! Messages that do not suit their template.
 
-use super::Part::*;
-use super::Step::{Gives, Refuses};
-use super::{LIMITS, Part, Row, Step, expect_row, expect_rows};
-use fast_encoder::EncodeFault::{E1, E2};
-use fast_template::Templates;
-use fast_value::Scalar::{Ascii, Bytes, Dec, I, U, Unicode};
+use super::expect_rows;
 use std::alloc::{AllocError, Global};
 use std::test::Fail;
 
@@ -65,261 +60,96 @@ fields = [{kind="uInt32", name="p"}]
 "#;
 
 /// What a slot can hold, and slots that are too few and too many.
-const SHAPES: [&[Part]; 11] = [
-    &[Field(0, U(5))],
-    &[Field(0, I(5))],
-    &[Field(
-        0,
-        Dec {
-            exponent: 0,
-            mantissa: 5,
-        },
-    )],
-    &[Field(0, Ascii(b"5"))],
-    &[Field(0, Unicode(b"5"))],
-    &[Field(0, Bytes(b"5"))],
-    &[Group(0), Field(0, U(5)), EndGroup],
-    &[Sequence(0, 1), Elements(1, 0, 5), EndSequence],
-    &[Absent],
-    &[],
-    &[Field(0, U(5)), Field(0, U(5))],
+const SHAPES: [&str; 11] = [
+    "u0=5",
+    "i0=5",
+    "d0=5e0",
+    "a0='5'",
+    "t0='5'",
+    "b0=35",
+    "g0 u0=5 /g",
+    "s0*1 1*u0=5 /s",
+    "-",
+    "",
+    "u0=5 u0=5",
 ];
 
 /// Which of these suits each of the first templates.
 const SUITS: [usize; 11] = [0, 1, 0, 1, 2, 3, 4, 5, 2, 6, 7];
 
-/// A message that suits.
-const GOOD: Step<'static> = Gives(0, &[Field(0, U(5))], &[0xC0, 0x81, 0x85]);
-
-/// Messages of all shapes but those that suit, and then one that suits.
-fn unsuited(alloc: Global) -> Result<Vec<Step<'static>>, AllocError> {
-    let mut steps = Vec::new(alloc);
-    for (template, suits) in (0..11u32).zip(SUITS) {
-        for (i, shape) in SHAPES.into_iter().enumerate() {
-            if i != suits {
-                steps.push(Refuses(template, shape, E2))?;
-            }
+/// Adds a step for each shape that does not suit the template.
+fn add_unsuited(
+    alloc: Global,
+    row: &mut String,
+    template: u32,
+    suits: usize,
+) -> Result<(), AllocError> {
+    for (i, shape) in SHAPES.into_iter().enumerate() {
+        if i != suits {
+            let step = format!(in alloc; "\nm{template} {shape} /m > E2")?;
+            row.push_str(step.as_str())?;
         }
     }
-    steps.push(GOOD)?;
-    Ok(steps)
+    Ok(())
+}
+
+/// Messages of all shapes but those that suit, and then one that suits.
+fn unsuited(alloc: Global) -> Result<String, AllocError> {
+    let mut row = String::from_str(alloc, "another shape | lenient")?;
+    for (template, suits) in (0..11u32).zip(SUITS) {
+        add_unsuited(alloc, &mut row, template, suits)?;
+    }
+    row.push_str("\nm0 u0=5 /m > C0 81 85")?;
+    Ok(row)
 }
 
 #[test]
 fn other_shapes(rt: HostRuntime) -> Result<(), Fail> {
-    let alloc = rt.alloc();
-    let set = Templates::read(alloc, KINDS)?;
-    let steps = unsuited(alloc)?;
-    expect_row(&rt, alloc, &set, Row("shapes", LIMITS, &steps))
+    let row = unsuited(rt.alloc())?;
+    expect_rows(&rt, rt.alloc(), KINDS, &[row.as_str()])
 }
 
-const VALUES: &[Row<'static>] = &[
-    Row(
-        "of 32 bits without sign",
-        LIMITS,
-        &[
-            Refuses(0, &[Field(0, U(4_294_967_296))], E2),
-            Refuses(0, &[Field(0, U(u64::MAX))], E2),
-            Gives(
-                0,
-                &[Field(0, U(4_294_967_295))],
-                &[0xC0, 0x81, 0x0F, 0x7F, 0x7F, 0x7F, 0xFF],
-            ),
-            Gives(0, &[Field(0, U(0))], &[0x80, 0x80]),
-        ],
-    ),
-    Row(
-        "of 32 bits with a sign",
-        LIMITS,
-        &[
-            Refuses(1, &[Field(1, I(2_147_483_648))], E2),
-            Refuses(1, &[Field(1, I(-2_147_483_649))], E2),
-            Gives(
-                1,
-                &[Field(1, I(2_147_483_647))],
-                &[0xC0, 0x82, 0x07, 0x7F, 0x7F, 0x7F, 0xFF],
-            ),
-            Gives(
-                1,
-                &[Field(1, I(-2_147_483_648))],
-                &[0x80, 0x78, 0x00, 0x00, 0x00, 0x80],
-            ),
-        ],
-    ),
-    Row(
-        "of 64 bits",
-        LIMITS,
-        &[
-            Gives(
-                2,
-                &[Field(2, U(u64::MAX))],
-                &[
-                    0xC0, 0x83, 0x01, 0x7F, 0x7F, 0x7F, 0x7F, 0x7F, 0x7F, 0x7F, 0x7F, 0xFF,
-                ],
-            ),
-            Gives(
-                3,
-                &[Field(3, I(i64::MIN))],
-                &[
-                    0xC0, 0x84, 0x7F, 0x00, 0x00, 0x00, 0x00, 0x00, 0x00, 0x00, 0x00, 0x80,
-                ],
-            ),
-        ],
-    ),
-    Row(
-        "decimals",
-        LIMITS,
-        &[
-            Refuses(
-                4,
-                &[Field(
-                    4,
-                    Dec {
-                        exponent: 64,
-                        mantissa: 1,
-                    },
-                )],
-                E2,
-            ),
-            Refuses(
-                4,
-                &[Field(
-                    4,
-                    Dec {
-                        exponent: -64,
-                        mantissa: 1,
-                    },
-                )],
-                E2,
-            ),
-            Refuses(
-                4,
-                &[Field(
-                    4,
-                    Dec {
-                        exponent: i32::MIN,
-                        mantissa: 1,
-                    },
-                )],
-                E2,
-            ),
-            Gives(
-                4,
-                &[Field(
-                    4,
-                    Dec {
-                        exponent: 63,
-                        mantissa: 1,
-                    },
-                )],
-                &[0xC0, 0x85, 0xBF, 0x81],
-            ),
-            Gives(
-                4,
-                &[Field(
-                    4,
-                    Dec {
-                        exponent: -63,
-                        mantissa: 1,
-                    },
-                )],
-                &[0x80, 0xC1, 0x81],
-            ),
-        ],
-    ),
-    Row(
-        "decimals by parts",
-        LIMITS,
-        &[
-            Refuses(
-                8,
-                &[Field(
-                    8,
-                    Dec {
-                        exponent: 64,
-                        mantissa: 1,
-                    },
-                )],
-                E2,
-            ),
-            Refuses(
-                8,
-                &[Field(
-                    8,
-                    Dec {
-                        exponent: -64,
-                        mantissa: 1,
-                    },
-                )],
-                E2,
-            ),
-            Gives(
-                8,
-                &[Field(
-                    8,
-                    Dec {
-                        exponent: 63,
-                        mantissa: -1,
-                    },
-                )],
-                &[0xC0, 0x89, 0xBF, 0xFF],
-            ),
-            Gives(
-                8,
-                &[Field(
-                    8,
-                    Dec {
-                        exponent: -63,
-                        mantissa: 0,
-                    },
-                )],
-                &[0x80, 0xC1, 0x80],
-            ),
-        ],
-    ),
-    Row(
-        "ASCII",
-        LIMITS,
-        &[
-            Refuses(5, &[Field(5, Ascii(&[0x80]))], E2),
-            Refuses(5, &[Field(5, Ascii(&[0x41, 0xFF]))], E2),
-            Gives(
-                5,
-                &[Field(5, Ascii(&[0x41, 0x7F]))],
-                &[0xC0, 0x86, 0x41, 0xFF],
-            ),
-            Gives(5, &[Field(5, Ascii(b""))], &[0x80, 0x80]),
-        ],
-    ),
-    Row(
-        "Unicode",
-        LIMITS,
-        &[
-            Refuses(6, &[Field(6, Unicode(&[0xC3, 0x28]))], E2),
-            Refuses(6, &[Field(6, Unicode(&[0x41, 0xC3]))], E2),
-            Refuses(6, &[Field(6, Unicode(&[0xC0, 0x80]))], E2),
-            Refuses(6, &[Field(6, Unicode(&[0xED, 0xA0, 0x80]))], E2),
-            Refuses(6, &[Field(6, Unicode(&[0xF4, 0x90, 0x80, 0x80]))], E2),
-            Gives(
-                6,
-                &[Field(6, Unicode(&[0xF4, 0x8F, 0xBF, 0xBF]))],
-                &[0xC0, 0x87, 0x84, 0xF4, 0x8F, 0xBF, 0xBF],
-            ),
-            Gives(6, &[Field(6, Unicode(b""))], &[0x80, 0x80]),
-        ],
-    ),
-    Row(
-        "bytes",
-        LIMITS,
-        &[
-            Gives(
-                7,
-                &[Field(7, Bytes(&[0xC3, 0x00]))],
-                &[0xC0, 0x88, 0x82, 0xC3, 0x00],
-            ),
-            Gives(7, &[Field(7, Bytes(b""))], &[0x80, 0x80]),
-        ],
-    ),
+const VALUES: &[&str] = &[
+    "of 32 bits without sign | lenient
+     m0 u0=4294967296 /m > E2
+     m0 u0=18446744073709551615 /m > E2
+     m0 u0=4294967295 /m > C0 81 0F 7F 7F 7F FF
+     m0 u0=0 /m > 80 80",
+    "of 32 bits with a sign | lenient
+     m1 i1=2147483648 /m > E2
+     m1 i1=-2147483649 /m > E2
+     m1 i1=2147483647 /m > C0 82 07 7F 7F 7F FF
+     m1 i1=-2147483648 /m > 80 78 00 00 00 80",
+    "of 64 bits | lenient
+     m2 u2=18446744073709551615 /m > C0 83 01 7F*8 FF
+     m3 i3=-9223372036854775808 /m > C0 84 7F 00*8 80",
+    "decimals | lenient
+     m4 d4=1e64 /m > E2
+     m4 d4=1e-64 /m > E2
+     m4 d4=1e-2147483648 /m > E2
+     m4 d4=1e63 /m > C0 85 BF 81
+     m4 d4=1e-63 /m > 80 C1 81",
+    "decimals by parts | lenient
+     m8 d8=1e64 /m > E2
+     m8 d8=1e-64 /m > E2
+     m8 d8=-1e63 /m > C0 89 BF FF
+     m8 d8=0e-63 /m > 80 C1 80",
+    "ASCII | lenient
+     m5 a5=x80 /m > E2
+     m5 a5=x41FF /m > E2
+     m5 a5='A\x7F' /m > C0 86 41 FF
+     m5 a5='' /m > 80 80",
+    "Unicode | lenient
+     m6 t6=xC328 /m > E2
+     m6 t6=x41C3 /m > E2
+     m6 t6=xC080 /m > E2
+     m6 t6=xEDA080 /m > E2
+     m6 t6=xF4908080 /m > E2
+     m6 t6='\u{10FFFF}' /m > C0 87 84 F4 8F BF BF
+     m6 t6='' /m > 80 80",
+    "bytes | lenient
+     m7 b7=C300 /m > C0 88 82 C3 00
+     m7 b7= /m > 80 80",
 ];
 
 #[test]
@@ -327,124 +157,30 @@ fn values(rt: HostRuntime) -> Result<(), Fail> {
     expect_rows(&rt, rt.alloc(), KINDS, VALUES)
 }
 
-const WITHIN: &[Row<'static>] = &[
-    Row(
-        "in a group",
-        LIMITS,
-        &[
-            Refuses(9, &[Group(9), EndGroup], E2),
-            Refuses(9, &[Group(9), Absent, EndGroup], E2),
-            Refuses(
-                9,
-                &[Group(9), Field(10, U(5)), Field(10, U(5)), EndGroup],
-                E2,
-            ),
-            Refuses(9, &[Group(9), Field(10, I(5)), EndGroup], E2),
-            Refuses(9, &[Group(9), Field(10, U(5)), EndGroup, Absent], E2),
-            Gives(
-                9,
-                &[Group(9), Field(10, U(5)), EndGroup],
-                &[0xC0, 0x8A, 0x85],
-            ),
-        ],
-    ),
-    Row(
-        "in the last element",
-        LIMITS,
-        &[
-            Refuses(
-                10,
-                &[
-                    Sequence(11, 2),
-                    Element,
-                    Field(12, U(5)),
-                    EndElement,
-                    Element,
-                    EndElement,
-                    EndSequence,
-                ],
-                E2,
-            ),
-            Refuses(
-                10,
-                &[
-                    Sequence(11, 2),
-                    Element,
-                    Field(12, U(5)),
-                    EndElement,
-                    Element,
-                    Absent,
-                    EndElement,
-                    EndSequence,
-                ],
-                E2,
-            ),
-            Refuses(
-                10,
-                &[
-                    Sequence(11, 1),
-                    Element,
-                    Field(12, U(5)),
-                    Field(12, U(5)),
-                    EndElement,
-                    EndSequence,
-                ],
-                E2,
-            ),
-            Refuses(
-                10,
-                &[
-                    Sequence(11, 2),
-                    Element,
-                    Field(12, U(5)),
-                    EndElement,
-                    Element,
-                    Field(12, Ascii(b"5")),
-                    EndElement,
-                    EndSequence,
-                ],
-                E2,
-            ),
-            Gives(
-                10,
-                &[
-                    Sequence(11, 2),
-                    Element,
-                    Field(12, U(5)),
-                    EndElement,
-                    Element,
-                    Field(12, U(6)),
-                    EndElement,
-                    EndSequence,
-                ],
-                &[0xC0, 0x8B, 0x82, 0x85, 0x86],
-            ),
-            Gives(10, &[Sequence(11, 0), EndSequence], &[0x80, 0x80]),
-        ],
-    ),
-    Row(
-        "behind what has no encoding",
-        LIMITS,
-        &[
-            Refuses(11, &[Field(13, U(6)), Field(14, Ascii(&[0x80]))], E2),
-            Refuses(11, &[Field(13, U(6)), Absent], E2),
-            Gives(
-                11,
-                &[Field(13, U(5)), Field(14, Ascii(b"A"))],
-                &[0xC0, 0x8C, 0xC1],
-            ),
-        ],
-    ),
-    Row(
-        "no template with an identifier, whatever the message holds",
-        LIMITS,
-        &[
-            Refuses(12, &[Field(15, U(5))], E1),
-            Refuses(12, &[Field(15, I(5))], E1),
-            Refuses(13, &[Absent], E1),
-            GOOD,
-        ],
-    ),
+const WITHIN: &[&str] = &[
+    "in a group | lenient
+     m9 g9 /g /m > E2
+     m9 g9 - /g /m > E2
+     m9 g9 u10=5 u10=5 /g /m > E2
+     m9 g9 i10=5 /g /m > E2
+     m9 g9 u10=5 /g - /m > E2
+     m9 g9 u10=5 /g /m > C0 8A 85",
+    "in the last element | lenient
+     m10 s11*2 e u12=5 /e e /e /s /m > E2
+     m10 s11*2 e u12=5 /e e - /e /s /m > E2
+     m10 s11*1 e u12=5 u12=5 /e /s /m > E2
+     m10 s11*2 e u12=5 /e e a12='5' /e /s /m > E2
+     m10 s11*2 e u12=5 /e e u12=6 /e /s /m > C0 8B 82 85 86
+     m10 s11*0 /s /m > 80 80",
+    "behind what has no encoding | lenient
+     m11 u13=6 a14=x80 /m > E2
+     m11 u13=6 - /m > E2
+     m11 u13=5 a14='A' /m > C0 8C C1",
+    "no template with an identifier, whatever the message holds | lenient
+     m12 u15=5 /m > E1
+     m12 i15=5 /m > E1
+     m13 - /m > E1
+     m0 u0=5 /m > C0 81 85",
 ];
 
 #[test]

@@ -1,10 +1,6 @@
 //! Messages of a set with templates of every kind.
 
-use super::Part::*;
-use super::Step::{Gives, Refuses, Reset};
-use super::{LIMITS, Part, Row, expect_rows};
-use fast_encoder::EncodeFault;
-use fast_value::Scalar::{Ascii, Bytes, Dec, I, U, Unicode};
+use super::expect_rows;
 use std::alloc::{AllocError, Global};
 use std::test::Fail;
 
@@ -88,106 +84,32 @@ id = 19
 fields = [{kind="ascii", name="r", optional=true}]
 "#;
 
-/// A message with a group and two elements.
-pub const LONG: &[Part] = &[
-    Field(15, U(5)),
-    Group(16),
-    Field(17, Bytes(&[0x01, 0xFF])),
-    EndGroup,
-    Sequence(18, 2),
-    Element,
-    Field(19, Ascii(b"AB")),
-    Field(20, I(100)),
-    EndElement,
-    Element,
-    Field(19, Ascii(b"AB")),
-    Field(20, I(98)),
-    EndElement,
-    EndSequence,
-];
-
-/// What comes of it.
-pub const LONG_BYTES: &[u8] = &[
-    0xE0, 0x8F, 0x85, 0x82, 0x01, 0xFF, 0x83, 0xC0, 0x41, 0xC2, 0x00, 0xE4, 0x80, 0xFE,
-];
-
-const MESSAGES: &[Row<'static>] = &[
-    Row(
-        "a message, one without its field, and another of its template",
-        LIMITS,
-        &[
-            Gives(0, &[Field(0, U(942_755))], &[0xC0, 0x81, 0x39, 0x45, 0xA3]),
-            Refuses(0, &[Absent], EncodeFault::E2),
-            Gives(0, &[Field(0, U(0))], &[0x80, 0x80]),
-        ],
-    ),
-    Row(
-        "a field, a group and two elements",
-        LIMITS,
-        &[Gives(14, LONG, LONG_BYTES)],
-    ),
-    Row(
-        "neither group nor sequence, and then no element",
-        LIMITS,
-        &[
-            Gives(
-                14,
-                &[Field(15, U(5)), Absent, Absent],
-                &[0xC0, 0x8F, 0x85, 0x80],
-            ),
-            Gives(
-                14,
-                &[Field(15, U(5)), Absent, Sequence(18, 0), EndSequence],
-                &[0x80, 0x85, 0x81],
-            ),
-        ],
-    ),
-    Row(
-        "a template that makes all previous values undefined but the identifier's",
-        LIMITS,
-        &[
-            Gives(5, &[Field(6, U(0))], &[0xE0, 0x86, 0x81]),
-            Gives(8, &[], &[0xC0, 0x89]),
-            Gives(8, &[], &[0x80]),
-            Gives(5, &[Absent], &[0xC0, 0x86]),
-        ],
-    ),
-    Row(
-        "no template of the number",
-        LIMITS,
-        &[
-            Refuses(85, &[Field(0, U(1))], EncodeFault::E1),
-            Refuses(19, &[Field(0, U(1))], EncodeFault::E1),
-            Refuses(u32::MAX, &[], EncodeFault::E1),
-            Gives(18, &[Absent], &[0xC0, 0x93, 0x80]),
-        ],
-    ),
-    Row(
-        "elements that take no byte, too many, and another",
-        LIMITS,
-        &[
-            Refuses(
-                1,
-                &[Sequence(1, 1001), Elements(1001, 2, 7), EndSequence],
-                EncodeFault::E4,
-            ),
-            Gives(
-                1,
-                &[Sequence(1, 1000), Elements(1000, 2, 7), EndSequence],
-                &[0xC0, 0x82, 0x07, 0xE8],
-            ),
-            Refuses(
-                1,
-                &[Sequence(1, 1), Elements(1, 2, 8), EndSequence],
-                EncodeFault::E3,
-            ),
-            Gives(
-                1,
-                &[Sequence(1, 1), Elements(1, 2, 7), EndSequence],
-                &[0x80, 0x81],
-            ),
-        ],
-    ),
+const MESSAGES: &[&str] = &[
+    "a message, one without its field, and another of its template | lenient
+     m0 u0=942755 /m > C0 81 39 45 A3
+     m0 - /m > E2
+     m0 u0=0 /m > 80 80",
+    "a field, a group and two elements | lenient
+     m14 u15=5 g16 b17=01FF /g s18*2 e a19='AB' i20=100 /e e a19='AB' i20=98 /e /s /m \
+     > E0 8F 85 82 01 FF 83 C0 41 C2 00 E4 80 FE",
+    "neither group nor sequence, and then no element | lenient
+     m14 u15=5 - - /m > C0 8F 85 80
+     m14 u15=5 - s18*0 /s /m > 80 85 81",
+    "a template that makes all previous values undefined but the identifier's | lenient
+     m5 u6=0 /m > E0 86 81
+     m8 /m > C0 89
+     m8 /m > 80
+     m5 - /m > C0 86",
+    "no template of the number | lenient
+     m85 u0=1 /m > E1
+     m19 u0=1 /m > E1
+     m4294967295 /m > E1
+     m18 - /m > C0 93 80",
+    "elements that take no byte, too many, and another | lenient
+     m1 s1*1001 1001*u2=7 /s /m > E4
+     m1 s1*1000 1000*u2=7 /s /m > C0 82 07 E8
+     m1 s1*1 1*u2=8 /s /m > E3
+     m1 s1*1 1*u2=7 /s /m > 80 81",
 ];
 
 #[test]
@@ -195,154 +117,37 @@ fn messages(rt: HostRuntime) -> Result<(), Fail> {
     expect_rows(&rt, rt.alloc(), WORKED, MESSAGES)
 }
 
-const NUMBERS: &[Row<'static>] = &[
-    Row(
-        "signed integers",
-        LIMITS,
-        &[
-            Gives(
-                11,
-                &[Field(12, I(-942_755))],
-                &[0xC0, 0x8C, 0x46, 0x3A, 0xDD],
-            ),
-            Gives(11, &[Field(12, I(8_193))], &[0x80, 0x00, 0x40, 0x81]),
-            Gives(11, &[Field(12, I(-8_193))], &[0x80, 0x7F, 0x3F, 0xFF]),
-        ],
-    ),
-    Row(
-        "the greatest value, absent, and 0",
-        LIMITS,
-        &[
-            Gives(
-                12,
-                &[Field(13, U(4_294_967_295))],
-                &[0xC0, 0x8D, 0x10, 0x00, 0x00, 0x00, 0x80],
-            ),
-            Gives(12, &[Absent], &[0x80, 0x80]),
-            Gives(12, &[Field(13, U(0))], &[0x80, 0x81]),
-        ],
-    ),
-    Row(
-        "the greatest of all integers, which takes ten bytes",
-        LIMITS,
-        &[Gives(
-            13,
-            &[Field(14, I(9_223_372_036_854_775_807))],
-            &[
-                0xC0, 0x8E, 0x01, 0x00, 0x00, 0x00, 0x00, 0x00, 0x00, 0x00, 0x00, 0x80,
-            ],
-        )],
-    ),
-    Row(
-        "after the greatest value comes the least",
-        LIMITS,
-        &[
-            Gives(
-                4,
-                &[Field(5, U(4_294_967_295))],
-                &[0xE0, 0x85, 0x0F, 0x7F, 0x7F, 0x7F, 0xFF],
-            ),
-            Gives(4, &[Field(5, U(0))], &[0x80]),
-            Gives(4, &[Field(5, U(1))], &[0x80]),
-        ],
-    ),
-    Row(
-        "a copied value is made absent, and stays so",
-        LIMITS,
-        &[
-            Gives(5, &[Field(6, U(0))], &[0xE0, 0x86, 0x81]),
-            Gives(5, &[Absent], &[0xA0, 0x80]),
-            Gives(5, &[Absent], &[0x80]),
-        ],
-    ),
-    Row(
-        "a delta, none, and one more",
-        LIMITS,
-        &[
-            Gives(15, &[Field(21, I(5))], &[0xC0, 0x90, 0x86]),
-            Gives(15, &[Absent], &[0x80, 0x80]),
-            Gives(15, &[Field(21, I(6))], &[0x80, 0x82]),
-        ],
-    ),
-    Row(
-        "decimals, and none",
-        LIMITS,
-        &[
-            Gives(
-                17,
-                &[
-                    Field(
-                        23,
-                        Dec {
-                            exponent: -1,
-                            mantissa: 15,
-                        },
-                    ),
-                    Absent,
-                ],
-                &[0xC0, 0x92, 0xFF, 0x8F, 0x80],
-            ),
-            Gives(
-                17,
-                &[
-                    Field(
-                        23,
-                        Dec {
-                            exponent: 63,
-                            mantissa: 1,
-                        },
-                    ),
-                    Field(
-                        24,
-                        Dec {
-                            exponent: 0,
-                            mantissa: 5,
-                        },
-                    ),
-                ],
-                &[0x80, 0xBF, 0x81, 0x81, 0x85],
-            ),
-        ],
-    ),
-    Row(
-        "an absent exponent needs no byte, and leaves the next bit to the next field",
-        LIMITS,
-        &[Gives(6, &[Absent, Field(8, U(5))], &[0xD0, 0x87, 0x85])],
-    ),
-    Row(
-        "a decimal by parts, and one with another mantissa",
-        LIMITS,
-        &[
-            Gives(
-                6,
-                &[
-                    Field(
-                        7,
-                        Dec {
-                            exponent: -1,
-                            mantissa: 15,
-                        },
-                    ),
-                    Field(8, U(5)),
-                ],
-                &[0xF8, 0x87, 0xFF, 0x8F, 0x85],
-            ),
-            Gives(
-                6,
-                &[
-                    Field(
-                        7,
-                        Dec {
-                            exponent: -1,
-                            mantissa: 16,
-                        },
-                    ),
-                    Field(8, U(5)),
-                ],
-                &[0x90, 0x90],
-            ),
-        ],
-    ),
+const NUMBERS: &[&str] = &[
+    "signed integers | lenient
+     m11 i12=-942755 /m > C0 8C 46 3A DD
+     m11 i12=8193 /m > 80 00 40 81
+     m11 i12=-8193 /m > 80 7F 3F FF",
+    "the greatest value, absent, and 0 | lenient
+     m12 u13=4294967295 /m > C0 8D 10 00 00 00 80
+     m12 - /m > 80 80
+     m12 u13=0 /m > 80 81",
+    "the greatest of all integers, which takes ten bytes | lenient
+     m13 i14=9223372036854775807 /m > C0 8E 01 00*8 80",
+    "after the greatest value comes the least | lenient
+     m4 u5=4294967295 /m > E0 85 0F 7F 7F 7F FF
+     m4 u5=0 /m > 80
+     m4 u5=1 /m > 80",
+    "a copied value is made absent, and stays so | lenient
+     m5 u6=0 /m > E0 86 81
+     m5 - /m > A0 80
+     m5 - /m > 80",
+    "a delta, none, and one more | lenient
+     m15 i21=5 /m > C0 90 86
+     m15 - /m > 80 80
+     m15 i21=6 /m > 80 82",
+    "decimals, and none | lenient
+     m17 d23=15e-1 - /m > C0 92 FF 8F 80
+     m17 d23=1e63 d24=5e0 /m > 80 BF 81 81 85",
+    "an absent exponent needs no byte, and leaves the next bit to the next field | lenient
+     m6 - u8=5 /m > D0 87 85",
+    "a decimal by parts, and one with another mantissa | lenient
+     m6 d7=15e-1 u8=5 /m > F8 87 FF 8F 85
+     m6 d7=16e-1 u8=5 /m > 90 90",
 ];
 
 #[test]
@@ -350,80 +155,32 @@ fn numbers(rt: HostRuntime) -> Result<(), Fail> {
     expect_rows(&rt, rt.alloc(), WORKED, NUMBERS)
 }
 
-const TEXTS: &[Row<'static>] = &[
-    Row(
-        "tails, and none for a text that is shorter than its base",
-        LIMITS,
-        &[
-            Gives(
-                2,
-                &[Field(3, Ascii(b"ABCDE"))],
-                &[0xE0, 0x83, 0x41, 0x42, 0x43, 0x44, 0xC5],
-            ),
-            Gives(2, &[Field(3, Ascii(b"ABCXY"))], &[0xA0, 0x58, 0xD9]),
-            Gives(2, &[Field(3, Ascii(b"ABCXY"))], &[0x80]),
-            Refuses(2, &[Field(3, Ascii(b"AB"))], EncodeFault::E3),
-            Gives(2, &[Field(3, Ascii(b"ABCXY"))], &[0x80]),
-            Reset,
-            Gives(2, &[Field(3, Ascii(b"AB"))], &[0xE0, 0x83, 0x41, 0xC2]),
-        ],
-    ),
-    Row(
-        "deltas at the back and at the front",
-        LIMITS,
-        &[
-            Gives(
-                3,
-                &[Field(4, Ascii(b"GEH6"))],
-                &[0xC0, 0x84, 0x80, 0x47, 0x45, 0x48, 0xB6],
-            ),
-            Gives(3, &[Field(4, Ascii(b"GEM6"))], &[0x80, 0x82, 0x4D, 0xB6]),
-            Gives(3, &[Field(4, Ascii(b"ZZGEM6"))], &[0x80, 0xFF, 0x5A, 0xDA]),
-        ],
-    ),
-    Row(
-        "an absent text, one with a zero in front, and an empty one",
-        LIMITS,
-        &[
-            Gives(18, &[Absent], &[0xC0, 0x93, 0x80]),
-            Refuses(18, &[Field(25, Ascii(b"\0A"))], EncodeFault::R9),
-            Gives(18, &[Field(25, Ascii(b""))], &[0x80, 0x00, 0x80]),
-        ],
-    ),
-    Row(
-        "a text of two bytes",
-        LIMITS,
-        &[Gives(
-            7,
-            &[Field(9, Unicode(&[0xC3, 0xA9]))],
-            &[0xC0, 0x88, 0x82, 0xC3, 0xA9],
-        )],
-    ),
-    Row(
-        "a delta whose part is no UTF-8 by itself",
-        LIMITS,
-        &[
-            Gives(
-                16,
-                &[Field(22, Unicode(&[0xC3, 0xA9]))],
-                &[0xC0, 0x91, 0x80, 0x82, 0xC3, 0xA9],
-            ),
-            Gives(
-                16,
-                &[Field(22, Unicode(&[0xC3, 0xA8]))],
-                &[0x80, 0x81, 0x81, 0xA8],
-            ),
-        ],
-    ),
-    Row(
-        "a previous value of another type is not copied",
-        LIMITS,
-        &[
-            Gives(5, &[Field(6, U(0))], &[0xE0, 0x86, 0x81]),
-            Gives(10, &[Field(11, Ascii(b"A"))], &[0xE0, 0x8B, 0xC1]),
-            Gives(10, &[Field(11, Ascii(b"A"))], &[0x80]),
-        ],
-    ),
+const TEXTS: &[&str] = &[
+    "tails, and none for a text that is shorter than its base | lenient
+     m2 a3='ABCDE' /m > E0 83 41 42 43 44 C5
+     m2 a3='ABCXY' /m > A0 58 D9
+     m2 a3='ABCXY' /m > 80
+     m2 a3='AB' /m > E3
+     m2 a3='ABCXY' /m > 80
+     reset
+     m2 a3='AB' /m > E0 83 41 C2",
+    "deltas at the back and at the front | lenient
+     m3 a4='GEH6' /m > C0 84 80 47 45 48 B6
+     m3 a4='GEM6' /m > 80 82 4D B6
+     m3 a4='ZZGEM6' /m > 80 FF 5A DA",
+    "an absent text, one with a zero in front, and an empty one | lenient
+     m18 - /m > C0 93 80
+     m18 a25='\0A' /m > R9
+     m18 a25='' /m > 80 00 80",
+    "a text of two bytes | lenient
+     m7 t9='é' /m > C0 88 82 C3 A9",
+    "a delta whose part is no UTF-8 by itself | lenient
+     m16 t22='é' /m > C0 91 80 82 C3 A9
+     m16 t22='è' /m > 80 81 81 A8",
+    "a previous value of another type is not copied | lenient
+     m5 u6=0 /m > E0 86 81
+     m10 a11='A' /m > E0 8B C1
+     m10 a11='A' /m > 80",
 ];
 
 #[test]
@@ -442,23 +199,11 @@ fn wide_text(alloc: Global) -> Result<String, AllocError> {
     Ok(text)
 }
 
-const WIDE: &[Row<'static>] = &[Row(
-    "the last of 300 fields",
-    LIMITS,
-    &[
-        Gives(
-            0,
-            &[Absents(299), Field(299, U(5))],
-            &[
-                0x40, 0x00, 0x00, 0x00, 0x00, 0x00, 0x00, 0x00, 0x00, 0x00, 0x00, 0x00, 0x00, 0x00,
-                0x00, 0x00, 0x00, 0x00, 0x00, 0x00, 0x00, 0x00, 0x00, 0x00, 0x00, 0x00, 0x00, 0x00,
-                0x00, 0x00, 0x00, 0x00, 0x00, 0x00, 0x00, 0x00, 0x00, 0x00, 0x00, 0x00, 0x00, 0x00,
-                0x81, 0x81, 0x86,
-            ],
-        ),
-        Gives(0, &[Absents(299), Field(299, U(5))], &[0x80]),
-    ],
-)];
+const WIDE: &[&str] = &[
+    "the last of 300 fields | lenient
+     m0 -*299 u299=5 /m > 40 00*41 81 81 86
+     m0 -*299 u299=5 /m > 80",
+];
 
 #[test]
 fn a_wide_map(rt: HostRuntime) -> Result<(), Fail> {
@@ -478,32 +223,14 @@ id = 2
 fields = [{kind="ascii", name="f", op="default", value="AB"}, {kind="bytes", name="g", op="constant", value="01FF"}]
 "#;
 
-const INITIAL_VALUES: &[Row<'static>] = &[
-    Row(
-        "a constant and defaults, and then values in their place",
-        LIMITS,
-        &[
-            Gives(0, &[Field(0, U(7)), Field(1, I(-3)), Absent], &[0xE0, 0x81]),
-            Gives(0, &[Absent, Field(1, I(2)), Absent], &[0x90, 0x82]),
-            Gives(0, &[Absent, Field(1, I(-3)), Field(2, U(0))], &[0x88, 0x81]),
-        ],
-    ),
-    Row(
-        "texts that are not sent, and one that is",
-        LIMITS,
-        &[
-            Gives(
-                1,
-                &[Field(3, Ascii(b"AB")), Field(4, Bytes(&[0x01, 0xFF]))],
-                &[0xC0, 0x82],
-            ),
-            Gives(
-                1,
-                &[Field(3, Ascii(b"")), Field(4, Bytes(&[0x01, 0xFF]))],
-                &[0xA0, 0x80],
-            ),
-        ],
-    ),
+const INITIAL_VALUES: &[&str] = &[
+    "a constant and defaults, and then values in their place | lenient
+     m0 u0=7 i1=-3 - /m > E0 81
+     m0 - i1=2 - /m > 90 82
+     m0 - i1=-3 u2=0 /m > 88 81",
+    "texts that are not sent, and one that is | lenient
+     m1 a3='AB' b4=01FF /m > C0 82
+     m1 a3='' b4=01FF /m > A0 80",
 ];
 
 #[test]

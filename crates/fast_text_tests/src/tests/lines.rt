@@ -150,3 +150,47 @@ fn each_event_is_its_line(rt: HostRuntime) -> Result<(), Fail> {
     }
     Ok(())
 }
+
+/// The ASCII text that a line has.
+fn text_in(line: &[u8]) -> &[u8] {
+    match line {
+        [
+            b'f',
+            b'i',
+            b'e',
+            b'l',
+            b'd',
+            b' ',
+            b'4',
+            b' ',
+            b's',
+            b'y',
+            b'm',
+            b' ',
+            b'a',
+            b' ',
+            b'"',
+            text @ ..,
+            b'"',
+            b'\n',
+        ] => text,
+        _ => b"",
+    }
+}
+
+/// A text that a sink has no room for goes on to the target, and the line goes on behind it.
+#[test]
+fn a_long_text_stands_in_its_line(rt: HostRuntime) -> Result<(), Fail> {
+    let set = set(rt.alloc())?;
+    let text = [b'A'; 600];
+    let mut cells = [0; 1024];
+    let mut target = ToBytes::new(&mut cells);
+    let event = Field {
+        node: 4,
+        value: Ascii(&text),
+    };
+    let taken = LineSink::new(&set, &mut target).take(event);
+    assert_eq!(rt; taken, Ok(()));
+    assert!(rt; text_in(target.bytes()) == text.as_slice());
+    Ok(())
+}

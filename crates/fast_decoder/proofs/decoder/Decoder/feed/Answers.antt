@@ -1,13 +1,15 @@
-use Rattle.std.proofs.Common.{◌≡◌, ℕ, ◌+◌, ap, ◌∙◌, sym, subst, refl, arith}
+use Rattle.std.proofs.Common.{rules, ◌≡◌, ℕ, ◌+◌, ap, ◌∙◌, sym, subst, refl, arith}
 use Rattle.std.specs.Prelude.{List, Ok, Err, Some, Result, IsOk, OnOk, take, length}
 use Rattle.std.proofs.lemmas.List.{take_all}
 use Rattle.fast_stream.specs.declared.faults.FaultCode.{FaultCode}
+use Rattle.fast_stream.specs.declared.faults.FaultCode.TheVariants as Why
 use Rattle.fast_decoder.specs.declared.machine.Machine.{Machine}
 use Rattle.fast_decoder.specs.Handing.{Took, Fed, stood}
 use Rattle.fast_decoder.specs.Positions.{set_of, tree_in, meaning, IsSupplied, IsReady}
 use Rattle.fast_decoder.specs.TurnsLeft.{IsWithinMessage}
-use Rattle.fast_decoder.specs.Decoding.{DecoderData, So, CarriesAt}
+use Rattle.fast_decoder.specs.Decoding.{DecoderData, tree, So, IsRefused, CarriesAt}
 use Rattle.fast_decoder.proofs.Carrying.{meaning-turns, supplied-turns, bytes_of, fed_data, carry_ok, carry_stopped, carry_failed}
+use Rattle.fast_decoder.proofs.Following.{carries_follow, fault_follows, failed_follows}
 use Rattle.fast_decoder.proofs.Paying.{feed_paid, all_within, feed_turns, sound_on}
 use Rattle.fast_decoder.proofs.decoder.Decoder.feed.Goals as goal
 
@@ -72,3 +74,32 @@ returns-in-Err-clause-turns g c =
     let inside : DecoderData = record { set = set_of c.self.inside.templates.now; limits = c.self.inside.limits; machine = c.self.inside.machine; consumed = c.self.inside.consumed; fault = c.self.inside.fault } in
     feed_turns inside c.args.self.now c.take_all-taken.result.bytes c.take_all-taken.new.self c.take_all-taken.result.outcome c.self.view_is
     (feed_paid inside c.begin_turns.new.self c.take_all-taken.new.self c.take_all-taken.result.bytes c.take_all-taken.result.outcome c.in_default.is c.begin_turns.ensures.same c.begin_turns.ensures.none c.self.invariant c.take_all-taken.ensures.turns)
+
+pub returns-in-Some-clause-followed : goal.returns-in-Some-clause-followed
+returns-in-Some-clause-followed g c = λ w es so.
+    let inside : DecoderData = record { set = set_of c.self.inside.templates.now; limits = c.self.inside.limits; machine = c.self.inside.machine; consumed = c.self.inside.consumed; fault = c.self.inside.fault } in
+    failed_follows g.S.Sink.takes g.S.Sink.stops c.args.self.now (record inside { machine = c.begin_turns.new.self }) c.in-Some.fault w es c.args.piece.now c.args.sink.now c.args.sink.now so
+    (ap (λ (d : DecoderData). d.fault) (sym c.self.view_is) ∙ c.in-Some.is) (ap (λ (d : DecoderData). tree d) c.self.view_is) (ap (λ (d : DecoderData). d.limits) c.self.view_is)
+    (returns-in-Some-clause-carried g c w es so)
+
+pub returns-then-piece-self-clause-followed : goal.returns-then-piece-self-clause-followed
+returns-then-piece-self-clause-followed g c = λ w es so.
+    let inside : DecoderData = record { set = set_of c.self.inside.templates.now; limits = c.self.inside.limits; machine = c.self.inside.machine; consumed = c.self.inside.consumed; fault = c.self.inside.fault } in
+    let refused : IsRefused inside c.args.piece.now c.args.sink.now c.self.inside.consumed c.args.sink.now = search rules in
+    fault_follows g.S.Sink.takes g.S.Sink.stops c.args.self.now (record inside { machine = c.begin_turns.new.self; fault = Some (record { code = Why.L4; place = c.self.inside.consumed }) }) Why.L4 w es c.args.piece.now c.args.sink.now c.self.inside.consumed c.args.sink.now so
+    (ap (λ (d : DecoderData). d.fault) (sym c.self.view_is) ∙ c.in_default.is) refl (ap (λ (d : DecoderData). tree d) c.self.view_is) (ap (λ (d : DecoderData). d.limits) c.self.view_is)
+    (subst (λ (d : DecoderData). IsRefused d c.args.piece.now c.args.sink.now c.self.inside.consumed c.args.sink.now) c.self.view_is refused)
+
+pub returns-in-Ok-clause-followed : goal.returns-in-Ok-clause-followed
+returns-in-Ok-clause-followed g c = λ w es so.
+    let inside : DecoderData = record { set = set_of c.self.inside.templates.now; limits = c.self.inside.limits; machine = c.self.inside.machine; consumed = c.self.inside.consumed; fault = c.self.inside.fault } in
+    carries_follow g.S.Sink.takes g.S.Sink.stops (tree c.args.self.now) c.args.self.now.limits (fed_data inside c.take_all-taken.new.self c.take_all-taken.result.bytes c.self.inside.fault) w es c.args.piece.now c.args.sink.now c.take_all-taken.new.sink
+    (ap (λ (d : DecoderData). tree d) c.self.view_is) (ap (λ (d : DecoderData). d.limits) c.self.view_is) (returns-in-Ok-clause-carried g c w es so)
+
+pub returns-in-Err-clause-followed : goal.returns-in-Err-clause-followed
+returns-in-Err-clause-followed g c = λ w es so.
+    let inside : DecoderData = record { set = set_of c.self.inside.templates.now; limits = c.self.inside.limits; machine = c.self.inside.machine; consumed = c.self.inside.consumed; fault = c.self.inside.fault } in
+    let place : ℕ = c.self.inside.consumed + c.take_all-taken.result.bytes in
+    fault_follows g.S.Sink.takes g.S.Sink.stops c.args.self.now (fed_data inside c.take_all-taken.new.self c.take_all-taken.result.bytes (Some (record { code = c.in-Err.code; place = place }))) c.in-Err.code w es c.args.piece.now c.args.sink.now place c.take_all-taken.new.sink so
+    (ap (λ (d : DecoderData). d.fault) (sym c.self.view_is) ∙ c.in_default.is) refl (ap (λ (d : DecoderData). tree d) c.self.view_is) (ap (λ (d : DecoderData). d.limits) c.self.view_is)
+    (returns-in-Err-clause-carried g c w es so)

@@ -1,0 +1,229 @@
+//! Messages that are read from their texts.
+
+use fast_value::{Item, Message, Scalar, Value};
+use std::alloc::{AllocError, Global};
+use std::mem;
+
+/// The slots of a message, a group or an element.
+type Slots = Vec<Option<Item>>;
+
+/// A message, a group or a sequence in the making: the slots so far, and the elements that are whole.
+#[derive(Drop)]
+struct Open {
+    slots: Slots,
+    elements: Vec<Slots>,
+}
+
+impl Open {
+    fn new(alloc: Global) -> Open {
+        Open {
+            slots: Vec::new(alloc),
+            elements: Vec::new(alloc),
+        }
+    }
+}
+
+/// Adds an item to what is open innermost.
+fn add(open: &mut Vec<Open>, item: Option<Item>) -> Result<(), AllocError> {
+    if let Some(innermost) = open.last_mut() {
+        innermost.slots.push(item)?;
+    }
+    Ok(())
+}
+
+/// Ends the element of what is open innermost.
+fn end_element(alloc: Global, open: &mut Vec<Open>) -> Result<(), AllocError> {
+    if let Some(innermost) = open.last_mut() {
+        let slots = mem::replace(&mut innermost.slots, Vec::new(alloc));
+        innermost.elements.push(slots)?;
+    }
+    Ok(())
+}
+
+/// Ends what is open innermost.
+fn end(alloc: Global, open: &mut Vec<Open>) -> Open {
+    match open.pop() {
+        Some(innermost) => innermost,
+        None => Open::new(alloc),
+    }
+}
+
+/// A digit's value.
+fn half_of(digit: u8) -> u8 {
+    let digits = b"0123456789ABCDEF";
+    digits.iter().position(|d| *d == digit).unwrap_or(0) as u8
+}
+
+/// The bytes of digits, two for each.
+fn bytes_of(alloc: Global, digits: &[u8]) -> Result<Vec<u8>, AllocError> {
+    let mut bytes = Vec::new(alloc);
+    for pair in digits.chunks(2) {
+        if let [high, low] = pair {
+            bytes.push(half_of(*high).wrapping_mul(16).wrapping_add(half_of(*low)))?;
+        }
+    }
+    Ok(bytes)
+}
+
+/// The bytes of a text: in quotes, or digits behind an `x`.
+fn text_of(alloc: Global, text: &str) -> Result<Vec<u8>, AllocError> {
+    match text.as_bytes() {
+        [b'\'', quoted @ .., b'\''] => Vec::from_slice(alloc, quoted),
+        [b'x', digits @ ..] => bytes_of(alloc, digits),
+        digits => bytes_of(alloc, digits),
+    }
+}
+
+fn decimal_of(text: &str) -> Option<Value> {
+    let (mantissa, exponent) = text.split_once('e')?;
+    Some(Value::Dec {
+        exponent: exponent.parse().ok()?,
+        mantissa: mantissa.parse().ok()?,
+    })
+}
+
+/// The value of a number that is written with this letter.
+fn number_of(letter: u8, text: &str) -> Option<Value> {
+    match letter {
+        b'u' => Some(Value::U(text.parse().ok()?)),
+        b'i' => Some(Value::I(text.parse().ok()?)),
+        b'd' => decimal_of(text),
+        _ => None,
+    }
+}
+
+/// The value of a field that is written with this letter.
+fn value_of(alloc: Global, letter: u8, text: &str) -> Result<Option<Value>, AllocError> {
+    Ok(match letter {
+        b'a' => Some(Value::Ascii(text_of(alloc, text)?)),
+        b't' => Some(Value::Unicode(text_of(alloc, text)?)),
+        b'b' => Some(Value::Bytes(text_of(alloc, text)?)),
+        _ => number_of(letter, text),
+    })
+}
+
+/// Adds a field to what is open innermost. Whether the word is one, as of the next functions.
+fn add_field(alloc: Global, open: &mut Vec<Open>, word: &str) -> Result<bool, AllocError> {
+    let (field, text) = word.split_once('=').unwrap_or((word, ""));
+    let letter = field.as_bytes().first().copied().unwrap_or(0);
+    match value_of(alloc, letter, text)? {
+        Some(value) => {
+            add(open, Some(Item::One(value)))?;
+            Ok(true)
+        }
+        None => Ok(false),
+    }
+}
+
+/// Adds so many absent items to what is open innermost.
+fn add_absent(open: &mut Vec<Open>, count: u32) -> Result<bool, AllocError> {
+    for _ in 0..count {
+        add(open, None)?;
+    }
+    Ok(true)
+}
+
+/// Adds so many elements of one field to what is open innermost.
+fn add_elements(
+    alloc: Global,
+    open: &mut Vec<Open>,
+    count: u32,
+    field: &str,
+) -> Result<bool, AllocError> {
+    for _ in 0..count {
+        if !add_field(alloc, open, field)? {
+            return Ok(false);
+        }
+        end_element(alloc, open)?;
+    }
+    Ok(true)
+}
+
+fn end_group(alloc: Global, open: &mut Vec<Open>) -> Result<(), AllocError> {
+    let group = end(alloc, open);
+    add(open, Some(Item::Group(group.slots)))
+}
+
+fn end_sequence(alloc: Global, open: &mut Vec<Open>) -> Result<(), AllocError> {
+    let sequence = end(alloc, open);
+    add(open, Some(Item::Sequence(sequence.elements)))
+}
+
+/// Adds what is written with a count.
+fn add_counted(
+    alloc: Global,
+    open: &mut Vec<Open>,
+    front: &str,
+    behind: &str,
+) -> Result<bool, AllocError> {
+    let count = if front == "-" { behind } else { front };
+    match count.parse() {
+        Ok(count) if front == "-" => add_absent(open, count),
+        Ok(count) => add_elements(alloc, open, count, behind),
+        Err(_) => Ok(false),
+    }
+}
+
+/// Adds a word of a message that is an absent one, an end or a field.
+fn add_plain(alloc: Global, open: &mut Vec<Open>, word: &str) -> Result<bool, AllocError> {
+    match word {
+        "-" => add(open, None)?,
+        "/g" => end_group(alloc, open)?,
+        "/e" => end_element(alloc, open)?,
+        "/s" => end_sequence(alloc, open)?,
+        "e" | "/m" => {}
+        field => return add_field(alloc, open, field),
+    }
+    Ok(true)
+}
+
+/// Whether a word begins a group or a sequence.
+fn is_opening(word: &str) -> bool {
+    matches!(word.as_bytes().first(), Some(b'g' | b's'))
+}
+
+/// Adds a word of a message.
+fn add_word(alloc: Global, open: &mut Vec<Open>, word: &str) -> Result<bool, AllocError> {
+    if is_opening(word) {
+        open.push(Open::new(alloc))?;
+        return Ok(true);
+    }
+    match word.split_once('*') {
+        Some((front, behind)) => add_counted(alloc, open, front, behind),
+        None => add_plain(alloc, open, word),
+    }
+}
+
+/// Adds the words of a message, whose first is the message's own.
+fn add_words(alloc: Global, open: &mut Vec<Open>, words: &str) -> Result<bool, AllocError> {
+    open.push(Open::new(alloc))?;
+    for word in words.split_whitespace().skip(1) {
+        if !add_word(alloc, open, word)? {
+            return Ok(false);
+        }
+    }
+    Ok(true)
+}
+
+fn slots_of(alloc: Global, words: &str) -> Result<Option<Slots>, AllocError> {
+    let mut open = Vec::new(alloc);
+    let is_read = add_words(alloc, &mut open, words)?;
+    let slots = end(alloc, &mut open).slots;
+    Ok(if is_read { Some(slots) } else { None })
+}
+
+/// The number of a message's template.
+fn template_of(words: &str) -> Option<u32> {
+    let word = words.split_whitespace().next()?;
+    let (_, number) = word.split_once('m')?;
+    number.parse().ok()
+}
+
+/// The message of these words, where they are one.
+pub fn message_of(alloc: Global, words: &str) -> Result<Option<Message>, AllocError> {
+    let slots = slots_of(alloc, words)?;
+    Ok(match (template_of(words), slots) {
+        (Some(template), Some(items)) => Some(Message { template, items }),
+        _ => None,
+    })
+}

@@ -1,0 +1,10 @@
+pub mod Closed
+pub mod LinedEvents
+pub mod NoFeeds
+pub mod OneBody
+pub mod OneEvent
+pub mod OneList
+pub mod OneListOfEvents
+pub mod OneReading
+pub mod Preorder
+pub mod ToldValues

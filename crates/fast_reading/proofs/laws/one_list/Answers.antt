@@ -1,0 +1,5 @@
+use Rattle.fast_reading.proofs.OneList.{same_messages}
+use Rattle.fast_reading.proofs.laws.one_list.Goals as goal
+
+pub returns : goal.returns
+returns c = same_messages

@@ -1,0 +1,5 @@
+use Rattle.fast_reading.proofs.OneReading.{one_reading}
+use Rattle.fast_reading.proofs.laws.one_reading.Goals as goal
+
+pub returns : goal.returns
+returns c = one_reading

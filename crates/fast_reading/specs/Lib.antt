@@ -1,0 +1,3 @@
+pub mod Distinct
+pub mod Lined
+pub mod Reading

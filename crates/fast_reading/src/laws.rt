@@ -1,0 +1,37 @@
+//! Laws of lines and messages. They speak of the definitions alone, over all sets, messages and texts.
+
+ghost use Rattle.std.specs.Prelude.{◌≡◌, ℕ, List, All, flat_map};
+ghost use Rattle.fast_value.specs.Messages.{MessageData};
+ghost use Rattle.fast_tree.specs.declared.instructions.Node.{Node};
+ghost use Rattle.fast_tree.specs.Tree.{Tree};
+ghost use Rattle.fast_notation.specs.Labels.{template_labels, labels_from};
+ghost use Rattle.fast_stream.specs.Events.{EventData, events};
+ghost use Rattle.fast_lines.specs.Lines.{lines};
+ghost use Rattle.fast_spelling.specs.Suiting.{SuitsTemplate};
+ghost use Rattle.fast_reading.specs.Distinct.{HasDistinctBodies};
+ghost use Rattle.fast_reading.specs.Lined.{IsLined, HasNames, HasDistinctNames};
+ghost use Rattle.fast_reading.specs.Reading.{Says};
+
+/// Events are those of one list of messages.
+pub fn one_list()
+    ensures { (t : Tree) (ms ns : List MessageData) → HasDistinctBodies t
+        → All (SuitsTemplate t) ms → All (SuitsTemplate t) ns
+        → flat_map (events t) ms ≡ flat_map (events t) ns → ms ≡ ns }
+{}
+
+/// Where nodes are numbered in preorder, the instructions of a body have different numbers.
+pub fn distinct_bodies()
+    ensures { (t : Tree) (nodes : List Node) → template_labels t.templates ≡ labels_from 0 nodes → HasDistinctBodies t }
+{}
+
+/// Lines are those of one list of events.
+pub fn one_list_of_events()
+    ensures { (t : Tree) (es fs : List EventData) → HasDistinctNames t → All (IsLined t) es → All (IsLined t) fs
+        → lines t es ≡ lines t fs → es ≡ fs }
+{}
+
+/// A text says one list of messages.
+pub fn one_reading()
+    ensures { (t : Tree) (text : List ℕ) (ms ns : List MessageData) → HasDistinctBodies t
+        → HasDistinctNames t → HasNames t → Says t text ms → Says t text ns → ms ≡ ns }
+{}

@@ -1,0 +1,5 @@
+//! Lines of text back to messages.
+#![tactic(auto)]
+
+pub mod cursors;
+pub mod laws;
