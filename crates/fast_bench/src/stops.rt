@@ -39,6 +39,7 @@ impl Tallied for Stopping {
 }
 
 /// What came of a stream whose sink stopped, and then, behind a reset, of the same stream with one that does not.
+#[derive(Clone, Copy)]
 struct Runs {
     stopped: Answer,
     again: Answer,
