@@ -28,6 +28,14 @@ impl Encoded {
             sum: 0,
         }
     }
+
+    /// Writes the four numbers, each as eight bytes, the least first.
+    fn write_to(&self, out: &mut [u8; 32]) {
+        out[..8].copy_from_slice(&self.status.to_le_bytes());
+        out[8..16].copy_from_slice(&self.messages.to_le_bytes());
+        out[16..24].copy_from_slice(&self.bytes.to_le_bytes());
+        out[24..].copy_from_slice(&self.sum.to_le_bytes());
+    }
 }
 
 /// The status of a run in which a message was refused, from 513.
@@ -56,6 +64,36 @@ fn encode_all(
     Ok(())
 }
 
+/// Encodes a message, once more where memory was refused.
+fn encode_again(
+    encoder: &mut Encoder<'_>,
+    message: &Message,
+    list: &mut Vec<u8>,
+) -> Result<(), EncodeFault> {
+    match encoder.encode(message, list) {
+        Err(EncodeFault::Memory) => encoder.encode(message, list),
+        answer => answer,
+    }
+}
+
+/// Encodes messages, one after the other, each once more where memory was refused.
+fn encode_patiently(
+    alloc: Global,
+    encoder: &mut Encoder<'_>,
+    messages: &[Message],
+) -> Result<Encoded, EncodeFault> {
+    let mut list = Vec::new(alloc);
+    for message in messages {
+        encode_again(encoder, message, &mut list)?;
+    }
+    Ok(Encoded {
+        status: BETWEEN,
+        messages: messages.len() as u64,
+        bytes: list.len() as u64,
+        sum: with_bytes(&list),
+    })
+}
+
 /// Encodes messages so many times, each time from a reset encoder.
 fn encode_rounds(
     alloc: Global,
@@ -77,8 +115,14 @@ fn encode_rounds(
     })
 }
 
-/// Decodes a stream into messages, and encodes these so many times.
-fn run(alloc: Global, templates: &[u8], limits: Limits, stream: &[u8], rounds: u32) -> Encoded {
+/// Decodes a stream into messages, and encodes these so many times; patiently, where no number is given.
+fn run(
+    alloc: Global,
+    templates: &[u8],
+    limits: Limits,
+    stream: &[u8],
+    rounds: Option<u32>,
+) -> Encoded {
     let Ok(text) = std::str::from_utf8(templates) else {
         return Encoded::failed(NOT_MADE);
     };
@@ -96,7 +140,11 @@ fn run(alloc: Global, templates: &[u8], limits: Limits, stream: &[u8], rounds: u
     if status != BETWEEN {
         return Encoded::failed(status);
     }
-    match encode_rounds(alloc, &mut encoder, &trees.messages, rounds) {
+    let encoded = match rounds {
+        Some(rounds) => encode_rounds(alloc, &mut encoder, &trees.messages, rounds),
+        None => encode_patiently(alloc, &mut encoder, &trees.messages),
+    };
+    match encoded {
         Ok(encoded) => encoded,
         Err(fault) => Encoded::failed(status_of(fault)),
     }
@@ -118,15 +166,39 @@ pub extern "C" fn fast_bench_encode(
     max_total: u32,
     out: &mut [u8; 32],
 ) {
-    let limits = Limits {
+    let limits = lenient(max_text, max_elements, max_total);
+    run(
+        alloc,
+        templates,
+        limits,
+        stream,
+        Some(rounds),
+    )
+    .write_to(out);
+}
+
+/// Decodes a stream under a template set into messages, and encodes each, once more where memory was refused. The answer is that of
+/// `fast_bench_encode` with one round.
+#[unsafe(no_mangle)]
+pub extern "C" fn fast_bench_encode_patiently(
+    alloc: Global,
+    templates: &[u8],
+    stream: &[u8],
+    max_text: u32,
+    max_elements: u32,
+    max_total: u32,
+    out: &mut [u8; 32],
+) {
+    let limits = lenient(max_text, max_elements, max_total);
+    run(alloc, templates, limits, stream, None).write_to(out);
+}
+
+/// The limits of a decoder that is not strict.
+fn lenient(max_text: u32, max_elements: u32, max_total: u32) -> Limits {
+    Limits {
         strict: false,
         max_text: max_text as usize,
         max_elements,
         max_total,
-    };
-    let answer = run(alloc, templates, limits, stream, rounds);
-    out[..8].copy_from_slice(&answer.status.to_le_bytes());
-    out[8..16].copy_from_slice(&answer.messages.to_le_bytes());
-    out[16..24].copy_from_slice(&answer.bytes.to_le_bytes());
-    out[24..].copy_from_slice(&answer.sum.to_le_bytes());
+    }
 }

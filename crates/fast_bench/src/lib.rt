@@ -5,6 +5,7 @@ ghost use Rattle.std.specs.Prelude.{◌<◌};
 
 mod encode;
 mod sinks;
+mod stops;
 mod trees;
 
 use crate::sinks::{Check, Count, Tallied};
@@ -39,6 +40,14 @@ impl Answer {
         events: 0,
         sum: 0,
     };
+
+    /// Writes the four numbers, each as eight bytes, the least first.
+    fn write_to(&self, out: &mut [u8; 32]) {
+        out[..8].copy_from_slice(&self.status.to_le_bytes());
+        out[8..16].copy_from_slice(&self.consumed.to_le_bytes());
+        out[16..24].copy_from_slice(&self.events.to_le_bytes());
+        out[24..].copy_from_slice(&self.sum.to_le_bytes());
+    }
 }
 
 /// The status of a stream at fault, from 2.
@@ -79,6 +88,25 @@ fn feed_all<S: Sink>(decoder: &mut Decoder<'_>, stream: &[u8], piece: usize, sin
     if decoder.between() { BETWEEN } else { INSIDE }
 }
 
+/// Feeds a stream to a decoder between two messages, and says what came of it.
+fn answer_of<S: Tallied>(
+    decoder: &mut Decoder<'_>,
+    stream: &[u8],
+    piece: usize,
+    mut sink: S,
+) -> Answer
+    requires { 0 < piece }
+{
+    let status = feed_all(decoder, stream, piece, &mut sink);
+    let tally = sink.tally();
+    Answer {
+        status,
+        consumed: decoder.consumed(),
+        events: tally.events,
+        sum: tally.sum,
+    }
+}
+
 /// Runs a new decoder over a stream.
 fn run<S: Tallied>(
     alloc: Global,
@@ -86,7 +114,7 @@ fn run<S: Tallied>(
     limits: Limits,
     stream: &[u8],
     piece: usize,
-    mut sink: S,
+    sink: S,
 ) -> Answer
     requires { 0 < piece }
 {
@@ -99,14 +127,7 @@ fn run<S: Tallied>(
     let Ok(mut decoder) = Decoder::new(alloc, &set, limits) else {
         return Answer::NOT_MADE;
     };
-    let status = feed_all(&mut decoder, stream, piece, &mut sink);
-    let tally = sink.tally();
-    Answer {
-        status,
-        consumed: decoder.consumed(),
-        events: tally.events,
-        sum: tally.sum,
-    }
+    answer_of(&mut decoder, stream, piece, sink)
 }
 
 /// Decodes a stream under a template set, fed in pieces of so many bytes, or in one where `piece` is 0.
@@ -139,8 +160,5 @@ pub extern "C" fn fast_bench_run(
     } else {
         run(alloc, templates, limits, stream, piece, Check::new())
     };
-    out[..8].copy_from_slice(&answer.status.to_le_bytes());
-    out[8..16].copy_from_slice(&answer.consumed.to_le_bytes());
-    out[16..24].copy_from_slice(&answer.events.to_le_bytes());
-    out[24..].copy_from_slice(&answer.sum.to_le_bytes());
+    answer.write_to(out);
 }
