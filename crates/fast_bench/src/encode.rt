@@ -167,14 +167,7 @@ pub extern "C" fn fast_bench_encode(
     out: &mut [u8; 32],
 ) {
     let limits = lenient(max_text, max_elements, max_total);
-    run(
-        alloc,
-        templates,
-        limits,
-        stream,
-        Some(rounds),
-    )
-    .write_to(out);
+    run(alloc, templates, limits, stream, Some(rounds)).write_to(out);
 }
 
 /// Decodes a stream under a template set into messages, and encodes each, once more where memory was refused. The answer is that of
