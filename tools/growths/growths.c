@@ -8,94 +8,17 @@
 //
 // And each row is decoded by a sink that stops at each of its events in turn, and behind a reset once more; it is cut at each byte;
 // and it is damaged at random. Whatever the stream, pieces come to what the whole comes to.
-#include <inttypes.h>
-#include <stdbool.h>
-#include <stdio.h>
-#include <stdlib.h>
-#include <string.h>
-
-struct answer {
-    uint64_t status, consumed, events, sum;
-};
-
-struct encoded {
-    uint64_t status, messages, bytes, sum;
-};
-
-// crates/fast_bench/src/lib.rt. A slice is a pointer and a length; numbers have the least byte first, as on x86-64.
-void fast_bench_run(const uint8_t *templates, size_t templates_len, const uint8_t *stream, size_t stream_len, size_t piece,
-                    uint32_t sink, uint32_t strict, uint32_t max_text, uint32_t max_elements, uint32_t max_total,
-                    struct answer *out);
-void fast_bench_stop(const uint8_t *templates, size_t templates_len, const uint8_t *stream, size_t stream_len, size_t piece,
-                     uint32_t strict, uint32_t max_text, uint32_t max_elements, uint32_t max_total, uint64_t most,
-                     struct answer *stopped, struct answer *again);
-void fast_bench_encode_patiently(const uint8_t *templates, size_t templates_len, const uint8_t *stream, size_t stream_len,
-                                 uint32_t max_text, uint32_t max_elements, uint32_t max_total, struct encoded *out);
+#include "rows.h"
 
 static const uint32_t summing_sink = 1;
 static const struct answer no_event = {0, 0, 0, 0xcbf29ce484222325};
 static const struct answer not_made = {256, 0, 0, 0};
 static const struct encoded not_encoded = {256, 0, 0, 0}, stopped = {19, 0, 0, 0};
-static const uint64_t none = UINT64_MAX;
-
-// The heap, which the library leaves to the program that it is linked with. It refuses the requests past so many, and one alone.
-static uint64_t allowed, refused, requests, blocks;
-
-static bool is_refused(void) {
-    uint64_t number = requests++;
-    return number >= allowed || number == refused;
-}
-
-struct tried {
-    bool is_given;
-    void *block;
-};
-
-static struct tried give(void *block) {
-    if (!block) {
-        fputs("growths: no memory\n", stderr);
-        exit(2);
-    }
-    return (struct tried){true, block};
-}
-
-// No alignment is greater than malloc's.
-struct tried rattle_alloc(size_t size, size_t alignment) {
-    if (is_refused()) return (struct tried){false, NULL};
-    blocks++;
-    return give(malloc(size ? size : alignment));
-}
-
-struct tried rattle_realloc(void *block, size_t kept, size_t size, size_t alignment) {
-    (void)kept;
-    if (is_refused()) return (struct tried){false, NULL};
-    return give(realloc(block, size ? size : alignment));
-}
-
-void rattle_dealloc(void *block) {
-    blocks--;
-    free(block);
-}
-
-struct row {
-    int line;
-    char set[64], name[128];
-    uint8_t templates[1 << 15], stream[512];
-    size_t templates_len, stream_len;
-    uint32_t strict, max_text, max_elements, max_total;
-    struct answer due;
-};
 
 static uint64_t runs, all_requests, stops, cuts, damages, failures;
 static struct {
     uint64_t making, encoding;
 } refusals;
-
-static void begin_run(uint64_t most, uint64_t alone) {
-    allowed = most;
-    refused = alone;
-    requests = blocks = 0;
-}
 
 static struct answer decode(const struct row *r, size_t stream_len, size_t piece, uint64_t most, uint64_t alone) {
     struct answer is;
@@ -224,47 +147,12 @@ static void damage(const struct row *r) {
     }
 }
 
-static bool read_stream(struct row *r, const char *hex) {
-    if (!strcmp(hex, "-")) return true;
-    for (; *hex; hex += 2) {
-        if (sscanf(hex, "%2" SCNx8, &r->stream[r->stream_len++]) != 1 || !hex[1]) return false;
-    }
-    return true;
-}
-
-static bool read_set(struct row *r) {
-    char path[80];
-    snprintf(path, sizeof path, "sets/%s.toml", r->set);
-    FILE *file = fopen(path, "rb");
-    if (!file) return false;
-    r->templates_len = fread(r->templates, 1, sizeof r->templates, file);
-    fclose(file);
-    return r->templates_len > 0 && r->templates_len < sizeof r->templates;
-}
-
-static bool read_row(struct row *r, const char *line) {
-    char hex[2 * sizeof r->stream + 1];
-    int count = sscanf(line,
-                       "%63s %" SCNu32 " %" SCNu32 " %" SCNu32 " %" SCNu32 " %" SCNu64 " %" SCNu64 " %" SCNu64 " %" SCNx64
-                       " %1024s %127[^\n]",
-                       r->set, &r->strict, &r->max_text, &r->max_elements, &r->max_total, &r->due.status, &r->due.consumed,
-                       &r->due.events, &r->due.sum, hex, r->name);
-    return count == 11 && read_stream(r, hex) && read_set(r);
-}
-
 int main(void) {
     FILE *file = fopen("rows.txt", "r");
-    char line[2048];
-    char last_set[sizeof((struct row *)0)->set] = "";
+    static struct row row;
+    char last_set[sizeof row.set] = "";
     int number = 0, rows = 0;
-    while (file && fgets(line, sizeof line, file)) {
-        static struct row row;
-        row = (struct row){.line = ++number};
-        if (*line == '#' || *line == '\n') continue;
-        if (!read_row(&row, line)) {
-            fprintf(stderr, "rows.txt:%d: no row\n", number);
-            return 2;
-        }
+    for (; file && next_row(file, &number, &row); rows++) {
         run_row(&row);
         if (strcmp(last_set, row.set)) refuse_in_making(&row);
         if (!row.due.status) refuse_in_encoding(&row);
@@ -273,7 +161,6 @@ int main(void) {
         cut_in_turn(&row);
         damage(&row);
         strcpy(last_set, row.set);
-        rows++;
     }
     printf("growths: %d rows, %" PRIu64 " runs, %" PRIu64 " requests, refused one by one %" PRIu64 " in making and %" PRIu64
            " in encoding, %" PRIu64 " stops, %" PRIu64 " cuts, %" PRIu64 " damaged streams, %" PRIu64 " failures\n",

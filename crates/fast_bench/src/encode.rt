@@ -2,10 +2,9 @@
 
 use crate::sinks::with_bytes;
 use crate::trees::Trees;
-use crate::{BETWEEN, NOT_MADE, feed_all};
+use crate::{BETWEEN, NOT_MADE, feed_all, read_set};
 use fast_decoder::Decoder;
 use fast_encoder::{EncodeFault, Encoder};
-use fast_template::Templates;
 use fast_value::{Limits, Message};
 use std::alloc::Global;
 
@@ -39,7 +38,7 @@ impl Encoded {
 }
 
 /// The status of a run in which a message was refused, from 513.
-fn status_of(fault: EncodeFault) -> u64 {
+pub fn status_of(fault: EncodeFault) -> u64 {
     match fault {
         EncodeFault::E1 => 513,
         EncodeFault::E2 => 514,
@@ -51,7 +50,7 @@ fn status_of(fault: EncodeFault) -> u64 {
 }
 
 /// Encodes messages, one after the other, into an emptied list.
-fn encode_all(
+pub fn encode_all(
     encoder: &mut Encoder<'_>,
     messages: &[Message],
     list: &mut Vec<u8>,
@@ -123,10 +122,7 @@ fn run(
     stream: &[u8],
     rounds: Option<u32>,
 ) -> Encoded {
-    let Ok(text) = std::str::from_utf8(templates) else {
-        return Encoded::failed(NOT_MADE);
-    };
-    let Ok(set) = Templates::read(alloc, text) else {
+    let Some(set) = read_set(alloc, templates) else {
         return Encoded::failed(NOT_MADE);
     };
     let Ok(mut decoder) = Decoder::new(alloc, &set, limits) else {

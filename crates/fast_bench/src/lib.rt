@@ -3,6 +3,7 @@
 
 ghost use Rattle.std.specs.Prelude.{◌<◌};
 
+mod again;
 mod encode;
 mod sinks;
 mod stops;
@@ -76,6 +77,17 @@ fn status_of(code: FaultCode) -> u64 {
     }
 }
 
+/// The template set of a text.
+fn read_set(alloc: Global, text: &[u8]) -> Option<Templates> {
+    let Ok(text) = std::str::from_utf8(text) else {
+        return None;
+    };
+    match Templates::read(alloc, text) {
+        Ok(set) => Some(set),
+        Err(_) => None,
+    }
+}
+
 /// Feeds a stream, in pieces of so many bytes, to a decoder.
 fn feed_all<S: Sink>(decoder: &mut Decoder<'_>, stream: &[u8], piece: usize, sink: &mut S) -> u64
     requires { 0 < piece }
@@ -118,10 +130,7 @@ fn run<S: Tallied>(
 ) -> Answer
     requires { 0 < piece }
 {
-    let Ok(text) = std::str::from_utf8(templates) else {
-        return Answer::NOT_MADE;
-    };
-    let Ok(set) = Templates::read(alloc, text) else {
+    let Some(set) = read_set(alloc, templates) else {
         return Answer::NOT_MADE;
     };
     let Ok(mut decoder) = Decoder::new(alloc, &set, limits) else {

@@ -3,9 +3,8 @@
 ghost use Rattle.std.specs.Prelude.{◌<◌};
 
 use crate::sinks::{Check, Tallied, Tally};
-use crate::{Answer, answer_of};
+use crate::{Answer, answer_of, read_set};
 use fast_decoder::{Decoder, Event, Sink, Stop};
-use fast_template::Templates;
 use fast_value::Limits;
 use std::alloc::Global;
 
@@ -64,10 +63,7 @@ fn run_twice(
 ) -> Runs
     requires { 0 < piece }
 {
-    let Ok(text) = std::str::from_utf8(templates) else {
-        return Runs::NOT_MADE;
-    };
-    let Ok(set) = Templates::read(alloc, text) else {
+    let Some(set) = read_set(alloc, templates) else {
         return Runs::NOT_MADE;
     };
     let Ok(mut decoder) = Decoder::new(alloc, &set, limits) else {
