@@ -1,0 +1,4 @@
+mod Turns
+mod Defaults
+mod Fronts
+mod Streams
