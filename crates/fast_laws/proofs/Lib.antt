@@ -2,3 +2,6 @@ mod Turns
 mod Defaults
 mod Fronts
 mod Streams
+mod Nesting
+mod Nodes
+mod Naming
