@@ -5,3 +5,4 @@ mod Streams
 mod Nesting
 mod Nodes
 mod Naming
+mod Granting

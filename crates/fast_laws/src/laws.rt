@@ -1,16 +1,38 @@
-//! The laws. They speak of the definitions alone.
+//! The laws. They speak of the definitions alone, over all sets, limits and bytes.
 
-ghost use Rattle.std.specs.Prelude.{List, ℕ};
+ghost use Rattle.std.specs.Prelude.{List, ℕ, All};
+ghost use Rattle.toml.specs.Data.{Members};
 ghost use Rattle.fast_value.specs.declared.settings.Limits.{Limits};
 ghost use Rattle.fast_tree.specs.Tree.{Tree};
+ghost use Rattle.fast_notation.specs.Checked.{IsTree};
+ghost use Rattle.fast_template.specs.declared.sets.Templates.{Templates};
+ghost use Rattle.fast_template.specs.Flat.{nodes_of, tree_of};
+ghost use Rattle.fast_dict.specs.EntryTexts.{HasLongInitial};
 ghost use Rattle.fast_stream.specs.Events.{EventData};
 ghost use Rattle.fast_stream.specs.Streams.{End, Stream};
 ghost use Rattle.fast_spelling.specs.Again.{IsGrantedTree};
+ghost use Rattle.fast_laws.specs.Naming.{IsNamed};
+ghost use Rattle.fast_laws.specs.Nesting.{AreNested};
 ghost use Rattle.fast_laws.specs.Proper.{AreOfMessages};
+
+/// A set that was read, under limits that no initial text passes, grants what the next law asks of its tree.
+pub fn set_is_granted()
+    // IsTree is what `Templates::read` ensures of the set, and no `Decoder` and no `Encoder` is made of a set with a long initial text.
+    ensures { (document : Members) (t : Templates) (l : Limits) → IsTree document (tree_of t) → ¬ (HasLongInitial l.max_text (nodes_of t)) → IsGrantedTree l (tree_of t) }
+{}
 
 /// The events of a stream are those of messages that suit their templates and the limits, and then the first events of one more such
 /// message, however the stream ends.
 pub fn events_are_of_messages()
-    // IsGrantedTree: by `set_is_granted`, of a set that was read. Stream: by `so_is_stream` and `Decoder::feed_all`.
+    // IsGrantedTree is given by `set_is_granted`, and Stream by `Decoder::feed_all`, `feed` and `push` (`followed`).
     ensures { (t : Tree) (l : Limits) (w : List ℕ) (es : List EventData) (e : End) → IsGrantedTree l t → Stream t l w es e → AreOfMessages t l es e }
+{}
+
+/// A value that is handed over is a value of its field: each event names a node of the set (or a template) of its own sort, a value is in
+/// the range of its field's kind, and starts and ends nest. So it is at each moment, since each front of a stream is a stream.
+pub fn events_are_of_fields()
+    // The premises are those of the two laws above, and given by the same contracts.
+    ensures named { (document : Members) (t : Templates) (l : Limits) (w : List ℕ) (es : List EventData) (e : End) → IsTree document (tree_of t) → ¬ (HasLongInitial l.max_text (nodes_of t))
+        → Stream (tree_of t) l w es e → All (IsNamed t l) es }
+    ensures nested { (t : Tree) (l : Limits) (w : List ℕ) (es : List EventData) (e : End) → IsGrantedTree l t → Stream t l w es e → AreNested es e }
 {}
