@@ -6,3 +6,4 @@ mod Nesting
 mod Nodes
 mod Naming
 mod Granting
+mod Counting

@@ -1,3 +1,4 @@
 pub mod Proper
 pub mod Naming
 pub mod Nesting
+pub mod Counting

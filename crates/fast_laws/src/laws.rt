@@ -1,16 +1,19 @@
 //! The laws. They speak of the definitions alone, over all sets, limits and bytes.
 
-ghost use Rattle.std.specs.Prelude.{List, ℕ, All};
+ghost use Rattle.std.specs.Prelude.{◌≡◌, List, ℕ, All};
 ghost use Rattle.toml.specs.Data.{Members};
 ghost use Rattle.fast_value.specs.declared.settings.Limits.{Limits};
+ghost use Rattle.fast_value.specs.Messages.{MessageData, total};
 ghost use Rattle.fast_tree.specs.Tree.{Tree};
 ghost use Rattle.fast_notation.specs.Checked.{IsTree};
 ghost use Rattle.fast_template.specs.declared.sets.Templates.{Templates};
 ghost use Rattle.fast_template.specs.Flat.{nodes_of, tree_of};
 ghost use Rattle.fast_dict.specs.EntryTexts.{HasLongInitial};
-ghost use Rattle.fast_stream.specs.Events.{EventData};
+ghost use Rattle.fast_stream.specs.Events.{EventData, events};
 ghost use Rattle.fast_stream.specs.Streams.{End, Stream};
 ghost use Rattle.fast_spelling.specs.Again.{IsGrantedTree};
+ghost use Rattle.fast_spelling.specs.Suiting.{SuitsTemplate};
+ghost use Rattle.fast_laws.specs.Counting.{counted, AreFew};
 ghost use Rattle.fast_laws.specs.Naming.{IsNamed};
 ghost use Rattle.fast_laws.specs.Nesting.{AreNested};
 ghost use Rattle.fast_laws.specs.Proper.{AreOfMessages};
@@ -35,4 +38,17 @@ pub fn events_are_of_fields()
     ensures named { (document : Members) (t : Templates) (l : Limits) (w : List ℕ) (es : List EventData) (e : End) → IsTree document (tree_of t) → ¬ (HasLongInitial l.max_text (nodes_of t))
         → Stream (tree_of t) l w es e → All (IsNamed t l) es }
     ensures nested { (t : Tree) (l : Limits) (w : List ℕ) (es : List EventData) (e : End) → IsGrantedTree l t → Stream t l w es e → AreNested es e }
+{}
+
+/// The elements of a message, inner ones too, are those that its events announce.
+pub fn total_is_counted()
+    // SuitsTemplate is given by `events_are_of_messages`.
+    ensures { (t : Tree) (m : MessageData) → SuitsTemplate t m → counted (events t m) ≡ total m.slots }
+{}
+
+/// At no moment does a message have more elements than the limit on all of its sequences. That each sequence keeps to the limit on one is
+/// part of `events_are_of_fields`.
+pub fn elements_are_few()
+    // IsGrantedTree and Stream are given as for `events_are_of_messages`.
+    ensures { (t : Tree) (l : Limits) (w : List ℕ) (es : List EventData) (e : End) → IsGrantedTree l t → Stream t l w es e → AreFew l es }
 {}
