@@ -1,18 +1,19 @@
 -- The elements that the events of a message announce are those of the message.
-use Rattle.std.proofs.Common.{◌≡◌, inl, inr, ℕ, zero, suc, ◌+◌, ◌≤◌, List, [], ◌∷◌, ◌++◌, refl, ap, sym, subst, ◌∙◌, arith, append_assoc}
+use Rattle.std.proofs.Common.{◌≡◌, inl, inr, ℕ, ◌+◌, ◌≤◌, List, [], ◌∷◌, ◌++◌, refl, ap, sym, subst, ◌∙◌, arith, append_assoc}
 use Rattle.std.specs.Prelude.{All, flat_map, slice_get, Option, Some, None}
 use Rattle.std.proofs.Math.Nat.{le_trans}
+use Rattle.std.proofs.lemmas.List.Elements.{All-nil, All-cons, All-append}
 use Rattle.fast_value.specs.declared.settings.Limits.{Limits}
 use Rattle.fast_value.specs.Messages.{ItemData, one, group as group_item, sequence as sequence_item, Slots, no_slots, absent, present, Elements, no_elements, element, count, item_total, total, rows_total, MessageData}
 use Rattle.fast_tree.specs.Tree.{Instruction, field, parts, group, sequence, Body, end, step, TemplateData, Tree}
 use Rattle.fast_stream.specs.Events.{EventData, MessageStart, FieldValue, GroupStart, GroupEnd, SequenceStart, ElementStart, ElementEnd, SequenceEnd, MessageEnd, value_events, element_events, item_events, body_events, template_events, events}
 use Rattle.fast_stream.specs.Streams.{End}
-use Rattle.fast_notation.proofs.BuildingNeeds.{all_first, all_but_first}
-use Rattle.fast_spelling.specs.Suiting.{AreRight, Suits, SuitsBody, SuitsTemplate}
-use Rattle.fast_laws.specs.Counting.{counted_with, counted_from, counted, AreFew}
+use Rattle.fast_notation.proofs.BuildingNeeds.{all_left, all_first, all_but_first}
+use Rattle.fast_spelling.specs.Suiting.{AreWithinLimits, IsWithinLimits, RowsWithinLimits, AreRight, Suits, SuitsBody, SuitsTemplate}
+use Rattle.fast_laws.specs.Counting.{counted_with, counted_from, counted, AreFew, HasFew}
 use Rattle.fast_laws.specs.Proper.{IsProper, AreFirstOf, AreOfMessages}
 
-two_parts : (k : ℕ) (es fs : List EventData) → counted_from k (es ++ fs) ≡ counted_from (counted_from k es) fs
+pub two_parts : (k : ℕ) (es fs : List EventData) → counted_from k (es ++ fs) ≡ counted_from (counted_from k es) fs
 two_parts k [] fs = refl
 two_parts k (e ∷ es) fs = two_parts (counted_with e k) es fs
 
@@ -178,3 +179,61 @@ pub few : (t : Tree) (l : Limits) (es : List EventData) (e : End) → AreOfMessa
 few t l es e h =
     let (before, last) = messages_few t l h.messages 0 (omega arith) h.proper in
     subst (Few l.max_total 0) (sym h.all) (few_both l.max_total 0 (flat_map (events t) h.messages) h.front before (first_few t l h.front (counted_from 0 (flat_map (events t) h.messages)) last h.begun))
+
+-- each sequence
+module _ (l : Limits) where
+  abbrev P : EventData → Type 0
+  P = HasFew l
+
+  one_few : (e : EventData) → P e → All P (e ∷ [])
+  one_few e h = All-cons P e [] h (All-nil P)
+
+  value_few : (n : ℕ) (x : ItemData) → All P (value_events n x)
+  value_few n (one v) = one_few (FieldValue n v) tt
+  value_few n (group_item vs) = All-nil P
+  value_few n (sequence_item rows) = All-nil P
+
+  rows_few : (events : Slots → List EventData) → ((vs : Slots) → AreWithinLimits l vs → All P (events vs)) → (rows : Elements) → RowsWithinLimits l rows → All P (element_events events rows)
+  rows_few events f no_elements h = All-nil P
+  rows_few events f (element vs rows) h =
+      All-cons P ElementStart (events vs ++ ElementEnd ∷ element_events events rows) tt (All-append P (events vs) (ElementEnd ∷ element_events events rows) (f vs h.0) (All-cons P ElementEnd (element_events events rows) tt (rows_few events f rows h.1)))
+
+  mutual
+    unfolding item_events body_events
+
+    item_few : (i : Instruction) (x : ItemData) → IsWithinLimits l x → All P (item_events i x)
+    item_few (field at f) x h = value_few at.node x
+    item_few (parts at e m) x h = value_few at.node x
+    item_few (group at optional body) (group_item vs) h = All-cons P (GroupStart at.node) (body_events body vs ++ GroupEnd ∷ []) tt (All-append P (body_events body vs) (GroupEnd ∷ []) (slots_few body vs h) (one_few GroupEnd tt))
+    item_few (group at optional body) (one v) h = All-nil P
+    item_few (group at optional body) (sequence_item rows) h = All-nil P
+    item_few (sequence at f body) (sequence_item rows) h =
+        All-cons P (SequenceStart at.node (count rows)) (element_events (body_events body) rows ++ SequenceEnd ∷ []) h.0
+        (All-append P (element_events (body_events body) rows) (SequenceEnd ∷ []) (rows_few (body_events body) (λ vs h. slots_few body vs h) rows h.1) (one_few SequenceEnd tt))
+    item_few (sequence at f body) (one v) h = All-nil P
+    item_few (sequence at f body) (group_item vs) h = All-nil P
+
+    slots_few : (body : Body) (vs : Slots) → AreWithinLimits l vs → All P (body_events body vs)
+    slots_few end vs h = All-nil P
+    slots_few (step i is) no_slots h = All-nil P
+    slots_few (step i is) (absent vs) h = slots_few is vs h
+    slots_few (step i is) (present x vs) h = All-append P (item_events i x) (body_events is vs) (item_few i x h.0) (slots_few is vs h.1)
+
+  message_each : (t : Tree) (m : MessageData) → AreWithinLimits l m.slots → All P (events t m)
+  message_each t m h = by (slice_get t.templates m.template)
+    where
+      by : (u : Option TemplateData) → All P (template_events m.template u m.slots)
+      by None = All-nil P
+      by (Some u) = All-cons P (MessageStart m.template) (body_events u.body m.slots ++ MessageEnd ∷ []) tt (All-append P (body_events u.body m.slots) (MessageEnd ∷ []) (slots_few u.body m.slots h) (one_few MessageEnd tt))
+
+  messages_each : (t : Tree) (ms : List MessageData) → All (IsProper t l) ms → All P (flat_map (events t) ms)
+  messages_each t [] h = All-nil P
+  messages_each t (m ∷ ms) h =
+      All-append P (events t m) (flat_map (events t) ms) (message_each t m (all_first (IsProper t l) m ms h).fits.0) (messages_each t ms (all_but_first (IsProper t l) m ms h))
+
+  first_each : (t : Tree) (es : List EventData) → AreFirstOf t l es → All P es
+  first_each t es (inl e) = subst (All P) (sym e) (All-nil P)
+  first_each t es (inr (m, rest, proper, e)) = all_left P es rest (subst (All P) e (message_each t m proper.fits.0))
+
+pub each_few : (t : Tree) (l : Limits) (es : List EventData) (e : End) → AreOfMessages t l es e → All (HasFew l) es
+each_few t l es e h = subst (All (HasFew l)) (sym h.all) (All-append (HasFew l) (flat_map (events t) h.messages) h.front (messages_each l t h.messages h.proper) (first_each l t h.front h.begun))

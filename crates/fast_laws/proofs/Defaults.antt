@@ -1,9 +1,9 @@
 -- An item for each instruction, without an element: the initial value of a field, or its zero.
-use Rattle.std.proofs.Common.{◌≡◌, ℕ, zero, suc, ◌+◌, ◌≤◌, refl, ap, arith}
+use Rattle.std.proofs.Common.{◌≡◌, ℕ, zero, suc, refl, ap, arith}
 use Rattle.std.specs.Prelude.{pos, Some}
 use Rattle.std.proofs.lemmas.Int.{ints}
 use Rattle.fast_value.specs.declared.settings.Limits.{Limits}
-use Rattle.fast_value.specs.Kinds.{ScalarData, Dec, IsOfKind}
+use Rattle.fast_value.specs.Kinds.{Dec, IsOfKind}
 use Rattle.fast_value.specs.Messages.{ItemData, one, group as group_item, sequence as sequence_item, Slots, no_slots, present, Elements, no_elements, element, count, item_total, total, rows_total}
 use Rattle.fast_tree.specs.Tree.{FieldData, Instruction, field, parts, group, sequence, Body, end, step}
 use Rattle.fast_dict.specs.Dictionary.{undefined}

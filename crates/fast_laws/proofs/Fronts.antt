@@ -1,5 +1,5 @@
 -- What was read of an instruction, and what one that is cut short or wrong is the beginning of.
-use Rattle.std.proofs.Common.{◌≡◌, ◌⊎◌, inl, inr, ℕ, zero, suc, ◌+◌, ◌<◌, ◌≤◌, List, [], ◌∷◌, ◌++◌, refl, ap, sym, subst, ◌∙◌, arith, append_assoc, append-nil}
+use Rattle.std.proofs.Common.{◌≡◌, ◌⊎◌, inl, inr, ℕ, zero, suc, ◌+◌, ◌≤◌, List, [], ◌∷◌, ◌++◌, refl, ap, sym, subst, ◌∙◌, arith, append_assoc, append-nil}
 use Rattle.std.specs.Prelude.{Bool, true, false, nat_le, nat_abs, if◌then◌else◌, ℤ, Option, Some, None, Ok, Err}
 use Rattle.std.proofs.lemmas.Bool.{leb-true}
 use Rattle.fast_wire.specs.Integers.{IsWithin, signed_range, exponent_range}
@@ -10,7 +10,7 @@ use Rattle.fast_value.specs.declared.settings.Limits.{Limits}
 use Rattle.fast_value.specs.declared.codes.Code.TheVariants.{R1, L2, L5}
 use Rattle.fast_value.specs.Limits.{Bounds, bounds}
 use Rattle.fast_value.specs.Kinds.{ScalarData, I, Dec, integer_of, IsOfKind}
-use Rattle.fast_value.specs.Messages.{ItemData, one, group as group_item, sequence as sequence_item, Slots, no_slots, present, Elements, no_elements, element, count, total, rows_total}
+use Rattle.fast_value.specs.Messages.{ItemData, one, group as group_item, sequence as sequence_item, Slots, no_slots, Elements, no_elements, element, count, total, rows_total}
 use Rattle.fast_tree.specs.Tree.{Label, FieldData, uses_bit, Instruction, field, parts, group, sequence, Body, end, step, bits_of, has_map}
 use Rattle.fast_dict.specs.Dictionary.{previous_at}
 use Rattle.fast_dict.specs.Operators.{ranged}
@@ -22,14 +22,14 @@ use Rattle.fast_stream.specs.Grammar.{phrase_of}
 use Rattle.fast_stream.specs.Messages.{Context, State, found, Found, field_in, Read, ReadAll, with_slot, handed, signed_of, decimal_with, mantissa_after, own_bits, Segment, segment, elements, group_from, group_if, group_in, within_limits, length_in, count_more, sequence_from, instruction, body_term}
 use Rattle.fast_stream.proofs.Quiet.{IsQuiet, quiet-bind, quiet-field, quiet-map_bits}
 use Rattle.fast_spelling.specs.Again.{IsSound, IsGranted, Grants, GrantsBody}
-use Rattle.fast_spelling.specs.Suiting.{AreRight, IsRightScalar, IsRightDecimal, IsRightGroup, IsRightSequence, Suits, SuitsBody, AreWithinLimits, RowsWithinLimits}
+use Rattle.fast_spelling.specs.Suiting.{AreRight, Suits, SuitsBody, AreWithinLimits, RowsWithinLimits}
 use Rattle.fast_spelling.proofs.Encoded.{option_total, IsWithinOption}
 use Rattle.fast_spelling.proofs.BodiesAgain.{uint32_is}
 use Rattle.fast_spelling.proofs.FieldsAgain.{FoundBack, found_back}
 use Rattle.fast_spelling.proofs.Resending.{ranged_is}
 use Rattle.fast_spelling.proofs.Sound.{same_ok, right_of, short_of}
 use Rattle.fast_laws.proofs.Defaults.{default_item, default_slots, default_rows, no_total, no_totals, rows_count, no_rows_total, default_suits, defaults_suit, default_fits, defaults_fit, rows_suit, rows_fit}
-use Rattle.fast_laws.proofs.Turns.{Whole, Left, WholeTurn, LeftTurn, whole_turn, left_turn, whole_give, left_give, whole_result, left_result, whole_hand, left_hand, whole_quiet, left_quiet}
+use Rattle.fast_laws.proofs.Turns.{Whole, Left, LeftTurn, whole_turn, left_turn, whole_give, left_give, whole_result, left_result, whole_hand, left_hand, whole_quiet, left_quiet}
 
 -- the events of an item, if it is there
 abbrev pub of_item : Instruction → Option ItemData → List EventData

@@ -1,13 +1,13 @@
 -- A set that was read, of which no initial text is too long, grants what the laws of its streams ask.
-use Rattle.std.proofs.Common.{◌≡◌, inl, inr, ℕ, zero, suc, ◌<◌, ◌≤◌, List, [], ◌∷◌, length, get_or, sym, subst, arith}
-use Rattle.std.specs.Prelude.{All, map, slice_get, Option, Some, None, IfSome}
+use Rattle.std.proofs.Common.{◌≡◌, inl, inr, ℕ, ◌<◌, ◌≤◌, List, length, get_or, sym, subst, arith}
+use Rattle.std.specs.Prelude.{All, slice_get, Option, Some, None, IfSome}
 use Rattle.std.proofs.lemmas.Option.{slice_get-get_or}
 use Rattle.toml.specs.Data.{Members}
 use Rattle.fast_value.specs.declared.settings.Limits.{Limits}
 use Rattle.fast_value.specs.Kinds.{ScalarData, text_of}
 use Rattle.fast_tree.specs.declared.instructions.Node.{Node}
-use Rattle.fast_tree.specs.NodeData.{ShapeData, a_field, a_decimal, a_group, a_sequence, shape_data}
-use Rattle.fast_tree.specs.Tree.{FieldData, Instruction, field, parts, group, sequence, Body, end, step, TemplateData, Tree}
+use Rattle.fast_tree.specs.NodeData.{ShapeData, a_field, a_decimal, a_sequence}
+use Rattle.fast_tree.specs.Tree.{FieldData, Instruction, field, parts, group, sequence, Body, end, step, TemplateData}
 use Rattle.fast_template.specs.declared.sets.Templates.{Templates}
 use Rattle.fast_template.specs.Flat.{nodes_of, templates_of, tree_of}
 use Rattle.fast_notation.specs.Checked.{IsTree}

@@ -7,3 +7,6 @@ mod Nodes
 mod Naming
 mod Granting
 mod Counting
+mod Innocent
+mod Raising
+mod RaisedMessages

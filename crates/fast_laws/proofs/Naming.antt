@@ -1,6 +1,6 @@
 -- What suits a template and the limits hands over events that name its nodes.
-use Rattle.std.proofs.Common.{◌≡◌, inl, inr, ℕ, ◌≤◌, List, [], ◌∷◌, ◌++◌, length, refl, ap, sym, subst, ◌∙◌, arith}
-use Rattle.std.specs.Prelude.{All, flat_map, slice_get, Option, Some, None}
+use Rattle.std.proofs.Common.{◌≡◌, inl, inr, ℕ, ◌≤◌, List, [], ◌∷◌, ◌++◌, length, ap, sym, subst, ◌∙◌}
+use Rattle.std.specs.Prelude.{All, flat_map, slice_get, Option, Some}
 use Rattle.std.proofs.lemmas.List.Elements.{All-nil, All-cons, All-append}
 use Rattle.fast_value.specs.declared.kinds.Kind.{Kind}
 use Rattle.fast_value.specs.declared.kinds.Kind.TheVariants.{UInt32, Int32, UInt64, Int64, Decimal as decimal_kind, Ascii, Unicode, Bytes}
@@ -10,17 +10,17 @@ use Rattle.fast_value.specs.Messages.{ItemData, one, group as group_item, sequen
 use Rattle.fast_tree.specs.declared.instructions.Node.{Node}
 use Rattle.fast_tree.specs.declared.instructions.Shape.{Shape}
 use Rattle.fast_tree.specs.declared.instructions.Shape.TheVariants.{Field, Decimal, Group, Sequence}
-use Rattle.fast_tree.specs.NodeData.{ShapeData, a_field, a_decimal, a_group, a_sequence, shape_data}
-use Rattle.fast_tree.specs.Tree.{FieldData, Instruction, field, parts, group, sequence, Body, end, step, TemplateData, Tree}
+use Rattle.fast_tree.specs.NodeData.{a_field, a_decimal, a_group, a_sequence, shape_data}
+use Rattle.fast_tree.specs.Tree.{FieldData, Instruction, field, parts, group, sequence, Body, end, step, TemplateData}
 use Rattle.fast_template.specs.declared.sets.Templates.{Templates}
 use Rattle.fast_template.specs.Flat.{nodes_of, templates_of, tree_of}
 use Rattle.fast_stream.specs.Events.{EventData, MessageStart, FieldValue, GroupStart, GroupEnd, SequenceStart, ElementStart, ElementEnd, SequenceEnd, MessageEnd, element_events, item_events, body_events, template_events, events}
 use Rattle.fast_stream.specs.Streams.{End}
 use Rattle.fast_notation.proofs.BuildingNeeds.{all_left, all_first, all_but_first}
 use Rattle.fast_spelling.specs.Suiting.{IsRight, AreRight, Suits, SuitsBody, IsWithinLimits, AreWithinLimits, RowsWithinLimits}
-use Rattle.fast_laws.specs.Naming.{HoldsValue, IsGroup, IsSequence, IsNode, IsNamed}
+use Rattle.fast_laws.specs.Naming.{HoldsValue, IsGroup, IsSequence, IsNamed}
 use Rattle.fast_laws.specs.Proper.{IsProper, AreFirstOf, AreOfMessages}
-use Rattle.fast_laws.proofs.Nodes.{IsAt, IsOfNodes, AreOfNodes, template_at}
+use Rattle.fast_laws.proofs.Nodes.{IsOfNodes, AreOfNodes, template_at}
 
 -- a value that is right, within the limit on texts
 kind_within : (l : Limits) (kind : Kind) (v : ScalarData) → IsRight kind v → length (text_of v) ≤ l.max_text → IsOfKind l kind v

@@ -1,12 +1,11 @@
 -- The events of messages nest.
-use Rattle.std.proofs.Common.{◌≡◌, ◌⊎◌, inl, inr, ℕ, zero, suc, List, [], ◌∷◌, ◌++◌, refl, ap, sym, subst, ◌∙◌, append-nil}
+use Rattle.std.proofs.Common.{◌≡◌, inl, inr, ℕ, suc, List, [], ◌∷◌, ◌++◌, refl, ap, sym, subst, ◌∙◌}
 use Rattle.std.specs.Prelude.{slice_get, flat_map, Option, Some, None}
 use Rattle.fast_value.specs.declared.settings.Limits.{Limits}
-use Rattle.fast_value.specs.Kinds.{ScalarData}
 use Rattle.fast_value.specs.Messages.{ItemData, one, group as group_item, sequence as sequence_item, Slots, no_slots, absent, present, Elements, no_elements, element, count, MessageData}
-use Rattle.fast_tree.specs.Tree.{Label, Instruction, field, parts, group, sequence, Body, end, step, TemplateData, Tree}
-use Rattle.fast_stream.specs.Events.{EventData, MessageStart, FieldValue, GroupStart, GroupEnd, SequenceStart, ElementStart, ElementEnd, SequenceEnd, MessageEnd, element_events, group_events, sequence_events, value_events, item_events, body_events, template_events, events}
-use Rattle.fast_stream.specs.Streams.{End, between}
+use Rattle.fast_tree.specs.Tree.{Instruction, field, parts, group, sequence, Body, end, step, TemplateData, Tree}
+use Rattle.fast_stream.specs.Events.{EventData, MessageStart, GroupStart, GroupEnd, ElementStart, ElementEnd, SequenceEnd, MessageEnd, element_events, group_events, sequence_events, value_events, item_events, body_events, template_events, events}
+use Rattle.fast_stream.specs.Streams.{End}
 use Rattle.fast_laws.specs.Nesting.{Open, a_message, a_group, a_sequence, an_element, in_segment, after_event, after_one, after_events, AreNested}
 use Rattle.fast_laws.specs.Proper.{AreFirstOf, AreOfMessages}
 

@@ -8,7 +8,7 @@ use Rattle.fast_tree.specs.declared.instructions.Template.{Template}
 use Rattle.fast_tree.specs.NodeData.{ShapeData, a_field, a_decimal, a_group, a_sequence, shape_data}
 use Rattle.fast_tree.specs.Nodes.{label_of, no_instruction, body_of, instruction_of, instructions_from, template_data}
 use Rattle.fast_tree.specs.Numbers.{numbers_of, AreBetween, NameNodes, NameLaterNodes}
-use Rattle.fast_tree.specs.Tree.{Label, FieldData, Instruction, field, parts, group, sequence, Body, end, step, TemplateData}
+use Rattle.fast_tree.specs.Tree.{Instruction, field, parts, group, sequence, Body, end, step, TemplateData}
 
 -- a node has the number, and holds this
 abbrev pub IsAt : List Node → ℕ → (ShapeData → Type 0) → Type 0

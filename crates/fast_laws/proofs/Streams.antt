@@ -1,25 +1,25 @@
 -- The events of a stream are those of messages that suit their templates, and the first events of one more.
-use Rattle.std.proofs.Common.{◌≡◌, ◌⊎◌, inl, inr, ℕ, zero, suc, ◌+◌, ◌≤◌, List, [], ◌∷◌, ◌++◌, length, refl, ap, sym, subst, ◌∙◌, arith, append_assoc, append-nil}
-use Rattle.std.specs.Prelude.{Bool, true, false, All, nat_abs, if◌then◌else◌, flat_map, slice_get, slice_index_or, Option, Some, None, Ok}
+use Rattle.std.proofs.Common.{◌≡◌, ◌⊎◌, inl, inr, ℕ, zero, suc, ◌+◌, List, [], ◌∷◌, ◌++◌, length, refl, ap, sym, subst, ◌∙◌, arith, append_assoc, append-nil}
+use Rattle.std.specs.Prelude.{Bool, true, false, All, nat_abs, if◌then◌else◌, flat_map, slice_get, Option, Some, None, Ok}
 use Rattle.std.proofs.lemmas.List.Elements.{All-nil, All-cons}
 use Rattle.fast_wire.specs.Maps.{bits}
 use Rattle.fast_value.specs.declared.settings.Limits.{Limits}
 use Rattle.fast_value.specs.Limits.{bounds}
 use Rattle.fast_value.specs.Kinds.{ScalarData, integer_of}
 use Rattle.fast_value.specs.Messages.{MessageData}
-use Rattle.fast_tree.specs.Tree.{identifier, message_bits, uses_bit, TemplateData, Tree}
-use Rattle.fast_dict.specs.Dictionary.{Dictionary, undefined, fresh, reset, previous_at}
+use Rattle.fast_tree.specs.Tree.{identifier, message_bits, TemplateData, Tree}
+use Rattle.fast_dict.specs.Dictionary.{Dictionary, fresh, reset}
 use Rattle.fast_stream.specs.Events.{EventData, MessageStart, MessageEnd, body_events, template_events, events}
-use Rattle.fast_stream.specs.Grammar.{Grammar, give, hand, narrow, presence_map, ◌>>=◌, phrase_of}
-use Rattle.fast_stream.specs.Messages.{State, ReadAll, Found, begin, field_in, body_term, has_id, with_id, template_of, reset_if, message_of, message_behind, message_term, message, SpellsMessage}
-use Rattle.fast_stream.specs.Phrases.{whole, cut, wrong}
-use Rattle.fast_stream.specs.Streams.{End, between, inside, faulted, SpellsAll, Chain, Stream}
+use Rattle.fast_stream.specs.Grammar.{give, hand, narrow, presence_map, ◌>>=◌, phrase_of}
+use Rattle.fast_stream.specs.Messages.{State, ReadAll, Found, begin, field_in, body_term, has_id, with_id, template_of, reset_if, message_of, message_behind, message_term}
+use Rattle.fast_stream.specs.Phrases.{whole}
+use Rattle.fast_stream.specs.Streams.{End, between, inside, faulted, SpellsAll, Stream}
 use Rattle.fast_spelling.specs.Again.{IsSound, IsGranted, GrantsBody, IsGrantedTree}
 use Rattle.fast_spelling.proofs.Encoded.{has-own}
-use Rattle.fast_spelling.proofs.FieldsAgain.{FoundBack, found_back}
+use Rattle.fast_spelling.proofs.FieldsAgain.{found_back}
 use Rattle.fast_spelling.proofs.MessagesAgain.{sound_fresh, spelled_suits}
 use Rattle.fast_laws.specs.Proper.{IsProper, AreFirstOf, AreOfMessages}
-use Rattle.fast_laws.proofs.Turns.{Whole, Left, LeftTurn, left_turn, left_give, left_result, left_hand, left_quiet}
+use Rattle.fast_laws.proofs.Turns.{Left, LeftTurn, left_turn, left_give, left_result, left_hand, left_quiet}
 use Rattle.fast_laws.proofs.Fronts.{AreBegun, begun_body, quiet_found}
 
 -- The template that an identifier names is the one of the number, and has the identifier.

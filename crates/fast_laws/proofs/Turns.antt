@@ -1,7 +1,6 @@
 -- Terms in a row, by the events that they hand over: whole, or left before their end.
 use Rattle.std.proofs.Common.{◌≡◌, ◌⊎◌, inl, inr, ℕ, List, [], ◌∷◌, ◌++◌, refl, ap, ◌∙◌, sym, subst, append_assoc}
-use Rattle.std.specs.Prelude.{Bool, Option, ℤ, Result, Ok, Err}
-use Rattle.fast_wire.specs.Integers.{Range}
+use Rattle.std.specs.Prelude.{Bool, Result, Ok, Err}
 use Rattle.fast_value.specs.declared.codes.Code.{Code}
 use Rattle.fast_stream.specs.Events.{EventData}
 use Rattle.fast_stream.specs.Phrases.{Reached, whole, cut, wrong, Phrase, gives, hands, settles, ◌followed_by◌}

@@ -1,5 +1,5 @@
 -- The elements of a message, by its events.
-use Rattle.std.specs.Prelude.{◌≡◌, ℕ, ◌+◌, ◌≤◌, ◌<◌, List, [], ◌∷◌, ◌++◌}
+use Rattle.std.specs.Prelude.{◌≡◌, ℕ, ◌+◌, ◌≤◌, List, [], ◌∷◌, ◌++◌}
 use Rattle.fast_value.specs.declared.settings.Limits.{Limits}
 use Rattle.fast_stream.specs.Events.{EventData, MessageStart, FieldValue, GroupStart, GroupEnd, SequenceStart, ElementStart, ElementEnd, SequenceEnd, MessageEnd}
 
@@ -26,3 +26,15 @@ counted es = counted_from 0 es
 -- at no moment there are more than a message may have
 abbrev pub AreFew : Limits → List EventData → Type 0
 AreFew l es = (fs gs : List EventData) → es ≡ fs ++ gs → counted fs ≤ l.max_total
+
+-- a sequence begins with no more elements than one may have
+abbrev pub HasFew : Limits → EventData → Type 0
+HasFew l (SequenceStart n count) = count ≤ l.max_elements
+HasFew l (MessageStart n) = Unit {0}
+HasFew l (FieldValue n v) = Unit {0}
+HasFew l (GroupStart n) = Unit {0}
+HasFew l GroupEnd = Unit {0}
+HasFew l ElementStart = Unit {0}
+HasFew l ElementEnd = Unit {0}
+HasFew l SequenceEnd = Unit {0}
+HasFew l MessageEnd = Unit {0}

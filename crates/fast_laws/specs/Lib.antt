@@ -2,3 +2,4 @@ pub mod Proper
 pub mod Naming
 pub mod Nesting
 pub mod Counting
+pub mod Raising
