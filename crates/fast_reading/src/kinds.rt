@@ -1,0 +1,60 @@
+//! What is wrong with a line that is not the one that had to stand there.
+
+ghost use Rattle.std.specs.Prelude.{◌<◌, length};
+ghost use Rattle.fast_tree.specs.Numbers.{AreBelow};
+ghost use Rattle.fast_template.specs.Flat.{nodes_of};
+
+use crate::cursors::Cursor;
+use crate::endings::{Ending, is_ending};
+use crate::faults::LineFault;
+use crate::naming::{names, number_of};
+use fast_lines::forms::Line;
+use fast_spelling::suiting::suits_item;
+use fast_template::Templates;
+use fast_value::Item;
+
+/// What is wrong with a line that nothing in this place can have.
+pub fn misplaced(templates: &Templates, line: Option<Line<'_>>) -> LineFault {
+    match line {
+        None => LineFault::Missing,
+        Some(Line::Message { name }) if number_of(templates, name).is_none() => {
+            LineFault::UnknownTemplate
+        }
+        Some(_) => LineFault::OutOfPlace,
+    }
+}
+
+/// What is wrong with the line ahead, where the first of these nodes is mandatory and the line is not its.
+pub fn passed_over(templates: &Templates, left: &[u32], ending: Ending, at: Cursor<'_>) -> LineFault
+    requires { AreBelow (length (nodes_of templates.now)) left.now }
+{
+    for node in left {
+        if names(templates, *node, at.line) {
+            return if has_wrong_value(templates, *node, at) {
+                LineFault::WrongValue
+            } else {
+                LineFault::PassedOver
+            };
+        }
+    }
+    if is_ending(ending, at.line) {
+        LineFault::PassedOver
+    } else {
+        misplaced(templates, at.line)
+    }
+}
+
+/// Whether the line ahead, which is that of a node, has a value that is none of the node's.
+fn has_wrong_value(templates: &Templates, node: u32, at: Cursor<'_>) -> bool
+    requires { node < length (nodes_of templates.now) }
+{
+    let Cursor { line, value, .. } = at;
+    match (line, value) {
+        (Some(Line::Field { .. }), Some(value)) => {
+            let item = Item::One(value);
+            !suits_item(templates, node, &item)
+        }
+        (Some(Line::Field { .. }), None) => true,
+        _ => false,
+    }
+}
