@@ -1,6 +1,7 @@
 //! What is wrong with a line that is not the one that had to stand there.
 
-ghost use Rattle.std.specs.Prelude.{◌<◌, length};
+ghost use Rattle.std.specs.Prelude.{◌↔◌, ◌<◌, length, IsTrue};
+ghost use Rattle.fast_tree.specs.AsWritten.{IsNameByte};
 ghost use Rattle.fast_tree.specs.Numbers.{AreBelow};
 ghost use Rattle.fast_template.specs.Flat.{nodes_of};
 
@@ -17,11 +18,35 @@ use fast_value::Item;
 pub fn misplaced(templates: &Templates, line: Option<Line<'_>>) -> LineFault {
     match line {
         None => LineFault::Missing,
+        Some(line) if !is_named_well(line) => LineFault::Form,
         Some(Line::Message { name }) if number_of(templates, name).is_none() => {
             LineFault::UnknownTemplate
         }
         Some(_) => LineFault::OutOfPlace,
     }
+}
+
+/// Whether the name in a line, if it has one, is one that a template or a node can have.
+fn is_named_well(line: Line<'_>) -> bool {
+    match line {
+        Line::Message { name }
+        | Line::Field { name, .. }
+        | Line::Group { name, .. }
+        | Line::Sequence { name, .. } => {
+            name.len() <= LONGEST_NAME && name.iter().all(|byte| is_name_byte(*byte))
+        }
+        _ => true,
+    }
+}
+
+/// The most characters that a name has.
+const LONGEST_NAME: usize = 64;
+
+/// Whether a name can have the character.
+fn is_name_byte(byte: u8) -> bool
+    ensures { IsTrue result ↔ IsNameByte byte }
+{
+    byte.is_ascii_alphanumeric() || byte == b'_' || byte == b'-' || byte == b'.'
 }
 
 /// What is wrong with the line ahead, where the first of these nodes is mandatory and the line is not its.

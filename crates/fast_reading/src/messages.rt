@@ -58,10 +58,10 @@ fn read_message<'a>(
     ensures line { IfErr result (IsNear at.entry) }
 {
     let Some(Line::Message { name }) = at.line else {
-        return Err(at.fault(LineFault::OutOfPlace));
+        return Err(at.fault(misplaced(templates, at.line)));
     };
     let Some(template) = number_of(templates, name) else {
-        return Err(at.fault(LineFault::UnknownTemplate));
+        return Err(at.fault(misplaced(templates, at.line)));
     };
     let body = &templates.template(template).body;
     let next = at.advance(alloc)?;
