@@ -1,10 +1,16 @@
+pub mod Bodies
 pub mod Closed
+pub mod Feeds
 pub mod LinedEvents
+pub mod Named
 pub mod NoFeeds
 pub mod OneBody
 pub mod OneEvent
 pub mod OneList
 pub mod OneListOfEvents
 pub mod OneReading
+pub mod Parts
 pub mod Preorder
+pub mod Said
+pub mod Told
 pub mod ToldValues

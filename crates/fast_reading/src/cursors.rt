@@ -1,13 +1,32 @@
 //! The lines of a text, one after the other.
 
-ghost use Rattle.std.specs.Prelude.{◌≡◌, ◌≢◌, ℕ, ◌≤◌, ◌∷◌, ◌++◌, length, IsUtf8, IfSome, IfNone};
+ghost use Rattle.std.specs.Prelude.{◌≡◌, ◌≢◌, ℕ, ◌≤◌, ◌∷◌, ◌++◌, length, IsUtf8, IsSome, IfSome, IfNone, IfOk, IfErr};
 ghost use Rattle.fast_lines.specs.Forms.{LineData, IsForm, line_data, text_of_line};
 ghost use Rattle.fast_lines.specs.Values.{Lacks};
+ghost use Rattle.fast_reading.specs.Ahead.{IsValueOf, TellsValue, TellsNone, IsAt, IsAtText, IsNextNumber, IsNextText};
 ghost use Rattle.fast_reading.specs.Reading.{closed};
 
+use crate::faults::{LineFault, TextFault};
 use fast_lines::forms::{Line, parse_line};
-use fast_lines::values::split_at_byte;
+use fast_lines::values::{is_number, parse_value, split_at_byte};
+use fast_value::Value;
+use std::alloc::Global;
 use std::str;
+
+/// A place in a text: the line ahead, and what follows it.
+#[derive(Debug, Drop)]
+pub struct Cursor<'a> {
+    /// The line ahead; `None` where the text ends.
+    pub line: Option<Line<'a>>,
+    /// The value of the line ahead, where that is a field's and the types of values hold it.
+    pub value: Option<Value>,
+    /// The number of the line ahead, from 1.
+    pub number: u64,
+    /// What follows the line ahead.
+    pub rest: &'a [u8],
+    ghost told: { TellsValue line value },
+    ghost untold: { TellsNone line value },
+}
 
 /// The first line of a text, without its LF, and what follows it. The last line may have none.
 pub fn first_line(text: &[u8]) -> (&[u8], &[u8])
@@ -31,5 +50,108 @@ pub fn checked_line(text: &[u8]) -> Option<Line<'_>>
     match str::from_utf8(text) {
         Ok(_) => parse_line(text),
         Err(_) => None,
+    }
+}
+
+/// The value of the line of this number, where it is a field's and the types of values hold it.
+fn value_of(alloc: Global, line: Line<'_>, number: u64) -> Result<Option<Value>, TextFault>
+    ensures value { IfOk result (IsValueOf line.entry) }
+    ensures line { IfErr result (IsAt number) }
+{
+    let Line::Field { value: text, .. } = line else {
+        return Ok(None);
+    };
+    let value = parse_value(alloc, text)?;
+    if value.is_none() && !is_number(text) {
+        return Err(TextFault::BadLine {
+            line: number,
+            kind: LineFault::Form,
+        });
+    }
+    Ok(value)
+}
+
+impl<'a> Cursor<'a> {
+    ghost use Rattle.fast_reading.specs.declared.faults.TextFault.TheVariants.{BadLine};
+    ghost use Rattle.fast_reading.specs.Cursors.{ahead, Advances, IsNear};
+
+    /// The start of a text.
+    ///
+    /// # Errors
+    ///
+    /// The first line is not of a line's form; memory was refused.
+    pub fn new(alloc: Global, text: &'a [u8]) -> Result<Cursor<'a>, TextFault>
+        ensures ahead { IfOk result (λ c. ahead c ≡ closed text.entry.now) }
+        ensures number { IfOk result (λ c. c.number ≡ 1) }
+        ensures line { IfErr result (IsAtText 1 (closed text.entry.now)) }
+    {
+        Cursor::at(alloc, text, 1)
+    }
+
+    /// The place before a text whose first line has this number.
+    fn at(alloc: Global, text: &'a [u8], number: u64) -> Result<Cursor<'a>, TextFault>
+        ensures ahead { IfOk result (λ c. ahead c ≡ closed text.entry.now) }
+        ensures number { IfOk result (λ c. c.number ≡ number) }
+        ensures line { IfErr result (IsAtText number (closed text.entry.now)) }
+    {
+        if text.is_empty() {
+            return Ok(Cursor {
+                line: None,
+                value: None,
+                number,
+                rest: text,
+            });
+        }
+        let (first, rest) = first_line(text);
+        let Some(line) = checked_line(first) else {
+            return Err(TextFault::BadLine {
+                line: number,
+                kind: LineFault::Form,
+            });
+        };
+        let value = value_of(alloc, line, number)?;
+        Ok(Cursor {
+            line: Some(line),
+            value,
+            number,
+            rest,
+        })
+    }
+
+    /// The place before a text that stands behind the line of this number.
+    ///
+    /// # Errors
+    ///
+    /// The line behind it is not of a line's form; memory was refused.
+    pub fn behind(alloc: Global, number: u64, text: &'a [u8]) -> Result<Cursor<'a>, TextFault>
+        ensures ahead { IfOk result (λ c. ahead c ≡ closed text.entry.now) }
+        ensures number { IfOk result (λ c. IsNextNumber number c.number) }
+        ensures line { IfErr result (IsNextText number (closed text.entry.now)) }
+    {
+        // no text has so many lines that this saturates
+        Cursor::at(alloc, text, number.saturating_add(1))
+    }
+
+    /// The place behind the line ahead.
+    ///
+    /// # Errors
+    ///
+    /// The line behind it is not of a line's form; memory was refused.
+    pub fn advance(self, alloc: Global) -> Result<Cursor<'a>, TextFault>
+        requires { IsSome self.line }
+        ensures ok { IfOk result (Advances self.entry) }
+        ensures line { IfErr result (IsNear self.entry) }
+    {
+        Cursor::behind(alloc, self.number, self.rest)
+    }
+
+    /// That the line ahead is at fault.
+    pub fn fault(&self, kind: LineFault) -> TextFault
+        ensures { result ≡ BadLine self.now.number kind }
+    {
+        TextFault::BadLine {
+            line: self.number,
+            kind,
+        }
     }
 }

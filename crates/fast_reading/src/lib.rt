@@ -2,4 +2,9 @@
 #![tactic(auto)]
 
 pub mod cursors;
+pub mod endings;
+pub mod faults;
+pub mod kinds;
 pub mod laws;
+pub mod messages;
+pub mod naming;

@@ -46,7 +46,7 @@ fn suits_slot(templates: &Templates, node: u32, slot: &Option<Item>) -> bool
 
 /// Whether the item suits the instruction of a node.
 #[cycle(suits)]
-fn suits_item(templates: &Templates, node: u32, item: &Item) -> bool
+pub fn suits_item(templates: &Templates, node: u32, item: &Item) -> bool
     requires { node < length (nodes_of templates.now) }
     ensures { IsTrue result ↔ Suits (instruction_in (nodes_of templates.now) node) (Some (item_data item.now)) }
 {
@@ -80,7 +80,7 @@ fn suits_rows(templates: &Templates, body: &[u32], rows: &[Vec<Option<Item>>]) -
 }
 
 /// Whether what the instruction of a node stands for may be absent.
-fn may_be_absent(templates: &Templates, node: u32) -> bool
+pub fn may_be_absent(templates: &Templates, node: u32) -> bool
     requires { node < length (nodes_of templates.now) }
     ensures { IsTrue result ↔ Suits (instruction_in (nodes_of templates.now) node) None }
 {

@@ -1,0 +1,12 @@
+mod Turns
+mod Defaults
+mod Fronts
+mod Streams
+mod Nesting
+mod Nodes
+mod Naming
+mod Granting
+mod Counting
+mod Innocent
+mod Raising
+mod RaisedMessages

@@ -1,0 +1,5 @@
+use Rattle.fast_laws.proofs.Counting.{total_is_counted}
+use Rattle.fast_laws.proofs.laws.total_is_counted.Goals as goal
+
+pub returns : goal.returns
+returns c = total_is_counted

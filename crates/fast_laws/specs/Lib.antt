@@ -1,0 +1,5 @@
+pub mod Proper
+pub mod Naming
+pub mod Nesting
+pub mod Counting
+pub mod Raising

@@ -1,0 +1,8 @@
+use Rattle.fast_reading.proofs.Said.{all_on, all_near}
+use Rattle.fast_reading.proofs.cursors.Cursor.advance.Goals as goal
+
+pub returns-clause-ok : goal.returns-clause-ok
+returns-clause-ok c = all_on c.args.self c.behind.result c.requires c.behind.ensures.ahead c.behind.ensures.number
+
+pub returns-clause-line : goal.returns-clause-line
+returns-clause-line c = all_near c.args.self c.behind.result c.requires c.behind.ensures.line

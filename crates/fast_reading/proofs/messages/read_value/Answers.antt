@@ -1,0 +1,27 @@
+use Rattle.std.proofs.Common.{refl, sym, subst}
+use Rattle.std.specs.Prelude.{IsSome}
+use Rattle.std.proofs.lemmas.Result.{err_from_is_err_and}
+use Rattle.fast_value.specs.declared.messages.Item.TheVariants as V
+use Rattle.fast_value.specs.Views.{item_data}
+use Rattle.fast_value.proofs.ItemViews.{item_data-One}
+use Rattle.fast_template.specs.Flat.{nodes_of, tree_of}
+use Rattle.fast_spelling.specs.Nodes.{instruction_in}
+use Rattle.fast_reading.specs.Cursors.{IsNear}
+use Rattle.fast_reading.proofs.Named.{names_some, numbered}
+use Rattle.fast_reading.proofs.Parts.{value_read}
+use Rattle.fast_reading.proofs.Said.{next_near, one_on}
+use Rattle.fast_reading.proofs.messages.read_value.Goals as goal
+
+pub returns-in_err-next-clause-line : goal.returns-in_err-next-clause-line
+returns-in_err-next-clause-line c =
+    let some : IsSome c.args.at.line = names_some (tree_of c.args.templates.now) c.args.node (instruction_in (nodes_of c.args.templates.now) c.args.node) c.args.at.line c.requires.named in
+    let p = err_from_is_err_and c.from_residual.result c.from_residual.ensures.1 in
+    rw p.1 (subst (IsNear c.args.at) (sym p.2) (next_near c.args.at c.in_err-next.field-0.0 some c.in_err-next.ensures.line))
+
+pub returns-clause-ok : goal.returns-clause-ok
+returns-clause-ok c =
+    let t = c.args.templates.now in
+    let i = instruction_in (nodes_of t) c.args.node in
+    let some : IsSome c.args.at.line = names_some (tree_of t) c.args.node i c.args.at.line c.requires.named in
+    value_read (tree_of t) c.args.node i c.in-Some.value (item_data (V.One c.in-Some.value)) c.args.at c.in_ok-next.next c.requires.field (numbered t c.args.node c.requires.node) (item_data-One c.in-Some.value) c.in-Some.is c.requires.named
+    (one_on c.args.at c.in_ok-next.next some c.in_ok-next.ensures.ahead c.in_ok-next.ensures.number) (c.if-not-suits_item.ensures.0 refl)

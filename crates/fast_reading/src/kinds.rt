@@ -1,0 +1,85 @@
+//! What is wrong with a line that is not the one that had to stand there.
+
+ghost use Rattle.std.specs.Prelude.{◌↔◌, ◌<◌, length, IsTrue};
+ghost use Rattle.fast_tree.specs.AsWritten.{IsNameByte};
+ghost use Rattle.fast_tree.specs.Numbers.{AreBelow};
+ghost use Rattle.fast_template.specs.Flat.{nodes_of};
+
+use crate::cursors::Cursor;
+use crate::endings::{Ending, is_ending};
+use crate::faults::LineFault;
+use crate::naming::{names, number_of};
+use fast_lines::forms::Line;
+use fast_spelling::suiting::suits_item;
+use fast_template::Templates;
+use fast_value::Item;
+
+/// What is wrong with a line that nothing in this place can have.
+pub fn misplaced(templates: &Templates, line: Option<Line<'_>>) -> LineFault {
+    match line {
+        None => LineFault::Missing,
+        Some(line) if !is_named_well(line) => LineFault::Form,
+        Some(Line::Message { name }) if number_of(templates, name).is_none() => {
+            LineFault::UnknownTemplate
+        }
+        Some(_) => LineFault::OutOfPlace,
+    }
+}
+
+/// Whether the name in a line, if it has one, is one that a template or a node can have.
+fn is_named_well(line: Line<'_>) -> bool {
+    match line {
+        Line::Message { name }
+        | Line::Field { name, .. }
+        | Line::Group { name, .. }
+        | Line::Sequence { name, .. } => {
+            name.len() <= LONGEST_NAME && name.iter().all(|byte| is_name_byte(*byte))
+        }
+        _ => true,
+    }
+}
+
+/// The most characters that a name has.
+const LONGEST_NAME: usize = 64;
+
+/// Whether a name can have the character.
+fn is_name_byte(byte: u8) -> bool
+    ensures { IsTrue result ↔ IsNameByte byte }
+{
+    byte.is_ascii_alphanumeric() || byte == b'_' || byte == b'-' || byte == b'.'
+}
+
+/// What is wrong with the line ahead, where the first of these nodes is mandatory and the line is not its.
+pub fn passed_over(templates: &Templates, left: &[u32], ending: Ending, at: Cursor<'_>) -> LineFault
+    requires { AreBelow (length (nodes_of templates.now)) left.now }
+{
+    for node in left {
+        if names(templates, *node, at.line) {
+            return if has_wrong_value(templates, *node, at) {
+                LineFault::WrongValue
+            } else {
+                LineFault::PassedOver
+            };
+        }
+    }
+    if is_ending(ending, at.line) {
+        LineFault::PassedOver
+    } else {
+        misplaced(templates, at.line)
+    }
+}
+
+/// Whether the line ahead, which is that of a node, has a value that is none of the node's.
+fn has_wrong_value(templates: &Templates, node: u32, at: Cursor<'_>) -> bool
+    requires { node < length (nodes_of templates.now) }
+{
+    let Cursor { line, value, .. } = at;
+    match (line, value) {
+        (Some(Line::Field { .. }), Some(value)) => {
+            let item = Item::One(value);
+            !suits_item(templates, node, &item)
+        }
+        (Some(Line::Field { .. }), None) => true,
+        _ => false,
+    }
+}
