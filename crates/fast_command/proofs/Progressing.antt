@@ -187,6 +187,7 @@ bad_character_ends t l hex s text es w place h bad =
       out = lines t h.more;
       written = h.written;
       shown = (h.bytes, es ++ h.more, e.end, record { bytes = rw hexed at.1; stream = e.stream }, e.good, sym (lines-append t es h.more), inl at.2);
+      told = inr h.as_before;
     }
 
 -- nothing more is written
@@ -199,7 +200,7 @@ pub bad_end_ends : (t : Tree) (l : Limits) (hex : Bool) (s : Show) (text b : Lis
 bad_end_ends t l hex s text b es held failed place p bad =
     let e = stream_of t l hex s text b es p in
     let at : StandsFor hex text b (Some place) = rw (← p.hex_is) bad in
-    record { out = []; written = appends_none held; shown = (b, es, e.end, record { bytes = at; stream = e.stream }, e.good, nothing_more (lines t es), inr tt) }
+    record { out = []; written = appends_none held; shown = (b, es, e.end, record { bytes = at; stream = e.stream }, e.good, nothing_more (lines t es), inr tt); told = inr refl }
 
 -- a good end
 pub good_ends : (t : Tree) (l : Limits) (hex : Bool) (s : Show) (text b : List ℕ) (es : List EventData) (held : Option (List ℕ)) (failed : Bool) → Progress t l hex s text b es → StandsFor (is_some s.unhexer) text b None → (standing s.decoder).is_between ≡ true
@@ -207,15 +208,15 @@ pub good_ends : (t : Tree) (l : Limits) (hex : Bool) (s : Show) (text b : List �
 good_ends t l hex s text b es held failed p bytes told =
     let e = stream_of t l hex s text b es p in
     let at : StandsFor hex text b None = rw (← p.hex_is) bytes in
-    record { out = []; written = appends_none held; shown = (b, es, record { bytes = at; stream = ends_between t l s.decoder b es e told }, nothing_more (lines t es), tt) }
+    record { out = []; written = appends_none held; shown = (b, es, record { bytes = at; stream = ends_between t l s.decoder b es e told }, nothing_more (lines t es), tt); told = inr refl }
 
 -- an end inside a message
 pub truncated_ends : (t : Tree) (l : Limits) (hex : Bool) (s : Show) (text b : List ℕ) (es : List EventData) (w : Change) (n : ℕ) → Progress t l hex s text b es → StandsFor (is_some s.unhexer) text b None → (standing s.decoder).is_between ≡ false → n ≡ (standing s.decoder).consumed
-    → Appends w.held w.holds (truncated_line n) → Ended t l hex (Unit {0}) text es w (Ok (Truncated n))
-truncated_ends t l hex s text b es w n p bytes told count line =
+    → Appends w.held w.holds (truncated_line n) → w.has_failed ≡ w.had_failed → Ended t l hex (Unit {0}) text es w (Ok (Truncated n))
+truncated_ends t l hex s text b es w n p bytes told count line stays =
     let e = stream_of t l hex s text b es p in
     let at : StandsFor hex text b None = rw (← p.hex_is) bytes in
-    record { out = truncated_line n; written = line; shown = (b, es, record { bytes = at; stream = ends_inside t l s.decoder b es e told }, count ∙ counts_all t l s.decoder b es e, refl, tt) }
+    record { out = truncated_line n; written = line; shown = (b, es, record { bytes = at; stream = ends_inside t l s.decoder b es e told }, count ∙ counts_all t l s.decoder b es e, refl, tt); told = inr stays }
 
 -- an end inside a message, where the writer fails in its line
 pub truncated_fails : (t : Tree) (l : Limits) (hex : Bool) (s : Show) (text b : List ℕ) (es : List EventData) (w : Change) (n : ℕ) → Progress t l hex s text b es → StandsFor (is_some s.unhexer) text b None → (standing s.decoder).is_between ≡ false → n ≡ (standing s.decoder).consumed
@@ -228,6 +229,7 @@ truncated_fails t l hex s text b es w n p bytes told count line failed =
       out = line.front;
       written = line.added;
       shown = (None, b, [], es, inside, line.rest, at, ends_inside t l s.decoder b es e told, ap (λ (m : ℕ). lines t es ++ truncated_line m) (sym all) ∙ ap (λ (xs : List ℕ). lines t es ++ xs) line.is ∙ sym (append_assoc (lines t es) line.front line.rest), failed);
+      told = inl refl;
     }
 
 -- one change after the other
@@ -236,18 +238,19 @@ both w v = record { held = w.held; holds = v.holds; had_failed = w.had_failed; h
 
 -- The line of a fault behind the lines of its events.
 fault_shown : (t : Tree) (l : Limits) (hex : Bool) (text b bytes : List ℕ) (es : List EventData) (d : DecoderData) (w v : Change) (f : Fault) (c : Code) (r : Result ShowEnd RunFault) → tree d ≡ t → d.limits ≡ l → d.fault ≡ Some f → f.code ≡ Why.Stream c
-    → Fed t b es bytes d w → v.held ≡ w.holds → (place : Option ℕ) × StandsFor hex text (b ++ bytes) place
-    → (r ≡ Ok (Faulted f)) × Appends v.held v.holds (fault_line f.code f.place) ⊎ (r ≡ Err Write) × AppendsFront v.held v.holds (fault_line f.code f.place) × IsTrue v.has_failed
+    → Fed t b es bytes d w → v.held ≡ w.holds → v.had_failed ≡ w.has_failed → (place : Option ℕ) × StandsFor hex text (b ++ bytes) place
+    → (r ≡ Ok (Faulted f)) × Appends v.held v.holds (fault_line f.code f.place) × (v.has_failed ≡ v.had_failed) ⊎ (r ≡ Err Write) × AppendsFront v.held v.holds (fault_line f.code f.place) × IsTrue v.has_failed
     → Ended t l hex ⊥ text es (both w v) r
-fault_shown t l hex text b bytes es d w v f c r set limits fault code fed on at (inl h) =
+fault_shown t l hex text b bytes es d w v f c r set limits fault code fed on failed at (inl h) =
     let stream = ends_at_fault t l d (b ++ bytes) (es ++ fed.more) f c set limits fed.so fault code in
     let ended : Ended t l hex ⊥ text es (both w v) (Ok (Faulted f)) = record {
       out = lines t fed.more ++ fault_line f.code f.place;
       written = appends_both w.held w.holds v.holds (lines t fed.more) (fault_line f.code f.place) fed.written (rw (← on) h.1);
       shown = (at.0, b ++ bytes, es ++ fed.more, c, record { bytes = at.1; stream = stream }, code, sym (append_assoc (lines t es) (lines t fed.more) (fault_line f.code f.place)) ∙ ap (λ (xs : List ℕ). xs ++ fault_line f.code f.place) (sym (lines-append t es fed.more)));
+      told = inr (h.2 ∙ failed ∙ fed.as_before);
     } in
     rw h.0 ended
-fault_shown t l hex text b bytes es d w v f c r set limits fault code fed on at (inr h) =
+fault_shown t l hex text b bytes es d w v f c r set limits fault code fed on failed at (inr h) =
     let stream = ends_at_fault t l d (b ++ bytes) (es ++ fed.more) f c set limits fed.so fault code in
     let line = h.1 in
     let text_of : fault_line (Why.Stream c) f.place ≡ line.front ++ line.rest = ap (λ (k : FaultCode). fault_line k f.place) (sym code) ∙ line.is in
@@ -255,6 +258,7 @@ fault_shown t l hex text b bytes es d w v f c r set limits fault code fed on at 
       out = lines t fed.more ++ line.front;
       written = appends_both w.held w.holds v.holds (lines t fed.more) line.front fed.written (rw (← on) line.added);
       shown = (at.0, b ++ bytes, [], es ++ fed.more, faulted c f.place, line.rest, rw append-nil at.1, stream, regroup (lines t (es ++ fed.more)) (lines t es) (lines t fed.more) (fault_line (Why.Stream c) f.place) line.front line.rest (lines-append t es fed.more) text_of, h.2);
+      told = inl refl;
     } in
     rw h.0 ended
   where
@@ -270,6 +274,7 @@ cut_shown t l hex text b bytes es w v r cut at h on failed =
       out = cut.out;
       written = rw (h.1 ∙ on) cut.written;
       shown = (at.0, b ++ cut.front, cut.later, cut.all, cut.end, cut.rest ++ closing (b ++ cut.front) cut.end, rw (← pieces) at.1, cut.stream, regroup (lines t cut.all) (lines t es) cut.out cut.rest (closing (b ++ cut.front) cut.end) cut.lines_are, rw (h.2 ∙ failed) cut.failed);
+      told = inl refl;
     } in
     rw h.0 ended
   where
@@ -282,7 +287,7 @@ pub fault_ends : (t : Tree) (l : Limits) (hex : Bool) (text b bytes : List ℕ) 
 fault_ends t l hex text b bytes es d w v f r set limits fault fed closed on failed at = by_code f.code refl fed closed
   where
     by_code : (code : FaultCode) → f.code ≡ code → IsFedAt t l b es bytes d w code → IsClosedAt f code v r → Ended t l hex ⊥ text es (both w v) r
-    by_code (Why.Stream c) code fed closed = fault_shown t l hex text b bytes es d w v f c r set limits fault code fed on at closed
+    by_code (Why.Stream c) code fed closed = fault_shown t l hex text b bytes es d w v f c r set limits fault code fed on failed at closed
     by_code Why.L4 code fed closed = absurd fed
     by_code Why.SinkStopped code fed closed = cut_shown t l hex text b bytes es w v r fed at closed on failed
 

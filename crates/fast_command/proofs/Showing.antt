@@ -1,23 +1,25 @@
 -- From the rounds of a run to what it has shown.
-use Rattle.std.proofs.Common.{◌≡◌, ◌⊎◌, ℕ, ◌+◌, ◌*◌, ◌<◌, ◌≤◌, ◌^◌, Bool, true, List, [], ◌++◌, Option, Some, None, Result, Ok, Err, refl, subst, ap, sym, ◌∙◌, inl, inr, length, length-append, arith, append_assoc, append-nil}
-use Rattle.std.specs.Prelude.{IsTrue, option_map, IfSome, OnErr, is_err}
+use Rattle.std.proofs.Common.{◌≡◌, ◌⊎◌, ℕ, ◌+◌, ◌*◌, ◌<◌, ◌≤◌, ◌^◌, Bool, true, false, List, [], ◌++◌, Option, Some, None, Result, Ok, Err, refl, subst, ap, sym, ◌∙◌, inl, inr, length, length-append, arith, append_assoc, append-nil}
+use Rattle.std.specs.Prelude.{IsTrue, OnOk, OnErr, is_err}
 use Rattle.fast_value.specs.declared.settings.Limits.{Limits}
 use Rattle.fast_tree.specs.Tree.{Tree}
 use Rattle.fast_stream.specs.declared.faults.MakeError.{MakeError}
 use Rattle.fast_stream.specs.declared.faults.MakeError.TheVariants as Why
+use Rattle.fast_stream.specs.declared.faults.FaultCode.{FaultCode}
 use Rattle.fast_stream.specs.Events.{EventData}
+use Rattle.fast_stream.specs.Streams.{between, inside, faulted}
 use Rattle.fast_decoder.specs.Decoding.{standing}
 use Rattle.fast_lines.specs.Lines.{lines}
-use Rattle.fast_text.specs.Streams.{Appends}
-use Rattle.fast_text.proofs.Writing.{appends_none, appends_both}
+use Rattle.fast_text.specs.Streams.{Reads, Appends}
+use Rattle.fast_text.proofs.Writing.{appends_none, appends_both, appends_no_more, reads_none, reads_both, reads_no_more}
 use Rattle.fast_command.specs.declared.unhexer.Unhexer.{Unhexer}
 use Rattle.fast_command.specs.declared.show.Show.{Show}
 use Rattle.fast_command.specs.declared.faults.ShowEnd.{ShowEnd}
 use Rattle.fast_command.specs.declared.faults.ShowEnd.TheVariants.{Good, Faulted, Truncated}
 use Rattle.fast_command.specs.declared.faults.RunFault.{RunFault}
 use Rattle.fast_command.specs.declared.faults.RunFault.TheVariants.{Read, Write, BadHex, Templates as Refused, Make, Memory}
-use Rattle.fast_command.specs.Showing.{IsShown, StandsFor, refusal_of}
-use Rattle.fast_command.specs.Closing.{closing}
+use Rattle.fast_command.specs.Showing.{IsShown, StandsFor, refusal_of, has_begun}
+use Rattle.fast_command.specs.Closing.{fault_line, truncated_line, closing}
 use Rattle.fast_command.specs.Progress.{HasRoom, IsTaken, Progress, Change, GoesOn, Ended}
 use Rattle.fast_command.proofs.Lined.{lines-append}
 use Rattle.fast_command.proofs.Progressing.{ends_well, counts_all, stands_for, bytes_fewer}
@@ -34,6 +36,23 @@ shown_more t l hex R R' A B H A' B' H' text out (Err (Make cause)) m a b h s = (
 shown_more t l hex R R' A B H A' B' H' text out (Err (Refused fault)) m a b h s = elim s [ ]
 shown_more t l hex R R' A B H A' B' H' text out (Err Memory) m a b h s = s
 
+-- what was shown, where the writer has failed behind it
+pub shown_short : (t : Tree) (l : Limits) (hex : Bool) (R : MakeError → Type 0) (A B H H' : Type 0) (text out : List ℕ) (r : Result ShowEnd RunFault) → has_begun r ≡ true → H' → IsShown t l hex R A B H text out r → IsShown t l hex R A B H' text out (Err Write)
+shown_short t l hex R A B H H' text out (Ok Good) begun failed s =
+    (None, s.0, [], s.1, between, [], rw (append-nil s.0) s.2.bytes, s.2.stream, ap (λ (xs : List ℕ). xs ++ []) (sym s.3), failed)
+shown_short t l hex R A B H H' text out (Ok (Faulted f)) begun failed s =
+    (s.0, s.1, [], s.2, faulted s.3 f.place, [], rw (append-nil s.1) s.4.bytes, s.4.stream, ap (λ (k : FaultCode). lines t s.2 ++ fault_line k f.place) (sym s.5) ∙ sym s.6 ∙ sym (append-nil out), failed)
+shown_short t l hex R A B H H' text out (Ok (Truncated n)) begun failed s =
+    (None, s.0, [], s.1, inside, [], rw (append-nil s.0) s.2.bytes, s.2.stream, ap (λ (m : ℕ). lines t s.1 ++ truncated_line m) (sym s.3) ∙ sym s.4 ∙ sym (append-nil out), failed)
+shown_short t l hex R A B H H' text out (Err (BadHex n)) begun failed s =
+    (Some n, s.0, [], s.1, s.2, closing s.0 s.2, rw (append-nil s.0) s.3.bytes, s.3.stream, ap (λ (xs : List ℕ). xs ++ closing s.0 s.2) (sym s.5), failed)
+shown_short t l hex R A B H H' text out (Err Read) begun failed s =
+    (s.0, s.1, [], s.2, s.3, closing s.1 s.3, rw (append-nil s.1) s.4.bytes, s.4.stream, ap (λ (xs : List ℕ). xs ++ closing s.1 s.3) (sym s.6), failed)
+shown_short t l hex R A B H H' text out (Err Write) begun failed s = (s.0, s.1, s.2, s.3, s.4, s.5, s.6, s.7, s.8, failed)
+shown_short t l hex R A B H H' text out (Err (Refused fault)) begun failed s = elim s [ ]
+shown_short t l hex R A B H H' text out (Err (Make cause)) begun failed s = absurd (cc)
+shown_short t l hex R A B H H' text out (Err Memory) begun failed s = absurd (cc)
+
 -- nothing was read and nothing shown where no decoder is made
 pub refusal_shown : (t : Tree) (l : Limits) (hex : Bool) (R : MakeError → Type 0) (A B H : Type 0) (e : MakeError) → (e ≡ Why.Memory) ⊎ R e → IsShown t l hex R A B H [] [] (Err (refusal_of e))
 refusal_shown t l hex R A B H Why.BadLimits (inl h) = absurd (cc)
@@ -42,57 +61,37 @@ refusal_shown t l hex R A B H Why.InitialTooLong (inl h) = absurd (cc)
 refusal_shown t l hex R A B H Why.InitialTooLong (inr h) = (refl, refl, h)
 refusal_shown t l hex R A B H Why.Memory h = (refl, refl)
 
--- nothing was read
-pub read_none : (o : Option (List ℕ)) → o ≡ option_map (λ (xs : List ℕ). [] ++ xs) o
-read_none None = refl
-read_none (Some xs) = refl
-
--- one piece was read after the other
-pub read_both : (old mid new : Option (List ℕ)) (text piece : List ℕ) → old ≡ option_map (λ (xs : List ℕ). text ++ xs) mid → mid ≡ option_map (λ (xs : List ℕ). piece ++ xs) new → old ≡ option_map (λ (xs : List ℕ). (text ++ piece) ++ xs) new
-read_both old mid new text piece first second = first ∙ ap (option_map (λ (xs : List ℕ). text ++ xs)) second ∙ joined new
-  where
-    joined : (o : Option (List ℕ)) → option_map (λ (xs : List ℕ). text ++ xs) (option_map (λ (xs : List ℕ). piece ++ xs) o) ≡ option_map (λ (xs : List ℕ). (text ++ piece) ++ xs) o
-    joined None = refl
-    joined (Some xs) = ap Some (sym (append_assoc text piece xs))
-
--- the input was at its end, and still is
-pub still_at_end : (old new : Option (List ℕ)) (piece : List ℕ) → piece ≡ [] → old ≡ option_map (λ (xs : List ℕ). piece ++ xs) new → IfSome old (λ xs. xs ≡ []) → IfSome new (λ xs. xs ≡ [])
-still_at_end old None piece none h end = tt
-still_at_end old (Some xs) piece none h end =
-    let e : old ≡ Some xs = h ∙ ap (λ (ys : List ℕ). Some (ys ++ xs)) none in
-    let at = rw e at end in at
-
 -- What a run has read and shown so far: the text, the bytes that it stands for, and their events.
 pub record Round (t : Tree) (l : Limits) (hex : Bool) (s : Show) (reads : ℕ) (left_first left_now held holds : Option (List ℕ)) : Type 0 where
   pub text : List ℕ
   pub bytes : List ℕ
   pub events : List EventData
   pub progress : Progress t l hex s text bytes events
-  pub read : left_first ≡ option_map (λ (xs : List ℕ). text ++ xs) left_now
+  pub read : Reads left_first left_now text
   pub written : Appends held holds (lines t events)
   pub many : reads ≤ length text
   pub few : length text ≤ 4096 * reads
 
 -- before the first read
 pub no_round : (t : Tree) (l : Limits) (hex : Bool) (s : Show) (left held : Option (List ℕ)) → Progress t l hex s [] [] [] → Round t l hex s 0 left left held held
-no_round t l hex s left held p = record { text = []; bytes = []; events = []; progress = p; read = read_none left; written = appends_none held; many = omega arith; few = omega arith }
+no_round t l hex s left held p = record { text = []; bytes = []; events = []; progress = p; read = reads_none left; written = appends_none held; many = omega arith; few = omega arith }
 
 -- The run of the contract: what was read, what was written, and what this shows.
 abbrev pub Run : Tree → Limits → Bool → (MakeError → Type 0) → (AtEnd HasFailed : Type 0) → (List ℕ → Type 0) → (left_first left_now held holds : Option (List ℕ)) → Result ShowEnd RunFault → Type 0
 Run t l hex R AtEnd HasFailed ReadsNoMore left_first left_now held holds r =
-    (text out : List ℕ) × (left_first ≡ option_map (λ (xs : List ℕ). text ++ xs) left_now) × Appends held holds out × IsShown t l hex R AtEnd (ReadsNoMore text) HasFailed text out r
+    (text out : List ℕ) × Reads left_first left_now text × Appends held holds out × IsShown t l hex R AtEnd (ReadsNoMore text) HasFailed text out r
 
 -- where the run reads no more
-pub reads_no_more : (t : Tree) (l : Limits) (hex : Bool) (R : MakeError → Type 0) (s : Show) (reads : ℕ) (AtEnd HasFailed : Type 0) (ReadsNoMore : List ℕ → Type 0) (left_first left_old left_now held holds : Option (List ℕ)) (h : Round t l hex s reads left_first left_old held holds) → left_now ≡ left_old → ReadsNoMore h.text
+pub read_no_more : (t : Tree) (l : Limits) (hex : Bool) (R : MakeError → Type 0) (s : Show) (reads : ℕ) (AtEnd HasFailed : Type 0) (ReadsNoMore : List ℕ → Type 0) (left_first left_old left_now held holds : Option (List ℕ)) (h : Round t l hex s reads left_first left_old held holds) → Reads left_old left_now [] → ReadsNoMore h.text
     → Run t l hex R AtEnd HasFailed ReadsNoMore left_first left_now held holds (Err Read)
-reads_no_more t l hex R s reads AtEnd HasFailed ReadsNoMore left_first left_old left_now held holds h kept why =
+read_no_more t l hex R s reads AtEnd HasFailed ReadsNoMore left_first left_old left_now held holds h kept why =
     let p = h.progress in
     let e = ends_well t l s.decoder h.bytes h.events p.set p.limits p.so p.good in
     let at = stands_for s.unhexer h.text h.bytes p.taken in
-    (h.text, lines t h.events, h.read ∙ ap (option_map (λ (xs : List ℕ). h.text ++ xs)) (sym kept), h.written, (at.0, h.bytes, h.events, e.end, record { bytes = rw (← p.hex_is) at.1; stream = e.stream }, e.good, refl, why))
+    (h.text, lines t h.events, reads_no_more left_first left_old left_now h.text h.read kept, h.written, (at.0, h.bytes, h.events, e.end, record { bytes = rw (← p.hex_is) at.1; stream = e.stream }, e.good, refl, why))
 
 -- where the writer cannot show what it has
-pub not_flushed : (t : Tree) (l : Limits) (hex : Bool) (R : MakeError → Type 0) (s : Show) (reads : ℕ) (AtEnd HasFailed : Type 0) (ReadsNoMore : List ℕ → Type 0) (left_first left_now held holds_old holds : Option (List ℕ)) (h : Round t l hex s reads left_first left_now held holds_old) → holds ≡ holds_old → HasFailed
+pub not_flushed : (t : Tree) (l : Limits) (hex : Bool) (R : MakeError → Type 0) (s : Show) (reads : ℕ) (AtEnd HasFailed : Type 0) (ReadsNoMore : List ℕ → Type 0) (left_first left_now held holds_old holds : Option (List ℕ)) (h : Round t l hex s reads left_first left_now held holds_old) → Appends holds_old holds [] → HasFailed
     → Run t l hex R AtEnd HasFailed ReadsNoMore left_first left_now held holds (Err Write)
 not_flushed t l hex R s reads AtEnd HasFailed ReadsNoMore left_first left_now held holds_old holds h kept failed =
     let p = h.progress in
@@ -102,22 +101,31 @@ not_flushed t l hex R s reads AtEnd HasFailed ReadsNoMore left_first left_now he
       h.text,
       lines t h.events,
       h.read,
-      subst (λ o. Appends held o (lines t h.events)) (sym kept) h.written,
+      appends_no_more held holds_old holds (lines t h.events) h.written kept,
       (at.0, h.bytes, [], h.events, e.end, closing h.bytes e.end, stands, e.stream, refl, failed),
     )
 
 -- a round, where the writer was flushed
-pub round_flushed : {t : Tree} {l : Limits} {hex : Bool} {s : Show} {reads : ℕ} {left_first left_now held holds_old holds : Option (List ℕ)} → holds ≡ holds_old → Round t l hex s reads left_first left_now held holds_old → Round t l hex s reads left_first left_now held holds
-round_flushed {t} {l} {hex} {s} {reads} {left_first} {left_now} {held} kept h = subst (λ o. Round t l hex s reads left_first left_now held o) (sym kept) h
+pub round_flushed : {t : Tree} {l : Limits} {hex : Bool} {s : Show} {reads : ℕ} {left_first left_now held holds_old holds : Option (List ℕ)} → Appends holds_old holds [] → Round t l hex s reads left_first left_now held holds_old → Round t l hex s reads left_first left_now held holds
+round_flushed {t} {l} {hex} {s} {reads} {left_first} {left_now} {held} {holds_old} {holds} kept h = record {
+  text = h.text;
+  bytes = h.bytes;
+  events = h.events;
+  progress = h.progress;
+  read = h.read;
+  written = appends_no_more held holds_old holds (lines t h.events) h.written kept;
+  many = h.many;
+  few = h.few;
+}
 
 -- where the run has ended
 pub run_ended : (t : Tree) (l : Limits) (hex : Bool) (R : MakeError → Type 0) (s : Show) (reads : ℕ) (A AtEnd HasFailed : Type 0) (ReadsNoMore : List ℕ → Type 0) (left_first left_old left_now held : Option (List ℕ)) (w : Change) (piece : List ℕ) (r : Result ShowEnd RunFault) (h : Round t l hex s reads left_first left_old held w.held)
-    → left_old ≡ option_map (λ (xs : List ℕ). piece ++ xs) left_now → (A → AtEnd) → (IsTrue w.has_failed → HasFailed) → Ended t l hex A (h.text ++ piece) h.events w r
+    → Reads left_old left_now piece → (A → AtEnd) → (IsTrue w.has_failed → HasFailed) → Ended t l hex A (h.text ++ piece) h.events w r
     → Run t l hex R AtEnd HasFailed ReadsNoMore left_first left_now held w.holds r
 run_ended t l hex R s reads A AtEnd HasFailed ReadsNoMore left_first left_old left_now held w piece r h given end failed ended = (
   h.text ++ piece,
   lines t h.events ++ ended.out,
-  read_both left_first left_old left_now h.text piece h.read given,
+  reads_both left_first left_old left_now h.text piece h.read given,
   appends_both held w.held w.holds (lines t h.events) ended.out h.written ended.written,
   shown_more t l hex (λ _. ⊥) R A ⊥ (IsTrue w.has_failed) AtEnd (ReadsNoMore (h.text ++ piece)) HasFailed (h.text ++ piece) (lines t h.events ++ ended.out) r (λ _ never. absurd never) end (λ never. absurd never) failed ended.shown,
 )
@@ -141,7 +149,7 @@ round_has_room t l hex s reads max n left_first left_now held holds h more max_s
 
 -- one round more
 pub round_more : (t : Tree) (l : Limits) (hex : Bool) (s s' : Show) (reads : ℕ) (left_first left_old left_now held : Option (List ℕ)) (w : Change) (piece : List ℕ) (h : Round t l hex s reads left_first left_old held w.held)
-    → left_old ≡ option_map (λ (xs : List ℕ). piece ++ xs) left_now → 0 < length piece → length piece ≤ 4096 → GoesOn t l hex s' (h.text ++ piece) h.events w → Round t l hex s' (reads + 1) left_first left_now held w.holds
+    → Reads left_old left_now piece → 0 < length piece → length piece ≤ 4096 → GoesOn t l hex s' (h.text ++ piece) h.events w → Round t l hex s' (reads + 1) left_first left_now held w.holds
 round_more t l hex s s' reads left_first left_old left_now held w piece h given some small on =
     let k = length-append h.text piece in
     let many = h.many in
@@ -151,7 +159,7 @@ round_more t l hex s s' reads left_first left_old left_now held w piece h given 
       bytes = on.bytes;
       events = h.events ++ on.more;
       progress = on.progress;
-      read = read_both left_first left_old left_now h.text piece h.read given;
+      read = reads_both left_first left_old left_now h.text piece h.read given;
       written = rw (lines-append t h.events on.more) (appends_both held w.held w.holds (lines t h.events) (lines t on.more) h.written on.written);
       many = omega arith;
       few = omega arith;
@@ -160,6 +168,11 @@ round_more t l hex s s' reads left_first left_old left_now held w piece h given 
 -- an end behind nothing more
 pub ended_there : {t : Tree} {l : Limits} {hex : Bool} {A : Type 0} {text : List ℕ} {es : List EventData} {w : Change} {r : Result ShowEnd RunFault} → Ended t l hex A text es w r → Ended t l hex A (text ++ []) es w r
 ended_there h = rw append-nil h
+
+-- what holds at a good answer
+pub at_good : {X E : Type 0} {P : Type 0} (r : Result X E) → is_err r ≡ false → OnOk r P → P
+at_good (Ok x) good h = h
+at_good (Err e) good h = absurd (cc)
 
 -- what holds at an error
 pub at_error : {X E : Type 0} {P : Type 0} (r : Result X E) → is_err r ≡ true → OnErr r P → P

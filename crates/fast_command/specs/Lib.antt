@@ -7,3 +7,4 @@ pub mod Checking
 pub mod Texts
 pub mod Plans
 pub mod Words
+pub mod Sets

@@ -94,11 +94,12 @@ pub record GoesOn (t : Tree) (l : Limits) (hex : Bool) (s : Show) (text : List �
   pub as_before : w.has_failed ≡ w.had_failed
 
 -- The run has ended behind the text, at the end of the input or not. It has written what was to be written behind these
--- events.
+-- events. A target that has failed is told.
 pub record Ended (t : Tree) (l : Limits) (hex : Bool) (AtEnd : Type 0) (text : List ℕ) (es : List EventData) (w : Change) (r : Result ShowEnd RunFault) : Type 0 where
   pub out : List ℕ
   pub written : Appends w.held w.holds out
   pub shown : IsShown t l hex (λ _. ⊥) AtEnd ⊥ (IsTrue w.has_failed) text (lines t es ++ out) r
+  pub told : (r ≡ Err Write) ⊎ (w.has_failed ≡ w.had_failed)
 
 -- a bad place that the text has, before its end
 abbrev pub IsBadPlace : Option Unhexer → ℕ → Type 0
@@ -108,5 +109,5 @@ IsBadPlace u place = (text b : List ℕ) → IsTaken u text b → IsTrue (is_som
 abbrev pub IsClosedAt : Fault → FaultCode → Change → Result ShowEnd RunFault → Type 0
 IsClosedAt f Why.SinkStopped w r = (r ≡ Err Write) × (w.holds ≡ w.held) × (w.has_failed ≡ w.had_failed)
 IsClosedAt f code w r =
-    (r ≡ Ok (Faulted f)) × Appends w.held w.holds (fault_line f.code f.place)
+    (r ≡ Ok (Faulted f)) × Appends w.held w.holds (fault_line f.code f.place) × (w.has_failed ≡ w.had_failed)
     ⊎ (r ≡ Err Write) × AppendsFront w.held w.holds (fault_line f.code f.place) × IsTrue w.has_failed

@@ -48,6 +48,16 @@ refusal_of Why.BadLimits = Make Why.BadLimits
 refusal_of Why.InitialTooLong = Make Why.InitialTooLong
 refusal_of Why.Memory = Memory
 
+-- whether there was a decoder in a run that ended so
+abbrev pub has_begun : Result ShowEnd RunFault → Bool
+has_begun (Ok end) = true
+has_begun (Err Read) = true
+has_begun (Err Write) = true
+has_begun (Err (BadHex place)) = true
+has_begun (Err (Refused fault)) = true
+has_begun (Err (Make cause)) = false
+has_begun (Err Memory) = false
+
 -- What was shown of a text that was read, and what the end of the run says of it. The run can say for which cause
 -- no decoder is made, that the input is at its end, that it reads no more, and that the writer has failed.
 abbrev pub IsShown : Tree → Limits → Bool → (Refuses : MakeError → Type 0) → (AtEnd ReadsNoMore HasFailed : Type 0) → List ℕ → List ℕ → Result ShowEnd RunFault → Type 0

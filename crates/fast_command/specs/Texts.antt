@@ -1,5 +1,6 @@
 -- Texts that are read whole.
-use Rattle.std.specs.Prelude.{◌≡◌, ◌⊎◌, ℕ, ◌<◌, List, ◌++◌, length, Option, option_map}
+use Rattle.std.specs.Prelude.{◌⊎◌, ℕ, ◌<◌, List, length, Option}
+use Rattle.fast_text.specs.Streams.{Reads}
 use Rattle.fast_command.specs.declared.faults.RunFault.{RunFault}
 use Rattle.fast_command.specs.declared.faults.RunFault.TheVariants.{Read, Memory}
 
@@ -10,5 +11,5 @@ text_limit = 16777216
 -- Why a text was not read: there was no memory, the reader has failed, or the text is too long.
 abbrev pub IsUnread : (left_old left_new : Option (List ℕ)) → (HasFailed : Type 0) → RunFault → Type 0
 IsUnread left_old left_new HasFailed Memory = Unit {0}
-IsUnread left_old left_new HasFailed Read = HasFailed ⊎ ((text : List ℕ) × (left_old ≡ option_map (λ xs. text ++ xs) left_new) × (text_limit < length text))
+IsUnread left_old left_new HasFailed Read = HasFailed ⊎ ((text : List ℕ) × Reads left_old left_new text × (text_limit < length text))
 IsUnread left_old left_new HasFailed fault = ⊥

@@ -2,37 +2,10 @@
 
 ghost use Rattle.std.specs.Prelude.{◌≡◌, IsTrue, OnOk, OnErr};
 ghost use Rattle.fast_text.specs.Streams.{Appends, AppendsFront};
-ghost use Rattle.fast_command.specs.Closing.{code_text, fault_line, truncated_line};
+ghost use Rattle.fast_command.specs.Closing.{fault_line, truncated_line};
 
-use fast_decoder::{Fault, FaultCode};
+use fast_decoder::Fault;
 use fast_text::{Failed, LineWriter, Room, Target};
-use fast_value::Code;
-
-/// The name of a code.
-fn code_name(code: FaultCode) -> &'static str
-    ensures { result.now ≡ code_text code }
-{
-    match code {
-        FaultCode::Stream(Code::D2) => "D2",
-        FaultCode::Stream(Code::D4) => "D4",
-        FaultCode::Stream(Code::D5) => "D5",
-        FaultCode::Stream(Code::D6) => "D6",
-        FaultCode::Stream(Code::D7) => "D7",
-        FaultCode::Stream(Code::D9) => "D9",
-        FaultCode::Stream(Code::R1) => "R1",
-        FaultCode::Stream(Code::R2) => "R2",
-        FaultCode::Stream(Code::R6) => "R6",
-        FaultCode::Stream(Code::R7) => "R7",
-        FaultCode::Stream(Code::R8) => "R8",
-        FaultCode::Stream(Code::R9) => "R9",
-        FaultCode::Stream(Code::L1) => "L1",
-        FaultCode::Stream(Code::L2) => "L2",
-        FaultCode::Stream(Code::L3) => "L3",
-        FaultCode::Stream(Code::L5) => "L5",
-        FaultCode::L4 => "L4",
-        FaultCode::SinkStopped => "SinkStopped",
-    }
-}
 
 /// Writes the line of a fault.
 pub fn write_fault<T: Target>(fault: Fault, target: &mut T) -> Result<(), Failed>
@@ -44,7 +17,7 @@ pub fn write_fault<T: Target>(fault: Fault, target: &mut T) -> Result<(), Failed
     let mut room = Room::new();
     let mut line = LineWriter::new(target, &mut room);
     line.put(b"fault ");
-    line.put(code_name(fault.code).as_bytes());
+    line.put(fault.code.name().as_bytes());
     line.put(b" at ");
     line.put_unsigned(fault.place);
     line.put(b"\n");

@@ -1,7 +1,7 @@
 //! How a run ends.
 
 ghost use Rattle.std.specs.Prelude.{◌≡◌};
-ghost use Rattle.fast_command.specs.Report.{status_of, cause_number, static_code_text};
+ghost use Rattle.fast_command.specs.Report.{status_of};
 
 use fast_decoder::{Fault, MakeError};
 use fast_template::{StaticCode, StaticFault};
@@ -21,38 +21,6 @@ pub enum ShowEnd {
     Truncated(u64),
 }
 
-/// The number of a cause for which no decoder is made.
-fn number_of(cause: &MakeError) -> u8
-    ensures { result ≡ cause_number cause.now }
-{
-    match cause {
-        MakeError::BadLimits => 1,
-        MakeError::InitialTooLong => 2,
-        MakeError::Memory => 4,
-    }
-}
-
-/// The name of what is wrong with a template text.
-fn code_name(code: StaticCode) -> &'static str
-    ensures { result.now ≡ static_code_text code }
-{
-    match code {
-        StaticCode::S1 => "S1",
-        StaticCode::S2 => "S2",
-        StaticCode::S3 => "S3",
-        StaticCode::S4 => "S4",
-        StaticCode::S5 => "S5",
-        StaticCode::D8 => "D8",
-        StaticCode::C1 => "C1",
-        StaticCode::C2 => "C2",
-        StaticCode::C3 => "C3",
-        StaticCode::C4 => "C4",
-        StaticCode::C5 => "C5",
-        StaticCode::C6 => "C6",
-        StaticCode::Memory => "Memory",
-    }
-}
-
 /// What is wrong with a template text, and at which template, if at one.
 #[derive(Drop)]
 struct Wrong<'a>(&'a StaticFault);
@@ -61,8 +29,8 @@ impl Display for Wrong<'_> {
     fn fmt<W: Write>(&self, f: &mut Formatter<W>) -> fmt::Result {
         let fault = self.0;
         match fault.template {
-            Some(template) => write!(f, "{} in template {template}", code_name(fault.code)),
-            None => write!(f, "{}", code_name(fault.code)),
+            Some(template) => write!(f, "{} in template {template}", fault.code.name()),
+            None => write!(f, "{}", fault.code.name()),
         }
     }
 }
@@ -84,7 +52,7 @@ pub enum RunFault {
     #[error("templates {wrong}", wrong = Wrong(.0))]
     Templates(StaticFault),
     /// There is no decoder with these limits, for another cause than memory.
-    #[error("limits {number}", number = number_of(.0))]
+    #[error("limits {number}", number = .0.number())]
     Make(MakeError),
     /// There is no memory.
     #[error("no memory")]

@@ -1,6 +1,6 @@
 //! What fastcat is asked to do.
 
-ghost use Rattle.std.specs.Prelude.{◌≡◌};
+ghost use Rattle.std.specs.Prelude.{◌≡◌, ◌↔◌, IsTrue};
 ghost use Rattle.fast_command.specs.Plans.{limits_of};
 
 use fast_value::Limits;
@@ -39,6 +39,13 @@ pub struct Plan<'a> {
 }
 
 impl Plan<'_> {
+    /// Whether the templates are those of the built-in set.
+    pub fn has_built_in(&self) -> bool
+        ensures { IsTrue result ↔ (self.now.templates.now ≡ BUILT_IN.now) }
+    {
+        self.templates == BUILT_IN
+    }
+
     /// The mode and the limits.
     pub fn limits(&self) -> Limits
         ensures { result ≡ limits_of self.now }

@@ -1,14 +1,15 @@
 //! Shows a stream as lines.
 
-ghost use Rattle.std.specs.Prelude.{◌≡◌, ◌⊎◌, ◌↔◌, ℕ, ◌+◌, ◌<◌, ◌≤◌, ◌^◌, List, [], ◌++◌, Bool, IsTrue, Err, IfErr, length, option_map, is_some, IfOk, IfSome, IfNone, All, MatchOption};
+ghost use Rattle.std.specs.Prelude.{◌≡◌, ◌⊎◌, ◌↔◌, ℕ, ◌+◌, ◌<◌, ◌≤◌, ◌^◌, List, [], ◌++◌, Bool, IsTrue, Err, IfErr, length, is_some, IfOk, IfSome, IfNone, All, MatchOption};
 ghost use Rattle.fast_tree.specs.Tree.{Tree};
 ghost use Rattle.fast_template.specs.Flat.{tree_of};
 ghost use Rattle.fast_value.specs.declared.settings.Limits.{Limits};
 ghost use Rattle.fast_stream.specs.Events.{EventData};
 ghost use Rattle.fast_decoder.specs.Decoding.{So, standing, tree, answer, AreBadLimits};
-ghost use Rattle.fast_text.specs.Streams.{Appends};
+ghost use Rattle.std.specs.Io.KnownBytes.{IsAtEnd};
+ghost use Rattle.fast_text.specs.Streams.{Reads, Appends};
 ghost use Rattle.fast_lines.specs.Hex.{IsHexOrBlank};
-ghost use Rattle.fast_command.specs.Showing.{IsShown, IsRefusal, StandsFor, refusal_of};
+ghost use Rattle.fast_command.specs.Showing.{IsShown, IsRefusal, StandsFor, refusal_of, has_begun};
 ghost use Rattle.fast_command.specs.Progress.{HasRoom, IsTaken, Progress, GoesOn, Ended, IsFed, IsBadPlace, IsClosedAt, changed};
 
 use crate::closing::{write_fault, write_truncated};
@@ -187,8 +188,11 @@ pub fn run_show<S: Source, T: Target>(
     writer: &mut T,
 ) -> Result<ShowEnd, RunFault>
     requires { max_reads ≤ 2 ^ 40 }
-    ensures shown { (text out : List ℕ) × (S.left reader.old ≡ option_map (λ xs. text ++ xs) (S.left reader.new)) × Appends (T.written writer.old) (T.written writer.new) out
-        × IsShown (tree_of templates.now) limits hex (IsRefusal templates.now limits) (IfSome (S.left reader.new) (λ xs. xs ≡ [])) (IsTrue (S.has_failed reader.new) ⊎ (max_reads ≤ length text)) (IsTrue (T.has_failed writer.new)) text out result }
+    ensures shown { (text out : List ℕ) × Reads (S.left reader.old) (S.left reader.new) text × Appends (T.written writer.old) (T.written writer.new) out
+        × IsShown (tree_of templates.now) limits hex (IsRefusal templates.now limits) (IsAtEnd (S.left reader.new)) (IsTrue (S.has_failed reader.new) ⊎ (max_reads ≤ length text)) (IsTrue (T.has_failed writer.new)) text out result }
+    // A writer or a reader that fails is told.
+    ensures writer_told { (result ≡ Err RunFault.Write) ⊎ (T.has_failed writer.new ≡ T.has_failed writer.old) }
+    ensures reader_told { (result ≡ Err RunFault.Read) ⊎ (S.has_failed reader.new ≡ S.has_failed reader.old) }
     ensures bad_limits { AreBadLimits limits → result ≡ Err (RunFault.Make MakeError.BadLimits) }
     ensures long_initial { IsRefusal templates.now limits MakeError.InitialTooLong → result ≡ Err (RunFault.Make MakeError.InitialTooLong) }
 {
@@ -213,4 +217,39 @@ pub fn run_show<S: Source, T: Target>(
         }
     }
     Err(RunFault::Read)
+}
+
+/// Whether a run that ended so had a decoder.
+fn has_begun(ending: &Result<ShowEnd, RunFault>) -> bool
+    ensures { result ≡ has_begun ending.now }
+{
+    !matches!(ending, Err(RunFault::Make(_) | RunFault::Memory))
+}
+
+/// Shows a stream, as `run_show` does, and hands on at the end what the writer still keeps to itself: at a good answer all of it is
+/// written. Where the writer fails in that, so does the run, unless nothing was shown since there is no decoder.
+pub fn show_all<S: Source, T: Target>(
+    alloc: Global,
+    templates: &Templates,
+    limits: Limits,
+    hex: bool,
+    max_reads: u64,
+    reader: &mut S,
+    writer: &mut T,
+) -> Result<ShowEnd, RunFault>
+    requires { max_reads ≤ 2 ^ 40 }
+    ensures shown { (text out : List ℕ) × Reads (S.left reader.old) (S.left reader.new) text × Appends (T.written writer.old) (T.written writer.new) out
+        × IsShown (tree_of templates.now) limits hex (IsRefusal templates.now limits) (IsAtEnd (S.left reader.new)) (IsTrue (S.has_failed reader.new) ⊎ (max_reads ≤ length text)) (IsTrue (T.has_failed writer.new)) text out result }
+    ensures writer_told { (result ≡ Err RunFault.Write) ⊎ (T.has_failed writer.new ≡ T.has_failed writer.old) }
+    ensures bad_limits { AreBadLimits limits → result ≡ Err (RunFault.Make MakeError.BadLimits) }
+    ensures long_initial { IsRefusal templates.now limits MakeError.InitialTooLong → result ≡ Err (RunFault.Make MakeError.InitialTooLong) }
+{
+    let ending = run_show(alloc, templates, limits, hex, max_reads, reader, writer);
+    if !has_begun(&ending) {
+        return ending;
+    }
+    match writer.flush() {
+        Ok(()) => ending,
+        Err(_) => Err(RunFault::Write),
+    }
 }

@@ -1,6 +1,8 @@
 //! Texts that are read whole.
 
-ghost use Rattle.std.specs.Prelude.{◌≡◌, ◌≤◌, [], ◌++◌, length, option_map, IfOk, IfErr, IfSome, IsTrue};
+ghost use Rattle.std.specs.Prelude.{◌≤◌, length, IfOk, IfErr, IsTrue};
+ghost use Rattle.std.specs.Io.KnownBytes.{IsAtEnd};
+ghost use Rattle.fast_text.specs.Streams.{Reads};
 ghost use Rattle.fast_command.specs.Texts.{text_limit, IsUnread};
 
 use crate::faults::RunFault;
@@ -15,8 +17,8 @@ const READ_SIZE: usize = 4096;
 
 /// Reads a whole text, of at most 16,777,216 bytes. A longer one cannot be read.
 pub fn read_whole<S: Source>(alloc: Global, reader: &mut S) -> Result<Vec<u8>, RunFault>
-    ensures whole { IfOk result (λ v. S.left reader.old ≡ option_map (λ xs. v.items ++ xs) (S.left reader.new)) }
-    ensures end { IfOk result (λ v. IfSome (S.left reader.new) (λ xs. xs ≡ [])) }
+    ensures whole { IfOk result (λ v. Reads (S.left reader.old) (S.left reader.new) v.items) }
+    ensures end { IfOk result (λ v. IsAtEnd (S.left reader.new)) }
     ensures short { IfOk result (λ v. length v.items ≤ text_limit) }
     ensures unread { IfErr result (IsUnread (S.left reader.old) (S.left reader.new) (IsTrue (S.has_failed reader.new))) }
 {

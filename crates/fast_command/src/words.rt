@@ -11,10 +11,8 @@ ghost use Rattle.fast_command.specs.Words.{number_rule, flag_rule, templates_rul
 
 use crate::plans::{BUILT_IN, Plan, Task};
 use clap::{Arg, ArgAction, ArgMatches, Command, Error, value_parser};
+use fast_value::Limits;
 use std::alloc::{AllocError, Global};
-
-/// The length of a text, where no other is asked for.
-const MAX_TEXT: u32 = 1024;
 
 /// What stands below the help of the whole command.
 const TEMPLATES_HELP: &str = "T is @vectors or a text in TOML such as
@@ -26,9 +24,6 @@ const TEMPLATES_HELP: &str = "T is @vectors or a text in TOML such as
 Examples:
   fastcat check templates.toml
   fastcat show templates.toml stream.fast";
-
-/// The numbers of elements of a sequence and of a message, where no others are asked for.
-const MAX_ELEMENTS: u32 = 1000;
 
 /// The argument for the templates.
 fn templates_arg<'a>(alloc: Global) -> Arg<'a>
@@ -149,15 +144,16 @@ fn number_or(matches: &ArgMatches<'_>, name: &str, otherwise: u32) -> u32
 fn plan_of<'a>(name: &str, matches: &ArgMatches<'a>) -> Plan<'a>
     ensures { IsPlanOf name.now (rows_of (found_of matches.now)) result }
 {
+    let limits = Limits::default();
     Plan {
         task: task_named(name),
         templates: matches.get_str("templates").unwrap_or(BUILT_IN),
         input: matches.get_str("input"),
         hex: matches.get_flag("hex"),
         strict: matches.get_flag("strict"),
-        max_text: number_or(matches, "max-text", MAX_TEXT),
-        max_elements: number_or(matches, "max-elements", MAX_ELEMENTS),
-        max_total: number_or(matches, "max-total", MAX_ELEMENTS),
+        max_text: number_or(matches, "max-text", limits.max_text as u32),
+        max_elements: number_or(matches, "max-elements", limits.max_elements),
+        max_total: number_or(matches, "max-total", limits.max_total),
     }
 }
 

@@ -15,14 +15,9 @@ use crate::layout::has_long_initial;
 use crate::machine::Machine;
 use fast_stream::{Fault, FaultCode, MakeError, Sink};
 use fast_template::Templates;
-use fast_value::Limits;
+use fast_value::{Limits, MAX_TEXT, MIN_TEXT};
 use std::alloc::Global;
 use std::marker::Model;
-
-/// The least and the greatest length that texts may be limited to.
-const MIN_TEXT: usize = 16;
-
-const MAX_TEXT: usize = 1_048_576;
 
 /// Decodes a stream of FAST messages that comes in pieces, cut anywhere. All its memory is taken when it is made.
 #[derive(Drop)]

@@ -4,12 +4,12 @@
 pub mod decoder;
 pub mod layout;
 mod machine;
-pub mod quick_decimals;
+mod quick_decimals;
 mod quick_starts;
-pub mod quick_units;
+mod quick_units;
 pub mod recorder;
-pub mod settling;
-pub mod taking;
+mod settling;
+mod taking;
 mod turns;
 
 pub use decoder::Decoder;

@@ -21,3 +21,4 @@ pub mod ReadSets
 pub mod Extents
 pub mod Cycles
 pub mod SetTrees
+pub mod Codes

@@ -17,6 +17,7 @@ ghost use Rattle.fast_notation.specs.WrittenSets.{instruction_data, fields_data,
 
 use crate::codes::StaticCode;
 use crate::entries::{Entries, collect_entries};
+use crate::limits::NESTING_LIMIT;
 use crate::passes::WrittenSet;
 use crate::scopes::{OperatorUse, TextScope, exponent_use, length_use, mantissa_use, scalar_use};
 use crate::uses::{OperatorPart, initial_in};
@@ -24,9 +25,6 @@ use crate::written::{WrittenInstruction, WrittenTemplate};
 use fast_tree::{FieldInstruction, Node, Shape, Template};
 use fast_value::{Kind, Value};
 use std::alloc::{AllocError, Global};
-
-/// The longest chain of references.
-const NESTING_LIMIT: usize = 64;
 
 /// The initial value of an operator, where it has one.
 fn initial_of(alloc: Global, used: OperatorUse<'_>) -> Result<Option<Value>, AllocError>
@@ -140,7 +138,7 @@ impl Builder<'_> {
             };
             let at = Standing {
                 scope,
-                chain: NESTING_LIMIT,
+                chain: NESTING_LIMIT as usize,
             };
             let mut body = Vec::new(self.alloc);
             self.build_fields(&mut nodes, &mut body, at, &written.fields)?;

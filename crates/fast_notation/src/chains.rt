@@ -19,16 +19,11 @@ ghost use Rattle.fast_notation.specs.WrittenSets.{written_data};
 use crate::codes::{StaticCode, StaticFault};
 use crate::cycles::first_cyclic;
 use crate::extents::{Extent, extent_of_fields};
+use crate::limits::{NESTING_LIMIT, NODE_LIMIT};
 use crate::passes::WrittenSet;
 use crate::written::WrittenTemplate;
 use std::alloc::{AllocError, Global};
 use std::collections::HashMap;
-
-/// The longest chain of references, and the deepest nesting of groups and sequences.
-const NESTING_LIMIT: u32 = 64;
-
-/// The most nodes of a set with its references in place.
-const NODE_LIMIT: u32 = 65536;
 
 /// There was no memory left.
 const NO_MEMORY: StaticFault = StaticFault {

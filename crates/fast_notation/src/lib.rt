@@ -11,6 +11,7 @@ mod documents;
 mod entries;
 mod extents;
 mod keys;
+mod limits;
 mod names;
 mod passes;
 mod read;
@@ -22,4 +23,5 @@ mod uses;
 mod written;
 
 pub use codes::{StaticCode, StaticFault};
+pub use limits::{NESTING_LIMIT, NODE_LIMIT, SEGMENT_LIMIT};
 pub use sets::CheckedSet;

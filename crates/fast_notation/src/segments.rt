@@ -7,10 +7,8 @@ ghost use Rattle.fast_tree.specs.Numbers.{AreBelow, NameNodes, NameLaterNodes};
 ghost use Rattle.fast_notation.specs.Segments.{IsNarrowSegment, IsNarrow, IsWide};
 ghost use Rattle.fast_tree.specs.Tree.{Label, Instruction, uses_bit, bits_used, bits_of, TemplateData};
 
+use crate::limits::SEGMENT_LIMIT;
 use fast_tree::{FieldInstruction, Node, Operator, Shape, Template};
-
-/// The most bits of a segment: seven for each byte of the longest presence map.
-const SEGMENT_LIMIT: usize = 1022;
 
 /// Whether a field uses a presence bit.
 fn uses_bit(field: &FieldInstruction) -> bool

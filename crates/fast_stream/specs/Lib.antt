@@ -1,4 +1,5 @@
 pub mod Codes
+pub mod FaultCodes
 pub mod Events
 pub mod Handed
 pub mod Phrases

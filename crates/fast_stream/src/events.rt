@@ -4,9 +4,11 @@ ghost use Rattle.std.specs.Prelude.{OnOk, OnErr};
 ghost use Rattle.fast_stream.specs.Handed.{event_data};
 
 use fast_value::Scalar;
+use std::error::Error;
+use std::fmt;
 
 /// What is handed over of a stream, as soon as the bytes decide it. Absent fields, groups and sequences give no event.
-#[derive(Clone, Copy, Debug)]
+#[derive(Clone, Copy, Debug, PartialEq, Eq)]
 pub enum Event<'a> {
     /// A message begins: its template identifier is known.
     MessageStart {
@@ -47,6 +49,14 @@ pub enum Event<'a> {
 /// A sink takes no more events.
 #[derive(Clone, Copy, Debug, PartialEq, Eq)]
 pub struct Stop;
+
+impl fmt::Display for Stop {
+    fn fmt<W: fmt::Write>(&self, f: &mut fmt::Formatter<W>) -> fmt::Result {
+        f.write_str("the sink takes no more events")
+    }
+}
+
+impl Error for Stop {}
 
 /// Takes events, one after the other.
 pub trait Sink {

@@ -8,7 +8,7 @@ mod read;
 pub mod sets;
 mod texts;
 
-pub use fast_notation::{StaticCode, StaticFault};
+pub use fast_notation::{NESTING_LIMIT, NODE_LIMIT, SEGMENT_LIMIT, StaticCode, StaticFault};
 pub use fast_tree::{FieldInstruction, Node, Operator, Shape, Template};
 pub use opcodes::{Opcode, Sending};
 pub use sets::Templates;

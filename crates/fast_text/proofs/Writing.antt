@@ -1,10 +1,12 @@
 -- Texts that are written one after the other.
 use Rattle.std.proofs.Common.{◌≡◌, ℕ, Bool, true, false, IsTrue, List, [], ◌∷◌, ◌++◌, Option, Some, None, refl, ap, sym, ◌∙◌, inl, inr, append_assoc, append-nil}
-use Rattle.std.specs.Prelude.{option_map, is_ok, flat_map, All, Result, Ok, Err, OnOk, OnErr}
+use Rattle.std.specs.Prelude.{is_ok, flat_map, All, Result, Ok, Err, OnOk, OnErr}
+use Rattle.std.specs.Io.KnownBytes.{Keeps}
+use Rattle.std.proofs.KnownBytes.{Appends-nil, Appends-trans, Consumes-nil, Consumes-trans}
 use Rattle.std.proofs.lemmas.Grind.{flat_map-append}
 use Rattle.std.proofs.lemmas.List.Elements.{All-head, All-tail}
 use Rattle.fast_text.specs.declared.line_writer.LineWriter.{LineWriter}
-use Rattle.fast_text.specs.Streams.{Appends, AppendsFront}
+use Rattle.fast_text.specs.Streams.{Reads, Appends, AppendsFront}
 use Rattle.fast_stream.specs.Events.{EventData}
 use Rattle.fast_text.specs.declared.line_sink.LineSink.{LineSink}
 use Rattle.fast_text.specs.LineSink.{whole_line, TakesLine, StopsInLine}
@@ -13,16 +15,39 @@ use Rattle.fast_text.specs.LineWriter.{Point, Puts, Stands, Writes, IsFresh, Fin
 
 -- no text
 pub appends_none : (old : Option (List ℕ)) → Appends old old []
-appends_none None = record { after = refl }
-appends_none (Some xs) = record { after = ap Some (sym (append-nil xs)) }
+appends_none old = record { after = Appends-nil old }
 
 -- one text and then another
 pub appends_both : (old mid new : Option (List ℕ)) (a b : List ℕ) → Appends old mid a → Appends mid new b → Appends old new (a ++ b)
-appends_both old mid new a b first second = record { after = second.after ∙ ap (option_map (λ (xs : List ℕ). xs ++ b)) first.after ∙ joined old }
-  where
-    joined : (o : Option (List ℕ)) → option_map (λ (xs : List ℕ). xs ++ b) (option_map (λ (xs : List ℕ). xs ++ a) o) ≡ option_map (λ (xs : List ℕ). xs ++ (a ++ b)) o
-    joined None = refl
-    joined (Some xs) = ap Some (append_assoc xs a b)
+appends_both old mid new a b first second = record { after = Appends-trans old mid new a b first.after second.after }
+
+-- a text, and then nothing
+pub appends_no_more : (old mid new : Option (List ℕ)) (a : List ℕ) → Appends old mid a → Appends mid new [] → Appends old new a
+appends_no_more old mid new a first second = rw (sym (append-nil a)) (appends_both old mid new a [] first second)
+
+-- What was known stays as it was: nothing is added to it.
+pub appends_kept : (old new : Option (List ℕ)) → Keeps old new → Appends old new []
+appends_kept None new h = record { after = tt }
+appends_kept (Some xs) None h = absurd h
+appends_kept (Some xs) (Some ys) h = record { after = h ∙ sym (append-nil xs) }
+
+-- nothing is read
+pub reads_none : (old : Option (List ℕ)) → Reads old old []
+reads_none old = record { before = Consumes-nil old }
+
+-- one text and then another
+pub reads_both : (old mid new : Option (List ℕ)) (a b : List ℕ) → Reads old mid a → Reads mid new b → Reads old new (a ++ b)
+reads_both old mid new a b first second = record { before = Consumes-trans old mid new a b first.before second.before }
+
+-- a text, and then nothing
+pub reads_no_more : (old mid new : Option (List ℕ)) (a : List ℕ) → Reads old mid a → Reads mid new [] → Reads old new a
+reads_no_more old mid new a first second = rw (sym (append-nil a)) (reads_both old mid new a [] first second)
+
+-- What was known stays as it was: nothing is read of it.
+pub reads_kept : (old new : Option (List ℕ)) → Keeps old new → Reads old new []
+reads_kept None new h = record { before = tt }
+reads_kept (Some xs) None h = absurd h
+reads_kept (Some xs) (Some ys) h = record { before = sym h }
 
 -- A front of the second text is behind the whole of the first.
 pub front_of_second : (old mid new : Option (List ℕ)) (a b : List ℕ) → Appends old mid a → AppendsFront mid new b → AppendsFront old new (a ++ b)

@@ -1,9 +1,14 @@
--- What a write adds to what was written before.
-use Rattle.std.specs.Prelude.{◌≡◌, ℕ, List, ◌++◌, Option, option_map}
+-- What a read takes of what is left, and what a write adds to what was written before.
+use Rattle.std.specs.Prelude.{◌≡◌, ℕ, List, ◌++◌, Option}
+use Rattle.std.specs.Io.KnownBytes.{Consumes, Appends as KnownAppends}
 
--- The text was added, where it is known what was written.
+-- The text was read, where it was known what is left.
+pub record Reads (old new : Option (List ℕ)) (text : List ℕ) : Type 0 where
+  pub before : Consumes old new text
+
+-- The text was added, where it was known what is written.
 pub record Appends (old new : Option (List ℕ)) (text : List ℕ) : Type 0 where
-  pub after : new ≡ option_map (λ xs. xs ++ text) old
+  pub after : KnownAppends old new text
 
 -- A front of the text was added.
 pub record AppendsFront (old new : Option (List ℕ)) (text : List ℕ) : Type 0 where

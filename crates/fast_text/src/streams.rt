@@ -1,13 +1,24 @@
 //! Readers and writers whose bytes a contract can speak of, and the readers and writers of std.
 
-ghost use Rattle.std.specs.Prelude.{◌≡◌, ℕ, ◌≤◌, ◌<◌, List, [], ◌++◌, Bool, false, IsTrue, take, length, Option, Some, None, option_map, IfOk, IfSome, OnOk, OnErr};
-ghost use Rattle.fast_text.specs.Streams.{Appends, AppendsFront};
+ghost use Rattle.std.specs.Prelude.{◌≡◌, ℕ, ◌≤◌, ◌<◌, List, [], ◌++◌, Bool, false, IsTrue, take, length, Option, Some, IfOk, OnOk, OnErr};
+ghost use Rattle.std.specs.Io.KnownBytes.{IsAtEnd};
+ghost use Rattle.fast_text.specs.Streams.{Reads, Appends, AppendsFront};
 
+use std::error::Error;
+use std::fmt;
 use std::io::{Read, Write};
 
 /// A read or a write failed.
 #[derive(Clone, Copy, Debug, PartialEq, Eq)]
 pub struct Failed;
+
+impl fmt::Display for Failed {
+    fn fmt<W: fmt::Write>(&self, f: &mut fmt::Formatter<W>) -> fmt::Result {
+        f.write_str("a read or a write failed")
+    }
+}
+
+impl Error for Failed {}
 
 /// Gives bytes.
 pub trait Source {
@@ -20,9 +31,9 @@ pub trait Source {
     /// end. A read that fails has given nothing.
     fn read(&mut self, buf: &mut [u8]) -> Result<usize, Failed>
         ensures count { IfOk result (λ n. n ≤ length buf.new) }
-        ensures bytes { IfOk result (λ n. left self.old ≡ option_map (λ xs. take n buf.new ++ xs) (left self.new)) }
-        ensures end { IfOk result (λ n. n ≡ 0 → 0 < length buf.new → IfSome (left self.old) (λ xs. xs ≡ [])) }
-        ensures kept { OnErr result (left self.new ≡ left self.old) }
+        ensures bytes { IfOk result (λ n. Reads (left self.old) (left self.new) (take n buf.new)) }
+        ensures end { IfOk result (λ n. n ≡ 0 → 0 < length buf.new → IsAtEnd (left self.new)) }
+        ensures kept { OnErr result (Reads (left self.old) (left self.new) []) }
         ensures fails { OnErr result (IsTrue (has_failed self.new)) }
         ensures stays { OnOk result (has_failed self.new ≡ has_failed self.old) };
 
@@ -44,13 +55,13 @@ pub trait Target {
         ensures count { IfOk result (λ n. n ≤ length piece.now) }
         ensures some { IfOk result (λ n. 0 < length piece.now → 0 < n) }
         ensures bytes { IfOk result (λ n. Appends (written self.old) (written self.new) (take n piece.now)) }
-        ensures kept { OnErr result (written self.new ≡ written self.old) }
+        ensures kept { OnErr result (Appends (written self.old) (written self.new) []) }
         ensures fails { OnErr result (IsTrue (has_failed self.new)) }
         ensures stays { OnOk result (has_failed self.new ≡ has_failed self.old) };
 
     /// Hands on what the target still keeps to itself, so that it can be seen. A target that keeps nothing does nothing.
     fn flush(&mut self) -> Result<(), Failed>
-        ensures kept { written self.new ≡ written self.old }
+        ensures kept { Appends (written self.old) (written self.new) [] }
         ensures fails { OnErr result (IsTrue (has_failed self.new)) }
         ensures stays { OnOk result (has_failed self.new ≡ has_failed self.old) };
 
@@ -177,7 +188,7 @@ impl Target for ToBytes<'_> {
     }
 }
 
-/// A reader or a writer of std, and whether a call of it has failed. What it holds is not known.
+/// A reader or a writer of std, and whether a call of it has failed. It gives and takes what that one gives and takes.
 #[derive(Debug, Drop)]
 pub struct Watched<T> {
     inner: T,
@@ -185,21 +196,31 @@ pub struct Watched<T> {
 }
 
 impl<T> Watched<T> {
-    ghost use Rattle.fast_text.specs.Watched.{has_call_failed};
+    ghost use Rattle.fast_text.specs.Watched.{inner_of, has_call_failed};
 
     /// The reader or writer, with no call yet.
     pub fn new(inner: T) -> Watched<T>
-        ensures { has_call_failed result ≡ false }
+        ensures inner { inner_of result ≡ inner }
+        ensures good { has_call_failed result ≡ false }
     {
         Watched {
             inner,
             broken: false,
         }
     }
+
+    /// The reader or writer, as the calls have left it.
+    pub fn into_inner(self) -> T
+        ensures { result ≡ inner_of self }
+    {
+        self.inner
+    }
 }
 
 impl<R: Read> Source for Watched<R> {
-    ghost left = { λ _. None };
+    ghost use Rattle.fast_text.specs.Watched.{inner_of};
+
+    ghost left = { λ s. R.remaining (inner_of s) };
 
     ghost has_failed = { λ s. s.broken };
 
@@ -219,7 +240,9 @@ impl<R: Read> Source for Watched<R> {
 }
 
 impl<W: Write> Target for Watched<W> {
-    ghost written = { λ _. None };
+    ghost use Rattle.fast_text.specs.Watched.{inner_of};
+
+    ghost written = { λ s. W.contents (inner_of s) };
 
     ghost has_failed = { λ s. s.broken };
 

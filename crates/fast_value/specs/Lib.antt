@@ -1,4 +1,5 @@
 pub mod Limits
+pub mod Codes
 pub mod Kinds
 pub mod Messages
 pub mod Initial

@@ -1,6 +1,10 @@
 -- Limits, which are those of the Rust struct.
-use Rattle.std.specs.Prelude.{ℕ, Bool}
+use Rattle.std.specs.Prelude.{ℕ, Bool, false}
 use Rattle.fast_value.specs.declared.settings.Limits.{Limits}
+
+-- the limits that are kept to where no others are asked for
+abbrev pub default_limits : Limits
+default_limits = record { strict = false; max_text = 1024; max_elements = 1000; max_total = 1000 }
 
 -- the same limits in a mode
 abbrev pub in_mode : Bool → Limits → Limits

@@ -1,5 +1,8 @@
 //! What can be wrong with a stream.
 
+use std::error::Error;
+use std::fmt;
+
 /// What is wrong with a stream. Codes that begin with D or R are those that the FAST Specification Version 1.1 lists as
 /// dynamic and reportable errors; codes that begin with L are limits of this decoder.
 #[derive(Clone, Copy, Debug, PartialEq, Eq)]
@@ -37,3 +40,83 @@ pub enum Code {
     /// The sequences of one message have more elements than `max_total`.
     L5,
 }
+
+impl Code {
+    ghost use Rattle.std.specs.Prelude.{◌≡◌};
+    ghost use Rattle.fast_value.specs.Codes.{stream_code_number, stream_code_text};
+
+    /// The number of the code, for a caller that cannot be handed an enum. It is never given to another code.
+    pub fn number(self) -> u8
+        ensures { result ≡ stream_code_number self }
+    {
+        match self {
+            Code::D2 => 1,
+            Code::D4 => 2,
+            Code::D5 => 3,
+            Code::D6 => 4,
+            Code::D7 => 5,
+            Code::D9 => 6,
+            Code::R1 => 7,
+            Code::R2 => 8,
+            Code::R6 => 9,
+            Code::R7 => 10,
+            Code::R8 => 11,
+            Code::R9 => 12,
+            Code::L1 => 13,
+            Code::L2 => 14,
+            Code::L3 => 15,
+            Code::L5 => 19,
+        }
+    }
+
+    /// The name of the code: `D2`, where `Display` says in words what is wrong.
+    pub fn name(self) -> &'static str
+        ensures { result.now ≡ stream_code_text self }
+    {
+        match self {
+            Code::D2 => "D2",
+            Code::D4 => "D4",
+            Code::D5 => "D5",
+            Code::D6 => "D6",
+            Code::D7 => "D7",
+            Code::D9 => "D9",
+            Code::R1 => "R1",
+            Code::R2 => "R2",
+            Code::R6 => "R6",
+            Code::R7 => "R7",
+            Code::R8 => "R8",
+            Code::R9 => "R9",
+            Code::L1 => "L1",
+            Code::L2 => "L2",
+            Code::L3 => "L3",
+            Code::L5 => "L5",
+        }
+    }
+}
+
+impl fmt::Display for Code {
+    fn fmt<W: fmt::Write>(&self, f: &mut fmt::Formatter<W>) -> fmt::Result {
+        f.write_str(match self {
+            Code::D2 => "an integer lies outside its type, or has ten bytes and no stop bit",
+            Code::D4 => "the previous value is of another type than the field",
+            Code::D5 =>
+                "a mandatory field is not sent, its previous value is undefined, and there is no initial value",
+            Code::D6 =>
+                "a mandatory field is not sent, or a delta is, and the previous value is empty",
+            Code::D7 => "a subtraction length is greater than the base, or is no int32",
+            Code::D9 => "no template has the identifier",
+            Code::R1 => "the exponent or the mantissa of a decimal is out of range",
+            Code::R2 => "a Unicode string is not UTF-8",
+            Code::R6 => "an integer has more bytes than it needs",
+            Code::R7 => "a presence map has more bytes than it needs",
+            Code::R8 => "a presence map has more bits than its segment can use",
+            Code::R9 => "an ASCII string begins with a zero character",
+            Code::L1 => "a text is longer than the limit on texts",
+            Code::L2 => "a sequence has more elements than the limit on sequences",
+            Code::L3 => "a presence map has 146 bytes and no stop bit",
+            Code::L5 => "the sequences of a message have more elements than the limit on messages",
+        })
+    }
+}
+
+impl Error for Code {}

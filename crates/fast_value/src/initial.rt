@@ -10,6 +10,8 @@ use crate::kinds::Kind;
 use crate::values::Value;
 use hex::FromHexError;
 use std::alloc::{AllocError, Global};
+use std::error::Error;
+use std::fmt;
 
 /// Why a text gives no initial value.
 #[derive(Clone, Copy, Debug, PartialEq, Eq)]
@@ -19,6 +21,17 @@ pub enum InitialFault {
     /// There was no memory left.
     Memory,
 }
+
+impl fmt::Display for InitialFault {
+    fn fmt<W: fmt::Write>(&self, f: &mut fmt::Formatter<W>) -> fmt::Result {
+        f.write_str(match self {
+            InitialFault::S3 => "the text is no value of the kind",
+            InitialFault::Memory => "there is no memory left",
+        })
+    }
+}
+
+impl Error for InitialFault {}
 
 impl From<AllocError> for InitialFault {
     ghost use Rattle.std.specs.Prelude.{◌≡◌};

@@ -12,5 +12,5 @@ pub use codes::Code;
 pub use initial::{InitialFault, parse_initial};
 pub use kinds::Kind;
 pub use messages::{Item, Message};
-pub use settings::Limits;
+pub use settings::{Limits, MAX_TEXT, MIN_TEXT};
 pub use values::{Scalar, Value};

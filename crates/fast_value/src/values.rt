@@ -3,7 +3,7 @@
 use std::alloc::{AllocError, Global};
 
 /// A value of a field, as it is lent to a sink.
-#[derive(Clone, Copy, Debug)]
+#[derive(Clone, Copy, Debug, PartialEq, Eq)]
 pub enum Scalar<'a> {
     /// An unsigned integer.
     U(u64),

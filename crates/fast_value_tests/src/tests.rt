@@ -1,6 +1,6 @@
-//! Texts of initial values, and a value that is lent and copied.
+//! Texts of initial values, a value that is lent and copied, and what stands for a code.
 
-use fast_value::{InitialFault, Kind, Scalar, Value, parse_initial};
+use fast_value::{Code, InitialFault, Kind, Limits, Scalar, Value, parse_initial};
 use std::alloc::Global;
 use std::test::Fail;
 
@@ -119,4 +119,38 @@ fn a_copy_is_the_same_value(rt: HostRuntime) -> Result<(), Fail> {
     let lent = matches!(copy.as_scalar(), Scalar::Ascii(lent) if lent == text.as_slice());
     assert!(rt; lent);
     Ok(())
+}
+
+#[test]
+fn a_code_has_a_number_a_name_and_a_sentence(rt: HostRuntime) -> Result<(), Fail> {
+    let alloc = rt.alloc();
+    for (code, number, line) in [
+        (
+            Code::D2,
+            1,
+            "D2: an integer lies outside its type, or has ten bytes and no stop bit",
+        ),
+        (Code::D9, 6, "D9: no template has the identifier"),
+        (
+            Code::L3,
+            15,
+            "L3: a presence map has 146 bytes and no stop bit",
+        ),
+    ] {
+        let name = code.name();
+        let found = format!(in alloc; "{name}: {code}")?;
+        assert!(rt; found == line && code.number() == number, "{found}");
+    }
+    Ok(())
+}
+
+#[test]
+fn limits_have_a_default(rt: HostRuntime) {
+    let limits = Limits {
+        strict: false,
+        max_text: 1024,
+        max_elements: 1000,
+        max_total: 1000,
+    };
+    assert_eq!(rt; Limits::default(), limits, "limits");
 }

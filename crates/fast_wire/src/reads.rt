@@ -8,6 +8,9 @@ ghost use Rattle.std.specs.Prelude.{◌≡◌, ◌≢◌, ◌<◌, ◌≤◌, �
 ghost use Rattle.fast_wire.specs.Entities.{IsEntity, number, has_sign, signed, IsOverlong};
 ghost use Rattle.fast_wire.specs.Integers.{value, Means, IsWithin, IsInteger, SpellsInt, IsOutside, unsigned_up_to, signed_between};
 
+use std::error::Error;
+use std::fmt;
+
 /// Why an entity is no integer of its type.
 #[derive(Clone, Copy, Debug, PartialEq, Eq)]
 pub enum WireFault {
@@ -16,6 +19,17 @@ pub enum WireFault {
     /// The integer lies outside its type, or ten bytes have no stop bit.
     D2,
 }
+
+impl fmt::Display for WireFault {
+    fn fmt<W: fmt::Write>(&self, f: &mut fmt::Formatter<W>) -> fmt::Result {
+        f.write_str(match self {
+            WireFault::R6 => "the integer has more bytes than it needs",
+            WireFault::D2 => "the integer lies outside its type, or ten bytes have no stop bit",
+        })
+    }
+}
+
+impl Error for WireFault {}
 
 /// The mandatory integer of an entity of at most ten bytes, from 0 to `top`.
 ///

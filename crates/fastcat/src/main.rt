@@ -4,11 +4,11 @@
 use clap::Error;
 use clap::error::ErrorKind;
 use fast_command::{
-    BUILT_IN, Plan, RunFault, ShowEnd, Task, built_in, plan, read_whole, report, run_check,
-    run_show,
+    BUILT_IN, Plan, RunFault, ShowEnd, Task, built_in, plan, read_templates, report, run_check,
+    show_all,
 };
-use fast_template::{StaticCode, StaticFault, Templates};
-use fast_text::{Source, Target, Watched};
+use fast_template::Templates;
+use fast_text::{Source, Watched};
 use std::alloc::{AllocError, Global};
 use std::io::{self, BufWriter};
 use std::process::ExitCode;
@@ -33,43 +33,31 @@ fn show_from<S: Source>(
     let Ok(output) = BufWriter::new(rt.alloc(), rt.stdout()) else {
         return Err(RunFault::Memory);
     };
-    let mut target = Watched::new(output);
-    let ending = run_show(
+    show_all(
         rt.alloc(),
         templates,
         plan.limits(),
         plan.hex,
         MAX_READS,
         reader,
-        &mut target,
-    );
-    match Target::flush(&mut target) {
-        Ok(()) => ending,
-        Err(_) => Err(RunFault::Write),
-    }
+        &mut Watched::new(output),
+    )
 }
 
-/// The template set of a path, or the built-in one.
-fn templates_of(rt: &HostRuntime, path: &str) -> Result<Templates, RunFault> {
-    if path == BUILT_IN {
+/// The template set that a plan names.
+fn templates_of(rt: &HostRuntime, plan: &Plan<'_>) -> Result<Templates, RunFault> {
+    if plan.has_built_in() {
         return Ok(built_in(rt.alloc())?);
     }
-    let Ok(file) = fs::open(rt, path) else {
-        return Err(RunFault::Read);
-    };
-    let text = read_whole(rt.alloc(), &mut Watched::new(file))?;
-    match str::from_utf8(&text) {
-        Ok(text) => Ok(Templates::read(rt.alloc(), text)?),
-        Err(_) => Err(RunFault::Templates(StaticFault {
-            code: StaticCode::S1,
-            template: None,
-        })),
+    match fs::open(rt, plan.templates) {
+        Ok(file) => read_templates(rt.alloc(), &mut Watched::new(file)),
+        Err(_) => Err(RunFault::Read),
     }
 }
 
 /// Does what a plan asks for.
 fn carry_out(rt: &HostRuntime, plan: &Plan<'_>) -> Result<ShowEnd, RunFault> {
-    let templates = templates_of(rt, plan.templates)?;
+    let templates = templates_of(rt, plan)?;
     match (plan.task, plan.input) {
         (Task::Check, _) => {
             let mut target = Watched::new(rt.stdout());

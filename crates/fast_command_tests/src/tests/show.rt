@@ -2,7 +2,7 @@
 
 use super::sinks::{Drip, Flushed, Lines};
 use super::{LENIENT, expect, set_of};
-use fast_command::{RunFault, ShowEnd, built_in, run_show};
+use fast_command::{RunFault, ShowEnd, built_in, run_show, show_all};
 use fast_template::Templates;
 use fast_text::{FromBytes, Source, Target, ToBytes};
 use fast_value::Limits;
@@ -429,6 +429,30 @@ fn lines_can_be_seen_before_each_read(rt: HostRuntime) -> Result<(), Fail> {
         );
         let is_right = end == Err(fault) && source.reads == reads && target.flushes == flushes;
         expect(&rt, is_right, "flushes", 6);
+    }
+    Ok(())
+}
+
+#[test]
+fn a_failure_of_the_last_flush_is_told(rt: HostRuntime) -> Result<(), Fail> {
+    let set = built_in(rt.alloc())?;
+    for (fails_at, due) in [(3, Err(RunFault::Write)), (4, Ok(ShowEnd::Good))] {
+        let mut source = FromBytes::new(b"\xc0\x81\x39\x45\xa3");
+        let mut target = Flushed {
+            flushes: 0,
+            fails_at,
+            failed: false,
+        };
+        let end = show_all(
+            rt.alloc(),
+            &set,
+            LENIENT,
+            false,
+            6,
+            &mut source,
+            &mut target,
+        );
+        expect(&rt, end == due && target.flushes == 3, "last flush", 3);
     }
     Ok(())
 }

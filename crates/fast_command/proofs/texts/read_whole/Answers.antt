@@ -1,18 +1,22 @@
-use Rattle.std.proofs.Common.{◌≡◌, ◌<◌, ◌++◌, ◌∙◌, ap, append-nil, inr, length, option_map, take, rules, [], List, ℕ}
+use Rattle.std.proofs.Common.{◌≡◌, ◌<◌, ◌++◌, ap, inr, length, take, rules, [], List, ℕ}
+use Rattle.fast_text.proofs.Writing.{reads_none, reads_both, reads_no_more}
 use Rattle.fast_command.specs.Texts.{text_limit}
-use Rattle.fast_command.proofs.Showing.{read_both}
 use Rattle.fast_command.proofs.texts.read_whole.Goals as goal
+
+pub loop-read-init : goal.loop-read-init
+loop-read-init g c = record { bytes = reads_none (g.S.Source.left c.args.reader.now); many = search rules; few = search rules }
+
+pub loop-read-preserved : goal.loop-read-preserved
+loop-read-preserved g c = record { bytes = reads_both _ _ _ _ _ c.loop-read.invariant.bytes c.in-Ok.ensures.bytes; many = search rules; few = search rules }
 
 pub returns-then-count-eq0-clause-whole : goal.returns-then-count-eq0-clause-whole
 returns-then-count-eq0-clause-whole g c =
-    let text = c.loop-read.text.items in
-    let piece = take c.in-Ok.count c.read.new.buf in
-    let none : piece ≡ [] = ap (λ n. take n c.read.new.buf) c.if-count-eq0.true in
-    read_both _ _ _ text piece c.loop-read.invariant.bytes c.in-Ok.ensures.bytes ∙ ap (λ (t : List ℕ). option_map (λ xs. t ++ xs) (g.S.Source.left c.read.new.self)) (ap (λ p. text ++ p) none ∙ append-nil text)
+    let none : take c.in-Ok.count c.read.new.buf ≡ [] = ap (λ n. take n c.read.new.buf) c.if-count-eq0.true in
+    reads_no_more _ _ _ _ c.loop-read.invariant.bytes (rw none at c.in-Ok.ensures.bytes)
 
 pub returns-then-len-gt-LIMIT-clause-unread : goal.returns-then-len-gt-LIMIT-clause-unread
 returns-then-len-gt-LIMIT-clause-unread g c =
     let text = c.loop-read.text.items in
     let piece = take c.in-Ok.count c.read.new.buf in
     let long : text_limit < length (text ++ piece) = search rules in
-    inr (text ++ piece, read_both _ _ _ text piece c.loop-read.invariant.bytes c.in-Ok.ensures.bytes, long)
+    inr (text ++ piece, reads_both _ _ _ text piece c.loop-read.invariant.bytes c.in-Ok.ensures.bytes, long)

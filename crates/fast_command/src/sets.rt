@@ -1,0 +1,29 @@
+//! The template set of a call.
+
+ghost use Rattle.std.specs.Prelude.{IfOk, IfErr, IsTrue};
+ghost use Rattle.fast_command.specs.Sets.{IsSetRead, IsSetRefused};
+
+use crate::faults::RunFault;
+use crate::texts::read_whole;
+use fast_template::{StaticCode, StaticFault, Templates};
+use fast_text::Source;
+use std::alloc::Global;
+
+/// Reads a template set from its text, of any length: one of more than 16,777,216 bytes cannot be read.
+///
+/// # Errors
+///
+/// That the text cannot be read; then that it is no template set, which is S1 where it is not UTF-8; or that there is no memory.
+pub fn read_templates<S: Source>(alloc: Global, reader: &mut S) -> Result<Templates, RunFault>
+    ensures set { IfOk result (λ t. IsSetRead (S.left reader.old) (S.left reader.new) t) }
+    ensures refused { IfErr result (λ e. IsSetRefused (S.left reader.old) (S.left reader.new) (IsTrue (S.has_failed reader.new)) e) }
+{
+    let text = read_whole(alloc, reader)?;
+    match str::from_utf8(&text) {
+        Ok(text) => Ok(Templates::read(alloc, text)?),
+        Err(_) => Err(RunFault::Templates(StaticFault {
+            code: StaticCode::S1,
+            template: None,
+        })),
+    }
+}
