@@ -1,14 +1,14 @@
 -- Entries of a ledger that are changed one at a time.
 use Rattle.std.proofs.Common.{◌≡◌, ◌⊎◌, inl, inr, ℕ, suc, ◌+◌, ◌-◌, ◌<◌, ◌≤◌, List, [], ◌∷◌, ◌++◌, length, map, get_or, set, take, drop, refl, ap, sym, subst, ◌∙◌, arith}
-use Rattle.std.specs.Prelude.{zero, replicate, slice_index_or, slice_set, All, Bool, true, false, nat_eq, if◌then◌else◌}
-use Rattle.std.proofs.lemmas.List.{map-set, map-append, set-get_or, get_or-set_other, length-set}
+use Rattle.std.specs.Prelude.{zero, replicate, All, Bool, if◌then◌else◌}
+use Rattle.std.proofs.lemmas.List.{map-set, map-append, set-get_or, get_or-set_other}
 use Rattle.std.proofs.lemmas.Grind.{get_or-set_at}
 use Rattle.std.proofs.lemmas.Bool.{cases_lt, ne_eqb}
 use Rattle.fast_dict.proofs.Clearing.{cleared_more}
 use Rattle.fast_dict.specs.Dictionary.{Dictionary, PreviousData, undefined}
 use Rattle.fast_spelling.specs.declared.entry.Entry.{Entry}
 use Rattle.fast_spelling.specs.Entries.{held_data, entry_now, entry_before, IsShort}
-use Rattle.fast_spelling.specs.Ledgers.{all_now, all_before, IsKept, AreKept}
+use Rattle.fast_spelling.specs.Ledgers.{all_now, all_before, AreKept}
 
 -- What does not change of one entry does not change of all.
 pub same_at : {B : Type 0} (f : Entry → B) (es : List Entry) (i : ℕ) (old new : Entry) → old ≡ get_or es i old → f new ≡ f old → map f (set es i new) ≡ map f es

@@ -28,3 +28,6 @@ pub mod MessagesAgain
 pub mod NoZeros
 pub mod GrantedSets
 pub mod Examples
+pub mod Groups
+pub mod Usual
+pub mod OneByte

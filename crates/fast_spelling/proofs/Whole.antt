@@ -1,6 +1,6 @@
 -- A whole message: its identifier is never refused, and what is written or refused of its parts is so of the message.
 use Rattle.std.proofs.Common.{◌≡◌, inl, inr, ℕ, List, [], ◌++◌, refl, ap, sym, subst, ◌∙◌}
-use Rattle.std.specs.Prelude.{Bool, true, false, if◌then◌else◌, take, drop, Option, Some, Result, Ok, Err, IfErr, slice_get, option_map}
+use Rattle.std.specs.Prelude.{Bool, true, false, if◌then◌else◌, take, drop, Some, Result, Ok, Err, IfErr, slice_get, option_map}
 use Rattle.std.proofs.lemmas.List.{append_assoc}
 use Rattle.std.proofs.lemmas.Option.{slice_get-map}
 use Rattle.fast_value.specs.declared.settings.Limits.{Limits}

@@ -3,7 +3,6 @@ use Rattle.std.specs.Prelude.{ℕ, ◌≤◌, nat_eq, if◌then◌else◌, List,
 use Rattle.fast_value.specs.Kinds.{U, I, Dec, AsciiText, UnicodeText, ByteVector}
 use Rattle.fast_dict.specs.Dictionary.{PreviousData, undefined, empty, assigned}
 use Rattle.fast_spelling.specs.declared.entry.Held.{Held}
-use Rattle.fast_spelling.specs.declared.entry.Held.TheVariants as Held
 use Rattle.fast_spelling.specs.declared.entry.Entry.{Entry}
 
 -- what is held, with the bytes of a text

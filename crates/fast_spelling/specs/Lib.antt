@@ -9,3 +9,5 @@ pub mod Nodes
 pub mod Progress
 pub mod Again
 pub mod Refused
+pub mod Groups
+pub mod Usual

@@ -56,6 +56,7 @@ impl Draft {
     /// # Errors
     ///
     /// Memory was refused.
+    #[inline(always)]
     pub fn push_bit(&mut self, bit: bool) -> Result<(), AllocError>
         ensures bits { OnOk result (self.new.bits.items ≡ self.old.bits.items ++ bit ∷ []) }
         ensures bytes { self.new.bytes.items ≡ self.old.bytes.items }
@@ -69,6 +70,7 @@ impl Draft {
     /// # Errors
     ///
     /// Memory was refused.
+    #[inline(always)]
     pub fn push_bit_if(&mut self, used: bool, bit: bool) -> Result<(), AllocError>
         ensures bits { OnOk result (self.new.bits.items ≡ self.old.bits.items ++ (if used then bit ∷ [] else [])) }
         ensures bytes { self.new.bytes.items ≡ self.old.bytes.items }
@@ -95,6 +97,7 @@ impl Draft {
     /// # Errors
     ///
     /// E3 if no map has room for the bits; memory was refused.
+    #[inline(always)]
     pub fn close(&mut self, mark: Mark, has_map: bool) -> Result<(), EncodeFault>
         requires bytes { mark.bytes ≤ vec_len self.old.bytes }
         requires bits { mark.bits ≤ vec_len self.old.bits }
@@ -104,14 +107,50 @@ impl Draft {
         ensures err { IfErr result (IsTold (λ c. (c ≡ E3) × (has_map ≡ true) × HaveNoMap (drop mark.bits self.old.bits.items))) }
     {
         if has_map {
-            match map_of(&self.bits[mark.bits..]) {
-                Some(map) => insert(&mut self.bytes, mark.bytes, map.as_slice())?,
-                None => return Err(EncodeFault::E3),
-            }
+            put_map(&mut self.bytes, mark.bytes, &self.bits[mark.bits..])?;
         }
         self.bits.truncate(mark.bits);
         Ok(())
     }
+}
+
+/// Puts the shortest map of the bits in front of what stands behind a place.
+///
+/// # Errors
+///
+/// E3 if no map has room for the bits; memory was refused.
+#[inline(always)]
+fn put_map(bytes: &mut Vec<u8>, place: usize, presence: &[bool]) -> Result<(), EncodeFault>
+    requires { place ≤ vec_len bytes.old }
+    ensures ok { OnOk result (Closes true (take place bytes.old.items) (drop place bytes.old.items) presence.now bytes.new.items) }
+    ensures err { IfErr result (IsTold (λ c. (c ≡ E3) × HaveNoMap presence.now)) }
+{
+    match byte_of(presence) {
+        Some(byte) => insert(bytes, place, &[byte])?,
+        None => match map_of(presence) {
+            Some(map) => insert(bytes, place, map.as_slice())?,
+            None => return Err(EncodeFault::E3),
+        },
+    }
+    Ok(())
+}
+
+/// The map of the bits, if one byte is enough.
+#[inline(always)]
+fn byte_of(presence: &[bool]) -> Option<u8>
+    ensures map { IfSome result (λ byte. IsMap true (byte ∷ [])) }
+    ensures bits { IfSome result (λ byte. SameBits (bits (byte ∷ [])) presence.now) }
+{
+    let mut cell = 0;
+    for (i, bit) in presence.iter().enumerate() {
+        if *bit {
+            if i >= 7 {
+                return None;
+            }
+            cell |= 0x40 >> i;
+        }
+    }
+    Some(cell | 0x80)
 }
 
 /// The shortest map of the bits, if there is one.
@@ -136,6 +175,7 @@ fn map_of(presence: &[bool]) -> Option<ArrayVec<u8, MAP_LIMIT>>
 const MOST_BITS: usize = 7 * MAP_LIMIT;
 
 /// Puts a piece in front of what stands behind a place.
+#[inline(always)]
 fn insert(bytes: &mut Vec<u8>, place: usize, piece: &[u8]) -> Result<(), AllocError>
     requires { place ≤ vec_len bytes.old }
     ensures { OnOk result (bytes.new.items ≡ take place bytes.old.items ++ piece.now ++ drop place bytes.old.items) }

@@ -1,6 +1,6 @@
 //! An entry of the encoder's dictionary: what it holds, and what it held before the message that changes it.
 
-ghost use Rattle.std.specs.Prelude.{◌≡◌, ◌≤◌, ℕ, length, OnOk};
+ghost use Rattle.std.specs.Prelude.{◌≡◌, ◌≤◌, ℕ, length, IfSome, OnOk};
 ghost use Rattle.fast_value.specs.Kinds.{text_of};
 ghost use Rattle.fast_value.specs.Values.{scalar_data};
 ghost use Rattle.fast_dict.specs.Dictionary.{assigned, empty, undefined};
@@ -67,6 +67,7 @@ impl Entry {
     }
 
     /// What it holds. A text is lent.
+    #[inline(always)]
     pub fn as_previous(&self) -> Previous<'_>
         ensures { previous_data result ≡ entry_now self.now }
     {
@@ -84,7 +85,20 @@ impl Entry {
         }
     }
 
+    /// The integer that it holds, if it holds one that a field of the type kept.
+    #[inline(always)]
+    pub fn integer(&self, kind: Kind) -> Option<Scalar<'static>>
+        ensures { IfSome result (λ v. entry_now self.now ≡ assigned kind (scalar_data v)) }
+    {
+        match self.held {
+            Held::U(found, number) if found == kind => Some(Scalar::U(number)),
+            Held::I(found, number) if found == kind => Some(Scalar::I(number)),
+            _ => None,
+        }
+    }
+
     /// Notes that it is changed in this message: what it holds is kept, unless that was noted already.
+    #[inline(always)]
     pub fn touch(&mut self, epoch: u64)
         ensures epoch { self.new.epoch ≡ epoch }
         ensures before { entry_before epoch self.new ≡ entry_before epoch self.old }
@@ -103,6 +117,7 @@ impl Entry {
     /// # Errors
     ///
     /// Memory was refused.
+    #[inline(always)]
     pub fn assign(&mut self, kind: Kind, scalar: Scalar<'_>) -> Result<(), AllocError>
         ensures now { OnOk result (entry_now self.new ≡ assigned kind (scalar_data scalar.entry)) }
         ensures epoch { self.new.epoch ≡ self.old.epoch }
@@ -130,6 +145,7 @@ impl Entry {
     }
 
     /// Holds that the field was absent.
+    #[inline(always)]
     pub fn clear(&mut self)
         ensures now { entry_now self.new ≡ empty }
         ensures epoch { self.new.epoch ≡ self.old.epoch }

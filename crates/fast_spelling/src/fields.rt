@@ -1,6 +1,6 @@
 //! A field: its presence bit, its item, and the entry behind it.
 
-ghost use Rattle.std.specs.Prelude.{◌≡◌, ℕ, ◌<◌, ◌≤◌, length, option_map, IfSome, OnOk, IfErr, Ok};
+ghost use Rattle.std.specs.Prelude.{◌≡◌, ℕ, ◌<◌, ◌≤◌, length, option_map, Some, IfSome, OnOk, IfErr, Ok};
 ghost use Rattle.fast_value.specs.declared.settings.Limits.{Limits};
 ghost use Rattle.fast_value.specs.Kinds.{ScalarData, text_of};
 ghost use Rattle.fast_value.specs.Values.{scalar_data};
@@ -9,18 +9,22 @@ ghost use Rattle.fast_dict.specs.Dictionary.{previous_at, write_at};
 ghost use Rattle.fast_dict.specs.Held.{text_size};
 ghost use Rattle.fast_dict.specs.Operators.{delta_base};
 ghost use Rattle.fast_dict.specs.Previous.{previous_data};
+ghost use Rattle.fast_dict.specs.Rule.{Rule};
+ghost use Rattle.fast_dict.specs.Sending.{sent_data};
 ghost use Rattle.fast_spelling.specs.Encoding.{EncodesField};
-ghost use Rattle.fast_spelling.specs.Drafts.{IsTold};
+ghost use Rattle.fast_spelling.specs.Drafts.{IsSendable, IsTold};
 ghost use Rattle.fast_spelling.specs.Fields.{IsServed, IsSuited, IsNarrow, Wrote, next_of};
+ghost use Rattle.fast_spelling.specs.Nodes.{Keeps};
 ghost use Rattle.fast_spelling.specs.Refusals.{RefusesField};
 
 use crate::draft::Draft;
 use crate::faults::EncodeFault;
 use crate::items::write_item;
 use crate::ledger::Ledger;
+use crate::quick::{write_other, write_signed, write_unsigned};
 use fast_dict::operators::delta_base;
 use fast_dict::rule::uses_bit;
-use fast_dict::{Previous, choose};
+use fast_dict::{Previous, Sent, choose};
 use fast_template::{FieldInstruction, Operator};
 use fast_value::Scalar;
 use std::alloc::AllocError;
@@ -30,7 +34,58 @@ use std::alloc::AllocError;
 /// # Errors
 ///
 /// E3, R9; memory was refused. Then the draft is of no use.
+#[inline(always)]
 pub fn write_field(
+    draft: &mut Draft,
+    ledger: &mut Ledger,
+    field: &FieldInstruction,
+    value: Option<Scalar<'_>>,
+) -> Result<(), EncodeFault>
+    requires served { IsServed ledger.old (field_data field.now) }
+    requires suited { IsSuited ledger.old.max_text (field_data field.now) (option_map scalar_data value) }
+    ensures ok { OnOk result ((l : Limits) → l.max_text ≡ ledger.old.max_text
+        → Wrote (EncodesField l (field_data field.now) ledger.old.now (option_map scalar_data value.entry)) draft.old draft.new ledger.new.now) }
+    ensures err { IfErr result (IsTold (RefusesField (field_data field.now) ledger.old.now (option_map scalar_data value.entry))) }
+    ensures before { ledger.new.before ≡ ledger.old.before }
+    ensures max_text { ledger.new.max_text ≡ ledger.old.max_text }
+    ensures length { length ledger.new.now ≡ length ledger.old.now }
+{
+    match value {
+        Some(present) => write_present(draft, ledger, field, present),
+        None => write_chosen(draft, ledger, field, value),
+    }
+}
+
+/// Writes a field that has the value.
+#[inline(always)]
+fn write_present(
+    draft: &mut Draft,
+    ledger: &mut Ledger,
+    field: &FieldInstruction,
+    value: Scalar<'_>,
+) -> Result<(), EncodeFault>
+    requires served { IsServed ledger.old (field_data field.now) }
+    requires suited { IsSuited ledger.old.max_text (field_data field.now) (Some (scalar_data value)) }
+    ensures ok { OnOk result ((l : Limits) → l.max_text ≡ ledger.old.max_text
+        → Wrote (EncodesField l (field_data field.now) ledger.old.now (Some (scalar_data value.entry))) draft.old draft.new ledger.new.now) }
+    ensures err { IfErr result (IsTold (RefusesField (field_data field.now) ledger.old.now (Some (scalar_data value.entry)))) }
+    ensures keeps { Keeps ledger.old ledger.new }
+{
+    match value {
+        Scalar::U(number) => write_unsigned(draft, ledger, field, number),
+        Scalar::I(number) => write_signed(draft, ledger, field, number),
+        Scalar::Dec { .. } | Scalar::Ascii(_) | Scalar::Unicode(_) | Scalar::Bytes(_) => {
+            write_other(draft, ledger, field, value)
+        }
+    }
+}
+
+/// Writes a field that has any value, or is absent, as the rule chooses.
+///
+/// # Errors
+///
+/// E3, R9; memory was refused. Then the draft is of no use.
+pub fn write_chosen(
     draft: &mut Draft,
     ledger: &mut Ledger,
     field: &FieldInstruction,
@@ -50,16 +105,45 @@ pub fn write_field(
     let Some(choice) = choose(field, previous, value) else {
         return Err(EncodeFault::E3);
     };
+    send(draft, ledger, field, value, choice.bit, choice.item)
+}
+
+/// Writes what stands in the stream for the field's value or absence, by the rule, and keeps that.
+///
+/// # Errors
+///
+/// R9; memory was refused. Then the draft is of no use.
+#[inline(always)]
+pub fn send(
+    draft: &mut Draft,
+    ledger: &mut Ledger,
+    field: &FieldInstruction,
+    value: Option<Scalar<'_>>,
+    bit: bool,
+    item: Sent<'_>,
+) -> Result<(), EncodeFault>
+    requires served { IsServed ledger.old (field_data field.now) }
+    requires suited { IsSuited ledger.old.max_text (field_data field.now) (option_map scalar_data value) }
+    requires ruled { Rule (field_data field.now) (previous_at (field_data field.now).entry ledger.old.now) (option_map scalar_data value) bit (sent_data item) }
+    requires sendable { IsSendable (field_data field.now) (sent_data item) }
+    ensures ok { OnOk result ((l : Limits) → l.max_text ≡ ledger.old.max_text
+        → Wrote (EncodesField l (field_data field.now) ledger.old.now (option_map scalar_data value.entry)) draft.old draft.new ledger.new.now) }
+    ensures err { IfErr result (IsTold (RefusesField (field_data field.now) ledger.old.now (option_map scalar_data value.entry))) }
+    ensures before { ledger.new.before ≡ ledger.old.before }
+    ensures max_text { ledger.new.max_text ≡ ledger.old.max_text }
+    ensures length { length ledger.new.now ≡ length ledger.old.now }
+{
     if uses_bit(field) {
-        draft.push_bit(choice.bit)?;
+        draft.push_bit(bit)?;
     }
-    write_item(&mut draft.bytes, field, choice.item)?;
+    write_item(&mut draft.bytes, field, item)?;
     keep(ledger, field, value)?;
     Ok(())
 }
 
 /// What the field's operator reads.
-fn previous_of<'a>(ledger: &'a Ledger, field: &FieldInstruction) -> Previous<'a>
+#[inline(always)]
+pub fn previous_of<'a>(ledger: &'a Ledger, field: &FieldInstruction) -> Previous<'a>
     requires { IsServed ledger.now (field_data field.now) }
     ensures value { previous_data result ≡ previous_at (field_data field.now).entry ledger.now.now }
     ensures short { text_size (previous_data result) ≤ ledger.now.max_text }
@@ -98,6 +182,7 @@ fn note_range(value: Scalar<'_>)
 }
 
 /// Keeps what the field's operator writes for the value, or its absence.
+#[inline(always)]
 fn keep(
     ledger: &mut Ledger,
     field: &FieldInstruction,

@@ -15,17 +15,17 @@ ghost use Rattle.fast_spelling.specs.Drafts.{Adds, IsTold, IsSendable, IsSendabl
 ghost use Rattle.fast_spelling.specs.Refusals.{HasZeroInFront};
 
 use crate::faults::EncodeFault;
+use crate::integers::{write_signed_as, write_unsigned_as};
 use fast_dict::Sent;
 use fast_template::FieldInstruction;
 use fast_value::{Kind, Scalar};
-use fast_wire::{write_nullable_signed, write_nullable_unsigned, write_signed, write_unsigned};
-use std::alloc::AllocError;
 
 /// Writes the item of a field: nothing for [`Sent::Nothing`].
 ///
 /// # Errors
 ///
 /// R9 if the item is an ASCII text that begins with a zero character; memory was refused.
+#[inline(always)]
 pub fn write_item(
     bytes: &mut Vec<u8>,
     field: &FieldInstruction,
@@ -62,6 +62,7 @@ pub fn write_item(
 const NULL: [u8; 1] = [0x80];
 
 /// Writes a value of a kind.
+#[inline(always)]
 fn write_value(
     bytes: &mut Vec<u8>,
     kind: Kind,
@@ -138,28 +139,3 @@ fn write_ascii(bytes: &mut Vec<u8>, nullable: bool, text: &[u8]) -> Result<(), E
 
 /// The empty ASCII text where NULL may be.
 const EMPTY_NULLABLE: [u8; 2] = [0x00, 0x80];
-
-/// Writes an unsigned integer.
-fn write_unsigned_as(bytes: &mut Vec<u8>, nullable: bool, number: u64) -> Result<(), AllocError>
-    ensures { OnOk result (Adds (IsShortest false nullable (Some (pos number))) bytes.old.items bytes.new.items) }
-{
-    let entity = if nullable {
-        write_nullable_unsigned(Some(number))
-    } else {
-        write_unsigned(number)
-    };
-    bytes.extend_from_slice(entity.as_slice())
-}
-
-/// Writes a signed integer.
-fn write_signed_as(bytes: &mut Vec<u8>, nullable: bool, number: i128) -> Result<(), AllocError>
-    requires { IsWithin (signed_range 68) number }
-    ensures { OnOk result (Adds (IsShortest true nullable (Some number)) bytes.old.items bytes.new.items) }
-{
-    let entity = if nullable {
-        write_nullable_signed(Some(number))
-    } else {
-        write_signed(number)
-    };
-    bytes.extend_from_slice(entity.as_slice())
-}

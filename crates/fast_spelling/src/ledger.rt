@@ -1,6 +1,6 @@
 //! The encoder's dictionary: what is changed in a message can be taken back, without memory.
 
-ghost use Rattle.std.specs.Prelude.{◌≡◌, ◌<◌, ◌≤◌, ◌-◌, ◌++◌, ℕ, All, length, take, slice_set, Some, IfOk, OnOk};
+ghost use Rattle.std.specs.Prelude.{◌≡◌, ◌<◌, ◌≤◌, ◌-◌, ◌++◌, ℕ, All, length, take, slice_set, Some, IfOk, IfSome, OnOk};
 ghost use Rattle.fast_value.specs.Kinds.{text_of};
 ghost use Rattle.fast_value.specs.Values.{scalar_data};
 ghost use Rattle.fast_dict.specs.Dictionary.{assigned, empty, undefined, fresh, reset, previous_at, write_at};
@@ -54,6 +54,7 @@ impl Ledger {
     }
 
     /// What the entry holds. A text is lent.
+    #[inline(always)]
     pub fn get(&self, entry: usize) -> Previous<'_>
         requires { entry < length self.now.now }
         ensures value { previous_data result ≡ previous_at (Some entry) self.now.now }
@@ -62,11 +63,21 @@ impl Ledger {
         self.entries[entry].as_previous()
     }
 
+    /// The integer that the entry holds, if it holds one that a field of the type kept.
+    #[inline(always)]
+    pub fn integer_at(&self, entry: usize, kind: Kind) -> Option<Scalar<'static>>
+        requires { entry < length self.now.now }
+        ensures { IfSome result (λ v. previous_at (Some entry) self.now.now ≡ assigned kind (scalar_data v)) }
+    {
+        self.entries[entry].integer(kind)
+    }
+
     /// Assigns the value to the entry, as a field of the type does.
     ///
     /// # Errors
     ///
     /// Memory was refused.
+    #[inline(always)]
     pub fn set(&mut self, entry: usize, kind: Kind, scalar: Scalar<'_>) -> Result<(), AllocError>
         requires there { entry < length self.old.now }
         requires short { length (text_of (scalar_data scalar)) ≤ self.old.max_text }
@@ -79,6 +90,7 @@ impl Ledger {
     }
 
     /// Makes the entry empty.
+    #[inline(always)]
     pub fn set_empty(&mut self, entry: usize)
         requires there { entry < length self.old.now }
         ensures now { self.new.now ≡ write_at (Some entry) empty self.old.now }
@@ -134,6 +146,7 @@ impl Ledger {
 }
 
 /// Assigns the value to the entry.
+#[inline(always)]
 fn assign_at(
     entries: &mut Vec<Entry>,
     epoch: u64,
@@ -153,6 +166,7 @@ fn assign_at(
 }
 
 /// Makes the entry empty.
+#[inline(always)]
 fn clear_at(entries: &mut Vec<Entry>, epoch: u64, entry: usize)
     requires { entry < length entries.old.items }
     ensures now { all_now entries.new.items ≡ slice_set (all_now entries.old.items) entry empty }

@@ -5,12 +5,14 @@ pub mod draft;
 pub mod entry;
 pub mod faults;
 pub mod fields;
+pub mod integers;
 pub mod items;
 pub mod laws;
 pub mod ledger;
 pub mod measuring;
 pub mod messages;
 pub mod parts;
+pub mod quick;
 pub mod suiting;
 pub mod writing;
 

@@ -34,6 +34,7 @@ fn room_after_slots(limits: Limits, slots: &[Option<Item>], room: u32) -> Option
 
 /// What the elements of all sequences in the item leave of the room.
 #[cycle(room)]
+#[inline(always)]
 fn room_after_item(limits: Limits, item: &Item, room: u32) -> Option<u32>
     ensures some { IfSome result (λ left. IsWithinLimits limits (item_data item.now) × (left + item_total (item_data item.now) ≡ room)) }
     ensures none { IfNone result (¬ (IsWithinLimits limits (item_data item.now) × (item_total (item_data item.now) ≤ room))) }
@@ -52,6 +53,7 @@ fn room_after_item(limits: Limits, item: &Item, room: u32) -> Option<u32>
 
 /// What the elements of a sequence, and those of all sequences in them, leave of the room.
 #[cycle(room)]
+#[inline(always)]
 fn room_after_sequence(limits: Limits, rows: &[Vec<Option<Item>>], room: u32) -> Option<u32>
     ensures some { IfSome result (λ left. IsWithinLimits limits (sequence (elements_data rows.now)) × (left + item_total (sequence (elements_data rows.now)) ≡ room)) }
     ensures none { IfNone result (¬ (IsWithinLimits limits (sequence (elements_data rows.now)) × (item_total (sequence (elements_data rows.now)) ≤ room))) }
@@ -67,6 +69,7 @@ fn room_after_sequence(limits: Limits, rows: &[Vec<Option<Item>>], room: u32) ->
 }
 
 /// The length of a text, 0 of a number.
+#[inline(always)]
 fn text_len(value: &Value) -> usize
     ensures { result ≡ length (text_of (value_data value.now)) }
 {

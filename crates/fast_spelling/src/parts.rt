@@ -23,6 +23,7 @@ use fast_template::{FieldInstruction, Shape, Templates};
 use fast_value::{Limits, Scalar, Value};
 
 /// Writes a decimal by parts: its exponent, and then its mantissa.
+#[inline(always)]
 pub fn write_decimal(
     exponent: &FieldInstruction,
     mantissa: &FieldInstruction,
@@ -53,6 +54,7 @@ pub fn write_decimal(
 }
 
 /// Writes the absence of what the instruction of a node stands for.
+#[inline(always)]
 pub fn write_absent(
     templates: &Templates,
     limits: Limits,
@@ -77,6 +79,7 @@ pub fn write_absent(
 }
 
 /// The field whose absence is that of the whole instruction: the field itself, an exponent, a length. A group has none.
+#[inline(always)]
 fn head_of(templates: &Templates, node: u32) -> Option<&FieldInstruction>
     requires { node < length (nodes_of templates.now) }
     ensures head { option_map (λ f. field_data f.now) result ≡ head_in (instruction_in (nodes_of templates.now) node) }

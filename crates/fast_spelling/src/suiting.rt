@@ -34,6 +34,7 @@ pub fn suits_body(templates: &Templates, body: &[u32], slots: &[Option<Item>]) -
 
 /// Whether the slot suits the instruction of a node.
 #[cycle(suits)]
+#[inline(always)]
 fn suits_slot(templates: &Templates, node: u32, slot: &Option<Item>) -> bool
     requires { node < length (nodes_of templates.now) }
     ensures { IsTrue result ↔ Suits (instruction_in (nodes_of templates.now) node) (option_map item_data slot.now) }
@@ -46,6 +47,7 @@ fn suits_slot(templates: &Templates, node: u32, slot: &Option<Item>) -> bool
 
 /// Whether the item suits the instruction of a node.
 #[cycle(suits)]
+#[inline(always)]
 pub fn suits_item(templates: &Templates, node: u32, item: &Item) -> bool
     requires { node < length (nodes_of templates.now) }
     ensures { IsTrue result ↔ Suits (instruction_in (nodes_of templates.now) node) (Some (item_data item.now)) }
@@ -63,6 +65,7 @@ pub fn suits_item(templates: &Templates, node: u32, item: &Item) -> bool
 
 /// Whether the elements suit the instructions of these nodes, and are few enough to be counted.
 #[cycle(suits)]
+#[inline(always)]
 fn suits_rows(templates: &Templates, body: &[u32], rows: &[Vec<Option<Item>>]) -> bool
     requires { AreBelow (length (nodes_of templates.now)) body.now }
     ensures { IsTrue result ↔ (AreRight (SuitsBody (body_among (nodes_of templates.now) body.now)) (elements_data rows.now)
@@ -80,6 +83,7 @@ fn suits_rows(templates: &Templates, body: &[u32], rows: &[Vec<Option<Item>>]) -
 }
 
 /// Whether what the instruction of a node stands for may be absent.
+#[inline(always)]
 pub fn may_be_absent(templates: &Templates, node: u32) -> bool
     requires { node < length (nodes_of templates.now) }
     ensures { IsTrue result ↔ Suits (instruction_in (nodes_of templates.now) node) None }
@@ -93,6 +97,7 @@ pub fn may_be_absent(templates: &Templates, node: u32) -> bool
 }
 
 /// Whether the value is one of the kind.
+#[inline(always)]
 fn is_right(kind: Kind, value: &Value) -> bool
     ensures { IsTrue result ↔ IsRight kind (value_data value.now) }
 {
@@ -107,6 +112,7 @@ fn is_right(kind: Kind, value: &Value) -> bool
 }
 
 /// Whether an unsigned integer is one of the kind.
+#[inline(always)]
 fn is_unsigned(kind: Kind, number: u64) -> bool
     ensures { IsTrue result ↔ IsRight kind (U number) }
 {
@@ -118,6 +124,7 @@ fn is_unsigned(kind: Kind, number: u64) -> bool
 }
 
 /// Whether a signed integer is one of the kind.
+#[inline(always)]
 fn is_signed(kind: Kind, number: i64) -> bool
     ensures { IsTrue result ↔ IsRight kind (I number) }
 {
@@ -129,6 +136,7 @@ fn is_signed(kind: Kind, number: i64) -> bool
 }
 
 /// Whether a decimal is one of the kind.
+#[inline(always)]
 fn is_decimal(kind: Kind, exponent: i32, mantissa: i64) -> bool
     ensures { IsTrue result ↔ IsRight kind (Dec exponent mantissa) }
 {

@@ -59,6 +59,7 @@ pub fn write_body(
 
 /// Writes an item of the instruction of a node.
 #[cycle(write)]
+#[inline(always)]
 fn write_item(
     templates: &Templates,
     limits: Limits,

@@ -1,46 +1,20 @@
--- The item can be written, and what was written is the field.
-use Rattle.std.proofs.Common.{◌≡◌, ◌++◌, ◌∷◌, [], List, ℕ, ap, sym, subst, ◌∙◌}
-use Rattle.std.specs.Prelude.{Bool, true, false, if◌then◌else◌, option_map}
-use Rattle.std.proofs.lemmas.List.{append-nil}
+-- A value is handed on.
+use Rattle.std.proofs.Common.{ap, sym, subst}
+use Rattle.std.specs.Prelude.{Option, option_map}
+use Rattle.fast_value.specs.Kinds.{ScalarData}
 use Rattle.fast_value.specs.Values.{scalar_data}
-use Rattle.fast_tree.specs.Tree.{FieldData, uses_bit}
 use Rattle.fast_tree.specs.Nodes.{field_data}
-use Rattle.fast_dict.specs.Previous.{previous_data}
-use Rattle.fast_dict.specs.Sending.{sent_data}
-use Rattle.fast_spelling.specs.declared.draft.Draft.{Draft}
-use Rattle.fast_spelling.specs.Fields.{IsSuited}
-use Rattle.fast_spelling.proofs.FieldsWritten.{base_short, field_done}
-use Rattle.fast_spelling.proofs.Sendable.{rule_sendable}
+use Rattle.fast_spelling.specs.Encoding.{EncodesField}
+use Rattle.fast_spelling.specs.Fields.{Wrote}
+use Rattle.fast_spelling.specs.Refusals.{RefusesField}
+use Rattle.fast_spelling.proofs.Spelling.{on_ok}
+use Rattle.fast_spelling.proofs.Instructions.{told}
 use Rattle.fast_spelling.proofs.fields.write_field.Goals as goal
-use Rattle.fast_spelling.proofs.fields.write_field.Goals.{then-uses_bit+in_ok-push_bit, else-uses_bit}
 
-pub write_item-requires : goal.write_item-requires
-write_item-requires c =
-    let f : FieldData = field_data c.args.field.now in
-    let served = c.requires.served in
-    rule_sendable f (previous_data c.previous_of-previous.result) (option_map scalar_data c.args.value) c.in-Some.choice.bit (sent_data c.in-Some.choice.item) c.args.ledger.now.max_text served.small served.usable.tail
-    (λ base e. record { narrow = c.note_base.ensures base e; short = base_short f (previous_data c.previous_of-previous.result) base c.args.ledger.now.max_text c.previous_of-previous.ensures.short served.initial e })
-    c.requires.suited c.in-Some.ensures.some
+pub returns-in-Some-clause-ok : goal.returns-in-Some-clause-ok
+returns-in-Some-clause-ok c = on_ok c.write_present.result c.write_present.ensures.ok (λ k l same.
+    subst (λ (v : Option ScalarData). Wrote (EncodesField l (field_data c.args.field.now) c.args.ledger.now.now v) c.args.draft.now c.write_present.new.draft c.write_present.new.ledger.now) (sym (ap (option_map scalar_data) c.in-Some.is)) (k l same))
 
-pub returns-clause-ok : goal.returns-clause-ok
-returns-clause-ok c = λ l same.
-    let f : FieldData = field_data c.args.field.now in
-    let h = c.in_ok-write_item.ensures.ok in
-    let served = c.requires.served in
-    let sendable =
-    rule_sendable f (previous_data c.previous_of-previous.result) (option_map scalar_data c.args.value) c.in-Some.choice.bit (sent_data c.in-Some.choice.item) c.args.ledger.now.max_text served.small served.usable.tail
-    (λ base e. record { narrow = c.note_base.ensures base e; short = base_short f (previous_data c.previous_of-previous.result) base c.args.ledger.now.max_text c.previous_of-previous.ensures.short served.initial e })
-    c.requires.suited c.in-Some.ensures.some in
-    let suited = subst (λ (m : ℕ). IsSuited m f (option_map scalar_data c.args.value)) (sym same) c.requires.suited in
-    let done = λ (b : List Bool) (e : b ≡ (if uses_bit f then c.in-Some.choice.bit ∷ [] else [])).
-    field_done l f c.args.ledger.now.now (previous_data c.previous_of-previous.result) (option_map scalar_data c.args.value) c.in-Some.choice.bit (sent_data c.in-Some.choice.item) b h.0 c.keep.new.ledger.now
-    c.previous_of-previous.ensures.value c.requires.served.usable.tail suited c.in-Some.ensures.some sendable h.2 e c.in_ok-keep.ensures.now in
-    elim c.if-uses_bit.branch [
-      | then-uses_bit+in_ok-push_bit w ↦
-          let one = c.in-Some.choice.bit ∷ [] in
-          let used : uses_bit f ≡ true = sym c.uses_bit.ensures ∙ w.if-uses_bit.true in
-          (one, h.0, ap (λ (d : Draft). d.bits.items) w.draft-is ∙ w.in_ok-push_bit.ensures.bits, h.1 ∙ ap (λ (d : List ℕ). d ++ h.0) (ap (λ (d : Draft). d.bytes.items) w.draft-is ∙ w.push_bit.ensures.bytes), done one (ap (λ (u : Bool). if u then one else []) (sym used)))
-      | else-uses_bit w ↦
-          let used : uses_bit f ≡ false = sym c.uses_bit.ensures ∙ w.if-uses_bit.false in
-          ([], h.0, ap (λ (d : Draft). d.bits.items) w.draft-is ∙ sym (append-nil c.args.draft.now.bits.items), h.1 ∙ ap (λ (d : List ℕ). d ++ h.0) (ap (λ (d : Draft). d.bytes.items) w.draft-is), done [] (ap (λ (u : Bool). if u then c.in-Some.choice.bit ∷ [] else []) (sym used)))
-    ]
+pub returns-in-Some-clause-err : goal.returns-in-Some-clause-err
+returns-in-Some-clause-err c = told c.write_present.result c.write_present.ensures.err (λ f h.
+    subst (λ (v : Option ScalarData). RefusesField (field_data c.args.field.now) c.args.ledger.now.now v f) (sym (ap (option_map scalar_data) c.in-Some.is)) h)

@@ -1,10 +1,9 @@
 -- One entry more holds what it held before.
-use Rattle.std.proofs.Common.{◌≡◌, ◌<◌, ◌≤◌, ◌+◌, ◌∙◌, ap, sym, subst, length, get_or, arith}
+use Rattle.std.proofs.Common.{◌≡◌, ◌∙◌, ap, sym, subst, length, get_or, arith}
 use Rattle.std.specs.Prelude.{slice_set}
 use Rattle.std.proofs.lemmas.List.{length-set, length-map, map-set}
 use Rattle.std.proofs.lemmas.List.Elements.{All-set}
 use Rattle.fast_dict.specs.Dictionary.{Dictionary}
-use Rattle.fast_spelling.specs.declared.entry.Entry.{Entry}
 use Rattle.fast_spelling.specs.Entries.{entry_now, entry_before}
 use Rattle.fast_spelling.specs.Ledgers.{all_now, all_before, IsKept}
 use Rattle.fast_spelling.proofs.Ledgers.{same_at, front_more, at_map, unchanged}

@@ -1,5 +1,5 @@
 -- One entry more.
-use Rattle.std.proofs.Common.{◌≡◌, ◌∙◌, ◌++◌, ◌∷◌, [], sym, subst}
+use Rattle.std.proofs.Common.{◌≡◌, ◌++◌, ◌∷◌, [], sym, subst}
 use Rattle.std.specs.Prelude.{All}
 use Rattle.fast_spelling.specs.declared.entry.Entry.{Entry}
 use Rattle.fast_spelling.specs.Entries.{IsShort}

@@ -1,5 +1,5 @@
 -- The identifier is a mandatory copy of an integer.
-use Rattle.std.proofs.Common.{◌≡◌, ℕ, sym, subst}
+use Rattle.std.proofs.Common.{ℕ, sym, subst}
 use Rattle.std.specs.Prelude.{Some}
 use Rattle.fast_value.specs.Kinds.{U}
 use Rattle.fast_tree.specs.Tree.{FieldData, identifier}

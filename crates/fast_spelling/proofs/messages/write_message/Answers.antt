@@ -1,6 +1,6 @@
 -- A whole message, by its parts.
-use Rattle.std.proofs.Common.{◌≡◌, ℕ, List, ap, sym, subst, ◌∙◌, refl}
-use Rattle.std.specs.Prelude.{length, OnOk, IfErr, Result, Ok, Err}
+use Rattle.std.proofs.Common.{ℕ, List, ap, sym, subst, ◌∙◌}
+use Rattle.std.specs.Prelude.{length}
 use Rattle.std.proofs.lemmas.Result.{err_from_is_err_and}
 use Rattle.fast_value.specs.Messages.{Slots}
 use Rattle.fast_value.specs.Views.{message_data, slots_data}

@@ -1,24 +1,22 @@
 -- The map stands in front of the segment's bytes, or there is none.
-use Rattle.std.proofs.Common.{◌++◌, [], ap, sym, subst, ◌∙◌, take, drop, List, ℕ}
-use Rattle.std.specs.Prelude.{Bool}
-use Rattle.std.proofs.lemmas.List.{take-append-drop, append_assoc, take_rest}
-use Rattle.fast_wire.specs.Maps.{bits}
-use Rattle.fast_spelling.specs.Encoding.{SameBits}
+use Rattle.std.proofs.Common.{[], ap, sym, subst, ◌∙◌, drop, List}
+use Rattle.std.specs.Prelude.{Bool, true}
+use Rattle.std.proofs.lemmas.List.{take-append-drop, take_rest}
+use Rattle.fast_spelling.specs.Encoding.{ShortestMap}
 use Rattle.fast_spelling.specs.declared.draft.Draft.{Draft}
-use Rattle.fast_spelling.proofs.Bits.{closes_with, closes_without}
+use Rattle.fast_spelling.proofs.Bits.{closes_without}
 use Rattle.fast_spelling.proofs.draft.Draft.close.Goals as goal
-use Rattle.fast_spelling.proofs.draft.Draft.close.Goals.{then-has_map+in-Some+in_ok-insert-in-Some, else-has_map}
+use Rattle.fast_spelling.proofs.draft.Draft.close.Goals.{then-has_map+in_ok-put_map, else-has_map}
 
 pub returns-clause-ok : goal.returns-clause-ok
 returns-clause-ok c = elim c.if-has_map.branch [
-  | then-has_map+in-Some+in_ok-insert-in-Some w ↦
-      let m : List ℕ = w.in-Some.map.items in
-      let before = take c.args.mark.bytes c.args.self.now.bytes.items in
-      let inside = drop c.args.mark.bytes c.args.self.now.bytes.items in (
-        m,
-        closes_with c.args.has_map (drop c.args.mark.bits c.args.self.now.bits.items) m w.if-has_map.true w.in-Some.ensures.map
-            (subst (λ (b : List Bool). SameBits (bits m) b) (take_rest w.deref.result.now c.args.mark.bits ∙ ap (drop c.args.mark.bits) w.deref.ensures.value) w.in-Some.ensures.bits),
-        ap (λ (d : Draft). d.bytes.items) w.self-is ∙ w.in_ok-insert-in-Some.ensures ∙ ap (λ (q : List ℕ). (before ++ q) ++ inside) w.as_slice.ensures.value ∙ append_assoc before m inside,
+  | then-has_map+in_ok-put_map w ↦
+      let k = w.in_ok-put_map.ensures.ok in
+      let b = drop c.args.mark.bits c.args.self.now.bits.items in (
+        k.0,
+        subst (λ (h : Bool). ShortestMap h b k.0) (sym w.if-has_map.true)
+            (subst (λ (z : List Bool). ShortestMap true z k.0) (take_rest w.deref.result.now c.args.mark.bits ∙ ap (drop c.args.mark.bits) w.deref.ensures.value) k.1),
+        ap (λ (d : Draft). d.bytes.items) w.self-is ∙ k.2,
       )
   | else-has_map w ↦ (
     [],

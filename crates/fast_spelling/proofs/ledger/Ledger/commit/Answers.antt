@@ -1,5 +1,5 @@
 -- In the next message nothing was changed yet.
-use Rattle.std.proofs.Common.{◌≤◌, ◌+◌, ◌∙◌, ap, arith}
+use Rattle.std.proofs.Common.{◌+◌, ◌∙◌, ap, arith}
 use Rattle.fast_spelling.specs.Ledgers.{LedgerData}
 use Rattle.fast_spelling.proofs.Ledgers.{all_unchanged, settled_kept, settled_before, kept_before}
 use Rattle.fast_spelling.proofs.ledger.Ledger.commit.Goals as goal

@@ -1,5 +1,5 @@
 -- One entry is changed.
-use Rattle.std.proofs.Common.{◌≡◌, ℕ, ◌≤◌, ap, sym, subst, length}
+use Rattle.std.proofs.Common.{ℕ, ◌≤◌, ap, sym, subst, length}
 use Rattle.fast_value.specs.Kinds.{text_of}
 use Rattle.fast_value.specs.Values.{scalar_data}
 use Rattle.fast_spelling.specs.Ledgers.{LedgerData}

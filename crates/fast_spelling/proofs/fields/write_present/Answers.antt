@@ -1,0 +1,30 @@
+-- A number is handed on.
+use Rattle.std.proofs.Common.{◌≡◌, ap, sym, subst, ◌∙◌, rules, to_z, of_z}
+use Rattle.std.specs.Prelude.{Some}
+use Rattle.std.specs.Int.{w64}
+use Rattle.std.proofs.lemmas.Int.{to_z-of_z}
+use Rattle.fast_value.specs.Kinds.{ScalarData, I}
+use Rattle.fast_value.specs.Values.{scalar_data}
+use Rattle.fast_tree.specs.Nodes.{field_data}
+use Rattle.fast_spelling.specs.Encoding.{EncodesField}
+use Rattle.fast_spelling.specs.Fields.{Wrote}
+use Rattle.fast_spelling.specs.Refusals.{RefusesField}
+use Rattle.fast_spelling.proofs.Spelling.{on_ok}
+use Rattle.fast_spelling.proofs.Instructions.{told}
+use Rattle.fast_spelling.proofs.fields.write_present.Goals as goal
+
+pub returns-in-U-clause-ok : goal.returns-in-U-clause-ok
+returns-in-U-clause-ok c = on_ok c.write_unsigned.result c.write_unsigned.ensures.ok (λ k l same.
+    subst (λ (v : ScalarData). Wrote (EncodesField l (field_data c.args.field.now) c.args.ledger.now.now (Some v)) c.args.draft.now c.write_unsigned.new.draft c.write_unsigned.new.ledger.now) (sym (ap scalar_data c.in-U.is)) (k l same))
+
+pub returns-in-I-clause-ok : goal.returns-in-I-clause-ok
+returns-in-I-clause-ok c = on_ok c.write_signed.result c.write_signed.ensures.ok (λ k l same.
+    let number : to_z w64 (of_z w64 c.in-I.number) ≡ c.in-I.number = to_z-of_z w64 c.in-I.number (search rules) in
+    let is : scalar_data c.args.value ≡ I (to_z w64 (of_z w64 c.in-I.number)) = ap scalar_data c.in-I.is ∙ ap I (sym number) in
+    subst (λ (v : ScalarData). Wrote (EncodesField l (field_data c.args.field.now) c.args.ledger.now.now (Some v)) c.args.draft.now c.write_signed.new.draft c.write_signed.new.ledger.now) (sym is) (k l same))
+
+pub returns-in-I-clause-err : goal.returns-in-I-clause-err
+returns-in-I-clause-err c = told c.write_signed.result c.write_signed.ensures.err (λ f h.
+    let number : to_z w64 (of_z w64 c.in-I.number) ≡ c.in-I.number = to_z-of_z w64 c.in-I.number (search rules) in
+    let is : scalar_data c.args.value ≡ I (to_z w64 (of_z w64 c.in-I.number)) = ap scalar_data c.in-I.is ∙ ap I (sym number) in
+    subst (λ (v : ScalarData). RefusesField (field_data c.args.field.now) c.args.ledger.now.now (Some v) f) (sym is) h)

@@ -1,0 +1,37 @@
+-- One comparison tells the case of the rule.
+use Rattle.std.proofs.Common.{ℕ, [], ◌∷◌, refl, ap, sym, subst, ◌∙◌}
+use Rattle.std.specs.Prelude.{false, Some}
+use Rattle.std.proofs.lemmas.List.{append-nil}
+use Rattle.fast_value.specs.Values.{scalar_data}
+use Rattle.fast_tree.specs.Nodes.{field_data}
+use Rattle.fast_dict.specs.Dictionary.{assigned, previous_at}
+use Rattle.fast_spelling.specs.Fields.{IsSuited}
+use Rattle.fast_spelling.proofs.Usual.{constant_ruled, copy_passed, default_passed}
+use Rattle.fast_spelling.proofs.quick.write_other.Goals as goal
+
+pub returns-in_ok-push_bit-in-Some-clause-ok : goal.returns-in_ok-push_bit-in-Some-clause-ok
+returns-in_ok-push_bit-in-Some-clause-ok c = λ l same.
+    let f = field_data c.args.field.now in
+    let v = scalar_data c.args.value in (
+      false ∷ [],
+      [],
+      c.in_ok-push_bit-in-Some.ensures.bits,
+      c.push_bit.ensures.bytes ∙ sym (append-nil c.args.draft.now.bytes.items),
+      copy_passed l f c.args.ledger.now.now v c.in-Copy.is c.requires.served.usable.tail (subst (λ (m : ℕ). IsSuited m f (Some v)) (sym same) c.requires.suited) (c.in-Some.ensures ∙ ap (assigned f.kind) (c.if-is_same.ensures.0 refl)),
+    )
+
+pub returns-in_ok-push_bit-in-Some-initial_value-clause-ok : goal.returns-in_ok-push_bit-in-Some-initial_value-clause-ok
+returns-in_ok-push_bit-in-Some-initial_value-clause-ok c = λ l same.
+    let f = field_data c.args.field.now in
+    let v = scalar_data c.args.value in (
+      false ∷ [],
+      [],
+      c.in_ok-push_bit-in-Some-initial_value.ensures.bits,
+      c.push_bit-in-Some-initial_value.ensures.bytes ∙ sym (append-nil c.args.draft.now.bytes.items),
+      default_passed l f c.args.ledger.now.now v c.in-Default.is c.requires.served.usable.tail (subst (λ (m : ℕ). IsSuited m f (Some v)) (sym same) c.requires.suited) (sym c.in-Some-initial_value.ensures ∙ ap Some (c.if-is_same-2.ensures.0 refl)),
+    )
+
+pub send-requires-in-Some-initial_value-2-clause-ruled : goal.send-requires-in-Some-initial_value-2-clause-ruled
+send-requires-in-Some-initial_value-2-clause-ruled c =
+    let f = field_data c.args.field.now in
+    constant_ruled f (previous_at f.entry c.args.ledger.now.now) (scalar_data c.args.value) c.in-Constant.is (sym c.in-Some-initial_value-2.ensures ∙ ap Some (c.if-is_same-3.ensures.0 refl))
