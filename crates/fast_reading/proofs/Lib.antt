@@ -1,9 +1,11 @@
 pub mod Bodies
 pub mod Closed
 pub mod Feeds
+pub mod LineTexts
 pub mod LinedEvents
 pub mod Named
 pub mod NoFeeds
+pub mod NoLines
 pub mod OneBody
 pub mod OneEvent
 pub mod OneList

@@ -108,7 +108,7 @@ line_is t SequenceEnd = refl
 line_is t MessageEnd = refl
 
 -- It is of its form.
-formed : (t : Tree) (e : EventData) → IsLined t e → IsForm (line_of_event t e)
+pub formed : (t : Tree) (e : EventData) → IsLined t e → IsForm (line_of_event t e)
 formed t (MessageStart n) (u, found, h) = rw (name_is t n u found) (name_is_word u.name h)
 formed t (FieldValue n v) h = (h.0.0, name_is_word _ h.0.1)
 formed t (GroupStart n) h = (h.0, name_is_word _ h.1)

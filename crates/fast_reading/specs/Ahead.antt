@@ -1,15 +1,18 @@
 -- What is ahead in a text.
-use Rattle.std.specs.Prelude.{◌≡◌, ◌≢◌, ℕ, ◌+◌, ◌≤◌, List, [], ◌∷◌, ◌++◌, nat_eq, if◌then◌else◌, Option, Some, None, option_map}
+use Rattle.std.specs.Prelude.{All, IsUtf8, ◌≡◌, ◌≢◌, ℕ, ◌+◌, ◌≤◌, List, [], ◌∷◌, ◌++◌, nat_eq, if◌then◌else◌, Option, Some, None, option_map}
 use Rattle.fast_value.specs.declared.values.Value.{Value}
 use Rattle.fast_value.specs.Kinds.{ScalarData}
 use Rattle.fast_value.specs.Values.{value_data}
+use Rattle.fast_tree.specs.Tree.{Tree}
+use Rattle.fast_stream.specs.Events.{EventData, FieldValue}
 use Rattle.fast_lines.specs.declared.forms.Line.{Line}
 use Rattle.fast_lines.specs.declared.forms.Line.TheVariants as Lent
-use Rattle.fast_lines.specs.Forms.{field, line_data, text_of_line}
-use Rattle.fast_lines.specs.Lines.{written}
+use Rattle.fast_lines.specs.Forms.{LineData, field, line_data, text_of_line}
+use Rattle.fast_lines.specs.Lines.{written, lines}
 use Rattle.fast_lines.specs.Values.{IsHeld}
 use Rattle.fast_reading.specs.declared.faults.TextFault.{TextFault}
 use Rattle.fast_reading.specs.declared.faults.TextFault.TheVariants.{BadLine, Memory}
+use Rattle.fast_reading.specs.Lined.{IsLined}
 use Rattle.fast_reading.specs.Reading.{closed}
 
 -- the value of a line, which is a field's, and which the types of values hold
@@ -54,3 +57,26 @@ IsNextNumber n next = (n ≤ next) × (next ≤ n + 1)
 abbrev pub IsNextText : ℕ → List ℕ → TextFault → Type 0
 IsNextText n text (BadLine line kind) = IsNextNumber n line × (1 ≤ feeds text)
 IsNextText n text Memory = Unit {0}
+
+-- what is so of a fault that is one of a line
+abbrev pub OnBadLine : Type 0 → TextFault → Type 0
+OnBadLine A (BadLine line kind) = A
+OnBadLine A Memory = Unit {0}
+
+-- the line is that of a field whose text is no value that the types of values hold
+abbrev pub HasNoValue : Line → Type 0
+HasNoValue (Lent.Field n name text) = (v : ScalarData) → IsHeld v → text.now ≢ written v
+HasNoValue line = ⊥
+
+-- the value can be read back: the types of values hold it, and its text is UTF-8
+abbrev pub IsShown : EventData → Type 0
+IsShown (FieldValue n v) = IsHeld v × IsUtf8 (written v)
+IsShown e = Unit {0}
+
+-- The text is not the lines of events whose values can be read back.
+abbrev pub HasNoLines : List ℕ → Type 0
+HasNoLines text = (t : Tree) (es : List EventData) → All (IsLined t) es → All IsShown es → text ≢ lines t es
+
+-- the line has no LF
+abbrev pub IsOneLine : Option Line → Type 0
+IsOneLine line = (d : LineData) → option_map line_data line ≡ Some d → feeds (text_of_line d) ≡ 0

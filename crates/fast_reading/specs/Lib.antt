@@ -5,4 +5,5 @@ pub mod Lined
 pub mod Naming
 pub mod Progress
 pub mod Reading
+pub mod Refusing
 pub mod Runs

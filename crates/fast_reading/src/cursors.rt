@@ -3,7 +3,7 @@
 ghost use Rattle.std.specs.Prelude.{◌≡◌, ◌≢◌, ℕ, ◌≤◌, ◌∷◌, ◌++◌, length, IsUtf8, IsSome, IfSome, IfNone, IfOk, IfErr};
 ghost use Rattle.fast_lines.specs.Forms.{LineData, IsForm, line_data, text_of_line};
 ghost use Rattle.fast_lines.specs.Values.{Lacks};
-ghost use Rattle.fast_reading.specs.Ahead.{IsValueOf, TellsValue, TellsNone, IsAt, IsAtText, IsNextNumber, IsNextText};
+ghost use Rattle.fast_reading.specs.Ahead.{IsValueOf, TellsValue, TellsNone, IsAt, IsAtText, IsNextNumber, IsNextText, IsOneLine, OnBadLine, HasNoValue, HasNoLines};
 ghost use Rattle.fast_reading.specs.Reading.{closed};
 
 use crate::faults::{LineFault, TextFault};
@@ -26,6 +26,8 @@ pub struct Cursor<'a> {
     pub rest: &'a [u8],
     ghost told: { TellsValue line value },
     ghost untold: { TellsNone line value },
+    ghost one_line: { IsOneLine line },
+    ghost formed: { ∥ IfSome line (λ l. IsForm (line_data l)) ∥₁ },
 }
 
 /// The first line of a text, without its LF, and what follows it. The last line may have none.
@@ -57,6 +59,7 @@ pub fn checked_line(text: &[u8]) -> Option<Line<'_>>
 fn value_of(alloc: Global, line: Line<'_>, number: u64) -> Result<Option<Value>, TextFault>
     ensures value { IfOk result (IsValueOf line.entry) }
     ensures line { IfErr result (IsAt number) }
+    ensures refused { IfErr result (OnBadLine (HasNoValue line.entry)) }
 {
     let Line::Field { value: text, .. } = line else {
         return Ok(None);
@@ -74,6 +77,7 @@ fn value_of(alloc: Global, line: Line<'_>, number: u64) -> Result<Option<Value>,
 impl<'a> Cursor<'a> {
     ghost use Rattle.fast_reading.specs.declared.faults.TextFault.TheVariants.{BadLine};
     ghost use Rattle.fast_reading.specs.Cursors.{ahead, Advances, IsNear};
+    ghost use Rattle.fast_reading.specs.Refusing.{HasNoNext};
 
     /// The start of a text.
     ///
@@ -84,6 +88,7 @@ impl<'a> Cursor<'a> {
         ensures ahead { IfOk result (λ c. ahead c ≡ closed text.entry.now) }
         ensures number { IfOk result (λ c. c.number ≡ 1) }
         ensures line { IfErr result (IsAtText 1 (closed text.entry.now)) }
+        ensures refused { IfErr result (OnBadLine (HasNoLines (closed text.entry.now))) }
     {
         Cursor::at(alloc, text, 1)
     }
@@ -93,6 +98,7 @@ impl<'a> Cursor<'a> {
         ensures ahead { IfOk result (λ c. ahead c ≡ closed text.entry.now) }
         ensures number { IfOk result (λ c. c.number ≡ number) }
         ensures line { IfErr result (IsAtText number (closed text.entry.now)) }
+        ensures refused { IfErr result (OnBadLine (HasNoLines (closed text.entry.now))) }
     {
         if text.is_empty() {
             return Ok(Cursor {
@@ -127,6 +133,7 @@ impl<'a> Cursor<'a> {
         ensures ahead { IfOk result (λ c. ahead c ≡ closed text.entry.now) }
         ensures number { IfOk result (λ c. IsNextNumber number c.number) }
         ensures line { IfErr result (IsNextText number (closed text.entry.now)) }
+        ensures refused { IfErr result (OnBadLine (HasNoLines (closed text.entry.now))) }
     {
         // no text has so many lines that this saturates
         Cursor::at(alloc, text, number.saturating_add(1))
@@ -141,6 +148,7 @@ impl<'a> Cursor<'a> {
         requires { IsSome self.line }
         ensures ok { IfOk result (Advances self.entry) }
         ensures line { IfErr result (IsNear self.entry) }
+        ensures refused { IfErr result (OnBadLine (HasNoNext self.entry)) }
     {
         Cursor::behind(alloc, self.number, self.rest)
     }

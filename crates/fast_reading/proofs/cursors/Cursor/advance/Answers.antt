@@ -1,3 +1,4 @@
+use Rattle.fast_reading.proofs.NoLines.{all_refused}
 use Rattle.fast_reading.proofs.Said.{all_on, all_near}
 use Rattle.fast_reading.proofs.cursors.Cursor.advance.Goals as goal
 
@@ -6,3 +7,6 @@ returns-clause-ok c = all_on c.args.self c.behind.result c.requires c.behind.ens
 
 pub returns-clause-line : goal.returns-clause-line
 returns-clause-line c = all_near c.args.self c.behind.result c.requires c.behind.ensures.line
+
+pub returns-clause-refused : goal.returns-clause-refused
+returns-clause-refused c = all_refused c.args.self c.behind.result c.requires c.behind.ensures.refused
