@@ -1,5 +1,5 @@
 -- The template set of a call.
-use Rattle.std.specs.Prelude.{◌≡◌, ◌≢◌, ◌⊎◌, ◌×◌, ℕ, ◌≤◌, List, length, IsUtf8, Option, Some, None, codes}
+use Rattle.std.specs.Prelude.{◌≡◌, ◌≢◌, ◌⊎◌, ℕ, ◌≤◌, List, length, IsUtf8, Option, Some, None, codes}
 use Rattle.std.specs.Io.KnownBytes.{IsAtEnd}
 use Rattle.toml.specs.Data.{Members}
 use Rattle.toml.specs.Parse.{parse_document}

@@ -5,7 +5,7 @@ use Rattle.fast_command.proofs.closing.write_fault.Goals as goal
 
 pub returns-clause-written : goal.returns-clause-written
 returns-clause-written g c =
-    let name = writes_same (c.as_bytes.ensures.value ∙ c.code_name.ensures) c.put-2.ensures in
+    let name = writes_same (c.as_bytes.ensures.value ∙ c.name.ensures) c.put-2.ensures in
     let all = writes_both (writes_both (writes_both (writes_both c.put.ensures name) c.put-3.ensures) c.put_unsigned.ensures) c.put-4.ensures in
     let same = c.finish.ensures.same_target ∙ all.same_target ∙ c.new-line.ensures.same_target in
     let whole = λ (ended : g.row.T.Denot) (e : ended ≡ c.finish.new.self.target.now). (is_put c.args.target.now ended c.finish.result c.new-line.ensures.as_it_is e c.new-line.ensures.fresh all c.finish.ensures).whole in
@@ -13,7 +13,7 @@ returns-clause-written g c =
 
 pub returns-clause-part : goal.returns-clause-part
 returns-clause-part g c =
-    let name = writes_same (c.as_bytes.ensures.value ∙ c.code_name.ensures) c.put-2.ensures in
+    let name = writes_same (c.as_bytes.ensures.value ∙ c.name.ensures) c.put-2.ensures in
     let all = writes_both (writes_both (writes_both (writes_both c.put.ensures name) c.put-3.ensures) c.put_unsigned.ensures) c.put-4.ensures in
     let same = c.finish.ensures.same_target ∙ all.same_target ∙ c.new-line.ensures.same_target in
     let part = λ (ended : g.row.T.Denot) (e : ended ≡ c.finish.new.self.target.now). (is_put c.args.target.now ended c.finish.result c.new-line.ensures.as_it_is e c.new-line.ensures.fresh all c.finish.ensures).part in
@@ -21,7 +21,7 @@ returns-clause-part g c =
 
 pub returns-clause-fails : goal.returns-clause-fails
 returns-clause-fails g c =
-    let name = writes_same (c.as_bytes.ensures.value ∙ c.code_name.ensures) c.put-2.ensures in
+    let name = writes_same (c.as_bytes.ensures.value ∙ c.name.ensures) c.put-2.ensures in
     let all = writes_both (writes_both (writes_both (writes_both c.put.ensures name) c.put-3.ensures) c.put_unsigned.ensures) c.put-4.ensures in
     let same = c.finish.ensures.same_target ∙ all.same_target ∙ c.new-line.ensures.same_target in
     let fails = λ (ended : g.row.T.Denot) (e : ended ≡ c.finish.new.self.target.now). (is_put c.args.target.now ended c.finish.result c.new-line.ensures.as_it_is e c.new-line.ensures.fresh all c.finish.ensures).fails in
@@ -29,7 +29,7 @@ returns-clause-fails g c =
 
 pub returns-clause-stays : goal.returns-clause-stays
 returns-clause-stays g c =
-    let name = writes_same (c.as_bytes.ensures.value ∙ c.code_name.ensures) c.put-2.ensures in
+    let name = writes_same (c.as_bytes.ensures.value ∙ c.name.ensures) c.put-2.ensures in
     let all = writes_both (writes_both (writes_both (writes_both c.put.ensures name) c.put-3.ensures) c.put_unsigned.ensures) c.put-4.ensures in
     let same = c.finish.ensures.same_target ∙ all.same_target ∙ c.new-line.ensures.same_target in
     let stays = λ (ended : g.row.T.Denot) (e : ended ≡ c.finish.new.self.target.now). (is_put c.args.target.now ended c.finish.result c.new-line.ensures.as_it_is e c.new-line.ensures.fresh all c.finish.ensures).stays in
