@@ -5,13 +5,13 @@ use Rattle.std.proofs.lemmas.List.{set-get_or}
 use Rattle.fast_value.specs.declared.kinds.Kind.{Kind}
 use Rattle.fast_value.specs.declared.kinds.Kind.TheVariants.{UInt32, Int32, UInt64, Int64, Decimal, Ascii, Unicode, Bytes}
 use Rattle.fast_value.specs.declared.settings.Limits.{Limits}
-use Rattle.fast_value.specs.declared.codes.Code.TheVariants.{D4}
+use Rattle.fast_value.specs.declared.codes.Code.TheVariants.{D4, D6}
 use Rattle.fast_value.specs.Kinds.{ScalarData, U, I, Dec, AsciiText, UnicodeText, ByteVector, text_of, texts, family, value_of_integer, integer_of, same_kind}
 use Rattle.fast_tree.specs.declared.operators.Operator.{Operator}
 use Rattle.fast_tree.specs.declared.operators.Operator.TheVariants.{None as no_operator, Constant, Default, Copy, Increment, Delta, Tail}
 use Rattle.fast_tree.specs.Tree.{FieldData, operator_uses_bit, uses_bit}
-use Rattle.fast_dict.specs.Dictionary.{Dictionary, PreviousData, undefined, assigned, previous_at, write_at}
-use Rattle.fast_dict.specs.Operators.{◌>>=◌, Outcome, nothing, value, integer_delta, keeps, fixed, incremented, range_of, next_value, unsent, delta_base, decide_by, IsItemBy}
+use Rattle.fast_dict.specs.Dictionary.{Dictionary, PreviousData, undefined, empty, assigned, previous_at, write_at}
+use Rattle.fast_dict.specs.Operators.{◌>>=◌, Outcome, nothing, null, value, integer_delta, keeps, from_initial, fixed, incremented, range_of, next_value, unsent, delta_base, decide_by, IsItemBy}
 use Rattle.fast_dict.specs.Rule.{GoesUnsent, IsDelta, SentBy, Rule}
 use Rattle.fast_spelling.specs.Drafts.{IsSendableValue}
 use Rattle.fast_spelling.specs.Encoding.{EncodesField}
@@ -184,3 +184,48 @@ value_sendable Ascii (AsciiText t) m g (room, h) i = (omega (arith, g, i), h.1)
 value_sendable Unicode (UnicodeText t) m g (room, h) i = omega (arith, g, i)
 value_sendable Bytes (ByteVector t) m g (room, h) i = omega (arith, g, i)
 value_sendable kind v m g (room, h) i = absurd h
+
+-- an absent field
+abbrev Absent : FieldData → PreviousData → PreviousData → Operator → Type 0
+Absent f p next o = (operator_uses_bit o f.optional ≡ true) × IsItemBy o false f nothing × (decide_by o false f p nothing ≡ Ok (record { value = None; next = next }))
+
+absent_clear : (f : FieldData) (p next : PreviousData) (o : Operator) → f.operator ≡ o → Absent f p next o → Rule f p None false nothing
+absent_clear f p next o is c =
+    let k = subst (Absent f p next) (sym is) c in
+    ((next, k.0, (k.1, k.2)), refl)
+
+-- without a bit NULL is sent
+pub absent_plain : (f : FieldData) (p : PreviousData) → f.operator ≡ no_operator → Rule f p None true null
+absent_plain f p is = (λ (m, b, _). let clash : false ≡ true = subst (λ (z : Operator). operator_uses_bit z f.optional ≡ true) is b in absurd (cc clash), subst (λ (z : Operator). SentBy z f p None null) (sym is) refl)
+
+pub absent_delta : (f : FieldData) (p : PreviousData) → f.operator ≡ Delta → Rule f p None true null
+absent_delta f p is = (λ (m, b, _). let clash : false ≡ true = subst (λ (z : Operator). operator_uses_bit z f.optional ≡ true) is b in absurd (cc clash), subst (λ (z : Operator). SentBy z f p None null) (sym is) refl)
+
+-- a default that has an initial value is sent as NULL
+pub absent_default : (f : FieldData) (p : PreviousData) (v : ScalarData) → f.operator ≡ Default → f.initial ≡ Some v → Rule f p None true null
+absent_default f p v is held = (not, subst (λ (z : Operator). SentBy z f p None null) (sym is) refl)
+  where
+    not : ¬ (GoesUnsent f p None)
+    not (m, _, (_, g)) =
+        let h : decide_by Default false f p nothing ≡ Ok (record { value = None; next = m }) = subst (λ (z : Operator). decide_by z false f p nothing ≡ Ok (record { value = None; next = m })) is g in
+        let clash : Some v ≡ None = ap (λ (z : Outcome). z.value) (one_ok (decide_by Default false f p nothing) (record { value = Some v; next = p }) (record { value = None; next = m }) (default_gives f p (Some v) held) h) in
+        absurd (cc clash)
+
+absent_passed : (l : Limits) (f : FieldData) (d : Dictionary) → uses_bit f ≡ true → (f.operator ≡ Tail → family f.kind ≡ texts) → IsSuited l.max_text f None → Rule f (previous_at f.entry d) None false nothing
+    → next_of f (previous_at f.entry d) None ≡ previous_at f.entry d → EncodesField l f d None (false ∷ []) [] d
+absent_passed l f d used tail suited rule same =
+    field_done l f d (previous_at f.entry d) None false nothing (false ∷ []) [] d refl tail suited rule tt refl (ap (λ (u : Bool). if u then false ∷ [] else []) (sym used))
+    (sym (ap (λ (p : PreviousData). write_at f.entry p d) same ∙ write_back f.entry d))
+
+pub default_absent : (l : Limits) (f : FieldData) (d : Dictionary) → f.operator ≡ Default → (f.operator ≡ Tail → family f.kind ≡ texts) → IsSuited l.max_text f None → f.initial ≡ None → EncodesField l f d None (false ∷ []) [] d
+default_absent l f d is tail suited none =
+    absent_passed l f d (ap (λ (o : Operator). operator_uses_bit o f.optional) is) tail suited
+    (absent_clear f (previous_at f.entry d) (previous_at f.entry d) Default is (refl, refl, default_gives f (previous_at f.entry d) None none))
+    (ap (λ (o : Operator). next_by o f.kind (previous_at f.entry d) None) is)
+
+pub copy_absent : (l : Limits) (f : FieldData) (d : Dictionary) → f.operator ≡ Copy → (f.operator ≡ Tail → family f.kind ≡ texts) → IsSuited l.max_text f None → previous_at f.entry d ≡ empty → EncodesField l f d None (false ∷ []) [] d
+copy_absent l f d is tail suited held =
+    let gives : unsent f (previous_at f.entry d) ≡ Ok (record { value = None; next = empty }) = ap (unsent f) held ∙ ap (λ (b : Bool). from_initial f.kind b D6 None) suited in
+    absent_passed l f d (ap (λ (o : Operator). operator_uses_bit o f.optional) is) tail suited
+    (absent_clear f (previous_at f.entry d) empty Copy is (refl, refl, gives))
+    (ap (λ (o : Operator). next_by o f.kind (previous_at f.entry d) None) is ∙ sym held)

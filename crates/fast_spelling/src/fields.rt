@@ -21,7 +21,7 @@ use crate::draft::Draft;
 use crate::faults::EncodeFault;
 use crate::items::write_item;
 use crate::ledger::Ledger;
-use crate::quick::{write_other, write_signed, write_unsigned};
+use crate::quick::{write_none, write_other, write_signed, write_unsigned};
 use fast_dict::operators::delta_base;
 use fast_dict::rule::uses_bit;
 use fast_dict::{Previous, Sent, choose};
@@ -52,7 +52,7 @@ pub fn write_field(
 {
     match value {
         Some(present) => write_present(draft, ledger, field, present),
-        None => write_chosen(draft, ledger, field, value),
+        None => write_none(draft, ledger, field),
     }
 }
 

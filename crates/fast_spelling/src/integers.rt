@@ -18,7 +18,6 @@ const LONG_NATURAL: i128 = (1 << 34) - 1;
 const LEAST_SHORT: i128 = -(1 << 34);
 
 /// Writes an unsigned integer.
-#[inline(always)]
 pub fn write_unsigned_as(bytes: &mut Vec<u8>, nullable: bool, number: u64) -> Result<(), AllocError>
     ensures { OnOk result (Adds (IsShortest false nullable (Some (pos number))) bytes.old.items bytes.new.items) }
 {
@@ -30,7 +29,6 @@ pub fn write_unsigned_as(bytes: &mut Vec<u8>, nullable: bool, number: u64) -> Re
 }
 
 /// Writes a signed integer.
-#[inline(always)]
 pub fn write_signed_as(bytes: &mut Vec<u8>, nullable: bool, number: i128) -> Result<(), AllocError>
     requires { IsWithin (signed_range 68) number }
     ensures { OnOk result (Adds (IsShortest true nullable (Some number)) bytes.old.items bytes.new.items) }
@@ -159,7 +157,8 @@ fn push_one(bytes: &mut Vec<u8>, number: u64) -> Result<(), AllocError>
     requires { number < 2 ^ 7 }
     ensures { OnOk result (Adds (IsGroups number 1) bytes.old.items bytes.new.items) }
 {
-    bytes.extend_from_slice(&[(number % 0x80) as u8 + 0x80])
+    bytes.push((number % 0x80) as u8 + 0x80)?;
+    Ok(())
 }
 
 /// Appends the entity of two bytes that has this number.
@@ -168,7 +167,9 @@ fn push_two(bytes: &mut Vec<u8>, number: u64) -> Result<(), AllocError>
     requires { number < 2 ^ 14 }
     ensures { OnOk result (Adds (IsGroups number 2) bytes.old.items bytes.new.items) }
 {
-    bytes.extend_from_slice(&[(number / 0x80 % 0x80) as u8, (number % 0x80) as u8 + 0x80])
+    bytes.push((number / 0x80 % 0x80) as u8)?;
+    bytes.push((number % 0x80) as u8 + 0x80)?;
+    Ok(())
 }
 
 /// Appends the entity of three bytes that has this number.
@@ -177,11 +178,10 @@ fn push_three(bytes: &mut Vec<u8>, number: u64) -> Result<(), AllocError>
     requires { number < 2 ^ 21 }
     ensures { OnOk result (Adds (IsGroups number 3) bytes.old.items bytes.new.items) }
 {
-    bytes.extend_from_slice(&[
-        (number / 0x4000 % 0x80) as u8,
-        (number / 0x80 % 0x80) as u8,
-        (number % 0x80) as u8 + 0x80,
-    ])
+    bytes.push((number / 0x4000 % 0x80) as u8)?;
+    bytes.push((number / 0x80 % 0x80) as u8)?;
+    bytes.push((number % 0x80) as u8 + 0x80)?;
+    Ok(())
 }
 
 /// Appends the entity of four bytes that has this number.
@@ -190,12 +190,11 @@ fn push_four(bytes: &mut Vec<u8>, number: u64) -> Result<(), AllocError>
     requires { number < 2 ^ 28 }
     ensures { OnOk result (Adds (IsGroups number 4) bytes.old.items bytes.new.items) }
 {
-    bytes.extend_from_slice(&[
-        (number / 0x200000 % 0x80) as u8,
-        (number / 0x4000 % 0x80) as u8,
-        (number / 0x80 % 0x80) as u8,
-        (number % 0x80) as u8 + 0x80,
-    ])
+    bytes.push((number / 0x200000 % 0x80) as u8)?;
+    bytes.push((number / 0x4000 % 0x80) as u8)?;
+    bytes.push((number / 0x80 % 0x80) as u8)?;
+    bytes.push((number % 0x80) as u8 + 0x80)?;
+    Ok(())
 }
 
 /// Appends the entity of five bytes that has this number.
@@ -204,13 +203,12 @@ fn push_five(bytes: &mut Vec<u8>, number: u64) -> Result<(), AllocError>
     requires { number < 2 ^ 35 }
     ensures { OnOk result (Adds (IsGroups number 5) bytes.old.items bytes.new.items) }
 {
-    bytes.extend_from_slice(&[
-        (number / 0x10000000 % 0x80) as u8,
-        (number / 0x200000 % 0x80) as u8,
-        (number / 0x4000 % 0x80) as u8,
-        (number / 0x80 % 0x80) as u8,
-        (number % 0x80) as u8 + 0x80,
-    ])
+    bytes.push((number / 0x10000000 % 0x80) as u8)?;
+    bytes.push((number / 0x200000 % 0x80) as u8)?;
+    bytes.push((number / 0x4000 % 0x80) as u8)?;
+    bytes.push((number / 0x80 % 0x80) as u8)?;
+    bytes.push((number % 0x80) as u8 + 0x80)?;
+    Ok(())
 }
 
 /// Writes an unsigned integer of any length.

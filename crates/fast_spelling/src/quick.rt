@@ -1,11 +1,11 @@
 //! Fields under the usual operators and previous values: one comparison tells which case of the rule it is.
 
-ghost use Rattle.std.specs.Prelude.{◌≡◌, ◌-ℤ◌, ◌↔◌, true, Some, IsTrue, IfSome, OnOk, IfErr};
+ghost use Rattle.std.specs.Prelude.{◌≡◌, ◌-ℤ◌, ◌↔◌, true, None, Some, IsTrue, IfSome, OnOk, IfErr};
 ghost use Rattle.fast_value.specs.declared.settings.Limits.{Limits};
 ghost use Rattle.fast_value.specs.Kinds.{U, I, IsWithin, signed_range, integer_of};
 ghost use Rattle.fast_value.specs.Values.{scalar_data};
 ghost use Rattle.fast_tree.specs.Nodes.{field_data};
-ghost use Rattle.fast_dict.specs.Dictionary.{assigned, previous_at};
+ghost use Rattle.fast_dict.specs.Dictionary.{assigned, empty, previous_at};
 ghost use Rattle.fast_spelling.specs.Encoding.{EncodesField};
 ghost use Rattle.fast_spelling.specs.Drafts.{IsTold};
 ghost use Rattle.fast_spelling.specs.Fields.{IsServed, IsSuited, Wrote};
@@ -152,6 +152,51 @@ pub fn write_other(
             write_chosen(draft, ledger, field, Some(value))
         }
     }
+}
+
+/// Writes a field that is absent.
+///
+/// # Errors
+///
+/// E3; memory was refused. Then the draft is of no use.
+pub fn write_none(
+    draft: &mut Draft,
+    ledger: &mut Ledger,
+    field: &FieldInstruction,
+) -> Result<(), EncodeFault>
+    requires served { IsServed ledger.old (field_data field.now) }
+    requires suited { IsSuited ledger.old.max_text (field_data field.now) None }
+    ensures ok { OnOk result ((l : Limits) → l.max_text ≡ ledger.old.max_text
+        → Wrote (EncodesField l (field_data field.now) ledger.old.now None) draft.old draft.new ledger.new.now) }
+    ensures err { IfErr result (IsTold (RefusesField (field_data field.now) ledger.old.now None)) }
+    ensures keeps { Keeps ledger.old ledger.new }
+{
+    match field.operator {
+        Operator::None => send(draft, ledger, field, None, true, Sent::Null),
+        Operator::Delta => send(draft, ledger, field, None, true, Sent::Null),
+        Operator::Default => match &field.initial {
+            None => Ok(draft.push_bit(false)?),
+            Some(_) => send(draft, ledger, field, None, true, Sent::Null),
+        },
+        Operator::Copy => {
+            if is_empty_in(ledger, field) {
+                return Ok(draft.push_bit(false)?);
+            }
+            write_chosen(draft, ledger, field, None)
+        }
+        Operator::Increment | Operator::Constant | Operator::Tail => {
+            write_chosen(draft, ledger, field, None)
+        }
+    }
+}
+
+/// Whether the field's entry holds that a field was absent.
+#[inline(always)]
+fn is_empty_in(ledger: &Ledger, field: &FieldInstruction) -> bool
+    requires { IsServed ledger.now (field_data field.now) }
+    ensures { IsTrue result → previous_at (field_data field.now).entry ledger.now.now ≡ empty }
+{
+    matches!(previous_of(ledger, field), Previous::Empty)
 }
 
 /// The value that the field's entry holds, if it holds one of the field's type. A text is lent.

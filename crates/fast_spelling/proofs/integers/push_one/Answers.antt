@@ -1,7 +1,7 @@
 -- The groups, with the stop bit on the last.
-use Rattle.fast_spelling.proofs.Groups.{added, one}
-use Rattle.fast_spelling.specs.Groups.{IsGroups}
+use Rattle.std.proofs.Common.{◌+◌, ◌%◌, [], ◌∷◌}
+use Rattle.fast_spelling.proofs.Groups.{one}
 use Rattle.fast_spelling.proofs.integers.push_one.Goals as goal
 
 pub returns : goal.returns
-returns c = added (IsGroups c.args.number 1) c.args.bytes.now.items c.extend_from_slice.new.self.items _ c.extend_from_slice.result c.extend_from_slice.ensures.items (one c.args.number c.requires)
+returns c = ((c.args.number % 128 + 128) ∷ [], c.in_ok-push.ensures.items, one c.args.number c.requires)
