@@ -4,6 +4,8 @@ pub mod Parts
 pub mod Lined
 pub mod Progressing
 pub mod Showing
+pub mod Flushed
+pub mod Refused
 pub mod SetLines
 pub mod Commands
 pub mod Given

@@ -178,3 +178,8 @@ at_good (Err e) good h = absurd (cc)
 pub at_error : {X E : Type 0} {P : Type 0} (r : Result X E) → is_err r ≡ true → OnErr r P → P
 at_error (Ok x) bad h = absurd (cc)
 at_error (Err e) bad h = h
+
+-- a failure is told, or nothing has failed since an earlier moment either
+pub told_on : {A B : Type 0} {r s : A} {now then before : B} → (r ≡ s) ⊎ (now ≡ then) → then ≡ before → (r ≡ s) ⊎ (now ≡ before)
+told_on (inl told) same = inl told
+told_on (inr stays) same = inr (stays ∙ same)

@@ -9,7 +9,7 @@ use Rattle.fast_command.specs.declared.faults.RunFault.{RunFault}
 use Rattle.fast_command.specs.declared.faults.RunFault.TheVariants.{Read, Write, BadHex, Templates, Make, Memory}
 
 -- what a run answers where a template text is refused with this code
-abbrev refused_by : StaticCode → StaticFault → RunFault
+abbrev pub refused_by : StaticCode → StaticFault → RunFault
 refused_by NoMemory f = Memory
 refused_by code f = Templates f
 

@@ -1,10 +1,10 @@
-use Rattle.std.proofs.Common.{◌≡◌, ◌⊎◌, ℕ, ◌<◌, ◌≤◌, List, [], refl, sym, ap, inl, inr, length, length-take, take, arith}
+use Rattle.std.proofs.Common.{◌≡◌, ◌⊎◌, ℕ, ◌<◌, ◌≤◌, List, [], refl, sym, ap, inl, inr, length, length-take, take, arith, ◌∙◌}
 use Rattle.std.specs.Prelude.{IsTrue}
 use Rattle.std.specs.Io.KnownBytes.{IsAtEnd}
 use Rattle.fast_template.specs.Flat.{tree_of}
 use Rattle.fast_text.proofs.Writing.{appends_none, reads_none}
 use Rattle.fast_command.specs.Showing.{IsRefusal}
-use Rattle.fast_command.proofs.Showing.{at_error, not_flushed, round_flushed, refusal_shown, read_no_more, no_round, run_ended, round_counts, round_more, ended_there}
+use Rattle.fast_command.proofs.Showing.{at_good, round_has_room, told_on, at_error, not_flushed, round_flushed, refusal_shown, read_no_more, no_round, run_ended, round_counts, round_more, ended_there}
 use Rattle.fast_command.proofs.show.run_show.Goals as goal
 
 pub returns-in-Err-clause-shown : goal.returns-in-Err-clause-shown
@@ -67,7 +67,7 @@ loop-read-preserved g c =
     let small : length (take c.in-Ok-read.count c.read.new.buf) ≤ 4096 = omega (arith, length-take c.in-Ok-read.count c.read.new.buf, c.read.auto.buf) in
     record {
       round = round_more (tree_of c.args.templates.now) c.args.limits c.args.hex c.loop-read.show c.take.new.self c.loop-read._read _ _ _ _ _ piece h c.in-Ok-read.ensures.bytes some small on;
-      writer_stays = on.as_before ∙ at_good c.flush.result (sym c.if-is_err.ensures.value ∙ c.if-is_err.false) c.flush.ensures.stays ∙ c.loop-read.invariant.writer_stays;
+      writer_stays = on.as_before ∙ at_good c.flush.result (sym c.if-is_err.ensures.value) c.flush.ensures.stays ∙ c.loop-read.invariant.writer_stays;
       reader_stays = c.in-Ok-read.ensures.stays ∙ c.loop-read.invariant.reader_stays;
     }
 
@@ -78,3 +78,26 @@ returns-clause-shown g c =
     read_no_more (tree_of c.args.templates.now) c.args.limits c.args.hex (IsRefusal c.args.templates.now c.args.limits) c.loop-read.show c.loop-read._read
     (IsAtEnd (g.S.Source.left c.loop-read.reader)) (IsTrue (g.T.Target.has_failed c.loop-read.writer))
     (λ (text : List ℕ). IsTrue (g.S.Source.has_failed c.loop-read.reader) ⊎ (c.args.max_reads ≤ length text)) _ _ _ _ _ h (reads_none _) (inr many)
+
+pub take-requires-clause-room : goal.take-requires-clause-room
+take-requires-clause-room g c =
+    let small : length (take c.in-Ok-read.count c.read.new.buf) ≤ 4096 = omega (arith, length-take c.in-Ok-read.count c.read.new.buf, c.read.auto.buf) in
+    round_has_room (tree_of c.args.templates.now) c.args.limits c.args.hex c.loop-read.show c.loop-read._read c.args.max_reads _ _ _ _ _ c.loop-read.invariant.round c.loop-read-test.true c.requires small
+
+pub returns-then-count-eq0-clause-writer_told : goal.returns-then-count-eq0-clause-writer_told
+returns-then-count-eq0-clause-writer_told g c =
+    let h = round_flushed c.flush.ensures.kept c.loop-read.invariant.round in
+    let w = c.end.ensures (tree_of c.args.templates.now) c.args.limits c.args.hex h.text h.bytes h.events h.progress in
+    told_on w.told (at_good c.flush.result (sym c.if-is_err.ensures.value) c.flush.ensures.stays ∙ c.loop-read.invariant.writer_stays)
+
+pub returns-in-Some-clause-writer_told : goal.returns-in-Some-clause-writer_told
+returns-in-Some-clause-writer_told g c =
+    let h = round_flushed c.flush.ensures.kept c.loop-read.invariant.round in
+    let w = c.in-Some.ensures (tree_of c.args.templates.now) c.args.limits c.args.hex h.text h.bytes h.events h.progress in
+    told_on w.told (at_good c.flush.result (sym c.if-is_err.ensures.value) c.flush.ensures.stays ∙ c.loop-read.invariant.writer_stays)
+
+pub returns-in-Some-clause-bad_limits : goal.returns-in-Some-clause-bad_limits
+returns-in-Some-clause-bad_limits g c = λ bad. let e = c.in-Ok.ensures.bad_limits bad in absurd (cc)
+
+pub returns-in-Some-clause-long_initial : goal.returns-in-Some-clause-long_initial
+returns-in-Some-clause-long_initial g c = λ bad. let e = c.in-Ok.ensures.long_initial bad in absurd (cc)

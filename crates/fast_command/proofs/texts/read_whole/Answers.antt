@@ -4,10 +4,10 @@ use Rattle.fast_command.specs.Texts.{text_limit}
 use Rattle.fast_command.proofs.texts.read_whole.Goals as goal
 
 pub loop-read-init : goal.loop-read-init
-loop-read-init g c = record { bytes = reads_none (g.S.Source.left c.args.reader.now); many = search rules; few = search rules }
+loop-read-init g c = record { bytes = search (rules, reads_none); many = search rules; few = search rules }
 
 pub loop-read-preserved : goal.loop-read-preserved
-loop-read-preserved g c = record { bytes = reads_both _ _ _ _ _ c.loop-read.invariant.bytes c.in-Ok.ensures.bytes; many = search rules; few = search rules }
+loop-read-preserved g c = record { bytes = let h = reads_both _ _ _ _ _ c.loop-read.invariant.bytes c.in-Ok.ensures.bytes in search (rules, h); many = search rules; few = search rules }
 
 pub returns-then-count-eq0-clause-whole : goal.returns-then-count-eq0-clause-whole
 returns-then-count-eq0-clause-whole g c =
