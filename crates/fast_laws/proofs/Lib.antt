@@ -10,3 +10,6 @@ mod Counting
 mod Innocent
 mod Raising
 mod RaisedMessages
+mod ItemsRead
+mod ItemsSpelled
+mod FieldsFound

@@ -129,7 +129,7 @@ silent_turn {X} {A} p q h j = record { silent = by }
     by w es (wrong c) (inl i) = h.silent w es (wrong c) i
     by w es (wrong c) (inr (u, v, fs, gs, x, i, k, d, e)) = on es fs gs e (h.silent u fs (whole x) i) ((j x).silent v gs (wrong c) k)
 
-silent_term : {A : Type 0} (s : Bool) (g : Grammar A) → IsQuiet g → Silent (phrase_of s g)
+pub silent_term : {A : Type 0} (s : Bool) (g : Grammar A) → IsQuiet g → Silent (phrase_of s g)
 silent_term s (give a) h = silent-gives a
 silent_term {A} s (fault c) h = silent-settles {A = A} (Err c)
 silent_term s (hand e g) h = absurd h

@@ -3,3 +3,4 @@ pub mod Naming
 pub mod Nesting
 pub mod Counting
 pub mod Raising
+pub mod Items

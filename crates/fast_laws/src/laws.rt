@@ -1,20 +1,28 @@
 //! The laws. They speak of the definitions alone, over all sets, limits and bytes.
 
-ghost use Rattle.std.specs.Prelude.{◌≡◌, ◌≤◌, ◌<◌, ◌+◌, ◌⊎◌, ◌++◌, ◌∷◌, true, List, ℕ, All};
+ghost use Rattle.std.specs.Prelude.{◌≡◌, ◌≤◌, ◌<◌, ◌+◌, ◌⊎◌, ◌↔◌, [], Bool, Option, ◌++◌, ◌∷◌, true, List, ℕ, All};
 ghost use Rattle.toml.specs.Data.{Members};
 ghost use Rattle.fast_value.specs.declared.codes.Code.{Code};
 ghost use Rattle.fast_value.specs.declared.settings.Limits.{Limits};
+ghost use Rattle.fast_value.specs.Kinds.{ScalarData};
+ghost use Rattle.fast_value.specs.Limits.{bounds};
 ghost use Rattle.fast_value.specs.Messages.{MessageData, total};
-ghost use Rattle.fast_tree.specs.Tree.{Tree};
+ghost use Rattle.fast_tree.specs.Tree.{FieldData, Tree};
 ghost use Rattle.fast_notation.specs.Checked.{IsTree};
 ghost use Rattle.fast_template.specs.declared.sets.Templates.{Templates};
 ghost use Rattle.fast_template.specs.Flat.{nodes_of, tree_of};
+ghost use Rattle.fast_dict.specs.Dictionary.{PreviousData};
 ghost use Rattle.fast_dict.specs.EntryTexts.{HasLongInitial};
 ghost use Rattle.fast_stream.specs.Events.{EventData, SequenceStart, events};
+ghost use Rattle.fast_stream.specs.Fields.{field_phrase};
+ghost use Rattle.fast_stream.specs.Grammar.{phrase_of};
+ghost use Rattle.fast_stream.specs.Messages.{State, Found, field_in};
+ghost use Rattle.fast_stream.specs.Phrases.{whole};
 ghost use Rattle.fast_stream.specs.Streams.{End, faulted, Stream};
 ghost use Rattle.fast_spelling.specs.Again.{IsGrantedTree};
 ghost use Rattle.fast_spelling.specs.Suiting.{SuitsTemplate};
 ghost use Rattle.fast_laws.specs.Counting.{counted, AreFew, HasFew};
+ghost use Rattle.fast_laws.specs.Items.{IsByItem, SpellsFound};
 ghost use Rattle.fast_laws.specs.Naming.{IsNamed};
 ghost use Rattle.fast_laws.specs.Nesting.{AreNested};
 ghost use Rattle.fast_laws.specs.Proper.{AreOfMessages};
@@ -64,4 +72,14 @@ pub fn limits_come_where_passed()
     ensures same { (t : Tree) (l : Limits) (m n : ℕ) (w : List ℕ) (es : List EventData) (e : End) → l.max_elements ≤ m → l.max_total ≤ n → IsOtherEnd e → Stream t l w es e → Stream t (with_room m n l) w es e }
     ensures ends { (t : Tree) (l : Limits) (m n : ℕ) (w : List ℕ) (es fs gs : List EventData) (node k : ℕ) (e e' : End) → IsGrantedTree l t → l.max_elements ≤ m → l.max_total ≤ n → Stream t l w es e
         → Stream t (with_room m n l) w (fs ++ SequenceStart node k ∷ gs) e' → (l.max_elements < k) ⊎ (l.max_total < counted fs + k) → ¬ (IsOtherEnd e) }
+{}
+
+/// The bytes of a field are those of an item that its operator takes, in the spelling of its kind, and its value, or absence, and what the
+/// entry holds next are those of the operator table: of each row, those of deltas too. So the table and the spellings govern streams.
+pub fn field_is_an_item()
+    ensures item { (l : Limits) (f : FieldData) (p : PreviousData) (bit : Bool) (v : Option ScalarData) (next : PreviousData) (w : List ℕ)
+        → field_phrase l f p bit w [] (whole (record { value = v; next = next })) ↔ IsByItem l f p bit v next w }
+    // A message reads its fields so.
+    ensures found { (l : Limits) (f : FieldData) (s : State) (w : List ℕ) (es : List EventData) (r : Found)
+        → phrase_of l.strict (field_in (bounds l) f s) w es (whole r) ↔ ((es ≡ []) × SpellsFound l f s w r) }
 {}
