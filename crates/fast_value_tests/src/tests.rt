@@ -139,7 +139,10 @@ fn a_code_has_a_number_a_name_and_a_sentence(rt: HostRuntime) -> Result<(), Fail
     ] {
         let name = code.name();
         let found = format!(in alloc; "{name}: {code}")?;
-        assert!(rt; found.as_str() == line && code.number() == number, "{found}");
+        assert!(rt;
+            found.as_str() == line && code.number() == number,
+            "{found}"
+        );
     }
     Ok(())
 }
