@@ -1,22 +1,20 @@
 //! What a decoder works out once, when it is made: the widths of presence maps, and its dictionary.
 
-ghost use Rattle.std.specs.Prelude.{◌≡◌, ◌⊎◌, ◌↔◌, ℕ, ◌<◌, ◌≤◌, ◌^◌, ◌-◌, List, length, slice_index_or, false, Some, IsTrue, IfOk};
+ghost use Rattle.std.specs.Prelude.{◌≡◌, ◌⊎◌, ◌↔◌, ℕ, ◌<◌, length, slice_index_or, false, Some, IsTrue, IfOk};
 ghost use Rattle.fast_value.specs.Kinds.{family, texts, text_of};
 ghost use Rattle.fast_value.specs.Values.{value_data};
-ghost use Rattle.fast_tree.specs.Tree.{Label, Instruction, uses_bit, bits_used, bits_of};
-ghost use Rattle.fast_template.specs.Flat.{tree_of, nodes_of, templates_of, field_data, instruction_of};
+ghost use Rattle.fast_template.specs.Flat.{tree_of, nodes_of, templates_of, field_data};
 ghost use Rattle.fast_tree.specs.NodeData.{shape_data};
-ghost use Rattle.fast_tree.specs.Numbers.{AreBelow, numbers_of};
 ghost use Rattle.fast_tree.specs.Usable.{IsUsableShape};
 ghost use Rattle.fast_dict.specs.Dictionary.{fresh};
 ghost use Rattle.fast_dict.specs.Slots.{slots_dictionary, slots_terms};
 ghost use Rattle.fast_dict.specs.Stores.{IsText};
 ghost use Rattle.fast_dict.specs.EntryTexts.{AnyField, IsLongText, HasLongInitial, MayHoldText, HoldsTextAt, NeedsText};
 ghost use Rattle.fast_decoder.specs.Serving.{ServesNodes};
-ghost use Rattle.fast_tree.specs.Bodies.{body_among, AreNodeWidths, AreTemplateWidths};
+ghost use Rattle.fast_tree.specs.Bodies.{AreNodeWidths, AreTemplateWidths};
 
 use fast_dict::Slots;
-use fast_template::{FieldInstruction, Node, Operator, Shape, Templates};
+use fast_template::{FieldInstruction, Node, Shape, Templates};
 use fast_value::{Kind, Value};
 use std::alloc::{AllocError, Global};
 
@@ -29,64 +27,13 @@ pub struct Widths {
     pub templates: Vec<usize>,
 }
 
-/// Whether the field uses a bit of the presence map.
-fn has_bit(field: &FieldInstruction) -> bool
-    ensures { result ≡ uses_bit (field_data field.now) }
-{
-    match field.operator {
-        Operator::None | Operator::Delta => false,
-        Operator::Constant => field.optional,
-        Operator::Default | Operator::Copy | Operator::Increment | Operator::Tail => true,
-    }
-}
-
-/// The bits that the instruction uses of its own segment's map.
-fn bits_used(node: &Node) -> usize
-    ensures used { (at : Label) (first : ℕ) (is : List Instruction) → result ≡ bits_used (instruction_of at first is node.now.shape) }
-    ensures few { result ≤ 2 }
-{
-    match &node.shape {
-        Shape::Field(field) => usize::from(has_bit(field)),
-        Shape::Decimal { exponent, mantissa } => {
-            usize::from(has_bit(exponent)) + usize::from(has_bit(mantissa))
-        }
-        Shape::Group { optional, .. } => usize::from(*optional),
-        Shape::Sequence { length, .. } => usize::from(has_bit(length)),
-    }
-}
-
-/// The bits that the segment of these nodes uses.
-fn segment_bits(templates: &Templates, body: &[u32]) -> usize
-    requires within { AreBelow (length (nodes_of templates.now)) body.now }
-    requires short { length body.now < 2 ^ 63 }
-    ensures bits { result ≡ bits_of (body_among (nodes_of templates.now) body.now) }
-    ensures small { result < 2 ^ 64 - 1 }
-{
-    let mut bits = 0;
-    for n in body {
-        bits += bits_used(templates.node(*n));
-    }
-    bits
-}
-
-/// The nodes of the segment within a group or a sequence.
-fn body_of(node: &Node) -> &[u32]
-    ensures numbers { result.now ≡ numbers_of node.now.shape }
-    ensures short { length result.now < 2 ^ 63 }
-{
-    match &node.shape {
-        Shape::Field(_) | Shape::Decimal { .. } => &[],
-        Shape::Group { body, .. } | Shape::Sequence { body, .. } => body.as_slice(),
-    }
-}
-
 /// The bits that the segment within each node uses.
 fn node_widths(alloc: Global, templates: &Templates) -> Result<Vec<usize>, AllocError>
     ensures { IfOk result (λ w. AreNodeWidths (nodes_of templates.now) w.items) }
 {
     let mut widths = Vec::with_capacity(alloc, templates.nodes() as usize)?;
     for n in 0..templates.nodes() {
-        widths.push(segment_bits(templates, body_of(templates.node(n))))?;
+        widths.push(templates.segment_bits(n))?;
     }
     Ok(widths)
 }
@@ -97,7 +44,7 @@ fn template_widths(alloc: Global, templates: &Templates) -> Result<Vec<usize>, A
 {
     let mut widths = Vec::with_capacity(alloc, templates.count() as usize)?;
     for i in 0..templates.count() {
-        widths.push(1 + segment_bits(templates, &templates.template(i).body))?;
+        widths.push(templates.message_bits(i))?;
     }
     Ok(widths)
 }

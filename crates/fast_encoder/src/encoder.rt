@@ -24,14 +24,9 @@ use fast_spelling::measuring::fits_limits;
 use fast_spelling::messages::write_message;
 use fast_spelling::suiting::suits_body;
 use fast_template::{Template, Templates};
-use fast_value::{Limits, Message};
+use fast_value::{Limits, MAX_TEXT, MIN_TEXT, Message};
 use std::alloc::Global;
 use std::marker::Model;
-
-/// The least and the greatest length that texts may be limited to.
-const MIN_TEXT: usize = 16;
-
-const MAX_TEXT: usize = 1_048_576;
 
 /// Encodes messages, one after the other, each from the dictionary that the one before has left.
 #[derive(Drop)]

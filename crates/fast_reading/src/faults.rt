@@ -1,6 +1,8 @@
 //! What can be wrong with a text of lines.
 
 use std::alloc::AllocError;
+use std::error::Error;
+use std::fmt;
 
 /// Why a text is not read.
 #[derive(Clone, Copy, Debug, PartialEq, Eq)]
@@ -34,6 +36,56 @@ pub enum LineFault {
     /// The text ends where the line had to stand.
     Missing,
 }
+
+impl LineFault {
+    ghost use Rattle.std.specs.Prelude.{◌≡◌};
+    ghost use Rattle.fast_reading.specs.Codes.{line_number};
+
+    /// The number of the kind, for a caller that cannot be handed an enum. It is never given to another kind; of two kinds that
+    /// apply to a line the one with the lesser number is told.
+    pub fn number(self) -> u8
+        ensures { result ≡ line_number self }
+    {
+        match self {
+            LineFault::Form => 1,
+            LineFault::UnknownTemplate => 2,
+            LineFault::OutOfPlace => 3,
+            LineFault::WrongValue => 4,
+            LineFault::PassedOver => 5,
+            LineFault::WrongCount => 6,
+            LineFault::Missing => 7,
+        }
+    }
+}
+
+impl fmt::Display for LineFault {
+    fn fmt<W: fmt::Write>(&self, f: &mut fmt::Formatter<W>) -> fmt::Result {
+        f.write_str(match self {
+            LineFault::Form => "it is not UTF-8, or not of the form of any line",
+            LineFault::UnknownTemplate => "no template has its name",
+            LineFault::OutOfPlace => "nothing of its name can stand there",
+            LineFault::WrongValue => "its value is none that the field can have",
+            LineFault::PassedOver => "something mandatory is left out before it",
+            LineFault::WrongCount => "the sequence has not as many elements as its line says",
+            LineFault::Missing => "the text ends where the line had to stand",
+        })
+    }
+}
+
+impl Error for LineFault {}
+
+impl fmt::Display for TextFault {
+    fn fmt<W: fmt::Write>(&self, f: &mut fmt::Formatter<W>) -> fmt::Result {
+        match self {
+            TextFault::BadLine { line, kind } => {
+                write!(f, "line {line} kind {number}: {kind}", number = kind.number())
+            }
+            TextFault::Memory => f.write_str("there is no memory left"),
+        }
+    }
+}
+
+impl Error for TextFault {}
 
 impl From<AllocError> for TextFault {
     ghost use Rattle.std.specs.Prelude.{◌≡◌};

@@ -1,6 +1,8 @@
 //! Why a message is refused.
 
 use std::alloc::AllocError;
+use std::error::Error;
+use std::fmt;
 
 /// Why a message is not encoded. E1, E2 and E4 are decided for the whole message, in this order; then E3 and R9 at the first
 /// instruction of which one of them stands.
@@ -22,6 +24,54 @@ pub enum EncodeFault {
     /// Memory was refused.
     Memory,
 }
+
+impl EncodeFault {
+    ghost use Rattle.std.specs.Prelude.{◌≡◌};
+    ghost use Rattle.fast_spelling.specs.Codes.{encode_number, encode_text};
+
+    /// The number of the fault, for a caller that cannot be handed an enum. It is never given to another fault.
+    pub fn number(self) -> u8
+        ensures { result ≡ encode_number self }
+    {
+        match self {
+            EncodeFault::E1 => 1,
+            EncodeFault::E2 => 2,
+            EncodeFault::E3 => 3,
+            EncodeFault::E4 => 4,
+            EncodeFault::R9 => 5,
+            EncodeFault::Memory => 6,
+        }
+    }
+
+    /// The name of the fault: `E1`, where `Display` says in words why the message is refused.
+    pub fn name(self) -> &'static str
+        ensures { result.now ≡ encode_text self }
+    {
+        match self {
+            EncodeFault::E1 => "E1",
+            EncodeFault::E2 => "E2",
+            EncodeFault::E3 => "E3",
+            EncodeFault::E4 => "E4",
+            EncodeFault::R9 => "R9",
+            EncodeFault::Memory => "Memory",
+        }
+    }
+}
+
+impl fmt::Display for EncodeFault {
+    fn fmt<W: fmt::Write>(&self, f: &mut fmt::Formatter<W>) -> fmt::Result {
+        f.write_str(match self {
+            EncodeFault::E1 => "no template has the number, or that template has no identifier",
+            EncodeFault::E2 => "the message does not suit its template",
+            EncodeFault::E3 => "the previous values leave no way to send a value",
+            EncodeFault::E4 => "a text or a number of elements is over its limit",
+            EncodeFault::R9 => "an ASCII string that would be sent begins with a zero character",
+            EncodeFault::Memory => "there is no memory left",
+        })
+    }
+}
+
+impl Error for EncodeFault {}
 
 impl From<AllocError> for EncodeFault {
     ghost use Rattle.std.specs.Prelude.{◌≡◌};

@@ -3,3 +3,4 @@ pub mod Counts
 pub mod TextFields
 pub mod Flat
 pub mod Opcodes
+pub mod Presence

@@ -7,6 +7,7 @@ pub mod queries;
 mod read;
 pub mod sets;
 mod texts;
+mod widths;
 
 pub use fast_notation::{NESTING_LIMIT, NODE_LIMIT, SEGMENT_LIMIT, StaticCode, StaticFault};
 pub use fast_tree::{FieldInstruction, Node, Operator, Shape, Template};

@@ -3,7 +3,7 @@
 use super::worked::WORKED;
 use super::{LENIENT, expect_rows};
 use fast_decoder::MakeError;
-use fast_encoder::Encoder;
+use fast_encoder::{EncodeFault, Encoder};
 use fast_template::Templates;
 use fast_value::Limits;
 use std::alloc::Global;
@@ -120,4 +120,30 @@ const ELEMENTS: &[&str] = &[
 #[test]
 fn elements(rt: HostRuntime) -> Result<(), Fail> {
     expect_rows(&rt, rt.alloc(), NESTED, ELEMENTS)
+}
+
+#[test]
+fn a_fault_has_a_number_a_name_and_a_sentence(rt: HostRuntime) -> Result<(), Fail> {
+    let alloc = rt.alloc();
+    for (fault, number, line) in [
+        (
+            EncodeFault::E1,
+            1,
+            "E1: no template has the number, or that template has no identifier",
+        ),
+        (
+            EncodeFault::R9,
+            5,
+            "R9: an ASCII string that would be sent begins with a zero character",
+        ),
+        (EncodeFault::Memory, 6, "Memory: there is no memory left"),
+    ] {
+        let name = fault.name();
+        let found = format!(in alloc; "{name}: {fault}")?;
+        assert!(rt;
+            found.as_str() == line && fault.number() == number,
+            "{found}"
+        );
+    }
+    Ok(())
 }

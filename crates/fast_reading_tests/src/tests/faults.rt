@@ -216,3 +216,29 @@ fn a_line_that_is_not_utf8_is_of_no_form(rt: HostRuntime) -> Result<(), Fail> {
     assert!(rt; answer == Err(want));
     Ok(())
 }
+
+#[test]
+fn a_fault_has_a_number_and_a_sentence(rt: HostRuntime) -> Result<(), Fail> {
+    let alloc = rt.alloc();
+    for (fault, sentence) in [
+        (
+            TextFault::BadLine {
+                line: 4,
+                kind: UnknownTemplate,
+            },
+            "line 4 kind 2: no template has its name",
+        ),
+        (
+            TextFault::BadLine {
+                line: 3,
+                kind: Missing,
+            },
+            "line 3 kind 7: the text ends where the line had to stand",
+        ),
+        (TextFault::Memory, "there is no memory left"),
+    ] {
+        let found = format!(in alloc; "{fault}")?;
+        assert!(rt; found.as_str() == sentence, "{found}");
+    }
+    Ok(())
+}

@@ -122,6 +122,54 @@ const FIELDS: Faults = &[
     ),
 ];
 
+/// Fields of the first template that have two codes: the first in the order of the instructions is told. Within one instruction an
+/// operator comes before an initial value; an exponent before a mantissa, and a length before its sequence's fields, whatever the
+/// order of keys.
+const TWO_CODES: Faults = &[
+    (
+        Some((S2, Some(0))),
+        &[
+            // and S3
+            "{kind='uInt32', name='x', op='tail', value='a'}",
+            "{kind='uInt32', name='x', value='a', op='tail'}",
+            "{kind='decimal', name='x', exponent={value='a', op='tail'}}",
+            // and S4, S5 and S3 of what comes later
+            "{kind='ascii', name='x', op='increment'}, {kind='uInt32', name='y', op='constant'}",
+            "{kind='decimal', name='x', mantissa={op='default'}, exponent={op='tail'}}",
+            "{kind='sequence', name='s', fields=[{kind='uInt32', name='x', op='constant'}], length={op='tail'}}",
+        ],
+    ),
+    (
+        Some((S3, Some(0))),
+        &[
+            // and S4, S5, S2 of what comes later
+            "{kind='uInt32', name='x', op='constant', value='a'}, {kind='uInt32', name='y', op='constant'}",
+            "{kind='decimal', name='x', mantissa={op='constant'}, exponent={op='copy', value='64'}}",
+            "{kind='decimal', name='x', mantissa={op='tail'}, exponent={op='copy', value='a'}}",
+            "{kind='sequence', name='s', fields=[{kind='uInt32', name='x', op='tail'}], length={op='copy', value='-1'}}",
+            "{kind='group', name='g', fields=[{kind='uInt32', name='x', op='copy', value='a'}]}, {kind='ascii', name='y', op='increment'}",
+        ],
+    ),
+    (
+        Some((S4, Some(0))),
+        &[
+            // and S2, S5, S3 of what comes later
+            "{kind='uInt32', name='x', op='constant'}, {kind='ascii', name='y', op='increment'}",
+            "{kind='decimal', name='x', mantissa={op='default'}, exponent={op='constant'}}",
+            "{kind='sequence', name='s', fields=[{kind='uInt32', name='x', op='copy', value='a'}], length={op='constant'}}",
+        ],
+    ),
+    (
+        Some((S5, Some(0))),
+        &[
+            // and S2, S4, S3 of what comes later
+            "{kind='uInt32', name='x', op='default'}, {kind='ascii', name='y', op='increment'}",
+            "{kind='decimal', name='x', mantissa={op='copy', value='a'}, exponent={op='default'}}",
+            "{kind='sequence', name='s', fields=[{kind='uInt32', name='x', op='constant'}], length={op='default'}}",
+        ],
+    ),
+];
+
 /// Behind a template with faults of three passes: earlier passes come first.
 const REST: Faults = &[
     (Some((C1, Some(1))), &["[[template]]\nname='A'\nid=1"]),
@@ -149,6 +197,7 @@ fn texts_have_the_faults_of_the_passes(rt: HostRuntime) -> Result<(), Fail> {
         ),
         (("[[template]]\nname='A'\n", ""), KEYS),
         (("[[template]]\nname='A'\nfields=[", "]"), FIELDS),
+        (("[[template]]\nname='A'\nfields=[", "]"), TWO_CODES),
         (
             (
                 "[[template]]\nname='A'\nid=1\nfields=[{kind='ref', name='X'}, {kind='uInt32', name='x', op='constant'}]\n",

@@ -1,7 +1,7 @@
 use Rattle.std.proofs.Common.{arith}
 use Rattle.fast_template.specs.Flat.{nodes_of}
-use Rattle.fast_decoder.proofs.Widths.{bits_more}
-use Rattle.fast_decoder.proofs.layout.segment_bits.Goals as goal
+use Rattle.fast_template.proofs.BodyBits.{bits_more}
+use Rattle.fast_template.proofs.widths.body_bits.Goals as goal
 
 pub loop-n-preserved : goal.loop-n-preserved
 loop-n-preserved c =

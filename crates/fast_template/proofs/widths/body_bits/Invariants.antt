@@ -3,7 +3,7 @@ use Rattle.std.specs.Prelude.{drop}
 use Rattle.fast_tree.specs.Tree.{bits_of}
 use Rattle.fast_template.specs.Flat.{nodes_of}
 use Rattle.fast_tree.specs.Bodies.{body_among}
-use Rattle.fast_decoder.proofs.layout.segment_bits.Given as goal
+use Rattle.fast_template.proofs.widths.body_bits.Given as goal
 
 -- the bits so far, and those of the nodes that are left
 abbrev pub invariant-loop-n : goal.invariant-loop-n
