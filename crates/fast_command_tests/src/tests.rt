@@ -8,6 +8,7 @@ mod faults;
 mod show;
 mod sinks;
 mod texts;
+mod vectors;
 mod words;
 
 use fast_template::Templates;

@@ -11,3 +11,4 @@ pub mod limits;
 pub mod lines;
 pub mod messages;
 pub mod operators;
+pub mod sets;

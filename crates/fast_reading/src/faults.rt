@@ -78,7 +78,11 @@ impl fmt::Display for TextFault {
     fn fmt<W: fmt::Write>(&self, f: &mut fmt::Formatter<W>) -> fmt::Result {
         match self {
             TextFault::BadLine { line, kind } => {
-                write!(f, "line {line} kind {number}: {kind}", number = kind.number())
+                write!(
+                    f,
+                    "line {line} kind {number}: {kind}",
+                    number = kind.number()
+                )
             }
             TextFault::Memory => f.write_str("there is no memory left"),
         }
