@@ -8,3 +8,6 @@ pub mod kinds;
 pub mod laws;
 pub mod messages;
 pub mod naming;
+
+pub use faults::{LineFault, TextFault};
+pub use messages::read_lines;

@@ -3,8 +3,7 @@
 mod cuts;
 mod faults;
 
-use fast_reading::faults::TextFault;
-use fast_reading::messages::read_lines;
+use fast_reading::{TextFault, read_lines};
 use fast_template::Templates;
 use std::alloc::Global;
 use std::test::Fail;

@@ -1,7 +1,7 @@
 //! Whole texts, and texts that end too early.
 
 use super::{ALL, count_of, set_of};
-use fast_reading::faults::TextFault;
+use fast_reading::TextFault;
 use std::test::Fail;
 
 /// Where each message ends, behind its last LF.

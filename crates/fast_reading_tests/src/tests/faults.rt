@@ -1,10 +1,8 @@
 //! Texts that are at fault, with the line and what is wrong with it.
 
 use super::{count_of, set_of};
-use fast_reading::faults::LineFault::{
-    Form, Missing, OutOfPlace, PassedOver, UnknownTemplate, WrongCount, WrongValue,
-};
-use fast_reading::faults::{LineFault, TextFault};
+use LineFault::{Form, Missing, OutOfPlace, PassedOver, UnknownTemplate, WrongCount, WrongValue};
+use fast_reading::{LineFault, TextFault};
 use std::test::Fail;
 
 /// What is wrong, and texts with the number of the line.
