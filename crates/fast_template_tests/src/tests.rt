@@ -5,6 +5,7 @@ mod chains;
 mod opcodes;
 mod sets;
 mod texts;
+mod widths;
 
 use fast_template::{StaticCode, Templates};
 use std::alloc::Global;
