@@ -1,6 +1,8 @@
 pub mod Bodies
 pub mod Closed
+pub mod Due
 pub mod Feeds
+pub mod Left
 pub mod LineTexts
 pub mod LinedEvents
 pub mod Named

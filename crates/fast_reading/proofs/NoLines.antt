@@ -93,7 +93,7 @@ one_feed c cs h is = let own : feeds (0x0A ∷ cs) ≡ 0 = ap (λ (z : ℕ). fee
 more_feeds : (c : ℕ) (cs : List ℕ) → feeds (c ∷ cs) ≡ 0 → feeds cs ≡ 0
 more_feeds c cs h = omega (arith, h)
 
-lacks_none : (text : List ℕ) → feeds text ≡ 0 → Lacks 0x0A text
+pub lacks_none : (text : List ℕ) → feeds text ≡ 0 → Lacks 0x0A text
 lacks_none [] h = All-nil (λ b. b ≢ 0x0A)
 lacks_none (c ∷ cs) h = All-cons (λ b. b ≢ 0x0A) c cs (one_feed c cs h) (lacks_none cs (more_feeds c cs h))
 

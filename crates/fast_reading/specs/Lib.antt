@@ -7,3 +7,4 @@ pub mod Progress
 pub mod Reading
 pub mod Refusing
 pub mod Runs
+pub mod Unsaid
