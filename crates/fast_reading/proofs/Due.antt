@@ -25,10 +25,10 @@ use Rattle.fast_reading.proofs.NoFeeds.{line_lacks}
 use Rattle.fast_reading.proofs.NoLines.{first_is, lacks_none}
 use Rattle.fast_reading.proofs.OneEvent.{same_event, formed}
 
-lines_are : (t : Tree) (e : EventData) (es : List EventData) → lines t (e ∷ es) ≡ line_of t e ++ 0x0A ∷ lines t es
+pub lines_are : (t : Tree) (e : EventData) (es : List EventData) → lines t (e ∷ es) ≡ line_of t e ++ 0x0A ∷ lines t es
 lines_are t e es = append_assoc (line_of t e) (0x0A ∷ []) (lines t es)
 
-no_line : (a b : List ℕ) (x : ℕ) → a ++ x ∷ b ≢ []
+pub no_line : (a b : List ℕ) (x : ℕ) → a ++ x ∷ b ≢ []
 no_line [] b x h = absurd (cc (h))
 no_line (c ∷ a) b x h = absurd (cc (h))
 
@@ -39,7 +39,7 @@ behind P (x ∷ xs) ys h = behind P xs ys (All-tail P x (xs ++ ys) h)
 front : (t : Tree) (e : EventData) (read : List EventData) (rest : List ℕ) → lines t (e ∷ read) ++ rest ≡ line_of t e ++ 0x0A ∷ (lines t read ++ rest)
 front t e read rest = ap (λ (z : List ℕ). z ++ rest) (lines_are t e read) ∙ append_assoc (line_of t e) (0x0A ∷ lines t read) rest
 
-split_lines : (t : Tree) (read es : List EventData) (rest : List ℕ) → HasDistinctNames t → All (IsLined t) read → All (IsLined t) es → lines t read ++ rest ≡ lines t es → (fs : List EventData) × (es ≡ read ++ fs) × (rest ≡ lines t fs)
+pub split_lines : (t : Tree) (read es : List EventData) (rest : List ℕ) → HasDistinctNames t → All (IsLined t) read → All (IsLined t) es → lines t read ++ rest ≡ lines t es → (fs : List EventData) × (es ≡ read ++ fs) × (rest ≡ lines t fs)
 split_lines t [] es rest d a b h = (es, refl, h)
 split_lines t (e ∷ read) [] rest d a b h = absurd (no_line (line_of t e) (lines t read ++ rest) 0x0A (sym (front t e read rest) ∙ h))
 split_lines t (e ∷ read) (f ∷ es) rest d a b h =

@@ -13,20 +13,19 @@ use Rattle.fast_reading.specs.Ahead.{text_from}
 use Rattle.fast_reading.specs.Cursors.{ahead}
 use Rattle.fast_reading.specs.Distinct.{number, HasNone, IsDistinct}
 use Rattle.fast_reading.specs.Lined.{HasDistinctNames}
-use Rattle.fast_reading.specs.Naming.{Names}
+use Rattle.fast_reading.specs.declared.endings.Ending.{Ending}
+use Rattle.fast_reading.specs.declared.endings.Ending.TheVariants as Ends
+use Rattle.fast_reading.specs.Naming.{Names, end_event}
 use Rattle.fast_reading.specs.Reading.{closed}
 use Rattle.fast_reading.specs.Refusing.{IsDue}
 use Rattle.fast_reading.specs.Runs.{IsItemRead}
+use Rattle.fast_reading.specs.Unsaid.{IsLeft}
 use Rattle.fast_reading.proofs.Due.{due_behind, due_line, item_first}
 use Rattle.fast_reading.proofs.LinedEvents.{Named, item_lined}
 use Rattle.fast_reading.proofs.OneBody.{Names as EventNames, Lacks, IsEnd, past, same_item}
 
--- What may be due of a whole body at one place, may be due of the rest at the next.
-pub record IsLeft (t : Tree) (whole rest : Body) (c next : Cursor) : Type 0 where
-  pub back : (vs : Slots) (es : List EventData) → IsEnd es → SuitsBody whole vs → IsDue t (body_events whole vs ++ es) c → (ws : Slots) × SuitsBody rest ws × IsDue t (body_events rest ws ++ es) next
-
 pub left_start : (t : Tree) (body : Body) (c : Cursor) → IsLeft t body body c c
-left_start t body c = record { back = λ vs es ends h due. (vs, h, due) }
+left_start t body c = record { back = λ vs ending es h due. (vs, h, due) }
 
 -- the event of a line that names a node
 named_event : (t : Tree) (n : ℕ) (i : Instruction) (e : EventData) → Names t n i (Some (line_of_event t e)) → EventNames n e
@@ -49,7 +48,7 @@ some_text t n i (Some l) rest named h = no_line (text_of_line (line_data l)) (cl
     no_line (d ∷ a) b x k = absurd (cc (k))
 
 -- A line that names a node is due with an event of it.
-not_lacking : (t : Tree) (n : ℕ) (i : Instruction) (c : Cursor) (es : List EventData) → Names t n i (option_map line_data c.line) → IsDue t es c → ¬ (Lacks n es)
+pub not_lacking : (t : Tree) (n : ℕ) (i : Instruction) (c : Cursor) (es : List EventData) → Names t n i (option_map line_data c.line) → IsDue t es c → ¬ (Lacks n es)
 not_lacking t n i c [] named due lacks = some_text t n i c.line c.rest.now named due.text
 not_lacking t n i c (e ∷ es) named due lacks = due_line t e es c due (λ (is : option_map line_data c.line ≡ Some (line_of_event t e)). lacks (named_event t n i e (subst (Names t n i) is named)))
 
@@ -60,11 +59,11 @@ no_item_due t i x es c h never due =
     due_line t e (tail ++ es) c (subst (λ (z : List EventData). IsDue t (z ++ es) c) is due)
     (λ (line : option_map line_data c.line ≡ Some (line_of_event t e)). never (subst (Names t (number i) i) (sym line) (names t)))
 
-grouped : (t : Tree) (i : Instruction) (x : ItemData) (is : Body) (ws : Slots) (es : List EventData) (c : Cursor) → IsDue t (body_events (step i is) (present x ws) ++ es) c → IsDue t (item_events i x ++ (body_events is ws ++ es)) c
+pub grouped : (t : Tree) (i : Instruction) (x : ItemData) (is : Body) (ws : Slots) (es : List EventData) (c : Cursor) → IsDue t (body_events (step i is) (present x ws) ++ es) c → IsDue t (item_events i x ++ (body_events is ws ++ es)) c
 unfolding body_events
 grouped t i x is ws es c due = subst (λ (z : List EventData). IsDue t z c) (append_assoc (item_events i x) (body_events is ws) es) due
 
-passed : (t : Tree) (i : Instruction) (is : Body) (ws : Slots) (es : List EventData) (c : Cursor) → IsDue t (body_events (step i is) (absent ws) ++ es) c → IsDue t (body_events is ws ++ es) c
+pub passed : (t : Tree) (i : Instruction) (is : Body) (ws : Slots) (es : List EventData) (c : Cursor) → IsDue t (body_events (step i is) (absent ws) ++ es) c → IsDue t (body_events is ws ++ es) c
 unfolding body_events
 passed t i is ws es c due = due
 
@@ -76,8 +75,14 @@ absent_left t i is a never (present x ws) es h due = absurd (no_item_due t i x (
 
 pub left_absent : (t : Tree) (whole : Body) (i : Instruction) (is : Body) (c a : Cursor) → IsLeft t whole (step i is) c a → ¬ (Names t (number i) i (option_map line_data a.line)) → IsLeft t whole is c a
 left_absent t whole i is c a l never = record {
-  back = λ vs es ends h due. let w = l.back vs es ends h due in absent_left t i is a never w.0 es w.1 w.2;
+  back = λ vs ending es h due. let w = l.back vs ending es h due in absent_left t i is a never w.0 (end_event ending ∷ es) w.1 w.2;
 }
+
+-- a body ends with an event that names no node
+pub ended : (ending : Ending) (es : List EventData) → IsEnd (end_event ending ∷ es)
+ended Ends.Message es n h = h
+ended Ends.Group es n h = h
+ended Ends.Element es n h = h
 
 -- Where it does, what was read is what is due.
 present_left : (t : Tree) (i : Instruction) (is : Body) (x : ItemData) (a b : Cursor) → HasDistinctNames t → IsDistinct i → HasNone (number i) is → Named t (labels i) → Names t (number i) i (option_map line_data a.line) → IsItemRead t i x a b
@@ -91,5 +96,5 @@ present_left t i is x a b names distinct none labelled named read (present y ws)
 
 pub left_present : (t : Tree) (whole : Body) (i : Instruction) (is : Body) (x : ItemData) (c a b : Cursor) → HasDistinctNames t → IsDistinct i → HasNone (number i) is → Named t (labels i) → IsLeft t whole (step i is) c a → Names t (number i) i (option_map line_data a.line) → IsItemRead t i x a b → IsLeft t whole is c b
 left_present t whole i is x c a b names distinct none labelled l named read = record {
-  back = λ vs es ends h due. let w = l.back vs es ends h due in present_left t i is x a b names distinct none labelled named read w.0 es ends w.1 w.2;
+  back = λ vs ending es h due. let w = l.back vs ending es h due in present_left t i is x a b names distinct none labelled named read w.0 (end_event ending ∷ es) (ended ending es) w.1 w.2;
 }

@@ -14,7 +14,10 @@ pub mod OneList
 pub mod OneListOfEvents
 pub mod OneReading
 pub mod Parts
+pub mod Plain
 pub mod Preorder
+pub mod Refused
+pub mod RefusedBodies
 pub mod Said
 pub mod Told
 pub mod ToldValues

@@ -108,7 +108,7 @@ behind : (line : Option Line) (rest : List ℕ) (t : Tree) (e : EventData) (es :
 behind None rest t e es some one lined same = absurd (cc (some))
 behind (Some l) rest t e es some one lined same = rest_is t (text_of_line (line_data l)) (closed rest) e es (lacks_none (text_of_line (line_data l)) (one (line_data l) refl)) lined same
 
-next_refused : (c : Cursor) → IsSome c.line → HasNoLines (closed c.rest.now) → HasNoNext c
+pub next_refused : (c : Cursor) → IsSome c.line → HasNoLines (closed c.rest.now) → HasNoNext c
 next_refused c some none t e es due =
     none t es (All-tail (IsLined t) e es due.lined) (All-tail IsShown e es due.shown) (behind c.line c.rest.now t e es some c.one_line (All-head (IsLined t) e es due.lined) due.text)
 

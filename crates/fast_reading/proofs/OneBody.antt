@@ -72,7 +72,7 @@ OneChoice right events =
     (vs ws : Slots) (rest more : List EventData) → right vs → right ws → IsEnd rest → IsEnd more → events vs ++ rest ≡ events ws ++ more
     → (vs ≡ ws) × (rest ≡ more)
 
-element_is : (events : Slots → List EventData) (vs : Slots) (rows : Elements) (rest : List EventData)
+pub element_is : (events : Slots → List EventData) (vs : Slots) (rows : Elements) (rest : List EventData)
     → element_events events (element vs rows) ++ rest ≡ ElementStart ∷ (events vs ++ ElementEnd ∷ (element_events events rows ++ rest))
 element_is events vs rows rest = ap (λ q. ElementStart ∷ q) (append_assoc (events vs) (ElementEnd ∷ element_events events rows) rest)
 

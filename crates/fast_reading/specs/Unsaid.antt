@@ -26,6 +26,10 @@ pub record IsPlainItem (t : Tree) (i : Instruction) : Type 0 where
   pub distinct : IsDistinct i
   pub named : All (λ l. IsNamed t l.node) (labels i)
 
+-- What may be due of a whole body at one place, up to its end, may be due of the rest at the next.
+pub record IsLeft (t : Tree) (whole rest : Body) (c next : Cursor) : Type 0 where
+  pub back : (vs : Slots) (ending : Ending) (es : List EventData) → SuitsBody whole vs → IsDue t (body_events whole vs ++ end_event ending ∷ es) c → (ws : Slots) × SuitsBody rest ws × IsDue t (body_events rest ws ++ end_event ending ∷ es) next
+
 -- No slots that suit the body have the text ahead, up to the body's end.
 abbrev pub HasNoBody : Tree → Body → Ending → Cursor → Type 0
 HasNoBody t b ending c = IsPlainBody t b → (vs : Slots) (es : List EventData) → SuitsBody b vs → ¬ (IsDue t (body_events b vs ++ end_event ending ∷ es) c)
