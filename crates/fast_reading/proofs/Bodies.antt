@@ -37,7 +37,7 @@ use Rattle.fast_reading.proofs.NoFeeds.{name_is}
 use Rattle.fast_reading.specs.Unsaid.{HasNoItem, HasNoBody}
 use Rattle.fast_reading.proofs.Left.{left_start, left_absent, left_present}
 use Rattle.fast_reading.proofs.Plain.{plain_first, plain_rest}
-use Rattle.fast_reading.proofs.RefusedBodies.{item_refused, mandatory_refused}
+use Rattle.fast_reading.proofs.RefusedBodies.{item_refused, mandatory_refused, end_refused}
 use Rattle.fast_reading.proofs.Said.{said_none, said_one, said_both, said_as}
 
 followed_none : (xs : List (Option Item)) → followed xs no_slots ≡ slots_data xs
@@ -77,24 +77,30 @@ present_more t whole xs i is x c a b r named one = record {
 }
 
 -- So at a place in a body.
-module _ (t : Tree) (nodes : List Node) (body : List ℕ) (i n : ℕ) (inside : i < length body) (is : slice_index body i ≡ n) (xs : List (Option Item)) (c a : Cursor) (r : IsReadTo t (body_among nodes body) xs (body_among nodes (drop i body)) c a) where
+module _ (t : Tree) (nodes : List Node) (body : List ℕ) (i n : ℕ) (inside : i < length body) (is : slice_index body i ≡ n) (own : number (instruction_in nodes n) ≡ n) (xs : List (Option Item)) (c a : Cursor) (r : IsReadTo t (body_among nodes body) xs (body_among nodes (drop i body)) c a) where
   here : body_among nodes (drop i body) ≡ step (instruction_in nodes n) (body_among nodes (drop (i + 1) body))
   here = body_next nodes body i inside ∙ ap (λ (k : ℕ). step (instruction_in nodes k) (body_among nodes (drop (i + 1) body))) is
 
   opened : IsReadTo t (body_among nodes body) xs (step (instruction_in nodes n) (body_among nodes (drop (i + 1) body))) c a
   opened = subst (λ (z : Body). IsReadTo t (body_among nodes body) xs z c a) here r
 
-  pub absent_at : ¬ (Names t (number (instruction_in nodes n)) (instruction_in nodes n) (option_map line_data a.line)) → Suits (instruction_in nodes n) None → IsReadTo t (body_among nodes body) (xs ++ None ∷ []) (body_among nodes (drop (i + 1) body)) c a
-  absent_at never none = absent_more t (body_among nodes body) xs (instruction_in nodes n) (body_among nodes (drop (i + 1) body)) c a opened never none
+  as_own : Names t n (instruction_in nodes n) (option_map line_data a.line) → Names t (number (instruction_in nodes n)) (instruction_in nodes n) (option_map line_data a.line)
+  as_own = subst (λ (k : ℕ). Names t k (instruction_in nodes n) (option_map line_data a.line)) (sym own)
 
-  pub present_at : (x : Item) (b : Cursor) → Names t (number (instruction_in nodes n)) (instruction_in nodes n) (option_map line_data a.line) → IsItemRead t (instruction_in nodes n) (item_data x) a b → IsReadTo t (body_among nodes body) (xs ++ Some x ∷ []) (body_among nodes (drop (i + 1) body)) c b
-  present_at x b named one = present_more t (body_among nodes body) xs (instruction_in nodes n) (body_among nodes (drop (i + 1) body)) x c a b opened named one
+  not_own : ¬ (Names t n (instruction_in nodes n) (option_map line_data a.line)) → ¬ (Names t (number (instruction_in nodes n)) (instruction_in nodes n) (option_map line_data a.line))
+  not_own never h = never (subst (λ (k : ℕ). Names t k (instruction_in nodes n) (option_map line_data a.line)) own h)
 
-  pub item_at : (ending : Ending) → Names t (number (instruction_in nodes n)) (instruction_in nodes n) (option_map line_data a.line) → HasNoItem t (instruction_in nodes n) a → HasNoBody t (body_among nodes body) ending c
-  item_at ending named none = item_refused t (body_among nodes body) xs (instruction_in nodes n) (body_among nodes (drop (i + 1) body)) ending c a opened named none
+  pub absent_at : ¬ (Names t n (instruction_in nodes n) (option_map line_data a.line)) → Suits (instruction_in nodes n) None → IsReadTo t (body_among nodes body) (xs ++ None ∷ []) (body_among nodes (drop (i + 1) body)) c a
+  absent_at never none = absent_more t (body_among nodes body) xs (instruction_in nodes n) (body_among nodes (drop (i + 1) body)) c a opened (not_own never) none
 
-  pub mandatory_at : (ending : Ending) → ¬ (Names t (number (instruction_in nodes n)) (instruction_in nodes n) (option_map line_data a.line)) → ¬ (Suits (instruction_in nodes n) None) → HasNoBody t (body_among nodes body) ending c
-  mandatory_at ending never wanted = mandatory_refused t (body_among nodes body) xs (instruction_in nodes n) (body_among nodes (drop (i + 1) body)) ending c a opened never wanted
+  pub present_at : (x : Item) (b : Cursor) → Names t n (instruction_in nodes n) (option_map line_data a.line) → IsItemRead t (instruction_in nodes n) (item_data x) a b → IsReadTo t (body_among nodes body) (xs ++ Some x ∷ []) (body_among nodes (drop (i + 1) body)) c b
+  present_at x b named one = present_more t (body_among nodes body) xs (instruction_in nodes n) (body_among nodes (drop (i + 1) body)) x c a b opened (as_own named) one
+
+  pub item_at : (ending : Ending) → Names t n (instruction_in nodes n) (option_map line_data a.line) → HasNoItem t (instruction_in nodes n) a → HasNoBody t (body_among nodes body) ending c
+  item_at ending named none = item_refused t (body_among nodes body) xs (instruction_in nodes n) (body_among nodes (drop (i + 1) body)) ending c a opened (as_own named) none
+
+  pub mandatory_at : (ending : Ending) → ¬ (Names t n (instruction_in nodes n) (option_map line_data a.line)) → ¬ (Suits (instruction_in nodes n) None) → HasNoBody t (body_among nodes body) ending c
+  mandatory_at ending never wanted = mandatory_refused t (body_among nodes body) xs (instruction_in nodes n) (body_among nodes (drop (i + 1) body)) ending c a opened (not_own never) wanted
 
 -- the line of an ending
 end_line_is : (t : Tree) (ending : Ending) → end_line ending ≡ line_of_event t (end_event ending)
@@ -120,6 +126,9 @@ body_done t whole xs ending c a b r line h =
 pub body_ended : (t : Tree) (nodes : List Node) (body : List ℕ) (i : ℕ) (xs : List (Option Item)) (ending : Ending) (c a b : Cursor) → length body ≤ i → IsReadTo t (body_among nodes body) xs (body_among nodes (drop i body)) c a → option_map line_data a.line ≡ Some (end_line ending) → Advances a b
     → IsBodyRead t (body_among nodes body) ending (slots_data xs) c b
 body_ended t nodes body i xs ending c a b past r line h = body_done t (body_among nodes body) xs ending c a b (subst (λ (z : Body). IsReadTo t (body_among nodes body) xs z c a) (body_last nodes body i past) r) line h
+
+pub body_unended : (t : Tree) (nodes : List Node) (body : List ℕ) (i : ℕ) (xs : List (Option Item)) (ending : Ending) (c a : Cursor) → length body ≤ i → IsReadTo t (body_among nodes body) xs (body_among nodes (drop i body)) c a → ¬ (option_map line_data a.line ≡ Some (end_line ending)) → HasNoBody t (body_among nodes body) ending c
+body_unended t nodes body i xs ending c a past r never = end_refused t (body_among nodes body) xs ending c a (subst (λ (z : Body). IsReadTo t (body_among nodes body) xs z c a) (body_last nodes body i past) r) never
 
 -- Elements.
 right_more : (R : Slots → Type 0) (rs : List (Vec (Option Item) Global)) (r : Vec (Option Item) Global) → AreRight R (elements_data rs) → R (slots_data r.items) → AreRight R (elements_data (rs ++ r ∷ []))

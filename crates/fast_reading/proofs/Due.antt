@@ -32,7 +32,7 @@ pub no_line : (a b : List ℕ) (x : ℕ) → a ++ x ∷ b ≢ []
 no_line [] b x h = absurd (cc (h))
 no_line (c ∷ a) b x h = absurd (cc (h))
 
-behind : {A : Type 0} (P : A → Type 0) (xs ys : List A) → All P (xs ++ ys) → All P ys
+pub behind : {A : Type 0} (P : A → Type 0) (xs ys : List A) → All P (xs ++ ys) → All P ys
 behind P [] ys h = h
 behind P (x ∷ xs) ys h = behind P xs ys (All-tail P x (xs ++ ys) h)
 

@@ -18,6 +18,7 @@ pub mod Plain
 pub mod Preorder
 pub mod Refused
 pub mod RefusedBodies
+pub mod RefusedMessages
 pub mod Said
 pub mod Told
 pub mod ToldValues

@@ -16,7 +16,9 @@ use Rattle.fast_spelling.specs.Suiting.{Suits}
 use Rattle.fast_reading.specs.declared.cursors.Cursor.{Cursor}
 use Rattle.fast_reading.specs.declared.endings.Ending.{Ending}
 use Rattle.fast_reading.specs.declared.endings.Ending.TheVariants as Ends
-use Rattle.fast_reading.specs.Ahead.{IsShown}
+use Rattle.fast_reading.specs.declared.faults.TextFault.{TextFault}
+use Rattle.fast_reading.specs.declared.faults.TextFault.TheVariants.{BadLine, Memory}
+use Rattle.fast_reading.specs.Ahead.{IsShown, OnBadLine}
 use Rattle.fast_reading.specs.Cursors.{ahead, Advances}
 use Rattle.fast_reading.specs.Distinct.{number}
 use Rattle.fast_reading.specs.Lined.{IsNamed, IsTold, IsLined}
@@ -29,6 +31,15 @@ use Rattle.fast_reading.proofs.OneEvent.{line_is}
 use Rattle.fast_reading.proofs.Parts.{value_events_are, group_events_are, sequence_events_are}
 use Rattle.fast_reading.proofs.Plain.{plain_sequence}
 use Rattle.fast_reading.proofs.ToldValues.{told_value}
+
+-- what is so of a fault of a line
+pub on_bad : (A B : Type 0) → (A → B) → (e : TextFault) → OnBadLine A e → OnBadLine B e
+on_bad A B f (BadLine line kind) h = f h
+on_bad A B f Memory h = tt
+
+pub always : (A : Type 0) (e : TextFault) → A → OnBadLine A e
+always A (BadLine line kind) h = h
+always A Memory h = tt
 
 same_lines : (a b : LineData) → Some a ≡ Some b → a ≡ b
 same_lines a b h = cc (h)
