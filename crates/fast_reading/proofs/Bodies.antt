@@ -28,11 +28,16 @@ use Rattle.fast_reading.specs.declared.faults.TextFault.{TextFault}
 use Rattle.fast_reading.specs.declared.faults.TextFault.TheVariants.{BadLine, Memory}
 use Rattle.fast_reading.specs.Ahead.{feeds, text_from}
 use Rattle.fast_reading.specs.Cursors.{ahead, Advances, IsNear}
-use Rattle.fast_reading.specs.Naming.{end_event, end_line}
+use Rattle.fast_reading.specs.Distinct.{number}
+use Rattle.fast_reading.specs.Naming.{Names, end_event, end_line}
 use Rattle.fast_reading.specs.Progress.{followed, IsReadTo, AreReadTo, AreMessagesRead}
 use Rattle.fast_reading.specs.Reading.{closed, Says}
 use Rattle.fast_reading.specs.Runs.{IsBodyRead, IsItemRead, AreRowsRead, IsMessageRead, IsLineOf}
 use Rattle.fast_reading.proofs.NoFeeds.{name_is}
+use Rattle.fast_reading.specs.Unsaid.{HasNoItem, HasNoBody}
+use Rattle.fast_reading.proofs.Left.{left_start, left_absent, left_present}
+use Rattle.fast_reading.proofs.Plain.{plain_first, plain_rest}
+use Rattle.fast_reading.proofs.RefusedBodies.{item_refused, mandatory_refused, end_refused}
 use Rattle.fast_reading.proofs.Said.{said_none, said_one, said_both, said_as}
 
 followed_none : (xs : List (Option Item)) → followed xs no_slots ≡ slots_data xs
@@ -47,39 +52,55 @@ followed_more (None ∷ xs) y vs = ap absent (followed_more xs y vs)
 followed_more (Some x ∷ xs) y vs = ap (present (item_data x)) (followed_more xs y vs)
 
 pub read_start : (t : Tree) (body : Body) (c : Cursor) → IsReadTo t body [] body c c
-read_start t body c = record { read = []; said = said_none t c; suits = λ vs h. h; says = λ vs. refl }
+read_start t body c = record { read = []; said = said_none t c; suits = λ vs h. h; says = λ vs. refl; plain = λ p. p; left = λ p. left_start t body c }
 
-absent_more : (t : Tree) (whole : Body) (xs : List (Option Item)) (i : Instruction) (is : Body) (c a : Cursor) → IsReadTo t whole xs (step i is) c a → Suits i None → IsReadTo t whole (xs ++ None ∷ []) is c a
+absent_more : (t : Tree) (whole : Body) (xs : List (Option Item)) (i : Instruction) (is : Body) (c a : Cursor) → IsReadTo t whole xs (step i is) c a → ¬ (Names t (number i) i (option_map line_data a.line)) → Suits i None → IsReadTo t whole (xs ++ None ∷ []) is c a
 unfolding body_events
-absent_more t whole xs i is c a r none = record {
+absent_more t whole xs i is c a r never none = record {
   read = r.read;
   said = r.said;
   suits = λ vs h. subst (SuitsBody whole) (sym (followed_more xs None vs)) (r.suits (absent vs) (none, h));
   says = λ vs. ap (body_events whole) (followed_more xs None vs) ∙ r.says (absent vs);
+  plain = λ p. plain_rest t i is (r.plain p);
+  left = λ p. left_absent t whole i is c a (r.left p) never;
 }
 
-present_more : (t : Tree) (whole : Body) (xs : List (Option Item)) (i : Instruction) (is : Body) (x : Item) (c a b : Cursor) → IsReadTo t whole xs (step i is) c a → IsItemRead t i (item_data x) a b → IsReadTo t whole (xs ++ Some x ∷ []) is c b
+present_more : (t : Tree) (whole : Body) (xs : List (Option Item)) (i : Instruction) (is : Body) (x : Item) (c a b : Cursor) → IsReadTo t whole xs (step i is) c a → Names t (number i) i (option_map line_data a.line) → IsItemRead t i (item_data x) a b → IsReadTo t whole (xs ++ Some x ∷ []) is c b
 unfolding body_events
-present_more t whole xs i is x c a b r one = record {
+present_more t whole xs i is x c a b r named one = record {
   read = r.read ++ item_events i (item_data x);
   said = said_both t r.read (item_events i (item_data x)) c a b r.said one.said;
   suits = λ vs h. subst (SuitsBody whole) (sym (followed_more xs (Some x) vs)) (r.suits (present (item_data x) vs) (one.suits, h));
   says = λ vs. ap (body_events whole) (followed_more xs (Some x) vs) ∙ r.says (present (item_data x) vs) ∙ sym (append_assoc r.read (item_events i (item_data x)) (body_events is vs));
+  plain = λ p. plain_rest t i is (r.plain p);
+  left = λ p. let q = r.plain p in left_present t whole i is (item_data x) c a b q.templates q.distinct.0 q.distinct.1 (plain_first t i is q).named (r.left p) named one;
 }
 
 -- So at a place in a body.
-module _ (t : Tree) (nodes : List Node) (body : List ℕ) (i n : ℕ) (inside : i < length body) (is : slice_index body i ≡ n) (xs : List (Option Item)) (c a : Cursor) (r : IsReadTo t (body_among nodes body) xs (body_among nodes (drop i body)) c a) where
+module _ (t : Tree) (nodes : List Node) (body : List ℕ) (i n : ℕ) (inside : i < length body) (is : slice_index body i ≡ n) (own : number (instruction_in nodes n) ≡ n) (xs : List (Option Item)) (c a : Cursor) (r : IsReadTo t (body_among nodes body) xs (body_among nodes (drop i body)) c a) where
   here : body_among nodes (drop i body) ≡ step (instruction_in nodes n) (body_among nodes (drop (i + 1) body))
   here = body_next nodes body i inside ∙ ap (λ (k : ℕ). step (instruction_in nodes k) (body_among nodes (drop (i + 1) body))) is
 
   opened : IsReadTo t (body_among nodes body) xs (step (instruction_in nodes n) (body_among nodes (drop (i + 1) body))) c a
   opened = subst (λ (z : Body). IsReadTo t (body_among nodes body) xs z c a) here r
 
-  pub absent_at : Suits (instruction_in nodes n) None → IsReadTo t (body_among nodes body) (xs ++ None ∷ []) (body_among nodes (drop (i + 1) body)) c a
-  absent_at none = absent_more t (body_among nodes body) xs (instruction_in nodes n) (body_among nodes (drop (i + 1) body)) c a opened none
+  as_own : Names t n (instruction_in nodes n) (option_map line_data a.line) → Names t (number (instruction_in nodes n)) (instruction_in nodes n) (option_map line_data a.line)
+  as_own = subst (λ (k : ℕ). Names t k (instruction_in nodes n) (option_map line_data a.line)) (sym own)
 
-  pub present_at : (x : Item) (b : Cursor) → IsItemRead t (instruction_in nodes n) (item_data x) a b → IsReadTo t (body_among nodes body) (xs ++ Some x ∷ []) (body_among nodes (drop (i + 1) body)) c b
-  present_at x b one = present_more t (body_among nodes body) xs (instruction_in nodes n) (body_among nodes (drop (i + 1) body)) x c a b opened one
+  not_own : ¬ (Names t n (instruction_in nodes n) (option_map line_data a.line)) → ¬ (Names t (number (instruction_in nodes n)) (instruction_in nodes n) (option_map line_data a.line))
+  not_own never h = never (subst (λ (k : ℕ). Names t k (instruction_in nodes n) (option_map line_data a.line)) own h)
+
+  pub absent_at : ¬ (Names t n (instruction_in nodes n) (option_map line_data a.line)) → Suits (instruction_in nodes n) None → IsReadTo t (body_among nodes body) (xs ++ None ∷ []) (body_among nodes (drop (i + 1) body)) c a
+  absent_at never none = absent_more t (body_among nodes body) xs (instruction_in nodes n) (body_among nodes (drop (i + 1) body)) c a opened (not_own never) none
+
+  pub present_at : (x : Item) (b : Cursor) → Names t n (instruction_in nodes n) (option_map line_data a.line) → IsItemRead t (instruction_in nodes n) (item_data x) a b → IsReadTo t (body_among nodes body) (xs ++ Some x ∷ []) (body_among nodes (drop (i + 1) body)) c b
+  present_at x b named one = present_more t (body_among nodes body) xs (instruction_in nodes n) (body_among nodes (drop (i + 1) body)) x c a b opened (as_own named) one
+
+  pub item_at : (ending : Ending) → Names t n (instruction_in nodes n) (option_map line_data a.line) → HasNoItem t (instruction_in nodes n) a → HasNoBody t (body_among nodes body) ending c
+  item_at ending named none = item_refused t (body_among nodes body) xs (instruction_in nodes n) (body_among nodes (drop (i + 1) body)) ending c a opened (as_own named) none
+
+  pub mandatory_at : (ending : Ending) → ¬ (Names t n (instruction_in nodes n) (option_map line_data a.line)) → ¬ (Suits (instruction_in nodes n) None) → HasNoBody t (body_among nodes body) ending c
+  mandatory_at ending never wanted = mandatory_refused t (body_among nodes body) xs (instruction_in nodes n) (body_among nodes (drop (i + 1) body)) ending c a opened (not_own never) wanted
 
 -- the line of an ending
 end_line_is : (t : Tree) (ending : Ending) → end_line ending ≡ line_of_event t (end_event ending)
@@ -105,6 +126,9 @@ body_done t whole xs ending c a b r line h =
 pub body_ended : (t : Tree) (nodes : List Node) (body : List ℕ) (i : ℕ) (xs : List (Option Item)) (ending : Ending) (c a b : Cursor) → length body ≤ i → IsReadTo t (body_among nodes body) xs (body_among nodes (drop i body)) c a → option_map line_data a.line ≡ Some (end_line ending) → Advances a b
     → IsBodyRead t (body_among nodes body) ending (slots_data xs) c b
 body_ended t nodes body i xs ending c a b past r line h = body_done t (body_among nodes body) xs ending c a b (subst (λ (z : Body). IsReadTo t (body_among nodes body) xs z c a) (body_last nodes body i past) r) line h
+
+pub body_unended : (t : Tree) (nodes : List Node) (body : List ℕ) (i : ℕ) (xs : List (Option Item)) (ending : Ending) (c a : Cursor) → length body ≤ i → IsReadTo t (body_among nodes body) xs (body_among nodes (drop i body)) c a → ¬ (option_map line_data a.line ≡ Some (end_line ending)) → HasNoBody t (body_among nodes body) ending c
+body_unended t nodes body i xs ending c a past r never = end_refused t (body_among nodes body) xs ending c a (subst (λ (z : Body). IsReadTo t (body_among nodes body) xs z c a) (body_last nodes body i past) r) never
 
 -- Elements.
 right_more : (R : Slots → Type 0) (rs : List (Vec (Option Item) Global)) (r : Vec (Option Item) Global) → AreRight R (elements_data rs) → R (slots_data r.items) → AreRight R (elements_data (rs ++ r ∷ []))

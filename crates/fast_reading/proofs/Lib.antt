@@ -1,6 +1,8 @@
 pub mod Bodies
 pub mod Closed
+pub mod Due
 pub mod Feeds
+pub mod Left
 pub mod LineTexts
 pub mod LinedEvents
 pub mod Named
@@ -12,7 +14,11 @@ pub mod OneList
 pub mod OneListOfEvents
 pub mod OneReading
 pub mod Parts
+pub mod Plain
 pub mod Preorder
+pub mod Refused
+pub mod RefusedBodies
+pub mod RefusedMessages
 pub mod Said
 pub mod Told
 pub mod ToldValues

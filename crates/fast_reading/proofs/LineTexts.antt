@@ -33,7 +33,7 @@ word text h = IsUtf8-from_ascii text (IsAscii-from_all text (all_low text h))
 name_byte_low : (c : ℕ) → IsNameByte c → c < 128
 name_byte_low c h = grind (arith, h)
 
-named : (text : List ℕ) → IsName text → IsUtf8 text
+pub named : (text : List ℕ) → IsName text → IsUtf8 text
 named text h = IsUtf8-from_ascii text (IsAscii-from_all text (All-weaker IsNameByte (λ c. c < 128) name_byte_low text h.0))
 
 number : (n : ℕ) → n < 2 ^ 32 → IsUtf8 (decimal n)

@@ -71,14 +71,14 @@ right_told Bytes (AsciiText n) h = absurd h.1
 right_told Bytes (UnicodeText n) h = absurd h.1
 right_told Bytes (ByteVector n) h = tt
 
-abbrev Named : Tree → List Label → Type 0
+abbrev pub Named : Tree → List Label → Type 0
 Named t ls = All (λ l. IsNamed t l.node) ls
 
-left : (t : Tree) (xs ys : List Label) → Named t (xs ++ ys) → Named t xs
+pub left : (t : Tree) (xs ys : List Label) → Named t (xs ++ ys) → Named t xs
 left t [] ys h = All-nil (λ l. IsNamed t l.node)
 left t (x ∷ xs) ys h = All-cons (λ l. IsNamed t l.node) x xs (All-head (λ l. IsNamed t l.node) x (xs ++ ys) h) (left t xs ys (All-tail (λ l. IsNamed t l.node) x (xs ++ ys) h))
 
-right : (t : Tree) (xs ys : List Label) → Named t (xs ++ ys) → Named t ys
+pub right : (t : Tree) (xs ys : List Label) → Named t (xs ++ ys) → Named t ys
 right t [] ys h = h
 right t (x ∷ xs) ys h = right t xs ys (All-tail (λ l. IsNamed t l.node) x (xs ++ ys) h)
 
@@ -91,7 +91,7 @@ more t e es h k = All-cons (IsLined t) e es h k
 both : (t : Tree) (es fs : List EventData) → Lined t es → Lined t fs → Lined t (es ++ fs)
 both t es fs h k = All-append (IsLined t) es fs h k
 
-rows_lined : (t : Tree) (right : Slots → Type 0) (events : Slots → List EventData) → ((vs : Slots) → right vs → Lined t (events vs)) → (rows : Elements) → AreRight right rows → Lined t (element_events events rows)
+pub rows_lined : (t : Tree) (right : Slots → Type 0) (events : Slots → List EventData) → ((vs : Slots) → right vs → Lined t (events vs)) → (rows : Elements) → AreRight right rows → Lined t (element_events events rows)
 rows_lined t right events each no_elements h = All-nil (IsLined t)
 rows_lined t right events each (element vs rows) h =
     more t ElementStart (events vs ++ ElementEnd ∷ element_events events rows) tt (both t (events vs) (ElementEnd ∷ element_events events rows) (each vs h.0) (more t ElementEnd (element_events events rows) tt (rows_lined t right events each rows h.1)))
@@ -99,7 +99,7 @@ rows_lined t right events each (element vs rows) h =
 mutual
   unfolding item_events body_events
 
-  item_lined : (t : Tree) (i : Instruction) (x : ItemData) → Named t (labels i) → Suits i (Some x) → Lined t (item_events i x)
+  pub item_lined : (t : Tree) (i : Instruction) (x : ItemData) → Named t (labels i) → Suits i (Some x) → Lined t (item_events i x)
   item_lined t (field l f) (one v) n h = more t (FieldValue l.node v) [] (All-head (λ l. IsNamed t l.node) l [] n, right_told f.kind v h) (All-nil (IsLined t))
   item_lined t (field l f) (group_item vs) n h = absurd h
   item_lined t (field l f) (sequence_item rows) n h = absurd h
@@ -124,7 +124,7 @@ mutual
       (rows_lined t (SuitsBody body) (body_events body) (λ vs k. body_lined t body vs (All-tail (λ l. IsNamed t l.node) l (body_labels body) n) k) rows h.0)
       (more t SequenceEnd [] tt (All-nil (IsLined t))))
 
-  body_lined : (t : Tree) (b : Body) (vs : Slots) → Named t (body_labels b) → SuitsBody b vs → Lined t (body_events b vs)
+  pub body_lined : (t : Tree) (b : Body) (vs : Slots) → Named t (body_labels b) → SuitsBody b vs → Lined t (body_events b vs)
   body_lined t end no_slots n h = All-nil (IsLined t)
   body_lined t end (absent vs) n h = absurd h
   body_lined t end (present x vs) n h = absurd h
@@ -132,7 +132,7 @@ mutual
   body_lined t (step i is) (absent vs) n h = body_lined t is vs (right t (labels i) (body_labels is) n) h.1
   body_lined t (step i is) (present x vs) n h = both t (item_events i x) (body_events is vs) (item_lined t i x (left t (labels i) (body_labels is) n) h.0) (body_lined t is vs (right t (labels i) (body_labels is) n) h.1)
 
-template_named : (t : Tree) (k : ℕ) (us : List TemplateData) (u : TemplateData) → Named t (template_labels us) → slice_get us k ≡ Some u → Named t (body_labels u.body)
+pub template_named : (t : Tree) (k : ℕ) (us : List TemplateData) (u : TemplateData) → Named t (template_labels us) → slice_get us k ≡ Some u → Named t (body_labels u.body)
 template_named t k [] u h found = absurd (cc found)
 template_named t zero (v ∷ vs) u h found = let e : u ≡ v = cc found in rw (e) (left t (body_labels v.body) (template_labels vs) h)
 template_named t (suc k) (v ∷ vs) u h found = template_named t k vs u (right t (body_labels v.body) (template_labels vs) h) found

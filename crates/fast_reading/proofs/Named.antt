@@ -87,7 +87,7 @@ group_no_sequence (group l optional body) h k = k
 group_no_sequence (sequence l length body) h k = h
 
 -- the line that names a field
-value_named : (t : Tree) (n : ℕ) (i : Instruction) (d : LineData) → IsValue i → Names t n i (Some d) → (text : List ℕ) × (d ≡ field_line n (node_name t n) text)
+pub value_named : (t : Tree) (n : ℕ) (i : Instruction) (d : LineData) → IsValue i → Names t n i (Some d) → (text : List ℕ) × (d ≡ field_line n (node_name t n) text)
 value_named t n i (field_line m name text) h (e, k, same) = (text, cc (e, same))
 value_named t n i (group_line m name) h (e, k, same) = absurd (value_no_group i h k)
 value_named t n i (sequence_line m name count) h (e, k, same) = absurd (value_no_sequence i h k)

@@ -93,7 +93,7 @@ one_feed c cs h is = let own : feeds (0x0A ∷ cs) ≡ 0 = ap (λ (z : ℕ). fee
 more_feeds : (c : ℕ) (cs : List ℕ) → feeds (c ∷ cs) ≡ 0 → feeds cs ≡ 0
 more_feeds c cs h = omega (arith, h)
 
-lacks_none : (text : List ℕ) → feeds text ≡ 0 → Lacks 0x0A text
+pub lacks_none : (text : List ℕ) → feeds text ≡ 0 → Lacks 0x0A text
 lacks_none [] h = All-nil (λ b. b ≢ 0x0A)
 lacks_none (c ∷ cs) h = All-cons (λ b. b ≢ 0x0A) c cs (one_feed c cs h) (lacks_none cs (more_feeds c cs h))
 
@@ -108,7 +108,7 @@ behind : (line : Option Line) (rest : List ℕ) (t : Tree) (e : EventData) (es :
 behind None rest t e es some one lined same = absurd (cc (some))
 behind (Some l) rest t e es some one lined same = rest_is t (text_of_line (line_data l)) (closed rest) e es (lacks_none (text_of_line (line_data l)) (one (line_data l) refl)) lined same
 
-next_refused : (c : Cursor) → IsSome c.line → HasNoLines (closed c.rest.now) → HasNoNext c
+pub next_refused : (c : Cursor) → IsSome c.line → HasNoLines (closed c.rest.now) → HasNoNext c
 next_refused c some none t e es due =
     none t es (All-tail (IsLined t) e es due.lined) (All-tail IsShown e es due.shown) (behind c.line c.rest.now t e es some c.one_line (All-head (IsLined t) e es due.lined) due.text)
 

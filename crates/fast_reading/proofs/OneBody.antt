@@ -9,14 +9,14 @@ use Rattle.fast_spelling.specs.Suiting.{AreRight, Suits, SuitsBody}
 use Rattle.fast_reading.specs.Distinct.{number, HasNone, IsDistinct, AreDistinct}
 
 -- the event names the node
-abbrev Names : ℕ → EventData → Type 0
+abbrev pub Names : ℕ → EventData → Type 0
 Names n (FieldValue m v) = m ≡ n
 Names n (GroupStart m) = m ≡ n
 Names n (SequenceStart m c) = m ≡ n
 Names n e = ⊥
 
 -- the first event doesn't name the node
-abbrev Lacks : ℕ → List EventData → Type 0
+abbrev pub Lacks : ℕ → List EventData → Type 0
 Lacks n [] = Unit {0}
 Lacks n (e ∷ es) = ¬ (Names n e)
 
@@ -41,7 +41,7 @@ names_first n (sequence l length body) (group_item vs) rest other h = absurd h
 names_first n (sequence l length body) (sequence_item rows) rest other h = other
 
 -- The first event of a body that has no such node doesn't name it.
-past : (n : ℕ) (b : Body) (vs : Slots) (rest : List EventData) → HasNone n b → SuitsBody b vs → IsEnd rest → Lacks n (body_events b vs ++ rest)
+pub past : (n : ℕ) (b : Body) (vs : Slots) (rest : List EventData) → HasNone n b → SuitsBody b vs → IsEnd rest → Lacks n (body_events b vs ++ rest)
 unfolding item_events body_events
 past n end no_slots rest none h ends = ends n
 past n end (absent vs) rest none h ends = absurd h
@@ -72,11 +72,11 @@ OneChoice right events =
     (vs ws : Slots) (rest more : List EventData) → right vs → right ws → IsEnd rest → IsEnd more → events vs ++ rest ≡ events ws ++ more
     → (vs ≡ ws) × (rest ≡ more)
 
-element_is : (events : Slots → List EventData) (vs : Slots) (rows : Elements) (rest : List EventData)
+pub element_is : (events : Slots → List EventData) (vs : Slots) (rows : Elements) (rest : List EventData)
     → element_events events (element vs rows) ++ rest ≡ ElementStart ∷ (events vs ++ ElementEnd ∷ (element_events events rows ++ rest))
 element_is events vs rows rest = ap (λ q. ElementStart ∷ q) (append_assoc (events vs) (ElementEnd ∷ element_events events rows) rest)
 
-same_rows : (right : Slots → Type 0) (events : Slots → List EventData) → OneChoice right events → (rows others : Elements) (rest more : List EventData) → AreRight right rows → AreRight right others
+pub same_rows : (right : Slots → Type 0) (events : Slots → List EventData) → OneChoice right events → (rows others : Elements) (rest more : List EventData) → AreRight right rows → AreRight right others
     → element_events events rows ++ SequenceEnd ∷ rest ≡ element_events events others ++ SequenceEnd ∷ more → (rows ≡ others) × (rest ≡ more)
 same_rows right events choice no_elements no_elements rest more h k e = (refl, cc)
 same_rows right events choice no_elements (element ws others) rest more h k e = absurd (cc e)
@@ -115,7 +115,7 @@ same_sequence n right events choice rows others rest more h k e =
 mutual
   unfolding item_events body_events
 
-  same_item : (i : Instruction) (x y : ItemData) (rest more : List EventData) → IsDistinct i → Suits i (Some x) → Suits i (Some y) → item_events i x ++ rest ≡ item_events i y ++ more → (x ≡ y) × (rest ≡ more)
+  pub same_item : (i : Instruction) (x y : ItemData) (rest more : List EventData) → IsDistinct i → Suits i (Some x) → Suits i (Some y) → item_events i x ++ rest ≡ item_events i y ++ more → (x ≡ y) × (rest ≡ more)
   same_item (field l f) (one v) (one w) rest more d h k e = same_value l.node v w rest more e
   same_item (field l f) (one v) (group_item ws) rest more d h k e = absurd k
   same_item (field l f) (one v) (sequence_item ws) rest more d h k e = absurd k

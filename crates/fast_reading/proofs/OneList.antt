@@ -10,12 +10,12 @@ use Rattle.fast_reading.specs.Distinct.{HasDistinctBodies}
 use Rattle.fast_reading.proofs.OneBody.{same_body}
 
 -- the events of a message whose template is there
-events_are : (t : Tree) (m : MessageData) (u : TemplateData) (rest : List EventData) → slice_get t.templates m.template ≡ Some u
+pub events_are : (t : Tree) (m : MessageData) (u : TemplateData) (rest : List EventData) → slice_get t.templates m.template ≡ Some u
     → events t m ++ rest ≡ MessageStart m.template ∷ (body_events u.body m.slots ++ MessageEnd ∷ rest)
 events_are t m u rest found = rw (found) (ap (λ z. MessageStart m.template ∷ z) (append_assoc (body_events u.body m.slots) (MessageEnd ∷ []) rest))
 
 -- two messages, the first of each list
-one_message : (t : Tree) (m n : MessageData) (rest more : List EventData) → HasDistinctBodies t → SuitsTemplate t m → SuitsTemplate t n → events t m ++ rest ≡ events t n ++ more → (m ≡ n) × (rest ≡ more)
+pub one_message : (t : Tree) (m n : MessageData) (rest more : List EventData) → HasDistinctBodies t → SuitsTemplate t m → SuitsTemplate t n → events t m ++ rest ≡ events t n ++ more → (m ≡ n) × (rest ≡ more)
 one_message t m n rest more d (u, found, h) (w, other, k) e =
     let both : MessageStart m.template ∷ (body_events u.body m.slots ++ MessageEnd ∷ rest) ≡ MessageStart n.template ∷ (body_events w.body n.slots ++ MessageEnd ∷ more) = sym (events_are t m u rest found) ∙ e ∙ events_are t n w more other in
     let number : m.template ≡ n.template = cc (both) in
@@ -27,7 +27,7 @@ one_message t m n rest more d (u, found, h) (w, other, k) e =
     (ap₂ (λ a b. record { template = a; slots = b }) number one.0, cc (one.1))
 
 -- an event is there
-some_event : (t : Tree) (m : MessageData) (rest : List EventData) → SuitsTemplate t m → [] ≡ events t m ++ rest → ⊥
+pub some_event : (t : Tree) (m : MessageData) (rest : List EventData) → SuitsTemplate t m → [] ≡ events t m ++ rest → ⊥
 some_event t m rest (u, found, h) e = let none : [] ≡ MessageStart m.template ∷ (body_events u.body m.slots ++ MessageEnd ∷ rest) = e ∙ events_are t m u rest found in absurd (cc (none))
 
 pub same_messages : (t : Tree) (ms ns : List MessageData) → HasDistinctBodies t → All (SuitsTemplate t) ms → All (SuitsTemplate t) ns → flat_map (events t) ms ≡ flat_map (events t) ns → ms ≡ ns

@@ -19,18 +19,18 @@ use Rattle.fast_reading.specs.Runs.{IsBodyRead, IsItemRead, AreRowsRead}
 use Rattle.fast_reading.proofs.Named.{value_ahead, group_ahead, sequence_ahead}
 use Rattle.fast_reading.proofs.Said.{said_one, said_both, said_as}
 
-value_events_are : (i : Instruction) (v : ScalarData) → IsValue i → item_events i (one v) ≡ FieldValue (number i) v ∷ []
+pub value_events_are : (i : Instruction) (v : ScalarData) → IsValue i → item_events i (one v) ≡ FieldValue (number i) v ∷ []
 unfolding item_events
 value_events_are (field l f) v h = refl
 value_events_are (parts l e m) v h = refl
 value_events_are (group l optional body) v h = absurd h
 value_events_are (sequence l length body) v h = absurd h
 
-group_events_are : (l : Label) (optional : Bool) (body : Body) (vs : Slots) → item_events (group l optional body) (group_item vs) ≡ GroupStart l.node ∷ body_events body vs ++ GroupEnd ∷ []
+pub group_events_are : (l : Label) (optional : Bool) (body : Body) (vs : Slots) → item_events (group l optional body) (group_item vs) ≡ GroupStart l.node ∷ body_events body vs ++ GroupEnd ∷ []
 unfolding item_events
 group_events_are l optional body vs = refl
 
-sequence_events_are : (l : Label) (f : FieldData) (body : Body) (rows : Elements) → item_events (sequence l f body) (sequence_item rows) ≡ SequenceStart l.node (count rows) ∷ element_events (body_events body) rows ++ SequenceEnd ∷ []
+pub sequence_events_are : (l : Label) (f : FieldData) (body : Body) (rows : Elements) → item_events (sequence l f body) (sequence_item rows) ≡ SequenceStart l.node (count rows) ∷ element_events (body_events body) rows ++ SequenceEnd ∷ []
 unfolding item_events
 sequence_events_are l f body rows = refl
 

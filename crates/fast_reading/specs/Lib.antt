@@ -8,3 +8,4 @@ pub mod Reading
 pub mod Refusing
 pub mod Runs
 pub mod Codes
+pub mod Unsaid

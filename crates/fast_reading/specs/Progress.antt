@@ -13,6 +13,7 @@ use Rattle.fast_reading.specs.declared.cursors.Cursor.{Cursor}
 use Rattle.fast_reading.specs.Ahead.{feeds}
 use Rattle.fast_reading.specs.Cursors.{ahead, end_number, IsSaid}
 use Rattle.fast_reading.specs.Reading.{closed}
+use Rattle.fast_reading.specs.Unsaid.{IsPlainBody, IsLeft}
 
 -- slots, and others behind them
 abbrev pub followed : List (Option Item) → Slots → Slots
@@ -20,13 +21,15 @@ followed [] vs = vs
 followed (None ∷ xs) vs = absent (followed xs vs)
 followed (Some x ∷ xs) vs = present (item_data x) (followed xs vs)
 
--- Of a whole body these slots are read, and this rest is left: what suits the rest suits the whole behind them, and its events stand
--- behind those that were read.
+-- Of a whole body these slots are read, and this rest is left: what suits the rest suits the whole behind them, its events stand behind
+-- those that were read, and nothing else can be due.
 pub record IsReadTo (t : Tree) (whole : Body) (slots : List (Option Item)) (rest : Body) (c next : Cursor) : Type 0 where
   pub read : List EventData
   pub said : IsSaid t read c next
   pub suits : (vs : Slots) → SuitsBody rest vs → SuitsBody whole (followed slots vs)
   pub says : (vs : Slots) → body_events whole (followed slots vs) ≡ read ++ body_events rest vs
+  pub plain : IsPlainBody t whole → IsPlainBody t rest
+  pub left : IsPlainBody t whole → IsLeft t whole rest c next
 
 -- The elements that are read suit the body.
 pub record AreReadTo (t : Tree) (body : Body) (rows : List (Vec (Option Item) Global)) (c next : Cursor) : Type 0 where

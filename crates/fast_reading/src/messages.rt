@@ -1,16 +1,23 @@
 //! Messages of the lines of their events.
 
 ghost use Rattle.std.specs.Prelude.{◌≡◌, ◌<◌, ◌≤◌, ◌^◌, ◌+◌, ℕ, List, [], ◌∷◌, ◌++◌, length, map, Some, IfOk, IfErr, OnOk, option_map};
+ghost use Rattle.fast_value.specs.Kinds.{U, I, Dec};
+ghost use Rattle.fast_value.specs.Values.{value_data};
 ghost use Rattle.fast_value.specs.Views.{item_data, slots_data, elements_data, message_data};
 ghost use Rattle.fast_tree.specs.Numbers.{AreBelow};
 ghost use Rattle.fast_tree.specs.Bodies.{body_among};
 ghost use Rattle.fast_template.specs.Flat.{nodes_of, tree_of};
 ghost use Rattle.fast_lines.specs.Forms.{line_data, sequence as sequence_line};
 ghost use Rattle.fast_spelling.specs.Nodes.{instruction_in};
+ghost use Rattle.fast_reading.specs.Ahead.{OnBadLine};
 ghost use Rattle.fast_reading.specs.Cursors.{IsNear};
+ghost use Rattle.fast_reading.specs.declared.faults.LineFault.TheVariants as LineFault;
+ghost use Rattle.fast_reading.specs.declared.faults.TextFault.TheVariants.{BadLine};
+ghost use Rattle.fast_reading.specs.Lined.{IsTold};
 ghost use Rattle.fast_reading.specs.Naming.{IsValue, Names};
 ghost use Rattle.fast_reading.specs.Reading.{Says};
 ghost use Rattle.fast_reading.specs.Runs.{IsBodyRead, IsItemRead, AreRowsRead, IsMessageRead, IsLineOf};
+ghost use Rattle.fast_reading.specs.Unsaid.{HasNoBody, HasNoItem, HasNoRows, HasNoMessage, SaysNothing};
 
 use crate::cursors::Cursor;
 use crate::endings::{Ending, is_element, is_ending, is_sequence_end};
@@ -20,7 +27,7 @@ use crate::naming::{names, number_of};
 use fast_lines::forms::Line;
 use fast_spelling::suiting::{may_be_absent, suits_item};
 use fast_template::{Shape, Templates};
-use fast_value::{Item, Message};
+use fast_value::{Item, Message, Value};
 use std::alloc::Global;
 
 /// The messages whose events have these lines. The last LF may be missing.
@@ -37,6 +44,7 @@ pub fn read_lines(
 ) -> Result<Vec<Message>, TextFault>
     ensures ok { IfOk result (λ ms. Says (tree_of templates.now) text.now (map message_data ms.items)) }
     ensures line { IfErr result (IsLineOf text.now) }
+    ensures err { IfErr result (OnBadLine (SaysNothing (tree_of templates.now) text.now)) }
 {
     let mut at = Cursor::new(alloc, text)?;
     let mut messages = Vec::new(alloc);
@@ -56,6 +64,7 @@ fn read_message<'a>(
 ) -> Result<(Message, Cursor<'a>), TextFault>
     ensures ok { IfOk result (λ r. IsMessageRead (tree_of templates.now) (message_data r.0) at.entry r.1) }
     ensures line { IfErr result (IsNear at.entry) }
+    ensures refused { IfErr result (OnBadLine (HasNoMessage (tree_of templates.now) at.entry)) }
 {
     let Some(Line::Message { name }) = at.line else {
         return Err(at.fault(misplaced(templates, at.line)));
@@ -81,6 +90,7 @@ fn read_body<'a>(
     requires { AreBelow (length (nodes_of templates.now)) body.now }
     ensures ok { IfOk result (λ r. IsBodyRead (tree_of templates.now) (body_among (nodes_of templates.now) body.now) ending (slots_data r.0.items) at.entry r.1) }
     ensures line { IfErr result (IsNear at.entry) }
+    ensures refused { IfErr result (OnBadLine (HasNoBody (tree_of templates.now) (body_among (nodes_of templates.now) body.now) ending at.entry)) }
 {
     let mut place = at;
     let mut slots = Vec::new(alloc);
@@ -117,6 +127,7 @@ fn read_item<'a>(
     requires named { Names (tree_of templates.now) node (instruction_in (nodes_of templates.now) node) (option_map line_data at.line) }
     ensures ok { IfOk result (λ r. IsItemRead (tree_of templates.now) (instruction_in (nodes_of templates.now) node) (item_data r.0) at.entry r.1) }
     ensures line { IfErr result (IsNear at.entry) }
+    ensures refused { IfErr result (OnBadLine (HasNoItem (tree_of templates.now) (instruction_in (nodes_of templates.now) node) at.entry)) }
 {
     match &templates.node(node).shape {
         Shape::Field(_) | Shape::Decimal { .. } => read_value(alloc, templates, node, at),
@@ -146,6 +157,7 @@ fn read_rows<'a>(
     requires { AreBelow (length (nodes_of templates.now)) body.now }
     ensures ok { IfOk result (λ r. AreRowsRead (tree_of templates.now) (body_among (nodes_of templates.now) body.now) count (elements_data r.0.items) at.entry r.1) }
     ensures line { IfErr result (IsNear at.entry) }
+    ensures refused { IfErr result (OnBadLine (HasNoRows (tree_of templates.now) (body_among (nodes_of templates.now) body.now) count at.entry)) }
 {
     let mut place = at;
     let mut rows = Vec::new(alloc);
@@ -189,6 +201,47 @@ fn count_of(line: Option<Line<'_>>) -> u32
     }
 }
 
+/// That a value is none that its field can have. The types of values bound it.
+fn wrong_value(value: &Value, line: u64) -> TextFault
+    ensures fault { result ≡ BadLine line LineFault.WrongValue }
+    ensures told { IsTold (value_data value.now) }
+{
+    let kind = match value {
+        Value::U(number) => told_unsigned(*number),
+        Value::I(number) => told_signed(*number),
+        Value::Dec { exponent, mantissa } => told_decimal(*exponent, *mantissa),
+        Value::Ascii(_) | Value::Unicode(_) | Value::Bytes(_) => LineFault::WrongValue,
+    };
+    TextFault::BadLine { line, kind }
+}
+
+/// An unsigned integer is of its type.
+fn told_unsigned(number: u64) -> LineFault
+    ensures kind { result ≡ LineFault.WrongValue }
+    ensures told { IsTold (U number) }
+{
+    let _ = number;
+    LineFault::WrongValue
+}
+
+/// A signed integer is of its type.
+fn told_signed(number: i64) -> LineFault
+    ensures kind { result ≡ LineFault.WrongValue }
+    ensures told { IsTold (I number) }
+{
+    let _ = number;
+    LineFault::WrongValue
+}
+
+/// The parts of a decimal are of their types.
+fn told_decimal(exponent: i32, mantissa: i64) -> LineFault
+    ensures kind { result ≡ LineFault.WrongValue }
+    ensures told { IsTold (Dec exponent mantissa) }
+{
+    let _ = (exponent, mantissa);
+    LineFault::WrongValue
+}
+
 /// The value of a field, whose line is ahead, and the place behind it.
 fn read_value<'a>(
     alloc: Global,
@@ -201,6 +254,7 @@ fn read_value<'a>(
     requires named { Names (tree_of templates.now) node (instruction_in (nodes_of templates.now) node) (option_map line_data at.line) }
     ensures ok { IfOk result (λ r. IsItemRead (tree_of templates.now) (instruction_in (nodes_of templates.now) node) (item_data r.0) at.entry r.1) }
     ensures line { IfErr result (IsNear at.entry) }
+    ensures refused { IfErr result (OnBadLine (HasNoItem (tree_of templates.now) (instruction_in (nodes_of templates.now) node) at.entry)) }
 {
     let Cursor {
         line: _,
@@ -214,12 +268,10 @@ fn read_value<'a>(
             kind: LineFault::WrongValue,
         });
     };
+    let fault = wrong_value(&value, number);
     let item = Item::One(value);
     if !suits_item(templates, node, &item) {
-        return Err(TextFault::BadLine {
-            line: number,
-            kind: LineFault::WrongValue,
-        });
+        return Err(fault);
     }
     let next = Cursor::behind(alloc, number, rest)?;
     Ok((item, next))

@@ -1,6 +1,6 @@
 //! Which node or template a line names.
 
-ghost use Rattle.std.specs.Prelude.{◌≡◌, ◌↔◌, ◌<◌, length, slice_get, Some, IsTrue, IfSome, option_map, string_bytes};
+ghost use Rattle.std.specs.Prelude.{◌≡◌, ◌≢◌, ◌↔◌, ◌<◌, ℕ, length, slice_get, Some, IsTrue, IsUtf8, IfSome, IfNone, option_map, string_bytes};
 ghost use Rattle.fast_tree.specs.declared.instructions.Template.{Template};
 ghost use Rattle.fast_template.specs.Flat.{nodes_of, templates_of, tree_of};
 ghost use Rattle.fast_lines.specs.Forms.{line_data};
@@ -14,7 +14,8 @@ use std::str;
 
 /// The number of the template with a name.
 pub fn number_of(templates: &Templates, name: &[u8]) -> Option<u32>
-    ensures { IfSome result (λ i. (u : Template) × (slice_get (templates_of templates.now) i ≡ Some u) × (string_bytes u.name ≡ name.now)) }
+    ensures found { IfSome result (λ i. (u : Template) × (slice_get (templates_of templates.now) i ≡ Some u) × (string_bytes u.name ≡ name.now)) }
+    ensures none { IfNone result (IsUtf8 name.now → (j : ℕ) (u : Template) → slice_get (templates_of templates.now) j ≡ Some u → string_bytes u.name ≢ name.now) }
 {
     match str::from_utf8(name) {
         Ok(name) => templates.by_name(name),

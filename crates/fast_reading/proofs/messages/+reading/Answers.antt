@@ -4,6 +4,7 @@ use Rattle.std.specs.Prelude.{◌^◌, Option, slice_index}
 use Rattle.std.specs.declared.vec.Vec.{Vec}
 use Rattle.std.specs.declared.alloc.Global.{Global}
 use Rattle.std.proofs.lemmas.List.{length-append}
+use Rattle.std.proofs.lemmas.Result.{err_from_is_err_and}
 use Rattle.fast_value.specs.declared.messages.Item.{Item}
 use Rattle.fast_value.specs.declared.messages.Item.TheVariants as V
 use Rattle.fast_value.specs.Views.{item_data, slots_data, elements_data}
@@ -16,9 +17,15 @@ use Rattle.fast_spelling.specs.Nodes.{instruction_in}
 use Rattle.fast_spelling.proofs.Instructions.{at_shape}
 use Rattle.fast_reading.specs.Naming.{IsValue}
 use Rattle.fast_reading.specs.Progress.{IsReadTo, AreReadTo}
-use Rattle.fast_reading.proofs.Bodies.{absent_at, present_at, body_ended, rows_more, rows_done}
-use Rattle.fast_reading.proofs.Named.{holds}
+use Rattle.fast_reading.proofs.Bodies.{read_start, item_at, mandatory_at, body_unended, absent_at, present_at, body_ended, rows_more, rows_done}
+use Rattle.fast_reading.proofs.Named.{holds, numbered}
 use Rattle.fast_reading.proofs.Parts.{group_read, sequence_read}
+use Rattle.fast_reading.specs.declared.endings.Ending.TheVariants as Ends
+use Rattle.fast_reading.specs.Ahead.{OnBadLine}
+use Rattle.fast_reading.specs.Refusing.{HasNoNext}
+use Rattle.fast_reading.specs.Unsaid.{HasNoBody, HasNoItem, HasNoRows}
+use Rattle.fast_reading.proofs.Refused.{on_bad, always, item_next, group_refused, sequence_refused}
+use Rattle.fast_reading.proofs.RefusedBodies.{place_refused, rows_next, rows_surplus, rows_element, rows_misplaced, rows_missing}
 use Rattle.fast_reading.proofs.messages.+reading.Goals as goal
 use Rattle.fast_reading.proofs.messages.+reading.Goals.{read_body-then-names+in_ok-item+in_ok-push, read_body-else-names+then-may_be_absent+in_ok-push-2}
 
@@ -30,16 +37,17 @@ read_body-loop-i-preserved t c =
     let i = c.loop-i.i in
     let xs = c.loop-i.slots.items in
     let inside : i < length body = omega arith in
+    let own = numbered c.args.templates.now (slice_index body i) (c.requires i inside) in
     elim c.if-names.branch [
       | read_body-then-names+in_ok-item+in_ok-push w ↦
           rw (w.place-is, w.slots-is) (
           subst (λ (z : List (Option Item)). IsReadTo set (body_among nodes body) z (body_among nodes (drop (i + 1) body)) c.args.at w.in_ok-item.next) (sym {A = List (Option Item)} w.in_ok-push.ensures.ok)
-          (present_at set nodes body i (slice_index body i) inside refl xs c.args.at c.loop-i.place c.loop-i.invariant w.in_ok-item.item w.in_ok-item.next w.in_ok-item.ensures.ok)
+          (present_at set nodes body i (slice_index body i) inside refl own xs c.args.at c.loop-i.place c.loop-i.invariant w.in_ok-item.item w.in_ok-item.next (c.names.ensures.0 w.if-names.true) w.in_ok-item.ensures.ok)
           )
       | read_body-else-names+then-may_be_absent+in_ok-push-2 w ↦
           rw (w.place-is, w.slots-is) (
           subst (λ (z : List (Option Item)). IsReadTo set (body_among nodes body) z (body_among nodes (drop (i + 1) body)) c.args.at c.loop-i.place) (sym {A = List (Option Item)} w.in_ok-push-2.ensures.ok)
-          (absent_at set nodes body i (slice_index body i) inside refl xs c.args.at c.loop-i.place c.loop-i.invariant (w.may_be_absent.ensures.0 w.if-may_be_absent.true))
+          (absent_at set nodes body i (slice_index body i) inside refl own xs c.args.at c.loop-i.place c.loop-i.invariant (λ h. absurd (cc (w.if-names.false, c.names.ensures.1 h))) (w.may_be_absent.ensures.0 w.if-may_be_absent.true))
           )
     ]
 
@@ -98,3 +106,160 @@ read_rows-returns-clause-ok t c =
     let few = c.loop-rows.invariant.few in
     let many : length rs ≡ c.args.count = omega (arith, long, few, c.if-len-count-2.false) in
     rows_done (tree_of c.args.templates.now) (body_among (nodes_of c.args.templates.now) c.args.body.now) rs c.args.count c.args.at c.loop-rows.place c.in_ok-next-2.next c.loop-rows.invariant.read many (c.if-not-is_sequence_end.ensures.0 refl) c.in_ok-next-2.ensures.ok
+
+pub read_body-loop-i-init : goal.read_body-loop-i-init
+read_body-loop-i-init t c =
+    let set = tree_of c.args.templates.now in
+    let nodes = nodes_of c.args.templates.now in
+    let body = c.args.body.now in
+    let whole = body_among nodes body in
+    subst (λ (z : List (Option Item)). IsReadTo set whole z whole c.args.at c.args.at) (sym {A = List (Option Item)} c.new-slots.ensures.items) (read_start set whole c.args.at)
+
+pub read_body-returns-in_err-item-clause-refused : goal.read_body-returns-in_err-item-clause-refused
+read_body-returns-in_err-item-clause-refused t c =
+    let set = tree_of c.args.templates.now in
+    let nodes = nodes_of c.args.templates.now in
+    let body = c.args.body.now in
+    let whole = body_among nodes body in
+    let i = c.loop-i.i in
+    let inside : i < length body = omega arith in
+    let own = numbered c.args.templates.now (slice_index body i) (c.requires i inside) in
+    let p = err_from_is_err_and c.from_residual.result c.from_residual.ensures.1 in
+    rw p.1 (subst (OnBadLine (HasNoBody set whole c.args.ending c.args.at)) (sym p.2) (on_bad (HasNoItem set (instruction_in nodes (slice_index body i)) c.loop-i.place) (HasNoBody set whole c.args.ending c.args.at)
+    (λ none. item_at set nodes body i (slice_index body i) inside refl own c.loop-i.slots.items c.args.at c.loop-i.place c.loop-i.invariant c.args.ending (c.names.ensures.0 c.if-names.true) none)
+    c.in_err-item.field-0.0 (c.in_err-item.ensures.refused)))
+
+pub read_body-returns-else-may_be_absent-clause-refused : goal.read_body-returns-else-may_be_absent-clause-refused
+read_body-returns-else-may_be_absent-clause-refused t c =
+    let set = tree_of c.args.templates.now in
+    let nodes = nodes_of c.args.templates.now in
+    let body = c.args.body.now in
+    let whole = body_among nodes body in
+    let i = c.loop-i.i in
+    let inside : i < length body = omega arith in
+    let own = numbered c.args.templates.now (slice_index body i) (c.requires i inside) in
+    mandatory_at set nodes body i (slice_index body i) inside refl own c.loop-i.slots.items c.args.at c.loop-i.place c.loop-i.invariant c.args.ending (λ h. absurd (cc (c.if-names.false, c.names.ensures.1 h))) (λ h. absurd (cc (c.if-may_be_absent.false, c.may_be_absent.ensures.1 h)))
+
+pub read_body-returns-then-not-is_ending-clause-refused : goal.read_body-returns-then-not-is_ending-clause-refused
+read_body-returns-then-not-is_ending-clause-refused t c =
+    let set = tree_of c.args.templates.now in
+    let nodes = nodes_of c.args.templates.now in
+    let body = c.args.body.now in
+    let whole = body_among nodes body in
+    always (HasNoBody set whole c.args.ending c.args.at) c.fault.result (body_unended set nodes body c.loop-i.i c.loop-i.slots.items c.args.ending c.args.at c.loop-i.place c.loop-i-test.false c.loop-i.invariant (λ h. absurd (cc (c.if-not-is_ending.true, c.is_ending.ensures.1 h))))
+
+pub read_body-returns-in_err-next-clause-refused : goal.read_body-returns-in_err-next-clause-refused
+read_body-returns-in_err-next-clause-refused t c =
+    let set = tree_of c.args.templates.now in
+    let nodes = nodes_of c.args.templates.now in
+    let body = c.args.body.now in
+    let whole = body_among nodes body in
+    let p = err_from_is_err_and c.from_residual-in_err-next.result c.from_residual-in_err-next.ensures.1 in
+    rw p.1 (subst (OnBadLine (HasNoBody set whole c.args.ending c.args.at)) (sym p.2) (on_bad (HasNoNext c.loop-i.place) (HasNoBody set whole c.args.ending c.args.at)
+    (λ none. place_refused set whole (body_among nodes (drop c.loop-i.i body)) c.loop-i.slots.items c.args.ending c.args.at c.loop-i.place c.loop-i.invariant none)
+    c.in_err-next.field-0.0 (c.in_err-next.ensures.refused)))
+
+pub read_item-returns-in_err-next-in-Group-clause-refused : goal.read_item-returns-in_err-next-in-Group-clause-refused
+read_item-returns-in_err-next-in-Group-clause-refused t c =
+    let set = tree_of c.args.templates.now in
+    let nodes = nodes_of c.args.templates.now in
+    let n = c.args.node in
+    let v = c.node.result.now in
+    let i = instruction_in nodes n in
+    let p = err_from_is_err_and c.from_residual.result c.from_residual.ensures.1 in
+    rw p.1 (subst (OnBadLine (HasNoItem set i c.args.at)) (sym p.2) (on_bad (HasNoNext c.args.at) (HasNoItem set i c.args.at)
+    (λ none. item_next set i c.args.at none)
+    c.in_err-next-in-Group.field-0.0 (c.in_err-next-in-Group.ensures.refused)))
+
+pub read_item-returns-in_err-slots-in-Group-clause-refused : goal.read_item-returns-in_err-slots-in-Group-clause-refused
+read_item-returns-in_err-slots-in-Group-clause-refused t c =
+    let set = tree_of c.args.templates.now in
+    let nodes = nodes_of c.args.templates.now in
+    let n = c.args.node in
+    let v = c.node.result.now in
+    let i = instruction_in nodes n in
+    let inner = body_among nodes c.in-Group.body.items in
+    let p = err_from_is_err_and c.from_residual-in_err-slots-in-Group.result c.from_residual-in_err-slots-in-Group.ensures.1 in
+    rw p.1 (subst (OnBadLine (HasNoItem set i c.args.at)) (sym p.2) (on_bad (HasNoBody set inner Ends.Group c.in_ok-next-in-Group.next) (HasNoItem set i c.args.at)
+    (λ none. group_refused set i (label_of n v) c.in-Group.optional inner c.args.at c.in_ok-next-in-Group.next (at_shape nodes n v (Group c.in-Group.optional c.in-Group.body) c.node.ensures.found c.node.ensures.body c.in-Group.is) c.in_ok-next-in-Group.ensures.ok none)
+    c.in_err-slots-in-Group.field-0.0 (rw c.deref.ensures.value at c.in_err-slots-in-Group.ensures.refused)))
+
+pub read_item-returns-in_err-next-in-Sequence-clause-refused : goal.read_item-returns-in_err-next-in-Sequence-clause-refused
+read_item-returns-in_err-next-in-Sequence-clause-refused t c =
+    let set = tree_of c.args.templates.now in
+    let nodes = nodes_of c.args.templates.now in
+    let n = c.args.node in
+    let v = c.node.result.now in
+    let i = instruction_in nodes n in
+    let p = err_from_is_err_and c.from_residual-in_err-next-in-Sequence.result c.from_residual-in_err-next-in-Sequence.ensures.1 in
+    rw p.1 (subst (OnBadLine (HasNoItem set i c.args.at)) (sym p.2) (on_bad (HasNoNext c.args.at) (HasNoItem set i c.args.at)
+    (λ none. item_next set i c.args.at none)
+    c.in_err-next-in-Sequence.field-0.0 (c.in_err-next-in-Sequence.ensures.refused)))
+
+pub read_item-returns-in_err-rows-in-Sequence-clause-refused : goal.read_item-returns-in_err-rows-in-Sequence-clause-refused
+read_item-returns-in_err-rows-in-Sequence-clause-refused t c =
+    let set = tree_of c.args.templates.now in
+    let nodes = nodes_of c.args.templates.now in
+    let n = c.args.node in
+    let v = c.node.result.now in
+    let i = instruction_in nodes n in
+    let inner = body_among nodes c.in-Sequence.body.items in
+    let p = err_from_is_err_and c.from_residual-in_err-rows-in-Sequence.result c.from_residual-in_err-rows-in-Sequence.ensures.1 in
+    rw p.1 (subst (OnBadLine (HasNoItem set i c.args.at)) (sym p.2) (on_bad (HasNoRows set inner c.count_of-count.result c.in_ok-next-in-Sequence.next) (HasNoItem set i c.args.at)
+    (λ none. sequence_refused set i (label_of n v) (field_data c.in-Sequence.length) inner c.count_of-count.result c.args.at c.in_ok-next-in-Sequence.next (at_shape nodes n v (Sequence c.in-Sequence.length c.in-Sequence.body) c.node.ensures.found c.node.ensures.body c.in-Sequence.is) c.count_of-count.ensures c.in_ok-next-in-Sequence.ensures.ok none)
+    c.in_err-rows-in-Sequence.field-0.0 (rw c.deref-in-Sequence.ensures.value at c.in_err-rows-in-Sequence.ensures.refused)))
+
+pub read_rows-returns-then-len-count-clause-refused : goal.read_rows-returns-then-len-count-clause-refused
+read_rows-returns-then-len-count-clause-refused t c =
+    let set = tree_of c.args.templates.now in
+    let body = body_among (nodes_of c.args.templates.now) c.args.body.now in
+    let rs = c.loop-rows.rows.items in
+    let long : c.len.result ≡ length rs = c.len.ensures ∙ c.loop-rows.rows.ok.0 in
+    let all : length rs ≡ c.args.count = omega (arith, long, c.if-len-count.true) in
+    always (HasNoRows set body c.args.count c.args.at) c.fault.result (rows_surplus set body rs c.args.count c.args.at c.loop-rows.place c.loop-rows.invariant.read (c.is_element.ensures.0 c.loop-rows-test.true) all)
+
+pub read_rows-returns-in_err-next-clause-refused : goal.read_rows-returns-in_err-next-clause-refused
+read_rows-returns-in_err-next-clause-refused t c =
+    let set = tree_of c.args.templates.now in
+    let body = body_among (nodes_of c.args.templates.now) c.args.body.now in
+    let rs = c.loop-rows.rows.items in
+    let p = err_from_is_err_and c.from_residual.result c.from_residual.ensures.1 in
+    rw p.1 (subst (OnBadLine (HasNoRows set body c.args.count c.args.at)) (sym p.2) (on_bad (HasNoNext c.loop-rows.place) (HasNoRows set body c.args.count c.args.at)
+    (λ none. rows_next set body rs c.args.count c.args.at c.loop-rows.place c.loop-rows.invariant.read none)
+    c.in_err-next.field-0.0 (c.in_err-next.ensures.refused)))
+
+pub read_rows-returns-in_err-row-clause-refused : goal.read_rows-returns-in_err-row-clause-refused
+read_rows-returns-in_err-row-clause-refused t c =
+    let set = tree_of c.args.templates.now in
+    let body = body_among (nodes_of c.args.templates.now) c.args.body.now in
+    let rs = c.loop-rows.rows.items in
+    let p = err_from_is_err_and c.from_residual-in_err-row.result c.from_residual-in_err-row.ensures.1 in
+    rw p.1 (subst (OnBadLine (HasNoRows set body c.args.count c.args.at)) (sym p.2) (on_bad (HasNoBody set body Ends.Element c.in_ok-next.next) (HasNoRows set body c.args.count c.args.at)
+    (λ none. rows_element set body rs c.args.count c.args.at c.loop-rows.place c.loop-rows.invariant.read c.in_ok-next.next (c.is_element.ensures.0 c.loop-rows-test.true) c.in_ok-next.ensures.ok none)
+    c.in_err-row.field-0.0 (c.in_err-row.ensures.refused)))
+
+pub read_rows-returns-then-not-is_sequence_end-clause-refused : goal.read_rows-returns-then-not-is_sequence_end-clause-refused
+read_rows-returns-then-not-is_sequence_end-clause-refused t c =
+    let set = tree_of c.args.templates.now in
+    let body = body_among (nodes_of c.args.templates.now) c.args.body.now in
+    let rs = c.loop-rows.rows.items in
+    always (HasNoRows set body c.args.count c.args.at) c.fault-then-not-is_sequence_end.result (rows_misplaced set body rs c.args.count c.args.at c.loop-rows.place c.loop-rows.invariant.read (λ h. absurd (cc (c.loop-rows-test.false, c.is_element.ensures.1 h))) (λ h. absurd (cc (c.if-not-is_sequence_end.true, c.is_sequence_end.ensures.1 h))))
+
+pub read_rows-returns-then-len-count-2-clause-refused : goal.read_rows-returns-then-len-count-2-clause-refused
+read_rows-returns-then-len-count-2-clause-refused t c =
+    let set = tree_of c.args.templates.now in
+    let body = body_among (nodes_of c.args.templates.now) c.args.body.now in
+    let rs = c.loop-rows.rows.items in
+    let long : c.len-2.result ≡ length rs = c.len-2.ensures ∙ c.loop-rows.rows.ok.0 in
+    let few : length rs < c.args.count = omega (arith, long, c.if-len-count-2.true) in
+    always (HasNoRows set body c.args.count c.args.at) c.fault-then-len-count-2.result (rows_missing set body rs c.args.count c.args.at c.loop-rows.place c.loop-rows.invariant.read (λ h. absurd (cc (c.loop-rows-test.false, c.is_element.ensures.1 h))) few)
+
+pub read_rows-returns-in_err-next-2-clause-refused : goal.read_rows-returns-in_err-next-2-clause-refused
+read_rows-returns-in_err-next-2-clause-refused t c =
+    let set = tree_of c.args.templates.now in
+    let body = body_among (nodes_of c.args.templates.now) c.args.body.now in
+    let rs = c.loop-rows.rows.items in
+    let p = err_from_is_err_and c.from_residual-in_err-next-2.result c.from_residual-in_err-next-2.ensures.1 in
+    rw p.1 (subst (OnBadLine (HasNoRows set body c.args.count c.args.at)) (sym p.2) (on_bad (HasNoNext c.loop-rows.place) (HasNoRows set body c.args.count c.args.at)
+    (λ none. rows_next set body rs c.args.count c.args.at c.loop-rows.place c.loop-rows.invariant.read none)
+    c.in_err-next-2.field-0.0 (c.in_err-next-2.ensures.refused)))

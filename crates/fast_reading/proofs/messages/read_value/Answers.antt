@@ -1,5 +1,5 @@
 use Rattle.std.proofs.Common.{refl, sym, subst}
-use Rattle.std.specs.Prelude.{IsSome}
+use Rattle.std.specs.Prelude.{IsSome, Some}
 use Rattle.std.proofs.lemmas.Result.{err_from_is_err_and}
 use Rattle.fast_value.specs.declared.messages.Item.TheVariants as V
 use Rattle.fast_value.specs.Views.{item_data}
@@ -10,6 +10,13 @@ use Rattle.fast_reading.specs.Cursors.{IsNear}
 use Rattle.fast_reading.proofs.Named.{names_some, numbered}
 use Rattle.fast_reading.proofs.Parts.{value_read}
 use Rattle.fast_reading.proofs.Said.{next_near, one_on}
+use Rattle.fast_value.specs.Messages.{ItemData}
+use Rattle.fast_spelling.specs.Suiting.{Suits}
+use Rattle.fast_reading.specs.Ahead.{OnBadLine, HasNoLines}
+use Rattle.fast_reading.specs.Reading.{closed}
+use Rattle.fast_reading.specs.Unsaid.{HasNoItem}
+use Rattle.fast_reading.proofs.NoLines.{next_refused}
+use Rattle.fast_reading.proofs.Refused.{on_bad, always, item_next, unread_value, wrong_value}
 use Rattle.fast_reading.proofs.messages.read_value.Goals as goal
 
 pub returns-in_err-next-clause-line : goal.returns-in_err-next-clause-line
@@ -25,3 +32,27 @@ returns-clause-ok c =
     let some : IsSome c.args.at.line = names_some (tree_of t) c.args.node i c.args.at.line c.requires.named in
     value_read (tree_of t) c.args.node i c.in-Some.value (item_data (V.One c.in-Some.value)) c.args.at c.in_ok-next.next c.requires.field (numbered t c.args.node c.requires.node) (item_data-One c.in-Some.value) c.in-Some.is c.requires.named
     (one_on c.args.at c.in_ok-next.next some c.in_ok-next.ensures.ahead c.in_ok-next.ensures.number) (c.if-not-suits_item.ensures.0 refl)
+
+pub returns-in_default-clause-refused : goal.returns-in_default-clause-refused
+returns-in_default-clause-refused c =
+    let set = tree_of c.args.templates.now in
+    let i = instruction_in (nodes_of c.args.templates.now) c.args.node in
+    unread_value set i c.args.at c.requires.field c.in_default.is
+
+pub returns-then-not-suits_item-clause-refused : goal.returns-then-not-suits_item-clause-refused
+returns-then-not-suits_item-clause-refused c =
+    let set = tree_of c.args.templates.now in
+    let i = instruction_in (nodes_of c.args.templates.now) c.args.node in
+    always (HasNoItem set i c.args.at) c.wrong_value-fault.result
+    (wrong_value set i c.in-Some.value c.args.at c.requires.field c.in-Some.is c.wrong_value-fault.ensures.told
+    (λ h. absurd (cc (c.if-not-suits_item.true, c.suits_item.ensures.1 (subst (λ (z : ItemData). Suits i (Some z)) (sym (item_data-One c.in-Some.value)) h)))))
+
+pub returns-in_err-next-clause-refused : goal.returns-in_err-next-clause-refused
+returns-in_err-next-clause-refused c =
+    let set = tree_of c.args.templates.now in
+    let i = instruction_in (nodes_of c.args.templates.now) c.args.node in
+    let some : IsSome c.args.at.line = names_some set c.args.node i c.args.at.line c.requires.named in
+    let p = err_from_is_err_and c.from_residual.result c.from_residual.ensures.1 in
+    rw p.1 (subst (OnBadLine (HasNoItem set i c.args.at)) (sym p.2) (on_bad (HasNoLines (closed c.args.at.rest.now)) (HasNoItem set i c.args.at)
+    (λ none. item_next set i c.args.at (next_refused c.args.at some none))
+    c.in_err-next.field-0.0 (c.in_err-next.ensures.refused)))
