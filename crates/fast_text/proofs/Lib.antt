@@ -1,2 +1,3 @@
+pub mod Kept
 pub mod Writing
 pub mod Names

@@ -7,7 +7,8 @@ ghost use Rattle.fast_lines.specs.Lines.{line_of, template_name, node_name, node
 ghost use Rattle.fast_text.specs.LineWriter.{Writes};
 ghost use Rattle.fast_text.specs.LineSink.{TakesLine, StopsInLine, IsOver};
 
-use crate::line_writer::{LineWriter, Room};
+use crate::line_writer::LineWriter;
+use crate::room::Room;
 use crate::streams::{Failed, Target};
 use fast_stream::{Event, Sink, Stop};
 use fast_template::Templates;
