@@ -157,13 +157,13 @@ stream_of t l hex s text b es p = ends_well t l s.decoder b es p.set p.limits p.
 
 -- a run that goes on
 pub goes_on : (t : Tree) (l : Limits) (hex : Bool) (s s' : Show) (text b piece bytes : List ℕ) (es : List EventData) (w : Change) → Progress t l hex s text b es
-    → s'.templates ≡ s.templates → (tree s'.decoder ≡ tree s.decoder) × (s'.decoder.limits ≡ s.decoder.limits) → is_some s'.unhexer ≡ is_some s.unhexer → s'.decoder.fault ≡ None
+    → s'.fronts ≡ s.fronts → (tree s'.decoder ≡ tree s.decoder) × (s'.decoder.limits ≡ s.decoder.limits) → is_some s'.unhexer ≡ is_some s.unhexer → s'.decoder.fault ≡ None
     → IsTaken s'.unhexer (text ++ piece) (b ++ bytes) → Fed t b es bytes s'.decoder w → GoesOn t l hex s' (text ++ piece) es w
-goes_on t l hex s s' text b piece bytes es w p templates same hex_same good taken fed = record {
+goes_on t l hex s s' text b piece bytes es w p fronts same hex_same good taken fed = record {
   bytes = b ++ bytes;
   more = fed.more;
   progress = record {
-    names = rw templates p.names;
+    names = rw fronts p.names;
     set = same.0 ∙ p.set;
     limits = same.1 ∙ p.limits;
     so = fed.so;

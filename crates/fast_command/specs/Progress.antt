@@ -10,6 +10,7 @@ use Rattle.fast_stream.specs.Events.{EventData}
 use Rattle.fast_stream.specs.Streams.{End, Stream}
 use Rattle.fast_decoder.specs.Decoding.{DecoderData, So, tree}
 use Rattle.fast_lines.specs.Lines.{lines}
+use Rattle.fast_text.specs.Fronts.{set_of}
 use Rattle.fast_text.specs.Streams.{Appends, AppendsFront}
 use Rattle.fast_lines.specs.Hex.{Unhexed}
 use Rattle.fast_command.specs.declared.unhexer.Unhexer.{Unhexer}
@@ -34,7 +35,7 @@ HasRoom (Some u) n = u.len + n < 2 ^ 64
 
 -- The run has read the text, which stands for the bytes, and these gave the events. There was no fault.
 pub record Progress (t : Tree) (l : Limits) (hex : Bool) (s : Show) (text b : List ℕ) (es : List EventData) : Type 0 where
-  pub names : tree_of s.templates.now ≡ t
+  pub names : tree_of (set_of s.fronts).now ≡ t
   pub set : tree s.decoder ≡ t
   pub limits : s.decoder.limits ≡ l
   pub so : So s.decoder b es

@@ -1,5 +1,5 @@
 -- The template set of a call.
-use Rattle.std.specs.Prelude.{◌≡◌, ◌≢◌, ◌⊎◌, ℕ, ◌≤◌, List, length, IsUtf8, Option, Some, None, codes}
+use Rattle.std.specs.Prelude.{◌≡◌, ◌≢◌, ◌⊎◌, ℕ, ◌≤◌, List, length, IsUtf8, Option, Some, None}
 use Rattle.std.specs.Io.KnownBytes.{IsAtEnd}
 use Rattle.toml.specs.Data.{Members}
 use Rattle.toml.specs.Parse.{parse_document}
@@ -12,7 +12,7 @@ use Rattle.fast_template.specs.declared.sets.Templates.{Templates}
 use Rattle.fast_template.specs.Flat.{tree_of}
 use Rattle.fast_text.specs.Streams.{Reads}
 use Rattle.fast_command.specs.declared.faults.RunFault.{RunFault}
-use Rattle.fast_command.specs.declared.faults.RunFault.TheVariants.{Read, Memory, Templates as Refused}
+use Rattle.fast_command.specs.declared.faults.RunFault.TheVariants.{Templates as Refused}
 use Rattle.fast_command.specs.Texts.{text_limit, IsUnread}
 
 -- the set stands for the tree of the document that a text is

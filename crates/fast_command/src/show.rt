@@ -7,6 +7,7 @@ ghost use Rattle.fast_value.specs.declared.settings.Limits.{Limits};
 ghost use Rattle.fast_stream.specs.Events.{EventData};
 ghost use Rattle.fast_decoder.specs.Decoding.{So, standing, tree, answer, AreBadLimits};
 ghost use Rattle.std.specs.Io.KnownBytes.{IsAtEnd};
+ghost use Rattle.fast_text.specs.Fronts.{set_of};
 ghost use Rattle.fast_text.specs.Streams.{Reads, Appends};
 ghost use Rattle.fast_lines.specs.Hex.{IsHexOrBlank};
 ghost use Rattle.fast_command.specs.Showing.{IsShown, IsRefusal, StandsFor, refusal_of, has_begun};
@@ -17,7 +18,7 @@ use crate::faults::{RunFault, ShowEnd};
 use crate::unhexer::Unhexer;
 use fast_decoder::{Decoder, Fault, FaultCode, MakeError};
 use fast_template::Templates;
-use fast_text::{LineSink, Source, Target};
+use fast_text::{Fronts, LineSink, Source, Target};
 use fast_value::Limits;
 use std::alloc::Global;
 
@@ -27,7 +28,7 @@ const READ_SIZE: usize = 4096;
 /// A run that shows a stream.
 #[derive(Drop)]
 struct Show<'a> {
-    templates: &'a Templates,
+    fronts: Fronts<'a>,
     decoder: Decoder<'a>,
     unhexer: Option<Unhexer>,
 }
@@ -73,18 +74,18 @@ fn bad_end(unhexer: &Option<Unhexer>) -> Option<u64>
 /// Feeds bytes to the decoder, and writes the lines of what they give.
 fn feed<T: Target>(
     decoder: &mut Decoder<'_>,
-    templates: &Templates,
+    fronts: &Fronts<'_>,
     bytes: &[u8],
     writer: &mut T,
 ) -> Result<(), Fault>
     requires { (standing decoder.old).consumed + length bytes.now < 2 ^ 64 }
-    ensures fed { (b : List ℕ) (es : List EventData) → tree decoder.old ≡ tree_of templates.now → So decoder.old b es
-        → IsFed (tree_of templates.now) decoder.old.limits b es bytes.now decoder.new
+    ensures fed { (b : List ℕ) (es : List EventData) → tree decoder.old ≡ tree_of (set_of fronts.now).now → So decoder.old b es
+        → IsFed (tree_of (set_of fronts.now).now) decoder.old.limits b es bytes.now decoder.new
         (changed T.written T.has_failed writer.old writer.new) result }
     ensures answer { result ≡ answer decoder.new.fault }
     ensures same_set { (tree decoder.new ≡ tree decoder.old) × (decoder.new.limits ≡ decoder.old.limits) }
 {
-    let mut sink = LineSink::new(templates, writer);
+    let mut sink = LineSink::with_fronts(fronts, writer);
     decoder.feed(bytes, &mut sink)
 }
 
@@ -126,9 +127,12 @@ impl<'a> Show<'a> {
         ensures long_initial { IsRefusal templates.entry.now limits MakeError.InitialTooLong → result ≡ Err MakeError.InitialTooLong }
     {
         let decoder = Decoder::new(alloc, templates, limits)?;
+        let Ok(fronts) = Fronts::new(alloc, templates) else {
+            return Err(MakeError::Memory);
+        };
         let unhexer = if hex { Some(Unhexer::new()) } else { None };
         Ok(Show {
-            templates,
+            fronts,
             decoder,
             unhexer,
         })
@@ -145,7 +149,7 @@ impl<'a> Show<'a> {
     {
         let mut room = [0; READ_SIZE];
         let bytes = bytes_of(&mut self.unhexer, piece, &mut room);
-        match feed(&mut self.decoder, self.templates, bytes, writer) {
+        match feed(&mut self.decoder, &self.fronts, bytes, writer) {
             Ok(()) => match bad_character(&self.unhexer) {
                 None => None,
                 Some(place) => Some(Err(RunFault::BadHex(place))),

@@ -1,2 +1,4 @@
+pub mod Kept
 pub mod Writing
 pub mod Names
+pub mod Fronted

@@ -11,6 +11,7 @@ use Rattle.fast_stream.specs.Events.{EventData}
 use Rattle.fast_text.specs.declared.line_sink.LineSink.{LineSink}
 use Rattle.fast_text.specs.LineSink.{whole_line, TakesLine, StopsInLine}
 use Rattle.fast_text.specs.declared.streams.Failed.{Failed}
+use Rattle.fast_text.specs.Room.{kept_in}
 use Rattle.fast_text.specs.LineWriter.{Point, Puts, Stands, Writes, IsFresh, Finishes, point_of}
 
 -- no text
@@ -163,7 +164,7 @@ plain_text text (c ∷ cs) h =
 
 -- Nothing is kept, and a text goes to the target.
 pub written_directly : {T : Type 0} (written : T → Option (List ℕ)) (failed : T → Bool) (s t : LineWriter T) (text : List ℕ) (r : Result (Unit {0}) Failed)
-    → s.kept.now.items ≡ [] → t.kept.now.items ≡ [] → t.target.ghost_name ≡ s.target.ghost_name → t.kept.ghost_name ≡ s.kept.ghost_name → is_ok s.outcome ≡ true → t.outcome ≡ r
+    → kept_in s.kept.now ≡ [] → kept_in t.kept.now ≡ [] → t.target.ghost_name ≡ s.target.ghost_name → t.kept.ghost_name ≡ s.kept.ghost_name → is_ok s.outcome ≡ true → t.outcome ≡ r
     → OnOk r (Appends (written s.target.now) (written t.target.now) text) → OnErr r (AppendsFront (written s.target.now) (written t.target.now) text)
     → OnErr r (IsTrue (failed t.target.now)) → OnOk r (failed t.target.now ≡ failed s.target.now) → Writes written failed s text t
 written_directly written failed s t text (Ok x) empty emptied same_target same_room writing outcome added part fails stays = record {
@@ -178,13 +179,13 @@ written_directly written failed s t text (Err x) empty emptied same_target same_
 }
 
 -- What was kept is written, and nothing more is put.
-pub finished : {T : Type 0} {written : T → Option (List ℕ)} {failed : T → Bool} {s t : LineWriter T} → Writes written failed s [] t → t.kept.now.items ≡ [] → Finishes written failed s t t.outcome
+pub finished : {T : Type 0} {written : T → Option (List ℕ)} {failed : T → Bool} {s t : LineWriter T} → Writes written failed s [] t → kept_in t.kept.now ≡ [] → Finishes written failed s t t.outcome
 finished {T} {written} {failed} {s} {t} h empty = record { same_target = h.same_target; same_room = h.same_room; whole = on_ok t.outcome refl; part = on_err t.outcome refl }
   where
     behind : (begun : Option (List ℕ)) (had_failed : Bool) (text : List ℕ) → Stands begun had_failed text (point_of written failed s) → Stands begun had_failed text (point_of written failed t)
     behind begun had_failed text stands = stands_same begun had_failed (text ++ []) text (point_of written failed t) (append-nil text) (h.puts begun had_failed text stands)
 
-    front_is : (text front : List ℕ) → text ≡ front ++ t.kept.now.items → text ≡ front
+    front_is : (text front : List ℕ) → text ≡ front ++ kept_in t.kept.now → text ≡ front
     front_is text front e = e ∙ ap (λ (xs : List ℕ). front ++ xs) empty ∙ append-nil front
 
     on_ok : (r : Result (Unit {0}) Failed) → t.outcome ≡ r → OnOk r ((begun : Option (List ℕ)) (had_failed : Bool) (text : List ℕ) → Stands begun had_failed text (point_of written failed s)

@@ -3,6 +3,7 @@ use Rattle.std.specs.Prelude.{◌≡◌, ◌⊎◌, ℕ, Bool, true, false, IsTr
 use Rattle.std.specs.Borrow.{MutBor}
 use Rattle.fast_text.specs.declared.streams.Failed.{Failed}
 use Rattle.fast_text.specs.declared.line_writer.LineWriter.{LineWriter}
+use Rattle.fast_text.specs.Room.{kept_in}
 use Rattle.fast_text.specs.Streams.{Appends, AppendsFront}
 
 -- Where a writer is: what its target holds, whether the target has failed, what is kept, and whether the writer still writes.
@@ -25,7 +26,7 @@ Puts p text q = (begun : Option (List ℕ)) (had_failed : Bool) (before : List �
 
 -- where a writer is
 abbrev pub point_of : {T : Type 0} → (T → Option (List ℕ)) → (T → Bool) → LineWriter T → Point
-point_of written failed s = record { written = written s.target.now; failed = failed s.target.now; kept = s.kept.now.items; is_writing = is_ok s.outcome }
+point_of written failed s = record { written = written s.target.now; failed = failed s.target.now; kept = kept_in s.kept.now; is_writing = is_ok s.outcome }
 
 -- The writer puts a text for the same target, from where it stood.
 pub record Writes {T : Type 0} (written : T → Option (List ℕ)) (failed : T → Bool) (old : LineWriter T) (text : List ℕ) (new : LineWriter T) : Type 0 where
@@ -35,7 +36,7 @@ pub record Writes {T : Type 0} (written : T → Option (List ℕ)) (failed : T �
 
 -- nothing is kept, and nothing has failed
 pub record IsFresh {T : Type 0} (s : LineWriter T) : Type 0 where
-  pub empty : s.kept.now.items ≡ []
+  pub empty : kept_in s.kept.now ≡ []
   pub is_open : s.outcome ≡ Ok tt
 
 -- the writer begins at the target as it is

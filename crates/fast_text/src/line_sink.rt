@@ -1,13 +1,17 @@
 //! A sink that writes a line for each event.
 
-ghost use Rattle.std.specs.Prelude.{◌≡◌, slice_get, string_bytes};
+ghost use Rattle.std.specs.Prelude.{◌≡◌};
 ghost use Rattle.fast_template.specs.Flat.{tree_of};
 ghost use Rattle.fast_stream.specs.Handed.{event_data};
-ghost use Rattle.fast_lines.specs.Lines.{line_of, template_name, node_name, node as node_words};
+ghost use Rattle.fast_lines.specs.Lines.{line_of, node as node_words};
+ghost use Rattle.fast_text.specs.Front.{AreFronts, field_front};
 ghost use Rattle.fast_text.specs.LineWriter.{Writes};
-ghost use Rattle.fast_text.specs.LineSink.{TakesLine, StopsInLine, IsOver};
 
-use crate::line_writer::{LineWriter, Room};
+use crate::front::Front;
+use crate::fronts::Fronts;
+use crate::line_writer::LineWriter;
+use crate::name_texts::{node_text, template_text};
+use crate::room::Room;
 use crate::streams::{Failed, Target};
 use fast_stream::{Event, Sink, Stop};
 use fast_template::Templates;
@@ -17,30 +21,11 @@ use fast_template::Templates;
 #[derive(Drop)]
 pub struct LineSink<'a, T> {
     templates: &'a Templates,
+    /// What stands before the values of the nodes' fields: of none, or of the first ones.
+    fronts: &'a [Front],
     target: &'a mut T,
     kept: Room,
-}
-
-/// The name of a template, or nothing if the set has no such template.
-fn template_text(templates: &Templates, template: u32) -> &str
-    ensures { result.now ≡ template_name (tree_of templates.now) template }
-{
-    if template < templates.count() {
-        templates.template(template).name.as_str()
-    } else {
-        ""
-    }
-}
-
-/// The name of a node, or nothing if the set has no such node.
-fn node_text(templates: &Templates, node: u32) -> &str
-    ensures { result.now ≡ node_name (tree_of templates.now) node }
-{
-    if node < templates.nodes() {
-        templates.node(node).name.as_str()
-    } else {
-        ""
-    }
+    ghost right: { AreFronts (tree_of templates.now) fronts.now },
 }
 
 /// Writes a node's number and its name.
@@ -52,8 +37,36 @@ fn put_node<T: Target>(line: &mut LineWriter<'_, T>, templates: &Templates, node
     line.put(node_text(templates, node).as_bytes());
 }
 
+/// Writes what stands before the value of a field.
+#[inline(always)]
+fn put_field<T: Target>(
+    line: &mut LineWriter<'_, T>,
+    templates: &Templates,
+    fronts: &[Front],
+    node: u32,
+)
+    requires { AreFronts (tree_of templates.now) fronts.now }
+    ensures { Writes T.written T.has_failed line.old (field_front (tree_of templates.now) node) line.new }
+{
+    let place = node as usize;
+    if place < fronts.len() && fronts[place].len > 0 {
+        line.put_front(&fronts[place].cells, fronts[place].len);
+    } else {
+        line.put(b"field ");
+        put_node(line, templates, node);
+        line.put(b" ");
+    }
+}
+
 /// Writes the line of an event, without its LF.
-fn put_event<T: Target>(line: &mut LineWriter<'_, T>, templates: &Templates, event: Event<'_>)
+#[inline(always)]
+fn put_event<T: Target>(
+    line: &mut LineWriter<'_, T>,
+    templates: &Templates,
+    fronts: &[Front],
+    event: Event<'_>,
+)
+    requires { AreFronts (tree_of templates.now) fronts.now }
     ensures { Writes T.written T.has_failed line.old (line_of (tree_of templates.now) (event_data event.entry)) line.new }
 {
     match event {
@@ -62,9 +75,7 @@ fn put_event<T: Target>(line: &mut LineWriter<'_, T>, templates: &Templates, eve
             line.put(template_text(templates, template).as_bytes());
         }
         Event::Field { node, value } => {
-            line.put(b"field ");
-            put_node(line, templates, node);
-            line.put(b" ");
+            put_field(line, templates, fronts, node);
             line.put_value(value);
         }
         Event::GroupStart { node } => {
@@ -86,12 +97,28 @@ fn put_event<T: Target>(line: &mut LineWriter<'_, T>, templates: &Templates, eve
 }
 
 impl<'a, T: Target> LineSink<'a, T> {
+    ghost use Rattle.fast_text.specs.Fronts.{set_of};
+    ghost use Rattle.fast_text.specs.LineSink.{IsOver};
+
     /// A sink that writes to a target.
     pub fn new(templates: &'a Templates, target: &'a mut T) -> LineSink<'a, T>
         ensures { IsOver templates.entry target.entry result }
     {
         LineSink {
             templates,
+            fronts: &[],
+            target,
+            kept: Room::new(),
+        }
+    }
+
+    /// A sink that writes to a target, over the fronts of a set's lines: it writes the same, in less time.
+    pub fn with_fronts(fronts: &'a Fronts<'_>, target: &'a mut T) -> LineSink<'a, T>
+        ensures { IsOver (set_of fronts.entry.now) target.entry result }
+    {
+        LineSink {
+            templates: fronts.templates,
+            fronts: fronts.fields.as_slice(),
             target,
             kept: Room::new(),
         }
@@ -99,13 +126,15 @@ impl<'a, T: Target> LineSink<'a, T> {
 }
 
 impl<T: Target> Sink for LineSink<'_, T> {
+    ghost use Rattle.fast_text.specs.LineSink.{TakesLine, StopsInLine};
+
     ghost takes = { TakesLine T.written T.has_failed };
 
     ghost stops = { StopsInLine T.written T.has_failed };
 
     fn take(&mut self, event: Event<'_>) -> Result<(), Stop> {
         let mut line = LineWriter::new(&mut *self.target, &mut self.kept);
-        put_event(&mut line, self.templates, event);
+        put_event(&mut line, self.templates, self.fronts, event);
         line.put(b"\n");
         match line.finish() {
             Ok(()) => Ok(()),

@@ -4,16 +4,14 @@ ghost use Rattle.std.specs.Prelude.{◌≡◌, ◌≤◌, [], ◌∷◌, ◌++�
 ghost use Rattle.std.specs.Fmt.{signed_decimal};
 ghost use Rattle.fast_value.specs.Values.{scalar_data};
 ghost use Rattle.fast_lines.specs.Lines.{escaped, quoted, hex_byte, written as value_text};
+ghost use Rattle.fast_text.specs.Room.{kept_in};
 ghost use Rattle.fast_text.specs.LineWriter.{Begins, Finishes, Writes};
 
+use crate::room::Room;
 use crate::streams::{Failed, Target};
-use arrayvec::ArrayVec;
 use fast_value::Scalar;
-use itoa::Buffer;
+use itoa::write_digits;
 use std::fmt;
-
-/// Room for what a writer keeps before it writes: most lines are shorter.
-pub type Room = ArrayVec<u8, 512>;
 
 /// Writes texts to a target, one after the other, in as few pieces as there is room for. It keeps the first failure, and writes
 /// nothing after it. What is still kept at the end is written by [`LineWriter::finish`].
@@ -33,6 +31,9 @@ impl<T: Target> fmt::Write for LineWriter<'_, T> {
         Ok(())
     }
 }
+
+/// How many digits a number has at most.
+const DIGITS: usize = 20;
 
 /// How many bytes are turned into hexadecimal digits at a time.
 const HEX_CHUNK: usize = 32;
@@ -70,17 +71,17 @@ impl<'a, T: Target> LineWriter<'a, T> {
     /// Writes what is kept to the target.
     fn write_on(&mut self)
         ensures written { Writes T.written T.has_failed self.old [] self.new }
-        ensures empty { self.new.kept.now.items ≡ [] }
+        ensures empty { kept_in self.new.kept.now ≡ [] }
     {
         if self.outcome.is_ok() {
-            self.outcome = self.target.write_all(self.kept.as_slice());
+            self.outcome = self.target.write_all(self.kept.bytes());
         }
         self.kept.clear();
     }
 
     /// Writes a text to the target where nothing is kept.
     fn write_directly(&mut self, text: &[u8])
-        requires { self.old.kept.now.items ≡ [] }
+        requires { kept_in self.old.kept.now ≡ [] }
         ensures { Writes T.written T.has_failed self.old text.now self.new }
     {
         if self.outcome.is_ok() {
@@ -101,8 +102,19 @@ impl<'a, T: Target> LineWriter<'a, T> {
     pub fn put(&mut self, text: &[u8])
         ensures { Writes T.written T.has_failed self.old text.now self.new }
     {
-        if self.kept.try_extend_from_slice(text).is_err() {
-            self.put_past(text);
+        self.put_front(text, text.len());
+    }
+
+    /// Puts the first bytes of a block behind what was put before.
+    #[inline(always)]
+    pub(crate) fn put_front(&mut self, block: &[u8], count: usize)
+        requires { count ≤ length block.now }
+        ensures { Writes T.written T.has_failed self.old (take count block.now) self.new }
+    {
+        if self.kept.has_room(block.len()) {
+            self.kept.keep(block, count);
+        } else {
+            self.put_past(&block[..count]);
         }
     }
 
@@ -111,14 +123,21 @@ impl<'a, T: Target> LineWriter<'a, T> {
     pub fn put_unsigned(&mut self, number: u64)
         ensures { Writes T.written T.has_failed self.old (decimal number) self.new }
     {
-        self.put(Buffer::new().format(number).as_bytes());
+        let mut cells = [0; 2 * DIGITS];
+        let start = write_digits(number, &mut cells, DIGITS);
+        self.put_front(&cells[start..start + DIGITS], DIGITS - start);
     }
 
     /// Writes an integer in decimal digits, with its sign if it is negative.
     pub fn put_signed(&mut self, integer: i64)
         ensures { Writes T.written T.has_failed self.old (signed_decimal integer) self.new }
     {
-        self.put(Buffer::new().format(integer).as_bytes());
+        if integer < 0 {
+            self.put(b"-");
+            self.put_unsigned(integer.unsigned_abs());
+        } else {
+            self.put_unsigned(integer.unsigned_abs());
+        }
     }
 
     /// Writes a byte of a text, or what stands for it.

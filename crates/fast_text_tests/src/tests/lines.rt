@@ -7,7 +7,7 @@ use Event::{
 use Scalar::{Ascii, Bytes, Dec, I, U, Unicode};
 use fast_decoder::{Event, Sink, Stop};
 use fast_template::Templates;
-use fast_text::{LineSink, Target, ToBytes};
+use fast_text::{Fronts, LineSink, Target, ToBytes};
 use fast_value::Scalar;
 use std::alloc::Global;
 use std::test::Fail;
@@ -116,16 +116,20 @@ const ROWS: [(&[Event<'static>], &[u8]); 4] = [
     (UNKNOWN, b"message \ngroup 6 \n"),
 ];
 
-/// Whether a sink over the cells writes these bytes of the events, and stops or not.
+/// Whether a sink over the cells, with fronts or none, writes these bytes of the events, and stops or not.
 fn is_written(
     set: &Templates,
+    fronts: Option<&Fronts<'_>>,
     cells: &mut [u8],
     events: &[Event<'_>],
     answer: Result<(), Stop>,
     bytes: &[u8],
 ) -> bool {
     let mut target = ToBytes::new(cells);
-    let mut sink = LineSink::new(set, &mut target);
+    let mut sink = match fronts {
+        None => LineSink::new(set, &mut target),
+        Some(fronts) => LineSink::with_fronts(fronts, &mut target),
+    };
     let mut taken = Ok(());
     for event in events {
         if taken.is_ok() {
@@ -138,14 +142,17 @@ fn is_written(
 #[test]
 fn each_event_is_its_line(rt: HostRuntime) -> Result<(), Fail> {
     let set = set(rt.alloc())?;
+    let fronts = Fronts::new(rt.alloc(), &set)?;
     for (events, lines) in ROWS {
-        let is_written = is_written(&set, &mut [0; 512], events, Ok(()), lines);
-        assert!(rt; is_written, "{events:?}");
+        for fronts in [None, Some(&fronts)] {
+            let is_written = is_written(&set, fronts, &mut [0; 512], events, Ok(()), lines);
+            assert!(rt; is_written, "{events:?}");
+        }
     }
     for room in 0..12 {
         let mut cells = [0; 12];
         let front = &b"message T15\n"[..room];
-        let stops = is_written(&set, &mut cells[..room], &EVENTS[..1], Err(Stop), front);
+        let stops = is_written(&set, None, &mut cells[..room], &EVENTS[..1], Err(Stop), front);
         assert!(rt; stops, "in {room}");
     }
     Ok(())
@@ -192,5 +199,22 @@ fn a_long_text_stands_in_its_line(rt: HostRuntime) -> Result<(), Fail> {
     let taken = LineSink::new(&set, &mut target).take(event);
     assert_eq!(rt; taken, Ok(()));
     assert!(rt; text_in(target.bytes()) == text.as_slice());
+    Ok(())
+}
+
+/// A name so long that its front is not made stands in its line all the same.
+#[test]
+fn a_long_name_stands_in_its_line(rt: HostRuntime) -> Result<(), Fail> {
+    let text = r#"
+[[template]]
+name = "T"
+id = 1
+fields = [{kind="uInt32", name="abcdefghijklmnopqrstuvwxyzabcdefghijklmnopqrstuvwxyz"}]
+"#;
+    let set = Templates::read(rt.alloc(), text)?;
+    let fronts = Fronts::new(rt.alloc(), &set)?;
+    let line = b"field 0 abcdefghijklmnopqrstuvwxyzabcdefghijklmnopqrstuvwxyz u 5\n";
+    let is_written = is_written(&set, Some(&fronts), &mut [0; 512], &EVENTS[1..2], Ok(()), line);
+    assert!(rt; is_written);
     Ok(())
 }

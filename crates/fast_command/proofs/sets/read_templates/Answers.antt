@@ -1,6 +1,5 @@
 -- A text that is no template set is told as such.
 use Rattle.std.proofs.Common.{◌≡◌, ℕ, List, IsTrue, length, ◌≤◌, refl, rules, sym, subst}
-use Rattle.std.specs.Io.KnownBytes.{IsAtEnd}
 use Rattle.std.proofs.lemmas.Result.{err_from_is_err_and}
 use Rattle.fast_text.specs.Streams.{Reads}
 use Rattle.fast_command.specs.Sets.{IsSetRefused}

@@ -1,6 +1,5 @@
 -- What was shown stays so where it is flushed; else the writer's failure is told.
-use Rattle.std.proofs.Common.{◌≡◌, rules, Bool, true}
-use Rattle.std.specs.Prelude.{IsTrue}
+use Rattle.std.proofs.Common.{◌≡◌, rules, true}
 use Rattle.fast_template.specs.Flat.{tree_of}
 use Rattle.fast_text.proofs.Writing.{appends_no_more}
 use Rattle.fast_command.specs.Showing.{IsRefusal, has_begun}

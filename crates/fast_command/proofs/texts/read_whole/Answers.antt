@@ -1,4 +1,4 @@
-use Rattle.std.proofs.Common.{◌≡◌, ◌<◌, ◌++◌, ap, inr, length, take, rules, [], List, ℕ}
+use Rattle.std.proofs.Common.{◌≡◌, ◌<◌, ◌++◌, ap, inr, length, take, rules, []}
 use Rattle.fast_text.proofs.Writing.{reads_none, reads_both, reads_no_more}
 use Rattle.fast_command.specs.Texts.{text_limit}
 use Rattle.fast_command.proofs.texts.read_whole.Goals as goal

@@ -6,10 +6,10 @@ pub returns-in-MessageStart : goal.returns-in-MessageStart
 returns-in-MessageStart g c = rw c.in-MessageStart.is (writes_both c.put.ensures (writes_same (c.as_bytes.ensures.value ∙ c.template_text.ensures) c.put-in-MessageStart.ensures))
 
 pub returns-in-Field : goal.returns-in-Field
-returns-in-Field g c = rw c.in-Field.is (writes_both (writes_both (writes_both c.put-in-Field.ensures c.put_node.ensures) c.put-in-Field-2.ensures) c.put_value.ensures)
+returns-in-Field g c = rw c.in-Field.is (writes_both c.put_field.ensures c.put_value.ensures)
 
 pub returns-in-GroupStart : goal.returns-in-GroupStart
-returns-in-GroupStart g c = rw c.in-GroupStart.is (writes_both c.put-in-GroupStart.ensures c.put_node-in-GroupStart.ensures)
+returns-in-GroupStart g c = rw c.in-GroupStart.is (writes_both c.put-in-GroupStart.ensures c.put_node.ensures)
 
 pub returns-in-SequenceStart : goal.returns-in-SequenceStart
 returns-in-SequenceStart g c = rw c.in-SequenceStart.is (writes_both (writes_both (writes_both c.put-in-SequenceStart.ensures c.put_node-in-SequenceStart.ensures) c.put-in-SequenceStart-2.ensures) (writes_same (ap decimal c.from.ensures) c.put_unsigned.ensures))

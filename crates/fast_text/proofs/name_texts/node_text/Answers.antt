@@ -1,6 +1,6 @@
 use Rattle.std.proofs.Common.{◌∙◌, sym, arith}
 use Rattle.fast_text.proofs.Names.{node_named, node_unnamed}
-use Rattle.fast_text.proofs.line_sink.node_text.Goals as goal
+use Rattle.fast_text.proofs.name_texts.node_text.Goals as goal
 
 pub returns-then-node-nodes : goal.returns-then-node-nodes
 returns-then-node-nodes c = c.as_str.ensures.value ∙ sym (node_named c.args.templates.now c.args.node c.node.result.now c.nodes.ensures.preorder c.node.ensures.found)

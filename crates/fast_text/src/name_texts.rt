@@ -1,0 +1,29 @@
+//! The names that a template set has for its nodes and templates.
+
+ghost use Rattle.std.specs.Prelude.{◌≡◌};
+ghost use Rattle.fast_template.specs.Flat.{tree_of};
+ghost use Rattle.fast_lines.specs.Lines.{template_name, node_name};
+
+use fast_template::Templates;
+
+/// The name of a template, or nothing if the set has no such template.
+pub(crate) fn template_text(templates: &Templates, template: u32) -> &str
+    ensures { result.now ≡ template_name (tree_of templates.now) template }
+{
+    if template < templates.count() {
+        templates.template(template).name.as_str()
+    } else {
+        ""
+    }
+}
+
+/// The name of a node, or nothing if the set has no such node.
+pub(crate) fn node_text(templates: &Templates, node: u32) -> &str
+    ensures { result.now ≡ node_name (tree_of templates.now) node }
+{
+    if node < templates.nodes() {
+        templates.node(node).name.as_str()
+    } else {
+        ""
+    }
+}
