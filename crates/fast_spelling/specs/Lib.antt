@@ -11,3 +11,4 @@ pub mod Again
 pub mod Refused
 pub mod Groups
 pub mod Usual
+pub mod Checked
