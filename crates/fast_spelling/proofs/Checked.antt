@@ -1,6 +1,6 @@
 -- What is accepted: of one slot more, of one element more, and by another name.
 use Rattle.std.proofs.Common.{◌≡◌, ℕ, ◌+◌, ◌<◌, ◌≤◌, List, length, drop, get_or, refl, ap, sym, subst, ◌∙◌, arith}
-use Rattle.std.specs.Prelude.{Option, Some, None, option_map}
+use Rattle.std.specs.Prelude.{Option, Some, None, option_map, Result, Ok, Err, OnOk}
 use Rattle.std.specs.declared.vec.Vec.{Vec}
 use Rattle.std.specs.declared.alloc.Global.{Global}
 use Rattle.std.proofs.lemmas.List.{drop_all}
@@ -50,3 +50,8 @@ no_row_fits l rs i past = rw (drop_all i rs past) tt
 
 pub no_row_total : (rs : List (Vec (Option Item) Global)) (i : ℕ) → length rs ≤ i → rows_total (elements_data (drop i rs)) ≡ 0
 no_row_total rs i past = rw (drop_all i rs past) refl
+
+-- what is so anyway is so where a call answers Ok
+pub on_any : {R E : Type 0} {A : Type 0} (r : Result R E) → A → OnOk r A
+on_any (Ok x) h = h
+on_any (Err e) h = tt

@@ -1,30 +1,70 @@
 //! Writing that looks at each value only once: whether it suits and fits is decided as it is written. What is refused here is looked at
 //! again from the front, by `suiting`, `measuring` and `writing`, for the fault that comes first.
 
-ghost use Rattle.std.specs.Prelude.{◌≡◌, ◌+◌, ◌<◌, ℕ, length, Some, OnOk, IfOk, IsTrue, option_map};
+ghost use Rattle.std.specs.Prelude.{◌≡◌, ◌+◌, ◌<◌, ◌≤◌, length, Some, OnOk, IfOk, IsTrue, option_map};
 ghost use Rattle.fast_value.specs.Messages.{total};
-ghost use Rattle.fast_value.specs.Views.{item_data, slots_data};
-ghost use Rattle.fast_template.specs.Flat.{nodes_of};
+ghost use Rattle.fast_value.specs.Views.{item_data, message_data, slots_data};
+ghost use Rattle.fast_template.specs.Flat.{nodes_of, tree_of};
 ghost use Rattle.fast_tree.specs.Numbers.{AreBelow};
 ghost use Rattle.fast_tree.specs.Bodies.{body_among, AreNodeWidths};
 ghost use Rattle.fast_spelling.specs.Checked.{IsAccepted};
-ghost use Rattle.fast_spelling.specs.Encoding.{Encodes, EncodesBody};
+ghost use Rattle.fast_spelling.specs.Encoding.{Encodes, EncodesBody, EncodesMessage};
 ghost use Rattle.fast_spelling.specs.Fields.{Wrote};
 ghost use Rattle.fast_spelling.specs.Nodes.{instruction_in, IsReady, Keeps};
-ghost use Rattle.fast_spelling.specs.Suiting.{SuitsBody, AreWithinLimits, IsRight};
+ghost use Rattle.fast_spelling.specs.Suiting.{IsKnownAs, SuitsTemplate, SuitsBody, FitsLimits, AreWithinLimits, IsRight};
 ghost use Rattle.fast_value.specs.Kinds.{text_of};
 ghost use Rattle.fast_value.specs.Values.{value_data};
-ghost use Rattle.std.specs.Prelude.{◌≤◌};
 
 use crate::draft::Draft;
 use crate::faults::EncodeFault;
 use crate::fields::write_field;
 use crate::ledger::Ledger;
 use crate::measuring::text_len;
+use crate::messages::{reset_if, write_identifier};
 use crate::parts::{write_absent, write_decimal};
 use crate::suiting::{is_right, may_be_absent};
 use fast_template::{Shape, Templates};
-use fast_value::{Item, Kind, Limits, Scalar, Value};
+use fast_value::{Item, Kind, Limits, Message, Scalar, Value};
+
+/// Writes a message whose template has this identifier, if it suits the template and the limits. The draft holds nothing else then.
+///
+/// # Errors
+///
+/// Something was refused, with any fault. Then the draft is of no use.
+pub fn try_message(
+    templates: &Templates,
+    limits: Limits,
+    widths: &[usize],
+    id: u32,
+    message: &Message,
+    draft: &mut Draft,
+    ledger: &mut Ledger,
+) -> Result<(), EncodeFault>
+    requires known { IsKnownAs (tree_of templates.now) (message_data message.now) id }
+    requires widths { AreNodeWidths (nodes_of templates.now) widths.now }
+    requires ready { IsReady templates.now limits ledger.old }
+    ensures suits { OnOk result (SuitsTemplate (tree_of templates.now) (message_data message.now)) }
+    ensures fits { OnOk result (FitsLimits limits (slots_data message.now.items.items)) }
+    ensures ok { OnOk result (EncodesMessage (tree_of templates.now) limits ledger.old.now (message_data message.now) draft.new.bytes.items ledger.new.now) }
+    ensures keeps { Keeps ledger.old ledger.new }
+{
+    let template = templates.template(message.template);
+    draft.clear();
+    let mark = draft.mark();
+    write_identifier(templates, limits, id, draft, ledger)?;
+    reset_if(template.reset, ledger);
+    try_body(
+        templates,
+        limits,
+        widths,
+        &template.body,
+        &message.items,
+        limits.max_total,
+        draft,
+        ledger,
+    )?;
+    draft.close(mark, true)
+}
 
 /// Writes the slots of the instructions of these nodes, if they suit and fit. Gives what the elements of their sequences leave of the room.
 ///
