@@ -95,7 +95,9 @@ pub fn try_body(
     }
     let mut left = room;
     for (i, slot) in slots.iter().enumerate() {
-        left = try_slot(templates, limits, widths, body[i], slot, left, draft, ledger)?;
+        left = try_slot(
+            templates, limits, widths, body[i], slot, left, draft, ledger,
+        )?;
     }
     Ok(left)
 }

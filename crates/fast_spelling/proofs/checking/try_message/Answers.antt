@@ -1,8 +1,6 @@
 -- A whole message, by its parts: it suits and fits as they do.
 use Rattle.std.proofs.Common.{ℕ, List, ap, sym, subst, ◌∙◌, ◌≤◌, arith}
 use Rattle.std.specs.Prelude.{length}
-use Rattle.std.specs.declared.option.Option.{Option}
-use Rattle.fast_value.specs.declared.messages.Item.{Item}
 use Rattle.fast_value.specs.Messages.{Slots, total}
 use Rattle.fast_value.specs.Views.{message_data, slots_data}
 use Rattle.fast_tree.specs.Bodies.{body_among}
