@@ -1,6 +1,7 @@
 //! The encoder: a dictionary with its template set and its limits.
 
-ghost use Rattle.std.specs.Prelude.{◌≡◌, ◌⊎◌, ◌↔◌, ℕ, length, IfOk, IfErr, OnOk, OnErr, IfSome, IfNone, Err, Some, slice_get};
+ghost use Rattle.std.specs.Prelude.{◌≡◌, ◌⊎◌, ◌↔◌, ℕ, length, IfOk, IfErr, OnOk, OnErr, IfSome, IfNone, IsTrue, Err, Some, slice_get};
+ghost use Rattle.std.specs.Bool.{IsFalse};
 ghost use Rattle.fast_value.specs.Views.{message_data, slots_data};
 ghost use Rattle.fast_tree.specs.Bodies.{AreNodeWidths};
 ghost use Rattle.fast_tree.specs.declared.instructions.Template.{Template};
@@ -18,6 +19,7 @@ ghost use Rattle.fast_encoder.specs.Encoders.{tree, IsEncoded, IsToldOf};
 use fast_decoder::MakeError;
 use fast_decoder::layout::{has_long_initial, measure};
 use fast_spelling::EncodeFault;
+use fast_spelling::checking::try_message;
 use fast_spelling::draft::Draft;
 use fast_spelling::ledger::Ledger;
 use fast_spelling::measuring::fits_limits;
@@ -105,6 +107,56 @@ impl<'t> Encoder<'t> {
         ensures ok { OnOk result (IsEncoded self.old (message_data message.now) out.old.items self.new out.new.items) }
         ensures err { IfErr result (IsToldOf self.old (message_data message.now)) }
         // A fault that stands is told, unless memory was refused.
+        ensures told { (c : EncodeFault) → IsRefused (tree self.old) self.old.limits self.old.dictionary (message_data message.now) c → (result ≡ Err c) ⊎ (result ≡ Err EncodeFault.Memory) }
+        ensures unchanged { OnErr result ((self.new ≡ self.old) × (out.new.items ≡ out.old.items)) }
+        ensures same_set { (self.new.set ≡ self.old.set) × (self.new.limits ≡ self.old.limits) }
+    {
+        if self.try_encode(message, out) {
+            return Ok(());
+        }
+        self.encode_in_order(message, out)
+    }
+
+    /// Appends the bytes of a message, of which each value is looked at as it is written. Where anything is refused, nothing has changed,
+    /// and which fault comes first is not said.
+    #[inline(always)]
+    fn try_encode(&mut self, message: &Message, out: &mut Vec<u8>) -> bool
+        ensures encoded { IsTrue result → IsEncoded self.old (message_data message.now) out.old.items self.new out.new.items }
+        ensures unchanged { IsFalse result → (self.new ≡ self.old) × (out.new.items ≡ out.old.items) }
+        ensures same_set { (self.new.set ≡ self.old.set) × (self.new.limits ≡ self.old.limits) }
+    {
+        let Some((_, id)) = known(self.templates, message) else {
+            return false;
+        };
+        let tried = try_message(
+            self.templates,
+            self.limits,
+            &self.widths,
+            id,
+            message,
+            &mut self.draft,
+            &mut self.ledger,
+        );
+        if let Err(_) = tried {
+            self.ledger.take_back();
+            return false;
+        }
+        if out.extend_from_slice(&self.draft.bytes).is_err() {
+            self.ledger.take_back();
+            return false;
+        }
+        self.ledger.commit();
+        true
+    }
+
+    /// Appends the bytes of a message, which is looked at as a whole, in the order of the faults, before it is written.
+    ///
+    /// # Errors
+    ///
+    /// As those of [`Encoder::encode`].
+    fn encode_in_order(&mut self, message: &Message, out: &mut Vec<u8>) -> Result<(), EncodeFault>
+        ensures ok { OnOk result (IsEncoded self.old (message_data message.now) out.old.items self.new out.new.items) }
+        ensures err { IfErr result (IsToldOf self.old (message_data message.now)) }
         ensures told { (c : EncodeFault) → IsRefused (tree self.old) self.old.limits self.old.dictionary (message_data message.now) c → (result ≡ Err c) ⊎ (result ≡ Err EncodeFault.Memory) }
         ensures unchanged { OnErr result ((self.new ≡ self.old) × (out.new.items ≡ out.old.items)) }
         ensures same_set { (self.new.set ≡ self.old.set) × (self.new.limits ≡ self.old.limits) }

@@ -31,3 +31,4 @@ pub mod Examples
 pub mod Groups
 pub mod Usual
 pub mod OneByte
+pub mod Checked

@@ -36,7 +36,7 @@ suits_step i is (Some x) vs h k = (h, k)
 
 -- Slots suit from a place on if the one there suits, and those behind it do. Whether they do decides for all.
 module _ (nodes : List Node) (body : List ℕ) (slots : List (Option Item)) (i : ℕ) (x : Option Item) (in_body : i < length body) (in_slots : i < length slots) (is : x ≡ get_or slots i x) where
-  one_suits : Suits (instruction_in nodes (slice_index body i)) (option_map item_data x) → SuitsBody (body_among nodes (drop (i + 1) body)) (slots_data (drop (i + 1) slots))
+  pub one_suits : Suits (instruction_in nodes (slice_index body i)) (option_map item_data x) → SuitsBody (body_among nodes (drop (i + 1) body)) (slots_data (drop (i + 1) slots))
       → SuitsBody (body_among nodes (drop i body)) (slots_data (drop i slots))
   one_suits h k = rw (body_next nodes body i in_body, slots_next slots i x in_slots is) (suits_step (instruction_in nodes (slice_index body i)) (body_among nodes (drop (i + 1) body)) (option_map item_data x) (slots_data (drop (i + 1) slots)) h k)
 

@@ -12,3 +12,4 @@ pub mod Refused
 pub mod Groups
 pub mod Usual
 pub mod Codes
+pub mod Checked

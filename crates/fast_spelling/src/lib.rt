@@ -1,6 +1,7 @@
 //! What the encoder of FAST streams writes for a message, its laws, and the functions that write the body of one.
 #![tactic(auto)]
 
+pub mod checking;
 pub mod draft;
 pub mod entry;
 pub mod faults;

@@ -70,7 +70,7 @@ fn room_after_sequence(limits: Limits, rows: &[Vec<Option<Item>>], room: u32) ->
 
 /// The length of a text, 0 of a number.
 #[inline(always)]
-fn text_len(value: &Value) -> usize
+pub fn text_len(value: &Value) -> usize
     ensures { result ≡ length (text_of (value_data value.now)) }
 {
     match value {

@@ -65,7 +65,7 @@ pub fn write_message(
 }
 
 /// Writes the template identifier (FAST 1.1, Transfer Encoding, Template Identifier).
-fn write_identifier(
+pub fn write_identifier(
     templates: &Templates,
     limits: Limits,
     id: u32,
@@ -94,7 +94,7 @@ fn identifier() -> FieldInstruction
 }
 
 /// Resets the dictionary, as a template with the key `reset` does behind the identifier.
-fn reset_if(resets: bool, ledger: &mut Ledger)
+pub fn reset_if(resets: bool, ledger: &mut Ledger)
     ensures now { ledger.new.now ≡ (if resets then reset ledger.old.now else ledger.old.now) }
     ensures keeps { Keeps ledger.old ledger.new }
 {

@@ -98,7 +98,7 @@ pub fn may_be_absent(templates: &Templates, node: u32) -> bool
 
 /// Whether the value is one of the kind.
 #[inline(always)]
-fn is_right(kind: Kind, value: &Value) -> bool
+pub fn is_right(kind: Kind, value: &Value) -> bool
     ensures { IsTrue result ↔ IsRight kind (value_data value.now) }
 {
     match value {

@@ -1,0 +1,41 @@
+-- What is written of the slots, and of the elements, so far; the whole suits and fits if the rest does.
+use Rattle.std.proofs.Common.{◌≡◌, ◌+◌, ◌*◌, drop}
+use Rattle.std.specs.Prelude.{option_map}
+use Rattle.fast_value.specs.Messages.{count, total, rows_total}
+use Rattle.fast_value.specs.Views.{item_data, slots_data, elements_data}
+use Rattle.fast_template.specs.Flat.{nodes_of}
+use Rattle.fast_tree.specs.Bodies.{body_among}
+use Rattle.fast_spelling.specs.Nodes.{IsReady, Keeps}
+use Rattle.fast_spelling.specs.Progress.{IsWritten, AreWritten}
+use Rattle.fast_spelling.specs.Suiting.{SuitsBody, AreRight, AreWithinLimits, RowsWithinLimits}
+use Rattle.fast_spelling.proofs.Depths.{item_depth, option_depth, slots_depth}
+use Rattle.fast_spelling.proofs.checking.+check.Given as goal
+
+abbrev pub invariant-try_body-loop-i : goal.invariant-try_body-loop-i
+invariant-try_body-loop-i l = record {
+  written : IsWritten l.limits (body_among (nodes_of l.templates) l.body) (slots_data l.slots) l.fn.ledger.now l.fn.draft (body_among (nodes_of l.templates) (drop l.i l.body)) (slots_data (drop l.i l.slots)) l.ledger.now l.draft;
+  suits : SuitsBody (body_among (nodes_of l.templates) (drop l.i l.body)) (slots_data (drop l.i l.slots)) → SuitsBody (body_among (nodes_of l.templates) l.body) (slots_data l.slots);
+  fits : AreWithinLimits l.limits (slots_data (drop l.i l.slots)) → AreWithinLimits l.limits (slots_data l.slots);
+  sum : l.left + total (slots_data l.slots) ≡ l.fn.room + total (slots_data (drop l.i l.slots));
+  ready : IsReady l.templates l.limits l.ledger;
+  keeps : Keeps l.fn.ledger l.ledger;
+}
+
+abbrev pub invariant-try_item-loop-row : goal.invariant-try_item-loop-row
+invariant-try_item-loop-row l = record {
+  written : AreWritten l.limits (body_among (nodes_of l.templates) l.body.items) (elements_data l.row-items) l.initial.ledger.now l.initial.draft (elements_data (drop l.row-index l.row-items)) l.ledger.now l.draft;
+  right : AreRight (SuitsBody (body_among (nodes_of l.templates) l.body.items)) (elements_data (drop l.row-index l.row-items)) → AreRight (SuitsBody (body_among (nodes_of l.templates) l.body.items)) (elements_data l.row-items);
+  fits : RowsWithinLimits l.limits (elements_data (drop l.row-index l.row-items)) → RowsWithinLimits l.limits (elements_data l.row-items);
+  sum : l.left + (count (elements_data l.row-items) + rows_total (elements_data l.row-items)) ≡ l.fn.room + rows_total (elements_data (drop l.row-index l.row-items));
+  ready : IsReady l.templates l.limits l.ledger;
+  keeps : Keeps l.fn.ledger l.ledger;
+}
+
+abbrev pub decreases-try_body : goal.decreases-try_body
+decreases-try_body l = 3 * slots_depth (slots_data l.slots.now) + 2
+
+abbrev pub decreases-try_slot : goal.decreases-try_slot
+decreases-try_slot l = 3 * option_depth (option_map item_data l.slot.now) + 1
+
+abbrev pub decreases-try_item : goal.decreases-try_item
+decreases-try_item l = 3 * item_depth (item_data l.item.now)
