@@ -3,12 +3,11 @@ use Rattle.std.proofs.Common.{◌≡◌, ◌≢◌, ℕ, List, [], ◌∷◌, �
 use Rattle.std.specs.Prelude.{All, Option, Some, None, IfSome, option_map}
 use Rattle.std.proofs.Math.Logic.{∥∥₁_elim}
 use Rattle.fast_value.specs.Messages.{ItemData, one, group as group_item, sequence as sequence_item}
-use Rattle.fast_value.specs.Kinds.{Dec, U, I, AsciiText, UnicodeText, ByteVector}
 use Rattle.std.proofs.lemmas.List.Elements.{All-head, All-tail}
 use Rattle.fast_tree.specs.Tree.{Instruction, field, parts, group, sequence, Tree}
-use Rattle.fast_stream.specs.Events.{EventData, MessageStart, FieldValue, GroupStart, GroupEnd, SequenceStart, ElementStart, ElementEnd, SequenceEnd, MessageEnd, item_events}
+use Rattle.fast_stream.specs.Events.{EventData, FieldValue, GroupStart, SequenceStart, item_events}
 use Rattle.fast_lines.specs.declared.forms.Line.{Line}
-use Rattle.fast_lines.specs.Forms.{LineData, IsForm, line_data, text_of_line, line_of_event}
+use Rattle.fast_lines.specs.Forms.{IsForm, line_data, text_of_line, line_of_event}
 use Rattle.fast_lines.proofs.OneLine.{same_line}
 use Rattle.fast_spelling.specs.Suiting.{Suits}
 use Rattle.fast_lines.specs.Lines.{line_of, lines}
@@ -52,12 +51,15 @@ split_lines t (e ∷ read) (f ∷ es) rest d a b h =
 
 pub due_behind : (t : Tree) (read es : List EventData) (a b : Cursor) → HasDistinctNames t → All (IsLined t) read → IsSaid t read a b → IsDue t es a → (fs : List EventData) × (es ≡ read ++ fs) × IsDue t fs b
 due_behind t read es a b d lined said due =
-    let split = split_lines t read es (ahead b) d lined due.lined (sym said.text ∙ due.text) in
-    (split.0, split.1, record {
-      lined = behind (IsLined t) read split.0 (subst (All (IsLined t)) split.1 due.lined);
-      shown = behind IsShown read split.0 (subst (All IsShown) split.1 due.shown);
-      text = split.2;
-    })
+    let split = split_lines t read es (ahead b) d lined due.lined (sym said.text ∙ due.text) in (
+      split.0,
+      split.1,
+      record {
+        lined = behind (IsLined t) read split.0 (subst (All (IsLined t)) split.1 due.lined);
+        shown = behind IsShown read split.0 (subst (All IsShown) split.1 due.shown);
+        text = split.2;
+      },
+    )
 
 -- The line ahead is that of the first event that is due.
 first_line : (line : Option Line) (rest : List ℕ) (t : Tree) (e : EventData) (es : List EventData) → IfSome line (λ l. IsForm (line_data l)) → IsOneLine line → IsLined t e → text_from line rest ≡ lines t (e ∷ es) → option_map line_data line ≡ Some (line_of_event t e)

@@ -1,16 +1,15 @@
 -- What may be due of a body, behind what was read of it.
-use Rattle.std.proofs.Common.{◌≡◌, ◌≢◌, ℕ, List, [], ◌∷◌, ◌++◌, refl, sym, ap, subst, ◌∙◌, append_assoc}
-use Rattle.std.specs.Prelude.{All, Option, Some, None, option_map}
+use Rattle.std.proofs.Common.{◌≡◌, ◌≢◌, ℕ, List, [], ◌∷◌, ◌++◌, sym, subst, append_assoc}
+use Rattle.std.specs.Prelude.{Option, Some, None, option_map}
 use Rattle.fast_value.specs.Messages.{ItemData, Slots, no_slots, absent, present}
-use Rattle.fast_tree.specs.Tree.{Instruction, Body, end, step, Tree}
+use Rattle.fast_tree.specs.Tree.{Instruction, Body, step, Tree}
 use Rattle.fast_notation.specs.Labels.{labels}
 use Rattle.fast_stream.specs.Events.{EventData, MessageStart, FieldValue, GroupStart, GroupEnd, SequenceStart, ElementStart, ElementEnd, SequenceEnd, MessageEnd, item_events, body_events}
 use Rattle.fast_lines.specs.declared.forms.Line.{Line}
-use Rattle.fast_lines.specs.Forms.{LineData, line_data, text_of_line, line_of_event}
+use Rattle.fast_lines.specs.Forms.{line_data, text_of_line, line_of_event}
 use Rattle.fast_spelling.specs.Suiting.{Suits, SuitsBody}
 use Rattle.fast_reading.specs.declared.cursors.Cursor.{Cursor}
 use Rattle.fast_reading.specs.Ahead.{text_from}
-use Rattle.fast_reading.specs.Cursors.{ahead}
 use Rattle.fast_reading.specs.Distinct.{number, HasNone, IsDistinct}
 use Rattle.fast_reading.specs.Lined.{HasDistinctNames}
 use Rattle.fast_reading.specs.declared.endings.Ending.{Ending}

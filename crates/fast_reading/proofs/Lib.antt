@@ -1,3 +1,4 @@
+pub mod Back
 pub mod Bodies
 pub mod Closed
 pub mod Due

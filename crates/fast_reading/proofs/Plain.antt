@@ -1,8 +1,8 @@
 -- What is plain of a whole is so of its parts.
-use Rattle.std.proofs.Common.{◌≡◌, ℕ, ◌∷◌, sym, subst}
-use Rattle.std.specs.Prelude.{slice_get, Some, true, false}
+use Rattle.std.proofs.Common.{◌≡◌, ℕ}
+use Rattle.std.specs.Prelude.{slice_get, Some}
 use Rattle.std.proofs.lemmas.List.Elements.{All-tail}
-use Rattle.fast_tree.specs.Tree.{Label, FieldData, Instruction, group, sequence, Body, step, TemplateData, Tree}
+use Rattle.fast_tree.specs.Tree.{Label, FieldData, Instruction, sequence, Body, step, TemplateData, Tree}
 use Rattle.fast_notation.specs.Labels.{labels, body_labels}
 use Rattle.fast_reading.specs.Distinct.{HasDistinctBodies}
 use Rattle.fast_reading.specs.Lined.{IsNamed, HasNames, HasDistinctNames}

@@ -4,7 +4,7 @@ use Rattle.std.specs.Prelude.{Bool, Some, None, option_map}
 use Rattle.std.proofs.lemmas.List.Elements.{All-head, All-tail}
 use Rattle.fast_value.specs.declared.values.Value.{Value}
 use Rattle.fast_value.specs.Kinds.{ScalarData}
-use Rattle.fast_value.specs.Messages.{ItemData, one, group as group_item, sequence as sequence_item, Slots, Elements, count}
+use Rattle.fast_value.specs.Messages.{ItemData, one, group as group_item, sequence as sequence_item, count}
 use Rattle.fast_value.specs.Values.{value_data}
 use Rattle.fast_tree.specs.Tree.{Label, FieldData, Instruction, field, parts, group, sequence, Body, Tree}
 use Rattle.fast_notation.specs.Labels.{body_labels}
@@ -24,7 +24,7 @@ use Rattle.fast_reading.specs.Distinct.{number}
 use Rattle.fast_reading.specs.Lined.{IsNamed, IsTold, IsLined}
 use Rattle.fast_reading.specs.Naming.{IsValue, end_event}
 use Rattle.fast_reading.specs.Refusing.{IsDue, HasNoNext}
-use Rattle.fast_reading.specs.Unsaid.{IsPlainItem, IsPlainBody, HasNoItem, HasNoBody, HasNoRows}
+use Rattle.fast_reading.specs.Unsaid.{IsPlainBody, HasNoItem, HasNoBody, HasNoRows}
 use Rattle.fast_reading.proofs.Due.{due_line, lines_are, item_first}
 use Rattle.fast_reading.proofs.NoFeeds.{line_lacks}
 use Rattle.fast_reading.proofs.OneEvent.{line_is}
@@ -102,9 +102,9 @@ wrong_value t i w c k has told never plain x es h due =
     let own = value_due t i x v es c k is due in
     due_line t (FieldValue (number i) v) es c own
     (λ (line : option_map line_data c.line ≡ Some (field_line (number i) (node_name t (number i)) (written v))).
-      let text : written v ≡ written (value_data w) = c.told (number i) (node_name t (number i)) (written v) w line has in
-      let same : v ≡ value_data w = told_value v (value_data w) (All-head (IsLined t) (FieldValue (number i) v) es own.lined).1 told text in
-      never (subst (λ (z : ScalarData). Suits i (Some (one z))) same (subst (λ (z : ItemData). Suits i (Some z)) is h)))
+    let text : written v ≡ written (value_data w) = c.told (number i) (node_name t (number i)) (written v) w line has in
+    let same : v ≡ value_data w = told_value v (value_data w) (All-head (IsLined t) (FieldValue (number i) v) es own.lined).1 told text in
+    never (subst (λ (z : ScalarData). Suits i (Some (one z))) same (subst (λ (z : ItemData). Suits i (Some z)) is h)))
 
 no_group : (t : Tree) (l : Label) (optional : Bool) (body : Body) (c mid : Cursor) → Advances c mid → HasNoBody t body Ends.Group mid → HasNoItem t (group l optional body) c
 no_group t l optional body c mid a none plain (one v) es h due = absurd h
@@ -126,7 +126,7 @@ no_sequence t l f body many c mid counts a none plain (sequence_item rows) es h 
     let behind = element_events (body_events body) rows ++ SequenceEnd ∷ es in
     due_line t (SequenceStart l.node (count rows)) behind c own
     (λ (line : option_map line_data c.line ≡ Some (sequence_line l.node (node_name t l.node) (count rows))).
-      due_next t (SequenceStart l.node (count rows)) behind c mid a own (λ later. none (plain_sequence t l f body plain) rows es h.0 (sym (counts l.node (node_name t l.node) (count rows) line)) later))
+    due_next t (SequenceStart l.node (count rows)) behind c mid a own (λ later. none (plain_sequence t l f body plain) rows es h.0 (sym (counts l.node (node_name t l.node) (count rows) line)) later))
 
 pub sequence_refused : (t : Tree) (i : Instruction) (l : Label) (f : FieldData) (body : Body) (many : ℕ) (c mid : Cursor) → i ≡ sequence l f body → ((m : ℕ) (name : List ℕ) (k : ℕ) → option_map line_data c.line ≡ Some (sequence_line m name k) → many ≡ k) → Advances c mid → HasNoRows t body many mid → HasNoItem t i c
 sequence_refused t i l f body many c mid is counts a none = subst (λ (z : Instruction). HasNoItem t z c) (sym is) (no_sequence t l f body many c mid counts a none)

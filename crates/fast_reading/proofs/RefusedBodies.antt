@@ -1,25 +1,25 @@
 -- What is not due of a body and of elements, where a line of theirs is at fault.
-use Rattle.std.proofs.Common.{◌≡◌, ℕ, ◌+◌, ◌<◌, List, [], ◌∷◌, ◌++◌, length, refl, sym, ap, subst, ◌∙◌, append_assoc, arith}
+use Rattle.std.proofs.Common.{◌≡◌, ℕ, ◌+◌, ◌<◌, List, ◌∷◌, ◌++◌, length, refl, sym, ap, subst, ◌∙◌, arith}
 use Rattle.std.specs.Prelude.{Option, Some, None, option_map}
 use Rattle.std.specs.declared.vec.Vec.{Vec}
 use Rattle.std.specs.declared.alloc.Global.{Global}
 use Rattle.fast_value.specs.declared.messages.Item.{Item}
-use Rattle.fast_value.specs.Messages.{ItemData, Slots, no_slots, absent, present, Elements, no_elements, element, count}
+use Rattle.fast_value.specs.Messages.{Slots, no_slots, absent, present, Elements, no_elements, element, count}
 use Rattle.fast_value.specs.Views.{elements_data}
 use Rattle.fast_value.proofs.ItemViews.{count-elements_data}
 use Rattle.fast_tree.specs.Tree.{Instruction, Body, end, step, Tree}
-use Rattle.fast_stream.specs.Events.{EventData, ElementStart, ElementEnd, SequenceEnd, element_events, item_events, body_events}
-use Rattle.fast_lines.specs.Forms.{LineData, line_data, line_of_event, element as element_line, sequence_end}
+use Rattle.fast_stream.specs.Events.{EventData, ElementStart, ElementEnd, SequenceEnd, element_events, body_events}
+use Rattle.fast_lines.specs.Forms.{line_data, line_of_event, element as element_line, sequence_end}
 use Rattle.fast_spelling.specs.Suiting.{AreRight, Suits, SuitsBody}
 use Rattle.fast_reading.specs.declared.cursors.Cursor.{Cursor}
 use Rattle.fast_reading.specs.declared.endings.Ending.{Ending}
 use Rattle.fast_reading.specs.declared.endings.Ending.TheVariants as Ends
 use Rattle.fast_reading.specs.Cursors.{Advances}
-use Rattle.fast_reading.specs.Distinct.{number, HasNone}
+use Rattle.fast_reading.specs.Distinct.{number}
 use Rattle.fast_reading.specs.Naming.{Names, end_event, end_line}
 use Rattle.fast_reading.specs.Progress.{IsReadTo, AreReadTo}
 use Rattle.fast_reading.specs.Refusing.{IsDue, HasNoNext}
-use Rattle.fast_reading.specs.Unsaid.{IsPlainBody, IsLeft, HasNoBody, HasNoItem, HasNoRows}
+use Rattle.fast_reading.specs.Unsaid.{IsPlainBody, HasNoBody, HasNoItem, HasNoRows}
 use Rattle.fast_reading.proofs.Due.{due_behind, due_line}
 use Rattle.fast_reading.proofs.Left.{ended, grouped, passed, not_lacking, no_item_due}
 use Rattle.fast_reading.proofs.LinedEvents.{body_lined, rows_lined}

@@ -1,5 +1,5 @@
 -- What is not due of messages, where a line of theirs is at fault.
-use Rattle.std.proofs.Common.{◌≡◌, ◌≢◌, ℕ, List, [], ◌∷◌, ◌++◌, refl, sym, ap, subst, ◌∙◌, append_assoc}
+use Rattle.std.proofs.Common.{◌≡◌, ◌≢◌, ℕ, List, [], ◌∷◌, ◌++◌, sym, ap, subst, ◌∙◌, append_assoc}
 use Rattle.std.specs.Prelude.{All, flat_map, slice_get, IsUtf8, IsSome, Option, Some, None, option_map, string_bytes}
 use Rattle.std.proofs.lemmas.List.Elements.{All-head, All-tail}
 use Rattle.fast_value.specs.Messages.{MessageData}
@@ -11,7 +11,7 @@ use Rattle.fast_template.specs.declared.sets.Templates.{Templates}
 use Rattle.fast_template.specs.Flat.{nodes_of, templates_of, tree_of}
 use Rattle.fast_stream.specs.Events.{EventData, MessageStart, MessageEnd, body_events, events}
 use Rattle.fast_lines.specs.declared.forms.Line.{Line}
-use Rattle.fast_lines.specs.Forms.{LineData, message, line_data, text_of_line}
+use Rattle.fast_lines.specs.Forms.{message, line_data, text_of_line}
 use Rattle.fast_lines.specs.Lines.{lines, template_name}
 use Rattle.fast_spelling.specs.Suiting.{SuitsTemplate}
 use Rattle.fast_reading.specs.declared.cursors.Cursor.{Cursor}
@@ -21,7 +21,7 @@ use Rattle.fast_reading.specs.Cursors.{ahead, Advances}
 use Rattle.fast_reading.specs.Distinct.{HasDistinctBodies}
 use Rattle.fast_reading.specs.Lined.{IsLined}
 use Rattle.fast_reading.specs.Progress.{AreMessagesRead}
-use Rattle.fast_reading.specs.Reading.{closed, Says}
+use Rattle.fast_reading.specs.Reading.{closed}
 use Rattle.fast_reading.specs.Refusing.{IsDue, HasNoNext}
 use Rattle.fast_reading.specs.Unsaid.{HasNoBody, HasNoMessage, SaysNothing}
 use Rattle.fast_reading.proofs.Due.{behind, due_line, no_line, split_lines}
@@ -48,8 +48,8 @@ no_template s c name line none distinct names m es (u, found, h) due =
     let (w, there, is) = map_get_back (template_data (instructions_from 0 (nodes_of s))) (templates_of s) m.template u found in
     due_line t (MessageStart m.template) (body_events u.body m.slots ++ MessageEnd ∷ es) c (message_due t m u es c found due)
     (λ (own : option_map line_data c.line ≡ Some (message (template_name t m.template))).
-      let same : name ≡ u.name = same_message name (template_name t m.template) (sym line ∙ own) ∙ name_is t m.template u found in
-      none (subst IsUtf8 (sym same) (named u.name (names.templates m.template u found))) m.template w there (ap (λ (z : TemplateData). z.name) (sym is) ∙ sym same))
+    let same : name ≡ u.name = same_message name (template_name t m.template) (sym line ∙ own) ∙ name_is t m.template u found in
+    none (subst IsUtf8 (sym same) (named u.name (names.templates m.template u found))) m.template w there (ap (λ (z : TemplateData). z.name) (sym is) ∙ sym same))
 
 -- No slots of the template that the line names are due.
 pub no_slots_due : (t : Tree) (n : ℕ) (u : TemplateData) (c mid : Cursor) → HasDistinctBodies t → slice_get t.templates n ≡ Some u → option_map line_data c.line ≡ Some (message u.name) → Advances c mid → HasNoBody t u.body Ends.Message mid → HasNoMessage t c
@@ -58,12 +58,12 @@ no_slots_due t n u c mid bodies here line a none distinct names m es (w, found, 
     let own = message_due t m w es c found due in
     due_line t (MessageStart m.template) tail c own
     (λ (is : option_map line_data c.line ≡ Some (message (template_name t m.template))).
-      let name : u.name ≡ w.name = same_message u.name (template_name t m.template) (sym line ∙ is) ∙ name_is t m.template w found in
-      let number : n ≡ m.template = distinct n m.template u w here found name in
-      let both : Some u ≡ Some w = sym here ∙ ap (slice_get t.templates) number ∙ found in
-      let same : u ≡ w = cc (both) in
-      due_next t (MessageStart m.template) tail c mid a own
-      (λ later. subst (λ (z : TemplateData). HasNoBody t z.body Ends.Message mid) same none (plain_template t m.template w distinct bodies names found) m.slots es h later))
+    let name : u.name ≡ w.name = same_message u.name (template_name t m.template) (sym line ∙ is) ∙ name_is t m.template w found in
+    let number : n ≡ m.template = distinct n m.template u w here found name in
+    let both : Some u ≡ Some w = sym here ∙ ap (slice_get t.templates) number ∙ found in
+    let same : u ≡ w = cc (both) in
+    due_next t (MessageStart m.template) tail c mid a own
+    (λ later. subst (λ (z : TemplateData). HasNoBody t z.body Ends.Message mid) same none (plain_template t m.template w distinct bodies names found) m.slots es h later))
 
 pub text_refused : (t : Tree) (text : List ℕ) → HasNoLines (closed text) → SaysNothing t text
 text_refused t text none distinct names ms shown s = none t (flat_map (events t) ms) (messages_lined t ms names s.suit) shown s.same

@@ -1,4 +1,5 @@
 pub mod Ahead
+pub mod Back
 pub mod Cursors
 pub mod Distinct
 pub mod Lined

@@ -1,6 +1,9 @@
 //! Laws of lines and messages. They speak of the definitions alone, over all sets, messages and texts.
 
-ghost use Rattle.std.specs.Prelude.{◌≡◌, ℕ, List, All, flat_map};
+ghost use Rattle.std.specs.Prelude.{◌≡◌, ℕ, List, All, Result, flat_map};
+ghost use Rattle.std.specs.declared.alloc.Global.{Global};
+ghost use Rattle.std.specs.declared.vec.Vec.{Vec};
+ghost use Rattle.fast_value.specs.declared.messages.Message.{Message};
 ghost use Rattle.fast_value.specs.Messages.{MessageData};
 ghost use Rattle.fast_tree.specs.declared.instructions.Node.{Node};
 ghost use Rattle.fast_tree.specs.Tree.{Tree};
@@ -10,7 +13,10 @@ ghost use Rattle.fast_lines.specs.Lines.{lines};
 ghost use Rattle.fast_spelling.specs.Suiting.{SuitsTemplate};
 ghost use Rattle.fast_reading.specs.Distinct.{HasDistinctBodies};
 ghost use Rattle.fast_reading.specs.Lined.{IsLined, HasNames, HasDistinctNames};
-ghost use Rattle.fast_reading.specs.Reading.{Says};
+ghost use Rattle.fast_reading.specs.declared.faults.TextFault.{TextFault};
+ghost use Rattle.fast_reading.specs.Ahead.{IsShown};
+ghost use Rattle.fast_reading.specs.Back.{IsRead, IsReadAs};
+ghost use Rattle.fast_reading.specs.Reading.{closed, Says};
 
 /// Events are those of one list of messages.
 pub fn one_list()
@@ -34,4 +40,17 @@ pub fn one_list_of_events()
 pub fn one_reading()
     ensures { (t : Tree) (text : List ℕ) (ms ns : List MessageData) → HasDistinctBodies t
         → HasDistinctNames t → HasNames t → Says t text ms → Says t text ns → ms ≡ ns }
+{}
+
+/// Lines of messages are read as these messages, where memory is given.
+pub fn lines_are_read_back()
+    // Read is what `read_lines` ensures of its result by `ok` and `err`.
+    ensures { (t : Tree) (ms : List MessageData) (text : List ℕ) (r : Result (Vec Message Global) TextFault) → HasDistinctBodies t
+        → HasDistinctNames t → HasNames t → All (SuitsTemplate t) ms → All IsShown (flat_map (events t) ms)
+        → closed text ≡ lines t (flat_map (events t) ms) → IsRead t text r → IsReadAs ms r }
+{}
+
+/// Lines of events are a text whose last line has its LF.
+pub fn lines_are_closed()
+    ensures { (t : Tree) (es : List EventData) → closed (lines t es) ≡ lines t es }
 {}

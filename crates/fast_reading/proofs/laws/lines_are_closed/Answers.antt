@@ -1,0 +1,5 @@
+use Rattle.fast_reading.proofs.Back.{lines_closed}
+use Rattle.fast_reading.proofs.laws.lines_are_closed.Goals as goal
+
+pub returns : goal.returns
+returns c = lines_closed
