@@ -152,7 +152,14 @@ fn each_event_is_its_line(rt: HostRuntime) -> Result<(), Fail> {
     for room in 0..12 {
         let mut cells = [0; 12];
         let front = &b"message T15\n"[..room];
-        let stops = is_written(&set, None, &mut cells[..room], &EVENTS[..1], Err(Stop), front);
+        let stops = is_written(
+            &set,
+            None,
+            &mut cells[..room],
+            &EVENTS[..1],
+            Err(Stop),
+            front,
+        );
         assert!(rt; stops, "in {room}");
     }
     Ok(())
@@ -214,7 +221,14 @@ fields = [{kind="uInt32", name="abcdefghijklmnopqrstuvwxyzabcdefghijklmnopqrstuv
     let set = Templates::read(rt.alloc(), text)?;
     let fronts = Fronts::new(rt.alloc(), &set)?;
     let line = b"field 0 abcdefghijklmnopqrstuvwxyzabcdefghijklmnopqrstuvwxyz u 5\n";
-    let is_written = is_written(&set, Some(&fronts), &mut [0; 512], &EVENTS[1..2], Ok(()), line);
+    let is_written = is_written(
+        &set,
+        Some(&fronts),
+        &mut [0; 512],
+        &EVENTS[1..2],
+        Ok(()),
+        line,
+    );
     assert!(rt; is_written);
     Ok(())
 }
