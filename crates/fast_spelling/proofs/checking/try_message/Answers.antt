@@ -1,5 +1,5 @@
 -- A whole message, by its parts: it suits and fits as they do.
-use Rattle.std.proofs.Common.{ℕ, List, ap, sym, subst, ◌∙◌, ◌≤◌, arith}
+use Rattle.std.proofs.Common.{ℕ, List, ap, subst, ◌∙◌, ◌≤◌, arith}
 use Rattle.std.specs.Prelude.{length}
 use Rattle.fast_value.specs.Messages.{Slots, total}
 use Rattle.fast_value.specs.Views.{message_data, slots_data}
