@@ -22,7 +22,7 @@ written_as : (all : List DeclaredTemplate) (entries : List Entry) (k : ℕ) (ts 
 written_as all entries k [] n [] m j u h found = absurd (cc (found))
 written_as all entries k [] n (w ∷ us) m j u h found = absurd h
 written_as all entries k (d ∷ ts) n [] m j u h found = absurd h
-written_as all entries k (d ∷ ts) n (w ∷ us) m zero u (mid, name, rest) found = (d, refl, ap (λ (z : TemplateData). z.name) (sym (first_is w u found)) ∙ name)
+written_as all entries k (d ∷ ts) n (w ∷ us) m zero u (mid, name, id, reset, inner, later) found = (d, refl, ap (λ (z : TemplateData). z.name) (sym (first_is w u found)) ∙ name)
 written_as all entries k (d ∷ ts) n (w ∷ us) m (suc j) u (mid, name, id, reset, inner, later) found = written_as all entries (suc k) ts mid us m j u later found
 
 order : (j k : ℕ) → (j < k) ⊎ ((j ≡ k) ⊎ (k < j))
