@@ -21,5 +21,6 @@ pub mod Refused
 pub mod RefusedBodies
 pub mod RefusedMessages
 pub mod Said
+pub mod SetNames
 pub mod Told
 pub mod ToldValues

@@ -7,6 +7,8 @@ ghost use Rattle.fast_value.specs.declared.messages.Message.{Message};
 ghost use Rattle.fast_value.specs.Messages.{MessageData};
 ghost use Rattle.fast_tree.specs.declared.instructions.Node.{Node};
 ghost use Rattle.fast_tree.specs.Tree.{Tree};
+ghost use Rattle.toml.specs.Data.{Members};
+ghost use Rattle.fast_notation.specs.Checked.{IsTree};
 ghost use Rattle.fast_notation.specs.Labels.{template_labels, labels_from};
 ghost use Rattle.fast_stream.specs.Events.{EventData, events};
 ghost use Rattle.fast_lines.specs.Lines.{lines};
@@ -53,4 +55,10 @@ pub fn lines_are_read_back()
 /// Lines of events are a text whose last line has its LF.
 pub fn lines_are_closed()
     ensures { (t : Tree) (es : List EventData) → closed (lines t es) ≡ lines t es }
+{}
+
+/// No two templates of a set that was read have one name.
+pub fn distinct_names()
+    // IsTree is what `Templates::read` ensures of the set.
+    ensures { (document : Members) (t : Tree) → IsTree document t → HasDistinctNames t }
 {}
