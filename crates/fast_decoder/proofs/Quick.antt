@@ -18,7 +18,7 @@ use Rattle.fast_units.specs.Taking.{Waits, Quiet, Turns}
 use Rattle.fast_decoder.specs.Moving.{Moves}
 use Rattle.fast_decoder.specs.Quick.{IsTakenTo}
 use Rattle.fast_decoder.specs.Positions.{Set, tree_in, CanTake, CanTurn, GoesOn, IsReady, IsSupplied, IsTurn, turning, meaning}
-use Rattle.fast_decoder.specs.TurnsLeft.{Way, HasTurnsBehind, HasTurnsWaiting, turns_begun_at}
+use Rattle.fast_decoder.specs.TurnsLeft.{Way, HasTurns, HasTurnsBehind, HasTurnsWaiting, turns_begun_at}
 use Rattle.fast_decoder.specs.declared.machine.Machine.{Machine}
 use Rattle.fast_decoder.specs.declared.quick_units.Quick.{Quick}
 use Rattle.fast_decoder.specs.declared.machine.Waiting.{Waiting}
@@ -141,3 +141,9 @@ pub can_turn_on : (set : Set) (l : Limits) (m : Machine) (turn : Turn) → (turn
 can_turn_on set l m Silent on h = h
 can_turn_on set l m Handed on h = h
 can_turn_on set l m TurnWaits on h = absurd (on refl)
+
+-- It has the turns that are left there.
+pub has_turns_on : (set : Set) (l : Limits) (m : Machine) (way : Way) (n : ℕ) (turn : Turn) → (turn ≡ TurnWaits → ⊥) → HasTurnsBehind (Ok turn) way set l n m → HasTurns way set l 0 n m
+has_turns_on set l m way n Silent on h = h
+has_turns_on set l m way n Handed on h = h
+has_turns_on set l m way n TurnWaits on h = absurd (on refl)

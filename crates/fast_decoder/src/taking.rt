@@ -696,8 +696,7 @@ impl<'t> Machine<'t> {
             Err(code) => Err(code),
             Ok(turn) => match turn {
                 Turn::Waits => Ok(()),
-                Turn::Silent => self.settle(templates, limits, sink),
-                Turn::Handed => self.settle(templates, limits, sink),
+                _ => self.settle(templates, limits, sink),
             },
         }
     }
@@ -752,6 +751,27 @@ impl<'t> Machine<'t> {
         }
     }
 
+    /// Takes one unit, or as much of it as there is: in the quick way if it is one for that, else in the general one.
+    #[inline(always)]
+    fn take_next<S: Sink>(
+        &mut self,
+        templates: &'t Templates,
+        limits: Limits,
+        rest: &[u8],
+        sink: &mut S,
+    ) -> Quick
+        requires ready { IsReady (set_of templates.now) limits self.old }
+        requires some { 0 < length rest.now }
+        ensures taken { IsTakenTo S.takes S.stops (set_of templates.now) limits (meaning (set_of templates.now) limits self.old) rest.now sink.old result.bytes result.turn sink.new self.new }
+        ensures turns { (way : Way) (n : ℕ) → HasTurnsWaiting way (set_of templates.now) limits n self.old
+            → HasTurnsBehind result.turn way (set_of templates.now) limits (1 + n + turns_begun_at self.old.waiting self.old.cursor.map way (tree_in (set_of templates.now)) limits) self.new }
+    {
+        match self.take_quickly(templates, limits, rest, sink) {
+            Some(quick) => quick,
+            None => self.take_unit(templates, limits, rest, sink),
+        }
+    }
+
     /// Takes the units of a piece, up to its end, a fault, or where the sink stops.
     #[inline(never)]
     pub fn take_all<S: Sink>(
@@ -774,15 +794,7 @@ impl<'t> Machine<'t> {
         let mut bytes = 0;
         while bytes < piece.len() {
             let rest = &piece[bytes..];
-            if let Some(quick) = self.take_quickly(templates, limits, rest, sink) {
-                bytes += quick.bytes;
-                let outcome = self.go_on(templates, limits, quick.turn, sink);
-                if outcome.is_err() {
-                    return Taken { bytes, outcome };
-                }
-                continue;
-            }
-            let quick = self.take_unit(templates, limits, rest, sink);
+            let quick = self.take_next(templates, limits, rest, sink);
             bytes += quick.bytes;
             let outcome = self.go_on(templates, limits, quick.turn, sink);
             if outcome.is_err() {
