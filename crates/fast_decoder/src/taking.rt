@@ -72,6 +72,14 @@ impl Quick {
         }
     }
 
+    /// Whether the machine waits behind the unit.
+    #[inline(always)]
+    fn waits(&self) -> bool
+        ensures { result ≡ true → self.now.turn ≡ Ok Turn.Waits }
+    {
+        matches!(self.turn, Ok(Turn::Waits))
+    }
+
     /// So many bytes, of which the last decides a fault.
     #[inline]
     fn wrong(code: Code, bytes: usize) -> Quick
@@ -751,27 +759,6 @@ impl<'t> Machine<'t> {
         }
     }
 
-    /// Takes one unit, or as much of it as there is: in the quick way if it is one for that, else in the general one.
-    #[inline(always)]
-    fn take_next<S: Sink>(
-        &mut self,
-        templates: &'t Templates,
-        limits: Limits,
-        rest: &[u8],
-        sink: &mut S,
-    ) -> Quick
-        requires ready { IsReady (set_of templates.now) limits self.old }
-        requires some { 0 < length rest.now }
-        ensures taken { IsTakenTo S.takes S.stops (set_of templates.now) limits (meaning (set_of templates.now) limits self.old) rest.now sink.old result.bytes result.turn sink.new self.new }
-        ensures turns { (way : Way) (n : ℕ) → HasTurnsWaiting way (set_of templates.now) limits n self.old
-            → HasTurnsBehind result.turn way (set_of templates.now) limits (1 + n + turns_begun_at self.old.waiting self.old.cursor.map way (tree_in (set_of templates.now)) limits) self.new }
-    {
-        match self.take_quickly(templates, limits, rest, sink) {
-            Some(quick) => quick,
-            None => self.take_unit(templates, limits, rest, sink),
-        }
-    }
-
     /// Takes the units of a piece, up to its end, a fault, or where the sink stops.
     #[inline(never)]
     pub fn take_all<S: Sink>(
@@ -794,7 +781,16 @@ impl<'t> Machine<'t> {
         let mut bytes = 0;
         while bytes < piece.len() {
             let rest = &piece[bytes..];
-            let quick = self.take_next(templates, limits, rest, sink);
+            let quick = match self.take_quickly(templates, limits, rest, sink) {
+                Some(quick) => {
+                    if quick.waits() {
+                        bytes += quick.bytes;
+                        continue;
+                    }
+                    quick
+                }
+                None => self.take_unit(templates, limits, rest, sink),
+            };
             bytes += quick.bytes;
             let outcome = self.go_on(templates, limits, quick.turn, sink);
             if outcome.is_err() {
