@@ -43,8 +43,8 @@ returns-then-is_err-clause-fed g c =
     let rest : List ℕ = take (length c.args.piece.now - c.loop-bytes.bytes) (drop c.loop-bytes.bytes c.args.piece.now) in
     let u = c.match-take_quickly in
     let unit : IsUnitTo takes stops set l m rest c.loop-bytes.sink u.quick u.sink u.self = elim u.branch [
-      in-Some+else-waits w ↦ unit_as takes stops set l m m rest refl refl w.quick-is w.sink-is w.self-is (w.in-Some.ensures.taken, w.in-Some.ensures.turns)
-    | in-None w ↦ unit_as takes stops set l m c.take_quickly.new.self rest (sym w.in-None.ensures.none.0) (sym w.in-None.ensures.none.1) w.quick-is w.sink-is w.self-is (w.take_unit-quick.ensures.taken, w.take_unit-quick.ensures.turns)
+      | in-Some+else-waits w ↦ unit_as takes stops set l m m rest refl refl w.quick-is w.sink-is w.self-is (w.in-Some.ensures.taken, w.in-Some.ensures.turns)
+      | in-None w ↦ unit_as takes stops set l m c.take_quickly.new.self rest (sym w.in-None.ensures.none.0) (sym w.in-None.ensures.none.1) w.quick-is w.sink-is w.self-is (w.take_unit-quick.ensures.taken, w.take_unit-quick.ensures.turns)
     ] in
     let on = c.go_on-outcome in
     let to = meaning set l on.new.self in
@@ -62,8 +62,8 @@ returns-then-is_err-clause-turns g c way none h =
     let rest : List ℕ = take (length c.args.piece.now - c.loop-bytes.bytes) (drop c.loop-bytes.bytes c.args.piece.now) in
     let u = c.match-take_quickly in
     let unit : IsUnitTo takes stops set l m rest c.loop-bytes.sink u.quick u.sink u.self = elim u.branch [
-      in-Some+else-waits w ↦ unit_as takes stops set l m m rest refl refl w.quick-is w.sink-is w.self-is (w.in-Some.ensures.taken, w.in-Some.ensures.turns)
-    | in-None w ↦ unit_as takes stops set l m c.take_quickly.new.self rest (sym w.in-None.ensures.none.0) (sym w.in-None.ensures.none.1) w.quick-is w.sink-is w.self-is (w.take_unit-quick.ensures.taken, w.take_unit-quick.ensures.turns)
+      | in-Some+else-waits w ↦ unit_as takes stops set l m m rest refl refl w.quick-is w.sink-is w.self-is (w.in-Some.ensures.taken, w.in-Some.ensures.turns)
+      | in-None w ↦ unit_as takes stops set l m c.take_quickly.new.self rest (sym w.in-None.ensures.none.0) (sym w.in-None.ensures.none.1) w.quick-is w.sink-is w.self-is (w.take_unit-quick.ensures.taken, w.take_unit-quick.ensures.turns)
     ] in
     let on = c.go_on-outcome in
     all_paid way set l (c.loop-bytes.bytes + u.quick.bytes) on.new.self on.result
@@ -79,8 +79,8 @@ loop-bytes-preserved g c =
     let rest : List ℕ = take (length c.args.piece.now - c.loop-bytes.bytes) (drop c.loop-bytes.bytes c.args.piece.now) in
     let u = c.match-take_quickly in
     let unit : IsUnitTo takes stops set l m rest c.loop-bytes.sink u.quick u.sink u.self = elim u.branch [
-      in-Some+else-waits w ↦ unit_as takes stops set l m m rest refl refl w.quick-is w.sink-is w.self-is (w.in-Some.ensures.taken, w.in-Some.ensures.turns)
-    | in-None w ↦ unit_as takes stops set l m c.take_quickly.new.self rest (sym w.in-None.ensures.none.0) (sym w.in-None.ensures.none.1) w.quick-is w.sink-is w.self-is (w.take_unit-quick.ensures.taken, w.take_unit-quick.ensures.turns)
+      | in-Some+else-waits w ↦ unit_as takes stops set l m m rest refl refl w.quick-is w.sink-is w.self-is (w.in-Some.ensures.taken, w.in-Some.ensures.turns)
+      | in-None w ↦ unit_as takes stops set l m c.take_quickly.new.self rest (sym w.in-None.ensures.none.0) (sym w.in-None.ensures.none.1) w.quick-is w.sink-is w.self-is (w.take_unit-quick.ensures.taken, w.take_unit-quick.ensures.turns)
     ] in
     let on = c.go_on-outcome in
     let to = meaning set l on.new.self in
@@ -90,7 +90,7 @@ loop-bytes-preserved g c =
       within = within_piece c.args.piece.now c.loop-bytes.bytes u.quick.bytes c.loop-bytes.invariant.within taken.within;
       ready = on_ok on.result ok on.ensures.ready;
       took = fed_on (tree_in set) l takes stops _ _ _ on.result _ _ ok (fed_unit (tree_in set) l takes stops (stood (meaning set l c.args.self.now)) c.args.piece.now c.loop-bytes.bytes u.quick.bytes (meaning set l m) c.args.sink.now c.loop-bytes.sink on.new.sink on.result to
-    c.loop-bytes.invariant.within c.loop-bytes.invariant.took taken);
+          c.loop-bytes.invariant.within c.loop-bytes.invariant.took taken);
       turns = λ way none h. still_spent way set l c.loop-bytes.bytes u.quick.bytes m on.new.self on.result ok taken.some
           (c.loop-bytes.invariant.turns way none h) (λ n k. on.ensures.turns way _ (unit.1 way n k));
     }
