@@ -18,7 +18,7 @@ use Rattle.fast_units.specs.Taking.{Waits, Quiet, Turns}
 use Rattle.fast_decoder.specs.Moving.{Moves}
 use Rattle.fast_decoder.specs.Quick.{IsTakenTo}
 use Rattle.fast_decoder.specs.Positions.{Set, tree_in, CanTake, CanTurn, GoesOn, IsReady, IsSupplied, IsTurn, turning, meaning}
-use Rattle.fast_decoder.specs.TurnsLeft.{Way, HasTurnsBehind, HasTurnsWaiting, turns_begun_at}
+use Rattle.fast_decoder.specs.TurnsLeft.{Way, HasTurns, HasTurnsBehind, HasTurnsWaiting, turns_begun_at}
 use Rattle.fast_decoder.specs.declared.machine.Machine.{Machine}
 use Rattle.fast_decoder.specs.declared.quick_units.Quick.{Quick}
 use Rattle.fast_decoder.specs.declared.machine.Waiting.{Waiting}
@@ -127,6 +127,16 @@ module _ {S : Type 0} (takes stops : S → EventData → S → Type 0) (set : Se
     hands = on (after_bytes (due (tree_in set) l from) (take n rest)) s h.turn.moves;
   }
 
+  -- The same behind a unit after which the machine waits.
+  pub taken_waits : (from : Reader Dictionary) (rest : List ℕ) (s : S) (n : ℕ) (result : Result Turn FaultCode) (s' : S) (m : Machine) → result ≡ Ok TurnWaits
+      → IsTakenTo takes stops set l from rest s n result s' m → IsTaken takes stops (tree_in set) l from rest s n (Ok tt) s' (meaning set l m)
+  taken_waits from rest s n result s' m e h = record {
+    some = h.some;
+    within = h.within;
+    quiet = h.quiet;
+    hands = subst (λ (t : Result Turn FaultCode). Moves takes stops (after_bytes (due (tree_in set) l from) (take n rest)) s t s' (turning set l m) (meaning set l m)) e h.turn.moves;
+  }
+
 -- A machine that waits for the first integer of a field, none of whose bytes has come, stands between two units.
 pub can_take_field : (set : Set) (l : Limits) (m : Machine) → m.waiting ≡ Field → IsReady set l m → CanTake Field set l m
 can_take_field set l m waits ready = subst (λ (w : Waiting). CanTake w set l m) waits ready.takes
@@ -141,3 +151,9 @@ pub can_turn_on : (set : Set) (l : Limits) (m : Machine) (turn : Turn) → (turn
 can_turn_on set l m Silent on h = h
 can_turn_on set l m Handed on h = h
 can_turn_on set l m TurnWaits on h = absurd (on refl)
+
+-- It has the turns that are left there.
+pub has_turns_on : (set : Set) (l : Limits) (m : Machine) (way : Way) (n : ℕ) (turn : Turn) → (turn ≡ TurnWaits → ⊥) → HasTurnsBehind (Ok turn) way set l n m → HasTurns way set l 0 n m
+has_turns_on set l m way n Silent on h = h
+has_turns_on set l m way n Handed on h = h
+has_turns_on set l m way n TurnWaits on h = absurd (on refl)

@@ -607,7 +607,7 @@ impl<'t> Machine<'t> {
     }
 
     /// All that needs no further byte.
-    #[inline(never)]
+    #[inline(always)]
     pub fn settle<S: Sink>(
         &mut self,
         templates: &'t Templates,

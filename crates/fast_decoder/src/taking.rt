@@ -72,6 +72,14 @@ impl Quick {
         }
     }
 
+    /// Whether the machine waits behind the unit.
+    #[inline(always)]
+    fn waits(&self) -> bool
+        ensures { result ≡ true → self.now.turn ≡ Ok Turn.Waits }
+    {
+        matches!(self.turn, Ok(Turn::Waits))
+    }
+
     /// So many bytes, of which the last decides a fault.
     #[inline]
     fn wrong(code: Code, bytes: usize) -> Quick
@@ -696,8 +704,7 @@ impl<'t> Machine<'t> {
             Err(code) => Err(code),
             Ok(turn) => match turn {
                 Turn::Waits => Ok(()),
-                Turn::Silent => self.settle(templates, limits, sink),
-                Turn::Handed => self.settle(templates, limits, sink),
+                _ => self.settle(templates, limits, sink),
             },
         }
     }
@@ -774,15 +781,16 @@ impl<'t> Machine<'t> {
         let mut bytes = 0;
         while bytes < piece.len() {
             let rest = &piece[bytes..];
-            if let Some(quick) = self.take_quickly(templates, limits, rest, sink) {
-                bytes += quick.bytes;
-                let outcome = self.go_on(templates, limits, quick.turn, sink);
-                if outcome.is_err() {
-                    return Taken { bytes, outcome };
+            let quick = match self.take_quickly(templates, limits, rest, sink) {
+                Some(quick) => {
+                    if quick.waits() {
+                        bytes += quick.bytes;
+                        continue;
+                    }
+                    quick
                 }
-                continue;
-            }
-            let quick = self.take_unit(templates, limits, rest, sink);
+                None => self.take_unit(templates, limits, rest, sink),
+            };
             bytes += quick.bytes;
             let outcome = self.go_on(templates, limits, quick.turn, sink);
             if outcome.is_err() {
