@@ -1,0 +1,82 @@
+-- From what is written of messages to what a run has done.
+use Rattle.std.proofs.Common.{◌≡◌, ◌⊎◌, ℕ, Bool, List, [], Option, Result, Ok, Err, inl, inr, append-nil, sym, subst, ap, ◌∙◌}
+use Rattle.std.specs.Prelude.{flat_map}
+use Rattle.fast_value.specs.declared.settings.Limits.{Limits}
+use Rattle.fast_value.specs.Messages.{MessageData}
+use Rattle.fast_tree.specs.Tree.{Tree}
+use Rattle.fast_template.specs.declared.sets.Templates.{Templates}
+use Rattle.fast_template.specs.Flat.{tree_of}
+use Rattle.fast_dict.specs.Dictionary.{Dictionary}
+use Rattle.fast_stream.specs.declared.faults.MakeError.{MakeError}
+use Rattle.fast_stream.specs.declared.faults.MakeError.TheVariants as Why
+use Rattle.fast_text.specs.Streams.{Reads, Appends, AppendsFront}
+use Rattle.fast_text.proofs.Writing.{appends_no_more}
+use Rattle.fast_command.specs.declared.faults.RunFault.{RunFault}
+use Rattle.fast_command.specs.declared.faults.RunFault.TheVariants.{Read, Write, BadHex, Templates as Refused, Make, Text, Encode, Memory}
+use Rattle.fast_command.specs.Showing.{IsRefusal, refusal_of}
+use Rattle.fast_command.specs.Texts.{IsUnread}
+use Rattle.fast_convert.specs.Converting.{line_limit, form, AreWritten, AreCodedTo, IsTurned, IsConverted}
+
+-- there is no encoder
+pub none_made : (set : Templates) (l : Limits) (hex : Bool) (lo ln o n : Option (List ℕ)) (R W : Type 0) (e : MakeError) → Reads lo ln [] → Appends o n [] → (e ≡ Why.Memory) ⊎ IsRefusal set l e → IsConverted set l hex lo ln o n R W (Err (refusal_of e))
+none_made set l hex lo ln o n R W Why.BadLimits reads writes why = (reads, writes, elim why [ inl never ↦ absurd (cc) | inr is ↦ is ])
+none_made set l hex lo ln o n R W Why.InitialTooLong reads writes why = (reads, writes, elim why [ inl never ↦ absurd (cc) | inr is ↦ is ])
+none_made set l hex lo ln o n R W Why.Memory reads writes why = inl writes
+
+-- the text is not read
+pub not_read : (set : Templates) (l : Limits) (hex : Bool) (lo ln o n : Option (List ℕ)) (R W : Type 0) (e : RunFault) → IsUnread line_limit lo ln R e → Appends o n [] → IsConverted set l hex lo ln o n R W (Err e)
+not_read set l hex lo ln o n R W Read why writes = (why, writes)
+not_read set l hex lo ln o n R W Memory why writes = inl writes
+not_read set l hex lo ln o n R W Write why writes = absurd why
+not_read set l hex lo ln o n R W (BadHex place) why writes = absurd why
+not_read set l hex lo ln o n R W (Refused fault) why writes = absurd why
+not_read set l hex lo ln o n R W (Make cause) why writes = absurd why
+not_read set l hex lo ln o n R W (Text line kind) why writes = absurd why
+not_read set l hex lo ln o n R W (Encode k fault) why writes = absurd why
+
+-- what the target keeps is handed on
+pub handed_on : (t : Tree) (l : Limits) (hex : Bool) (d : Dictionary) (ms : List MessageData) (o mid n : Option (List ℕ)) (F F' : Type 0) (r : Result (Unit {0}) RunFault) → Appends mid n [] → (F → F')
+    → AreWritten t l hex d ms o mid F r → AreWritten t l hex d ms o n F' r
+handed_on t l hex d ms o mid n F F' (Ok u) none failed h = (h.0, h.1, h.2, appends_no_more o mid n _ h.3 none)
+handed_on t l hex d ms o mid n F F' (Err (Encode k fault)) none failed h = (h.0, h.1, h.2, h.3, h.4, h.5, h.6, h.7, appends_no_more o mid n _ h.8 none)
+handed_on t l hex d ms o mid n F F' (Err Write) none failed h =
+    (h.0, h.1, h.2, h.3, h.4, record { front = h.5.front; rest = h.5.rest; is = h.5.is; added = appends_no_more o mid n _ h.5.added none }, failed h.6)
+handed_on t l hex d ms o mid n F F' (Err Memory) none failed h = (h.0, h.1, h.2, h.3, h.4, appends_no_more o mid n _ h.5 none)
+handed_on t l hex d ms o mid n F F' (Err Read) none failed h = absurd h
+handed_on t l hex d ms o mid n F F' (Err (BadHex place)) none failed h = absurd h
+handed_on t l hex d ms o mid n F F' (Err (Refused fault)) none failed h = absurd h
+handed_on t l hex d ms o mid n F F' (Err (Make cause)) none failed h = absurd h
+handed_on t l hex d ms o mid n F F' (Err (Text line kind)) none failed h = absurd h
+
+-- all of it was added, and nothing is left
+whole_front : (o n : Option (List ℕ)) (a : List ℕ) → Appends o n a → AppendsFront o n a
+whole_front o n a h = record { front = a; rest = []; is = sym (append-nil a); added = h }
+
+-- the target fails at the end
+pub not_handed_on : (t : Tree) (l : Limits) (hex : Bool) (d : Dictionary) (ms : List MessageData) (o mid n : Option (List ℕ)) (F F' : Type 0) (r : Result (Unit {0}) RunFault) → Appends mid n [] → F'
+    → AreWritten t l hex d ms o mid F r → AreWritten t l hex d ms o n F' (Err Write)
+not_handed_on t l hex d ms o mid n F F' (Ok u) none failed h =
+    (ms, [], h.0, h.1, record { all_are = sym (append-nil ms); coded = h.2 }, whole_front o n _ (appends_no_more o mid n _ h.3 none), failed)
+not_handed_on t l hex d ms o mid n F F' (Err (Encode k fault)) none failed h =
+    (h.0, _, h.3, h.4, h.5, whole_front o n _ (appends_no_more o mid n _ h.8 none), failed)
+not_handed_on t l hex d ms o mid n F F' (Err Write) none failed h =
+    (h.0, h.1, h.2, h.3, h.4, record { front = h.5.front; rest = h.5.rest; is = h.5.is; added = appends_no_more o mid n _ h.5.added none }, failed)
+not_handed_on t l hex d ms o mid n F F' (Err Memory) none failed h =
+    (h.0, h.1, h.2, h.3, h.4, whole_front o n _ (appends_no_more o mid n _ h.5 none), failed)
+not_handed_on t l hex d ms o mid n F F' (Err Read) none failed h = absurd h
+not_handed_on t l hex d ms o mid n F F' (Err (BadHex place)) none failed h = absurd h
+not_handed_on t l hex d ms o mid n F F' (Err (Refused fault)) none failed h = absurd h
+not_handed_on t l hex d ms o mid n F F' (Err (Make cause)) none failed h = absurd h
+not_handed_on t l hex d ms o mid n F F' (Err (Text line kind)) none failed h = absurd h
+
+-- what was written of the messages of a text is what a run has done
+pub turned : (set : Templates) (l : Limits) (hex : Bool) (lo ln o n : Option (List ℕ)) (R W : Type 0) (r : Result (Unit {0}) RunFault) → (h : IsTurned (tree_of set) l hex lo ln o n W r) → IsConverted set l hex lo ln o n R W r
+turned set l hex lo ln o n R W (Ok u) h = h
+turned set l hex lo ln o n R W (Err (Encode k fault)) h = h
+turned set l hex lo ln o n R W (Err Write) h = h
+turned set l hex lo ln o n R W (Err Memory) h = inr h
+turned set l hex lo ln o n R W (Err Read) h = absurd h.written
+turned set l hex lo ln o n R W (Err (BadHex place)) h = absurd h.written
+turned set l hex lo ln o n R W (Err (Refused fault)) h = absurd h.written
+turned set l hex lo ln o n R W (Err (Make cause)) h = absurd h.written
+turned set l hex lo ln o n R W (Err (Text line kind)) h = absurd h.written
