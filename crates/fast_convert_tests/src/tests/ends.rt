@@ -56,14 +56,15 @@ fn lines_are_written_as_a_stream(rt: HostRuntime) -> Result<(), Fail> {
 }
 
 /// Texts that are not the lines of messages: nothing is written of the lines before the one at fault.
-const FAULTY: [(&str, u64, LineFault); 5] = [
+const FAULTY: [(&str, u64, LineFault); 6] = [
     (
         "message T1\nfield 0 x u 5\nend message\nmessage TX\n",
         4,
         LineFault::UnknownTemplate,
     ),
     ("message T1\nfield 1 x u 5\n", 2, LineFault::OutOfPlace),
-    ("message T1\nfield 0 x u 05\n", 2, LineFault::WrongValue),
+    ("message T1\nfield 0 x u 05\n", 2, LineFault::Form),
+    ("message T1\nfield 0 x i 5\n", 2, LineFault::WrongValue),
     ("message T1\nend message\n", 2, LineFault::PassedOver),
     ("message T1\nfield 0 x u 5\n", 3, LineFault::Missing),
 ];

@@ -13,8 +13,8 @@ returns-then-count-eq0-clause-whole g c =
     let none : take c.in-Ok.count c.read.new.buf ≡ [] = ap (λ n. take n c.read.new.buf) c.if-count-eq0.true in
     reads_no_more _ _ _ _ c.loop-read.invariant.bytes (rw none at c.in-Ok.ensures.bytes)
 
-pub returns-then-len-gt-LIMIT-clause-unread : goal.returns-then-len-gt-LIMIT-clause-unread
-returns-then-len-gt-LIMIT-clause-unread g c =
+pub returns-then-len-limit-clause-unread : goal.returns-then-len-limit-clause-unread
+returns-then-len-limit-clause-unread g c =
     let text = c.loop-read.text.items in
     let piece = take c.in-Ok.count c.read.new.buf in
     let long : c.args.limit < length (text ++ piece) = search rules in

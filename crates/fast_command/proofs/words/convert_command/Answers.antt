@@ -12,5 +12,5 @@ returns c =
     let local : (out-Command c.after_help.result).has_globals ≡ false = search rules in
     let one = makes_rule _ templates_rule c.after_help.result c.in_ok-arg.field-0 c.templates_arg.result (record { is = bare; local = local }) c.templates_arg.ensures.rule c.templates_arg.ensures.local c.in_ok-arg.ensures in
     let two = makes_rule _ input_rule c.in_ok-arg.field-0 c.in_ok-arg-2.field-0 c.input_arg.result one c.input_arg.ensures.rule c.input_arg.ensures.local c.in_ok-arg-2.ensures in
-    let three = makes_rule _ (flag_rule (codes "hex")) c.in_ok-arg-2.field-0 c.in_ok-command.command c.flag_arg.result two c.flag_arg.ensures.rule c.flag_arg.ensures.local c.in_ok-arg-3.ensures in
+    let three = makes_rule _ (flag_rule (codes "hex")) c.in_ok-arg-2.field-0 c.in_ok-command.command c.flag_arg.result two c.flag_arg.ensures.rule c.flag_arg.ensures.local c.in_ok-command.ensures in
     IfOk-weaker c.with_limits.result _ _ (λ r h. record { is = h.is ∙ ap with_limits three.is; local = h.local }) c.with_limits.ensures
