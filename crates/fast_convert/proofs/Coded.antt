@@ -14,6 +14,8 @@ use Rattle.fast_spelling.specs.Refusals.{IsRefused}
 use Rattle.fast_text.specs.Streams.{Appends, AppendsFront}
 use Rattle.fast_text.proofs.Writing.{appends_both, front_of_second}
 use Rattle.fast_command.specs.declared.faults.RunFault.TheVariants.{Write, Encode, Memory}
+use Rattle.fast_decoder.specs.Positions.{Set, tree_in}
+use Rattle.fast_encoder.specs.Encoders.{EncoderData, IsEncoded, tree}
 use Rattle.fast_convert.specs.Converting.{form, IsCoded, AreCoded, AreWritten}
 
 -- So many messages are encoded, and their bytes are written.
@@ -84,3 +86,12 @@ so_refused t l hex d ms n held holds now m fault HasFailed inside there h refuse
 pub so_all : (t : Tree) (l : Limits) (hex : Bool) (d : Dictionary) (ms : List Message) (n : ℕ) (held holds : Option (List ℕ)) (now : Dictionary)
     → take n ms ≡ ms → IsSoFar t l hex d ms n held holds now → (ws : List (List ℕ)) × (next : Dictionary) × AreCoded t l d (map message_data ms) ws next × Appends held holds (flat_map (form hex) ws)
 so_all t l hex d ms n held holds now all h = (h.ws, now, subst (λ (z : List Message). AreCoded t l d (map message_data z) h.ws now) all h.coded, h.written)
+
+-- what an encoder of the same set and limits has appended to nothing
+pub coded_from : (e0 e f : EncoderData) (m : MessageData) (out longer : List ℕ) → e.set ≡ e0.set → e.limits ≡ e0.limits → out ≡ [] → IsEncoded e m out f longer → IsCoded (tree e0) e0.limits e.dictionary m longer f.dictionary
+coded_from e0 e f m out longer set limits none h =
+    let same : longer ≡ h.bytes = h.appended ∙ ap (λ (z : List ℕ). z ++ h.bytes) none in
+    subst (λ (w : List ℕ). IsCoded (tree e0) e0.limits e.dictionary m w f.dictionary) (sym same)
+    (subst (λ (s : Set). IsCoded (tree_in s) e0.limits e.dictionary m h.bytes f.dictionary) set
+    (subst (λ (l : Limits). IsCoded (tree e) l e.dictionary m h.bytes f.dictionary) limits
+    (record { suits = h.suits; fits = h.fits; ruled = h.ruled; spelled = h.spelled })))
