@@ -1,5 +1,5 @@
 -- Messages that are encoded one after the other.
-use Rattle.std.proofs.Common.{◌≡◌, ◌<◌, ◌≤◌, ◌+◌, ℕ, Bool, List, [], ◌∷◌, ◌++◌, Option, refl, ap, sym, subst, ◌∙◌, length, length-take, map, take, drop, append_assoc, append-nil, arith, get_or}
+use Rattle.std.proofs.Common.{◌≡◌, ◌<◌, ◌≤◌, ◌+◌, ℕ, Bool, List, [], ◌∷◌, ◌++◌, Option, refl, ap, sym, subst, ◌∙◌, length, length-take, map, take, drop, append_assoc, append-nil, arith, get_or, inl, inr}
 use Rattle.std.specs.Prelude.{flat_map, Err}
 use Rattle.std.proofs.lemmas.List.{take_more, take-append-drop, map-append, length-map}
 use Rattle.std.proofs.lemmas.Grind.{flat_map-append}
@@ -10,12 +10,13 @@ use Rattle.fast_value.specs.Views.{message_data}
 use Rattle.fast_tree.specs.Tree.{Tree}
 use Rattle.fast_dict.specs.Dictionary.{Dictionary}
 use Rattle.fast_spelling.specs.declared.faults.EncodeFault.{EncodeFault}
+use Rattle.fast_spelling.specs.declared.faults.EncodeFault.TheVariants as Fault
 use Rattle.fast_spelling.specs.Refusals.{IsRefused}
 use Rattle.fast_text.specs.Streams.{Appends, AppendsFront}
 use Rattle.fast_text.proofs.Writing.{appends_both, front_of_second}
 use Rattle.fast_command.specs.declared.faults.RunFault.TheVariants.{Write, Encode, Memory}
 use Rattle.fast_decoder.specs.Positions.{Set, tree_in}
-use Rattle.fast_encoder.specs.Encoders.{EncoderData, IsEncoded, tree}
+use Rattle.fast_encoder.specs.Encoders.{EncoderData, IsEncoded, IsToldOf, tree}
 use Rattle.fast_convert.specs.Converting.{form, IsCoded, AreCoded, AreWritten}
 
 -- So many messages are encoded, and their bytes are written.
@@ -95,3 +96,10 @@ coded_from e0 e f m out longer set limits none h =
     (subst (λ (s : Set). IsCoded (tree_in s) e0.limits e.dictionary m h.bytes f.dictionary) set
     (subst (λ (l : Limits). IsCoded (tree e) l e.dictionary m h.bytes f.dictionary) limits
     (record { suits = h.suits; fits = h.fits; ruled = h.ruled; spelled = h.spelled })))
+
+-- what an encoder of the same set and limits refuses, where there was memory
+pub refused_from : (e0 e : EncoderData) (m : MessageData) (fault : EncodeFault) → e.set ≡ e0.set → e.limits ≡ e0.limits → ¬ (fault ≡ Fault.Memory) → IsToldOf e m fault → IsRefused (tree e0) e0.limits e.dictionary m fault
+refused_from e0 e m fault set limits other told =
+    subst (λ (s : Set). IsRefused (tree_in s) e0.limits e.dictionary m fault) set
+    (subst (λ (l : Limits). IsRefused (tree e) l e.dictionary m fault) limits
+    (elim told [ inl none ↦ absurd (other none) | inr refused ↦ refused ]))

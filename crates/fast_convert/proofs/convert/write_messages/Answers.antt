@@ -1,16 +1,29 @@
 -- Each message is encoded from the dictionary that those before it have left.
-use Rattle.std.proofs.Common.{◌≡◌, ◌∙◌, rules, refl, get_or}
+use Rattle.std.proofs.Common.{◌≡◌, ◌∙◌, rules, refl, inr, get_or}
 use Rattle.std.specs.Prelude.{IsTrue}
 use Rattle.fast_text.specs.Streams.{Appends, AppendsFront}
+use Rattle.fast_spelling.specs.declared.faults.EncodeFault.TheVariants as Fault
 use Rattle.fast_encoder.specs.Encoders.{tree}
 use Rattle.fast_convert.specs.Converting.{form}
-use Rattle.fast_convert.proofs.Coded.{coded_from, so_more, so_cut, so_without}
+use Rattle.fast_convert.proofs.Coded.{coded_from, refused_from, so_more, so_cut, so_without, so_refused}
 use Rattle.fast_convert.proofs.convert.write_messages.Goals as goal
 
 pub returns-in-Err-Memory-clause-written : goal.returns-in-Err-Memory-clause-written
 returns-in-Err-Memory-clause-written g c =
     let e = c.args.encoder.now in
     so_without (tree e) e.limits c.args.hex e.dictionary c.args.messages.now c.loop-number.number _ _ c.loop-number.encoder.dictionary (IsTrue (g.T.Target.has_failed c.loop-number.writer)) c.loop-number.invariant.so
+
+pub returns-in-Err : goal.returns-in-Err
+returns-in-Err g c =
+    let e = c.args.encoder.now in
+    let m = c.index-messages-number.result in
+    let there : get_or c.args.messages.now c.loop-number.number m ≡ m = search rules in
+    let other : ¬ (c.in-Err.fault ≡ Fault.Memory) = search (rules, c.in-Err.is) in
+    let refused = refused_from e c.loop-number.encoder _ c.in-Err.fault c.loop-number.invariant.set c.loop-number.invariant.limits other c.in-Err.ensures.err in
+    record {
+      written = so_refused (tree e) e.limits c.args.hex e.dictionary c.args.messages.now c.loop-number.number _ _ _ m c.in-Err.fault (IsTrue (g.T.Target.has_failed c.loop-number.writer)) c.loop-number-test.true there c.loop-number.invariant.so refused;
+      told = inr c.loop-number.invariant.stays;
+    }
 
 pub returns-then-is_err-clause-written : goal.returns-then-is_err-clause-written
 returns-then-is_err-clause-written g c =
