@@ -6,7 +6,7 @@ use Rattle.fast_value.specs.Messages.{MessageData}
 use Rattle.fast_tree.specs.Tree.{Tree}
 use Rattle.fast_template.specs.declared.sets.Templates.{Templates}
 use Rattle.fast_template.specs.Flat.{tree_of}
-use Rattle.fast_dict.specs.Dictionary.{Dictionary}
+use Rattle.fast_dict.specs.Dictionary.{Dictionary, fresh}
 use Rattle.fast_stream.specs.declared.faults.MakeError.{MakeError}
 use Rattle.fast_stream.specs.declared.faults.MakeError.TheVariants as Why
 use Rattle.fast_text.specs.Streams.{Reads, Appends, AppendsFront}
@@ -15,7 +15,9 @@ use Rattle.fast_command.specs.declared.faults.RunFault.{RunFault}
 use Rattle.fast_command.specs.declared.faults.RunFault.TheVariants.{Read, Write, BadHex, Templates as Refused, Make, Text, Encode, Memory}
 use Rattle.fast_command.specs.Showing.{IsRefusal, refusal_of}
 use Rattle.fast_command.specs.Texts.{IsUnread}
-use Rattle.fast_convert.specs.Converting.{line_limit, form, AreWritten, AreCodedTo, IsTurned, IsConverted}
+use Rattle.fast_encoder.specs.Encoders.{EncoderData, tree}
+use Rattle.fast_reading.specs.Reading.{Says}
+use Rattle.fast_convert.specs.Converting.{line_limit, form, AreWritten, AreCodedTo, IsWhole, IsTurned, IsConverted}
 
 -- there is no encoder
 pub none_made : (set : Templates) (l : Limits) (hex : Bool) (lo ln o n : Option (List ℕ)) (R W : Type 0) (e : MakeError) → Reads lo ln [] → Appends o n [] → (e ≡ Why.Memory) ⊎ IsRefusal set l e → IsConverted set l hex lo ln o n R W (Err (refusal_of e))
@@ -80,3 +82,23 @@ turned set l hex lo ln o n R W (Err (BadHex place)) h = absurd h.written
 turned set l hex lo ln o n R W (Err (Refused fault)) h = absurd h.written
 turned set l hex lo ln o n R W (Err (Make cause)) h = absurd h.written
 turned set l hex lo ln o n R W (Err (Text line kind)) h = absurd h.written
+
+-- what a new encoder of the set and the limits has written of messages
+pub from_new : (set : Templates) (l : Limits) (hex : Bool) (e : EncoderData) (ms : List MessageData) (o mid : Option (List ℕ)) (F : Type 0) (r : Result (Unit {0}) RunFault) → tree e ≡ tree_of set → e.limits ≡ l → e.dictionary ≡ fresh (tree_of set).entries
+    → AreWritten (tree e) e.limits hex e.dictionary ms o mid F r → AreWritten (tree_of set) l hex (fresh (tree_of set).entries) ms o mid F r
+from_new set l hex e ms o mid F r trees limits dictionary h =
+    subst (λ (d : Dictionary). AreWritten (tree_of set) l hex d ms o mid F r) dictionary
+    (subst (λ (k : Limits). AreWritten (tree_of set) k hex e.dictionary ms o mid F r) limits
+    (subst (λ (t : Tree). AreWritten t e.limits hex e.dictionary ms o mid F r) trees h))
+
+-- the messages of the whole text were written, and what the target keeps was handed on
+pub all_handed_on : (set : Templates) (l : Limits) (hex : Bool) (lo ln o mid n : Option (List ℕ)) (R F F' : Type 0) (r : Result (Unit {0}) RunFault) (text : List ℕ) (ms : List MessageData)
+    → IsWhole lo ln text → Says (tree_of set) text ms → Appends mid n [] → (F → F') → AreWritten (tree_of set) l hex (fresh (tree_of set).entries) ms o mid F r → IsConverted set l hex lo ln o n R F' r
+all_handed_on set l hex lo ln o mid n R F F' r text ms whole says none failed h =
+    turned set l hex lo ln o n R F' r (record { text = text; messages = ms; whole = whole; says = says; written = handed_on (tree_of set) l hex (fresh (tree_of set).entries) ms o mid n F F' r none failed h })
+
+-- the messages of the whole text were written, and the target fails at the end
+pub all_not_handed_on : (set : Templates) (l : Limits) (hex : Bool) (lo ln o mid n : Option (List ℕ)) (F F' : Type 0) (r : Result (Unit {0}) RunFault) (text : List ℕ) (ms : List MessageData)
+    → IsWhole lo ln text → Says (tree_of set) text ms → Appends mid n [] → F' → AreWritten (tree_of set) l hex (fresh (tree_of set).entries) ms o mid F r → IsTurned (tree_of set) l hex lo ln o n F' (Err Write)
+all_not_handed_on set l hex lo ln o mid n F F' r text ms whole says none failed h =
+    record { text = text; messages = ms; whole = whole; says = says; written = not_handed_on (tree_of set) l hex (fresh (tree_of set).entries) ms o mid n F F' r none failed h }
