@@ -19,23 +19,6 @@ use Rattle.fast_encoder.specs.Encoders.{EncoderData, tree}
 use Rattle.fast_reading.specs.Reading.{Says}
 use Rattle.fast_convert.specs.Converting.{line_limit, form, AreWritten, AreCodedTo, IsWhole, IsTurned, IsConverted}
 
--- there is no encoder
-pub none_made : (set : Templates) (l : Limits) (hex : Bool) (lo ln o n : Option (List ℕ)) (R W : Type 0) (e : MakeError) → Reads lo ln [] → Appends o n [] → (e ≡ Why.Memory) ⊎ IsRefusal set l e → IsConverted set l hex lo ln o n R W (Err (refusal_of e))
-none_made set l hex lo ln o n R W Why.BadLimits reads writes why = (reads, writes, elim why [ inl never ↦ absurd (cc) | inr is ↦ is ])
-none_made set l hex lo ln o n R W Why.InitialTooLong reads writes why = (reads, writes, elim why [ inl never ↦ absurd (cc) | inr is ↦ is ])
-none_made set l hex lo ln o n R W Why.Memory reads writes why = inl writes
-
--- the text is not read
-pub not_read : (set : Templates) (l : Limits) (hex : Bool) (lo ln o n : Option (List ℕ)) (R W : Type 0) (e : RunFault) → IsUnread line_limit lo ln R e → Appends o n [] → IsConverted set l hex lo ln o n R W (Err e)
-not_read set l hex lo ln o n R W Read why writes = (why, writes)
-not_read set l hex lo ln o n R W Memory why writes = inl writes
-not_read set l hex lo ln o n R W Write why writes = absurd why
-not_read set l hex lo ln o n R W (BadHex place) why writes = absurd why
-not_read set l hex lo ln o n R W (Refused fault) why writes = absurd why
-not_read set l hex lo ln o n R W (Make cause) why writes = absurd why
-not_read set l hex lo ln o n R W (Text line kind) why writes = absurd why
-not_read set l hex lo ln o n R W (Encode k fault) why writes = absurd why
-
 -- what the target keeps is handed on
 pub handed_on : (t : Tree) (l : Limits) (hex : Bool) (d : Dictionary) (ms : List MessageData) (o mid n : Option (List ℕ)) (F F' : Type 0) (r : Result (Unit {0}) RunFault) → Appends mid n [] → (F → F')
     → AreWritten t l hex d ms o mid F r → AreWritten t l hex d ms o n F' r
