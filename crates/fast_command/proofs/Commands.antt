@@ -1,9 +1,9 @@
 -- The command that takes the words, and what it makes of them.
-use Rattle.std.proofs.Common.{◌≡◌, Bool, true, false, List, [], ◌∷◌, Option, Some, None, refl, ap₂, ◌∙◌, is_some, option_map, ◌||◌, ◌&&◌, not}
-use Rattle.clap.specs.Built.{AddsArg}
+use Rattle.std.proofs.Common.{◌≡◌, Bool, true, false, List, [], ◌∷◌, Option, Some, None, refl, ap, ap₂, ◌∙◌, is_some, option_map, ◌||◌, ◌&&◌, not}
+use Rattle.clap.specs.Built.{AddsArg, AddsSubcommand}
 use Rattle.clap.specs.Faults.{fault_of, built_fault, check_fault, defaults_fault, entered_fault, settle_fault, walk_fault, is_simple_and_free}
 use Rattle.clap.specs.Kinds.{Kinds, or_else, check_kinds}
-use Rattle.clap.specs.Simple.{App, argument_words, built, entered, is_simple, names_of, subcommand_of, with_rule}
+use Rattle.clap.specs.Simple.{App, argument_words, built, entered, is_simple, names_of, subcommand_of, with_rule, with_subcommand}
 use Rattle.clap.specs.Walk.{Rule, Text, finished, nothing_held, rule_of, settled, stop_after, walk, walk_from}
 use Rattle.clap.specs.Facts.{explicit_source}
 use Rattle.clap.specs.Takes.{is_given}
@@ -18,6 +18,13 @@ pub makes_rule : (app : App) (r : Rule) (old new : Command) (a : Arg) → MakesA
 makes_rule app r old new a before rule local adds = record {
   is = adds.shape local ∙ ap₂ with_rule before.is rule;
   local = adds.globals ∙ ap₂ (λ x y. x || y) before.local local;
+}
+
+-- one more subcommand
+pub makes_command : (app sub : App) (old given new : Command) → MakesApp app old → MakesApp sub given → AddsSubcommand old given new → MakesApp (with_subcommand app sub.top) new
+makes_command app sub old given new before inner adds = record {
+  is = adds.shape inner.local ∙ ap₂ with_subcommand before.is (ap (λ (a : App). a.top) inner.is);
+  local = adds.globals ∙ ap₂ (λ x y. x || y) before.local inner.local;
 }
 
 -- the command is simple, and its arguments are free

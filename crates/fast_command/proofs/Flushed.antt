@@ -9,7 +9,7 @@ use Rattle.fast_lines.specs.Lines.{lines}
 use Rattle.fast_command.specs.declared.faults.ShowEnd.{ShowEnd}
 use Rattle.fast_command.specs.declared.faults.ShowEnd.TheVariants.{Good, Faulted, Truncated}
 use Rattle.fast_command.specs.declared.faults.RunFault.{RunFault}
-use Rattle.fast_command.specs.declared.faults.RunFault.TheVariants.{Read, Write, BadHex, Templates as Refused, Make, Memory}
+use Rattle.fast_command.specs.declared.faults.RunFault.TheVariants.{Read, Write, BadHex, Templates as Refused, Make, Text, Encode, Memory}
 use Rattle.fast_command.specs.Closing.{fault_line, truncated_line, closing}
 use Rattle.fast_command.specs.Showing.{IsShown, StandsFor, has_begun}
 
@@ -33,5 +33,7 @@ unflushed t l hex R AtEnd ReadsNoMore Failed HasFailed text out (Err Write) begu
 unflushed t l hex R AtEnd ReadsNoMore Failed HasFailed text out (Err (BadHex n)) begun failed h =
     (Some n, h.0, [], h.1, h.2, closing h.0 h.2, stands_alone hex text h.0 (Some n) h.3.bytes, h.3.stream, ap (λ (o : List ℕ). o ++ closing h.0 h.2) (sym h.5), failed)
 unflushed t l hex R AtEnd ReadsNoMore Failed HasFailed text out (Err (Refused fault)) begun failed h = absurd h
+unflushed t l hex R AtEnd ReadsNoMore Failed HasFailed text out (Err (Text line kind)) begun failed h = absurd h
+unflushed t l hex R AtEnd ReadsNoMore Failed HasFailed text out (Err (Encode message fault)) begun failed h = absurd h
 unflushed t l hex R AtEnd ReadsNoMore Failed HasFailed text out (Err (Make cause)) begun failed h = absurd (cc)
 unflushed t l hex R AtEnd ReadsNoMore Failed HasFailed text out (Err Memory) begun failed h = absurd (cc)

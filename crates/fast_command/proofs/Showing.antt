@@ -17,7 +17,7 @@ use Rattle.fast_command.specs.declared.show.Show.{Show}
 use Rattle.fast_command.specs.declared.faults.ShowEnd.{ShowEnd}
 use Rattle.fast_command.specs.declared.faults.ShowEnd.TheVariants.{Good, Faulted, Truncated}
 use Rattle.fast_command.specs.declared.faults.RunFault.{RunFault}
-use Rattle.fast_command.specs.declared.faults.RunFault.TheVariants.{Read, Write, BadHex, Templates as Refused, Make, Memory}
+use Rattle.fast_command.specs.declared.faults.RunFault.TheVariants.{Read, Write, BadHex, Templates as Refused, Make, Text, Encode, Memory}
 use Rattle.fast_command.specs.Showing.{IsShown, StandsFor, refusal_of, has_begun}
 use Rattle.fast_command.specs.Closing.{fault_line, truncated_line, closing}
 use Rattle.fast_command.specs.Progress.{HasRoom, IsTaken, Progress, Change, GoesOn, Ended}
@@ -34,6 +34,8 @@ shown_more t l hex R R' A B H A' B' H' text out (Err Read) m a b h s = (s.0, s.1
 shown_more t l hex R R' A B H A' B' H' text out (Err Write) m a b h s = (s.0, s.1, s.2, s.3, s.4, s.5, s.6, s.7, s.8, h s.9)
 shown_more t l hex R R' A B H A' B' H' text out (Err (Make cause)) m a b h s = (s.0, s.1, m cause s.2)
 shown_more t l hex R R' A B H A' B' H' text out (Err (Refused fault)) m a b h s = elim s [ ]
+shown_more t l hex R R' A B H A' B' H' text out (Err (Text line kind)) m a b h s = elim s [ ]
+shown_more t l hex R R' A B H A' B' H' text out (Err (Encode message fault)) m a b h s = elim s [ ]
 shown_more t l hex R R' A B H A' B' H' text out (Err Memory) m a b h s = s
 
 -- what was shown, where the writer has failed behind it
@@ -50,6 +52,8 @@ shown_short t l hex R A B H H' text out (Err Read) begun failed s =
     (s.0, s.1, [], s.2, s.3, closing s.1 s.3, rw (append-nil s.1) s.4.bytes, s.4.stream, ap (λ (xs : List ℕ). xs ++ closing s.1 s.3) (sym s.6), failed)
 shown_short t l hex R A B H H' text out (Err Write) begun failed s = (s.0, s.1, s.2, s.3, s.4, s.5, s.6, s.7, s.8, failed)
 shown_short t l hex R A B H H' text out (Err (Refused fault)) begun failed s = elim s [ ]
+shown_short t l hex R A B H H' text out (Err (Text line kind)) begun failed s = elim s [ ]
+shown_short t l hex R A B H H' text out (Err (Encode message fault)) begun failed s = elim s [ ]
 shown_short t l hex R A B H H' text out (Err (Make cause)) begun failed s = absurd (cc)
 shown_short t l hex R A B H H' text out (Err Memory) begun failed s = absurd (cc)
 

@@ -17,7 +17,7 @@ use Rattle.fast_lines.specs.Hex.{Unhexed}
 use Rattle.fast_command.specs.declared.faults.ShowEnd.{ShowEnd}
 use Rattle.fast_command.specs.declared.faults.ShowEnd.TheVariants.{Good, Faulted, Truncated}
 use Rattle.fast_command.specs.declared.faults.RunFault.{RunFault}
-use Rattle.fast_command.specs.declared.faults.RunFault.TheVariants.{Read, Write, BadHex, Templates as Refused, Make, Memory}
+use Rattle.fast_command.specs.declared.faults.RunFault.TheVariants.{Read, Write, BadHex, Templates as Refused, Make, Text, Encode, Memory}
 use Rattle.fast_command.specs.Closing.{fault_line, truncated_line, closing}
 
 -- The text stands for the bytes, up to its first bad place if it has one. A text that is not hexadecimal is its bytes.
@@ -55,6 +55,8 @@ has_begun (Err Read) = true
 has_begun (Err Write) = true
 has_begun (Err (BadHex place)) = true
 has_begun (Err (Refused fault)) = true
+has_begun (Err (Text line kind)) = true
+has_begun (Err (Encode message fault)) = true
 has_begun (Err (Make cause)) = false
 has_begun (Err Memory) = false
 
@@ -74,5 +76,7 @@ IsShown t l hex Refuses AtEnd ReadsNoMore HasFailed text out (Err Read) =
 IsShown t l hex Refuses AtEnd ReadsNoMore HasFailed text out (Err Write) =
     (place : Option ℕ) × (b later : List ℕ) × (es : List EventData) × (e : End) × (rest : List ℕ) × StandsFor hex text (b ++ later) place × Stream t l b es e × (lines t es ++ closing b e ≡ out ++ rest) × HasFailed
 IsShown t l hex Refuses AtEnd ReadsNoMore HasFailed text out (Err (Refused fault)) = ⊥
+IsShown t l hex Refuses AtEnd ReadsNoMore HasFailed text out (Err (Text line kind)) = ⊥
+IsShown t l hex Refuses AtEnd ReadsNoMore HasFailed text out (Err (Encode message fault)) = ⊥
 IsShown t l hex Refuses AtEnd ReadsNoMore HasFailed text out (Err (Make cause)) = (text ≡ []) × (out ≡ []) × Refuses cause
 IsShown t l hex Refuses AtEnd ReadsNoMore HasFailed text out (Err Memory) = (text ≡ []) × (out ≡ [])

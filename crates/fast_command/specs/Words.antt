@@ -10,7 +10,7 @@ use Rattle.clap.specs.declared.builder.command.Command.{Command}
 use Rattle.clap.specs.declared.builder.command.Command.TheViews.{out-Command}
 use Rattle.clap.specs.declared.builder.value_parser.ValueParser.TheVariants as parser
 use Rattle.fast_command.specs.declared.plans.Task.{Task}
-use Rattle.fast_command.specs.declared.plans.Task.TheVariants.{Check, Show}
+use Rattle.fast_command.specs.declared.plans.Task.TheVariants.{Check, Show, Convert}
 use Rattle.fast_command.specs.declared.plans.Plan.{Plan}
 
 -- T, which has to be there, and F
@@ -40,11 +40,15 @@ check_app = with_limits (with_rule (new_app (codes "check")) templates_rule)
 abbrev pub show_app : App
 show_app = with_limits (with_rule (with_rule (with_rule (with_rule (new_app (codes "show")) templates_rule) input_rule) (flag_rule (codes "hex"))) (flag_rule (codes "strict")))
 
--- one of the two has to be named
+-- `fastcat convert T [F]`
+abbrev pub convert_app : App
+convert_app = with_limits (with_rule (with_rule (with_rule (new_app (codes "convert")) templates_rule) input_rule) (flag_rule (codes "hex")))
+
+-- one of the three has to be named
 abbrev pub fastcat_app : App
 fastcat_app =
     let bare = new_app (codes "fastcat") in
-    with_subcommand (with_subcommand (record bare { top = record bare.top { subcommand_required = true } }) check_app.top) show_app.top
+    with_subcommand (with_subcommand (with_subcommand (record bare { top = record bare.top { subcommand_required = true } }) check_app.top) show_app.top) convert_app.top
 
 -- the command is this one, and has no global argument
 pub record MakesApp (app : App) (c : Command) : Type 0 where
@@ -53,7 +57,7 @@ pub record MakesApp (app : App) (c : Command) : Type 0 where
 
 -- the task of a subcommand's name
 abbrev pub task_named : Text → Task
-task_named name = if bytes_eq name (codes "check") then Check else Show
+task_named name = if bytes_eq name (codes "check") then Check else if bytes_eq name (codes "convert") then Convert else Show
 
 -- a flag, by the text that was found for it
 abbrev pub IsFlag : Option Text → Bool → Type 0

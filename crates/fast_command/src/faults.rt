@@ -4,6 +4,8 @@ ghost use Rattle.std.specs.Prelude.{◌≡◌};
 ghost use Rattle.fast_command.specs.Report.{status_of};
 
 use fast_decoder::{Fault, MakeError};
+use fast_reading::faults::LineFault;
+use fast_spelling::EncodeFault;
 use fast_template::{StaticCode, StaticFault};
 use fast_text::{LineWriter, Room, Target};
 use std::fmt;
@@ -51,9 +53,25 @@ pub enum RunFault {
     /// The template text is refused, for another cause than memory.
     #[error("templates {wrong}", wrong = Wrong(.0))]
     Templates(StaticFault),
-    /// There is no decoder with these limits, for another cause than memory.
+    /// There is no decoder, or no encoder, with these limits, for another cause than memory.
     #[error("limits {number}", number = .0.number())]
     Make(MakeError),
+    /// The text is not the lines of messages.
+    #[error("line {line} kind {number}", number = .kind.number())]
+    Text {
+        /// The number of the first line at fault, from 1.
+        line: u64,
+        /// What is wrong with it.
+        kind: LineFault,
+    },
+    /// A message is not encoded, for another cause than memory.
+    #[error("message {message} {name}", name = .fault.name())]
+    Encode {
+        /// The number of the message, from 0.
+        message: u64,
+        /// Why the encoder refuses it.
+        fault: EncodeFault,
+    },
     /// There is no memory.
     #[error("no memory")]
     Memory,
@@ -86,6 +104,7 @@ pub fn report<T: Target>(ending: &Result<ShowEnd, RunFault>, target: &mut T) -> 
             let _ = writeln!(line, "fastcat: {fault}");
             let _ = line.finish();
             match fault {
+                RunFault::Text { .. } | RunFault::Encode { .. } => 1,
                 RunFault::Templates(_) | RunFault::Make(_) => 2,
                 RunFault::Read | RunFault::Write | RunFault::BadHex(_) | RunFault::Memory => 3,
             }

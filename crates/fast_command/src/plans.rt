@@ -15,6 +15,8 @@ pub enum Task {
     Check,
     /// Shows a stream.
     Show,
+    /// Turns lines back into a stream.
+    Convert,
 }
 
 /// What the words of a call ask for.
@@ -26,7 +28,7 @@ pub struct Plan<'a> {
     pub templates: &'a str,
     /// The path of the input, where it is not standard input.
     pub input: Option<&'a str>,
-    /// Whether the input is hexadecimal digits.
+    /// Whether the stream, which is read or written, is hexadecimal digits.
     pub hex: bool,
     /// Whether an encoding that is longer than it needs to be is a fault.
     pub strict: bool,

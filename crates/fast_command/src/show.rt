@@ -103,8 +103,8 @@ fn close<T: Target>(fault: Fault, writer: &mut T) -> Result<ShowEnd, RunFault>
     }
 }
 
-/// What a run answers where no decoder is made.
-fn refusal(error: MakeError) -> RunFault
+/// What a run answers where no decoder, or no encoder, is made.
+pub fn refusal(error: MakeError) -> RunFault
     ensures { result ≡ refusal_of error }
 {
     match error {

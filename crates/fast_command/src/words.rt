@@ -7,7 +7,7 @@ ghost use Rattle.clap.specs.Faults.{fault_of};
 ghost use Rattle.clap.specs.Kinds.{FailsBy};
 ghost use Rattle.clap.specs.declared.builder.command.Command.TheViews.{out-Command};
 ghost use Rattle.clap.specs.Matches.{found_of};
-ghost use Rattle.fast_command.specs.Words.{number_rule, flag_rule, templates_rule, input_rule, with_limits, check_app, show_app, fastcat_app, MakesApp, task_named, IsPlanOf, IsNumberAt};
+ghost use Rattle.fast_command.specs.Words.{number_rule, flag_rule, templates_rule, input_rule, with_limits, check_app, show_app, convert_app, fastcat_app, MakesApp, task_named, IsPlanOf, IsNumberAt};
 
 use crate::plans::{BUILT_IN, Plan, Task};
 use clap::{Arg, ArgAction, ArgMatches, Command, Error, value_parser};
@@ -23,7 +23,8 @@ const TEMPLATES_HELP: &str = "T is @vectors or a text in TOML such as
 
 Examples:
   fastcat check templates.toml
-  fastcat show templates.toml stream.fast";
+  fastcat show templates.toml stream.fast
+  fastcat convert templates.toml lines.txt >stream.fast";
 
 /// The argument for the templates.
 fn templates_arg<'a>(alloc: Global) -> Arg<'a>
@@ -37,13 +38,11 @@ fn templates_arg<'a>(alloc: Global) -> Arg<'a>
 }
 
 /// The argument for the input.
-fn input_arg<'a>(alloc: Global) -> Arg<'a>
+fn input_arg<'a>(alloc: Global, help: &'a str) -> Arg<'a>
     ensures rule { rule_of result ≡ input_rule }
     ensures local { result.global ≡ false }
 {
-    Arg::new(alloc, "input").value_name("F").help(
-        "The path of the stream; without it, standard input is read",
-    )
+    Arg::new(alloc, "input").value_name("F").help(help)
 }
 
 /// A flag.
@@ -99,14 +98,30 @@ fn show_command<'a>(alloc: Global) -> Result<Command<'a>, AllocError>
     ensures { IfOk result (MakesApp show_app) }
 {
     let hex = "Reads hexadecimal digits, with blanks between them, and not bytes";
+    let input = "The path of the stream; without it, standard input is read";
     let strict = "Refuses an integer or a presence map that is longer than it needs to be";
     let command = Command::new(alloc, "show")
         .about("Shows the messages of a FAST stream, a line for each event")
         .after_help("Example: fastcat show --hex @vectors stream.txt")
         .arg(templates_arg(alloc))?
-        .arg(input_arg(alloc))?
+        .arg(input_arg(alloc, input))?
         .arg(flag_arg(alloc, "hex", hex))?
         .arg(flag_arg(alloc, "strict", strict))?;
+    with_limits(alloc, command)
+}
+
+/// The subcommand that turns lines into a stream.
+fn convert_command<'a>(alloc: Global) -> Result<Command<'a>, AllocError>
+    ensures { IfOk result (MakesApp convert_app) }
+{
+    let input = "The path of the lines; without it, standard input is read";
+    let hex = "Writes hexadecimal digits, a line for each message, and not bytes";
+    let command = Command::new(alloc, "convert")
+        .about("Turns lines, as show writes them, into a FAST stream")
+        .after_help("Example: fastcat convert --hex @vectors lines.txt")
+        .arg(templates_arg(alloc))?
+        .arg(input_arg(alloc, input))?
+        .arg(flag_arg(alloc, "hex", hex))?;
     with_limits(alloc, command)
 }
 
@@ -115,11 +130,12 @@ fn fastcat_command<'a>(alloc: Global) -> Result<Command<'a>, AllocError>
     ensures { IfOk result (MakesApp fastcat_app) }
 {
     Command::new(alloc, "fastcat")
-        .about("Reads streams in the FAST encoding, version 1.1, by templates in TOML")
+        .about("Reads and writes streams in the FAST encoding, version 1.1, by templates in TOML")
         .after_help(TEMPLATES_HELP)
         .subcommand_required(true)
         .subcommand(check_command(alloc)?)?
-        .subcommand(show_command(alloc)?)
+        .subcommand(show_command(alloc)?)?
+        .subcommand(convert_command(alloc)?)
 }
 
 /// The task that a subcommand's name asks for.
@@ -128,6 +144,8 @@ fn task_named(name: &str) -> Task
 {
     if name == "check" {
         Task::Check
+    } else if name == "convert" {
+        Task::Convert
     } else {
         Task::Show
     }

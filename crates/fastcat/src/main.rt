@@ -1,4 +1,5 @@
-//! The command fastcat: shows streams in the FAST encoding as lines, and says how large template sets are.
+//! The command fastcat: shows streams in the FAST encoding as lines, turns lines back into streams, and says how large template
+//! sets are.
 #![tactic(auto)]
 
 use clap::Error;
@@ -7,6 +8,7 @@ use fast_command::{
     BUILT_IN, Plan, RunFault, ShowEnd, Task, built_in, plan, read_templates, report, run_check,
     show_all,
 };
+use fast_convert::run_convert;
 use fast_template::Templates;
 use fast_text::{Source, Watched};
 use std::alloc::{AllocError, Global};
@@ -44,6 +46,40 @@ fn show_from<S: Source>(
     )
 }
 
+/// Writes the stream whose lines a reader gives on standard output, in large pieces.
+fn convert_from<S: Source>(
+    rt: &HostRuntime,
+    templates: &Templates,
+    plan: &Plan<'_>,
+    reader: &mut S,
+) -> Result<ShowEnd, RunFault> {
+    let Ok(output) = BufWriter::new(rt.alloc(), rt.stdout()) else {
+        return Err(RunFault::Memory);
+    };
+    run_convert(
+        rt.alloc(),
+        templates,
+        plan.limits(),
+        plan.hex,
+        reader,
+        &mut Watched::new(output),
+    )?;
+    Ok(ShowEnd::Good)
+}
+
+/// Does with what a reader gives what a plan asks for.
+fn read_from<S: Source>(
+    rt: &HostRuntime,
+    templates: &Templates,
+    plan: &Plan<'_>,
+    reader: &mut S,
+) -> Result<ShowEnd, RunFault> {
+    match plan.task {
+        Task::Convert => convert_from(rt, templates, plan, reader),
+        _ => show_from(rt, templates, plan, reader),
+    }
+}
+
 /// The template set that a plan names.
 fn templates_of(rt: &HostRuntime, plan: &Plan<'_>) -> Result<Templates, RunFault> {
     if plan.has_built_in() {
@@ -64,14 +100,14 @@ fn carry_out(rt: &HostRuntime, plan: &Plan<'_>) -> Result<ShowEnd, RunFault> {
             run_check(&templates, plan.limits(), &mut target)?;
             Ok(ShowEnd::Good)
         }
-        (Task::Show, None) => {
+        (_, None) => {
             let mut reader = Watched::new(rt.stdin());
-            show_from(rt, &templates, plan, &mut reader)
+            read_from(rt, &templates, plan, &mut reader)
         }
-        (Task::Show, Some(path)) => match fs::open(rt, path) {
+        (_, Some(path)) => match fs::open(rt, path) {
             Ok(file) => {
                 let mut reader = Watched::new(file);
-                show_from(rt, &templates, plan, &mut reader)
+                read_from(rt, &templates, plan, &mut reader)
             }
             Err(_) => Err(RunFault::Read),
         },

@@ -3,6 +3,8 @@
 use super::expect;
 use fast_command::{RunFault, ShowEnd, report};
 use fast_decoder::{Fault, FaultCode, MakeError};
+use fast_reading::faults::LineFault;
+use fast_spelling::EncodeFault;
 use fast_template::{StaticCode, StaticFault};
 use fast_text::ToBytes;
 use fast_value::Code;
@@ -54,6 +56,22 @@ fn each_end_has_its_status_and_its_line(rt: HostRuntime) {
             RunFault::Make(MakeError::InitialTooLong),
             2,
             "fastcat: limits 2\n",
+        ),
+        (
+            RunFault::Text {
+                line: 3,
+                kind: LineFault::UnknownTemplate,
+            },
+            1,
+            "fastcat: line 3 kind 2\n",
+        ),
+        (
+            RunFault::Encode {
+                message: 0,
+                fault: EncodeFault::E3,
+            },
+            1,
+            "fastcat: message 0 E3\n",
         ),
         (RunFault::Read, 3, "fastcat: reading failed\n"),
         (RunFault::Write, 3, "fastcat: writing failed\n"),

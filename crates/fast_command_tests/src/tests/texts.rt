@@ -10,7 +10,7 @@ use std::test::Fail;
 fn a_text_is_read_to_its_end(rt: HostRuntime) -> Result<(), Fail> {
     let text = [b'a'; 10_000];
     let mut source = FromBytes::new(&text);
-    let Ok(read) = read_whole(rt.alloc(), &mut source) else {
+    let Ok(read) = read_whole(rt.alloc(), 10_000, &mut source) else {
         return Err(Fail::from("the text is not read"));
     };
     expect(&rt, read.as_slice() == text.as_slice(), "whole", read.len());

@@ -75,6 +75,15 @@ fn words_and_their_plans(rt: HostRuntime) -> Result<(), Fail> {
             },
         ),
         (
+            ["fastcat", "convert", "t.toml", "lines", "--hex"].as_slice(),
+            Plan {
+                task: Task::Convert,
+                input: Some("lines"),
+                hex: true,
+                ..show
+            },
+        ),
+        (
             [
                 "fastcat",
                 "check",
@@ -125,6 +134,11 @@ fn words_that_are_refused(rt: HostRuntime) -> Result<(), Fail> {
         (
             ["fastcat", "show", "t.toml", "--max-total=4294967296"].as_slice(),
             ErrorKind::ValueValidation,
+            2,
+        ),
+        (
+            ["fastcat", "convert", "t.toml", "--strict"].as_slice(),
+            ErrorKind::UnknownArgument,
             2,
         ),
         (

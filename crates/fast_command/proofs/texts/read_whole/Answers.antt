@@ -1,22 +1,21 @@
-use Rattle.std.proofs.Common.{◌≡◌, ◌<◌, ◌++◌, ap, inr, length, take, rules, []}
+use Rattle.std.proofs.Common.{◌≡◌, ◌<◌, ◌++◌, ◌∙◌, refl, ap, inr, length, take, rules, [], List, ℕ}
 use Rattle.fast_text.proofs.Writing.{reads_none, reads_both, reads_no_more}
-use Rattle.fast_command.specs.Texts.{text_limit}
 use Rattle.fast_command.proofs.texts.read_whole.Goals as goal
 
 pub loop-read-init : goal.loop-read-init
-loop-read-init g c = record { bytes = search (rules, reads_none); many = search rules; few = search rules }
+loop-read-init g c = record { bytes = search (rules, reads_none); many = search rules; few = search rules; stays = refl }
 
 pub loop-read-preserved : goal.loop-read-preserved
-loop-read-preserved g c = record { bytes = let h = reads_both _ _ _ _ _ c.loop-read.invariant.bytes c.in-Ok.ensures.bytes in search (rules, h); many = search rules; few = search rules }
+loop-read-preserved g c = record { bytes = let h = reads_both _ _ _ _ _ c.loop-read.invariant.bytes c.in-Ok.ensures.bytes in search (rules, h); many = search rules; few = search rules; stays = c.in-Ok.ensures.stays ∙ c.loop-read.invariant.stays }
 
 pub returns-then-count-eq0-clause-whole : goal.returns-then-count-eq0-clause-whole
 returns-then-count-eq0-clause-whole g c =
     let none : take c.in-Ok.count c.read.new.buf ≡ [] = ap (λ n. take n c.read.new.buf) c.if-count-eq0.true in
     reads_no_more _ _ _ _ c.loop-read.invariant.bytes (rw none at c.in-Ok.ensures.bytes)
 
-pub returns-then-len-gt-LIMIT-clause-unread : goal.returns-then-len-gt-LIMIT-clause-unread
-returns-then-len-gt-LIMIT-clause-unread g c =
+pub returns-then-len-limit-clause-unread : goal.returns-then-len-limit-clause-unread
+returns-then-len-limit-clause-unread g c =
     let text = c.loop-read.text.items in
     let piece = take c.in-Ok.count c.read.new.buf in
-    let long : text_limit < length (text ++ piece) = search rules in
+    let long : c.args.limit < length (text ++ piece) = search rules in
     inr (text ++ piece, reads_both _ _ _ text piece c.loop-read.invariant.bytes c.in-Ok.ensures.bytes, long)

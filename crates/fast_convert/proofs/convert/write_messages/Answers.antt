@@ -1,0 +1,51 @@
+-- Each message is encoded from the dictionary that those before it have left.
+use Rattle.std.proofs.Common.{◌≡◌, ◌∙◌, rules, refl, inr, get_or}
+use Rattle.std.specs.Prelude.{IsTrue}
+use Rattle.fast_text.specs.Streams.{Appends, AppendsFront}
+use Rattle.fast_spelling.specs.declared.faults.EncodeFault.TheVariants as Fault
+use Rattle.fast_encoder.specs.Encoders.{tree}
+use Rattle.fast_convert.specs.Converting.{form}
+use Rattle.fast_convert.proofs.Coded.{coded_from, refused_from, so_more, so_cut, so_without, so_refused}
+use Rattle.fast_convert.proofs.convert.write_messages.Goals as goal
+
+pub returns-in-Err-Memory-clause-written : goal.returns-in-Err-Memory-clause-written
+returns-in-Err-Memory-clause-written g c =
+    let e = c.args.encoder.now in
+    so_without (tree e) e.limits c.args.hex e.dictionary c.args.messages.now c.loop-number.number _ _ c.loop-number.encoder.dictionary (IsTrue (g.T.Target.has_failed c.loop-number.writer)) c.loop-number.invariant.so
+
+pub returns-in-Err : goal.returns-in-Err
+returns-in-Err g c =
+    let e = c.args.encoder.now in
+    let m = c.index-messages-number.result in
+    let there : get_or c.args.messages.now c.loop-number.number m ≡ m = search rules in
+    let other : ¬ (c.in-Err.fault ≡ Fault.Memory) = search (rules, c.in-Err.is) in
+    let refused = refused_from e c.loop-number.encoder _ c.in-Err.fault c.loop-number.invariant.set c.loop-number.invariant.limits other c.in-Err.ensures.err in
+    record {
+      written = so_refused (tree e) e.limits c.args.hex e.dictionary c.args.messages.now c.loop-number.number _ _ _ m c.in-Err.fault (IsTrue (g.T.Target.has_failed c.loop-number.writer)) c.loop-number-test.true there c.loop-number.invariant.so refused;
+      told = inr c.loop-number.invariant.stays;
+    }
+
+pub returns-then-is_err-clause-written : goal.returns-then-is_err-clause-written
+returns-then-is_err-clause-written g c =
+    let e = c.args.encoder.now in
+    let m = c.index-messages-number.result in
+    let there : get_or c.args.messages.now c.loop-number.number m ≡ m = search rules in
+    let one = coded_from e c.loop-number.encoder c.encode.new.self _ _ _ c.loop-number.invariant.set c.loop-number.invariant.limits c.clear.ensures.items c.in-Ok.ensures.ok in
+    let part : AppendsFront (g.T.Target.written c.loop-number.writer) (g.T.Target.written c.write_bytes.new.writer) (form c.args.hex c.encode.new.out.items) = search (rules, c.write_bytes.ensures.part, c.is_err.ensures.value, c.if-is_err.true, c.deref.ensures.value) in
+    let failed : IsTrue (g.T.Target.has_failed c.write_bytes.new.writer) = search (rules, c.write_bytes.ensures.fails, c.is_err.ensures.value, c.if-is_err.true) in
+    so_cut (tree e) e.limits c.args.hex e.dictionary c.args.messages.now c.loop-number.number _ _ _ _ _ m c.encode.new.out.items _ c.loop-number-test.true there c.loop-number.invariant.so one part failed
+
+pub loop-number-preserved : goal.loop-number-preserved
+loop-number-preserved g c =
+    let e = c.args.encoder.now in
+    let m = c.index-messages-number.result in
+    let there : get_or c.args.messages.now c.loop-number.number m ≡ m = search rules in
+    let one = coded_from e c.loop-number.encoder c.encode.new.self _ _ _ c.loop-number.invariant.set c.loop-number.invariant.limits c.clear.ensures.items c.in-Ok.ensures.ok in
+    let written : Appends (g.T.Target.written c.loop-number.writer) (g.T.Target.written c.write_bytes.new.writer) (form c.args.hex c.encode.new.out.items) = search (rules, c.write_bytes.ensures.written, c.is_err.ensures.value, c.if-is_err.false, c.deref.ensures.value) in
+    let stays : g.T.Target.has_failed c.write_bytes.new.writer ≡ g.T.Target.has_failed c.loop-number.writer = search (rules, c.write_bytes.ensures.stays, c.is_err.ensures.value, c.if-is_err.false) in
+    record {
+      so = so_more (tree e) e.limits c.args.hex e.dictionary c.args.messages.now c.loop-number.number _ _ _ _ _ m c.encode.new.out.items c.loop-number-test.true there c.loop-number.invariant.so one written;
+      set = c.encode.ensures.same_set.0 ∙ c.loop-number.invariant.set;
+      limits = c.encode.ensures.same_set.1 ∙ c.loop-number.invariant.limits;
+      stays = stays ∙ c.loop-number.invariant.stays;
+    }

@@ -1,0 +1,119 @@
+//! Turns lines, as a stream is shown, back into the stream.
+
+ghost use Rattle.std.specs.Prelude.{◌≡◌, ◌⊎◌, map, Err, IsTrue, OnOk, OnErr};
+ghost use Rattle.std.specs.Io.KnownBytes.{IsAtEnd};
+ghost use Rattle.fast_value.specs.Views.{message_data};
+ghost use Rattle.fast_template.specs.Flat.{tree_of};
+ghost use Rattle.fast_dict.specs.Dictionary.{fresh};
+ghost use Rattle.fast_decoder.specs.Decoding.{AreBadLimits};
+ghost use Rattle.fast_encoder.specs.Encoders.{tree};
+ghost use Rattle.fast_text.specs.Streams.{Appends, AppendsFront};
+ghost use Rattle.fast_command.specs.Showing.{IsRefusal};
+ghost use Rattle.fast_convert.specs.Converting.{form, AreWritten, IsConverted};
+
+use fast_command::show::refusal;
+use fast_command::{RunFault, read_whole};
+use fast_encoder::{EncodeFault, Encoder, MakeError};
+use fast_reading::faults::TextFault;
+use fast_reading::messages::read_lines;
+use fast_template::Templates;
+use fast_text::{Failed, LineWriter, Room, Source, Target};
+use fast_value::{Limits, Message};
+use std::alloc::Global;
+
+/// The most bytes of a text of lines.
+const LIMIT: usize = 67_108_864;
+
+/// Writes the bytes of a message, or a line with their digits.
+fn write_bytes<T: Target>(bytes: &[u8], hex: bool, writer: &mut T) -> Result<(), Failed>
+    ensures written { OnOk result (Appends (T.written writer.old) (T.written writer.new) (form hex bytes.now)) }
+    ensures part { OnErr result (AppendsFront (T.written writer.old) (T.written writer.new) (form hex bytes.now)) }
+    ensures fails { OnErr result (IsTrue (T.has_failed writer.new)) }
+    ensures stays { OnOk result (T.has_failed writer.new ≡ T.has_failed writer.old) }
+{
+    if !hex {
+        return writer.write_all(bytes);
+    }
+    let mut room = Room::new();
+    let mut line = LineWriter::new(writer, &mut room);
+    line.put_hex(bytes);
+    line.put(b"\n");
+    line.finish()
+}
+
+/// Encodes messages, one after the other, and writes the bytes of each.
+fn write_messages<T: Target>(
+    alloc: Global,
+    encoder: &mut Encoder<'_>,
+    messages: &[Message],
+    hex: bool,
+    writer: &mut T,
+) -> Result<(), RunFault>
+    ensures written { AreWritten (tree encoder.old) encoder.old.limits hex encoder.old.dictionary (map message_data messages.now) (T.written writer.old) (T.written writer.new) (IsTrue (T.has_failed writer.new)) result }
+    ensures told { (result ≡ Err RunFault.Write) ⊎ (T.has_failed writer.new ≡ T.has_failed writer.old) }
+{
+    let mut bytes = Vec::new(alloc);
+    for (number, message) in messages.iter().enumerate() {
+        bytes.clear();
+        match encoder.encode(message, &mut bytes) {
+            Ok(()) => {}
+            Err(EncodeFault::Memory) => return Err(RunFault::Memory),
+            Err(fault) => {
+                return Err(RunFault::Encode {
+                    message: number as u64,
+                    fault,
+                });
+            }
+        }
+        if write_bytes(&bytes, hex, writer).is_err() {
+            return Err(RunFault::Write);
+        }
+    }
+    Ok(())
+}
+
+/// Turns lines into the stream of the messages whose lines they are: its bytes, or with `hex` a line of lower case digits for
+/// each message. The last LF of the lines may be missing.
+///
+/// Nothing is written before the whole text, of at most 67,108,864 bytes, was read and found to be the lines of messages. At a
+/// message that is not encoded the messages before it have been written. What was written is handed on at the end, whether all
+/// messages were or not.
+///
+/// # Errors
+///
+/// In this order: that there is no encoder with these limits; that the text cannot be read, or is too long; that it is not the
+/// lines of messages; that a message is not encoded; where there is no memory, or the writer fails, that.
+pub fn run_convert<S: Source, T: Target>(
+    alloc: Global,
+    templates: &Templates,
+    limits: Limits,
+    hex: bool,
+    reader: &mut S,
+    writer: &mut T,
+) -> Result<(), RunFault>
+    ensures converted { IsConverted templates.now limits hex (S.left reader.old) (S.left reader.new) (T.written writer.old) (T.written writer.new) (IsTrue (S.has_failed reader.new)) (IsTrue (T.has_failed writer.new)) result }
+    // A writer or a reader that fails is told.
+    ensures writer_told { (result ≡ Err RunFault.Write) ⊎ (T.has_failed writer.new ≡ T.has_failed writer.old) }
+    ensures reader_told { (result ≡ Err RunFault.Read) ⊎ (S.has_failed reader.new ≡ S.has_failed reader.old) }
+    ensures bad_limits { AreBadLimits limits → result ≡ Err (RunFault.Make MakeError.BadLimits) }
+    ensures long_initial { IsRefusal templates.now limits MakeError.InitialTooLong → result ≡ Err (RunFault.Make MakeError.InitialTooLong) }
+{
+    let mut encoder = match Encoder::new(alloc, templates, limits) {
+        Ok(encoder) => encoder,
+        Err(error) => return Err(refusal(error)),
+    };
+    let text = match read_whole(alloc, LIMIT, reader) {
+        Ok(text) => text,
+        Err(fault) => return Err(fault),
+    };
+    let messages = match read_lines(alloc, templates, &text) {
+        Ok(messages) => messages,
+        Err(TextFault::BadLine { line, kind }) => return Err(RunFault::Text { line, kind }),
+        Err(TextFault::Memory) => return Err(RunFault::Memory),
+    };
+    let ending = write_messages(alloc, &mut encoder, &messages, hex, writer);
+    match writer.flush() {
+        Ok(()) => ending,
+        Err(_) => Err(RunFault::Write),
+    }
+}

@@ -1,0 +1,6 @@
+//! Turns the lines of streams in the FAST encoding back into streams, over readers and writers.
+#![tactic(auto)]
+
+pub mod convert;
+
+pub use convert::run_convert;
