@@ -1,5 +1,5 @@
 -- Messages that are encoded one after the other.
-use Rattle.std.proofs.Common.{◌≡◌, ◌<◌, ◌≤◌, ◌+◌, ℕ, Bool, List, [], ◌∷◌, ◌++◌, Option, refl, ap, sym, subst, ◌∙◌, length, length-take, map, take, drop, append_assoc, append-nil, arith, get_or, inl, inr}
+use Rattle.std.proofs.Common.{◌≡◌, ◌<◌, ◌+◌, ℕ, Bool, List, [], ◌∷◌, ◌++◌, Option, refl, ap, sym, subst, ◌∙◌, length, length-take, map, take, drop, append_assoc, append-nil, arith, get_or, inl, inr}
 use Rattle.std.specs.Prelude.{flat_map, Err}
 use Rattle.std.proofs.lemmas.List.{take_more, take-append-drop, map-append, length-map}
 use Rattle.std.proofs.lemmas.Grind.{flat_map-append}

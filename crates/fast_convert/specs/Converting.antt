@@ -18,7 +18,7 @@ use Rattle.fast_reading.specs.Reading.{Says}
 use Rattle.fast_reading.specs.Runs.{IsLineOf}
 use Rattle.fast_text.specs.Streams.{Reads, Appends, AppendsFront}
 use Rattle.fast_command.specs.declared.faults.RunFault.{RunFault}
-use Rattle.fast_command.specs.declared.faults.RunFault.TheVariants.{Read, Write, BadHex, Templates as Refused, Make, Text, Encode, Memory}
+use Rattle.fast_command.specs.declared.faults.RunFault.TheVariants.{Read, Write, Make, Text, Encode, Memory}
 use Rattle.fast_command.specs.Showing.{IsRefusal}
 use Rattle.fast_command.specs.Texts.{IsUnread}
 

@@ -1,5 +1,5 @@
 -- Each message is encoded from the dictionary that those before it have left.
-use Rattle.std.proofs.Common.{◌≡◌, ◌∙◌, rules, refl, inr, get_or}
+use Rattle.std.proofs.Common.{◌≡◌, ◌∙◌, rules, inr, get_or}
 use Rattle.std.specs.Prelude.{IsTrue}
 use Rattle.fast_text.specs.Streams.{Appends, AppendsFront}
 use Rattle.fast_spelling.specs.declared.faults.EncodeFault.TheVariants as Fault
