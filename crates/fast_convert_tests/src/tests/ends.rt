@@ -82,12 +82,21 @@ fn a_line_at_fault_is_told_and_nothing_is_written(rt: HostRuntime) -> Result<(),
 #[test]
 fn the_messages_before_one_that_is_refused_are_written(rt: HostRuntime) -> Result<(), Fail> {
     let set = set_of(rt.alloc())?;
-    let text = "message T3\nfield 3 t a \"ABCDE\"\nend message\nmessage T3\nfield 3 t a \"AB\"\nend message\n";
+    let text =
+        "message T3\nfield 3 t a \"ABCDE\"\nend message\nmessage T3\nfield 3 t a \"AB\"\nend message\n";
     let end = Err(RunFault::Encode {
         message: 1,
         fault: EncodeFault::E3,
     });
-    expect_end(&rt, rt.alloc(), &set, LENIENT, text, end, "e08341424344c5\n");
+    expect_end(
+        &rt,
+        rt.alloc(),
+        &set,
+        LENIENT,
+        text,
+        end,
+        "e08341424344c5\n",
+    );
     Ok(())
 }
 

@@ -74,7 +74,8 @@ impl Write for Counted {
     }
 }
 
-const LINES: &[u8] = b"message T1\nfield 0 x u 942755\nend message\nmessage T1\nfield 0 x u 0\nend message\n";
+const LINES: &[u8] =
+    b"message T1\nfield 0 x u 942755\nend message\nmessage T1\nfield 0 x u 0\nend message\n";
 
 /// How many bytes the lines are as a stream.
 const WRITTEN: usize = 7;
@@ -98,7 +99,12 @@ fn a_reader_that_fails_at_any_call_is_told(rt: HostRuntime) -> Result<(), Fail> 
         } else {
             end == Ok(()) && target.bytes().len() == WRITTEN
         };
-        expect(&rt, is_right, "a reader that fails at a call", call as usize);
+        expect(
+            &rt,
+            is_right,
+            "a reader that fails at a call",
+            call as usize,
+        );
     }
     Ok(())
 }
@@ -118,7 +124,12 @@ fn a_reader_without_an_end_is_read_to_the_limit(rt: HostRuntime) -> Result<(), F
     let calls = source.into_inner().calls;
     // 67,108,864 bytes are 16,384 calls, and the next one is over the limit.
     let is_right = end == Err(RunFault::Read) && calls == 16_385 && target.bytes().is_empty();
-    expect(&rt, is_right, "calls of a reader without an end", calls as usize);
+    expect(
+        &rt,
+        is_right,
+        "calls of a reader without an end",
+        calls as usize,
+    );
     Ok(())
 }
 
