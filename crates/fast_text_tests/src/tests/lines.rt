@@ -116,20 +116,16 @@ const ROWS: [(&[Event<'static>], &[u8]); 4] = [
     (UNKNOWN, b"message \ngroup 6 \n"),
 ];
 
-/// Whether a sink over the cells, with fronts or none, writes these bytes of the events, and stops or not.
+/// Whether a sink over the cells writes these bytes of the events, and stops or not.
 fn is_written(
     set: &Templates,
-    fronts: Option<&Fronts<'_>>,
     cells: &mut [u8],
     events: &[Event<'_>],
     answer: Result<(), Stop>,
     bytes: &[u8],
 ) -> bool {
     let mut target = ToBytes::new(cells);
-    let mut sink = match fronts {
-        None => LineSink::new(set, &mut target),
-        Some(fronts) => LineSink::with_fronts(fronts, &mut target),
-    };
+    let mut sink = LineSink::new(set, &mut target);
     let mut taken = Ok(());
     for event in events {
         if taken.is_ok() {
@@ -139,27 +135,34 @@ fn is_written(
     taken == answer && target.failed() == answer.is_err() && target.bytes() == bytes
 }
 
+/// Whether a sink with fronts writes these bytes of the events.
+fn is_written_with(fronts: &Fronts<'_>, events: &[Event<'_>], bytes: &[u8]) -> bool {
+    let mut cells = [0; 512];
+    let mut target = ToBytes::new(&mut cells);
+    let mut sink = LineSink::with_fronts(fronts, &mut target);
+    let mut taken = Ok(());
+    for event in events {
+        if taken.is_ok() {
+            taken = sink.take(*event);
+        }
+    }
+    taken.is_ok() && !target.failed() && target.bytes() == bytes
+}
+
 #[test]
 fn each_event_is_its_line(rt: HostRuntime) -> Result<(), Fail> {
     let set = set(rt.alloc())?;
     let fronts = Fronts::new(rt.alloc(), &set)?;
     for (events, lines) in ROWS {
-        for fronts in [None, Some(&fronts)] {
-            let is_written = is_written(&set, fronts, &mut [0; 512], events, Ok(()), lines);
-            assert!(rt; is_written, "{events:?}");
-        }
+        let is_written = is_written(&set, &mut [0; 512], events, Ok(()), lines);
+        assert!(rt; is_written, "{events:?}");
+        let is_written = is_written_with(&fronts, events, lines);
+        assert!(rt; is_written, "{events:?} with fronts");
     }
     for room in 0..12 {
         let mut cells = [0; 12];
         let front = &b"message T15\n"[..room];
-        let stops = is_written(
-            &set,
-            None,
-            &mut cells[..room],
-            &EVENTS[..1],
-            Err(Stop),
-            front,
-        );
+        let stops = is_written(&set, &mut cells[..room], &EVENTS[..1], Err(Stop), front);
         assert!(rt; stops, "in {room}");
     }
     Ok(())
@@ -221,14 +224,6 @@ fields = [{kind="uInt32", name="abcdefghijklmnopqrstuvwxyzabcdefghijklmnopqrstuv
     let set = Templates::read(rt.alloc(), text)?;
     let fronts = Fronts::new(rt.alloc(), &set)?;
     let line = b"field 0 abcdefghijklmnopqrstuvwxyzabcdefghijklmnopqrstuvwxyz u 5\n";
-    let is_written = is_written(
-        &set,
-        Some(&fronts),
-        &mut [0; 512],
-        &EVENTS[1..2],
-        Ok(()),
-        line,
-    );
-    assert!(rt; is_written);
+    assert!(rt; is_written_with(&fronts, &EVENTS[1..2], line));
     Ok(())
 }
