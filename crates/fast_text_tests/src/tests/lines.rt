@@ -7,7 +7,7 @@ use Event::{
 use Scalar::{Ascii, Bytes, Dec, I, U, Unicode};
 use fast_decoder::{Event, Sink, Stop};
 use fast_template::Templates;
-use fast_text::{Fronts, LineSink, Target, ToBytes};
+use fast_text::{LineSink, Target, ToBytes};
 use fast_value::Scalar;
 use std::alloc::Global;
 use std::test::Fail;
@@ -135,29 +135,12 @@ fn is_written(
     taken == answer && target.failed() == answer.is_err() && target.bytes() == bytes
 }
 
-/// Whether a sink with fronts writes these bytes of the events.
-fn is_written_with(fronts: &Fronts<'_>, events: &[Event<'_>], bytes: &[u8]) -> bool {
-    let mut cells = [0; 512];
-    let mut target = ToBytes::new(&mut cells);
-    let mut sink = LineSink::with_fronts(fronts, &mut target);
-    let mut taken = Ok(());
-    for event in events {
-        if taken.is_ok() {
-            taken = sink.take(*event);
-        }
-    }
-    taken.is_ok() && !target.failed() && target.bytes() == bytes
-}
-
 #[test]
 fn each_event_is_its_line(rt: HostRuntime) -> Result<(), Fail> {
     let set = set(rt.alloc())?;
-    let fronts = Fronts::new(rt.alloc(), &set)?;
     for (events, lines) in ROWS {
         let is_written = is_written(&set, &mut [0; 512], events, Ok(()), lines);
         assert!(rt; is_written, "{events:?}");
-        let is_written = is_written_with(&fronts, events, lines);
-        assert!(rt; is_written, "{events:?} with fronts");
     }
     for room in 0..12 {
         let mut cells = [0; 12];
@@ -209,21 +192,5 @@ fn a_long_text_stands_in_its_line(rt: HostRuntime) -> Result<(), Fail> {
     let taken = LineSink::new(&set, &mut target).take(event);
     assert_eq!(rt; taken, Ok(()));
     assert!(rt; text_in(target.bytes()) == text.as_slice());
-    Ok(())
-}
-
-/// A name so long that its front is not made stands in its line all the same.
-#[test]
-fn a_long_name_stands_in_its_line(rt: HostRuntime) -> Result<(), Fail> {
-    let text = r#"
-[[template]]
-name = "T"
-id = 1
-fields = [{kind="uInt32", name="abcdefghijklmnopqrstuvwxyzabcdefghijklmnopqrstuvwxyz"}]
-"#;
-    let set = Templates::read(rt.alloc(), text)?;
-    let fronts = Fronts::new(rt.alloc(), &set)?;
-    let line = b"field 0 abcdefghijklmnopqrstuvwxyzabcdefghijklmnopqrstuvwxyz u 5\n";
-    assert!(rt; is_written_with(&fronts, &EVENTS[1..2], line));
     Ok(())
 }
