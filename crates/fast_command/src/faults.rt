@@ -91,7 +91,7 @@ impl From<StaticFault> for RunFault {
     }
 }
 
-/// Writes the line for standard error, if there is one, and answers the status of the program, also if the write fails.
+/// Says on standard error how a run has ended, where there is anything to say. The answer is the program's status, whether that could be written or not.
 pub fn report<T: Target>(ending: &Result<ShowEnd, RunFault>, target: &mut T) -> u8
     ensures { result ≡ status_of ending.now }
 {

@@ -85,7 +85,7 @@ impl<'t> Decoder<'t> {
         ensures carried { (w : List ℕ) (es : List EventData) → So self.old w es → Carried S.takes S.stops self.old w es piece.now sink.old result self.new sink.new }
         ensures answer { result ≡ answer self.new.fault }
         ensures same_set { (tree self.new ≡ tree self.old) × (self.new.limits ≡ self.old.limits) }
-        // A decoder that has stopped answers the same fault, consumes nothing, and calls no sink.
+        // Once there is a fault it stays: the decoder says of itself what it said before, and the sink hears nothing.
         ensures stopped { IsSome self.old.fault → (standing self.new ≡ standing self.old) × (sink.new ≡ sink.old) }
         // L4 comes exactly where the bytes can no longer be counted.
         ensures counted { self.old.fault ≡ None → (IsUncounted result ↔ (2 ^ 64 ≤ self.old.consumed + length piece.now)) }

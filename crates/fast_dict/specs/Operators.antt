@@ -106,7 +106,7 @@ tail_base f (assigned kind v) = of_kind f.kind kind v
 tail_base f undefined = Ok (start_value f)
 tail_base f empty = Ok (start_value f)
 
--- A tail no longer than the base replaces as many items at its end. A longer one is the whole value.
+-- A tail takes the place of the base's last items, one for one. Where the base has too few of them, the tail is all of the value.
 abbrev pub with_tail : List ℕ → List ℕ → List ℕ
 with_tail base part = if nat_le (length part) (length base) then take (length base - length part) base ++ part else part
 

@@ -24,7 +24,7 @@ appending base v = text_delta (pos (length base - common_front base v)) (drop (c
 abbrev pub prepending : List ℕ → List ℕ → Sent
 prepending base v = text_delta (negsuc (length base - common_back base v)) (take (length v - common_back base v) v)
 
--- The prepending form is taken only if its part is shorter, so only if the common back is longer.
+-- Where both forms send parts of one length, the appending one wins: a text is sent for the front only if more is common at the back.
 abbrev pub IsTextDelta : List ℕ → List ℕ → Sent → Type 0
 IsTextDelta base v item =
     (common_back base v ≤ common_front base v) × (item ≡ appending base v)

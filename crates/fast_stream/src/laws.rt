@@ -42,7 +42,7 @@ pub fn message_events()
     ensures { (t : Tree) (l : Limits) (d : Dictionary) (w : List ℕ) (es : List EventData) (r : MessageData × Dictionary) → message t l d w es (whole r) → es ≡ events t r.0 }
 {}
 
-/// A message spelled in strict mode is spelled in lenient mode.
+/// Lenient mode takes what strict mode takes: bytes that spell a message there spell it here too.
 pub fn strict_is_lenient()
     ensures { (t : Tree) (l : Limits) (d : Dictionary) (m : MessageData) (w : List ℕ) (d' : Dictionary) → SpellsMessage t (in_mode true l) d m w d' → SpellsMessage t l d m w d' }
 {}

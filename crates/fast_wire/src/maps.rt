@@ -51,7 +51,7 @@ pub fn map_bit(map: &[u8], i: usize) -> bool
     byte < map.len() && (map[byte] >> (6 - i % 7)) % 2 == 1
 }
 
-/// Whether a whole map has more than seven bits, of which the last seven are zero.
+/// Whether the last byte of a whole map could be left out: there are others before it, and none of its seven bits is set.
 #[inline]
 pub fn map_overlong(map: &[u8]) -> bool
     requires entity { IsEntity map.now }

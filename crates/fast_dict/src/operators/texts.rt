@@ -1,7 +1,7 @@
 //! Texts under a delta and a tail.
 //!
-//! Both are answered in steps. What is kept of the base is known before the part that is sent; the caller joins the two
-//! in a buffer of its own, and the last step checks the whole text.
+//! Both are answered in steps: first what is kept of the base, before the part that is sent has come. The caller puts the two
+//! together where it likes, and the text that comes of it is checked at the end.
 
 ghost use Rattle.std.specs.Prelude.{◌≡◌, ◌-◌, ◌++◌, ℕ, List, length, ◌≤◌, nat_le, if◌then◌else◌, SomeIff};
 ghost use Rattle.std.specs.Str.{is_utf8};
