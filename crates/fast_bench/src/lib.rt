@@ -1,142 +1,18 @@
-//! One run of the decoder or the encoder over a stream in memory, for callers from C that measure or test them.
+//! Runs of the decoder and the encoder over streams in memory, for callers from C that measure or test them.
 #![tactic(auto)]
 
-ghost use Rattle.std.specs.Prelude.{◌<◌};
-
-mod again;
-mod encode;
-mod sinks;
-mod stops;
-mod trees;
-
-use crate::sinks::{Check, Count, Tallied};
-use fast_decoder::{Decoder, FaultCode, Sink};
-use fast_template::Templates;
-use fast_value::{Code, Limits};
+use fast_measure::{decode, encode, stop_and_decode, three_ways};
+use fast_value::Limits;
 use std::alloc::Global;
 
-/// The status of a run that ended between two messages.
-const BETWEEN: u64 = 0;
-
-/// The status of a run that ended inside a message.
-const INSIDE: u64 = 1;
-
-/// The status of a run for which no decoder was made.
-const NOT_MADE: u64 = 256;
-
-/// What a run came to.
-#[derive(Clone, Copy)]
-struct Answer {
-    status: u64,
-    consumed: u64,
-    events: u64,
-    sum: u64,
-}
-
-impl Answer {
-    /// The answer where no decoder is made.
-    const NOT_MADE: Answer = Answer {
-        status: NOT_MADE,
-        consumed: 0,
-        events: 0,
-        sum: 0,
-    };
-
-    /// Writes the four numbers, each as eight bytes, the least first.
-    fn write_to(&self, out: &mut [u8; 32]) {
-        out[..8].copy_from_slice(&self.status.to_le_bytes());
-        out[8..16].copy_from_slice(&self.consumed.to_le_bytes());
-        out[16..24].copy_from_slice(&self.events.to_le_bytes());
-        out[24..].copy_from_slice(&self.sum.to_le_bytes());
+/// The limits of a call.
+fn limits_of(strict: u32, max_text: u32, max_elements: u32, max_total: u32) -> Limits {
+    Limits {
+        strict: strict != 0,
+        max_text: max_text as usize,
+        max_elements,
+        max_total,
     }
-}
-
-/// The status of a stream at fault, from 2.
-fn status_of(code: FaultCode) -> u64 {
-    match code {
-        FaultCode::Stream(code) => match code {
-            Code::D2 => 2,
-            Code::D4 => 3,
-            Code::D5 => 4,
-            Code::D6 => 5,
-            Code::D7 => 6,
-            Code::D9 => 7,
-            Code::R1 => 8,
-            Code::R2 => 9,
-            Code::R6 => 10,
-            Code::R7 => 11,
-            Code::R8 => 12,
-            Code::R9 => 13,
-            Code::L1 => 14,
-            Code::L2 => 15,
-            Code::L3 => 16,
-            Code::L5 => 17,
-        },
-        FaultCode::L4 => 18,
-        FaultCode::SinkStopped => 19,
-    }
-}
-
-/// The template set of a text.
-fn read_set(alloc: Global, text: &[u8]) -> Option<Templates> {
-    let Ok(text) = std::str::from_utf8(text) else {
-        return None;
-    };
-    match Templates::read(alloc, text) {
-        Ok(set) => Some(set),
-        Err(_) => None,
-    }
-}
-
-/// Feeds a stream, in pieces of so many bytes, to a decoder.
-fn feed_all<S: Sink>(decoder: &mut Decoder<'_>, stream: &[u8], piece: usize, sink: &mut S) -> u64
-    requires { 0 < piece }
-{
-    for bytes in stream.chunks(piece) {
-        if let Err(fault) = decoder.feed(bytes, sink) {
-            return status_of(fault.code);
-        }
-    }
-    if decoder.between() { BETWEEN } else { INSIDE }
-}
-
-/// Feeds a stream to a decoder between two messages, and says what came of it.
-fn answer_of<S: Tallied>(
-    decoder: &mut Decoder<'_>,
-    stream: &[u8],
-    piece: usize,
-    mut sink: S,
-) -> Answer
-    requires { 0 < piece }
-{
-    let status = feed_all(decoder, stream, piece, &mut sink);
-    let tally = sink.tally();
-    Answer {
-        status,
-        consumed: decoder.consumed(),
-        events: tally.events,
-        sum: tally.sum,
-    }
-}
-
-/// Runs a new decoder over a stream.
-fn run<S: Tallied>(
-    alloc: Global,
-    templates: &[u8],
-    limits: Limits,
-    stream: &[u8],
-    piece: usize,
-    sink: S,
-) -> Answer
-    requires { 0 < piece }
-{
-    let Some(set) = read_set(alloc, templates) else {
-        return Answer::NOT_MADE;
-    };
-    let Ok(mut decoder) = Decoder::new(alloc, &set, limits) else {
-        return Answer::NOT_MADE;
-    };
-    answer_of(&mut decoder, stream, piece, sink)
 }
 
 /// Decodes a stream under a template set, fed in pieces of so many bytes, or in one where `piece` is 0.
@@ -157,17 +33,90 @@ pub extern "C" fn fast_bench_run(
     max_total: u32,
     out: &mut [u8; 32],
 ) {
-    let limits = Limits {
-        strict: strict != 0,
-        max_text: max_text as usize,
-        max_elements,
-        max_total,
-    };
-    let piece = if piece == 0 { usize::MAX } else { piece };
-    let answer = if sink == 0 {
-        run(alloc, templates, limits, stream, piece, Count::new())
-    } else {
-        run(alloc, templates, limits, stream, piece, Check::new())
-    };
-    answer.write_to(out);
+    let limits = limits_of(strict, max_text, max_elements, max_total);
+    decode(alloc, templates, limits, stream, piece, sink == 0).write_to(out);
+}
+
+/// Decodes a stream twice, fed in pieces of so many bytes, or in one where `piece` is 0: first with a sink that takes `most` events and
+/// stops at the next, and then, behind a reset, with one that does not stop. The answers, with checksums, are those of `fast_bench_run`.
+#[unsafe(no_mangle)]
+pub extern "C" fn fast_bench_stop(
+    alloc: Global,
+    templates: &[u8],
+    stream: &[u8],
+    piece: usize,
+    strict: u32,
+    max_text: u32,
+    max_elements: u32,
+    max_total: u32,
+    most: u64,
+    stopped: &mut [u8; 32],
+    again: &mut [u8; 32],
+) {
+    let limits = limits_of(strict, max_text, max_elements, max_total);
+    let runs = stop_and_decode(alloc, templates, limits, stream, piece, most);
+    runs.stopped.write_to(stopped);
+    runs.again.write_to(again);
+}
+
+/// Decodes a stream whole; in pieces of so many bytes, or in one where `piece` is 0; and, whatever `strict` says, leniently into
+/// messages, which are encoded, and what was encoded is decoded in strict mode.
+///
+/// The three answers, with checksums, are those of `fast_bench_run`; the third one is that of the last decoding. Where the stream does not
+/// end between two messages, or a message was refused, it is that status alone (as `fast_bench_encode` tells it).
+#[unsafe(no_mangle)]
+pub extern "C" fn fast_bench_three_ways(
+    alloc: Global,
+    templates: &[u8],
+    stream: &[u8],
+    piece: usize,
+    strict: u32,
+    max_text: u32,
+    max_elements: u32,
+    max_total: u32,
+    whole: &mut [u8; 32],
+    pieces: &mut [u8; 32],
+    again: &mut [u8; 32],
+) {
+    let limits = limits_of(strict, max_text, max_elements, max_total);
+    let ways = three_ways(alloc, templates, limits, stream, piece);
+    ways.whole.write_to(whole);
+    ways.pieces.write_to(pieces);
+    ways.again.write_to(again);
+}
+
+/// Decodes a stream under a template set into messages, once, and encodes these so many times, each time from a reset encoder.
+///
+/// Four numbers are written to `out`, each as eight bytes, the least first: the status (as `fast_bench_run` tells how the stream
+/// ended, 0 to 19; 256 where a set, a decoder or an encoder was not made; from 513 where a message was refused: E1, E2, E3, E4, R9, no
+/// memory), the number of messages, the number of bytes of all rounds, and the checksum of the last round's bytes.
+#[unsafe(no_mangle)]
+pub extern "C" fn fast_bench_encode(
+    alloc: Global,
+    templates: &[u8],
+    stream: &[u8],
+    rounds: u32,
+    max_text: u32,
+    max_elements: u32,
+    max_total: u32,
+    out: &mut [u8; 32],
+) {
+    let limits = limits_of(0, max_text, max_elements, max_total);
+    encode(alloc, templates, limits, stream, Some(rounds)).write_to(out);
+}
+
+/// Decodes a stream under a template set into messages, and encodes each, once more where memory was refused. The answer is that of
+/// `fast_bench_encode` with one round.
+#[unsafe(no_mangle)]
+pub extern "C" fn fast_bench_encode_patiently(
+    alloc: Global,
+    templates: &[u8],
+    stream: &[u8],
+    max_text: u32,
+    max_elements: u32,
+    max_total: u32,
+    out: &mut [u8; 32],
+) {
+    let limits = limits_of(0, max_text, max_elements, max_total);
+    encode(alloc, templates, limits, stream, None).write_to(out);
 }

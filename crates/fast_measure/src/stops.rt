@@ -1,9 +1,7 @@
-//! A run of the decoder with a sink that stops, and one behind a reset, for callers from C that test it.
+//! A run of the decoder with a sink that stops, and one behind a reset.
 
-ghost use Rattle.std.specs.Prelude.{◌<◌};
-
+use crate::decode::{Answer, answer_of, bytes_of, read_set};
 use crate::sinks::{Check, Tallied, Tally};
-use crate::{Answer, answer_of, read_set};
 use fast_decoder::{Decoder, Event, Sink, Stop};
 use fast_value::Limits;
 use std::alloc::Global;
@@ -39,9 +37,11 @@ impl Tallied for Stopping {
 
 /// What came of a stream whose sink stopped, and then, behind a reset, of the same stream with one that does not.
 #[derive(Clone, Copy)]
-struct Runs {
-    stopped: Answer,
-    again: Answer,
+pub struct Runs {
+    /// With the sink that stops.
+    pub stopped: Answer,
+    /// Behind the reset.
+    pub again: Answer,
 }
 
 impl Runs {
@@ -52,23 +52,23 @@ impl Runs {
     };
 }
 
-/// Runs a new decoder over a stream with a sink that stops behind so many events; resets it; and runs it over the stream once more.
-fn run_twice(
+/// Decodes a stream twice, fed in pieces of so many bytes, or in one where `piece` is 0: first with a sink that takes `most` events and
+/// stops at the next, and then, behind a reset, with one that does not stop. Both with checksums.
+pub fn stop_and_decode(
     alloc: Global,
     templates: &[u8],
     limits: Limits,
     stream: &[u8],
     piece: usize,
     most: u64,
-) -> Runs
-    requires { 0 < piece }
-{
+) -> Runs {
     let Some(set) = read_set(alloc, templates) else {
         return Runs::NOT_MADE;
     };
     let Ok(mut decoder) = Decoder::new(alloc, &set, limits) else {
         return Runs::NOT_MADE;
     };
+    let piece = bytes_of(piece);
     let stopping = Stopping {
         check: Check::new(),
         left: most,
@@ -79,32 +79,4 @@ fn run_twice(
         stopped,
         again: answer_of(&mut decoder, stream, piece, Check::new()),
     }
-}
-
-/// Decodes a stream twice, fed in pieces of so many bytes, or in one where `piece` is 0: first with a sink that takes `most` events and
-/// stops at the next, and then, behind a reset, with one that does not stop. The answers, with checksums, are those of `fast_bench_run`.
-#[unsafe(no_mangle)]
-pub extern "C" fn fast_bench_stop(
-    alloc: Global,
-    templates: &[u8],
-    stream: &[u8],
-    piece: usize,
-    strict: u32,
-    max_text: u32,
-    max_elements: u32,
-    max_total: u32,
-    most: u64,
-    stopped: &mut [u8; 32],
-    again: &mut [u8; 32],
-) {
-    let limits = Limits {
-        strict: strict != 0,
-        max_text: max_text as usize,
-        max_elements,
-        max_total,
-    };
-    let piece = if piece == 0 { usize::MAX } else { piece };
-    let runs = run_twice(alloc, templates, limits, stream, piece, most);
-    runs.stopped.write_to(stopped);
-    runs.again.write_to(again);
 }

@@ -1,8 +1,8 @@
-//! One run of the encoder over the messages of a stream in memory, for callers from C that measure or test it.
+//! One run of the encoder over the messages of a stream in memory.
 
+use crate::decode::{BETWEEN, NOT_MADE, feed_all, read_set};
 use crate::sinks::with_bytes;
 use crate::trees::Trees;
-use crate::{BETWEEN, NOT_MADE, feed_all, read_set};
 use fast_decoder::Decoder;
 use fast_encoder::{EncodeFault, Encoder};
 use fast_value::{Limits, Message};
@@ -10,11 +10,15 @@ use std::alloc::Global;
 
 /// What a run came to.
 #[derive(Clone, Copy)]
-struct Encoded {
-    status: u64,
-    messages: u64,
-    bytes: u64,
-    sum: u64,
+pub struct Encoded {
+    /// How the stream ended, as that of an `Answer` says; from 513 where a message was refused: E1, E2, E3, E4, R9, no memory.
+    pub status: u64,
+    /// The number of messages.
+    pub messages: u64,
+    /// The number of bytes of all rounds.
+    pub bytes: u64,
+    /// The checksum of the last round's bytes.
+    pub sum: u64,
 }
 
 impl Encoded {
@@ -29,7 +33,7 @@ impl Encoded {
     }
 
     /// Writes the four numbers, each as eight bytes, the least first.
-    fn write_to(&self, out: &mut [u8; 32]) {
+    pub fn write_to(&self, out: &mut [u8; 32]) {
         out[..8].copy_from_slice(&self.status.to_le_bytes());
         out[8..16].copy_from_slice(&self.messages.to_le_bytes());
         out[16..24].copy_from_slice(&self.bytes.to_le_bytes());
@@ -114,8 +118,9 @@ fn encode_rounds(
     })
 }
 
-/// Decodes a stream into messages, and encodes these so many times; patiently, where no number is given.
-fn run(
+/// Decodes a stream under a template set into messages, once, and encodes these so many times, each time from a reset encoder. Where no
+/// number is given it encodes each message once, and once more where memory was refused.
+pub fn encode(
     alloc: Global,
     templates: &[u8],
     limits: Limits,
@@ -143,51 +148,5 @@ fn run(
     match encoded {
         Ok(encoded) => encoded,
         Err(fault) => Encoded::failed(status_of(fault)),
-    }
-}
-
-/// Decodes a stream under a template set into messages, once, and encodes these so many times, each time from a reset encoder.
-///
-/// Four numbers are written to `out`, each as eight bytes, the least first: the status (as `fast_bench_run` tells how the stream
-/// ended, 0 to 19; 256 where a set, a decoder or an encoder was not made; from 513 where a message was refused: E1, E2, E3, E4, R9, no
-/// memory), the number of messages, the number of bytes of all rounds, and the checksum of the last round's bytes.
-#[unsafe(no_mangle)]
-pub extern "C" fn fast_bench_encode(
-    alloc: Global,
-    templates: &[u8],
-    stream: &[u8],
-    rounds: u32,
-    max_text: u32,
-    max_elements: u32,
-    max_total: u32,
-    out: &mut [u8; 32],
-) {
-    let limits = lenient(max_text, max_elements, max_total);
-    run(alloc, templates, limits, stream, Some(rounds)).write_to(out);
-}
-
-/// Decodes a stream under a template set into messages, and encodes each, once more where memory was refused. The answer is that of
-/// `fast_bench_encode` with one round.
-#[unsafe(no_mangle)]
-pub extern "C" fn fast_bench_encode_patiently(
-    alloc: Global,
-    templates: &[u8],
-    stream: &[u8],
-    max_text: u32,
-    max_elements: u32,
-    max_total: u32,
-    out: &mut [u8; 32],
-) {
-    let limits = lenient(max_text, max_elements, max_total);
-    run(alloc, templates, limits, stream, None).write_to(out);
-}
-
-/// The limits of a decoder that is not strict.
-fn lenient(max_text: u32, max_elements: u32, max_total: u32) -> Limits {
-    Limits {
-        strict: false,
-        max_text: max_text as usize,
-        max_elements,
-        max_total,
     }
 }

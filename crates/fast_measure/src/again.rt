@@ -1,11 +1,11 @@
-//! Streams that are decoded whole, in pieces, and again behind the encoder, for callers from C that test them.
+//! Streams that are decoded whole, in pieces, and again behind the encoder, for tests.
 
 ghost use Rattle.std.specs.Prelude.{◌<◌};
 
+use crate::decode::{Answer, BETWEEN, answer_of, bytes_of, feed_all, read_set};
 use crate::encode::{encode_all, status_of};
 use crate::sinks::Check;
 use crate::trees::Trees;
-use crate::{Answer, BETWEEN, answer_of, feed_all, read_set};
 use fast_decoder::Decoder;
 use fast_encoder::Encoder;
 use fast_template::Templates;
@@ -65,39 +65,44 @@ fn run_once(alloc: Global, set: &Templates, limits: Limits, stream: &[u8], piece
     }
 }
 
-/// Decodes a stream whole; in pieces of so many bytes, or in one where `piece` is 0; and, whatever `strict` says, leniently into
-/// messages, which are encoded, and what was encoded is decoded in strict mode.
+/// What three ways to decode a stream came to.
+#[derive(Clone, Copy)]
+pub struct ThreeWays {
+    /// Whole.
+    pub whole: Answer,
+    /// In pieces.
+    pub pieces: Answer,
+    /// Behind the encoder.
+    pub again: Answer,
+}
+
+impl ThreeWays {
+    /// Where there is no template set.
+    const NOT_MADE: ThreeWays = ThreeWays {
+        whole: Answer::NOT_MADE,
+        pieces: Answer::NOT_MADE,
+        again: Answer::NOT_MADE,
+    };
+}
+
+/// Decodes a stream whole; in pieces of so many bytes, or in one where `piece` is 0; and, whatever the limits say of strictness, leniently
+/// into messages, which are encoded, and what was encoded is decoded in strict mode.
 ///
-/// The three answers, with checksums, are those of `fast_bench_run`; the third one is that of the last decoding. Where the stream does not
-/// end between two messages, or a message was refused, it is that status alone (as `fast_bench_encode` tells it).
-#[unsafe(no_mangle)]
-pub extern "C" fn fast_bench_three_ways(
+/// All with checksums. Where the stream does not end between two messages, or a message was refused, the third answer is that status
+/// alone, as `encode` tells it.
+pub fn three_ways(
     alloc: Global,
     templates: &[u8],
+    limits: Limits,
     stream: &[u8],
     piece: usize,
-    strict: u32,
-    max_text: u32,
-    max_elements: u32,
-    max_total: u32,
-    whole: &mut [u8; 32],
-    pieces: &mut [u8; 32],
-    again: &mut [u8; 32],
-) {
-    let limits = Limits {
-        strict: strict != 0,
-        max_text: max_text as usize,
-        max_elements,
-        max_total,
-    };
+) -> ThreeWays {
     let Some(set) = read_set(alloc, templates) else {
-        Answer::NOT_MADE.write_to(whole);
-        Answer::NOT_MADE.write_to(pieces);
-        Answer::NOT_MADE.write_to(again);
-        return;
+        return ThreeWays::NOT_MADE;
     };
-    let piece = if piece == 0 { usize::MAX } else { piece };
-    run_once(alloc, &set, limits, stream, usize::MAX).write_to(whole);
-    run_once(alloc, &set, limits, stream, piece).write_to(pieces);
-    run_again(alloc, &set, limits, stream).write_to(again);
+    ThreeWays {
+        whole: run_once(alloc, &set, limits, stream, usize::MAX),
+        pieces: run_once(alloc, &set, limits, stream, bytes_of(piece)),
+        again: run_again(alloc, &set, limits, stream),
+    }
 }

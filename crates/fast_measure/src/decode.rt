@@ -1,0 +1,161 @@
+//! Runs of the decoder over a stream in memory.
+
+ghost use Rattle.std.specs.Prelude.{◌<◌};
+
+use crate::sinks::{Check, Count, Tallied};
+use fast_decoder::{Decoder, FaultCode, Sink};
+use fast_template::Templates;
+use fast_value::{Code, Limits};
+use std::alloc::Global;
+
+/// The status of a run that ended between two messages.
+pub const BETWEEN: u64 = 0;
+
+/// The status of a run that ended inside a message.
+const INSIDE: u64 = 1;
+
+/// The status of a run for which no decoder was made.
+pub const NOT_MADE: u64 = 256;
+
+/// What a run came to.
+#[derive(Clone, Copy)]
+pub struct Answer {
+    /// 0 between two messages, 1 inside of one, 2 to 19 at a fault, 256 where no decoder was made.
+    pub status: u64,
+    /// The number of bytes consumed.
+    pub consumed: u64,
+    /// The number of events.
+    pub events: u64,
+    /// What stands for their values.
+    pub sum: u64,
+}
+
+impl Answer {
+    /// The answer where no decoder is made.
+    pub const NOT_MADE: Answer = Answer {
+        status: NOT_MADE,
+        consumed: 0,
+        events: 0,
+        sum: 0,
+    };
+
+    /// Writes the four numbers, each as eight bytes, the least first.
+    pub fn write_to(&self, out: &mut [u8; 32]) {
+        out[..8].copy_from_slice(&self.status.to_le_bytes());
+        out[8..16].copy_from_slice(&self.consumed.to_le_bytes());
+        out[16..24].copy_from_slice(&self.events.to_le_bytes());
+        out[24..].copy_from_slice(&self.sum.to_le_bytes());
+    }
+}
+
+/// The status of a stream at fault, from 2.
+fn status_of(code: FaultCode) -> u64 {
+    match code {
+        FaultCode::Stream(code) => match code {
+            Code::D2 => 2,
+            Code::D4 => 3,
+            Code::D5 => 4,
+            Code::D6 => 5,
+            Code::D7 => 6,
+            Code::D9 => 7,
+            Code::R1 => 8,
+            Code::R2 => 9,
+            Code::R6 => 10,
+            Code::R7 => 11,
+            Code::R8 => 12,
+            Code::R9 => 13,
+            Code::L1 => 14,
+            Code::L2 => 15,
+            Code::L3 => 16,
+            Code::L5 => 17,
+        },
+        FaultCode::L4 => 18,
+        FaultCode::SinkStopped => 19,
+    }
+}
+
+/// The template set of a text.
+pub fn read_set(alloc: Global, text: &[u8]) -> Option<Templates> {
+    let Ok(text) = std::str::from_utf8(text) else {
+        return None;
+    };
+    match Templates::read(alloc, text) {
+        Ok(set) => Some(set),
+        Err(_) => None,
+    }
+}
+
+/// Feeds a stream, in pieces of so many bytes, to a decoder.
+pub fn feed_all<S: Sink>(decoder: &mut Decoder<'_>, stream: &[u8], piece: usize, sink: &mut S) -> u64
+    requires { 0 < piece }
+{
+    for bytes in stream.chunks(piece) {
+        if let Err(fault) = decoder.feed(bytes, sink) {
+            return status_of(fault.code);
+        }
+    }
+    if decoder.between() { BETWEEN } else { INSIDE }
+}
+
+/// Feeds a stream to a decoder between two messages, and says what came of it.
+pub fn answer_of<S: Tallied>(
+    decoder: &mut Decoder<'_>,
+    stream: &[u8],
+    piece: usize,
+    mut sink: S,
+) -> Answer
+    requires { 0 < piece }
+{
+    let status = feed_all(decoder, stream, piece, &mut sink);
+    let tally = sink.tally();
+    Answer {
+        status,
+        consumed: decoder.consumed(),
+        events: tally.events,
+        sum: tally.sum,
+    }
+}
+
+/// Runs a new decoder over a stream.
+fn run<S: Tallied>(
+    alloc: Global,
+    templates: &[u8],
+    limits: Limits,
+    stream: &[u8],
+    piece: usize,
+    sink: S,
+) -> Answer
+    requires { 0 < piece }
+{
+    let Some(set) = read_set(alloc, templates) else {
+        return Answer::NOT_MADE;
+    };
+    let Ok(mut decoder) = Decoder::new(alloc, &set, limits) else {
+        return Answer::NOT_MADE;
+    };
+    answer_of(&mut decoder, stream, piece, sink)
+}
+
+/// Decodes a stream under a template set, fed in pieces of so many bytes, or in one where `piece` is 0: counted, or with a checksum.
+pub fn decode(
+    alloc: Global,
+    templates: &[u8],
+    limits: Limits,
+    stream: &[u8],
+    piece: usize,
+    is_counted: bool,
+) -> Answer {
+    let piece = bytes_of(piece);
+    if is_counted {
+        run(alloc, templates, limits, stream, piece, Count::new())
+    } else {
+        run(alloc, templates, limits, stream, piece, Check::new())
+    }
+}
+
+/// How many bytes a piece has: all, where none are asked for.
+pub fn bytes_of(piece: usize) -> usize
+    ensures { 0 < result }
+{
+    if piece == 0 { usize::MAX } else { piece }
+}

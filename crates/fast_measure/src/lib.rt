@@ -1,0 +1,15 @@
+//! Runs of the decoder and the encoder over streams in memory, for measurements and for streams over a heap that refuses. What they come to
+//! is numbers; they promise nothing but that they return.
+#![tactic(auto)]
+
+mod again;
+mod decode;
+mod encode;
+mod sinks;
+mod stops;
+mod trees;
+
+pub use crate::again::{ThreeWays, three_ways};
+pub use crate::decode::{Answer, decode};
+pub use crate::encode::{Encoded, encode};
+pub use crate::stops::{Runs, stop_and_decode};
