@@ -2,8 +2,8 @@
 
 ghost use Rattle.std.specs.Prelude.{◌<◌};
 
-use crate::decode::{Answer, BETWEEN, answer_of, bytes_of, feed_all, read_set};
-use crate::encode::{encode_all, status_of};
+use crate::decoding::{Answer, BETWEEN, answer_of, bytes_of, feed_all, read_set};
+use crate::encoding::{encode_all, status_of};
 use crate::sinks::Check;
 use crate::trees::Trees;
 use fast_decoder::Decoder;

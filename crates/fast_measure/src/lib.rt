@@ -3,13 +3,13 @@
 #![tactic(auto)]
 
 mod again;
-mod decode;
-mod encode;
+mod decoding;
+mod encoding;
 mod sinks;
 mod stops;
 mod trees;
 
 pub use crate::again::{ThreeWays, three_ways};
-pub use crate::decode::{Answer, decode};
-pub use crate::encode::{Encoded, encode};
+pub use crate::decoding::{Answer, decode};
+pub use crate::encoding::{Encoded, encode};
 pub use crate::stops::{Runs, stop_and_decode};

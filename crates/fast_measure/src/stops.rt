@@ -1,6 +1,6 @@
 //! A run of the decoder with a sink that stops, and one behind a reset.
 
-use crate::decode::{Answer, answer_of, bytes_of, read_set};
+use crate::decoding::{Answer, answer_of, bytes_of, read_set};
 use crate::sinks::{Check, Tallied, Tally};
 use fast_decoder::{Decoder, Event, Sink, Stop};
 use fast_value::Limits;

@@ -1,6 +1,6 @@
 //! One run of the encoder over the messages of a stream in memory.
 
-use crate::decode::{BETWEEN, NOT_MADE, feed_all, read_set};
+use crate::decoding::{BETWEEN, NOT_MADE, feed_all, read_set};
 use crate::sinks::with_bytes;
 use crate::trees::Trees;
 use fast_decoder::Decoder;

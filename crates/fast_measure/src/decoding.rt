@@ -86,7 +86,12 @@ pub fn read_set(alloc: Global, text: &[u8]) -> Option<Templates> {
 }
 
 /// Feeds a stream, in pieces of so many bytes, to a decoder.
-pub fn feed_all<S: Sink>(decoder: &mut Decoder<'_>, stream: &[u8], piece: usize, sink: &mut S) -> u64
+pub fn feed_all<S: Sink>(
+    decoder: &mut Decoder<'_>,
+    stream: &[u8],
+    piece: usize,
+    sink: &mut S,
+) -> u64
     requires { 0 < piece }
 {
     for bytes in stream.chunks(piece) {
