@@ -199,7 +199,7 @@ impl<'t> Cursor<'t> {
         self.map.word <<= 1;
         self.map.left -= 1;
         if self.map.left == 0 {
-            self.map = self.map.refilled(&self.maps, self.start);
+            self.map.refill(&self.maps, self.start);
         }
     }
 

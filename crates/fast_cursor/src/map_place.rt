@@ -68,10 +68,24 @@ impl MapPlace {
         }
     }
 
-    /// The same place, where no bit of the word is left, with the next ones in it.
+    /// Takes the next bits into the word, where none of it is left. It writes where the place stands, so that a caller keeps no room
+    /// for an answer.
     #[cold]
     #[inline(never)]
-    pub fn refilled(self, maps: &Vec<u8>, start: usize) -> MapPlace
+    pub fn refill(&mut self, maps: &Vec<u8>, start: usize)
+        requires counted { IsCounted self.old }
+        requires spent { self.old.left ≡ 0 }
+        requires cells { start + self.old.len ≤ vec_len maps.now }
+        ensures place { IsPlace (map_at maps.now.items start self.old.len) self.new }
+        ensures bits { drop (used_bits self.new) (bits (map_at maps.now.items start self.old.len))
+            ≡ drop (used_bits self.old) (bits (map_at maps.now.items start self.old.len)) }
+        ensures len { self.new.len ≡ self.old.len }
+    {
+        *self = self.refilled(maps, start);
+    }
+
+    /// The same place, where no bit of the word is left, with the next ones in it.
+    fn refilled(self, maps: &Vec<u8>, start: usize) -> MapPlace
         requires counted { IsCounted self }
         requires spent { self.left ≡ 0 }
         requires cells { start + self.len ≤ vec_len maps.now }

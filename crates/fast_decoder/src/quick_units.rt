@@ -327,9 +327,10 @@ impl<'t> Machine<'t> {
             return None;
         }
         let number = self.cursor.next()?;
+        // The same call in several arms: in each the compiler knows how the field stands, and folds all later looks at it.
         match templates.opcode(number) {
-            Opcode::UInt32(sending) => {
-                self.take_unsigned(
+            Opcode::UInt32(sending) => match sending {
+                Sending::Plain => self.take_unsigned(
                     templates,
                     limits,
                     number,
@@ -338,7 +339,42 @@ impl<'t> Machine<'t> {
                     sending,
                     rest,
                     sink,
-                )
+                ),
+                Sending::Copy | Sending::Increment => self.take_unsigned(
+                    templates,
+                    limits,
+                    number,
+                    Kind::UInt32,
+                    4_294_967_295,
+                    sending,
+                    rest,
+                    sink,
+                ),
+                Sending::Delta => self.take_unsigned(
+                    templates,
+                    limits,
+                    number,
+                    Kind::UInt32,
+                    4_294_967_295,
+                    sending,
+                    rest,
+                    sink,
+                ),
+                Sending::Default
+                | Sending::NullablePlain
+                | Sending::NullableDefault
+                | Sending::NullableCopy
+                | Sending::NullableIncrement
+                | Sending::NullableDelta => self.take_unsigned(
+                    templates,
+                    limits,
+                    number,
+                    Kind::UInt32,
+                    4_294_967_295,
+                    sending,
+                    rest,
+                    sink,
+                ),
             }
             Opcode::Int32(sending) => {
                 self.take_signed(

@@ -1,6 +1,6 @@
 //! What a machine does without a byte: values that the bytes before decide, starts and ends of segments.
 
-ghost use Rattle.std.specs.Prelude.{◌≡◌, ◌≢◌, ◌+◌, ◌<◌, ◌≤◌, ℕ, suc, List, [], true, Bool, Ok, drop, length, length as list_length, OnOk, IfOk, MatchResult, slice_index, Some, None, option_map, if◌then◌else◌};
+ghost use Rattle.std.specs.Prelude.{◌≡◌, ◌≢◌, ◌+◌, ◌<◌, ◌≤◌, ℕ, suc, List, [], true, false, Bool, Ok, drop, length, length as list_length, OnOk, IfOk, MatchResult, slice_index, Some, None, option_map, if◌then◌else◌};
 ghost use Rattle.fast_wire.specs.Maps.{later_bits};
 ghost use Rattle.fast_value.specs.Kinds.{exponent_range, integer_of};
 ghost use Rattle.fast_value.specs.Values.{scalar_data};
@@ -9,8 +9,8 @@ ghost use Rattle.fast_tree.specs.Nodes.{field_data};
 ghost use Rattle.fast_tree.specs.Numbers.{AreBelow};
 ghost use Rattle.fast_tree.specs.Sizes.{body_depth};
 ghost use Rattle.fast_tree.specs.Tree.{FieldData, uses_bit, bits_of};
-ghost use Rattle.fast_dict.specs.Dictionary.{Dictionary};
-ghost use Rattle.fast_dict.specs.Operators.{ranged};
+ghost use Rattle.fast_dict.specs.Dictionary.{Dictionary, previous_at};
+ghost use Rattle.fast_dict.specs.Operators.{decide, nothing, ranged};
 ghost use Rattle.fast_dict.specs.Slots.{slots_dictionary, slots_terms};
 ghost use Rattle.fast_cursor.specs.Cursors.{bits_left};
 ghost use Rattle.fast_stream.specs.Handed.{event_data};
@@ -20,7 +20,7 @@ ghost use Rattle.fast_decoder.specs.Handing.{Hands};
 ghost use Rattle.fast_stream.specs.Messages.{signed_of, within_limits};
 ghost use Rattle.fast_decoder.specs.Moving.{Moves};
 ghost use Rattle.fast_units.specs.Settling.{Serves, value_at};
-ghost use Rattle.fast_units.specs.Deciding.{number_data};
+ghost use Rattle.fast_units.specs.Deciding.{needs_bytes, number_data, IsDecided};
 ghost use Rattle.fast_decoder.specs.TurnsLeft.{Way, HasTurns, HasTurnsFrom, HasTurnsBehind, HasTurnsAfter};
 ghost use Rattle.fast_units.specs.UnitFronts.{IsAsciiFirst};
 ghost use Rattle.fast_decoder.specs.Passing.{IsPast, value_then, exponent_then, decimal_then, length_then, elements_from};
@@ -29,6 +29,7 @@ ghost use Rattle.fast_decoder.specs.Positions.{Set, set_of, body_in, frames_in, 
 use crate::machine::{Machine, Turn, Waiting};
 use crate::turns::Turns;
 use fast_cursor::cursor::Elements;
+use fast_dict::Slots;
 use fast_dict::operators::integers::integer_of;
 use fast_stream::{Event, FaultCode, Sink};
 use fast_template::{FieldInstruction, Operator, Shape, Templates};
@@ -46,6 +47,22 @@ pub fn uses_bit(field: &FieldInstruction) -> bool
         Operator::Constant => field.optional,
         Operator::Default | Operator::Copy | Operator::Increment | Operator::Tail => true,
     }
+}
+
+/// What a field leaves of which nothing is sent, out of line: for fields that are seldom left out.
+///
+/// # Errors
+///
+/// Those of [`unsent`].
+#[inline(never)]
+fn unsent_seldom(slots: &mut Slots, field: &FieldInstruction, bit: bool) -> Result<Source, Code>
+    requires serves { Serves (length (slots_dictionary slots.old)) (slots_terms slots.old) (field_data field.now) }
+    requires no_bytes { needs_bytes field.now.operator bit ≡ false }
+    ensures decided { IsDecided (decide (field_data field.now) (previous_at (field_data field.now).entry (slots_dictionary slots.old)) bit nothing)
+        (field_data field.now) (slots_dictionary slots.old) (slots_dictionary slots.new) result }
+    ensures terms { slots_terms slots.new ≡ slots_terms slots.old }
+{
+    unsent(slots, field, bit)
 }
 
 /// Hands an event over.
@@ -183,6 +200,38 @@ impl<'t> Machine<'t> {
         ensures past { result ≡ Ok Turn.Silent → self.new.cursor.left ≡ drop 1 self.old.cursor.left }
         ensures turns { (way : Way) (n : ℕ) → HasTurns way (set_of templates.now) limits 1 n self.old → HasTurnsBehind result way (set_of templates.now) limits n self.new }
     {
+        // The same call again and again: in each arm the compiler knows the operator, and folds all later looks at it.
+        match field.operator {
+            Operator::None | Operator::Delta => self.begin_under(
+                templates, limits, node, field, sink,
+            ),
+            Operator::Default => self.begin_under(templates, limits, node, field, sink),
+            Operator::Copy => self.begin_under(templates, limits, node, field, sink),
+            Operator::Constant => self.begin_under(templates, limits, node, field, sink),
+            Operator::Increment | Operator::Tail => self.begin_under(
+                templates, limits, node, field, sink,
+            ),
+        }
+    }
+
+    /// The same, where the caller has told operators apart, so that the compiler makes one copy of it for each.
+    #[inline(always)]
+    fn begin_under<S: Sink>(
+        &mut self,
+        templates: &'t Templates,
+        limits: Limits,
+        node: u32,
+        field: &FieldInstruction,
+        sink: &mut S,
+    ) -> Result<Turn, FaultCode>
+        requires turn { CanTurn (set_of templates.now) limits self.old }
+        requires next { IsAtField (set_of templates.now) self.old.cursor node (field_data field.now) }
+        requires serves { Serves (set_of templates.now).entries (slots_terms self.old.slots) (field_data field.now) }
+        ensures turn { IsTurn S.takes S.stops (set_of templates.now) limits (turning (set_of templates.now) limits self.old) sink.old result sink.new self.new }
+        ensures past { result ≡ Ok Turn.Silent → self.new.cursor.left ≡ drop 1 self.old.cursor.left }
+        ensures turns { (way : Way) (n : ℕ) → HasTurns way (set_of templates.now) limits 1 n self.old → HasTurnsBehind result way (set_of templates.now) limits n self.new }
+    {
+        let has_bit = uses_bit(field);
         let bit = self.presence(field);
         if needs_bytes(field, bit) {
             self.wait_first(field);
@@ -190,7 +239,7 @@ impl<'t> Machine<'t> {
         }
         match unsent(&mut self.slots, field, bit) {
             Err(code) => Err(FaultCode::Stream(code)),
-            Ok(source) => self.finish(node, field, source, &[], sink),
+            Ok(source) => self.finish_by(node, field, has_bit, source, &[], sink),
         }
     }
 
@@ -335,7 +384,7 @@ impl<'t> Machine<'t> {
             self.waiting = Waiting::Mantissa(exponent);
             return Ok(Turn::Waits);
         }
-        match unsent(&mut self.slots, mantissa, bit) {
+        match unsent_seldom(&mut self.slots, mantissa, bit) {
             Err(code) => Err(FaultCode::Stream(code)),
             Ok(source) => self.finish_decimal(node, mantissa, exponent, source, sink),
         }
@@ -455,7 +504,7 @@ impl<'t> Machine<'t> {
             self.waiting = Waiting::Field;
             return Ok(Turn::Waits);
         }
-        match unsent(&mut self.slots, length, bit) {
+        match unsent_seldom(&mut self.slots, length, bit) {
             Err(code) => Err(FaultCode::Stream(code)),
             Ok(source) => self.length_known(templates, limits, node, length, body, source, sink),
         }

@@ -22,8 +22,8 @@ invariant_of-self-else-self-eq0 c =
 pub returns-then-self-eq0-clause-bits : goal.returns-then-self-eq0-clause-bits
 returns-then-self-eq0-clause-bits c =
     let map : List ℕ = map_at c.self.inside.maps.items c.self.inside.start c.self.inside.map.len in
-    ap (λ n. drop (used_bits c.refilled-self-inside.result) (bits (map_at c.self.inside.maps.items c.self.inside.start n))) c.refilled-self-inside.ensures.len
-    ∙ c.refilled-self-inside.ensures.bits
+    ap (λ n. drop (used_bits c.refill.new.self) (bits (map_at c.self.inside.maps.items c.self.inside.start n))) c.refill.ensures.len
+    ∙ c.refill.ensures.bits
     ∙ place-later map c.self.inside.map (length-map c.self.inside.maps.items c.self.inside.start c.self.inside.map.len) c.self.invariant.place
     ∙ ap (λ (d : CursorData). later_bits (bits_left d)) c.self.view_is
 

@@ -13,6 +13,27 @@ take_unsigned-requires-clause-within g c =
 pub take_unsigned-requires-clause-field : goal.take_unsigned-requires-clause-field
 take_unsigned-requires-clause-field g c x found = uint32_field x.shape c.in-UInt32.sending (sym (c.opcode.ensures x found) ∙ c.in-UInt32.is)
 
+pub take_unsigned-requires-in-Copy-clause-within : goal.take_unsigned-requires-in-Copy-clause-within
+take_unsigned-requires-in-Copy-clause-within g c =
+    first_below _ c.args.self.now.cursor.left c.in_ok-number.number (can_take_field (set_of c.args.templates.now) c.args.limits c.args.self.now c.requires.waits c.requires.ready).0.below (sym c.next.ensures ∙ c.in_ok-number.was)
+
+pub take_unsigned-requires-in-Copy-clause-field : goal.take_unsigned-requires-in-Copy-clause-field
+take_unsigned-requires-in-Copy-clause-field g c x found = uint32_field x.shape c.in-UInt32.sending (sym (c.opcode.ensures x found) ∙ c.in-UInt32.is)
+
+pub take_unsigned-requires-in-Delta-clause-within : goal.take_unsigned-requires-in-Delta-clause-within
+take_unsigned-requires-in-Delta-clause-within g c =
+    first_below _ c.args.self.now.cursor.left c.in_ok-number.number (can_take_field (set_of c.args.templates.now) c.args.limits c.args.self.now c.requires.waits c.requires.ready).0.below (sym c.next.ensures ∙ c.in_ok-number.was)
+
+pub take_unsigned-requires-in-Delta-clause-field : goal.take_unsigned-requires-in-Delta-clause-field
+take_unsigned-requires-in-Delta-clause-field g c x found = uint32_field x.shape c.in-UInt32.sending (sym (c.opcode.ensures x found) ∙ c.in-UInt32.is)
+
+pub take_unsigned-requires-in-Default-clause-within : goal.take_unsigned-requires-in-Default-clause-within
+take_unsigned-requires-in-Default-clause-within g c =
+    first_below _ c.args.self.now.cursor.left c.in_ok-number.number (can_take_field (set_of c.args.templates.now) c.args.limits c.args.self.now c.requires.waits c.requires.ready).0.below (sym c.next.ensures ∙ c.in_ok-number.was)
+
+pub take_unsigned-requires-in-Default-clause-field : goal.take_unsigned-requires-in-Default-clause-field
+take_unsigned-requires-in-Default-clause-field g c x found = uint32_field x.shape c.in-UInt32.sending (sym (c.opcode.ensures x found) ∙ c.in-UInt32.is)
+
 pub take_signed-requires-clause-within : goal.take_signed-requires-clause-within
 take_signed-requires-clause-within g c =
     first_below _ c.args.self.now.cursor.left c.in_ok-number.number (can_take_field (set_of c.args.templates.now) c.args.limits c.args.self.now c.requires.waits c.requires.ready).0.below (sym c.next.ensures ∙ c.in_ok-number.was)
