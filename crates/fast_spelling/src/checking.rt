@@ -198,5 +198,5 @@ fn try_item(
 fn may_be(limits: Limits, kind: Kind, value: &Value) -> bool
     ensures { IsTrue result → IsRight kind (value_data value.now) × (length (text_of (value_data value.now)) ≤ limits.max_text) }
 {
-    text_len(value) <= limits.max_text && is_right(kind, value)
+    is_right(kind, value) && text_len(value) <= limits.max_text
 }

@@ -1,12 +1,12 @@
 //! An entry of the encoder's dictionary: what it holds, and what it held before the message that changes it.
 
-ghost use Rattle.std.specs.Prelude.{◌≡◌, ◌≤◌, ℕ, length, IfSome, OnOk};
+ghost use Rattle.std.specs.Prelude.{◌≡◌, ◌≤◌, ℕ, List, length, IfSome, IsFalse, OnOk};
 ghost use Rattle.fast_value.specs.Kinds.{text_of};
 ghost use Rattle.fast_value.specs.Values.{scalar_data};
 ghost use Rattle.fast_dict.specs.Dictionary.{assigned, empty, undefined};
 ghost use Rattle.fast_dict.specs.Held.{text_size};
 ghost use Rattle.fast_dict.specs.Previous.{previous_data};
-ghost use Rattle.fast_spelling.specs.Entries.{entry_now, entry_before, IsShort};
+ghost use Rattle.fast_spelling.specs.Entries.{held_data, entry_now, entry_before, IsShort};
 
 use fast_dict::Previous;
 use fast_value::{Kind, Scalar};
@@ -32,6 +32,16 @@ pub enum Held {
     Unicode(Kind),
     /// A byte vector.
     Bytes(Kind),
+}
+
+impl Held {
+    /// Whether a text belongs to it.
+    #[inline(always)]
+    fn is_text(self) -> bool
+        ensures { IsFalse result → (t u : List ℕ) → held_data self t ≡ held_data self u }
+    {
+        matches!(self, Held::Ascii(_) | Held::Unicode(_) | Held::Bytes(_))
+    }
 }
 
 /// An entry, with what it held before the message in which it was changed last. A text is written where the one before the last
@@ -85,13 +95,23 @@ impl Entry {
         }
     }
 
-    /// The integer that it holds, if it holds one that a field of the type kept.
+    /// The unsigned integer that it holds, if it holds one that a field of the type kept.
     #[inline(always)]
-    pub fn integer(&self, kind: Kind) -> Option<Scalar<'static>>
+    pub fn unsigned(&self, kind: Kind) -> Option<Scalar<'static>>
         ensures { IfSome result (λ v. entry_now self.now ≡ assigned kind (scalar_data v)) }
     {
         match self.held {
             Held::U(found, number) if found == kind => Some(Scalar::U(number)),
+            _ => None,
+        }
+    }
+
+    /// The signed integer that it holds, if it holds one that a field of the type kept.
+    #[inline(always)]
+    pub fn signed(&self, kind: Kind) -> Option<Scalar<'static>>
+        ensures { IfSome result (λ v. entry_now self.now ≡ assigned kind (scalar_data v)) }
+    {
+        match self.held {
             Held::I(found, number) if found == kind => Some(Scalar::I(number)),
             _ => None,
         }
@@ -105,7 +125,9 @@ impl Entry {
         ensures short { (m : ℕ) → IsShort m self.old → IsShort m self.new }
     {
         if self.epoch != epoch {
-            mem::swap(&mut self.text, &mut self.old_text);
+            if self.held.is_text() {
+                mem::swap(&mut self.text, &mut self.old_text);
+            }
             self.old_held = self.held;
             self.held = Held::Undefined;
             self.epoch = epoch;

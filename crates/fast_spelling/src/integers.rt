@@ -167,8 +167,7 @@ fn push_two(bytes: &mut Vec<u8>, number: u64) -> Result<(), AllocError>
     requires { number < 2 ^ 14 }
     ensures { OnOk result (Adds (IsGroups number 2) bytes.old.items bytes.new.items) }
 {
-    bytes.push((number / 0x80 % 0x80) as u8)?;
-    bytes.push((number % 0x80) as u8 + 0x80)?;
+    bytes.extend_from_slice(&[(number / 0x80 % 0x80) as u8, (number % 0x80) as u8 + 0x80])?;
     Ok(())
 }
 
@@ -178,9 +177,11 @@ fn push_three(bytes: &mut Vec<u8>, number: u64) -> Result<(), AllocError>
     requires { number < 2 ^ 21 }
     ensures { OnOk result (Adds (IsGroups number 3) bytes.old.items bytes.new.items) }
 {
-    bytes.push((number / 0x4000 % 0x80) as u8)?;
-    bytes.push((number / 0x80 % 0x80) as u8)?;
-    bytes.push((number % 0x80) as u8 + 0x80)?;
+    bytes.extend_from_slice(&[
+        (number / 0x4000 % 0x80) as u8,
+        (number / 0x80 % 0x80) as u8,
+        (number % 0x80) as u8 + 0x80,
+    ])?;
     Ok(())
 }
 
@@ -190,10 +191,12 @@ fn push_four(bytes: &mut Vec<u8>, number: u64) -> Result<(), AllocError>
     requires { number < 2 ^ 28 }
     ensures { OnOk result (Adds (IsGroups number 4) bytes.old.items bytes.new.items) }
 {
-    bytes.push((number / 0x200000 % 0x80) as u8)?;
-    bytes.push((number / 0x4000 % 0x80) as u8)?;
-    bytes.push((number / 0x80 % 0x80) as u8)?;
-    bytes.push((number % 0x80) as u8 + 0x80)?;
+    bytes.extend_from_slice(&[
+        (number / 0x200000 % 0x80) as u8,
+        (number / 0x4000 % 0x80) as u8,
+        (number / 0x80 % 0x80) as u8,
+        (number % 0x80) as u8 + 0x80,
+    ])?;
     Ok(())
 }
 
@@ -203,11 +206,13 @@ fn push_five(bytes: &mut Vec<u8>, number: u64) -> Result<(), AllocError>
     requires { number < 2 ^ 35 }
     ensures { OnOk result (Adds (IsGroups number 5) bytes.old.items bytes.new.items) }
 {
-    bytes.push((number / 0x10000000 % 0x80) as u8)?;
-    bytes.push((number / 0x200000 % 0x80) as u8)?;
-    bytes.push((number / 0x4000 % 0x80) as u8)?;
-    bytes.push((number / 0x80 % 0x80) as u8)?;
-    bytes.push((number % 0x80) as u8 + 0x80)?;
+    bytes.extend_from_slice(&[
+        (number / 0x10000000 % 0x80) as u8,
+        (number / 0x200000 % 0x80) as u8,
+        (number / 0x4000 % 0x80) as u8,
+        (number / 0x80 % 0x80) as u8,
+        (number % 0x80) as u8 + 0x80,
+    ])?;
     Ok(())
 }
 

@@ -63,13 +63,22 @@ impl Ledger {
         self.entries[entry].as_previous()
     }
 
-    /// The integer that the entry holds, if it holds one that a field of the type kept.
+    /// The unsigned integer that the entry holds, if it holds one that a field of the type kept.
     #[inline(always)]
-    pub fn integer_at(&self, entry: usize, kind: Kind) -> Option<Scalar<'static>>
+    pub fn unsigned_at(&self, entry: usize, kind: Kind) -> Option<Scalar<'static>>
         requires { entry < length self.now.now }
         ensures { IfSome result (λ v. previous_at (Some entry) self.now.now ≡ assigned kind (scalar_data v)) }
     {
-        self.entries[entry].integer(kind)
+        self.entries[entry].unsigned(kind)
+    }
+
+    /// The signed integer that the entry holds, if it holds one that a field of the type kept.
+    #[inline(always)]
+    pub fn signed_at(&self, entry: usize, kind: Kind) -> Option<Scalar<'static>>
+        requires { entry < length self.now.now }
+        ensures { IfSome result (λ v. previous_at (Some entry) self.now.now ≡ assigned kind (scalar_data v)) }
+    {
+        self.entries[entry].signed(kind)
     }
 
     /// Assigns the value to the entry, as a field of the type does.

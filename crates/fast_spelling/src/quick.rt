@@ -2,10 +2,12 @@
 
 ghost use Rattle.std.specs.Prelude.{◌≡◌, ◌-ℤ◌, ◌↔◌, true, None, Some, IsTrue, IfSome, OnOk, IfErr};
 ghost use Rattle.fast_value.specs.declared.settings.Limits.{Limits};
-ghost use Rattle.fast_value.specs.Kinds.{U, I, IsWithin, signed_range, integer_of};
+ghost use Rattle.fast_value.specs.Kinds.{U, I, Dec, AsciiText, UnicodeText, ByteVector, IsWithin, signed_range, integer_of, value_of_integer};
 ghost use Rattle.fast_value.specs.Values.{scalar_data};
+ghost use Rattle.fast_value.specs.declared.kinds.Kind.TheVariants.{UInt32, Int32, UInt64, Int64};
 ghost use Rattle.fast_tree.specs.Nodes.{field_data};
 ghost use Rattle.fast_dict.specs.Dictionary.{assigned, empty, previous_at};
+ghost use Rattle.fast_dict.specs.Operators.{incremented, range_of};
 ghost use Rattle.fast_spelling.specs.Encoding.{EncodesField};
 ghost use Rattle.fast_spelling.specs.Drafts.{IsTold};
 ghost use Rattle.fast_spelling.specs.Fields.{IsServed, IsSuited, Wrote};
@@ -20,17 +22,39 @@ use crate::ledger::Ledger;
 use fast_dict::operators::initial_value;
 use fast_dict::operators::integers::integer_of;
 use fast_dict::operators::unsent::next_integer;
-use fast_dict::rule::common;
 use fast_dict::{Previous, Sent};
 use fast_template::{FieldInstruction, Operator};
-use fast_value::Scalar;
+use fast_value::{Kind, Scalar};
 
 /// Writes a field that has an unsigned integer.
 ///
 /// # Errors
 ///
 /// E3; memory was refused. Then the draft is of no use.
+#[tactic(auto, using(crate::proofs::Usual::plain_ruled, crate::proofs::Usual::number_sendable))]
+#[inline(always)]
 pub fn write_unsigned(
+    draft: &mut Draft,
+    ledger: &mut Ledger,
+    field: &FieldInstruction,
+    number: u64,
+) -> Result<(), EncodeFault>
+    requires served { IsServed ledger.old (field_data field.now) }
+    requires suited { IsSuited ledger.old.max_text (field_data field.now) (Some (U number)) }
+    ensures ok { OnOk result ((l : Limits) → l.max_text ≡ ledger.old.max_text
+        → Wrote (EncodesField l (field_data field.now) ledger.old.now (Some (U number))) draft.old draft.new ledger.new.now) }
+    ensures err { IfErr result (IsTold (RefusesField (field_data field.now) ledger.old.now (Some (U number)))) }
+    ensures keeps { Keeps ledger.old ledger.new }
+{
+    if field.operator == Operator::None {
+        let value = Scalar::U(number);
+        return send(draft, ledger, field, Some(value), true, Sent::Value(value));
+    }
+    write_kept_unsigned(draft, ledger, field, number)
+}
+
+/// The same for any operator, in a call of its own.
+fn write_kept_unsigned(
     draft: &mut Draft,
     ledger: &mut Ledger,
     field: &FieldInstruction,
@@ -85,20 +109,20 @@ fn write_integer(
 {
     match field.operator {
         Operator::None => send(draft, ledger, field, Some(value), true, Sent::Value(value)),
-        Operator::Copy => match held_in(ledger, field) {
-            None => write_chosen(draft, ledger, field, Some(value)),
+        Operator::Copy => match held_in(ledger, field, value) {
+            None => choose_value(draft, ledger, field, value),
             Some(held) if is_same(held, value) => Ok(draft.push_bit(false)?),
             Some(_) => send(draft, ledger, field, Some(value), true, Sent::Value(value)),
         },
-        Operator::Increment => match held_in(ledger, field) {
-            None => write_chosen(draft, ledger, field, Some(value)),
-            Some(held) if is_same(next_integer(field.kind, held), value) => {
+        Operator::Increment => match held_in(ledger, field, value) {
+            None => choose_value(draft, ledger, field, value),
+            Some(held) if is_next(field.kind, held, value) => {
                 send(draft, ledger, field, Some(value), false, Sent::Nothing)
             }
             Some(_) => send(draft, ledger, field, Some(value), true, Sent::Value(value)),
         },
-        Operator::Delta => match held_in(ledger, field) {
-            None => write_chosen(draft, ledger, field, Some(value)),
+        Operator::Delta => match held_in(ledger, field, value) {
+            None => choose_value(draft, ledger, field, value),
             Some(held) => {
                 let delta = Sent::IntegerDelta(difference(value, held));
                 send(draft, ledger, field, Some(value), true, delta)
@@ -108,7 +132,13 @@ fn write_integer(
             Some(initial) if is_same(initial, value) => Ok(draft.push_bit(false)?),
             _ => send(draft, ledger, field, Some(value), true, Sent::Value(value)),
         },
-        Operator::Constant | Operator::Tail => write_chosen(draft, ledger, field, Some(value)),
+        Operator::Constant => match initial_value(field) {
+            Some(initial) if is_same(initial, value) => {
+                send(draft, ledger, field, Some(value), true, Sent::Nothing)
+            }
+            _ => choose_value(draft, ledger, field, value),
+        },
+        Operator::Tail => choose_value(draft, ledger, field, value),
     }
 }
 
@@ -134,22 +164,22 @@ pub fn write_other(
     match field.operator {
         Operator::None => send(draft, ledger, field, Some(value), true, Sent::Value(value)),
         Operator::Copy => match held_value(ledger, field) {
-            None => write_chosen(draft, ledger, field, Some(value)),
-            Some(held) if common::is_same(held, value) => Ok(draft.push_bit(false)?),
+            None => choose_value(draft, ledger, field, value),
+            Some(held) if is_same(held, value) => Ok(draft.push_bit(false)?),
             Some(_) => send(draft, ledger, field, Some(value), true, Sent::Value(value)),
         },
         Operator::Default => match initial_value(field) {
-            Some(initial) if common::is_same(initial, value) => Ok(draft.push_bit(false)?),
+            Some(initial) if is_same(initial, value) => Ok(draft.push_bit(false)?),
             _ => send(draft, ledger, field, Some(value), true, Sent::Value(value)),
         },
         Operator::Constant => match initial_value(field) {
-            Some(initial) if common::is_same(initial, value) => {
+            Some(initial) if is_same(initial, value) => {
                 send(draft, ledger, field, Some(value), true, Sent::Nothing)
             }
-            _ => write_chosen(draft, ledger, field, Some(value)),
+            _ => choose_value(draft, ledger, field, value),
         },
         Operator::Increment | Operator::Delta | Operator::Tail => {
-            write_chosen(draft, ledger, field, Some(value))
+            choose_value(draft, ledger, field, value)
         }
     }
 }
@@ -182,12 +212,168 @@ pub fn write_none(
             if is_empty_in(ledger, field) {
                 return Ok(draft.push_bit(false)?);
             }
-            write_chosen(draft, ledger, field, None)
+            choose_none(draft, ledger, field)
         }
         Operator::Increment | Operator::Constant | Operator::Tail => {
-            write_chosen(draft, ledger, field, None)
+            choose_none(draft, ledger, field)
         }
     }
+}
+
+/// Writes a field that is absent, as the rule chooses.
+#[cold]
+fn choose_none(
+    draft: &mut Draft,
+    ledger: &mut Ledger,
+    field: &FieldInstruction,
+) -> Result<(), EncodeFault>
+    requires served { IsServed ledger.old (field_data field.now) }
+    requires suited { IsSuited ledger.old.max_text (field_data field.now) None }
+    ensures ok { OnOk result ((l : Limits) → l.max_text ≡ ledger.old.max_text
+        → Wrote (EncodesField l (field_data field.now) ledger.old.now None) draft.old draft.new ledger.new.now) }
+    ensures err { IfErr result (IsTold (RefusesField (field_data field.now) ledger.old.now None)) }
+    ensures keeps { Keeps ledger.old ledger.new }
+{
+    write_chosen(draft, ledger, field, None)
+}
+
+/// Writes a field that has a value, as the rule chooses. The parts of the value are handed on, so that it does not stand in memory
+/// where it is not wanted.
+#[inline(always)]
+fn choose_value(
+    draft: &mut Draft,
+    ledger: &mut Ledger,
+    field: &FieldInstruction,
+    value: Scalar<'_>,
+) -> Result<(), EncodeFault>
+    requires served { IsServed ledger.old (field_data field.now) }
+    requires suited { IsSuited ledger.old.max_text (field_data field.now) (Some (scalar_data value)) }
+    ensures ok { OnOk result ((l : Limits) → l.max_text ≡ ledger.old.max_text
+        → Wrote (EncodesField l (field_data field.now) ledger.old.now (Some (scalar_data value.entry))) draft.old draft.new ledger.new.now) }
+    ensures err { IfErr result (IsTold (RefusesField (field_data field.now) ledger.old.now (Some (scalar_data value.entry)))) }
+    ensures keeps { Keeps ledger.old ledger.new }
+{
+    match value {
+        Scalar::U(number) => choose_unsigned(draft, ledger, field, number),
+        Scalar::I(number) => choose_signed(draft, ledger, field, number),
+        Scalar::Dec { exponent, mantissa } => {
+            choose_decimal(draft, ledger, field, exponent, mantissa)
+        }
+        Scalar::Ascii(text) => choose_ascii(draft, ledger, field, text),
+        Scalar::Unicode(text) => choose_unicode(draft, ledger, field, text),
+        Scalar::Bytes(text) => choose_bytes(draft, ledger, field, text),
+    }
+}
+
+/// The same for an unsigned integer.
+#[cold]
+fn choose_unsigned(
+    draft: &mut Draft,
+    ledger: &mut Ledger,
+    field: &FieldInstruction,
+    number: u64,
+) -> Result<(), EncodeFault>
+    requires served { IsServed ledger.old (field_data field.now) }
+    requires suited { IsSuited ledger.old.max_text (field_data field.now) (Some (U number)) }
+    ensures ok { OnOk result ((l : Limits) → l.max_text ≡ ledger.old.max_text
+        → Wrote (EncodesField l (field_data field.now) ledger.old.now (Some (U number))) draft.old draft.new ledger.new.now) }
+    ensures err { IfErr result (IsTold (RefusesField (field_data field.now) ledger.old.now (Some (U number)))) }
+    ensures keeps { Keeps ledger.old ledger.new }
+{
+    write_chosen(draft, ledger, field, Some(Scalar::U(number)))
+}
+
+/// The same for a signed integer.
+#[cold]
+fn choose_signed(
+    draft: &mut Draft,
+    ledger: &mut Ledger,
+    field: &FieldInstruction,
+    number: i64,
+) -> Result<(), EncodeFault>
+    requires served { IsServed ledger.old (field_data field.now) }
+    requires suited { IsSuited ledger.old.max_text (field_data field.now) (Some (I number)) }
+    ensures ok { OnOk result ((l : Limits) → l.max_text ≡ ledger.old.max_text
+        → Wrote (EncodesField l (field_data field.now) ledger.old.now (Some (I number))) draft.old draft.new ledger.new.now) }
+    ensures err { IfErr result (IsTold (RefusesField (field_data field.now) ledger.old.now (Some (I number)))) }
+    ensures keeps { Keeps ledger.old ledger.new }
+{
+    write_chosen(draft, ledger, field, Some(Scalar::I(number)))
+}
+
+/// The same for a decimal.
+#[cold]
+fn choose_decimal(
+    draft: &mut Draft,
+    ledger: &mut Ledger,
+    field: &FieldInstruction,
+    exponent: i32,
+    mantissa: i64,
+) -> Result<(), EncodeFault>
+    requires served { IsServed ledger.old (field_data field.now) }
+    requires suited { IsSuited ledger.old.max_text (field_data field.now) (Some (Dec exponent mantissa)) }
+    ensures ok { OnOk result ((l : Limits) → l.max_text ≡ ledger.old.max_text
+        → Wrote (EncodesField l (field_data field.now) ledger.old.now (Some (Dec exponent mantissa))) draft.old draft.new ledger.new.now) }
+    ensures err { IfErr result (IsTold (RefusesField (field_data field.now) ledger.old.now (Some (Dec exponent mantissa)))) }
+    ensures keeps { Keeps ledger.old ledger.new }
+{
+    write_chosen(
+        draft,
+        ledger,
+        field,
+        Some(Scalar::Dec { exponent, mantissa }),
+    )
+}
+
+/// The same for an ASCII string.
+fn choose_ascii(
+    draft: &mut Draft,
+    ledger: &mut Ledger,
+    field: &FieldInstruction,
+    text: &[u8],
+) -> Result<(), EncodeFault>
+    requires served { IsServed ledger.old (field_data field.now) }
+    requires suited { IsSuited ledger.old.max_text (field_data field.now) (Some (AsciiText text.now)) }
+    ensures ok { OnOk result ((l : Limits) → l.max_text ≡ ledger.old.max_text
+        → Wrote (EncodesField l (field_data field.now) ledger.old.now (Some (AsciiText text.now))) draft.old draft.new ledger.new.now) }
+    ensures err { IfErr result (IsTold (RefusesField (field_data field.now) ledger.old.now (Some (AsciiText text.now)))) }
+    ensures keeps { Keeps ledger.old ledger.new }
+{
+    write_chosen(draft, ledger, field, Some(Scalar::Ascii(text)))
+}
+
+/// The same for a Unicode string.
+fn choose_unicode(
+    draft: &mut Draft,
+    ledger: &mut Ledger,
+    field: &FieldInstruction,
+    text: &[u8],
+) -> Result<(), EncodeFault>
+    requires served { IsServed ledger.old (field_data field.now) }
+    requires suited { IsSuited ledger.old.max_text (field_data field.now) (Some (UnicodeText text.now)) }
+    ensures ok { OnOk result ((l : Limits) → l.max_text ≡ ledger.old.max_text
+        → Wrote (EncodesField l (field_data field.now) ledger.old.now (Some (UnicodeText text.now))) draft.old draft.new ledger.new.now) }
+    ensures err { IfErr result (IsTold (RefusesField (field_data field.now) ledger.old.now (Some (UnicodeText text.now)))) }
+    ensures keeps { Keeps ledger.old ledger.new }
+{
+    write_chosen(draft, ledger, field, Some(Scalar::Unicode(text)))
+}
+
+/// The same for a byte vector.
+fn choose_bytes(
+    draft: &mut Draft,
+    ledger: &mut Ledger,
+    field: &FieldInstruction,
+    text: &[u8],
+) -> Result<(), EncodeFault>
+    requires served { IsServed ledger.old (field_data field.now) }
+    requires suited { IsSuited ledger.old.max_text (field_data field.now) (Some (ByteVector text.now)) }
+    ensures ok { OnOk result ((l : Limits) → l.max_text ≡ ledger.old.max_text
+        → Wrote (EncodesField l (field_data field.now) ledger.old.now (Some (ByteVector text.now))) draft.old draft.new ledger.new.now) }
+    ensures err { IfErr result (IsTold (RefusesField (field_data field.now) ledger.old.now (Some (ByteVector text.now)))) }
+    ensures keeps { Keeps ledger.old ledger.new }
+{
+    write_chosen(draft, ledger, field, Some(Scalar::Bytes(text)))
 }
 
 /// Whether the field's entry holds that a field was absent.
@@ -211,27 +397,98 @@ fn held_value<'a>(ledger: &'a Ledger, field: &FieldInstruction) -> Option<Scalar
     }
 }
 
-/// The integer that the field's entry holds, if it holds one of the field's type.
+/// The integer that the field's entry holds, if it holds one of the field's type, and of the value's form.
 #[inline(always)]
-fn held_in(ledger: &Ledger, field: &FieldInstruction) -> Option<Scalar<'static>>
+fn held_in(ledger: &Ledger, field: &FieldInstruction, value: Scalar<'_>) -> Option<Scalar<'static>>
     requires { IsServed ledger.now (field_data field.now) }
     ensures { IfSome result (λ held. previous_at (field_data field.now).entry ledger.now.now ≡ assigned (field_data field.now).kind (scalar_data held)) }
 {
-    match field.entry {
-        Some(entry) => ledger.integer_at(entry as usize, field.kind),
-        None => None,
+    let Some(entry) = field.entry else {
+        return None;
+    };
+    match value {
+        Scalar::U(_) => ledger.unsigned_at(entry as usize, field.kind),
+        Scalar::I(_) => ledger.signed_at(entry as usize, field.kind),
+        _ => None,
     }
 }
 
-/// Whether a value is this integer.
+/// Whether a value is the one behind the one that is held.
 #[inline(always)]
-fn is_same(value: Scalar<'_>, integer: Scalar<'_>) -> bool
-    requires { IsNumber (scalar_data integer) }
-    ensures { IsTrue result ↔ (scalar_data value.entry ≡ scalar_data integer.entry) }
+fn is_next(kind: Kind, held: Scalar<'_>, value: Scalar<'_>) -> bool
+    ensures { IsTrue result ↔ (value_of_integer kind (incremented (range_of kind) (integer_of (scalar_data held.entry))) ≡ scalar_data value.entry) }
 {
-    match (value, integer) {
+    match (kind, held) {
+        (Kind::UInt32, Scalar::U(number)) => is_same(next_uint32(number), value),
+        (Kind::Int32, Scalar::I(number)) => is_same(next_int32(number), value),
+        (Kind::UInt64, Scalar::U(number)) => is_same(next_uint64(number), value),
+        (Kind::Int64, Scalar::I(number)) => is_same(next_int64(number), value),
+        _ => is_same(next_integer(kind, held), value),
+    }
+}
+
+/// One more, and behind the greatest uInt32 the least.
+#[inline(always)]
+fn next_uint32(number: u64) -> Scalar<'static>
+    ensures { scalar_data result ≡ value_of_integer UInt32 (incremented (range_of UInt32) (integer_of (U number))) }
+{
+    if number < u64::from(u32::MAX) {
+        return Scalar::U(number + 1);
+    }
+    Scalar::U(0)
+}
+
+/// One more, and behind the greatest int32 the least.
+#[inline(always)]
+fn next_int32(number: i64) -> Scalar<'static>
+    ensures { scalar_data result ≡ value_of_integer Int32 (incremented (range_of Int32) (integer_of (I number))) }
+{
+    if number < i64::from(i32::MAX) {
+        return Scalar::I(number + 1);
+    }
+    Scalar::I(i64::from(i32::MIN))
+}
+
+/// One more, and behind the greatest uInt64 the least.
+#[inline(always)]
+fn next_uint64(number: u64) -> Scalar<'static>
+    ensures { scalar_data result ≡ value_of_integer UInt64 (incremented (range_of UInt64) (integer_of (U number))) }
+{
+    if number < u64::MAX {
+        return Scalar::U(number + 1);
+    }
+    Scalar::U(0)
+}
+
+/// One more, and behind the greatest int64 the least.
+#[inline(always)]
+fn next_int64(number: i64) -> Scalar<'static>
+    ensures { scalar_data result ≡ value_of_integer Int64 (incremented (range_of Int64) (integer_of (I number))) }
+{
+    if number < i64::MAX {
+        return Scalar::I(number + 1);
+    }
+    Scalar::I(i64::MIN)
+}
+
+/// Whether two values are the same: 15e-1 and 150e-2 are not.
+#[inline(always)]
+fn is_same(a: Scalar<'_>, b: Scalar<'_>) -> bool
+    ensures { IsTrue result ↔ (scalar_data a.entry ≡ scalar_data b.entry) }
+{
+    match (a, b) {
         (Scalar::U(a), Scalar::U(b)) => a == b,
         (Scalar::I(a), Scalar::I(b)) => a == b,
+        (
+            Scalar::Dec { exponent, mantissa },
+            Scalar::Dec {
+                exponent: e,
+                mantissa: m,
+            },
+        ) => exponent == e && mantissa == m,
+        (Scalar::Ascii(a), Scalar::Ascii(b)) => a == b,
+        (Scalar::Unicode(a), Scalar::Unicode(b)) => a == b,
+        (Scalar::Bytes(a), Scalar::Bytes(b)) => a == b,
         _ => false,
     }
 }

@@ -116,11 +116,10 @@ pub fn is_right(kind: Kind, value: &Value) -> bool
 fn is_unsigned(kind: Kind, number: u64) -> bool
     ensures { IsTrue result ↔ IsRight kind (U number) }
 {
-    match kind {
-        Kind::UInt32 => number <= u64::from(u32::MAX),
-        Kind::UInt64 => true,
-        _ => false,
+    if kind == Kind::UInt32 {
+        return number <= u64::from(u32::MAX);
     }
+    kind == Kind::UInt64
 }
 
 /// Whether a signed integer is one of the kind.
@@ -128,11 +127,10 @@ fn is_unsigned(kind: Kind, number: u64) -> bool
 fn is_signed(kind: Kind, number: i64) -> bool
     ensures { IsTrue result ↔ IsRight kind (I number) }
 {
-    match kind {
-        Kind::Int32 => i64::from(i32::MIN) <= number && number <= i64::from(i32::MAX),
-        Kind::Int64 => true,
-        _ => false,
+    if kind == Kind::Int32 {
+        return i64::from(i32::MIN) <= number && number <= i64::from(i32::MAX);
     }
+    kind == Kind::Int64
 }
 
 /// Whether a decimal is one of the kind.

@@ -11,13 +11,13 @@ use Rattle.fast_dict.specs.Dictionary.{assigned, previous_at}
 use Rattle.fast_dict.specs.Operators.{integer_delta}
 use Rattle.fast_dict.specs.Rule.{Rule}
 use Rattle.fast_spelling.specs.Fields.{IsSuited}
-use Rattle.fast_spelling.proofs.Usual.{step_same, delta_ruled, copy_passed, default_passed}
+use Rattle.fast_spelling.proofs.Usual.{step_same, delta_ruled, copy_passed, default_passed, constant_ruled}
 use Rattle.fast_spelling.proofs.quick.write_integer.Goals as goal
 
 pub send-requires-in-Some-held_in-clause-ruled : goal.send-requires-in-Some-held_in-clause-ruled
 send-requires-in-Some-held_in-clause-ruled c =
     let f = field_data c.args.field.now in
-    step_same f (previous_at f.entry c.args.ledger.now.now) (scalar_data c.in-Some-held_in.held) (scalar_data c.args.value) c.in-Increment.is c.in-Some-held_in.ensures (sym c.next_integer.ensures ∙ c.if-is_same-2.ensures.0 refl)
+    step_same f (previous_at f.entry c.args.ledger.now.now) (scalar_data c.in-Some-held_in.held) (scalar_data c.args.value) c.in-Increment.is c.in-Some-held_in.ensures (c.if-is_next.ensures.0 refl)
 
 pub send-requires-in-Some-held_in-2-clause-ruled : goal.send-requires-in-Some-held_in-2-clause-ruled
 send-requires-in-Some-held_in-2-clause-ruled c =
@@ -47,5 +47,10 @@ returns-in_ok-push_bit-in-Some-initial_value-clause-ok c = λ l same.
       [],
       c.in_ok-push_bit-in-Some-initial_value.ensures.bits,
       c.push_bit-in-Some-initial_value.ensures.bytes ∙ sym (append-nil c.args.draft.now.bytes.items),
-      default_passed l f c.args.ledger.now.now v c.in-Default.is c.requires.served.usable.tail (subst (λ (m : ℕ). IsSuited m f (Some v)) (sym same) c.requires.suited) (sym c.in-Some-initial_value.ensures ∙ ap Some (c.if-is_same-3.ensures.0 refl)),
+      default_passed l f c.args.ledger.now.now v c.in-Default.is c.requires.served.usable.tail (subst (λ (m : ℕ). IsSuited m f (Some v)) (sym same) c.requires.suited) (sym c.in-Some-initial_value.ensures ∙ ap Some (c.if-is_same-2.ensures.0 refl)),
     )
+
+pub send-requires-in-Some-initial_value-2-clause-ruled : goal.send-requires-in-Some-initial_value-2-clause-ruled
+send-requires-in-Some-initial_value-2-clause-ruled c =
+    let f = field_data c.args.field.now in
+    constant_ruled f (previous_at f.entry c.args.ledger.now.now) (scalar_data c.args.value) c.in-Constant.is (sym c.in-Some-initial_value-2.ensures ∙ ap Some (c.if-is_same-3.ensures.0 refl))

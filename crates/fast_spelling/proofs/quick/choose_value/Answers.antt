@@ -1,0 +1,56 @@
+-- The parts of a value are handed on.
+use Rattle.std.proofs.Common.{◌≡◌, ℤ, ap, sym, subst, ◌∙◌, rules, to_z, of_z}
+use Rattle.std.specs.Prelude.{Some}
+use Rattle.std.specs.Int.{w32, w64}
+use Rattle.std.proofs.lemmas.Int.{to_z-of_z}
+use Rattle.fast_value.specs.Kinds.{ScalarData, I, Dec}
+use Rattle.fast_value.specs.Values.{scalar_data}
+use Rattle.fast_tree.specs.Nodes.{field_data}
+use Rattle.fast_spelling.specs.Encoding.{EncodesField}
+use Rattle.fast_spelling.specs.Fields.{Wrote}
+use Rattle.fast_spelling.specs.Refusals.{RefusesField}
+use Rattle.fast_spelling.proofs.Spelling.{on_ok}
+use Rattle.fast_spelling.proofs.Instructions.{told}
+use Rattle.fast_spelling.proofs.quick.choose_value.Goals as goal
+
+pub returns-in-U-clause-ok : goal.returns-in-U-clause-ok
+returns-in-U-clause-ok c = on_ok c.choose_unsigned.result c.choose_unsigned.ensures.ok (λ k l same.
+    subst (λ (v : ScalarData). Wrote (EncodesField l (field_data c.args.field.now) c.args.ledger.now.now (Some v)) c.args.draft.now c.choose_unsigned.new.draft c.choose_unsigned.new.ledger.now) (sym (ap scalar_data c.in-U.is)) (k l same))
+
+pub returns-in-I-clause-ok : goal.returns-in-I-clause-ok
+returns-in-I-clause-ok c = on_ok c.choose_signed.result c.choose_signed.ensures.ok (λ k l same.
+    let number : to_z w64 (of_z w64 c.in-I.number) ≡ c.in-I.number = to_z-of_z w64 c.in-I.number (search rules) in
+    let is : scalar_data c.args.value ≡ I (to_z w64 (of_z w64 c.in-I.number)) = ap scalar_data c.in-I.is ∙ ap I (sym number) in
+    subst (λ (v : ScalarData). Wrote (EncodesField l (field_data c.args.field.now) c.args.ledger.now.now (Some v)) c.args.draft.now c.choose_signed.new.draft c.choose_signed.new.ledger.now) (sym is) (k l same))
+
+pub returns-in-I-clause-err : goal.returns-in-I-clause-err
+returns-in-I-clause-err c = told c.choose_signed.result c.choose_signed.ensures.err (λ f h.
+    let number : to_z w64 (of_z w64 c.in-I.number) ≡ c.in-I.number = to_z-of_z w64 c.in-I.number (search rules) in
+    let is : scalar_data c.args.value ≡ I (to_z w64 (of_z w64 c.in-I.number)) = ap scalar_data c.in-I.is ∙ ap I (sym number) in
+    subst (λ (v : ScalarData). RefusesField (field_data c.args.field.now) c.args.ledger.now.now (Some v) f) (sym is) h)
+
+pub returns-in-Dec-clause-ok : goal.returns-in-Dec-clause-ok
+returns-in-Dec-clause-ok c = on_ok c.choose_decimal.result c.choose_decimal.ensures.ok (λ k l same.
+    let e : to_z w32 (of_z w32 c.in-Dec.exponent) ≡ c.in-Dec.exponent = to_z-of_z w32 c.in-Dec.exponent (search rules) in
+    let m : to_z w64 (of_z w64 c.in-Dec.mantissa) ≡ c.in-Dec.mantissa = to_z-of_z w64 c.in-Dec.mantissa (search rules) in
+    let is : scalar_data c.args.value ≡ Dec (to_z w32 (of_z w32 c.in-Dec.exponent)) (to_z w64 (of_z w64 c.in-Dec.mantissa)) = ap scalar_data c.in-Dec.is ∙ ap (λ (z : ℤ). Dec z c.in-Dec.mantissa) (sym e) ∙ ap (Dec (to_z w32 (of_z w32 c.in-Dec.exponent))) (sym m) in
+    subst (λ (v : ScalarData). Wrote (EncodesField l (field_data c.args.field.now) c.args.ledger.now.now (Some v)) c.args.draft.now c.choose_decimal.new.draft c.choose_decimal.new.ledger.now) (sym is) (k l same))
+
+pub returns-in-Dec-clause-err : goal.returns-in-Dec-clause-err
+returns-in-Dec-clause-err c = told c.choose_decimal.result c.choose_decimal.ensures.err (λ f h.
+    let e : to_z w32 (of_z w32 c.in-Dec.exponent) ≡ c.in-Dec.exponent = to_z-of_z w32 c.in-Dec.exponent (search rules) in
+    let m : to_z w64 (of_z w64 c.in-Dec.mantissa) ≡ c.in-Dec.mantissa = to_z-of_z w64 c.in-Dec.mantissa (search rules) in
+    let is : scalar_data c.args.value ≡ Dec (to_z w32 (of_z w32 c.in-Dec.exponent)) (to_z w64 (of_z w64 c.in-Dec.mantissa)) = ap scalar_data c.in-Dec.is ∙ ap (λ (z : ℤ). Dec z c.in-Dec.mantissa) (sym e) ∙ ap (Dec (to_z w32 (of_z w32 c.in-Dec.exponent))) (sym m) in
+    subst (λ (v : ScalarData). RefusesField (field_data c.args.field.now) c.args.ledger.now.now (Some v) f) (sym is) h)
+
+pub returns-in-Ascii-clause-ok : goal.returns-in-Ascii-clause-ok
+returns-in-Ascii-clause-ok c = on_ok c.choose_ascii.result c.choose_ascii.ensures.ok (λ k l same.
+    subst (λ (v : ScalarData). Wrote (EncodesField l (field_data c.args.field.now) c.args.ledger.now.now (Some v)) c.args.draft.now c.choose_ascii.new.draft c.choose_ascii.new.ledger.now) (sym (ap scalar_data c.in-Ascii.is)) (k l same))
+
+pub returns-in-Unicode-clause-ok : goal.returns-in-Unicode-clause-ok
+returns-in-Unicode-clause-ok c = on_ok c.choose_unicode.result c.choose_unicode.ensures.ok (λ k l same.
+    subst (λ (v : ScalarData). Wrote (EncodesField l (field_data c.args.field.now) c.args.ledger.now.now (Some v)) c.args.draft.now c.choose_unicode.new.draft c.choose_unicode.new.ledger.now) (sym (ap scalar_data c.in-Unicode.is)) (k l same))
+
+pub returns-in-Bytes-clause-ok : goal.returns-in-Bytes-clause-ok
+returns-in-Bytes-clause-ok c = on_ok c.choose_bytes.result c.choose_bytes.ensures.ok (λ k l same.
+    subst (λ (v : ScalarData). Wrote (EncodesField l (field_data c.args.field.now) c.args.ledger.now.now (Some v)) c.args.draft.now c.choose_bytes.new.draft c.choose_bytes.new.ledger.now) (sym (ap scalar_data c.in-Bytes.is)) (k l same))
