@@ -1,6 +1,7 @@
 -- The bytes of a text between quotes, one after the other.
 use Rattle.std.proofs.Common.{◌≡◌, ◌≢◌, ◌⊎◌, ℕ, ◌/◌, ◌%◌, List, [], ◌∷◌, ◌++◌, refl, sym, ◌∙◌, inl, inr, append_assoc, arith}
-use Rattle.std.specs.Prelude.{flat_map}
+use Rattle.std.specs.Prelude.{flat_map, All}
+use Rattle.std.proofs.lemmas.List.Elements.{All-head, All-tail}
 use Rattle.std.proofs.lemmas.List.{append_cancel_right}
 use Rattle.std.proofs.lemmas.Bool.{cases_eq}
 use Rattle.std.proofs.lemmas.Bool.Decides.{nat_tests}
@@ -24,6 +25,14 @@ control_stands c h = grind (arith, nat_tests)
 
 pub plain_stands : (c : ℕ) → IsPlain c → escaped c ≡ c ∷ []
 plain_stands c h = grind (arith, nat_tests)
+
+-- bytes that stand as themselves
+pub all_plain : (cs : List ℕ) → All IsPlain cs → flat_map escaped cs ≡ cs
+all_plain [] h = refl
+all_plain (c ∷ cs) h =
+    let here : escaped c ≡ c ∷ [] = plain_stands c (All-head IsPlain c cs h) in
+    let rest : flat_map escaped cs ≡ cs = all_plain cs (All-tail IsPlain c cs h) in
+    rw (here, rest) refl
 
 pub byte_stands : (c : ℕ) → Stands c (escaped c)
 byte_stands c = elim (sorted c) [

@@ -6,3 +6,4 @@ pub mod BigNumbers
 pub mod Words
 pub mod OneLine
 pub mod OneValue
+pub mod Digits

@@ -193,8 +193,20 @@ fn end_line(text: &[u8]) -> Option<Line<'_>>
     }
 }
 
-/// The line, if the text is of a line's form.
+/// The line, if the text is of a line's form. The most common ones, those of fields, are told by their first bytes.
 pub fn parse_line(text: &[u8]) -> Option<Line<'_>>
+    ensures line { IfSome result (λ l. text.now ≡ text_of_line (line_data l)) }
+    ensures form { IfSome result (λ l. IsForm (line_data l)) }
+    ensures none { IfNone result ((d : LineData) → IsForm d → text.now ≢ text_of_line d) }
+{
+    match text {
+        [b'f', b'i', b'e', b'l', b'd', b' ', rest @ ..] => field_line(rest),
+        _ => any_line(text),
+    }
+}
+
+/// The line, if the text is of a line's form, told by its first word.
+fn any_line(text: &[u8]) -> Option<Line<'_>>
     ensures line { IfSome result (λ l. text.now ≡ text_of_line (line_data l)) }
     ensures form { IfSome result (λ l. IsForm (line_data l)) }
     ensures none { IfNone result ((d : LineData) → IsForm d → text.now ≢ text_of_line d) }

@@ -1,6 +1,6 @@
 //! Texts between quotes, as lines have them.
 
-ghost use Rattle.std.specs.Prelude.{◌≡◌, ◌≢◌, ◌↔◌, ℕ, ◌<◌, List, [], ◌∷◌, ◌++◌, IsTrue, IfSome, IfNone, IfOk, flat_map};
+ghost use Rattle.std.specs.Prelude.{◌≡◌, ◌≢◌, ◌↔◌, ℕ, ◌<◌, List, [], ◌∷◌, ◌++◌, IsTrue, All, IfSome, IfNone, IfOk, flat_map};
 ghost use Rattle.fast_lines.specs.Lines.{hex_digit, hex_byte, escaped, quoted};
 ghost use Rattle.fast_lines.specs.Texts.{IsMarked, IsControl, IsPlain};
 
@@ -25,6 +25,20 @@ fn is_plain(byte: u8) -> bool
     ensures { IsTrue result ↔ IsPlain byte }
 {
     byte >= 0x20 && byte != 0x7f && byte != b'"' && byte != b'\\'
+}
+
+/// Whether all bytes of a text stand as themselves.
+fn are_plain(text: &[u8]) -> bool
+    ensures { IsTrue result ↔ All IsPlain text.now }
+{
+    text.iter().all(|byte| is_plain(*byte))
+}
+
+/// Whether a text stands between quotes as it is.
+fn stands_alike(text: &[u8]) -> bool
+    ensures { IsTrue result → flat_map escaped text.now ≡ text.now }
+{
+    are_plain(text)
 }
 
 /// The number of a lower case hexadecimal digit.
@@ -123,5 +137,9 @@ pub fn unquote(alloc: Global, text: &[u8]) -> Result<Option<Vec<u8>>, AllocError
     let [b'"', inner @ .., b'"'] = text else {
         return Ok(None);
     };
-    unescape(alloc, inner)
+    if stands_alike(inner) {
+        Ok(Some(Vec::from_slice(alloc, inner)?))
+    } else {
+        unescape(alloc, inner)
+    }
 }

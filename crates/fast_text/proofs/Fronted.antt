@@ -1,6 +1,5 @@
 -- The fronts of the nodes so far, and one more.
 use Rattle.std.proofs.Common.{◌≡◌, ◌⊎◌, ℕ, suc, zero, List, [], ◌∷◌, ◌++◌, Some, refl, ap, inl, inr, length, slice_get}
-use Rattle.fast_tree.specs.Tree.{Tree}
 use Rattle.fast_text.specs.declared.front.Front.{Front}
 use Rattle.fast_text.specs.Front.{IsFront, AreFronts}
 
@@ -15,12 +14,12 @@ among (x ∷ xs) f g (suc n) h = elim (among xs f g n h) [
 ]
 
 -- no fronts
-pub no_fronts : (t : Tree) → AreFronts t []
-no_fronts t = record { each = λ n f h. absurd (cc) }
+pub no_fronts : (text : ℕ → List ℕ) → AreFronts text []
+no_fronts text = record { each = λ n f h. absurd (cc) }
 
 -- one more
-pub fronts_more : (t : Tree) (fs : List Front) (f : Front) → AreFronts t fs → IsFront t (length fs) f → AreFronts t (fs ++ f ∷ [])
-fronts_more t fs f all one = record {
+pub fronts_more : (text : ℕ → List ℕ) (fs : List Front) (f : Front) → AreFronts text fs → IsFront text (length fs) f → AreFronts text (fs ++ f ∷ [])
+fronts_more text fs f all one = record {
   each = λ n g h. elim (among fs f g n h) [
     | inl e ↦ all.each n g e
     | inr e ↦ rw (← e.0, ← e.1) one

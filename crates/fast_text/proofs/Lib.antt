@@ -2,3 +2,4 @@ pub mod Kept
 pub mod Writing
 pub mod Names
 pub mod Fronted
+pub mod Blocks

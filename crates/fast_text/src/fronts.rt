@@ -1,28 +1,41 @@
-//! The fronts of all nodes of a template set.
+//! The fronts of all nodes and templates of a template set.
 
 ghost use Rattle.std.specs.Prelude.{◌≡◌, IfOk};
 ghost use Rattle.fast_template.specs.Flat.{tree_of};
-ghost use Rattle.fast_text.specs.Front.{AreFronts};
+ghost use Rattle.fast_text.specs.Front.{field_front, message_front, AreFronts};
 
-use crate::front::{Front, front_at};
+use crate::front::{Front, field_at, message_at};
 use fast_template::Templates;
 use std::alloc::{AllocError, Global};
 
-/// The fronts of the lines of fields, made once for all nodes of a template set.
+/// The fronts of the lines of fields, and the lines of starts of messages, made once for a template set.
 #[derive(Debug, Drop)]
 pub struct Fronts<'a> {
     pub(crate) templates: &'a Templates,
     pub(crate) fields: Vec<Front>,
-    ghost right: { AreFronts (tree_of templates.now) fields.items },
+    pub(crate) messages: Vec<Front>,
+    ghost right: { AreFronts (field_front (tree_of templates.now)) fields.items },
+    ghost begun: { AreFronts (message_front (tree_of templates.now)) messages.items },
 }
 
-/// The fronts of all nodes.
-fn all_fronts(alloc: Global, templates: &Templates) -> Result<Vec<Front>, AllocError>
-    ensures { IfOk result (λ fronts. AreFronts (tree_of templates.now) fronts.items) }
+/// The fronts of the field lines of all nodes.
+fn all_fields(alloc: Global, templates: &Templates) -> Result<Vec<Front>, AllocError>
+    ensures { IfOk result (λ fronts. AreFronts (field_front (tree_of templates.now)) fronts.items) }
 {
     let mut fronts = Vec::with_capacity(alloc, templates.nodes() as usize)?;
     for n in 0..templates.nodes() {
-        fronts.push(front_at(alloc, templates, n)?)?;
+        fronts.push(field_at(alloc, templates, n)?)?;
+    }
+    Ok(fronts)
+}
+
+/// The lines of the starts of messages of all templates.
+fn all_messages(alloc: Global, templates: &Templates) -> Result<Vec<Front>, AllocError>
+    ensures { IfOk result (λ fronts. AreFronts (message_front (tree_of templates.now)) fronts.items) }
+{
+    let mut fronts = Vec::with_capacity(alloc, templates.count() as usize)?;
+    for n in 0..templates.count() {
+        fronts.push(message_at(alloc, templates, n)?)?;
     }
     Ok(fronts)
 }
@@ -30,7 +43,7 @@ fn all_fronts(alloc: Global, templates: &Templates) -> Result<Vec<Front>, AllocE
 impl<'a> Fronts<'a> {
     ghost use Rattle.fast_text.specs.Fronts.{set_of};
 
-    /// The fronts of the nodes of a set.
+    /// The fronts of the nodes and templates of a set.
     ///
     /// # Errors
     ///
@@ -38,14 +51,12 @@ impl<'a> Fronts<'a> {
     pub fn new(alloc: Global, templates: &'a Templates) -> Result<Fronts<'a>, AllocError>
         ensures { IfOk result (λ fronts. (set_of fronts).now ≡ templates.entry.now) }
     {
-        let fields = all_fronts(alloc, templates)?;
-        Ok(Fronts { templates, fields })
-    }
-
-    /// The set whose fronts these are.
-    pub fn templates(&self) -> &'a Templates
-        ensures { result.now ≡ (set_of self.now).now }
-    {
-        self.templates
+        let fields = all_fields(alloc, templates)?;
+        let messages = all_messages(alloc, templates)?;
+        Ok(Fronts {
+            templates,
+            fields,
+            messages,
+        })
     }
 }

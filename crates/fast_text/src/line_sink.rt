@@ -1,10 +1,10 @@
 //! A sink that writes a line for each event.
 
-ghost use Rattle.std.specs.Prelude.{◌≡◌};
+ghost use Rattle.std.specs.Prelude.{◌≡◌, [], ◌∷◌, ◌++◌};
 ghost use Rattle.fast_template.specs.Flat.{tree_of};
 ghost use Rattle.fast_stream.specs.Handed.{event_data};
 ghost use Rattle.fast_lines.specs.Lines.{line_of, node as node_words};
-ghost use Rattle.fast_text.specs.Front.{AreFronts, field_front};
+ghost use Rattle.fast_text.specs.Front.{AreFronts, field_front, message_front};
 ghost use Rattle.fast_text.specs.LineWriter.{Writes};
 
 use crate::front::Front;
@@ -23,9 +23,12 @@ pub struct LineSink<'a, T> {
     templates: &'a Templates,
     /// What stands before the values of the nodes' fields: of none, or of the first ones.
     fronts: &'a [Front],
+    /// The lines of starts of messages, of no templates or of the first ones.
+    messages: &'a [Front],
     target: &'a mut T,
     kept: Room,
-    ghost right: { AreFronts (tree_of templates.now) fronts.now },
+    ghost right: { AreFronts (field_front (tree_of templates.now)) fronts.now },
+    ghost begun: { AreFronts (message_front (tree_of templates.now)) messages.now },
 }
 
 /// Writes a node's number and its name.
@@ -45,7 +48,7 @@ fn put_field<T: Target>(
     fronts: &[Front],
     node: u32,
 )
-    requires { AreFronts (tree_of templates.now) fronts.now }
+    requires { AreFronts (field_front (tree_of templates.now)) fronts.now }
     ensures { Writes T.written T.has_failed line.old (field_front (tree_of templates.now) node) line.new }
 {
     let place = node as usize;
@@ -58,41 +61,64 @@ fn put_field<T: Target>(
     }
 }
 
-/// Writes the line of an event, without its LF.
+/// Writes the line of the start of a message.
+#[inline(always)]
+fn put_message<T: Target>(
+    line: &mut LineWriter<'_, T>,
+    templates: &Templates,
+    messages: &[Front],
+    template: u32,
+)
+    requires { AreFronts (message_front (tree_of templates.now)) messages.now }
+    ensures { Writes T.written T.has_failed line.old (message_front (tree_of templates.now) template) line.new }
+{
+    let place = template as usize;
+    if place < messages.len() && messages[place].len > 0 {
+        line.put_front(&messages[place].cells, messages[place].len);
+    } else {
+        line.put(b"message ");
+        line.put(template_text(templates, template).as_bytes());
+        line.put(b"\n");
+    }
+}
+
+/// Writes the line of an event.
 #[inline(always)]
 fn put_event<T: Target>(
     line: &mut LineWriter<'_, T>,
     templates: &Templates,
     fronts: &[Front],
+    messages: &[Front],
     event: Event<'_>,
 )
-    requires { AreFronts (tree_of templates.now) fronts.now }
-    ensures { Writes T.written T.has_failed line.old (line_of (tree_of templates.now) (event_data event.entry)) line.new }
+    requires fields { AreFronts (field_front (tree_of templates.now)) fronts.now }
+    requires messages { AreFronts (message_front (tree_of templates.now)) messages.now }
+    ensures { Writes T.written T.has_failed line.old (line_of (tree_of templates.now) (event_data event.entry) ++ 0x0A ∷ []) line.new }
 {
     match event {
-        Event::MessageStart { template } => {
-            line.put(b"message ");
-            line.put(template_text(templates, template).as_bytes());
-        }
+        Event::MessageStart { template } => put_message(line, templates, messages, template),
         Event::Field { node, value } => {
             put_field(line, templates, fronts, node);
             line.put_value(value);
+            line.put(b"\n");
         }
         Event::GroupStart { node } => {
             line.put(b"group ");
             put_node(line, templates, node);
+            line.put(b"\n");
         }
-        Event::GroupEnd => line.put(b"end group"),
+        Event::GroupEnd => line.put(b"end group\n"),
         Event::SequenceStart { node, count } => {
             line.put(b"sequence ");
             put_node(line, templates, node);
             line.put(b" ");
             line.put_unsigned(u64::from(count));
+            line.put(b"\n");
         }
-        Event::ElementStart => line.put(b"element"),
-        Event::ElementEnd => line.put(b"end element"),
-        Event::SequenceEnd => line.put(b"end sequence"),
-        Event::MessageEnd => line.put(b"end message"),
+        Event::ElementStart => line.put(b"element\n"),
+        Event::ElementEnd => line.put(b"end element\n"),
+        Event::SequenceEnd => line.put(b"end sequence\n"),
+        Event::MessageEnd => line.put(b"end message\n"),
     }
 }
 
@@ -107,6 +133,7 @@ impl<'a, T: Target> LineSink<'a, T> {
         LineSink {
             templates,
             fronts: &[],
+            messages: &[],
             target,
             kept: Room::new(),
         }
@@ -119,6 +146,7 @@ impl<'a, T: Target> LineSink<'a, T> {
         LineSink {
             templates: fronts.templates,
             fronts: fronts.fields.as_slice(),
+            messages: fronts.messages.as_slice(),
             target,
             kept: Room::new(),
         }
@@ -134,8 +162,7 @@ impl<T: Target> Sink for LineSink<'_, T> {
 
     fn take(&mut self, event: Event<'_>) -> Result<(), Stop> {
         let mut line = LineWriter::new(&mut *self.target, &mut self.kept);
-        put_event(&mut line, self.templates, self.fronts, event);
-        line.put(b"\n");
+        put_event(&mut line, self.templates, self.fronts, self.messages, event);
         match line.finish() {
             Ok(()) => Ok(()),
             Err(_) => Err(Stop),

@@ -1,11 +1,10 @@
 //! The parts of a line, one after the other.
 
-ghost use Rattle.std.specs.Prelude.{◌≡◌, ◌≤◌, [], ◌∷◌, ◌++◌, IsTrue, All, length, take, codes, decimal, flat_map};
+ghost use Rattle.std.specs.Prelude.{◌≡◌, ◌≤◌, [], ◌∷◌, ◌++◌, false, Ok, IsTrue, All, length, take, codes, decimal, flat_map};
 ghost use Rattle.std.specs.Fmt.{signed_decimal};
 ghost use Rattle.fast_value.specs.Values.{scalar_data};
 ghost use Rattle.fast_lines.specs.Lines.{escaped, quoted, hex_byte, written as value_text};
 ghost use Rattle.fast_text.specs.Room.{kept_in};
-ghost use Rattle.fast_text.specs.LineWriter.{Begins, Finishes, Writes};
 
 use crate::room::Room;
 use crate::streams::{Failed, Target};
@@ -21,9 +20,14 @@ pub struct LineWriter<'a, T> {
     /// What is not written yet.
     kept: &'a mut Room,
     outcome: Result<(), Failed>,
+    /// Nothing is kept and nothing has failed: what is put may go into the target's own room.
+    is_free: bool,
+    ghost free: { IsTrue is_free → (kept_in kept.now ≡ []) × (outcome ≡ Ok tt) },
 }
 
 impl<T: Target> fmt::Write for LineWriter<'_, T> {
+    ghost use Rattle.fast_text.specs.LineWriter.{Writes};
+
     ghost write_str_gives = { Writes T.written T.has_failed };
 
     fn write_str(&mut self, text: &str) -> fmt::Result {
@@ -56,6 +60,8 @@ fn plain_len(text: &[u8]) -> usize
 }
 
 impl<'a, T: Target> LineWriter<'a, T> {
+    ghost use Rattle.fast_text.specs.LineWriter.{Begins, Finishes, Writes};
+
     /// A writer that has written nothing. What the room holds is dropped.
     pub fn new(target: &'a mut T, kept: &'a mut Room) -> LineWriter<'a, T>
         ensures { Begins target.entry kept.entry result }
@@ -65,6 +71,7 @@ impl<'a, T: Target> LineWriter<'a, T> {
             target,
             kept,
             outcome: Ok(()),
+            is_free: true,
         }
     }
 
@@ -73,6 +80,7 @@ impl<'a, T: Target> LineWriter<'a, T> {
         ensures written { Writes T.written T.has_failed self.old [] self.new }
         ensures empty { kept_in self.new.kept.now ≡ [] }
     {
+        self.is_free = false;
         if self.outcome.is_ok() {
             self.outcome = self.target.write_all(self.kept.bytes());
         }
@@ -84,6 +92,7 @@ impl<'a, T: Target> LineWriter<'a, T> {
         requires { kept_in self.old.kept.now ≡ [] }
         ensures { Writes T.written T.has_failed self.old text.now self.new }
     {
+        self.is_free = false;
         if self.outcome.is_ok() {
             self.outcome = self.target.write_all(text);
         }
@@ -111,6 +120,33 @@ impl<'a, T: Target> LineWriter<'a, T> {
         requires { count ≤ length block.now }
         ensures { Writes T.written T.has_failed self.old (take count block.now) self.new }
     {
+        if self.put_at_once(block, count) {
+            return;
+        }
+        self.put_behind(block, count);
+    }
+
+    /// Puts the first bytes of a block into the target's own room, where nothing else is kept and the target has such room.
+    #[inline(always)]
+    fn put_at_once(&mut self, block: &[u8], count: usize) -> bool
+        requires { count ≤ length block.now }
+        ensures put { IsTrue result → Writes T.written T.has_failed self.old (take count block.now) self.new }
+        ensures not { result ≡ false → Writes T.written T.has_failed self.old [] self.new }
+    {
+        if self.is_free {
+            self.target.keep(block, count)
+        } else {
+            false
+        }
+    }
+
+    /// Puts the first bytes of a block behind what is kept.
+    #[inline(never)]
+    fn put_behind(&mut self, block: &[u8], count: usize)
+        requires { count ≤ length block.now }
+        ensures { Writes T.written T.has_failed self.old (take count block.now) self.new }
+    {
+        self.is_free = false;
         if self.kept.has_room(block.len()) {
             self.kept.keep(block, count);
         } else {
@@ -119,7 +155,7 @@ impl<'a, T: Target> LineWriter<'a, T> {
     }
 
     /// Writes an integer of 0 or more in decimal digits.
-    #[inline]
+    #[inline(always)]
     pub fn put_unsigned(&mut self, number: u64)
         ensures { Writes T.written T.has_failed self.old (decimal number) self.new }
     {
@@ -233,6 +269,9 @@ impl<'a, T: Target> LineWriter<'a, T> {
     pub fn finish(&mut self) -> Result<(), Failed>
         ensures { Finishes T.written T.has_failed self.old self.new result }
     {
+        if self.is_free {
+            return Ok(());
+        }
         self.write_on();
         self.outcome
     }

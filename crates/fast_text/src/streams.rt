@@ -69,6 +69,19 @@ pub trait Target {
     fn failed(&self) -> bool
         ensures { result ≡ has_failed self.now };
 
+    /// Takes the first bytes of a block into room of its own, where it has room for the whole block, and answers whether it did.
+    /// A target without room of its own never does.
+    #[inline(always)]
+    fn keep(&mut self, block: &[u8], count: usize) -> bool
+        requires { count ≤ length block.now }
+        ensures kept { IsTrue result → Appends (written self.old) (written self.new) (take count block.now) }
+        ensures unchanged { result ≡ false → self.new ≡ self.old }
+        ensures stays { has_failed self.new ≡ has_failed self.old }
+    {
+        let _ = (block.len(), count);
+        false
+    }
+
     /// Writes a whole piece, or fails when a front of it is written.
     final fn write_all(&mut self, piece: &[u8]) -> Result<(), Failed>
     where

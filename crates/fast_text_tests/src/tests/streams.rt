@@ -1,6 +1,6 @@
 //! Readers and writers over slices, and those of std.
 
-use fast_text::{Failed, FromBytes, Source, Target, ToBytes, Watched};
+use fast_text::{BlockWriter, Failed, FromBytes, Source, Target, ToBytes, Watched};
 use std::io;
 use std::io::{ErrorKind, Read, Write};
 use std::process::Abort;
@@ -135,4 +135,28 @@ fn a_writer_of_std_fails_where_a_call_does_or_writes_nothing(rt: HostRuntime) {
         drop(target);
         assert!(rt; is_flushed && cells == written, "{calls} calls");
     }
+}
+
+/// What is written waits for a flush; what a target has no room for is still kept where it fails.
+#[test]
+fn a_block_is_handed_on_at_a_flush(rt: HostRuntime) {
+    let mut cells = [0; 4];
+    let mut target = BlockWriter::new(ToBytes::new(&mut cells));
+    let writes = target.write_all(b"ab").is_ok() && target.flush().is_ok();
+    let waits = target.write_all(b"cde").is_ok() && !target.failed();
+    let fails = target.flush().is_err() && target.failed();
+    drop(target);
+    assert!(rt; writes && waits && fails && cells == *b"abcd");
+}
+
+/// A piece that is longer than a block comes behind what was kept.
+#[test]
+fn a_long_piece_goes_past_a_block(rt: HostRuntime) {
+    let mut cells = [0; 9001];
+    let mut target = BlockWriter::new(ToBytes::new(&mut cells));
+    let keeps = target.keep(b"ab", 1) && target.write_all(&[b'c'; 9000]).is_ok();
+    let full = !target.keep(&[b'd'; 9000], 1);
+    let flushes = target.flush().is_ok();
+    drop(target);
+    assert!(rt; keeps && full && flushes && cells[0] == b'a' && cells[1] == b'c' && cells[9000] == b'c');
 }

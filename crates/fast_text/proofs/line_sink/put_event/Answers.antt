@@ -3,16 +3,16 @@ use Rattle.fast_text.proofs.Writing.{writes_both, writes_same}
 use Rattle.fast_text.proofs.line_sink.put_event.Goals as goal
 
 pub returns-in-MessageStart : goal.returns-in-MessageStart
-returns-in-MessageStart g c = rw c.in-MessageStart.is (writes_both c.put.ensures (writes_same (c.as_bytes.ensures.value ∙ c.template_text.ensures) c.put-in-MessageStart.ensures))
+returns-in-MessageStart g c = rw c.in-MessageStart.is c.put_message.ensures
 
 pub returns-in-Field : goal.returns-in-Field
-returns-in-Field g c = rw c.in-Field.is (writes_both c.put_field.ensures c.put_value.ensures)
+returns-in-Field g c = rw c.in-Field.is (writes_both (writes_both c.put_field.ensures c.put_value.ensures) c.put.ensures)
 
 pub returns-in-GroupStart : goal.returns-in-GroupStart
-returns-in-GroupStart g c = rw c.in-GroupStart.is (writes_both c.put-in-GroupStart.ensures c.put_node.ensures)
+returns-in-GroupStart g c = rw c.in-GroupStart.is (writes_both (writes_both c.put-in-GroupStart.ensures c.put_node.ensures) c.put-in-GroupStart-2.ensures)
 
 pub returns-in-SequenceStart : goal.returns-in-SequenceStart
-returns-in-SequenceStart g c = rw c.in-SequenceStart.is (writes_both (writes_both (writes_both c.put-in-SequenceStart.ensures c.put_node-in-SequenceStart.ensures) c.put-in-SequenceStart-2.ensures) (writes_same (ap decimal c.from.ensures) c.put_unsigned.ensures))
+returns-in-SequenceStart g c = rw c.in-SequenceStart.is (writes_both (writes_both (writes_both (writes_both c.put-in-SequenceStart.ensures c.put_node-in-SequenceStart.ensures) c.put-in-SequenceStart-2.ensures) (writes_same (ap decimal c.from.ensures) c.put_unsigned.ensures)) c.put-in-SequenceStart-3.ensures)
 
 pub returns-in-ElementEnd : goal.returns-in-ElementEnd
 returns-in-ElementEnd g c = rw c.in-ElementEnd.is c.put-in-ElementEnd.ensures

@@ -2,7 +2,7 @@ use Rattle.std.proofs.Common.{ap, ◌∙◌, sym, decimal}
 use Rattle.std.proofs.lemmas.Bool.Decides.{Decides-eqb}
 use Rattle.std.proofs.lemmas.Slice.Eq.{slice_eq-Decides}
 use Rattle.fast_lines.proofs.Numerals.{decimal_is_utf8, parsed_is, decimal_is_parsed}
-use Rattle.fast_lines.proofs.numbers.parse_unsigned.Goals as goal
+use Rattle.fast_lines.proofs.numbers.long_unsigned.Goals as goal
 
 pub returns-in_default-clause-none : goal.returns-in_default-clause-none
 returns-in_default-clause-none c n small e = c.in_default.ensures.cases.0 (decimal_is_utf8 c.args.text.now n small e)

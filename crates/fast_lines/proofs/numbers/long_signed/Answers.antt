@@ -4,7 +4,7 @@ use Rattle.std.proofs.lemmas.Bool.Decides.{Decides-eqb}
 use Rattle.std.proofs.lemmas.Slice.Eq.{slice_eq-Decides}
 use Rattle.std.proofs.lemmas.Int.{to_z-of_z}
 use Rattle.fast_lines.proofs.Numerals.{signed_is_utf8, signed_parsed_is, signed_is_parsed}
-use Rattle.fast_lines.proofs.numbers.parse_signed.Goals as goal
+use Rattle.fast_lines.proofs.numbers.long_signed.Goals as goal
 
 pub returns-in_default-clause-none : goal.returns-in_default-clause-none
 returns-in_default-clause-none c x range e = c.in_default.ensures.cases.0 (signed_is_utf8 c.args.text.now x range e)

@@ -3,7 +3,7 @@ use Rattle.fast_lines.specs.Forms.{IsNoForm}
 use Rattle.std.proofs.lemmas.Bool.Decides.{Decides-eqb}
 use Rattle.std.proofs.lemmas.Slice.Eq.{slice_eq-Decides}
 use Rattle.fast_lines.proofs.Words.{one_word, no_such_line}
-use Rattle.fast_lines.proofs.forms.parse_line.Goals as goal
+use Rattle.fast_lines.proofs.forms.any_line.Goals as goal
 
 pub returns-else-eq-clause-none : goal.returns-else-eq-clause-none
 returns-else-eq-clause-none c d form h = one_word c.args.text.now c.in_default.ensures.none (λ e. let equal = (slice_eq-Decides Decides-eqb _ _ _ c.eq.ensures).1 (e ∙ sym c.as_slice.ensures) in cc (equal, c.if-eq.false)) d h

@@ -1,14 +1,14 @@
 use Rattle.std.proofs.Common.{rules, arith, ◌≡◌, ◌+◌, ◌++◌, ◌∷◌, [], length}
 use Rattle.std.proofs.lemmas.Grind.{common_steps}
 use Rattle.fast_template.specs.Flat.{tree_of}
-use Rattle.fast_text.specs.Front.{IsFront}
+use Rattle.fast_text.specs.Front.{field_front, IsFront}
 use Rattle.fast_text.proofs.Fronted.{fronts_more}
-use Rattle.fast_text.proofs.fronts.all_fronts.Goals as goal
+use Rattle.fast_text.proofs.fronts.all_fields.Goals as goal
 
 pub loop-n-preserved : goal.loop-n-preserved
 loop-n-preserved c =
     let i = c.loop-n.invariant in
-    let items : c.push.new.self.items ≡ c.loop-n.fronts.items ++ c.in_ok-front_at.field-0 ∷ [] = search rules in
-    let one : IsFront (tree_of c.args.templates.now) (length c.loop-n.fronts.items) c.in_ok-front_at.field-0 = rw i.0 c.in_ok-front_at.ensures in
+    let items : c.push.new.self.items ≡ c.loop-n.fronts.items ++ c.in_ok-field_at.field-0 ∷ [] = search rules in
+    let one : IsFront (field_front (tree_of c.args.templates.now)) (length c.loop-n.fronts.items) c.in_ok-field_at.field-0 = rw i.0 c.in_ok-field_at.ensures in
     let long : length c.push.new.self.items ≡ c.loop-n.n + 1 = grind (arith, common_steps, i.0, items) in
     (long, rw items (fronts_more _ _ _ i.1 one))

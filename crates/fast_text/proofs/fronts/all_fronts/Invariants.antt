@@ -1,8 +1,0 @@
-use Rattle.std.proofs.Common.{◌≡◌, length}
-use Rattle.fast_template.specs.Flat.{tree_of}
-use Rattle.fast_text.specs.Front.{AreFronts}
-use Rattle.fast_text.proofs.fronts.all_fronts.Given as goal
-
--- the fronts of the nodes so far
-abbrev pub invariant-loop-n : goal.invariant-loop-n
-invariant-loop-n l = (length l.fronts.items ≡ l.n) × AreFronts (tree_of l.templates) l.fronts.items

@@ -1,0 +1,8 @@
+use Rattle.std.proofs.Common.{◌≡◌, length}
+use Rattle.fast_template.specs.Flat.{tree_of}
+use Rattle.fast_text.specs.Front.{message_front, AreFronts}
+use Rattle.fast_text.proofs.fronts.all_messages.Given as goal
+
+-- the fronts of the templates so far
+abbrev pub invariant-loop-n : goal.invariant-loop-n
+invariant-loop-n l = (length l.fronts.items ≡ l.n) × AreFronts (message_front (tree_of l.templates)) l.fronts.items
