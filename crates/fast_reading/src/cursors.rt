@@ -129,6 +129,7 @@ impl<'a> Cursor<'a> {
     /// # Errors
     ///
     /// The line behind it is not of a line's form; memory was refused.
+    #[inline(always)]
     pub fn behind(alloc: Global, number: u64, text: &'a [u8]) -> Result<Cursor<'a>, TextFault>
         ensures ahead { IfOk result (λ c. ahead c ≡ closed text.entry.now) }
         ensures number { IfOk result (λ c. IsNextNumber number c.number) }
@@ -144,6 +145,7 @@ impl<'a> Cursor<'a> {
     /// # Errors
     ///
     /// The line behind it is not of a line's form; memory was refused.
+    #[inline(always)]
     pub fn advance(self, alloc: Global) -> Result<Cursor<'a>, TextFault>
         requires { IsSome self.line }
         ensures ok { IfOk result (Advances self.entry) }

@@ -181,6 +181,7 @@ fn read_rows<'a>(
 }
 
 /// Puts an item behind the others.
+#[inline(always)]
 fn push<T: Drop>(items: &mut Vec<T>, item: T) -> Result<(), TextFault>
     ensures ok { OnOk result (items.new.items ≡ items.old.items ++ item ∷ []) }
     ensures err { IfErr result (λ e. e ≡ TextFault.Memory) }

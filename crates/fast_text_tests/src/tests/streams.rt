@@ -158,5 +158,7 @@ fn a_long_piece_goes_past_a_block(rt: HostRuntime) {
     let full = !target.keep(&[b'd'; 9000], 1);
     let flushes = target.flush().is_ok();
     drop(target);
-    assert!(rt; keeps && full && flushes && cells[0] == b'a' && cells[1] == b'c' && cells[9000] == b'c');
+    assert!(rt;
+        keeps && full && flushes && cells[0] == b'a' && cells[1] == b'c' && cells[9000] == b'c'
+    );
 }
