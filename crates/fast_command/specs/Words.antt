@@ -32,17 +32,21 @@ number_rule name = record (new_rule name) { long = Some name; value_names = 1; p
 abbrev pub with_limits : App → App
 with_limits a = with_rule (with_rule (with_rule a (number_rule (codes "max-text"))) (number_rule (codes "max-elements"))) (number_rule (codes "max-total"))
 
+-- the options of all subcommands
+abbrev pub with_options : App → App
+with_options a = with_rule (with_limits a) (flag_rule (codes "explain"))
+
 -- `fastcat check T`
 abbrev pub check_app : App
-check_app = with_limits (with_rule (new_app (codes "check")) templates_rule)
+check_app = with_options (with_rule (new_app (codes "check")) templates_rule)
 
 -- `fastcat show T [F]`
 abbrev pub show_app : App
-show_app = with_limits (with_rule (with_rule (with_rule (with_rule (new_app (codes "show")) templates_rule) input_rule) (flag_rule (codes "hex"))) (flag_rule (codes "strict")))
+show_app = with_options (with_rule (with_rule (with_rule (with_rule (new_app (codes "show")) templates_rule) input_rule) (flag_rule (codes "hex"))) (flag_rule (codes "strict")))
 
 -- `fastcat convert T [F]`
 abbrev pub convert_app : App
-convert_app = with_limits (with_rule (with_rule (with_rule (new_app (codes "convert")) templates_rule) input_rule) (flag_rule (codes "hex")))
+convert_app = with_options (with_rule (with_rule (with_rule (new_app (codes "convert")) templates_rule) input_rule) (flag_rule (codes "hex")))
 
 -- one of the three has to be named
 abbrev pub fastcat_app : App
@@ -87,6 +91,7 @@ pub record IsPlanOf (name : Text) (rows : List Row) (p : Plan) : Type 0 where
   pub input : option_map (λ s. s.now) p.input ≡ first_of (codes "input") rows
   pub hex : IsFlagAt (codes "hex") rows p.hex
   pub strict : IsFlagAt (codes "strict") rows p.strict
+  pub explain : IsFlagAt (codes "explain") rows p.explain
   pub max_text : IsNumberAt (codes "max-text") rows 1024 p.max_text
   pub max_elements : IsNumberAt (codes "max-elements") rows 1000 p.max_elements
   pub max_total : IsNumberAt (codes "max-total") rows 1000 p.max_total

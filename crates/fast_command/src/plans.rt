@@ -32,6 +32,8 @@ pub struct Plan<'a> {
     pub hex: bool,
     /// Whether an encoding that is longer than it needs to be is a fault.
     pub strict: bool,
+    /// Whether it is explained why the work is not done.
+    pub explain: bool,
     /// The greatest length of a text.
     pub max_text: u32,
     /// The most elements of a sequence.

@@ -10,7 +10,7 @@ use fast_text::Source;
 use std::alloc::Global;
 
 /// The most bytes of a text.
-const LIMIT: usize = 16_777_216;
+pub const TEXT_LIMIT: usize = 16_777_216;
 
 /// Reads a template set from its text, of any length: one of more than 16,777,216 bytes cannot be read.
 ///
@@ -21,7 +21,7 @@ pub fn read_templates<S: Source>(alloc: Global, reader: &mut S) -> Result<Templa
     ensures set { IfOk result (λ t. IsSetRead (S.left reader.old) (S.left reader.new) t) }
     ensures refused { IfErr result (λ e. IsSetRefused (S.left reader.old) (S.left reader.new) (IsTrue (S.has_failed reader.new)) e) }
 {
-    let text = read_whole(alloc, LIMIT, reader)?;
+    let text = read_whole(alloc, TEXT_LIMIT, reader)?;
     match str::from_utf8(&text) {
         Ok(text) => Ok(Templates::read(alloc, text)?),
         Err(_) => Err(RunFault::Templates(StaticFault {

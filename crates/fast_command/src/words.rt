@@ -7,7 +7,7 @@ ghost use Rattle.clap.specs.Faults.{fault_of};
 ghost use Rattle.clap.specs.Kinds.{FailsBy};
 ghost use Rattle.clap.specs.declared.builder.command.Command.TheViews.{out-Command};
 ghost use Rattle.clap.specs.Matches.{found_of};
-ghost use Rattle.fast_command.specs.Words.{number_rule, flag_rule, templates_rule, input_rule, with_limits, check_app, show_app, convert_app, fastcat_app, MakesApp, task_named, IsPlanOf, IsNumberAt};
+ghost use Rattle.fast_command.specs.Words.{number_rule, flag_rule, templates_rule, input_rule, with_limits, with_options, check_app, show_app, convert_app, fastcat_app, MakesApp, task_named, IsPlanOf, IsNumberAt};
 
 use crate::plans::{BUILT_IN, Plan, Task};
 use clap::{Arg, ArgAction, ArgMatches, Command, Error, value_parser};
@@ -82,6 +82,15 @@ fn with_limits<'a>(alloc: Global, command: Command<'a>) -> Result<Command<'a>, A
         .arg(number_arg(alloc, "max-total", total))
 }
 
+/// A command with the options that all of them have.
+fn with_options<'a>(alloc: Global, command: Command<'a>) -> Result<Command<'a>, AllocError>
+    requires { (out-Command command).has_globals ≡ false }
+    ensures { IfOk result (MakesApp (with_options (app_of command.entry))) }
+{
+    let explain = "Says behind the line on standard error, in words, what is wrong, and where";
+    with_limits(alloc, command)?.arg(flag_arg(alloc, "explain", explain))
+}
+
 /// The subcommand that checks a template text.
 fn check_command<'a>(alloc: Global) -> Result<Command<'a>, AllocError>
     ensures { IfOk result (MakesApp check_app) }
@@ -90,7 +99,7 @@ fn check_command<'a>(alloc: Global) -> Result<Command<'a>, AllocError>
         .about("Checks a template text, and says how large its set is")
         .after_help("Example: fastcat check templates.toml")
         .arg(templates_arg(alloc))?;
-    with_limits(alloc, command)
+    with_options(alloc, command)
 }
 
 /// The subcommand that shows a stream.
@@ -107,7 +116,7 @@ fn show_command<'a>(alloc: Global) -> Result<Command<'a>, AllocError>
         .arg(input_arg(alloc, input))?
         .arg(flag_arg(alloc, "hex", hex))?
         .arg(flag_arg(alloc, "strict", strict))?;
-    with_limits(alloc, command)
+    with_options(alloc, command)
 }
 
 /// The subcommand that turns lines into a stream.
@@ -122,7 +131,7 @@ fn convert_command<'a>(alloc: Global) -> Result<Command<'a>, AllocError>
         .arg(templates_arg(alloc))?
         .arg(input_arg(alloc, input))?
         .arg(flag_arg(alloc, "hex", hex))?;
-    with_limits(alloc, command)
+    with_options(alloc, command)
 }
 
 /// The whole command.
@@ -169,6 +178,7 @@ fn plan_of<'a>(name: &str, matches: &ArgMatches<'a>) -> Plan<'a>
         input: matches.get_str("input"),
         hex: matches.get_flag("hex"),
         strict: matches.get_flag("strict"),
+        explain: matches.get_flag("explain"),
         max_text: number_or(matches, "max-text", limits.max_text as u32),
         max_elements: number_or(matches, "max-elements", limits.max_elements),
         max_total: number_or(matches, "max-total", limits.max_total),

@@ -2,16 +2,22 @@
 //! sets are.
 #![tactic(auto)]
 
+mod codes;
+
+use crate::codes::all_codes;
 use clap::Error;
 use clap::error::ErrorKind;
+use fast_command::sets::TEXT_LIMIT;
 use fast_command::{
-    BUILT_IN, Plan, RunFault, ShowEnd, Task, built_in, plan, read_templates, report, run_check,
-    show_all,
+    BUILT_IN, Plan, RunFault, ShowEnd, Task, built_in, plan, read_templates, read_whole, report,
+    run_check, show_all,
 };
 use fast_convert::run_convert;
+use fast_explain::{Kept, Note, Seen, explain_stream, explain_templates};
 use fast_template::Templates;
-use fast_text::{Source, Watched};
+use fast_text::{FromBytes, Source, Target, Watched};
 use std::alloc::{AllocError, Global};
+use std::fmt::Write;
 use std::io::{self, BufWriter};
 use std::process::ExitCode;
 use std::{env, fs};
@@ -25,16 +31,14 @@ const MISTAKE: u8 = 2;
 /// How often a run reads at most.
 const MAX_READS: u64 = 1 << 40;
 
-/// Shows what a reader gives on standard output, in large pieces.
-fn show_from<S: Source>(
+/// Shows what a reader gives on a writer.
+fn show_on<S: Source, T: Target>(
     rt: &HostRuntime,
     templates: &Templates,
     plan: &Plan<'_>,
     reader: &mut S,
+    writer: &mut T,
 ) -> Result<ShowEnd, RunFault> {
-    let Ok(output) = BufWriter::new(rt.alloc(), rt.stdout()) else {
-        return Err(RunFault::Memory);
-    };
     show_all(
         rt.alloc(),
         templates,
@@ -42,8 +46,37 @@ fn show_from<S: Source>(
         plan.hex,
         MAX_READS,
         reader,
-        &mut Watched::new(output),
+        writer,
     )
+}
+
+/// Shows what a reader gives on standard output, in large pieces, and notes in words what is wrong with it, if that is asked for.
+fn show_from<S: Source>(
+    rt: &HostRuntime,
+    templates: &Templates,
+    plan: &Plan<'_>,
+    reader: &mut Kept<S>,
+    note: &mut Note,
+) -> Result<ShowEnd, RunFault> {
+    let Ok(output) = BufWriter::new(rt.alloc(), rt.stdout()) else {
+        return Err(RunFault::Memory);
+    };
+    let mut output = Watched::new(output);
+    if !plan.explain {
+        return show_on(rt, templates, plan, reader, &mut output);
+    }
+    let mut writer = Seen::new(output);
+    let ending = show_on(rt, templates, plan, reader, &mut writer);
+    match ending {
+        Ok(ShowEnd::Faulted(fault)) => {
+            *note = explain_stream(Some(fault.code), fault.place, reader, &writer);
+        }
+        Ok(ShowEnd::Truncated(consumed)) => {
+            *note = explain_stream(None, consumed, reader, &writer);
+        }
+        _ => {}
+    }
+    ending
 }
 
 /// Writes the stream whose lines a reader gives on standard output, in large pieces.
@@ -68,32 +101,49 @@ fn convert_from<S: Source>(
 }
 
 /// Does with what a reader gives what a plan asks for.
-fn read_from<S: Source>(
+fn read_from<S: Source + Drop>(
     rt: &HostRuntime,
     templates: &Templates,
     plan: &Plan<'_>,
-    reader: &mut S,
+    reader: S,
+    note: &mut Note,
 ) -> Result<ShowEnd, RunFault> {
+    let mut reader = Kept::new(reader, plan.explain, plan.hex);
     match plan.task {
-        Task::Convert => convert_from(rt, templates, plan, reader),
-        _ => show_from(rt, templates, plan, reader),
+        Task::Convert => convert_from(rt, templates, plan, &mut reader),
+        _ => show_from(rt, templates, plan, &mut reader, note),
     }
 }
 
+/// Reads a template set, and notes in words why it is refused.
+fn read_explained<S: Source>(
+    alloc: Global,
+    reader: &mut S,
+    note: &mut Note,
+) -> Result<Templates, RunFault> {
+    let text = read_whole(alloc, TEXT_LIMIT, reader)?;
+    let templates = read_templates(alloc, &mut FromBytes::new(&text));
+    if let Err(RunFault::Templates(fault)) = &templates {
+        *note = explain_templates(alloc, &text, *fault);
+    }
+    templates
+}
+
 /// The template set that a plan names.
-fn templates_of(rt: &HostRuntime, plan: &Plan<'_>) -> Result<Templates, RunFault> {
+fn templates_of(rt: &HostRuntime, plan: &Plan<'_>, note: &mut Note) -> Result<Templates, RunFault> {
     if plan.has_built_in() {
         return Ok(built_in(rt.alloc())?);
     }
     match fs::open(rt, plan.templates) {
+        Ok(file) if plan.explain => read_explained(rt.alloc(), &mut Watched::new(file), note),
         Ok(file) => read_templates(rt.alloc(), &mut Watched::new(file)),
         Err(_) => Err(RunFault::Read),
     }
 }
 
-/// Does what a plan asks for.
-fn carry_out(rt: &HostRuntime, plan: &Plan<'_>) -> Result<ShowEnd, RunFault> {
-    let templates = templates_of(rt, plan)?;
+/// Does what a plan asks for, and notes in words why it is not done.
+fn carry_out(rt: &HostRuntime, plan: &Plan<'_>, note: &mut Note) -> Result<ShowEnd, RunFault> {
+    let templates = templates_of(rt, plan, note)?;
     match (plan.task, plan.input) {
         (Task::Check, _) => {
             let mut target = Watched::new(rt.stdout());
@@ -101,13 +151,13 @@ fn carry_out(rt: &HostRuntime, plan: &Plan<'_>) -> Result<ShowEnd, RunFault> {
             Ok(ShowEnd::Good)
         }
         (_, None) => {
-            let mut reader = Watched::new(rt.stdin());
-            read_from(rt, &templates, plan, &mut reader)
+            let reader = Watched::new(rt.stdin());
+            read_from(rt, &templates, plan, reader, note)
         }
         (_, Some(path)) => match fs::open(rt, path) {
             Ok(file) => {
-                let mut reader = Watched::new(file);
-                read_from(rt, &templates, plan, &mut reader)
+                let reader = Watched::new(file);
+                read_from(rt, &templates, plan, reader, note)
             }
             Err(_) => Err(RunFault::Read),
         },
@@ -120,12 +170,49 @@ fn ended(rt: &HostRuntime, ending: Result<ShowEnd, RunFault>) -> ExitCode {
     ExitCode::from(report(&ending, &mut errors))
 }
 
+/// Reports how a run has ended, and then in words why.
+fn ended_with(rt: &HostRuntime, ending: Result<ShowEnd, RunFault>, note: &Note) -> ExitCode {
+    let status = ended(rt, ending);
+    let _ = Watched::new(rt.stderr()).write_all(note.as_str().as_bytes());
+    status
+}
+
+/// Carries out a plan, and explains the ending where that is asked for.
+fn run_plan(rt: &HostRuntime, plan: &Plan<'_>) -> ExitCode {
+    let mut note = Note::new();
+    let ending = carry_out(rt, plan, &mut note);
+    if !plan.explain {
+        return ended(rt, ending);
+    }
+    let _ = match &ending {
+        Err(RunFault::Make(cause)) => writeln!(note, "  {cause}"),
+        Err(RunFault::Text { kind, .. }) => writeln!(note, "  {kind}"),
+        Err(RunFault::Encode { fault, .. }) => writeln!(note, "  {fault}"),
+        _ => Ok(()),
+    };
+    ended_with(rt, ending, &note)
+}
+
+/// Prints a text of help, and behind it all codes.
+fn print_help(rt: &HostRuntime, error: &Error) -> io::Result<()> {
+    error.print(rt)?;
+    match Watched::new(rt.stdout()).write_all(all_codes().as_str().as_bytes()) {
+        Ok(()) => Ok(()),
+        Err(_) => Err(io::Error::from(io::ErrorKind::Other)),
+    }
+}
+
 /// Prints the text of a help that was asked for, or of a mistake in the words.
 fn explained(rt: &HostRuntime, error: &Error) -> ExitCode {
     if error.kind() == ErrorKind::OutOfMemory {
         return ended(rt, Err(RunFault::Memory));
     }
-    match error.print(rt) {
+    let printed = if error.kind() == ErrorKind::DisplayHelp {
+        print_help(rt, error)
+    } else {
+        error.print(rt)
+    };
+    match printed {
         Err(_) if !error.use_stderr() => ended(rt, Err(RunFault::Write)),
         // A mistake has its status also where what is said of it cannot be written.
         _ => ExitCode::from(error.exit_code() as u8),
@@ -141,7 +228,7 @@ fn not_text(rt: &HostRuntime) -> ExitCode {
 /// Runs the command on its words, of which the first is the program's name.
 fn run(rt: &HostRuntime, words: &[&str]) -> ExitCode {
     match plan(rt.alloc(), words) {
-        Ok(plan) => ended(rt, carry_out(rt, &plan)),
+        Ok(plan) => run_plan(rt, &plan),
         Err(error) => explained(rt, &error),
     }
 }

@@ -13,6 +13,7 @@ const DEFAULTS: Plan<'static> = Plan {
     input: None,
     hex: false,
     strict: false,
+    explain: false,
     max_text: 1024,
     max_elements: 1000,
     max_total: 1000,
@@ -64,6 +65,13 @@ fn words_and_their_plans(rt: HostRuntime) -> Result<(), Fail> {
                 input: Some("stream"),
                 strict: true,
                 ..show
+            },
+        ),
+        (
+            ["fastcat", "check", "--explain", "t.toml"].as_slice(),
+            Plan {
+                explain: true,
+                ..check
             },
         ),
         (

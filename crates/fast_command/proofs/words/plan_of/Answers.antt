@@ -17,6 +17,7 @@ returns c =
       input = c.get_str-2.ensures ∙ first_value-rows f (codes "input");
       hex = flag_read f (codes "hex") c.get_flag.result c.get_flag.ensures.none c.get_flag.ensures.value c.get_flag.ensures.other;
       strict = flag_read f (codes "strict") c.get_flag-2.result c.get_flag-2.ensures.none c.get_flag-2.ensures.value c.get_flag-2.ensures.other;
+      explain = flag_read f (codes "explain") c.get_flag-3.result c.get_flag-3.ensures.none c.get_flag-3.ensures.value c.get_flag-3.ensures.other;
       max_text = subst (λ (l : Limits). IsNumberAt (codes "max-text") (rows_of f) l.max_text c.number_or.result) c.default-limits.ensures c.number_or.ensures;
       max_elements = subst (λ (l : Limits). IsNumberAt (codes "max-elements") (rows_of f) l.max_elements c.number_or-2.result) c.default-limits.ensures c.number_or-2.ensures;
       max_total = subst (λ (l : Limits). IsNumberAt (codes "max-total") (rows_of f) l.max_total c.number_or-3.result) c.default-limits.ensures c.number_or-3.ensures;

@@ -1,0 +1,22 @@
+//! What a person needs to know of a refusal or a fault: the sentence of its code, the place, and what would be right there.
+#![tactic(auto)]
+
+mod circles;
+mod documents;
+mod keys;
+pub mod notes;
+mod places;
+mod shapes;
+pub mod sights;
+mod sizes;
+pub mod streams;
+pub mod tails;
+pub mod templates;
+mod uses;
+mod walks;
+
+pub use notes::{NOTE_ROOM, Note};
+pub use sights::Seen;
+pub use streams::explain_stream;
+pub use tails::Kept;
+pub use templates::explain_templates;

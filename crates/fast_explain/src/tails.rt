@@ -1,0 +1,162 @@
+//! What a reader has given last, to tell the bytes around a place of a stream.
+
+ghost use Rattle.std.specs.Prelude.{◌≡◌};
+
+use crate::notes::Note;
+use fast_text::{Failed, Source};
+use std::fmt::Write;
+
+/// How many bytes are kept: more than two reads give.
+const KEPT: usize = 8192;
+
+/// How many bytes of the stream are told before the one in question, and behind it.
+const AROUND: u64 = 8;
+
+/// The digits of a byte.
+const DIGITS: &[u8; 16] = b"0123456789ABCDEF";
+
+/// The last bytes of an input.
+#[derive(Drop)]
+struct Tail {
+    cells: [u8; KEPT],
+    /// How many bytes there were.
+    count: u64,
+    /// How many digits were dropped, where the input is hexadecimal.
+    dropped: u64,
+    is_kept: bool,
+    is_hex: bool,
+}
+
+/// A reader whose last bytes are kept. It gives what the inner one gives.
+#[derive(Drop)]
+pub struct Kept<S> {
+    inner: S,
+    tail: Tail,
+}
+
+/// Whether a character is a hexadecimal digit.
+fn is_digit(character: u8) -> bool {
+    matches!(character, b'0'..=b'9' | b'a'..=b'f' | b'A'..=b'F')
+}
+
+impl Tail {
+    /// Takes in a byte.
+    fn push(&mut self, byte: u8) {
+        let at = (self.count % KEPT as u64) as usize;
+        if let Some(cell) = self.cells.get_mut(at) {
+            if self.count >= KEPT as u64 && is_digit(*cell) {
+                self.dropped = self.dropped.saturating_add(1);
+            }
+            *cell = byte;
+        }
+        self.count = self.count.saturating_add(1);
+    }
+
+    /// Takes in a piece.
+    fn take(&mut self, piece: &[u8]) {
+        if self.is_kept {
+            for byte in piece {
+                self.push(*byte);
+            }
+        }
+    }
+
+    /// The kept byte of a number.
+    fn byte(&self, number: u64) -> u8 {
+        let at = (number % KEPT as u64) as usize;
+        self.cells.get(at).copied().unwrap_or(0)
+    }
+
+    /// Tells the bytes of the stream around one of them.
+    fn tell(&self, place: u64, note: &mut Note) {
+        let mut digits = self.dropped;
+        for number in self.count.saturating_sub(KEPT as u64)..self.count {
+            let byte = self.byte(number);
+            if !self.is_hex {
+                tell_digit(note, number, place, false, byte >> 4);
+                tell_digit(note, number, place, true, byte & 15);
+            } else if is_digit(byte) {
+                tell_digit(note, digits / 2, place, digits % 2 == 1, value_of(byte));
+                digits = digits.saturating_add(1);
+            }
+        }
+        let _ = writeln!(note);
+    }
+}
+
+/// The value of a hexadecimal digit.
+fn value_of(character: u8) -> u8 {
+    match character {
+        b'0'..=b'9' => character - b'0',
+        b'a'..=b'f' => character - b'a' + 10,
+        b'A'..=b'F' => character - b'A' + 10,
+        _ => 0,
+    }
+}
+
+/// Tells one digit of a byte, where that one is near the byte in question, which stands in brackets.
+fn tell_digit(note: &mut Note, number: u64, place: u64, is_last: bool, digit: u8) {
+    if number.saturating_add(AROUND) < place || place.saturating_add(AROUND) < number {
+        return;
+    }
+    let is_it = number == place;
+    if !is_last {
+        let _ = write!(note, "{}", if is_it { " [" } else { " " });
+    }
+    if let Some(character) = DIGITS.get(digit as usize) {
+        let _ = note.write_char(char::from(*character));
+    }
+    if is_last && is_it {
+        let _ = write!(note, "]");
+    }
+}
+
+impl<S> Kept<S> {
+    ghost use Rattle.fast_explain.specs.Listening.{reader_of};
+
+    /// The reader, of which nothing was read. Nothing is kept of it if it is not to be.
+    pub fn new(inner: S, is_kept: bool, is_hex: bool) -> Kept<S>
+        ensures { reader_of result ≡ inner }
+    {
+        Kept {
+            inner,
+            tail: Tail {
+                cells: [0; KEPT],
+                count: 0,
+                dropped: 0,
+                is_kept,
+                is_hex,
+            },
+        }
+    }
+
+    /// Tells the offset of the last of so many bytes of the stream, and the bytes around it.
+    pub fn tell_bytes(&self, consumed: u64, note: &mut Note) {
+        if let Some(place) = consumed.checked_sub(1) {
+            let _ = write!(note, "  offset 0x{place:x}:");
+            self.tail.tell(place, note);
+        }
+    }
+}
+
+impl<S: Source> Source for Kept<S> {
+    ghost use Rattle.fast_explain.specs.Listening.{reader_of};
+
+    ghost left = { λ s. S.left (reader_of s) };
+
+    ghost has_failed = { λ s. S.has_failed (reader_of s) };
+
+    fn read(&mut self, buf: &mut [u8]) -> Result<usize, Failed> {
+        match self.inner.read(buf) {
+            Ok(count) => {
+                self.tail.take(&buf[..count]);
+                Ok(count)
+            }
+            Err(failed) => Err(failed),
+        }
+    }
+
+    fn failed(&self) -> bool {
+        self.inner.failed()
+    }
+}

@@ -1,0 +1,4 @@
+//! Texts and streams with the words that are said of them.
+
+mod streams;
+mod templates;
