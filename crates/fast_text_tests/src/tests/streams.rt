@@ -136,3 +136,38 @@ fn a_writer_of_std_fails_where_a_call_does_or_writes_nothing(rt: HostRuntime) {
         assert!(rt; is_flushed && cells == written, "{calls} calls");
     }
 }
+
+/// Takes all that is written, counts flushes, and fails at one.
+#[derive(Drop)]
+struct Flushes {
+    count: u32,
+    fails_at: u32,
+}
+
+impl Write for Flushes {
+    fn write(&mut self, buf: &[u8]) -> io::Result<usize> {
+        Ok(buf.len())
+    }
+
+    fn flush(&mut self) -> io::Result<()> {
+        self.count = self.count.saturating_add(1);
+        if self.count == self.fails_at {
+            return Err(io::Error::from(ErrorKind::Other));
+        }
+        Ok(())
+    }
+}
+
+#[test]
+fn a_writer_of_std_has_failed_from_a_flush_on_that_fails(rt: HostRuntime) {
+    let mut target = Watched::new(Flushes {
+        count: 0,
+        fails_at: 2,
+    });
+    for (answer, failed) in [(Ok(()), false), (Err(Failed), true), (Ok(()), true)] {
+        let is_right = Target::flush(&mut target) == answer && Target::failed(&target) == failed;
+        assert!(rt; is_right, "{answer:?}");
+    }
+    let count = target.into_inner().count;
+    assert!(rt; count == 3, "{count} flushes");
+}
