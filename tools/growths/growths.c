@@ -6,9 +6,11 @@
 // Then each request is refused in turn, and all others are granted. While a set is read or a decoder or an encoder is made, none is
 // made. While a message is encoded, the same call once more gives the same bytes. Whatever comes of a run, all blocks are freed.
 //
-// And each row is decoded by a sink that stops at each of its events in turn, and behind a reset once more; it is cut at each byte;
-// and it is damaged at random. Whatever the stream, pieces come to what the whole comes to.
+// And each row is decoded by a sink that stops at each of its events in turn, and behind a reset once more; it is damaged at random;
+// and as it is and damaged it is cut at each byte. Whatever the stream, pieces come to what the whole comes to.
 #include "rows.h"
+
+enum { most_damaged = 64 };
 
 static const uint32_t summing_sink = 1;
 static const struct answer no_event = {0, 0, 0, 0xcbf29ce484222325};
@@ -134,16 +136,17 @@ static uint64_t next_random(void) {
     return state ^= state << 17;
 }
 
-// Puts other bytes at some places of the row's stream, eight times.
+// Puts other bytes at some places of the row's stream, many times where the set is the built-in one, and cuts what comes of it.
 static void damage(const struct row *r) {
-    for (int i = 0; i < 8 && r->stream_len; i++) {
+    for (int i = strcmp(r->set, "worked") ? 8 : 20; i > 0 && r->stream_len; i--) {
         static struct row damaged;
         damaged = *r;
         for (uint64_t left = 1 + next_random() % 3; left; left--) {
             damaged.stream[next_random() % r->stream_len] = (uint8_t)next_random();
         }
-        decode_in_pieces(&damaged, damaged.stream_len);
+        damaged.due = decode_in_pieces(&damaged, damaged.stream_len);
         damages++;
+        if (damaged.stream_len <= most_damaged) cut_in_turn(&damaged);
     }
 }
 

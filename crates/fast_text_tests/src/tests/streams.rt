@@ -162,3 +162,38 @@ fn a_long_piece_goes_past_a_block(rt: HostRuntime) {
         keeps && full && flushes && cells[0] == b'a' && cells[1] == b'c' && cells[9000] == b'c'
     );
 }
+
+/// Takes all that is written, counts flushes, and fails at one.
+#[derive(Drop)]
+struct Flushes {
+    count: u32,
+    fails_at: u32,
+}
+
+impl Write for Flushes {
+    fn write(&mut self, buf: &[u8]) -> io::Result<usize> {
+        Ok(buf.len())
+    }
+
+    fn flush(&mut self) -> io::Result<()> {
+        self.count = self.count.saturating_add(1);
+        if self.count == self.fails_at {
+            return Err(io::Error::from(ErrorKind::Other));
+        }
+        Ok(())
+    }
+}
+
+#[test]
+fn a_writer_of_std_has_failed_from_a_flush_on_that_fails(rt: HostRuntime) {
+    let mut target = Watched::new(Flushes {
+        count: 0,
+        fails_at: 2,
+    });
+    for (answer, failed) in [(Ok(()), false), (Err(Failed), true), (Ok(()), true)] {
+        let is_right = Target::flush(&mut target) == answer && Target::failed(&target) == failed;
+        assert!(rt; is_right, "{answer:?}");
+    }
+    let count = target.into_inner().count;
+    assert!(rt; count == 3, "{count} flushes");
+}
