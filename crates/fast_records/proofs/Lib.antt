@@ -1,0 +1,3 @@
+pub mod Delivering
+pub mod Moving
+pub mod Shown

@@ -1,0 +1,60 @@
+-- Records are added one behind the other, and what waits moves into the buffers.
+use Rattle.std.proofs.Common.{◌≡◌, ℕ, ◌+◌, ◌<◌, List, [], ◌∷◌, ◌++◌, length, map, drop, Some, Bor, refl, sym, ap, ◌∙◌, append_assoc, append-nil, add_assoc, length-append, arith, add-zero}
+use Rattle.std.specs.Slice.{IsItemAt}
+use Rattle.std.proofs.lemmas.List.{flat_map_more}
+use Rattle.fast_stream.specs.Events.{EventData}
+use Rattle.fast_decoder.specs.declared.recorder.Recorded.{Recorded}
+use Rattle.fast_decoder.specs.Recorded.{recorded_data}
+use Rattle.fast_records.specs.declared.records.Record.{Record}
+use Rattle.fast_records.specs.declared.room.Room.{Room}
+use Rattle.fast_records.specs.declared.waiting.Waiting.{Waiting}
+use Rattle.fast_records.specs.Records.{record_of, event_text, records_of, texts_of, AreRecordsOf}
+use Rattle.fast_records.specs.Room.{records_in, texts_in, Adds, IsAsFilled}
+use Rattle.fast_records.specs.Waiting.{pending, Holds, Moves}
+
+-- the records of one event more
+pub records_of-append : (p : ℕ) (es : List EventData) (e : EventData) → records_of p (es ++ e ∷ []) ≡ records_of p es ++ record_of (p + length (texts_of es)) e ∷ []
+records_of-append p [] e = ap (λ (n : ℕ). record_of n e ∷ []) (sym (add-zero p))
+records_of-append p (x ∷ es) e =
+    let at : (p + length (event_text x)) + length (texts_of es) ≡ p + length (event_text x ++ texts_of es) = omega (arith, length-append (event_text x) (texts_of es)) in
+    ap (λ (rs : List Record). record_of p x ∷ rs) (records_of-append (p + length (event_text x)) es e)
+    ∙ ap (λ (n : ℕ). record_of p x ∷ (records_of (p + length (event_text x)) es ++ record_of n e ∷ [])) at
+
+-- their texts
+pub texts_of-append : (es : List EventData) (e : EventData) → texts_of (es ++ e ∷ []) ≡ texts_of es ++ event_text e
+texts_of-append es e = sym (flat_map_more event_text [] es e)
+
+-- with its record, a room holds one event more
+pub holds_more : (r r' : Room) (es : List EventData) (e : EventData) (p : ℕ) (next : Record) (t : List ℕ) → Holds r es → p ≡ length (texts_in r) → next ≡ record_of p e → t ≡ event_text e → Adds next t r r' → Holds r' (es ++ e ∷ [])
+holds_more r r' es e p next t h at is text adds =
+    let place : p ≡ length (texts_of es) = at ∙ ap length h.texts_are in
+    let one : next ≡ record_of (0 + length (texts_of es)) e = is ∙ ap (λ (n : ℕ). record_of n e) (omega (arith, place)) in
+    record {
+      records_are = adds.records ∙ ap (λ (rs : List Record). rs ++ next ∷ []) h.records_are ∙ ap (λ (x : Record). records_of 0 es ++ x ∷ []) one ∙ sym (records_of-append 0 es e);
+      texts_are = adds.texts ∙ ap (λ (ts : List ℕ). ts ++ t) h.texts_are ∙ ap (λ (ts : List ℕ). texts_of es ++ ts) text ∙ sym (texts_of-append es e);
+    }
+
+-- a room that is filled as another holds the same events
+pub holds_same : (r r' : Room) (es : List EventData) → IsAsFilled r r' → Holds r es → Holds r' es
+holds_same r r' es same h = record { records_are = same.records ∙ h.records_are; texts_are = same.texts ∙ h.texts_are }
+
+-- what stands at the front of a list
+pub front_is : (xs : List Recorded) (x : Bor Recorded) → IsItemAt xs 0 (Some x) → xs ≡ x.now ∷ drop 1 xs
+front_is [] x h = cc h.0
+front_is (y ∷ ys) x h = ap (λ (z : Recorded). z ∷ ys) (sym h.1)
+
+-- the first that waited went into the room
+pub moves_first : (r r' : Room) (w w' : Waiting) (x : Recorded) (e : EventData) (p : ℕ) (next : Record) (t : List ℕ) → w.events.items ≡ x ∷ w'.events.items → e ≡ recorded_data x → p ≡ length (texts_in r)
+    → next ≡ record_of p e → t ≡ event_text e → Adds next t r r' → Moves r w r' w'
+moves_first r r' w w' x e p next t items is at record_is text adds es h =
+    (e ∷ [], ap (map recorded_data) items ∙ ap (λ (z : EventData). z ∷ pending w') (sym is), holds_more r r' es e p next t h at record_is text adds)
+
+-- nothing moved
+pub moves_none : (r r' : Room) (w w' : Waiting) → IsAsFilled r r' → pending w' ≡ pending w → Moves r w r' w'
+moves_none r r' w w' same stays es h = ([], sym stays, rw append-nil (holds_same r r' es same h))
+
+-- one move behind another
+pub moves_both : (a b c : Room) (u v w : Waiting) → Moves a u b v → Moves b v c w → Moves a u c w
+moves_both a b c u v w first second es h =
+    let one = first es h in let two = second (es ++ one.0) one.2 in
+    (one.0 ++ two.0, one.1 ∙ ap (λ (xs : List EventData). one.0 ++ xs) two.1 ∙ sym (append_assoc one.0 two.0 (pending w)), rw (← append_assoc) two.2)

@@ -1,0 +1,11 @@
+use Rattle.std.proofs.Common.{sym, ap, ◌∷◌, ◌∙◌}
+use Rattle.fast_stream.specs.Handed.{event_data}
+use Rattle.fast_decoder.specs.declared.recorder.Recorded.{Recorded}
+use Rattle.fast_records.proofs.Moving.{front_is, moves_first}
+use Rattle.fast_records.proofs.waiting.hand_next.Goals as goal
+
+pub returns-clause-moved : goal.returns-clause-moved
+returns-clause-moved c =
+    let items = front_is c.args.waiting.now.events.items c.in-Some.first c.in-Some.ensures.item in
+    moves_first c.args.room.now c.put.new.self c.args.waiting.now (record { alloc = c.args.waiting.now.alloc; events = c.pop_front.new.self }) c.in-Some.first.now (event_data c.lent-event.result) c.used.result c.record_of.result c.text_of.result.now
+    (items ∙ ap (λ xs. c.in-Some.first.now ∷ xs) (sym c.pop_front.ensures.rest)) c.lent-event.ensures c.used.ensures.place c.record_of.ensures c.text_of.ensures c.if-not-put.ensures.put

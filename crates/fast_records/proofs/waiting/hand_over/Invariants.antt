@@ -1,0 +1,6 @@
+use Rattle.fast_records.specs.Room.{SameBuffers}
+use Rattle.fast_records.specs.Waiting.{Moves}
+use Rattle.fast_records.proofs.waiting.hand_over.Given as goal
+
+abbrev pub invariant-loop : goal.invariant-loop
+invariant-loop l = SameBuffers l.fn.room l.room × Moves l.fn.room l.fn.waiting l.room l.waiting

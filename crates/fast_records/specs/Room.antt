@@ -1,0 +1,41 @@
+-- What is filled of a caller's buffers.
+use Rattle.std.specs.Prelude.{◌≡◌, ℕ, ◌<◌, List, [], ◌∷◌, ◌++◌, length, take}
+use Rattle.std.specs.Borrow.{MutBor}
+use Rattle.fast_records.specs.declared.records.Record.{Record}
+use Rattle.fast_records.specs.declared.room.Room.{Room}
+
+-- the records that are filled
+abbrev pub records_in : Room → List Record
+records_in r = take r.filled r.records.now
+
+-- the bytes of texts that are filled
+abbrev pub texts_in : Room → List ℕ
+texts_in r = take r.used r.texts.now
+
+-- the room is over these buffers, all of which it may fill
+pub record IsOver (records : MutBor (List Record)) (texts : MutBor (List ℕ)) (r : Room) : Type 0 where
+  pub same_records : r.records.ghost_name ≡ records.ghost_name
+  pub same_texts : r.texts.ghost_name ≡ texts.ghost_name
+  pub all : r.limit ≡ length records.now
+
+-- both are over the same buffers
+pub record SameBuffers (old new : Room) : Type 0 where
+  pub same_records : new.records.ghost_name ≡ old.records.ghost_name
+  pub same_texts : new.texts.ghost_name ≡ old.texts.ghost_name
+
+-- a record with its text was added
+pub record Adds (next : Record) (text : List ℕ) (old new : Room) : Type 0 where
+  pub had_room : old.filled < old.limit
+  pub records : records_in new ≡ records_in old ++ next ∷ []
+  pub texts : texts_in new ≡ texts_in old ++ text
+
+-- nothing was added
+pub record IsAsFilled (old new : Room) : Type 0 where
+  pub records : records_in new ≡ records_in old
+  pub texts : texts_in new ≡ texts_in old
+
+-- nothing was added, and there is as much room as before
+pub record IsUnchanged (old new : Room) : Type 0 where
+  pub as_filled : IsAsFilled old new
+  pub filled : new.filled ≡ old.filled
+  pub limit : new.limit ≡ old.limit

@@ -1,0 +1,12 @@
+//! Events as records of fixed size, in buffers of the caller's: what other languages are handed.
+#![tactic(auto)]
+
+pub mod feeding;
+pub mod records;
+mod room;
+pub mod sink;
+pub mod waiting;
+
+pub use feeding::{Fed, Outcome, feed_records};
+pub use records::Record;
+pub use waiting::Waiting;

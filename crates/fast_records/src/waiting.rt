@@ -1,0 +1,117 @@
+//! Events that wait for room in a caller's buffers.
+
+ghost use Rattle.std.specs.Prelude.{◌≡◌, [], ◌∷◌, ◌++◌, ◌==◌, ◌<◌, length, OnOk, OnErr};
+ghost use Rattle.fast_stream.specs.Handed.{event_data};
+ghost use Rattle.fast_decoder.specs.Recorded.{recorded_data};
+ghost use Rattle.fast_records.specs.Room.{SameBuffers};
+ghost use Rattle.fast_records.specs.Waiting.{pending, Moves};
+
+use crate::records::{record_of, text_of};
+use crate::room::Room;
+use fast_decoder::{Event, Recorded, Stop};
+use std::alloc::Global;
+use std::collections::VecDeque;
+
+/// Events for whose records a call had no room: the next call hands them over first.
+#[derive(Drop)]
+pub struct Waiting {
+    alloc: Global,
+    events: VecDeque<Recorded>,
+}
+
+impl Waiting {
+    /// Nothing waits.
+    pub fn new(alloc: Global) -> Waiting
+        ensures { pending result ≡ [] }
+    {
+        Waiting {
+            alloc,
+            events: VecDeque::new(alloc),
+        }
+    }
+
+    /// Whether nothing waits.
+    pub fn is_empty(&self) -> bool
+        ensures { result ≡ (length (pending self.now) == 0) }
+    {
+        self.events.is_empty()
+    }
+
+    /// Forgets what waits.
+    pub fn clear(&mut self)
+        ensures { pending self.new ≡ [] }
+    {
+        self.events.clear();
+    }
+
+    /// Puts an event behind those that wait.
+    pub(crate) fn add(&mut self, event: Event<'_>) -> Result<(), Stop>
+        ensures ok { OnOk result (pending self.new ≡ pending self.old ++ event_data event.entry ∷ []) }
+        ensures err { OnErr result (pending self.new ≡ pending self.old) }
+    {
+        let Ok(kept) = Recorded::copy_of(self.alloc, event) else {
+            return Err(Stop);
+        };
+        match self.events.push_back(kept) {
+            Ok(()) => Ok(()),
+            Err(_) => Err(Stop),
+        }
+    }
+}
+
+/// An event that was kept, lent.
+fn lent(kept: &Recorded) -> Event<'_>
+    ensures { event_data result ≡ recorded_data kept.now }
+{
+    match kept {
+        Recorded::MessageStart { template } => Event::MessageStart {
+            template: *template,
+        },
+        Recorded::Field { node, value } => Event::Field {
+            node: *node,
+            value: value.as_scalar(),
+        },
+        Recorded::GroupStart { node } => Event::GroupStart { node: *node },
+        Recorded::GroupEnd => Event::GroupEnd,
+        Recorded::SequenceStart { node, count } => Event::SequenceStart {
+            node: *node,
+            count: *count,
+        },
+        Recorded::ElementStart => Event::ElementStart,
+        Recorded::ElementEnd => Event::ElementEnd,
+        Recorded::SequenceEnd => Event::SequenceEnd,
+        Recorded::MessageEnd => Event::MessageEnd,
+    }
+}
+
+/// Hands over the first event that waits, if one does and has room.
+fn hand_next(room: &mut Room<'_>, waiting: &mut Waiting) -> bool
+    ensures same { SameBuffers room.old room.new }
+    ensures moved { Moves room.old waiting.old room.new waiting.new }
+{
+    let Some(first) = waiting.events.front() else {
+        return false;
+    };
+    let event = lent(first);
+    if !room.put(record_of(event, room.used() as u64), text_of(event)) {
+        return false;
+    }
+    let _ = waiting.events.pop_front();
+    true
+}
+
+/// Hands over what waits, as far as it has room. If not all has, no later event is to have any.
+pub(crate) fn hand_over(room: &mut Room<'_>, waiting: &mut Waiting)
+    ensures same { SameBuffers room.old room.new }
+    ensures moved { Moves room.old waiting.old room.new waiting.new }
+    ensures in_order { room.new.filled < room.new.limit → pending waiting.new ≡ [] }
+{
+    for _ in 0..waiting.events.len() {
+        if !hand_next(room, waiting) {
+            break;
+        }
+    }
+    if !waiting.is_empty() {
+        room.close();
+    }
+}
