@@ -10,11 +10,10 @@ use fast_command::{
 };
 use fast_convert::run_convert;
 use fast_template::Templates;
-use fast_text::{Source, Watched};
+use fast_text::{BlockWriter, Source, Watched};
 use std::alloc::{AllocError, Global};
-use std::io::{self, BufWriter};
 use std::process::ExitCode;
-use std::{env, fs};
+use std::{env, fs, io};
 
 /// What a call without words stands for.
 const NO_WORDS: [&str; 4] = ["fastcat", "show", "--hex", BUILT_IN];
@@ -32,9 +31,6 @@ fn show_from<S: Source>(
     plan: &Plan<'_>,
     reader: &mut S,
 ) -> Result<ShowEnd, RunFault> {
-    let Ok(output) = BufWriter::new(rt.alloc(), rt.stdout()) else {
-        return Err(RunFault::Memory);
-    };
     show_all(
         rt.alloc(),
         templates,
@@ -42,7 +38,7 @@ fn show_from<S: Source>(
         plan.hex,
         MAX_READS,
         reader,
-        &mut Watched::new(output),
+        &mut BlockWriter::new(Watched::new(rt.stdout())),
     )
 }
 
@@ -53,16 +49,13 @@ fn convert_from<S: Source>(
     plan: &Plan<'_>,
     reader: &mut S,
 ) -> Result<ShowEnd, RunFault> {
-    let Ok(output) = BufWriter::new(rt.alloc(), rt.stdout()) else {
-        return Err(RunFault::Memory);
-    };
     run_convert(
         rt.alloc(),
         templates,
         plan.limits(),
         plan.hex,
         reader,
-        &mut Watched::new(output),
+        &mut BlockWriter::new(Watched::new(rt.stdout())),
     )?;
     Ok(ShowEnd::Good)
 }
