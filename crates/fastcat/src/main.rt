@@ -15,12 +15,11 @@ use fast_command::{
 use fast_convert::run_convert;
 use fast_explain::{Kept, Note, Seen, explain_stream, explain_templates};
 use fast_template::Templates;
-use fast_text::{FromBytes, Source, Target, Watched};
+use fast_text::{BlockWriter, FromBytes, Source, Target, Watched};
 use std::alloc::{AllocError, Global};
 use std::fmt::Write;
-use std::io::{self, BufWriter};
 use std::process::ExitCode;
-use std::{env, fs};
+use std::{env, fs, io};
 
 /// What a call without words stands for.
 const NO_WORDS: [&str; 4] = ["fastcat", "show", "--hex", BUILT_IN];
@@ -58,10 +57,7 @@ fn show_from<S: Source>(
     reader: &mut Kept<S>,
     note: &mut Note,
 ) -> Result<ShowEnd, RunFault> {
-    let Ok(output) = BufWriter::new(rt.alloc(), rt.stdout()) else {
-        return Err(RunFault::Memory);
-    };
-    let mut output = Watched::new(output);
+    let mut output = BlockWriter::new(Watched::new(rt.stdout()));
     if !plan.explain {
         return show_on(rt, templates, plan, reader, &mut output);
     }
@@ -86,16 +82,13 @@ fn convert_from<S: Source>(
     plan: &Plan<'_>,
     reader: &mut S,
 ) -> Result<ShowEnd, RunFault> {
-    let Ok(output) = BufWriter::new(rt.alloc(), rt.stdout()) else {
-        return Err(RunFault::Memory);
-    };
     run_convert(
         rt.alloc(),
         templates,
         plan.limits(),
         plan.hex,
         reader,
-        &mut Watched::new(output),
+        &mut BlockWriter::new(Watched::new(rt.stdout())),
     )?;
     Ok(ShowEnd::Good)
 }
