@@ -114,7 +114,8 @@ fn limits_are_refused_before_the_text_is_read(rt: HostRuntime) -> Result<(), Fai
 
 #[test]
 fn a_long_initial_value_is_refused_before_the_text_is_read(rt: HostRuntime) -> Result<(), Fail> {
-    let text = "[[template]]\nname = 'N'\nid = 1\nfields = [{ kind = 'ascii', name = 's', op = 'copy', value = 'seventeen letters' }]\n";
+    let text =
+        "[[template]]\nname = 'N'\nid = 1\nfields = [{ kind = 'ascii', name = 's', op = 'copy', value = 'seventeen letters' }]\n";
     let Ok(set) = Templates::read(rt.alloc(), text) else {
         return Err(Fail::from("the set is refused"));
     };
