@@ -48,11 +48,11 @@ show_app = with_options (with_rule (with_rule (with_rule (with_rule (new_app (co
 abbrev pub convert_app : App
 convert_app = with_options (with_rule (with_rule (with_rule (new_app (codes "convert")) templates_rule) input_rule) (flag_rule (codes "hex")))
 
--- one of the three has to be named
+-- one of the three has to be named, or the version asked for
 abbrev pub fastcat_app : App
 fastcat_app =
     let bare = new_app (codes "fastcat") in
-    with_subcommand (with_subcommand (with_subcommand (record bare { top = record bare.top { subcommand_required = true } }) check_app.top) show_app.top) convert_app.top
+    with_subcommand (with_subcommand (with_subcommand (record bare { top = record bare.top { has_version = true; subcommand_required = true } }) check_app.top) show_app.top) convert_app.top
 
 -- the command is this one, and has no global argument
 pub record MakesApp (app : App) (c : Command) : Type 0 where

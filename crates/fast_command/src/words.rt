@@ -14,6 +14,9 @@ use clap::{Arg, ArgAction, ArgMatches, Command, Error, value_parser};
 use fast_value::Limits;
 use std::alloc::{AllocError, Global};
 
+/// The version that `fastcat --version` tells.
+const VERSION: &str = "0.1.0";
+
 /// What stands below the help of the whole command.
 const TEMPLATES_HELP: &str = "T is @vectors or a text in TOML such as
   [[template]]
@@ -140,6 +143,7 @@ fn fastcat_command<'a>(alloc: Global) -> Result<Command<'a>, AllocError>
 {
     Command::new(alloc, "fastcat")
         .about("Reads and writes streams in the FAST encoding, version 1.1, by templates in TOML")
+        .version(VERSION)
         .after_help(TEMPLATES_HELP)
         .subcommand_required(true)
         .subcommand(check_command(alloc)?)?
@@ -185,8 +189,8 @@ fn plan_of<'a>(name: &str, matches: &ArgMatches<'a>) -> Plan<'a>
     }
 }
 
-/// What the words ask for, of which the first is the program's name. An error has the text of a help that was asked for, or
-/// of a mistake in the words.
+/// What the words ask for, of which the first is the program's name. An error has the text of a help or of the version, if one was
+/// asked for, or of a mistake in the words.
 pub fn plan<'a>(alloc: Global, words: &'a [&'a str]) -> Result<Plan<'a>, Error>
     ensures plan { IfOk result (λ p. (name : Text) × (rows : List Row) × (subcommand_of fastcat_app (map (λ w. w.now) words.entry.now) ≡ Some (name, rows)) × IsPlanOf name rows p) }
     ensures fault { FailsBy (fault_of fastcat_app (map (λ w. w.now) words.entry.now)) result }

@@ -1,2 +1,3 @@
 pub mod Coded
 pub mod Turned
+pub mod ShownAgain

@@ -16,6 +16,7 @@ use Rattle.fast_spelling.specs.Suiting.{SuitsTemplate, FitsLimits}
 use Rattle.fast_reading.specs.declared.faults.TextFault.TheVariants.{BadLine}
 use Rattle.fast_reading.specs.Reading.{Says}
 use Rattle.fast_reading.specs.Runs.{IsLineOf}
+use Rattle.fast_reading.specs.Unsaid.{SaysNothing}
 use Rattle.fast_text.specs.Streams.{Reads, Appends, AppendsFront}
 use Rattle.fast_command.specs.declared.faults.RunFault.{RunFault}
 use Rattle.fast_command.specs.declared.faults.RunFault.TheVariants.{Read, Write, Make, Text, Encode, Memory}
@@ -81,15 +82,15 @@ pub record IsTurned (t : Tree) (l : Limits) (hex : Bool) (left_old left_new held
   pub says : Says t text messages
   pub written : AreWritten t l hex (fresh t.entries) messages held holds HasFailed r
 
--- What a run has read and written. Where there is no encoder nothing was read; where the text is not read, or is not the lines of
--- messages, nothing was written.
+-- What a run has read and written. Where there is no encoder nothing was read; where the text is not read, nothing was written; nor where
+-- it is refused, and then it is the lines of no messages whose values can be read back.
 abbrev pub IsConverted : Templates → Limits → (hex : Bool) → (left_old left_new held holds : Option (List ℕ)) → (ReaderFailed WriterFailed : Type 0) → Result (Unit {0}) RunFault → Type 0
 IsConverted set l hex left_old left_new held holds ReaderFailed WriterFailed (Err (Make cause)) =
     Reads left_old left_new [] × Appends held holds [] × IsRefusal set l cause
 IsConverted set l hex left_old left_new held holds ReaderFailed WriterFailed (Err Read) =
     IsUnread line_limit left_old left_new ReaderFailed Read × Appends held holds []
 IsConverted set l hex left_old left_new held holds ReaderFailed WriterFailed (Err (Text line kind)) =
-    (text : List ℕ) × IsWhole left_old left_new text × IsLineOf text (BadLine line kind) × Appends held holds []
+    (text : List ℕ) × IsWhole left_old left_new text × IsLineOf text (BadLine line kind) × SaysNothing (tree_of set) text × Appends held holds []
 IsConverted set l hex left_old left_new held holds ReaderFailed WriterFailed (Err Memory) =
     Appends held holds [] ⊎ IsTurned (tree_of set) l hex left_old left_new held holds WriterFailed (Err Memory)
 IsConverted set l hex left_old left_new held holds ReaderFailed WriterFailed (Ok u) =

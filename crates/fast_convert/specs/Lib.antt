@@ -1,1 +1,2 @@
 pub mod Converting
+pub mod ThereAndBack

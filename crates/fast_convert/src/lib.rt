@@ -2,5 +2,6 @@
 #![tactic(auto)]
 
 pub mod convert;
+pub mod laws;
 
 pub use convert::run_convert;

@@ -24,3 +24,7 @@ pub mod Said
 pub mod SetNames
 pub mod Told
 pub mod ToldValues
+pub mod AllNamed
+pub mod Shown
+pub mod ShownMessages
+pub mod ReadAgain

@@ -16,7 +16,7 @@ use Rattle.fast_reading.specs.Lined.{IsNamed, IsLined}
 use Rattle.fast_reading.proofs.NoFeeds.{name_is}
 
 -- a text is tested for ASCII
-abbrev are_low : List ℕ → Bool
+abbrev pub are_low : List ℕ → Bool
 are_low [] = true
 are_low (c ∷ cs) = nat_lt c 128 && are_low cs
 
@@ -27,7 +27,7 @@ all_low : (text : List ℕ) → are_low text ≡ true → All (λ c. c < 128) te
 all_low [] h = All-nil (λ c. c < 128)
 all_low (c ∷ cs) h = let t = both_tests c (are_low cs) h in All-cons (λ c. c < 128) c cs t.0 (all_low cs t.1)
 
-word : (text : List ℕ) → are_low text ≡ true → IsUtf8 text
+pub word : (text : List ℕ) → are_low text ≡ true → IsUtf8 text
 word text h = IsUtf8-from_ascii text (IsAscii-from_all text (all_low text h))
 
 name_byte_low : (c : ℕ) → IsNameByte c → c < 128

@@ -13,11 +13,11 @@ use Rattle.fast_stream.specs.Events.{EventData, MessageStart, FieldValue, GroupS
 use Rattle.fast_spelling.specs.Suiting.{IsRight, AreRight, Suits, SuitsBody, SuitsTemplate}
 use Rattle.fast_reading.specs.Lined.{IsTold, IsNamed, IsLined, HasNames}
 
-wider : (x : ℤ) → IsWithin (signed_range 31) x → IsWithin (signed_range 63) x
+pub wider : (x : ℤ) → IsWithin (signed_range 31) x → IsWithin (signed_range 63) x
 wider (pos n) h = let high = h.1 in (omega (arith, ints), omega (arith, ints, high))
 wider (negsuc n) h = let low = h.0 in (omega (arith, ints, low), omega (arith, ints))
 
-exponent : (x : ℤ) → IsWithin exponent_range x → IsWithin (signed_range 31) x
+pub exponent : (x : ℤ) → IsWithin exponent_range x → IsWithin (signed_range 31) x
 exponent (pos n) h = let high = h.1 in (omega (arith, ints), omega (arith, ints, high))
 exponent (negsuc n) h = let low = h.0 in (omega (arith, ints, low), omega (arith, ints))
 

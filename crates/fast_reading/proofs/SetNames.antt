@@ -18,7 +18,7 @@ two_of ts i j a b apart below at_i at_j same =
 first_is : (u w : TemplateData) → Some u ≡ Some w → u ≡ w
 first_is u w h = cc (h)
 
-written_as : (all : List DeclaredTemplate) (entries : List Entry) (k : ℕ) (ts : List DeclaredTemplate) (n : ℕ) (us : List TemplateData) (m j : ℕ) (u : TemplateData) → AreInPlace all entries k ts n us m → slice_get us j ≡ Some u → (d : DeclaredTemplate) × (slice_get ts j ≡ Some d) × (u.name ≡ d.name)
+pub written_as : (all : List DeclaredTemplate) (entries : List Entry) (k : ℕ) (ts : List DeclaredTemplate) (n : ℕ) (us : List TemplateData) (m j : ℕ) (u : TemplateData) → AreInPlace all entries k ts n us m → slice_get us j ≡ Some u → (d : DeclaredTemplate) × (slice_get ts j ≡ Some d) × (u.name ≡ d.name)
 written_as all entries k [] n [] m j u h found = absurd (cc (found))
 written_as all entries k [] n (w ∷ us) m j u h found = absurd h
 written_as all entries k (d ∷ ts) n [] m j u h found = absurd h

@@ -1,24 +1,33 @@
 //! Laws of lines and messages. They speak of the definitions alone, over all sets, messages and texts.
 
-ghost use Rattle.std.specs.Prelude.{◌≡◌, ℕ, List, All, Result, flat_map};
+ghost use Rattle.std.specs.Prelude.{◌≡◌, ℕ, List, All, IsUtf8, Result, flat_map};
 ghost use Rattle.std.specs.declared.alloc.Global.{Global};
 ghost use Rattle.std.specs.declared.vec.Vec.{Vec};
 ghost use Rattle.fast_value.specs.declared.messages.Message.{Message};
+ghost use Rattle.fast_value.specs.declared.kinds.Kind.{Kind};
+ghost use Rattle.fast_value.specs.declared.settings.Limits.{Limits};
+ghost use Rattle.fast_value.specs.Kinds.{ScalarData, IsOfKind};
 ghost use Rattle.fast_value.specs.Messages.{MessageData};
 ghost use Rattle.fast_tree.specs.declared.instructions.Node.{Node};
 ghost use Rattle.fast_tree.specs.Tree.{Tree};
 ghost use Rattle.toml.specs.Data.{Members};
 ghost use Rattle.fast_notation.specs.Checked.{IsTree};
 ghost use Rattle.fast_notation.specs.Labels.{template_labels, labels_from};
+ghost use Rattle.fast_template.specs.declared.sets.Templates.{Templates};
+ghost use Rattle.fast_template.specs.Flat.{nodes_of, tree_of};
 ghost use Rattle.fast_stream.specs.Events.{EventData, events};
-ghost use Rattle.fast_lines.specs.Lines.{lines};
+ghost use Rattle.fast_stream.specs.Streams.{Stream, between};
+ghost use Rattle.fast_lines.specs.Lines.{lines, written};
+ghost use Rattle.fast_lines.specs.Values.{IsHeld};
+ghost use Rattle.fast_spelling.specs.Again.{IsGrantedTree};
 ghost use Rattle.fast_spelling.specs.Suiting.{SuitsTemplate};
 ghost use Rattle.fast_reading.specs.Distinct.{HasDistinctBodies};
 ghost use Rattle.fast_reading.specs.Lined.{IsLined, HasNames, HasDistinctNames};
 ghost use Rattle.fast_reading.specs.declared.faults.TextFault.{TextFault};
-ghost use Rattle.fast_reading.specs.Ahead.{IsShown};
-ghost use Rattle.fast_reading.specs.Back.{IsRead, IsReadAs};
+ghost use Rattle.fast_reading.specs.Ahead.{IsShown, HasBytes, HoldsBytes};
+ghost use Rattle.fast_reading.specs.Back.{IsRead, IsReadAs, IsReadAgain};
 ghost use Rattle.fast_reading.specs.Reading.{closed, Says};
+ghost use Rattle.fast_reading.specs.Unsaid.{SaysNothing};
 
 /// Events are those of one list of messages.
 pub fn one_list()
@@ -61,4 +70,40 @@ pub fn lines_are_closed()
 pub fn distinct_names()
     // IsTree is what `Templates::read` ensures of the set.
     ensures { (document : Members) (t : Tree) → IsTree document t → HasDistinctNames t }
+{}
+
+/// All names of a set that was read, of its nodes and of its templates, can stand in lines.
+pub fn all_named()
+    // IsTree is what `Templates::read` ensures of the set.
+    ensures { (document : Members) (t : Tree) → IsTree document t → HasNames t }
+{}
+
+/// A text that `read_lines` refuses is the lines of no messages whose values can be read back: where the set was read, that holds without a
+/// premise on its names.
+pub fn refused_says_nothing()
+    // SaysNothing is what `read_lines` ensures by `err`, and IsTree what `Templates::read` ensures of the set.
+    ensures { (document : Members) (t : Tree) (text : List ℕ) → IsTree document t → SaysNothing t text
+        → (ms : List MessageData) → All IsShown (flat_map (events t) ms) → ¬ (Says t text ms) }
+{}
+
+/// A value of a kind can be read back from its line: the types of values hold it, and its text is UTF-8.
+pub fn values_are_shown()
+    // IsOfKind is what `events_are_of_fields` of fast_laws says of each value of a stream; HasBytes holds of all values of the Rust type.
+    ensures { (l : Limits) (kind : Kind) (v : ScalarData) → IsOfKind l kind v → HasBytes v → IsHeld v × IsUtf8 (written v) }
+{}
+
+/// The events of messages that suit their templates can be read back, if the elements of byte vectors are bytes.
+pub fn messages_are_shown()
+    // HoldsBytes is so of each event of the Rust type, and of those of a `Message`.
+    ensures { (t : Tree) (ms : List MessageData) → All (SuitsTemplate t) ms → All HoldsBytes (flat_map (events t) ms) → All IsShown (flat_map (events t) ms) }
+{}
+
+/// The lines of a stream of whole messages are read as the messages that its bytes spell, where memory is given, and these are encoded
+/// again, but for ASCII texts with U+0000.
+pub fn shown_lines_are_read()
+    // IsTree is what `Templates::read` ensures of the set, and IsGrantedTree is given by `set_is_granted` of fast_laws; Stream by
+    // `Decoder::feed_all`, `feed` and `push` (`followed`), and IsRead by `read_lines`. HoldsBytes is so of each event of the Rust type.
+    ensures { (document : Members) (t : Templates) (l : Limits) (w : List ℕ) (es : List EventData) (text : List ℕ) (r : Result (Vec Message Global) TextFault)
+        → IsTree document (tree_of t) → IsGrantedTree l (tree_of t) → Stream (tree_of t) l w es between → All HoldsBytes es
+        → closed text ≡ lines (tree_of t) es → IsRead (tree_of t) text r → IsReadAgain (tree_of t) l w es r }
 {}

@@ -154,6 +154,16 @@ fn words_that_are_refused(rt: HostRuntime) -> Result<(), Fail> {
             ErrorKind::DisplayHelp,
             0,
         ),
+        (
+            ["fastcat", "--version"].as_slice(),
+            ErrorKind::DisplayVersion,
+            0,
+        ),
+        (
+            ["fastcat", "show", "--version"].as_slice(),
+            ErrorKind::UnknownArgument,
+            2,
+        ),
     ] {
         expect_refusal(&rt, rt.alloc(), words, kind, status)?;
     }

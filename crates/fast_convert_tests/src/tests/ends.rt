@@ -112,6 +112,22 @@ fn limits_are_refused_before_the_text_is_read(rt: HostRuntime) -> Result<(), Fai
     Ok(())
 }
 
+#[test]
+fn a_long_initial_value_is_refused_before_the_text_is_read(rt: HostRuntime) -> Result<(), Fail> {
+    let text =
+        "[[template]]\nname = 'N'\nid = 1\nfields = [{ kind = 'ascii', name = 's', op = 'copy', value = 'seventeen letters' }]\n";
+    let Ok(set) = Templates::read(rt.alloc(), text) else {
+        return Err(Fail::from("the set is refused"));
+    };
+    let short = Limits {
+        max_text: 16,
+        ..LENIENT
+    };
+    let end = Err(RunFault::Make(MakeError::InitialTooLong));
+    expect_end(&rt, rt.alloc(), &set, short, "message TX", end, "");
+    Ok(())
+}
+
 /// Lines of whole messages, each of which is shown again as it was.
 const THERE_AND_BACK: [&str; 8] = [
     "message T3\nfield 3 t a \"ABCDE\"\nend message\nmessage T3\nfield 3 t a \"ABCXY\"\nend message\n",

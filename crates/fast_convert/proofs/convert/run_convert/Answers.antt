@@ -1,9 +1,14 @@
 -- The messages of the whole text are written, and what the writer keeps is handed on.
-use Rattle.std.proofs.Common.{◌≡◌, rules, Bool, map, sym, subst}
+use Rattle.std.proofs.Common.{◌≡◌, ℕ, rules, Bool, map, sym, subst}
 use Rattle.std.specs.Prelude.{IsTrue}
 use Rattle.fast_value.specs.Views.{message_data}
 use Rattle.fast_template.specs.Flat.{tree_of}
+use Rattle.fast_reading.specs.declared.faults.LineFault.{LineFault}
+use Rattle.fast_reading.specs.declared.faults.TextFault.{TextFault}
+use Rattle.fast_reading.specs.declared.faults.TextFault.TheVariants.{BadLine}
+use Rattle.fast_reading.specs.Ahead.{OnBadLine}
 use Rattle.fast_reading.specs.Reading.{Says}
+use Rattle.fast_reading.specs.Unsaid.{SaysNothing}
 use Rattle.fast_convert.specs.Converting.{IsWhole}
 use Rattle.fast_convert.proofs.Turned.{from_new, all_handed_on, all_not_handed_on}
 use Rattle.fast_convert.proofs.convert.run_convert.Goals as goal
@@ -34,3 +39,14 @@ returns-in-Ok-flush-clause-long_initial g c = λ bad. let e = c.in-Ok.ensures.lo
 
 pub returns-clause-long_initial : goal.returns-clause-long_initial
 returns-clause-long_initial g c = λ bad. let e = c.in-Ok.ensures.long_initial.1 bad in absurd (cc)
+
+-- the text of a line at fault is the lines of no messages
+told : (A : Type 0) (f : TextFault) (line : ℕ) (kind : LineFault) → f ≡ BadLine line kind → OnBadLine A f → A
+told A f line kind e h = subst (OnBadLine A) e h
+
+pub returns-in-Err-BadLine-clause-converted : goal.returns-in-Err-BadLine-clause-converted
+returns-in-Err-BadLine-clause-converted g c =
+    let same_text : c.deref.result.now ≡ c.in-Ok-read_whole.text.items = search (rules, c.deref.ensures.value) in
+    let whole : IsWhole (g.S.Source.left c.args.reader.now) (g.S.Source.left c.read_whole.new.reader) c.in-Ok-read_whole.text.items = record { read = c.in-Ok-read_whole.ensures.whole; end = c.in-Ok-read_whole.ensures.end; short = c.in-Ok-read_whole.ensures.short } in
+    let nothing : SaysNothing (tree_of c.args.templates.now) c.deref.result.now = told (SaysNothing (tree_of c.args.templates.now) c.deref.result.now) _ _ _ c.in-Err-BadLine.field-0-is c.in-Err-BadLine.ensures.err in
+    (c.in-Ok-read_whole.text.items, whole, search (rules, same_text, c.in-Err-BadLine.ensures.line), subst (SaysNothing (tree_of c.args.templates.now)) same_text nothing, search rules)
