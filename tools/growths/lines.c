@@ -68,19 +68,23 @@ static void refuse_in_reading(const struct row *r, uint64_t made) {
     expect(r, "read again", read_lines(r, lines.cells, lines.len, none), due, NULL);
 }
 
-// A message may be refused that a stream has, by E3 and R9 alone; what is written of those before it is no less to be had again. Where one
-// request of the encoder is refused alone, it goes another way; where all from that one on are, it has no memory.
+// What is turned back while memory is refused: as much as there was memory for, or all of it where the encoder found a way without.
+static void expect_none_or_all(const struct row *r, struct lines_answer is, struct lines_answer due) {
+    if (is.status == no_memory) {
+        expect_none(r, "turned back", is, &stream);
+    } else {
+        expect(r, "turned back", is, due, &stream);
+    }
+}
+
+// A message may be refused that a stream has, by E3 and R9 alone; what is written of those before it is no less to be had again. Where a
+// request of the encoder is refused, it goes another way, which may want none.
 static void refuse_in_converting(const struct row *r, uint64_t made) {
     struct lines_answer due = convert(r, &lines, &stream, none, none);
     if (due.status && due.status != unsent && due.status != unspelled) fail(r, "turned back", due);
     for (uint64_t i = made, all = requests; i < all && i < made + most_refusals; i++) {
-        expect_none(r, "turned back", convert(r, &lines, &out, i, none), &stream);
-        struct lines_answer is = convert(r, &lines, &out, none, i);
-        if (is.status == no_memory) {
-            expect_none(r, "turned back", is, &stream);
-        } else {
-            expect(r, "turned back", is, due, &stream);
-        }
+        expect_none_or_all(r, convert(r, &lines, &out, i, none), due);
+        expect_none_or_all(r, convert(r, &lines, &out, none, i), due);
         refusals.converting++;
     }
     expect(r, "turned back again", convert(r, &lines, &out, none, none), due, &stream);
