@@ -1,14 +1,20 @@
 // Damages the rows of tools/growths/rows.txt, streams and template sets, for so many seconds, and decodes what comes of it.
 //
 // A stream comes to the same whole and in pieces. What is whole and lenient is encoded, unless the encoder refuses it, and decoded
-// again in strict mode, which hands over the same events. All blocks are freed. Nothing crashes, and nothing takes long.
+// again in strict mode, which hands over the same events. Now and then a request for memory is refused: what is not as it was then is the
+// answer for want of memory. All blocks are freed. Nothing crashes, and nothing takes long.
 #define _POSIX_C_SOURCE 200809L
 #include "rows.h"
 
 #include "damage.h"
 
 static size_t piece;
-static uint64_t sets, read_sets, encoded, refusals;
+static uint64_t sets, read_sets, encoded, refusals, growths;
+
+// What the ways to decode a stream come to: whole, in pieces, and behind the encoder.
+struct ways {
+    struct answer whole, pieces, again;
+};
 
 static void damage_set(void) {
     const struct row *other = any_row();
@@ -43,15 +49,34 @@ static void show_input(const char *why) {
     fprintf(stderr, ", set:\n%.*s\n", (int)input.templates_len, (const char *)input.templates);
 }
 
-static void run_input(void) {
-    struct answer whole, pieces, again;
-    choose_input();
-    begin_run(none, none);
+static struct ways decode(uint64_t alone) {
+    struct ways are;
+    begin_run(none, alone);
     fast_bench_three_ways(input.templates, input.templates_len, input.stream, input.stream_len, piece, input.strict, input.max_text,
-                          input.max_elements, input.max_total, &whole, &pieces, &again);
-    read_sets += whole.status != 256;
+                          input.max_elements, input.max_total, &are.whole, &are.pieces, &are.again);
     if (blocks) fail("leaves blocks behind");
-    if (memcmp(&whole, &pieces, sizeof whole)) fail("not the same in pieces");
+    return are;
+}
+
+// Whether it is what it was, or the answer for want of memory; that of a sink that keeps messages is to stop.
+static bool is_refused_or(struct answer is, struct answer was) { return is.status == 518 || is.status == 19 || !memcmp(&is, &was, sizeof is); }
+
+// Refuses one of so many requests.
+static void refuse_one(struct ways was, uint64_t all) {
+    struct ways are = decode(below(all));
+    growths++;
+    if (!is_refused_or(are.whole, was.whole) || !is_refused_or(are.pieces, was.pieces) || !is_refused_or(are.again, was.again)) {
+        fail("neither as it was nor without memory");
+    }
+}
+
+static void run_input(void) {
+    choose_input();
+    struct ways are = decode(none);
+    struct answer whole = are.whole, again = are.again;
+    uint64_t all = requests;
+    read_sets += whole.status != 256;
+    if (memcmp(&whole, &are.pieces, sizeof whole)) fail("not the same in pieces");
     // From 513: E1, E2, E3, E4, R9. A stream has messages that the encoder refuses by E3 and R9 alone.
     if (again.status == 515 || again.status == 517) {
         refusals++;
@@ -63,12 +88,13 @@ static void run_input(void) {
         encoded++;
         if (again.status || again.events != whole.events || again.sum != whole.sum) fail("not the same events again");
     }
+    if (all && next_random() % 8 == 0) refuse_one(are, all);
 }
 
 int main(int count, char **words) {
     if (!run_inputs(count, words, run_input)) return 2;
     printf("fuzz: %" PRIu64 " inputs, of %" PRIu64 " a set was damaged, of %" PRIu64 " the set was read, %" PRIu64
-           " encoded and decoded again, %" PRIu64 " refused by the encoder, %" PRIu64 " failures\n",
-           inputs, sets, read_sets, encoded, refusals, failures);
-    return !encoded || failures > 0;
+           " encoded and decoded again, %" PRIu64 " refused by the encoder, with a request refused %" PRIu64 ", %" PRIu64 " failures\n",
+           inputs, sets, read_sets, encoded, refusals, growths, failures);
+    return !encoded || !growths || failures > 0;
 }

@@ -3,7 +3,8 @@
 // Lines are read as messages, or have a line at fault, one of theirs or the one behind them; they are turned into a stream, or a message
 // is refused, by the encoder alone. What was turned into a stream is shown, in strict mode, as it was; an LF may be missing at its end.
 // A damaged stream that is whole is shown, and its lines are turned into a stream that is shown by the same lines, unless the encoder
-// refuses a message. All blocks are freed. Nothing crashes, and nothing takes long.
+// refuses a message. Now and then a request for memory is refused: what is not as it was then is the answer for want of memory. All blocks
+// are freed. Nothing crashes, and nothing takes long.
 #define _POSIX_C_SOURCE 200809L
 #include "lines.h"
 
@@ -17,7 +18,7 @@ static struct {
     size_t len;
 } good[most_rows];
 static struct text lines, stream, shown;
-static uint64_t texts, read_texts, streams, encoded, refusals;
+static uint64_t texts, read_texts, streams, encoded, refusals, growths;
 
 static void show_input(const char *why) {
     fprintf(stderr, "lines: %s, limits %" PRIu32 " %" PRIu32 " %" PRIu32 ", of row %d, stream ", why, input.max_text, input.max_elements,
@@ -85,9 +86,19 @@ static void damage_lines(void) {
     }
 }
 
+// Turns the lines into a stream once more, with one of so many requests refused.
+static void refuse_one(struct lines_answer was, uint64_t all) {
+    struct lines_answer is = checked(convert(&input, &lines, &shown, none, below(all)));
+    bool is_as_it_was = is.status == was.status && is.place == was.place && is_same(&shown, &stream);
+    bool is_front = shown.len <= stream.len && !memcmp(shown.cells, stream.cells, shown.len);
+    growths++;
+    if (!is_as_it_was && (is.status != no_memory || !is_front)) fail("neither as it was nor without memory");
+}
+
 // Turns the lines into a stream, which is shown as they are.
 static void there_and_back(bool may_be_at_fault) {
     struct lines_answer is = checked(convert(&input, &lines, &stream, none, none));
+    if (requests && next_random() % 8 == 0) refuse_one(is, requests);
     struct lines_answer read = checked(read_lines(&input, lines.cells, lines.len, none));
     if (is.status == bad_write) return;
     if (is_bad_line(is.status)) {
@@ -139,7 +150,7 @@ static void run_input(void) {
 int main(int count, char **words) {
     if (!run_inputs(count, words, run_input)) return 2;
     printf("lines: %" PRIu64 " inputs, %" PRIu64 " texts, %" PRIu64 " of them read, %" PRIu64 " whole streams, %" PRIu64
-           " there and back, %" PRIu64 " refused by the encoder, %" PRIu64 " failures\n",
-           inputs, texts, read_texts, streams, encoded, refusals, failures);
-    return !encoded || failures > 0;
+           " there and back, %" PRIu64 " refused by the encoder, with a request refused %" PRIu64 ", %" PRIu64 " failures\n",
+           inputs, texts, read_texts, streams, encoded, refusals, growths, failures);
+    return !encoded || !growths || failures > 0;
 }

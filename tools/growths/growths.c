@@ -10,12 +10,10 @@
 // and as it is and damaged it is cut at each byte. Whatever the stream, pieces come to what the whole comes to.
 #include "rows.h"
 
-enum { most_damaged = 64 };
-
 static const uint32_t summing_sink = 1;
 static const struct answer no_event = {0, 0, 0, 0xcbf29ce484222325};
-static const struct answer not_made = {256, 0, 0, 0};
-static const struct encoded not_encoded = {256, 0, 0, 0}, stopped = {19, 0, 0, 0};
+static const struct answer not_made = {518, 0, 0, 0};
+static const struct encoded not_encoded = {518, 0, 0, 0}, stopped = {19, 0, 0, 0};
 
 static uint64_t runs, all_requests, stops, cuts, damages, failures;
 static struct {
@@ -112,21 +110,17 @@ static void stop_in_turn(const struct row *r, size_t piece) {
     }
 }
 
-// Decodes a front of the row's stream whole and in pieces, which have to come to the same.
-static struct answer decode_in_pieces(const struct row *r, size_t stream_len) {
-    struct answer due = decode(r, stream_len, 0, none, none);
-    for (size_t piece = 1; piece <= 3; piece++) expect(r, piece, decode(r, stream_len, piece, none, none), due, requests);
-    return due;
-}
-
-// Cuts the row's stream at each byte. Before the place of a fault there is none.
-static void cut_in_turn(const struct row *r) {
-    for (size_t cut = 0; cut < r->stream_len; cut++) {
-        struct answer is = decode_in_pieces(r, cut);
-        cuts++;
-        if (cut >= r->due.consumed) continue;
-        if (is.status > 1 || is.consumed != cut || is.events > r->due.events) fail(r, 0, is);
-    }
+// Decodes the row's stream, and each of its fronts whole and in pieces. Before the place of a fault there is none.
+static struct answer cut_in_turn(const struct row *r) {
+    struct answer is;
+    struct cut_counts counts;
+    begin_run(none, none);
+    fast_bench_cut(r->templates, r->templates_len, r->stream, r->stream_len, r->strict, r->max_text, r->max_elements, r->max_total,
+                   &is, &counts);
+    runs++;
+    cuts += counts.fronts;
+    if (counts.fronts != r->stream_len || counts.wrong || blocks) fail(r, 0, is);
+    return is;
 }
 
 static uint64_t next_random(void) {
@@ -144,9 +138,8 @@ static void damage(const struct row *r) {
         for (uint64_t left = 1 + next_random() % 3; left; left--) {
             damaged.stream[next_random() % r->stream_len] = (uint8_t)next_random();
         }
-        damaged.due = decode_in_pieces(&damaged, damaged.stream_len);
+        cut_in_turn(&damaged);
         damages++;
-        if (damaged.stream_len <= most_damaged) cut_in_turn(&damaged);
     }
 }
 
@@ -161,7 +154,8 @@ int main(void) {
         if (!row.due.status) refuse_in_encoding(&row);
         stop_in_turn(&row, 0);
         stop_in_turn(&row, 1);
-        cut_in_turn(&row);
+        struct answer whole = cut_in_turn(&row);
+        if (memcmp(&whole, &row.due, sizeof whole)) fail(&row, 0, whole);
         damage(&row);
         strcpy(last_set, row.set);
     }

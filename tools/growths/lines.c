@@ -1,7 +1,7 @@
 // Shows the streams of rows.txt as lines, reads these lines and turns them back into a stream, over a heap that counts the requests for
 // memory.
 //
-// Each request in turn is refused, of very many the first ones, and all others are granted: the answer is the one for want of memory, what
+// Each request in turn is refused, of very many the first and the last ones, and all others are granted: the answer is the one for want of memory, what
 // was written is a front of what is written else, and all blocks are freed. Then the same call once more comes to what it came to at
 // first. The requests of reading the set are those of growths.c.
 //
@@ -9,7 +9,7 @@
 // message, and have a line at fault elsewhere.
 #include "lines.h"
 
-enum { most_cuts = 320, last_cuts = 64, most_refusals = 100 };
+enum { most_cuts = 320, last_cuts = 64, most_refusals = 1000, last_refusals = 100 };
 
 static struct text lines, stream, out;
 static uint64_t runs, cuts, failures;
@@ -39,6 +39,12 @@ static void expect_none(const struct row *r, const char *what, struct lines_answ
     if (is.status != no_memory || is.place || blocks || !is_front) fail(r, what, is);
 }
 
+// The request that is refused next: each, but of very many the first and the last ones.
+static uint64_t next_refused(uint64_t i, uint64_t made, uint64_t all) {
+    bool is_far = i + 1 == made + most_refusals && all > i + 1 + last_refusals;
+    return is_far ? all - last_refusals : i + 1;
+}
+
 // How many requests it takes to read the row's set.
 static uint64_t requests_of_set(const struct row *r) {
     read_lines(r, lines.cells, 0, none);
@@ -49,7 +55,7 @@ static uint64_t requests_of_set(const struct row *r) {
 static void refuse_in_showing(const struct row *r, uint64_t made, bool is_other_set) {
     struct lines_answer due = show(r, r->stream, r->stream_len, r->strict, &lines, none);
     if (!is_other_set) return;
-    for (uint64_t i = made, all = requests; i < all && i < made + most_refusals; i++) {
+    for (uint64_t i = made, all = requests; i < all; i = next_refused(i, made, all)) {
         expect_none(r, "shown", show(r, r->stream, r->stream_len, r->strict, &out, i), &lines);
         refusals.showing++;
     }
@@ -61,7 +67,7 @@ static void refuse_in_reading(const struct row *r, uint64_t made) {
     out.len = 0;
     struct lines_answer due = read_lines(r, lines.cells, lines.len, none);
     if (due.status) fail(r, "read", due);
-    for (uint64_t i = made, all = requests; i < all && i < made + most_refusals; i++) {
+    for (uint64_t i = made, all = requests; i < all; i = next_refused(i, made, all)) {
         expect_none(r, "read", read_lines(r, lines.cells, lines.len, i), &nothing);
         refusals.reading++;
     }
@@ -82,7 +88,7 @@ static void expect_none_or_all(const struct row *r, struct lines_answer is, stru
 static void refuse_in_converting(const struct row *r, uint64_t made) {
     struct lines_answer due = convert(r, &lines, &stream, none, none);
     if (due.status && due.status != unsent && due.status != unspelled) fail(r, "turned back", due);
-    for (uint64_t i = made, all = requests; i < all && i < made + most_refusals; i++) {
+    for (uint64_t i = made, all = requests; i < all; i = next_refused(i, made, all)) {
         expect_none_or_all(r, convert(r, &lines, &out, i, none), due);
         expect_none_or_all(r, convert(r, &lines, &out, none, i), due);
         refusals.converting++;

@@ -41,13 +41,13 @@ static struct lines_answer convert(const struct row *r, const struct text *lines
     return is;
 }
 
-static struct lines_answer read_lines(const struct row *r, const uint8_t *lines, size_t lines_len, uint64_t alone) {
+static inline struct lines_answer read_lines(const struct row *r, const uint8_t *lines, size_t lines_len, uint64_t alone) {
     struct lines_answer is;
     begin_run(none, alone);
     fast_bench_read_lines(r->templates, r->templates_len, lines, lines_len, &is);
     return is;
 }
 
-static bool is_bad_line(uint64_t status) { return status > bad_line && status <= bad_line + 7; }
+static inline bool is_bad_line(uint64_t status) { return status > bad_line && status <= bad_line + 7; }
 
 static bool is_same(const struct text *a, const struct text *b) { return a->len == b->len && !memcmp(a->cells, b->cells, a->len); }

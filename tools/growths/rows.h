@@ -13,6 +13,10 @@ struct encoded {
     uint64_t status, messages, bytes, sum;
 };
 
+struct cut_counts {
+    uint64_t fronts, wrong;
+};
+
 // crates/fast_bench/src. A slice is a pointer and a length; numbers have the least byte first, as on x86-64.
 void fast_bench_run(const uint8_t *templates, size_t templates_len, const uint8_t *stream, size_t stream_len, size_t piece,
                     uint32_t sink, uint32_t strict, uint32_t max_text, uint32_t max_elements, uint32_t max_total,
@@ -20,6 +24,8 @@ void fast_bench_run(const uint8_t *templates, size_t templates_len, const uint8_
 void fast_bench_stop(const uint8_t *templates, size_t templates_len, const uint8_t *stream, size_t stream_len, size_t piece,
                      uint32_t strict, uint32_t max_text, uint32_t max_elements, uint32_t max_total, uint64_t most,
                      struct answer *stopped, struct answer *again);
+void fast_bench_cut(const uint8_t *templates, size_t templates_len, const uint8_t *stream, size_t stream_len, uint32_t strict,
+                    uint32_t max_text, uint32_t max_elements, uint32_t max_total, struct answer *whole, struct cut_counts *counts);
 void fast_bench_three_ways(const uint8_t *templates, size_t templates_len, const uint8_t *stream, size_t stream_len, size_t piece,
                            uint32_t strict, uint32_t max_text, uint32_t max_elements, uint32_t max_total, struct answer *whole,
                            struct answer *pieces, struct answer *again);
@@ -111,7 +117,7 @@ static bool read_row(struct row *r, const char *line) {
 }
 
 // Reads the next row of a file, with its number.
-static bool next_row(FILE *file, int *number, struct row *r) {
+static inline bool next_row(FILE *file, int *number, struct row *r) {
     char line[2048];
     while (fgets(line, sizeof line, file)) {
         *r = (struct row){.line = ++*number};

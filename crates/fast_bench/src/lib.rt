@@ -1,7 +1,7 @@
 //! Runs of the decoder and the encoder over streams in memory, for callers from C that measure or test them.
 #![tactic(auto)]
 
-use fast_measure::{decode, encode, stop_and_decode, three_ways};
+use fast_measure::{cut_everywhere, decode, encode, stop_and_decode, three_ways};
 use fast_value::Limits;
 use std::alloc::Global;
 
@@ -18,8 +18,8 @@ fn limits_of(strict: u32, max_text: u32, max_elements: u32, max_total: u32) -> L
 /// Decodes a stream under a template set, fed in pieces of so many bytes, or in one where `piece` is 0.
 ///
 /// Sink 0 counts, and each other takes the checksum. Four numbers are written to `out`, each as eight bytes, the least first:
-/// the status (0 between two messages, 1 inside of one, 2 to 19 at a fault, 256 where no decoder was made), the number of bytes
-/// consumed, the number of events, and the sum.
+/// the status (0 between two messages, 1 inside of one, 2 to 19 at a fault; 256 where no decoder was made, 518 where there was no memory for
+/// one), the number of bytes consumed, the number of events, and the sum.
 #[unsafe(no_mangle)]
 pub extern "C" fn fast_bench_run(
     alloc: Global,
@@ -59,6 +59,29 @@ pub extern "C" fn fast_bench_stop(
     runs.again.write_to(again);
 }
 
+/// Decodes a stream and each of its fronts, whole and in pieces of one, two and three bytes.
+///
+/// What is written to `whole` is the answer of `fast_bench_run` for the whole stream, with its checksum, and to `counts` the number of
+/// fronts and how many of them did not come to the same in pieces, or to what the whole stream does not come to, each as eight bytes.
+#[unsafe(no_mangle)]
+pub extern "C" fn fast_bench_cut(
+    alloc: Global,
+    templates: &[u8],
+    stream: &[u8],
+    strict: u32,
+    max_text: u32,
+    max_elements: u32,
+    max_total: u32,
+    whole: &mut [u8; 32],
+    counts: &mut [u8; 16],
+) {
+    let limits = limits_of(strict, max_text, max_elements, max_total);
+    let cuts = cut_everywhere(alloc, templates, limits, stream);
+    cuts.whole.write_to(whole);
+    counts[..8].copy_from_slice(&cuts.fronts.to_le_bytes());
+    counts[8..].copy_from_slice(&cuts.wrong.to_le_bytes());
+}
+
 /// Decodes a stream whole; in pieces of so many bytes, or in one where `piece` is 0; and, whatever `strict` says, leniently into
 /// messages, which are encoded, and what was encoded is decoded in strict mode.
 ///
@@ -88,8 +111,8 @@ pub extern "C" fn fast_bench_three_ways(
 /// Decodes a stream under a template set into messages, once, and encodes these so many times, each time from a reset encoder.
 ///
 /// Four numbers are written to `out`, each as eight bytes, the least first: the status (as `fast_bench_run` tells how the stream
-/// ended, 0 to 19; 256 where a set, a decoder or an encoder was not made; from 513 where a message was refused: E1, E2, E3, E4, R9, no
-/// memory), the number of messages, the number of bytes of all rounds, and the checksum of the last round's bytes.
+/// ended, 0 to 19; 256 where a set, a decoder or an encoder was not made; from 513 where a message was refused: E1, E2, E3, E4, R9; 518 where
+/// there was no memory), the number of messages, the number of bytes of all rounds, and the checksum of the last round's bytes.
 #[unsafe(no_mangle)]
 pub extern "C" fn fast_bench_encode(
     alloc: Global,

@@ -23,8 +23,10 @@ fn put_number<T: Target>(line: &mut LineWriter<'_, T>, name: &str, number: u64)
 
 /// Writes the lines of a set.
 fn write_set<T: Target>(templates: &Templates, limits: Limits, target: &mut T) -> Result<(), Failed>
-    ensures written { OnOk result (Appends (T.written target.old) (T.written target.new) (set_lines (tree_of templates.now) limits)) }
-    ensures part { OnErr result (AppendsFront (T.written target.old) (T.written target.new) (set_lines (tree_of templates.now) limits)) }
+    ensures written { OnOk result
+        (Appends (T.written target.old) (T.written target.new) (set_lines (tree_of templates.now) limits)) }
+    ensures part { OnErr result
+        (AppendsFront (T.written target.old) (T.written target.new) (set_lines (tree_of templates.now) limits)) }
     ensures fails { OnErr result (IsTrue (T.has_failed target.new)) }
     ensures stays { OnOk result (T.has_failed target.new ≡ T.has_failed target.old) }
 {
@@ -45,9 +47,11 @@ pub fn run_check<T: Target>(
     limits: Limits,
     writer: &mut T,
 ) -> Result<(), RunFault>
-    ensures written { OnOk result (Appends (T.written writer.old) (T.written writer.new) (set_lines (tree_of templates.now) limits)) }
+    ensures written { OnOk result
+        (Appends (T.written writer.old) (T.written writer.new) (set_lines (tree_of templates.now) limits)) }
     ensures stays { OnOk result (T.has_failed writer.new ≡ T.has_failed writer.old) }
-    ensures part { OnErr result (AppendsFront (T.written writer.old) (T.written writer.new) (set_lines (tree_of templates.now) limits)) }
+    ensures part { OnErr result
+        (AppendsFront (T.written writer.old) (T.written writer.new) (set_lines (tree_of templates.now) limits)) }
     ensures fails { IfErr result (λ e. (e ≡ RunFault.Write) × IsTrue (T.has_failed writer.new)) }
 {
     match write_set(templates, limits, writer) {

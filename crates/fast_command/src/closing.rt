@@ -9,8 +9,10 @@ use fast_text::{Failed, LineWriter, Room, Target};
 
 /// Writes the line of a fault.
 pub fn write_fault<T: Target>(fault: Fault, target: &mut T) -> Result<(), Failed>
-    ensures written { OnOk result (Appends (T.written target.old) (T.written target.new) (fault_line fault.code fault.place)) }
-    ensures part { OnErr result (AppendsFront (T.written target.old) (T.written target.new) (fault_line fault.code fault.place)) }
+    ensures written { OnOk result
+        (Appends (T.written target.old) (T.written target.new) (fault_line fault.code fault.place)) }
+    ensures part { OnErr result
+        (AppendsFront (T.written target.old) (T.written target.new) (fault_line fault.code fault.place)) }
     ensures fails { OnErr result (IsTrue (T.has_failed target.new)) }
     ensures stays { OnOk result (T.has_failed target.new ≡ T.has_failed target.old) }
 {

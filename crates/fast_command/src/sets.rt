@@ -19,7 +19,8 @@ pub const TEXT_LIMIT: usize = 16_777_216;
 /// That the text cannot be read; then that it is no template set, which is S1 where it is not UTF-8; or that there is no memory.
 pub fn read_templates<S: Source>(alloc: Global, reader: &mut S) -> Result<Templates, RunFault>
     ensures set { IfOk result (λ t. IsSetRead (S.left reader.old) (S.left reader.new) t) }
-    ensures refused { IfErr result (λ e. IsSetRefused (S.left reader.old) (S.left reader.new) (IsTrue (S.has_failed reader.new)) e) }
+    ensures refused { IfErr result
+        (λ e. IsSetRefused (S.left reader.old) (S.left reader.new) (IsTrue (S.has_failed reader.new)) e) }
 {
     let text = read_whole(alloc, TEXT_LIMIT, reader)?;
     match str::from_utf8(&text) {

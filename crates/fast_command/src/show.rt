@@ -37,7 +37,8 @@ struct Show<'a> {
 fn bytes_of<'b>(unhexer: &mut Option<Unhexer>, piece: &'b [u8], room: &'b mut [u8]) -> &'b [u8]
     requires counted { HasRoom unhexer.old (length piece.now) }
     requires room { length piece.now ≤ length room.old }
-    ensures taken { (text b : List ℕ) → IsTaken unhexer.old text b → IsTaken unhexer.new (text ++ piece.now) (b ++ result.now) }
+    ensures taken { (text b : List ℕ) → IsTaken unhexer.old text b
+        → IsTaken unhexer.new (text ++ piece.now) (b ++ result.now) }
     ensures same { is_some unhexer.new ≡ is_some unhexer.old }
     ensures few { length result.now ≤ length piece.now }
 {
@@ -53,7 +54,8 @@ fn bytes_of<'b>(unhexer: &mut Option<Unhexer>, piece: &'b [u8], room: &'b mut [u
 /// The place of the first bad character of a hexadecimal input, if it had one.
 fn bad_character(unhexer: &Option<Unhexer>) -> Option<u64>
     ensures found { IfSome result (IsBadPlace unhexer.now) }
-    ensures none { IfNone result ((text b : List ℕ) → IsTrue (is_some unhexer.now) → IsTaken unhexer.now text b → All IsHexOrBlank text) }
+    ensures none { IfNone result
+        ((text b : List ℕ) → IsTrue (is_some unhexer.now) → IsTaken unhexer.now text b → All IsHexOrBlank text) }
 {
     match unhexer {
         None => None,
@@ -79,7 +81,8 @@ fn feed<T: Target>(
     writer: &mut T,
 ) -> Result<(), Fault>
     requires { (standing decoder.old).consumed + length bytes.now < 2 ^ 64 }
-    ensures fed { (b : List ℕ) (es : List EventData) → tree decoder.old ≡ tree_of (set_of fronts.now).now → So decoder.old b es
+    ensures fed { (b : List ℕ) (es : List EventData) → tree decoder.old ≡ tree_of (set_of fronts.now).now
+        → So decoder.old b es
         → IsFed (tree_of (set_of fronts.now).now) decoder.old.limits b es bytes.now decoder.new
         (changed T.written T.has_failed writer.old writer.new) result }
     ensures answer { result ≡ answer decoder.new.fault }
@@ -124,7 +127,8 @@ impl<'a> Show<'a> {
         ensures made { IfOk result (λ s. Progress (tree_of templates.entry.now) limits hex s [] [] []) }
         ensures refused { IfErr result (λ e. e ≡ MakeError.Memory ⊎ IsRefusal templates.entry.now limits e) }
         ensures bad_limits { AreBadLimits limits → result ≡ Err MakeError.BadLimits }
-        ensures long_initial { IsRefusal templates.entry.now limits MakeError.InitialTooLong → result ≡ Err MakeError.InitialTooLong }
+        ensures long_initial { IsRefusal templates.entry.now limits MakeError.InitialTooLong
+            → result ≡ Err MakeError.InitialTooLong }
     {
         let decoder = Decoder::new(alloc, templates, limits)?;
         let Ok(fronts) = Fronts::new(alloc, templates) else {
@@ -143,9 +147,11 @@ impl<'a> Show<'a> {
         requires few { length piece.now ≤ READ_SIZE }
         requires counted { (standing self.old.decoder).consumed + length piece.now < 2 ^ 64 }
         requires room { HasRoom self.old.unhexer (length piece.now) }
-        ensures { (t : Tree) (l : Limits) (hex : Bool) (text b : List ℕ) (es : List EventData) → Progress t l hex self.old text b es →
+        ensures { (t : Tree) (l : Limits) (hex : Bool) (text b : List ℕ) (es : List EventData)
+            → Progress t l hex self.old text b es →
             (let w = changed T.written T.has_failed writer.old writer.new in
-            MatchOption result (GoesOn t l hex self.new (text ++ piece.now) es w) (Ended t l hex ⊥ (text ++ piece.now) es w)) }
+            MatchOption result (GoesOn t l hex self.new (text ++ piece.now) es w)
+            (Ended t l hex ⊥ (text ++ piece.now) es w)) }
     {
         let mut room = [0; READ_SIZE];
         let bytes = bytes_of(&mut self.unhexer, piece, &mut room);
@@ -160,7 +166,8 @@ impl<'a> Show<'a> {
 
     /// How the run ends where the input has ended.
     fn end<T: Target>(&self, writer: &mut T) -> Result<ShowEnd, RunFault>
-        ensures { (t : Tree) (l : Limits) (hex : Bool) (text b : List ℕ) (es : List EventData) → Progress t l hex self.now text b es →
+        ensures { (t : Tree) (l : Limits) (hex : Bool) (text b : List ℕ) (es : List EventData)
+            → Progress t l hex self.now text b es →
             Ended t l hex (Unit {0}) text es (changed T.written T.has_failed writer.old writer.new) result }
     {
         if let Some(place) = bad_end(&self.unhexer) {
@@ -192,13 +199,17 @@ pub fn run_show<S: Source, T: Target>(
     writer: &mut T,
 ) -> Result<ShowEnd, RunFault>
     requires { max_reads ≤ 2 ^ 40 }
-    ensures shown { (text out : List ℕ) × Reads (S.left reader.old) (S.left reader.new) text × Appends (T.written writer.old) (T.written writer.new) out
-        × IsShown (tree_of templates.now) limits hex (IsRefusal templates.now limits) (IsAtEnd (S.left reader.new)) (IsTrue (S.has_failed reader.new) ⊎ (max_reads ≤ length text)) (IsTrue (T.has_failed writer.new)) text out result }
+    ensures shown { (text out : List ℕ) × Reads (S.left reader.old) (S.left reader.new) text
+        × Appends (T.written writer.old) (T.written writer.new) out
+        × IsShown (tree_of templates.now) limits hex (IsRefusal templates.now limits) (IsAtEnd (S.left reader.new))
+        (IsTrue (S.has_failed reader.new) ⊎ (max_reads ≤ length text)) (IsTrue (T.has_failed writer.new)) text out
+        result }
     // A writer or a reader that fails is told.
     ensures writer_told { (result ≡ Err RunFault.Write) ⊎ (T.has_failed writer.new ≡ T.has_failed writer.old) }
     ensures reader_told { (result ≡ Err RunFault.Read) ⊎ (S.has_failed reader.new ≡ S.has_failed reader.old) }
     ensures bad_limits { AreBadLimits limits → result ≡ Err (RunFault.Make MakeError.BadLimits) }
-    ensures long_initial { IsRefusal templates.now limits MakeError.InitialTooLong → result ≡ Err (RunFault.Make MakeError.InitialTooLong) }
+    ensures long_initial { IsRefusal templates.now limits MakeError.InitialTooLong
+        → result ≡ Err (RunFault.Make MakeError.InitialTooLong) }
 {
     let mut show = match Show::new(alloc, templates, limits, hex) {
         Ok(show) => show,
@@ -242,11 +253,15 @@ pub fn show_all<S: Source, T: Target>(
     writer: &mut T,
 ) -> Result<ShowEnd, RunFault>
     requires { max_reads ≤ 2 ^ 40 }
-    ensures shown { (text out : List ℕ) × Reads (S.left reader.old) (S.left reader.new) text × Appends (T.written writer.old) (T.written writer.new) out
-        × IsShown (tree_of templates.now) limits hex (IsRefusal templates.now limits) (IsAtEnd (S.left reader.new)) (IsTrue (S.has_failed reader.new) ⊎ (max_reads ≤ length text)) (IsTrue (T.has_failed writer.new)) text out result }
+    ensures shown { (text out : List ℕ) × Reads (S.left reader.old) (S.left reader.new) text
+        × Appends (T.written writer.old) (T.written writer.new) out
+        × IsShown (tree_of templates.now) limits hex (IsRefusal templates.now limits) (IsAtEnd (S.left reader.new))
+        (IsTrue (S.has_failed reader.new) ⊎ (max_reads ≤ length text)) (IsTrue (T.has_failed writer.new)) text out
+        result }
     ensures writer_told { (result ≡ Err RunFault.Write) ⊎ (T.has_failed writer.new ≡ T.has_failed writer.old) }
     ensures bad_limits { AreBadLimits limits → result ≡ Err (RunFault.Make MakeError.BadLimits) }
-    ensures long_initial { IsRefusal templates.now limits MakeError.InitialTooLong → result ≡ Err (RunFault.Make MakeError.InitialTooLong) }
+    ensures long_initial { IsRefusal templates.now limits MakeError.InitialTooLong
+        → result ≡ Err (RunFault.Make MakeError.InitialTooLong) }
 {
     let ending = run_show(alloc, templates, limits, hex, max_reads, reader, writer);
     if !has_begun(&ending) {

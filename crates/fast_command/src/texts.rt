@@ -21,7 +21,8 @@ pub fn read_whole<S: Source>(
     ensures whole { IfOk result (λ v. Reads (S.left reader.old) (S.left reader.new) v.items) }
     ensures end { IfOk result (λ v. IsAtEnd (S.left reader.new)) }
     ensures short { IfOk result (λ v. length v.items ≤ limit) }
-    ensures unread { IfErr result (IsUnread limit (S.left reader.old) (S.left reader.new) (IsTrue (S.has_failed reader.new))) }
+    ensures unread { IfErr result
+        (IsUnread limit (S.left reader.old) (S.left reader.new) (IsTrue (S.has_failed reader.new))) }
     ensures told { (result ≡ Err RunFault.Read) ⊎ (S.has_failed reader.new ≡ S.has_failed reader.old) }
 {
     let mut text = Vec::new(alloc);

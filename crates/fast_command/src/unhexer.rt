@@ -70,7 +70,8 @@ impl Unhexer {
     /// Takes a digit, and gives the byte that it completes.
     fn push_digit(&mut self, digit: u8) -> Option<u8>
         requires { (n : ℕ) × IsHexDigit digit n }
-        ensures at { (t v : List ℕ) → StandsAt self.old.place t v → StandsAt self.new.place (t ++ digit ∷ []) (v ++ option_to_list result) }
+        ensures at { (t v : List ℕ) → StandsAt self.old.place t v
+            → StandsAt self.new.place (t ++ digit ∷ []) (v ++ option_to_list result) }
         ensures len { self.new.len ≡ self.old.len }
         ensures pairs { 2 * length (option_to_list result) + pending self.new ≤ pending self.old + 1 }
     {
@@ -90,7 +91,8 @@ impl Unhexer {
     /// Takes a bad character.
     fn push_other(&mut self, other: u8)
         requires { ¬ (IsHexOrBlank other) }
-        ensures at { (t v : List ℕ) → self.old.len ≡ length t → StandsAt self.old.place t v → StandsAt self.new.place (t ++ other ∷ []) (v ++ []) }
+        ensures at { (t v : List ℕ) → self.old.len ≡ length t → StandsAt self.old.place t v
+            → StandsAt self.new.place (t ++ other ∷ []) (v ++ []) }
         ensures len { self.new.len ≡ self.old.len }
         ensures pairs { pending self.new ≤ pending self.old }
     {
@@ -105,7 +107,8 @@ impl Unhexer {
     /// Takes a character, and gives the byte that it completes.
     fn push(&mut self, character: u8) -> Option<u8>
         requires { self.old.len + 1 < 2 ^ 64 }
-        ensures unhexes { (t v : List ℕ) → Unhexes self.old t v → Unhexes self.new (t ++ character ∷ []) (v ++ option_to_list result) }
+        ensures unhexes { (t v : List ℕ) → Unhexes self.old t v
+            → Unhexes self.new (t ++ character ∷ []) (v ++ option_to_list result) }
         ensures len { self.new.len ≡ self.old.len + 1 }
         ensures pairs { 2 * length (option_to_list result) + pending self.new ≤ pending self.old + 1 }
     {
@@ -126,7 +129,8 @@ impl Unhexer {
     pub fn take(&mut self, piece: &[u8], bytes: &mut [u8]) -> usize
         requires room { length piece.now ≤ 2 * length bytes.old }
         requires few { self.old.len + length piece.now < 2 ^ 64 }
-        ensures unhexes { (t v : List ℕ) → Unhexes self.old t v → Unhexes self.new (t ++ piece.now) (v ++ take result bytes.new) }
+        ensures unhexes { (t v : List ℕ) → Unhexes self.old t v
+            → Unhexes self.new (t ++ piece.now) (v ++ take result bytes.new) }
         ensures len { self.new.len ≡ self.old.len + length piece.now }
         ensures within { result ≤ length bytes.new }
         ensures fewer { result ≤ length piece.now }
@@ -143,7 +147,8 @@ impl Unhexer {
 
     /// The place of the first bad character, if one was taken.
     pub fn bad_character(&self) -> Option<u64>
-        ensures found { IfSome result (λ place. (t v : List ℕ) → Unhexes self.now t v → Unhexed t v (Some place) × (place < length t)) }
+        ensures found { IfSome result
+            (λ place. (t v : List ℕ) → Unhexes self.now t v → Unhexed t v (Some place) × (place < length t)) }
         ensures none { IfNone result ((t v : List ℕ) → Unhexes self.now t v → All IsHexOrBlank t) }
     {
         match self.place {

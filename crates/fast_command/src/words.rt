@@ -192,7 +192,9 @@ fn plan_of<'a>(name: &str, matches: &ArgMatches<'a>) -> Plan<'a>
 /// What the words ask for, of which the first is the program's name. An error has the text of a help or of the version, if one was
 /// asked for, or of a mistake in the words.
 pub fn plan<'a>(alloc: Global, words: &'a [&'a str]) -> Result<Plan<'a>, Error>
-    ensures plan { IfOk result (λ p. (name : Text) × (rows : List Row) × (subcommand_of fastcat_app (map (λ w. w.now) words.entry.now) ≡ Some (name, rows)) × IsPlanOf name rows p) }
+    ensures plan { IfOk result
+        (λ p. (name : Text) × (rows : List Row)
+        × (subcommand_of fastcat_app (map (λ w. w.now) words.entry.now) ≡ Some (name, rows)) × IsPlanOf name rows p) }
     ensures fault { FailsBy (fault_of fastcat_app (map (λ w. w.now) words.entry.now)) result }
 {
     let matches = fastcat_command(alloc)?.try_get_matches_from(words)?;

@@ -4,6 +4,7 @@
 //! contract that the tests call.
 
 mod check;
+mod devices;
 mod faults;
 mod show;
 mod sinks;

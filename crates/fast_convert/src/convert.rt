@@ -49,7 +49,9 @@ fn write_messages<T: Target>(
     hex: bool,
     writer: &mut T,
 ) -> Result<(), RunFault>
-    ensures written { AreWritten (tree encoder.old) encoder.old.limits hex encoder.old.dictionary (map message_data messages.now) (T.written writer.old) (T.written writer.new) (IsTrue (T.has_failed writer.new)) result }
+    ensures written { AreWritten (tree encoder.old) encoder.old.limits hex encoder.old.dictionary
+        (map message_data messages.now) (T.written writer.old) (T.written writer.new) (IsTrue (T.has_failed writer.new))
+        result }
     ensures told { (result ≡ Err RunFault.Write) ⊎ (T.has_failed writer.new ≡ T.has_failed writer.old) }
 {
     let mut bytes = Vec::new(alloc);
@@ -91,12 +93,15 @@ pub fn run_convert<S: Source, T: Target>(
     reader: &mut S,
     writer: &mut T,
 ) -> Result<(), RunFault>
-    ensures converted { IsConverted templates.now limits hex (S.left reader.old) (S.left reader.new) (T.written writer.old) (T.written writer.new) (IsTrue (S.has_failed reader.new)) (IsTrue (T.has_failed writer.new)) result }
+    ensures converted { IsConverted templates.now limits hex (S.left reader.old) (S.left reader.new)
+        (T.written writer.old) (T.written writer.new) (IsTrue (S.has_failed reader.new))
+        (IsTrue (T.has_failed writer.new)) result }
     // A writer or a reader that fails is told.
     ensures writer_told { (result ≡ Err RunFault.Write) ⊎ (T.has_failed writer.new ≡ T.has_failed writer.old) }
     ensures reader_told { (result ≡ Err RunFault.Read) ⊎ (S.has_failed reader.new ≡ S.has_failed reader.old) }
     ensures bad_limits { AreBadLimits limits → result ≡ Err (RunFault.Make MakeError.BadLimits) }
-    ensures long_initial { IsRefusal templates.now limits MakeError.InitialTooLong → result ≡ Err (RunFault.Make MakeError.InitialTooLong) }
+    ensures long_initial { IsRefusal templates.now limits MakeError.InitialTooLong
+        → result ≡ Err (RunFault.Make MakeError.InitialTooLong) }
 {
     let mut encoder = match Encoder::new(alloc, templates, limits) {
         Ok(encoder) => encoder,

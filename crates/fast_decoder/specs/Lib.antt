@@ -9,3 +9,4 @@ pub mod TurnsLeft
 pub mod Decoding
 pub mod Serving
 pub mod Feeding
+pub mod AtHand

@@ -9,8 +9,10 @@ ghost use Rattle.fast_stream.specs.Streams.{End};
 ghost use Rattle.fast_stream.specs.Begins.{Begins};
 ghost use Rattle.fast_stream.specs.Standing.{StandsAfter, standing_at, held};
 ghost use Rattle.fast_decoder.specs.Decoding.{DecoderData, tree, AreBadLimits, IsUncounted, So, turns, stored, standing, answer, Carried};
+ghost use Rattle.fast_decoder.specs.AtHand.{in_hand};
 ghost use Rattle.fast_decoder.specs.Feeding.{IsAtPlace, ConsumesAtMost, all_bytes, Followed};
 
+use crate::in_hand::Due;
 use crate::layout::has_long_initial;
 use crate::machine::Machine;
 use fast_stream::{Fault, FaultCode, MakeError, Sink};
@@ -54,7 +56,8 @@ impl<'t> Decoder<'t> {
     ) -> Result<Decoder<'t>, MakeError>
         ensures made { IfOk result (λ d. So d [] [] × (tree d ≡ tree_of templates.entry.now) × (d.limits ≡ limits)) }
         ensures bad_limits { (result ≡ Err MakeError.BadLimits) ↔ (AreBadLimits limits) }
-        ensures long_initial { (result ≡ Err MakeError.InitialTooLong) ↔ (¬ (AreBadLimits limits) × HasLongInitial limits.max_text (nodes_of templates.entry.now)) }
+        ensures long_initial { (result ≡ Err MakeError.InitialTooLong)
+            ↔ (¬ (AreBadLimits limits) × HasLongInitial limits.max_text (nodes_of templates.entry.now)) }
         ensures no_turn { IfOk result (λ d. turns d ≡ 0) }
         // What it stores is at most the cap of the set.
         ensures bounded { IfOk result (λ d. held (stored d) ≤ stored_cap (tree d) d.limits) }
@@ -82,22 +85,26 @@ impl<'t> Decoder<'t> {
     /// At a fault the bytes up to its place were consumed, and each further feed answers the same fault, until `reset`.
     pub fn feed<S: Sink>(&mut self, piece: &[u8], sink: &mut S) -> Result<(), Fault>
         // What led to the decoder, and then the piece, leads to it afterwards, and the sink takes what the piece gives.
-        ensures carried { (w : List ℕ) (es : List EventData) → So self.old w es → Carried S.takes S.stops self.old w es piece.now sink.old result self.new sink.new }
+        ensures carried { (w : List ℕ) (es : List EventData) → So self.old w es
+            → Carried S.takes S.stops self.old w es piece.now sink.old result self.new sink.new }
         ensures answer { result ≡ answer self.new.fault }
         ensures same_set { (tree self.new ≡ tree self.old) × (self.new.limits ≡ self.old.limits) }
         // Once there is a fault it stays: the decoder says of itself what it said before, and the sink hears nothing.
         ensures stopped { IsSome self.old.fault → (standing self.new ≡ standing self.old) × (sink.new ≡ sink.old) }
         // L4 comes exactly where the bytes can no longer be counted.
-        ensures counted { self.old.fault ≡ None → (IsUncounted result ↔ (2 ^ 64 ≤ self.old.consumed + length piece.now)) }
+        ensures counted { self.old.fault ≡ None
+            → (IsUncounted result ↔ (2 ^ 64 ≤ self.old.consumed + length piece.now)) }
         ensures bounded { held (stored self.new) ≤ stored_cap (tree self.new) self.new.limits }
         // At every fault what is consumed is the fault's place.
         ensures at_place { IsAtPlace self.new }
         ensures consumed { ConsumesAtMost (length piece.now) self.old self.new }
         // The same in terms of the stream, with the bound on the events, which holds at L4 and at the sink's stop too.
         ensures followed { (w : List ℕ) (es : List EventData) → So self.old w es
-            → Followed S.takes S.stops (tree self.old) self.old.limits w es piece.now sink.old result self.new sink.new }
+            → Followed S.takes S.stops (tree self.old) self.old.limits w es piece.now sink.old result self.new
+            sink.new }
         // The turns of the call are at most the cap of a message and one for each byte that it consumes.
-        ensures turns { turns self.new ≤ (self.new.consumed - self.old.consumed) * (1 + turn_cap (tree self.new) self.new.limits) }
+        ensures turns { turns self.new
+            ≤ (self.new.consumed - self.old.consumed) * (1 + turn_cap (tree self.new) self.new.limits) }
     {
         self.machine.begin_turns();
         if let Some(fault) = self.fault {
@@ -130,7 +137,8 @@ impl<'t> Decoder<'t> {
 
     /// A feed of one byte.
     pub fn push<S: Sink>(&mut self, byte: u8, sink: &mut S) -> Result<(), Fault>
-        ensures carried { (w : List ℕ) (es : List EventData) → So self.old w es → Carried S.takes S.stops self.old w es (byte ∷ []) sink.old result self.new sink.new }
+        ensures carried { (w : List ℕ) (es : List EventData) → So self.old w es
+            → Carried S.takes S.stops self.old w es (byte ∷ []) sink.old result self.new sink.new }
         ensures answer { result ≡ answer self.new.fault }
         ensures same_set { (tree self.new ≡ tree self.old) × (self.new.limits ≡ self.old.limits) }
         ensures stopped { IsSome self.old.fault → (standing self.new ≡ standing self.old) × (sink.new ≡ sink.old) }
@@ -139,8 +147,10 @@ impl<'t> Decoder<'t> {
         ensures at_place { IsAtPlace self.new }
         ensures consumed { ConsumesAtMost 1 self.old self.new }
         ensures followed { (w : List ℕ) (es : List EventData) → So self.old w es
-            → Followed S.takes S.stops (tree self.old) self.old.limits w es (byte ∷ []) sink.old result self.new sink.new }
-        ensures turns { turns self.new ≤ (self.new.consumed - self.old.consumed) * (1 + turn_cap (tree self.new) self.new.limits) }
+            → Followed S.takes S.stops (tree self.old) self.old.limits w es (byte ∷ []) sink.old result self.new
+            sink.new }
+        ensures turns { turns self.new
+            ≤ (self.new.consumed - self.old.consumed) * (1 + turn_cap (tree self.new) self.new.limits) }
     {
         self.feed(&[byte], sink)
     }
@@ -153,10 +163,12 @@ impl<'t> Decoder<'t> {
     pub fn feed_all<S: Sink>(&mut self, pieces: &[&[u8]], sink: &mut S) -> Result<(), Fault>
         // Behind bytes that led to the decoder, the pieces are fed as if they were one.
         ensures followed { (w : List ℕ) (es : List EventData) → So self.old w es
-            → Followed S.takes S.stops (tree self.old) self.old.limits w es (all_bytes pieces.now) sink.old result self.new sink.new }
+            → Followed S.takes S.stops (tree self.old) self.old.limits w es (all_bytes pieces.now) sink.old result
+            self.new sink.new }
         // The same of a decoder that was made or reset: the stream is that of the pieces alone.
         ensures from_start { So self.old [] []
-            → Followed S.takes S.stops (tree self.old) self.old.limits [] [] (all_bytes pieces.now) sink.old result self.new sink.new }
+            → Followed S.takes S.stops (tree self.old) self.old.limits [] [] (all_bytes pieces.now) sink.old result
+            self.new sink.new }
         ensures answer { result ≡ answer self.new.fault }
         ensures same_set { (tree self.new ≡ tree self.old) × (self.new.limits ≡ self.old.limits) }
         ensures stopped { IsSome self.old.fault → (standing self.new ≡ standing self.old) × (sink.new ≡ sink.old) }
@@ -204,23 +216,39 @@ impl<'t> Decoder<'t> {
     {
         self.fault
     }
+
+    /// What the decoder waits for, or where it has stopped, to say where a stream is cut or at fault.
+    ///
+    /// At a fault it is the next instruction: in a presence map (R7, R8, L3) the first one behind the map, at a sequence that is too
+    /// long (L2, L5) the one behind the sequence.
+    pub fn in_hand(&self) -> Due
+        ensures { result ≡ in_hand self.now }
+    {
+        match self.fault {
+            None => self.machine.awaited(),
+            Some(_) => self.machine.stopped_at(),
+        }
+    }
 }
 
 /// What leads to a decoder is a stream with these events, and the decoder tells how it ends: whether it is between two messages,
 /// its fault, and the number of bytes consumed.
 pub fn so_is_stream()
-    ensures { (d : DecoderData) (w : List ℕ) (es : List EventData) → So d w es → StandsAfter (tree d) d.limits w es (standing d) }
+    ensures { (d : DecoderData) (w : List ℕ) (es : List EventData) → So d w es
+        → StandsAfter (tree d) d.limits w es (standing d) }
 {}
 
 /// The events of what leads to a decoder are no more than the cap of a message for each byte consumed.
 pub fn so_bounds_events()
-    ensures { (d : DecoderData) (w : List ℕ) (es : List EventData) → So d w es → length es ≤ (standing d).consumed * message_cap (tree d) d.limits }
+    ensures { (d : DecoderData) (w : List ℕ) (es : List EventData) → So d w es
+        → length es ≤ (standing d).consumed * message_cap (tree d) d.limits }
 {}
 
 /// They are also no more than the cap of a message for each message of which a byte was read: whole ones, and then perhaps one that is
 /// cut short or wrong.
 pub fn so_bounds_messages()
-    ensures { (d : DecoderData) (w : List ℕ) (es : List EventData) → So d w es → (e : End) × (n : ℕ) × (standing d ≡ standing_at w e)
+    ensures { (d : DecoderData) (w : List ℕ) (es : List EventData) → So d w es
+        → (e : End) × (n : ℕ) × (standing d ≡ standing_at w e)
         × Begins (tree d) d.limits w e n × (length es ≤ n * message_cap (tree d) d.limits) }
 {}
 
@@ -228,7 +256,8 @@ pub fn so_bounds_messages()
 /// whose end the decoder tells; what it stores is at most the cap of the set; and the events are no more than the cap of a message
 /// for each byte consumed. That a sink takes these events is said of a call: by `Decoder::feed_all`, and by `feed` and `push`.
 pub fn headline()
-    ensures { (d : DecoderData) (w : List ℕ) (es : List EventData) → So d w es → StandsAfter (tree d) d.limits w es (standing d)
+    ensures { (d : DecoderData) (w : List ℕ) (es : List EventData) → So d w es
+        → StandsAfter (tree d) d.limits w es (standing d)
         × (held (stored d) ≤ stored_cap (tree d) d.limits)
         × (length es ≤ (standing d).consumed * message_cap (tree d) d.limits) }
 {}

@@ -56,7 +56,8 @@ fn template_widths(alloc: Global, templates: &Templates) -> Result<Vec<usize>, A
 /// Memory was refused.
 pub fn measure(alloc: Global, templates: &Templates) -> Result<Widths, AllocError>
     ensures nodes { IfOk result (λ w. AreNodeWidths (nodes_of templates.now) w.nodes.items) }
-    ensures templates { IfOk result (λ w. AreTemplateWidths (nodes_of templates.now) (templates_of templates.now) w.templates.items) }
+    ensures templates { IfOk result
+        (λ w. AreTemplateWidths (nodes_of templates.now) (templates_of templates.now) w.templates.items) }
 {
     Ok(Widths {
         nodes: node_widths(alloc, templates)?,
@@ -137,7 +138,9 @@ fn may_hold_text(field: &FieldInstruction) -> bool
 fn mark_field(marks: &mut [bool], field: &FieldInstruction)
     requires { (e : ℕ) → field.now.entry ≡ Some e → e < length marks.old }
     ensures long { length marks.new ≡ length marks.old }
-    ensures marked { (e : ℕ) → IsTrue (slice_index_or marks.new e false) ↔ (IsTrue (slice_index_or marks.old e false) ⊎ HoldsTextAt e (field_data field.now)) }
+    ensures marked { (e : ℕ)
+        → IsTrue (slice_index_or marks.new e false)
+        ↔ (IsTrue (slice_index_or marks.old e false) ⊎ HoldsTextAt e (field_data field.now)) }
 {
     if let Some(entry) = field.entry
         && may_hold_text(field)
@@ -150,7 +153,9 @@ fn mark_field(marks: &mut [bool], field: &FieldInstruction)
 fn mark_node(marks: &mut [bool], node: &Node)
     requires { IsUsableShape (length marks.old) (shape_data node.now.shape) }
     ensures long { length marks.new ≡ length marks.old }
-    ensures marked { (e : ℕ) → IsTrue (slice_index_or marks.new e false) ↔ (IsTrue (slice_index_or marks.old e false) ⊎ AnyField (HoldsTextAt e) (shape_data node.now.shape)) }
+    ensures marked { (e : ℕ)
+        → IsTrue (slice_index_or marks.new e false)
+        ↔ (IsTrue (slice_index_or marks.old e false) ⊎ AnyField (HoldsTextAt e) (shape_data node.now.shape)) }
 {
     match &node.shape {
         Shape::Field(field) => mark_field(marks, field),
@@ -171,7 +176,8 @@ fn mark_node(marks: &mut [bool], node: &Node)
 /// Memory was refused.
 pub fn text_marks(alloc: Global, templates: &Templates) -> Result<Vec<bool>, AllocError>
     ensures long { IfOk result (λ v. length v.items ≡ (tree_of templates.now).entries) }
-    ensures marked { IfOk result (λ v. (e : ℕ) → IsTrue (slice_index_or v.items e false) ↔ NeedsText (nodes_of templates.now) e) }
+    ensures marked { IfOk result
+        (λ v. (e : ℕ) → IsTrue (slice_index_or v.items e false) ↔ NeedsText (nodes_of templates.now) e) }
 {
     let mut marks = vec![in alloc; false; templates.entries() as usize]?;
     for n in 0..templates.nodes() {
@@ -193,7 +199,8 @@ pub fn make_slots(
     requires { ¬ (HasLongInitial max_text (nodes_of templates.now)) }
     ensures fresh { IfOk result (λ s. slots_dictionary s ≡ fresh (tree_of templates.now).entries) }
     ensures max_text { IfOk result (λ s. (slots_terms s).max_text ≡ max_text) }
-    ensures serves { IfOk result (λ s. ServesNodes (tree_of templates.now).entries (slots_terms s) (nodes_of templates.now)) }
+    ensures serves { IfOk result
+        (λ s. ServesNodes (tree_of templates.now).entries (slots_terms s) (nodes_of templates.now)) }
 {
     let marks = text_marks(alloc, templates)?;
     Slots::new(alloc, &marks, max_text)

@@ -2,6 +2,7 @@
 #![tactic(auto)]
 
 pub mod decoder;
+pub mod in_hand;
 pub mod layout;
 mod machine;
 mod quick_decimals;
@@ -14,4 +15,5 @@ mod turns;
 
 pub use decoder::Decoder;
 pub use fast_stream::{Event, Fault, FaultCode, MakeError, Sink, Stop};
+pub use in_hand::Due;
 pub use recorder::{Recorded, Recorder};

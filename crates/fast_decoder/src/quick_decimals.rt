@@ -38,8 +38,13 @@ fn mantissa_item(
     requires first { IsShortEntity entity.number entity.len rest.now }
     requires kind { field.now.kind ≡ Kind.Int64 }
     requires serves { Serves (length (slots_dictionary slots.old)) (slots_terms slots.old) (field_data field.now) }
-    ensures unit { IfSome result (λ r. (l : Bounds) (scratch : List ℕ) → IsLastUnit (reader_of strict (field_term l (field_data field.now) (previous_at (field_data field.now).entry (slots_dictionary slots.old)) true))
-        (field_data field.now) [] rest.now (slots_dictionary slots.old) (slots_dictionary slots.new) scratch (Progress.Whole (source_of r) entity.len)) }
+    ensures unit { IfSome result
+        (λ r. (l : Bounds) (scratch : List ℕ)
+        → IsLastUnit (reader_of strict
+        (field_term l (field_data field.now) (previous_at (field_data field.now).entry (slots_dictionary slots.old))
+        true))
+        (field_data field.now) [] rest.now (slots_dictionary slots.old) (slots_dictionary slots.new) scratch
+        (Progress.Whole (source_of r) entity.len)) }
     ensures none { IfNone result (slots.new ≡ slots.old) }
     ensures terms { slots_terms slots.new ≡ slots_terms slots.old }
 {
@@ -78,9 +83,12 @@ impl<'t> Machine<'t> {
         requires waits { self.old.waiting ≡ Waiting.Mantissa exponent }
         requires ready { IsReady (set_of templates.now) limits self.old }
         ensures none { IfNone result ((self.new ≡ self.old) × (sink.new ≡ sink.old)) }
-        ensures taken { IfSome result (λ q. IsTakenTo S.takes S.stops (set_of templates.now) limits (meaning (set_of templates.now) limits self.old) rest.now sink.old q.bytes q.turn sink.new self.new) }
+        ensures taken { IfSome result
+            (λ q. IsTakenTo S.takes S.stops (set_of templates.now) limits
+            (meaning (set_of templates.now) limits self.old) rest.now sink.old q.bytes q.turn sink.new self.new) }
         ensures on { IfSome result (λ q. q.turn ≢ Ok Turn.Waits) }
-        ensures turns { (way : Way) (n : ℕ) → HasTurns way (set_of templates.now) limits 1 n self.old → IfSome result (λ q. HasTurnsBehind q.turn way (set_of templates.now) limits (1 + n) self.new) }
+        ensures turns { (way : Way) (n : ℕ) → HasTurns way (set_of templates.now) limits 1 n self.old
+            → IfSome result (λ q. HasTurnsBehind q.turn way (set_of templates.now) limits (1 + n) self.new) }
     {
         if !self.entity.is_empty() {
             return None;

@@ -33,9 +33,12 @@ impl<'t> Machine<'t> {
         requires waits { (width : ℕ) × (self.old.waiting ≡ Waiting.SegmentMap width) }
         requires ready { IsReady (set_of templates.now) limits self.old }
         ensures none { IfNone result ((self.new ≡ self.old) × (sink.new ≡ sink.old)) }
-        ensures taken { IfSome result (λ q. IsTakenTo S.takes S.stops (set_of templates.now) limits (meaning (set_of templates.now) limits self.old) rest.now sink.old q.bytes q.turn sink.new self.new) }
+        ensures taken { IfSome result
+            (λ q. IsTakenTo S.takes S.stops (set_of templates.now) limits
+            (meaning (set_of templates.now) limits self.old) rest.now sink.old q.bytes q.turn sink.new self.new) }
         ensures on { IfSome result (λ q. q.turn ≢ Ok Turn.Waits) }
-        ensures turns { (way : Way) (n : ℕ) → HasTurns way (set_of templates.now) limits 0 n self.old → IfSome result (λ q. HasTurnsBehind q.turn way (set_of templates.now) limits (1 + n) self.new) }
+        ensures turns { (way : Way) (n : ℕ) → HasTurns way (set_of templates.now) limits 0 n self.old
+            → IfSome result (λ q. HasTurnsBehind q.turn way (set_of templates.now) limits (1 + n) self.new) }
     {
         if !self.cursor.take_byte(rest) {
             return None;
@@ -51,7 +54,10 @@ impl<'t> Machine<'t> {
     #[inline(always)]
     fn latest_again(&self, templates: &Templates) -> Option<u32>
         requires some { 0 < length (slots_dictionary self.now.slots) }
-        ensures { IfSome result (λ i. (id : ℕ) × (t : Template) × (previous_at (Some 0) (slots_dictionary self.now.slots) ≡ assigned Kind.UInt32 (U id)) × (slice_get (templates_of templates.now) i ≡ Some t) × (t.id ≡ Some id)
+        ensures { IfSome result
+            (λ i. (id : ℕ) × (t : Template)
+            × (previous_at (Some 0) (slots_dictionary self.now.slots) ≡ assigned Kind.UInt32 (U id))
+            × (slice_get (templates_of templates.now) i ≡ Some t) × (t.id ≡ Some id)
             × ((j : ℕ) (u : Template) → j < i → slice_get (templates_of templates.now) j ≡ Some u → u.id ≢ Some id)) }
     {
         let Entry::UInt32(held) = self.slots.held(0) else {
@@ -78,10 +84,14 @@ impl<'t> Machine<'t> {
         requires waits { self.old.waiting ≡ Waiting.Map }
         requires ready { IsReady (set_of templates.now) limits self.old }
         ensures none { IfNone result ((self.new ≡ self.old) × (sink.new ≡ sink.old)) }
-        ensures taken { IfSome result (λ q. IsTakenTo S.takes S.stops (set_of templates.now) limits (meaning (set_of templates.now) limits self.old) rest.now sink.old q.bytes q.turn sink.new self.new) }
+        ensures taken { IfSome result
+            (λ q. IsTakenTo S.takes S.stops (set_of templates.now) limits
+            (meaning (set_of templates.now) limits self.old) rest.now sink.old q.bytes q.turn sink.new self.new) }
         ensures on { IfSome result (λ q. q.turn ≢ Ok Turn.Waits) }
-        ensures turns { (way : Way) (n : ℕ) → HasTurnsInMap self.old.cursor.map way (set_of templates.now) limits n self.old.turns.count
-            → IfSome result (λ q. HasTurnsBehind q.turn way (set_of templates.now) limits (1 + n + turns_begun self.old.cursor.map way (tree_in (set_of templates.now)) limits) self.new) }
+        ensures turns { (way : Way) (n : ℕ)
+            → HasTurnsInMap self.old.cursor.map way (set_of templates.now) limits n self.old.turns.count
+            → IfSome result (λ q. HasTurnsBehind q.turn way (set_of templates.now) limits
+            (1 + n + turns_begun self.old.cursor.map way (tree_in (set_of templates.now)) limits) self.new) }
     {
         if rest.is_empty() || rest[0] < 0x80 || rest[0] >= 0xc0 {
             return None;

@@ -125,7 +125,8 @@ impl<'t> Machine<'t> {
     fn next_waits(&self, templates: &Templates) -> bool
         requires placed { IsPlaced (set_of templates.now) self.now.cursor }
         requires mapped { IsMapWhole self.now.cursor.map }
-        ensures { result ≡ true → (n : ℕ) × (f : FieldData) × IsAtField (set_of templates.now) self.now.cursor n f × ¬ (IsAsciiFirst f)
+        ensures { result ≡ true
+            → (n : ℕ) × (f : FieldData) × IsAtField (set_of templates.now) self.now.cursor n f × ¬ (IsAsciiFirst f)
             × IsSent f (bit_of f (state_in (slots_dictionary self.now.slots) self.now.counted self.now.cursor)) }
     {
         let Some(number) = self.cursor.next() else {
@@ -160,9 +161,12 @@ impl<'t> Machine<'t> {
         requires goes_on { GoesOn (set_of templates.now) limits self.old turn }
         requires supplied { IsSupplied (set_of templates.now) limits self.old }
         requires on { turn ≢ Ok Turn.Waits }
-        ensures turn { (r : Reader Dictionary) (s : S) → Moves S.takes S.stops r s turn sink.old (turning (set_of templates.now) limits self.old) (meaning (set_of templates.now) limits self.old)
+        ensures turn { (r : Reader Dictionary) (s : S)
+            → Moves S.takes S.stops r s turn sink.old (turning (set_of templates.now) limits self.old)
+            (meaning (set_of templates.now) limits self.old)
             → IsTurn S.takes S.stops (set_of templates.now) limits r s result sink.new self.new }
-        ensures turns { (way : Way) (n : ℕ) → HasTurnsBehind turn way (set_of templates.now) limits n self.old → HasTurnsBehind result way (set_of templates.now) limits n self.new }
+        ensures turns { (way : Way) (n : ℕ) → HasTurnsBehind turn way (set_of templates.now) limits n self.old
+            → HasTurnsBehind result way (set_of templates.now) limits n self.new }
     {
         match turn {
             Err(code) => Err(code),
@@ -191,10 +195,13 @@ impl<'t> Machine<'t> {
     ) -> Quick
         requires bit { has_bit ≡ uses_bit (field_data field.now) }
         requires left { 0 < length self.old.cursor.left }
-        ensures taken { (set : Set) (l : Limits) (m : Machine) (rest : List ℕ) → IsSentItem set l m self.old number (field_data field.now) rest item bytes
-            → IsTakenTo S.takes S.stops set l (meaning set l m) rest sink.old result.bytes result.turn sink.new self.new }
+        ensures taken { (set : Set) (l : Limits) (m : Machine) (rest : List ℕ)
+            → IsSentItem set l m self.old number (field_data field.now) rest item bytes
+            → IsTakenTo S.takes S.stops set l (meaning set l m) rest sink.old result.bytes result.turn sink.new
+            self.new }
         ensures on { result.turn ≢ Ok Turn.Waits }
-        ensures turns { (set : Set) (l : Limits) (m : Machine) (rest : List ℕ) → IsSentItem set l m self.old number (field_data field.now) rest item bytes
+        ensures turns { (set : Set) (l : Limits) (m : Machine) (rest : List ℕ)
+            → IsSentItem set l m self.old number (field_data field.now) rest item bytes
             → (way : Way) (n : ℕ) → HasTurns way set l 1 n m → HasTurnsBehind result.turn way set l (1 + n) self.new }
     {
         self.turns = Turns::after(&self.turns);
@@ -223,11 +230,15 @@ impl<'t> Machine<'t> {
         requires next { first_node self.old.cursor.left ≡ Some number }
         requires within { number < length (set_of templates.now).nodes }
         requires integers { family kind ≡ integers (range_of kind) }
-        requires field { (x : Node) → slice_get (set_of templates.now).nodes number ≡ Some x → (f : FieldInstruction) × (x.shape ≡ Shape.Field f) × IsSentAs f kind sending }
+        requires field { (x : Node) → slice_get (set_of templates.now).nodes number ≡ Some x
+            → (f : FieldInstruction) × (x.shape ≡ Shape.Field f) × IsSentAs f kind sending }
         ensures none { IfNone result ((self.new ≡ self.old) × (sink.new ≡ sink.old)) }
-        ensures taken { IfSome result (λ q. IsTakenTo S.takes S.stops (set_of templates.now) limits (meaning (set_of templates.now) limits self.old) rest.now sink.old q.bytes q.turn sink.new self.new) }
+        ensures taken { IfSome result
+            (λ q. IsTakenTo S.takes S.stops (set_of templates.now) limits
+            (meaning (set_of templates.now) limits self.old) rest.now sink.old q.bytes q.turn sink.new self.new) }
         ensures on { IfSome result (λ q. q.turn ≢ Ok Turn.Waits) }
-        ensures turns { (way : Way) (n : ℕ) → HasTurns way (set_of templates.now) limits 1 n self.old → IfSome result (λ q. HasTurnsBehind q.turn way (set_of templates.now) limits (1 + n) self.new) }
+        ensures turns { (way : Way) (n : ℕ) → HasTurns way (set_of templates.now) limits 1 n self.old
+            → IfSome result (λ q. HasTurnsBehind q.turn way (set_of templates.now) limits (1 + n) self.new) }
     {
         let Shape::Field(field) = &templates.node(number).shape else {
             unreachable!()
@@ -275,11 +286,15 @@ impl<'t> Machine<'t> {
         requires next { first_node self.old.cursor.left ≡ Some number }
         requires within { number < length (set_of templates.now).nodes }
         requires integers { family kind ≡ integers (range_of kind) }
-        requires field { (x : Node) → slice_get (set_of templates.now).nodes number ≡ Some x → (f : FieldInstruction) × (x.shape ≡ Shape.Field f) × IsSentAs f kind sending }
+        requires field { (x : Node) → slice_get (set_of templates.now).nodes number ≡ Some x
+            → (f : FieldInstruction) × (x.shape ≡ Shape.Field f) × IsSentAs f kind sending }
         ensures none { IfNone result ((self.new ≡ self.old) × (sink.new ≡ sink.old)) }
-        ensures taken { IfSome result (λ q. IsTakenTo S.takes S.stops (set_of templates.now) limits (meaning (set_of templates.now) limits self.old) rest.now sink.old q.bytes q.turn sink.new self.new) }
+        ensures taken { IfSome result
+            (λ q. IsTakenTo S.takes S.stops (set_of templates.now) limits
+            (meaning (set_of templates.now) limits self.old) rest.now sink.old q.bytes q.turn sink.new self.new) }
         ensures on { IfSome result (λ q. q.turn ≢ Ok Turn.Waits) }
-        ensures turns { (way : Way) (n : ℕ) → HasTurns way (set_of templates.now) limits 1 n self.old → IfSome result (λ q. HasTurnsBehind q.turn way (set_of templates.now) limits (1 + n) self.new) }
+        ensures turns { (way : Way) (n : ℕ) → HasTurns way (set_of templates.now) limits 1 n self.old
+            → IfSome result (λ q. HasTurnsBehind q.turn way (set_of templates.now) limits (1 + n) self.new) }
     {
         let Shape::Field(field) = &templates.node(number).shape else {
             unreachable!()
@@ -319,9 +334,12 @@ impl<'t> Machine<'t> {
         requires waits { self.old.waiting ≡ Waiting.Field }
         requires ready { IsReady (set_of templates.now) limits self.old }
         ensures none { IfNone result ((self.new ≡ self.old) × (sink.new ≡ sink.old)) }
-        ensures taken { IfSome result (λ q. IsTakenTo S.takes S.stops (set_of templates.now) limits (meaning (set_of templates.now) limits self.old) rest.now sink.old q.bytes q.turn sink.new self.new) }
+        ensures taken { IfSome result
+            (λ q. IsTakenTo S.takes S.stops (set_of templates.now) limits
+            (meaning (set_of templates.now) limits self.old) rest.now sink.old q.bytes q.turn sink.new self.new) }
         ensures on { IfSome result (λ q. q.turn ≢ Ok Turn.Waits) }
-        ensures turns { (way : Way) (n : ℕ) → HasTurns way (set_of templates.now) limits 1 n self.old → IfSome result (λ q. HasTurnsBehind q.turn way (set_of templates.now) limits (1 + n) self.new) }
+        ensures turns { (way : Way) (n : ℕ) → HasTurns way (set_of templates.now) limits 1 n self.old
+            → IfSome result (λ q. HasTurnsBehind q.turn way (set_of templates.now) limits (1 + n) self.new) }
     {
         if !self.entity.is_empty() {
             return None;
@@ -429,10 +447,14 @@ impl<'t> Machine<'t> {
     ) -> Option<Quick>
         requires ready { IsReady (set_of templates.now) limits self.old }
         ensures none { IfNone result ((self.new ≡ self.old) × (sink.new ≡ sink.old)) }
-        ensures taken { IfSome result (λ q. IsTakenTo S.takes S.stops (set_of templates.now) limits (meaning (set_of templates.now) limits self.old) rest.now sink.old q.bytes q.turn sink.new self.new) }
+        ensures taken { IfSome result
+            (λ q. IsTakenTo S.takes S.stops (set_of templates.now) limits
+            (meaning (set_of templates.now) limits self.old) rest.now sink.old q.bytes q.turn sink.new self.new) }
         ensures on { IfSome result (λ q. q.turn ≢ Ok Turn.Waits) }
         ensures turns { (way : Way) (n : ℕ) → HasTurnsWaiting way (set_of templates.now) limits n self.old
-            → IfSome result (λ q. HasTurnsBehind q.turn way (set_of templates.now) limits (1 + n + turns_begun_at self.old.waiting self.old.cursor.map way (tree_in (set_of templates.now)) limits) self.new) }
+            → IfSome result (λ q. HasTurnsBehind q.turn way (set_of templates.now) limits
+            (1 + n + turns_begun_at self.old.waiting self.old.cursor.map way (tree_in (set_of templates.now)) limits)
+            self.new) }
     {
         if let Waiting::Field = self.waiting {
             return self.take_integer(templates, limits, rest, sink);
@@ -458,9 +480,13 @@ impl<'t> Machine<'t> {
     ) -> Option<Quick>
         requires ready { IsReady (set_of templates.now) limits self.old }
         ensures none { IfNone result ((self.new ≡ self.old) × (sink.new ≡ sink.old)) }
-        ensures taken { IfSome result (λ q. IsTakenTo S.takes S.stops (set_of templates.now) limits (meaning (set_of templates.now) limits self.old) rest.now sink.old q.bytes q.turn sink.new self.new) }
+        ensures taken { IfSome result
+            (λ q. IsTakenTo S.takes S.stops (set_of templates.now) limits
+            (meaning (set_of templates.now) limits self.old) rest.now sink.old q.bytes q.turn sink.new self.new) }
         ensures turns { (way : Way) (n : ℕ) → HasTurnsWaiting way (set_of templates.now) limits n self.old
-            → IfSome result (λ q. HasTurnsBehind q.turn way (set_of templates.now) limits (1 + n + turns_begun_at self.old.waiting self.old.cursor.map way (tree_in (set_of templates.now)) limits) self.new) }
+            → IfSome result (λ q. HasTurnsBehind q.turn way (set_of templates.now) limits
+            (1 + n + turns_begun_at self.old.waiting self.old.cursor.map way (tree_in (set_of templates.now)) limits)
+            self.new) }
     {
         let quick = self.take_whole(templates, limits, rest, sink)?;
         let turn = self.wait_if(templates, limits, quick.turn, sink);

@@ -58,7 +58,9 @@ pub fn uses_bit(field: &FieldInstruction) -> bool
 fn unsent_seldom(slots: &mut Slots, field: &FieldInstruction, bit: bool) -> Result<Source, Code>
     requires serves { Serves (length (slots_dictionary slots.old)) (slots_terms slots.old) (field_data field.now) }
     requires no_bytes { needs_bytes field.now.operator bit ≡ false }
-    ensures decided { IsDecided (decide (field_data field.now) (previous_at (field_data field.now).entry (slots_dictionary slots.old)) bit nothing)
+    ensures decided { IsDecided
+        (decide (field_data field.now) (previous_at (field_data field.now).entry (slots_dictionary slots.old)) bit
+        nothing)
         (field_data field.now) (slots_dictionary slots.old) (slots_dictionary slots.new) result }
     ensures terms { slots_terms slots.new ≡ slots_terms slots.old }
 {
@@ -68,7 +70,8 @@ fn unsent_seldom(slots: &mut Slots, field: &FieldInstruction, bit: bool) -> Resu
 /// Hands an event over.
 #[inline]
 pub fn hand<S: Sink>(sink: &mut S, event: Event<'_>) -> Result<(), FaultCode>
-    ensures { MatchResult result (λ _. S.takes sink.old (event_data event.entry) sink.new) (λ code. (code ≡ FaultCode.SinkStopped) × S.stops sink.old (event_data event.entry) sink.new) }
+    ensures { MatchResult result (λ _. S.takes sink.old (event_data event.entry) sink.new)
+        (λ code. (code ≡ FaultCode.SinkStopped) × S.stops sink.old (event_data event.entry) sink.new) }
 {
     match sink.take(event) {
         Ok(()) => Ok(()),
@@ -97,10 +100,15 @@ impl<'t> Machine<'t> {
         sink: &mut S,
     ) -> Result<Turn, FaultCode>
         requires left { 0 < length self.old.cursor.left }
-        requires entry { (e : ℕ) → (field_data field.now).entry ≡ Some e → e < length (slots_dictionary self.old.slots) }
+        requires entry { (e : ℕ) → (field_data field.now).entry ≡ Some e
+            → e < length (slots_dictionary self.old.slots) }
         ensures moves { (set : Set) (l : Bounds) (strict : Bool) (waits : Reader Dictionary) → Moves S.takes S.stops
-            (reader_of strict (value_then set l node (value_at source (field_data field.now) (slots_dictionary self.old.slots) self.old.text.text piece.now) (field_data field.now) (slots_dictionary self.old.slots) self.old.counted self.old.cursor))
-            sink.old result sink.new (reader_of strict (going_on set l (slots_dictionary self.new.slots) self.new.counted self.new.cursor)) waits }
+            (reader_of strict (value_then set l node
+            (value_at source (field_data field.now) (slots_dictionary self.old.slots) self.old.text.text piece.now)
+            (field_data field.now) (slots_dictionary self.old.slots) self.old.counted self.old.cursor))
+            sink.old result sink.new
+            (reader_of strict (going_on set l (slots_dictionary self.new.slots) self.new.counted self.new.cursor))
+            waits }
         ensures past { OnOk result (IsPast self.old.cursor self.new.cursor) }
         ensures same { self.new ≡ record self.old { cursor = self.new.cursor } }
         ensures depth { self.new.cursor.depth ≡ self.old.cursor.depth }
@@ -122,10 +130,15 @@ impl<'t> Machine<'t> {
     ) -> Result<Turn, FaultCode>
         requires bit { has_bit ≡ uses_bit (field_data field.now) }
         requires left { 0 < length self.old.cursor.left }
-        requires entry { (e : ℕ) → (field_data field.now).entry ≡ Some e → e < length (slots_dictionary self.old.slots) }
+        requires entry { (e : ℕ) → (field_data field.now).entry ≡ Some e
+            → e < length (slots_dictionary self.old.slots) }
         ensures moves { (set : Set) (l : Bounds) (strict : Bool) (waits : Reader Dictionary) → Moves S.takes S.stops
-            (reader_of strict (value_then set l node (value_at source (field_data field.now) (slots_dictionary self.old.slots) self.old.text.text piece.now) (field_data field.now) (slots_dictionary self.old.slots) self.old.counted self.old.cursor))
-            sink.old result sink.new (reader_of strict (going_on set l (slots_dictionary self.new.slots) self.new.counted self.new.cursor)) waits }
+            (reader_of strict (value_then set l node
+            (value_at source (field_data field.now) (slots_dictionary self.old.slots) self.old.text.text piece.now)
+            (field_data field.now) (slots_dictionary self.old.slots) self.old.counted self.old.cursor))
+            sink.old result sink.new
+            (reader_of strict (going_on set l (slots_dictionary self.new.slots) self.new.counted self.new.cursor))
+            waits }
         ensures past { OnOk result (IsPast self.old.cursor self.new.cursor) }
         ensures same { self.new ≡ record self.old { cursor = self.new.cursor } }
         ensures depth { self.new.cursor.depth ≡ self.old.cursor.depth }
@@ -160,8 +173,11 @@ impl<'t> Machine<'t> {
         requires bit { has_bit ≡ uses_bit (field_data field.now) }
         requires left { 0 < length self.old.cursor.left }
         ensures moves { (set : Set) (l : Bounds) (strict : Bool) (waits : Reader Dictionary) → Moves S.takes S.stops
-            (reader_of strict (value_then set l node (option_map number_data item) (field_data field.now) (slots_dictionary self.old.slots) self.old.counted self.old.cursor))
-            sink.old result sink.new (reader_of strict (going_on set l (slots_dictionary self.new.slots) self.new.counted self.new.cursor)) waits }
+            (reader_of strict (value_then set l node (option_map number_data item) (field_data field.now)
+            (slots_dictionary self.old.slots) self.old.counted self.old.cursor))
+            sink.old result sink.new
+            (reader_of strict (going_on set l (slots_dictionary self.new.slots) self.new.counted self.new.cursor))
+            waits }
         ensures past { OnOk result (IsPast self.old.cursor self.new.cursor) }
         ensures same { self.new ≡ record self.old { cursor = self.new.cursor } }
         ensures depth { self.new.cursor.depth ≡ self.old.cursor.depth }
@@ -196,9 +212,11 @@ impl<'t> Machine<'t> {
         requires turn { CanTurn (set_of templates.now) limits self.old }
         requires next { IsAtField (set_of templates.now) self.old.cursor node (field_data field.now) }
         requires serves { Serves (set_of templates.now).entries (slots_terms self.old.slots) (field_data field.now) }
-        ensures turn { IsTurn S.takes S.stops (set_of templates.now) limits (turning (set_of templates.now) limits self.old) sink.old result sink.new self.new }
+        ensures turn { IsTurn S.takes S.stops (set_of templates.now) limits
+            (turning (set_of templates.now) limits self.old) sink.old result sink.new self.new }
         ensures past { result ≡ Ok Turn.Silent → self.new.cursor.left ≡ drop 1 self.old.cursor.left }
-        ensures turns { (way : Way) (n : ℕ) → HasTurns way (set_of templates.now) limits 1 n self.old → HasTurnsBehind result way (set_of templates.now) limits n self.new }
+        ensures turns { (way : Way) (n : ℕ) → HasTurns way (set_of templates.now) limits 1 n self.old
+            → HasTurnsBehind result way (set_of templates.now) limits n self.new }
     {
         // The same call again and again: in each arm the compiler knows the operator, and folds all later looks at it.
         match field.operator {
@@ -227,9 +245,11 @@ impl<'t> Machine<'t> {
         requires turn { CanTurn (set_of templates.now) limits self.old }
         requires next { IsAtField (set_of templates.now) self.old.cursor node (field_data field.now) }
         requires serves { Serves (set_of templates.now).entries (slots_terms self.old.slots) (field_data field.now) }
-        ensures turn { IsTurn S.takes S.stops (set_of templates.now) limits (turning (set_of templates.now) limits self.old) sink.old result sink.new self.new }
+        ensures turn { IsTurn S.takes S.stops (set_of templates.now) limits
+            (turning (set_of templates.now) limits self.old) sink.old result sink.new self.new }
         ensures past { result ≡ Ok Turn.Silent → self.new.cursor.left ≡ drop 1 self.old.cursor.left }
-        ensures turns { (way : Way) (n : ℕ) → HasTurns way (set_of templates.now) limits 1 n self.old → HasTurnsBehind result way (set_of templates.now) limits n self.new }
+        ensures turns { (way : Way) (n : ℕ) → HasTurns way (set_of templates.now) limits 1 n self.old
+            → HasTurnsBehind result way (set_of templates.now) limits n self.new }
     {
         let has_bit = uses_bit(field);
         let bit = self.presence(field);
@@ -246,7 +266,8 @@ impl<'t> Machine<'t> {
     /// Waits for the first unit of a field.
     #[inline]
     fn wait_first(&mut self, field: &FieldInstruction)
-        ensures text { IsAsciiFirst (field_data field.now) → (self.new.waiting ≡ Waiting.Text) × (self.new.text.text ≡ []) }
+        ensures text { IsAsciiFirst (field_data field.now)
+            → (self.new.waiting ≡ Waiting.Text) × (self.new.text.text ≡ []) }
         ensures number { ¬ (IsAsciiFirst (field_data field.now)) → self.new.waiting ≡ Waiting.Field }
         ensures same { self.new ≡ record self.old { waiting = self.new.waiting; text = self.new.text } }
         ensures capacity { self.new.text.capacity ≡ self.old.text.capacity }
@@ -262,8 +283,10 @@ impl<'t> Machine<'t> {
     /// The value of a field, lent.
     #[inline(always)]
     pub fn value_of<'x>(&'x self, field: &'x FieldInstruction, source: Source) -> Option<Scalar<'x>>
-        requires entry { (e : ℕ) → (field_data field.now).entry ≡ Some e → e < length (slots_dictionary self.now.slots) }
-        ensures { option_map scalar_data result ≡ value_at source (field_data field.now) (slots_dictionary self.now.slots) self.now.text.text [] }
+        requires entry { (e : ℕ) → (field_data field.now).entry ≡ Some e
+            → e < length (slots_dictionary self.now.slots) }
+        ensures { option_map scalar_data result
+            ≡ value_at source (field_data field.now) (slots_dictionary self.now.slots) self.now.text.text [] }
     {
         value_at(&self.slots, field, self.text.as_slice(), &[], source)
     }
@@ -271,8 +294,10 @@ impl<'t> Machine<'t> {
     /// The integer that is a field's value, if it has one.
     #[inline(always)]
     pub fn integer_at(&self, field: &FieldInstruction, source: Source) -> Option<i128>
-        requires entry { (e : ℕ) → (field_data field.now).entry ≡ Some e → e < length (slots_dictionary self.now.slots) }
-        ensures { result ≡ option_map integer_of (value_at source (field_data field.now) (slots_dictionary self.now.slots) self.now.text.text []) }
+        requires entry { (e : ℕ) → (field_data field.now).entry ≡ Some e
+            → e < length (slots_dictionary self.now.slots) }
+        ensures { result ≡ option_map integer_of
+            (value_at source (field_data field.now) (slots_dictionary self.now.slots) self.now.text.text []) }
     {
         match self.value_of(field, source) {
             Some(value) => Some(integer_of(value)),
@@ -283,7 +308,9 @@ impl<'t> Machine<'t> {
     /// Uses the bit of a field, if it uses one.
     #[inline]
     pub fn use_bit_of(&mut self, field: &FieldInstruction)
-        ensures bits { bits_left self.new.cursor ≡ if uses_bit (field_data field.now) then later_bits (bits_left self.old.cursor) else bits_left self.old.cursor }
+        ensures bits { bits_left self.new.cursor
+            ≡ if uses_bit (field_data field.now) then later_bits (bits_left self.old.cursor)
+            else bits_left self.old.cursor }
         ensures same { self.new ≡ record self.old { cursor = record self.old.cursor { used = self.new.cursor.used } } }
     {
         if uses_bit(field) {
@@ -303,12 +330,17 @@ impl<'t> Machine<'t> {
         sink: &mut S,
     ) -> Result<Turn, FaultCode>
         requires turn { CanTurn (set_of templates.now) limits self.old }
-        requires next { IsAtParts (set_of templates.now) self.old.cursor node (field_data exponent.now) (field_data mantissa.now) }
-        requires exponent { Serves (set_of templates.now).entries (slots_terms self.old.slots) (field_data exponent.now) }
-        requires mantissa { Serves (set_of templates.now).entries (slots_terms self.old.slots) (field_data mantissa.now) }
-        ensures turn { IsTurn S.takes S.stops (set_of templates.now) limits (turning (set_of templates.now) limits self.old) sink.old result sink.new self.new }
+        requires next { IsAtParts (set_of templates.now) self.old.cursor node (field_data exponent.now)
+            (field_data mantissa.now) }
+        requires exponent { Serves (set_of templates.now).entries (slots_terms self.old.slots)
+            (field_data exponent.now) }
+        requires mantissa { Serves (set_of templates.now).entries (slots_terms self.old.slots)
+            (field_data mantissa.now) }
+        ensures turn { IsTurn S.takes S.stops (set_of templates.now) limits
+            (turning (set_of templates.now) limits self.old) sink.old result sink.new self.new }
         ensures past { result ≡ Ok Turn.Silent → self.new.cursor.left ≡ drop 1 self.old.cursor.left }
-        ensures turns { (way : Way) (n : ℕ) → HasTurns way (set_of templates.now) limits 1 n self.old → HasTurnsBehind result way (set_of templates.now) limits n self.new }
+        ensures turns { (way : Way) (n : ℕ) → HasTurns way (set_of templates.now) limits 1 n self.old
+            → HasTurnsBehind result way (set_of templates.now) limits n self.new }
     {
         let bit = self.presence(exponent);
         if needs_bytes(exponent, bit) {
@@ -336,14 +368,22 @@ impl<'t> Machine<'t> {
         sink: &mut S,
     ) -> Result<Turn, FaultCode>
         requires turn { CanTurn (set_of templates.now) limits self.old }
-        requires next { IsAtParts (set_of templates.now) self.old.cursor node (field_data exponent.now) (field_data mantissa.now) }
-        requires exponent { Serves (set_of templates.now).entries (slots_terms self.old.slots) (field_data exponent.now) }
-        requires mantissa { Serves (set_of templates.now).entries (slots_terms self.old.slots) (field_data mantissa.now) }
+        requires next { IsAtParts (set_of templates.now) self.old.cursor node (field_data exponent.now)
+            (field_data mantissa.now) }
+        requires exponent { Serves (set_of templates.now).entries (slots_terms self.old.slots)
+            (field_data exponent.now) }
+        requires mantissa { Serves (set_of templates.now).entries (slots_terms self.old.slots)
+            (field_data mantissa.now) }
         ensures turn { IsTurn S.takes S.stops (set_of templates.now) limits
-            (reader_of limits.strict (exponent_then (set_of templates.now) (bounds limits) node (value_at source (field_data exponent.now) (slots_dictionary self.old.slots) self.old.text.text []) (field_data exponent.now) (field_data mantissa.now) (slots_dictionary self.old.slots) self.old.counted self.old.cursor))
+            (reader_of limits.strict
+            (exponent_then (set_of templates.now) (bounds limits) node
+            (value_at source (field_data exponent.now) (slots_dictionary self.old.slots) self.old.text.text [])
+            (field_data exponent.now) (field_data mantissa.now) (slots_dictionary self.old.slots) self.old.counted
+            self.old.cursor))
             sink.old result sink.new self.new }
         ensures past { result ≡ Ok Turn.Silent → self.new.cursor.left ≡ drop 1 self.old.cursor.left }
-        ensures turns { (way : Way) (n : ℕ) → HasTurns way (set_of templates.now) limits 1 n self.old → HasTurnsBehind result way (set_of templates.now) limits n self.new }
+        ensures turns { (way : Way) (n : ℕ) → HasTurns way (set_of templates.now) limits 1 n self.old
+            → HasTurnsBehind result way (set_of templates.now) limits n self.new }
     {
         let value = self.integer_at(exponent, source);
         self.use_bit_of(exponent);
@@ -371,13 +411,19 @@ impl<'t> Machine<'t> {
         sink: &mut S,
     ) -> Result<Turn, FaultCode>
         requires turn { CanTurn (set_of templates.now) limits self.old }
-        requires next { (e : FieldData) × IsAtParts (set_of templates.now) self.old.cursor node e (field_data mantissa.now) }
-        requires mantissa { Serves (set_of templates.now).entries (slots_terms self.old.slots) (field_data mantissa.now) }
+        requires next { (e : FieldData)
+            × IsAtParts (set_of templates.now) self.old.cursor node e (field_data mantissa.now) }
+        requires mantissa { Serves (set_of templates.now).entries (slots_terms self.old.slots)
+            (field_data mantissa.now) }
         ensures turn { IsTurn S.takes S.stops (set_of templates.now) limits
-            (reader_of limits.strict (mantissa_then (bounds limits) (frames_in (set_of templates.now) self.old.cursor.frames) (body_in (set_of templates.now) self.old.cursor.left) (state_in (slots_dictionary self.old.slots) self.old.counted self.old.cursor) exponent))
+            (reader_of limits.strict
+            (mantissa_then (bounds limits) (frames_in (set_of templates.now) self.old.cursor.frames)
+            (body_in (set_of templates.now) self.old.cursor.left)
+            (state_in (slots_dictionary self.old.slots) self.old.counted self.old.cursor) exponent))
             sink.old result sink.new self.new }
         ensures past { result ≡ Ok Turn.Silent → self.new.cursor.left ≡ drop 1 self.old.cursor.left }
-        ensures turns { (way : Way) (n : ℕ) → HasTurns way (set_of templates.now) limits 1 n self.old → HasTurnsBehind result way (set_of templates.now) limits n self.new }
+        ensures turns { (way : Way) (n : ℕ) → HasTurns way (set_of templates.now) limits 1 n self.old
+            → HasTurnsBehind result way (set_of templates.now) limits n self.new }
     {
         let bit = self.presence(mantissa);
         if needs_bytes(mantissa, bit) {
@@ -401,10 +447,15 @@ impl<'t> Machine<'t> {
         sink: &mut S,
     ) -> Result<Turn, FaultCode>
         requires left { 0 < length self.old.cursor.left }
-        requires entry { (e : ℕ) → (field_data mantissa.now).entry ≡ Some e → e < length (slots_dictionary self.old.slots) }
+        requires entry { (e : ℕ) → (field_data mantissa.now).entry ≡ Some e
+            → e < length (slots_dictionary self.old.slots) }
         ensures moves { (set : Set) (l : Bounds) (strict : Bool) (waits : Reader Dictionary) → Moves S.takes S.stops
-            (reader_of strict (decimal_then set l node exponent (value_at source (field_data mantissa.now) (slots_dictionary self.old.slots) self.old.text.text []) (field_data mantissa.now) (slots_dictionary self.old.slots) self.old.counted self.old.cursor))
-            sink.old result sink.new (reader_of strict (going_on set l (slots_dictionary self.new.slots) self.new.counted self.new.cursor)) waits }
+            (reader_of strict (decimal_then set l node exponent
+            (value_at source (field_data mantissa.now) (slots_dictionary self.old.slots) self.old.text.text [])
+            (field_data mantissa.now) (slots_dictionary self.old.slots) self.old.counted self.old.cursor))
+            sink.old result sink.new
+            (reader_of strict (going_on set l (slots_dictionary self.new.slots) self.new.counted self.new.cursor))
+            waits }
         ensures past { OnOk result (IsPast self.old.cursor self.new.cursor) }
         ensures same { self.new ≡ record self.old { cursor = self.new.cursor } }
         ensures depth { self.new.cursor.depth ≡ self.old.cursor.depth }
@@ -443,11 +494,14 @@ impl<'t> Machine<'t> {
         requires turn { CanTurn (set_of templates.now) limits self.old }
         requires next { IsAtGroup (set_of templates.now) self.old.cursor node optional body.now }
         requires below { AreBelow (length (set_of templates.now).nodes) body.now }
-        requires width { slice_index self.old.widths.nodes.items node ≡ bits_of (body_in (set_of templates.now) body.now) }
+        requires width { slice_index self.old.widths.nodes.items node
+            ≡ bits_of (body_in (set_of templates.now) body.now) }
         requires node { node < length (set_of templates.now).nodes }
-        ensures turn { IsTurn S.takes S.stops (set_of templates.now) limits (turning (set_of templates.now) limits self.old) sink.old result sink.new self.new }
+        ensures turn { IsTurn S.takes S.stops (set_of templates.now) limits
+            (turning (set_of templates.now) limits self.old) sink.old result sink.new self.new }
         ensures past { result ≡ Ok Turn.Silent → self.new.cursor.left ≡ drop 1 self.old.cursor.left }
-        ensures turns { (way : Way) (n : ℕ) → HasTurns way (set_of templates.now) limits 1 n self.old → HasTurnsBehind result way (set_of templates.now) limits n self.new }
+        ensures turns { (way : Way) (n : ℕ) → HasTurns way (set_of templates.now) limits 1 n self.old
+            → HasTurnsBehind result way (set_of templates.now) limits n self.new }
     {
         if optional {
             let bit = self.cursor.bit();
@@ -468,7 +522,8 @@ impl<'t> Machine<'t> {
     #[inline(always)]
     fn open_segment(&mut self, width: usize) -> Turn
         requires map { self.old.cursor.map ≡ [] }
-        ensures waits { 0 < width → (result ≡ Turn.Waits) × (self.new ≡ record self.old { waiting = Waiting.SegmentMap width }) }
+        ensures waits { 0 < width
+            → (result ≡ Turn.Waits) × (self.new ≡ record self.old { waiting = Waiting.SegmentMap width }) }
         ensures goes_on { width ≡ 0 → (result ≡ Turn.Handed) × (self.new ≡ self.old) }
     {
         if width == 0 {
@@ -493,11 +548,14 @@ impl<'t> Machine<'t> {
         requires next { IsAtSequence (set_of templates.now) self.old.cursor node (field_data length.now) body.now }
         requires serves { Serves (set_of templates.now).entries (slots_terms self.old.slots) (field_data length.now) }
         requires below { AreBelow (list_length (set_of templates.now).nodes) body.now }
-        requires width { slice_index self.old.widths.nodes.items node ≡ bits_of (body_in (set_of templates.now) body.now) }
+        requires width { slice_index self.old.widths.nodes.items node
+            ≡ bits_of (body_in (set_of templates.now) body.now) }
         requires node { node < list_length (set_of templates.now).nodes }
-        ensures turn { IsTurn S.takes S.stops (set_of templates.now) limits (turning (set_of templates.now) limits self.old) sink.old result sink.new self.new }
+        ensures turn { IsTurn S.takes S.stops (set_of templates.now) limits
+            (turning (set_of templates.now) limits self.old) sink.old result sink.new self.new }
         ensures past { result ≡ Ok Turn.Silent → self.new.cursor.left ≡ drop 1 self.old.cursor.left }
-        ensures turns { (way : Way) (n : ℕ) → HasTurns way (set_of templates.now) limits 1 n self.old → HasTurnsBehind result way (set_of templates.now) limits n self.new }
+        ensures turns { (way : Way) (n : ℕ) → HasTurns way (set_of templates.now) limits 1 n self.old
+            → HasTurnsBehind result way (set_of templates.now) limits n self.new }
     {
         let bit = self.presence(length);
         if needs_bytes(length, bit) {
@@ -526,13 +584,18 @@ impl<'t> Machine<'t> {
         requires next { IsAtSequence (set_of templates.now) self.old.cursor node (field_data length.now) body.now }
         requires serves { Serves (set_of templates.now).entries (slots_terms self.old.slots) (field_data length.now) }
         requires below { AreBelow (list_length (set_of templates.now).nodes) body.now }
-        requires width { slice_index self.old.widths.nodes.items node ≡ bits_of (body_in (set_of templates.now) body.now) }
+        requires width { slice_index self.old.widths.nodes.items node
+            ≡ bits_of (body_in (set_of templates.now) body.now) }
         requires node { node < list_length (set_of templates.now).nodes }
         ensures turn { IsTurn S.takes S.stops (set_of templates.now) limits
-            (reader_of limits.strict (length_then (set_of templates.now) (bounds limits) node (value_at source (field_data length.now) (slots_dictionary self.old.slots) self.old.text.text []) (field_data length.now) body.now (slots_dictionary self.old.slots) self.old.counted self.old.cursor))
+            (reader_of limits.strict
+            (length_then (set_of templates.now) (bounds limits) node
+            (value_at source (field_data length.now) (slots_dictionary self.old.slots) self.old.text.text [])
+            (field_data length.now) body.now (slots_dictionary self.old.slots) self.old.counted self.old.cursor))
             sink.old result sink.new self.new }
         ensures past { result ≡ Ok Turn.Silent → self.new.cursor.left ≡ drop 1 self.old.cursor.left }
-        ensures turns { (way : Way) (n : ℕ) → HasTurns way (set_of templates.now) limits 1 n self.old → HasTurnsBehind result way (set_of templates.now) limits n self.new }
+        ensures turns { (way : Way) (n : ℕ) → HasTurns way (set_of templates.now) limits 1 n self.old
+            → HasTurnsBehind result way (set_of templates.now) limits n self.new }
     {
         let claimed = self.integer_at(length, source);
         self.use_bit_of(length);
@@ -564,13 +627,17 @@ impl<'t> Machine<'t> {
     ) -> Result<Turn, FaultCode>
         requires turn { CanTurn (set_of templates.now) limits self.old }
         requires below { AreBelow (length (set_of templates.now).nodes) body.now }
-        requires nested { suc (length self.old.cursor.frames) + body_depth (body_in (set_of templates.now) body.now) ≤ self.old.cursor.depth }
+        requires nested { suc (length self.old.cursor.frames) + body_depth (body_in (set_of templates.now) body.now)
+            ≤ self.old.cursor.depth }
         requires width { width ≡ bits_of (body_in (set_of templates.now) body.now) }
         ensures turn { IsTurn S.takes S.stops (set_of templates.now) limits
-            (reader_of limits.strict (elements_from (set_of templates.now) (bounds limits) count body.now (slots_dictionary self.old.slots) self.old.counted self.old.cursor))
+            (reader_of limits.strict
+            (elements_from (set_of templates.now) (bounds limits) count body.now (slots_dictionary self.old.slots)
+            self.old.counted self.old.cursor))
             sink.old result sink.new self.new }
         ensures on { result ≢ Ok Turn.Silent }
-        ensures turns { (way : Way) (n : ℕ) → HasTurnsFrom way (set_of templates.now) limits n count body.now self.old → HasTurnsBehind result way (set_of templates.now) limits n self.new }
+        ensures turns { (way : Way) (n : ℕ) → HasTurnsFrom way (set_of templates.now) limits n count body.now self.old
+            → HasTurnsBehind result way (set_of templates.now) limits n self.new }
     {
         if count == 0 {
             hand(sink, Event::SequenceEnd)?;
@@ -595,9 +662,11 @@ impl<'t> Machine<'t> {
     ) -> Result<Turn, FaultCode>
         requires turn { CanTurn (set_of templates.now) limits self.old }
         requires end { self.old.cursor.left ≡ [] }
-        ensures turn { IsTurn S.takes S.stops (set_of templates.now) limits (turning (set_of templates.now) limits self.old) sink.old result sink.new self.new }
+        ensures turn { IsTurn S.takes S.stops (set_of templates.now) limits
+            (turning (set_of templates.now) limits self.old) sink.old result sink.new self.new }
         ensures on { result ≢ Ok Turn.Silent }
-        ensures turns { (way : Way) (n : ℕ) → HasTurns way (set_of templates.now) limits 1 n self.old → HasTurnsBehind result way (set_of templates.now) limits n self.new }
+        ensures turns { (way : Way) (n : ℕ) → HasTurns way (set_of templates.now) limits 1 n self.old
+            → HasTurnsBehind result way (set_of templates.now) limits n self.new }
     {
         if self.cursor.is_outermost() {
             hand(sink, Event::MessageEnd)?;
@@ -633,9 +702,12 @@ impl<'t> Machine<'t> {
         sink: &mut S,
     ) -> Result<Turn, FaultCode>
         requires turn { CanTurn (set_of templates.now) limits self.old }
-        ensures turn { IsTurn S.takes S.stops (set_of templates.now) limits (turning (set_of templates.now) limits self.old) sink.old result sink.new self.new }
-        ensures past { result ≡ Ok Turn.Silent → (0 < length self.old.cursor.left) × (self.new.cursor.left ≡ drop 1 self.old.cursor.left) }
-        ensures turns { (way : Way) (n : ℕ) → HasTurns way (set_of templates.now) limits 0 n self.old → HasTurnsBehind result way (set_of templates.now) limits n self.new }
+        ensures turn { IsTurn S.takes S.stops (set_of templates.now) limits
+            (turning (set_of templates.now) limits self.old) sink.old result sink.new self.new }
+        ensures past { result ≡ Ok Turn.Silent
+            → (0 < length self.old.cursor.left) × (self.new.cursor.left ≡ drop 1 self.old.cursor.left) }
+        ensures turns { (way : Way) (n : ℕ) → HasTurns way (set_of templates.now) limits 0 n self.old
+            → HasTurnsBehind result way (set_of templates.now) limits n self.new }
     {
         self.turns = Turns::after(&self.turns);
         let Some(number) = self.cursor.next() else {
@@ -664,10 +736,12 @@ impl<'t> Machine<'t> {
         sink: &mut S,
     ) -> Result<(), FaultCode>
         requires turn { CanTurn (set_of templates.now) limits self.old }
-        ensures hands { Hands S.takes S.stops (turning (set_of templates.now) limits self.old) sink.old result sink.new (meaning (set_of templates.now) limits self.new) }
+        ensures hands { Hands S.takes S.stops (turning (set_of templates.now) limits self.old) sink.old result sink.new
+            (meaning (set_of templates.now) limits self.new) }
         ensures ready { OnOk result (IsReady (set_of templates.now) limits self.new) }
         ensures supplied { IsSupplied (set_of templates.now) limits self.new }
-        ensures turns { (way : Way) (n : ℕ) → HasTurns way (set_of templates.now) limits 0 n self.old → HasTurnsAfter result way (set_of templates.now) limits n self.new }
+        ensures turns { (way : Way) (n : ℕ) → HasTurns way (set_of templates.now) limits 0 n self.old
+            → HasTurnsAfter result way (set_of templates.now) limits n self.new }
     {
         'events: loop {
             'silent: loop {

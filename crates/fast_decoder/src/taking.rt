@@ -136,9 +136,13 @@ fn id_of(value: Option<Scalar<'_>>) -> Option<u128>
 /// The number of the template with an identifier, which is most likely the latest one's.
 #[inline]
 fn template_of(templates: &Templates, identifier: Option<u128>, latest: u32) -> Option<u32>
-    ensures some { IfSome result (λ i. (id : ℕ) × (t : Template) × (identifier ≡ Some id) × (slice_get (templates_of templates.now) i ≡ Some t) × (t.id ≡ Some id)
+    ensures some { IfSome result
+        (λ i. (id : ℕ) × (t : Template) × (identifier ≡ Some id) × (slice_get (templates_of templates.now) i ≡ Some t)
+        × (t.id ≡ Some id)
         × ((j : ℕ) (u : Template) → j < i → slice_get (templates_of templates.now) j ≡ Some u → u.id ≢ Some id)) }
-    ensures none { IfNone result ((id j : ℕ) (t : Template) → identifier ≡ Some id → slice_get (templates_of templates.now) j ≡ Some t → t.id ≢ Some id) }
+    ensures none { IfNone result
+        ((id j : ℕ) (t : Template) → identifier ≡ Some id → slice_get (templates_of templates.now) j ≡ Some t
+        → t.id ≢ Some id) }
 {
     let id = identifier?;
     if latest < templates.count() && has_id(templates.template(latest), id) {
@@ -153,9 +157,11 @@ fn template_of(templates: &Templates, identifier: Option<u128>, latest: u32) -> 
 /// The same where the identifier has more than 32 bits. No template has such a one: the walk says so without a promise of the set.
 #[cold]
 fn template_beyond(templates: &Templates, id: u128) -> Option<u32>
-    ensures some { IfSome result (λ i. (t : Template) × (slice_get (templates_of templates.now) i ≡ Some t) × (t.id ≡ Some id)
+    ensures some { IfSome result
+        (λ i. (t : Template) × (slice_get (templates_of templates.now) i ≡ Some t) × (t.id ≡ Some id)
         × ((j : ℕ) (u : Template) → j < i → slice_get (templates_of templates.now) j ≡ Some u → u.id ≢ Some id)) }
-    ensures none { IfNone result ((j : ℕ) (t : Template) → slice_get (templates_of templates.now) j ≡ Some t → t.id ≢ Some id) }
+    ensures none { IfNone result
+        ((j : ℕ) (t : Template) → slice_get (templates_of templates.now) j ≡ Some t → t.id ≢ Some id) }
 {
     for number in 0..templates.count() {
         if has_id(templates.template(number), id) {
@@ -168,7 +174,8 @@ fn template_beyond(templates: &Templates, id: u128) -> Option<u32>
 /// Forgets all entries but the identifier's, if the template says so.
 #[inline]
 fn reset_if(slots: &mut Slots, resets: bool)
-    ensures entries { slots_dictionary slots.new ≡ (if resets then reset (slots_dictionary slots.old) else slots_dictionary slots.old) }
+    ensures entries { slots_dictionary slots.new
+        ≡ (if resets then reset (slots_dictionary slots.old) else slots_dictionary slots.old) }
     ensures terms { slots_terms slots.new ≡ slots_terms slots.old }
 {
     if resets {
@@ -188,8 +195,12 @@ impl<'t> Machine<'t> {
         requires waits { self.old.waiting ≡ Waiting.Map }
         requires ready { IsReady (set_of templates.now) limits self.old }
         requires some { 0 < length rest.now }
-        ensures taken { IsTakenTo S.takes S.stops (set_of templates.now) limits (meaning (set_of templates.now) limits self.old) rest.now sink.old result.bytes result.turn sink.new self.new }
-        ensures turns { (way : Way) (n : ℕ) → self.old.turns.count + most_by way (tree_in (set_of templates.now)) limits ≤ n → HasTurnsBehind result.turn way (set_of templates.now) limits n self.new }
+        ensures taken { IsTakenTo S.takes S.stops (set_of templates.now) limits
+            (meaning (set_of templates.now) limits self.old) rest.now sink.old result.bytes result.turn sink.new
+            self.new }
+        ensures turns { (way : Way) (n : ℕ)
+            → self.old.turns.count + most_by way (tree_in (set_of templates.now)) limits ≤ n
+            → HasTurnsBehind result.turn way (set_of templates.now) limits n self.new }
     {
         match self.cursor.take_map(rest) {
             MapFront::Cut => Quick::cut(rest),
@@ -213,7 +224,9 @@ impl<'t> Machine<'t> {
         ensures turn { IsTurn S.takes S.stops (set_of templates.now) limits
             (mapped_reader (set_of templates.now) limits (slots_dictionary self.old.slots) self.old.cursor.map)
             sink.old result sink.new self.new }
-        ensures turns { (way : Way) (n : ℕ) → self.old.turns.count + most_by way (tree_in (set_of templates.now)) limits ≤ n → HasTurnsBehind result way (set_of templates.now) limits n self.new }
+        ensures turns { (way : Way) (n : ℕ)
+            → self.old.turns.count + most_by way (tree_in (set_of templates.now)) limits ≤ n
+            → HasTurnsBehind result way (set_of templates.now) limits n self.new }
     {
         if is_overlong(limits.strict, self.cursor.map()) {
             return Err(FaultCode::Stream(Code::R7));
@@ -239,9 +252,14 @@ impl<'t> Machine<'t> {
     ) -> Result<Turn, FaultCode>
         requires behind { IsBehindMap (set_of templates.now) limits self.old }
         ensures turn { IsTurn S.takes S.stops (set_of templates.now) limits
-            (reader_of limits.strict (identified_then (set_of templates.now) (bounds limits) (value_at source identifier (slots_dictionary self.old.slots) self.old.text.text piece.now) (slots_dictionary self.old.slots) self.old.cursor))
+            (reader_of limits.strict
+            (identified_then (set_of templates.now) (bounds limits)
+            (value_at source identifier (slots_dictionary self.old.slots) self.old.text.text piece.now)
+            (slots_dictionary self.old.slots) self.old.cursor))
             sink.old result sink.new self.new }
-        ensures turns { (way : Way) (n : ℕ) → self.old.turns.count + most_by way (tree_in (set_of templates.now)) limits ≤ n → HasTurnsBehind result way (set_of templates.now) limits n self.new }
+        ensures turns { (way : Way) (n : ℕ)
+            → self.old.turns.count + most_by way (tree_in (set_of templates.now)) limits ≤ n
+            → HasTurnsBehind result way (set_of templates.now) limits n self.new }
     {
         let text = self.text.as_slice();
         let value = value_at(&self.slots, &self.identifier, text, piece, source);
@@ -266,13 +284,18 @@ impl<'t> Machine<'t> {
     ) -> Result<Turn, FaultCode>
         requires behind { IsBehindMap (set_of templates.now) limits self.old }
         requires number { number < length (set_of templates.now).templates }
-        ensures turn { (t : Template) → slice_get (set_of templates.now).templates number ≡ Some t → IsTurn S.takes S.stops (set_of templates.now) limits
-            (reader_of limits.strict (message_of_then (bounds limits) number (template_data (instructions_from 0 (set_of templates.now).nodes) t) (state_past identifier (slots_dictionary self.old.slots) 0 self.old.cursor)))
+        ensures turn { (t : Template) → slice_get (set_of templates.now).templates number ≡ Some t
+            → IsTurn S.takes S.stops (set_of templates.now) limits
+            (reader_of limits.strict
+            (message_of_then (bounds limits) number (template_data (instructions_from 0 (set_of templates.now).nodes) t)
+            (state_past identifier (slots_dictionary self.old.slots) 0 self.old.cursor)))
             sink.old result sink.new self.new }
         ensures goes_on { GoesOn (set_of templates.now) limits self.new result }
         ensures supplied { IsSupplied (set_of templates.now) limits self.new }
         ensures on { result ≢ Ok Turn.Waits }
-        ensures turns { (way : Way) (n : ℕ) → self.old.turns.count + most_by way (tree_in (set_of templates.now)) limits ≤ n → HasTurnsBehind result way (set_of templates.now) limits n self.new }
+        ensures turns { (way : Way) (n : ℕ)
+            → self.old.turns.count + most_by way (tree_in (set_of templates.now)) limits ≤ n
+            → HasTurnsBehind result way (set_of templates.now) limits n self.new }
     {
         hand(sink, Event::MessageStart { template: number })?;
         let template = templates.template(number);
@@ -296,8 +319,12 @@ impl<'t> Machine<'t> {
         requires waits { self.old.waiting ≡ Waiting.Identifier }
         requires ready { IsReady (set_of templates.now) limits self.old }
         requires some { 0 < length rest.now }
-        ensures taken { IsTakenTo S.takes S.stops (set_of templates.now) limits (meaning (set_of templates.now) limits self.old) rest.now sink.old result.bytes result.turn sink.new self.new }
-        ensures turns { (way : Way) (n : ℕ) → self.old.turns.count + most_by way (tree_in (set_of templates.now)) limits ≤ n → HasTurnsBehind result.turn way (set_of templates.now) limits n self.new }
+        ensures taken { IsTakenTo S.takes S.stops (set_of templates.now) limits
+            (meaning (set_of templates.now) limits self.old) rest.now sink.old result.bytes result.turn sink.new
+            self.new }
+        ensures turns { (way : Way) (n : ℕ)
+            → self.old.turns.count + most_by way (tree_in (set_of templates.now)) limits ≤ n
+            → HasTurnsBehind result.turn way (set_of templates.now) limits n self.new }
     {
         match take_integer(
             &mut self.slots,
@@ -328,8 +355,11 @@ impl<'t> Machine<'t> {
         requires waits { self.old.waiting ≡ Waiting.SegmentMap width }
         requires ready { IsReady (set_of templates.now) limits self.old }
         requires some { 0 < length rest.now }
-        ensures taken { IsTakenTo S.takes S.stops (set_of templates.now) limits (meaning (set_of templates.now) limits self.old) rest.now sink.old result.bytes result.turn sink.new self.new }
-        ensures turns { (way : Way) (n : ℕ) → HasTurns way (set_of templates.now) limits 0 n self.old → HasTurnsBehind result.turn way (set_of templates.now) limits n self.new }
+        ensures taken { IsTakenTo S.takes S.stops (set_of templates.now) limits
+            (meaning (set_of templates.now) limits self.old) rest.now sink.old result.bytes result.turn sink.new
+            self.new }
+        ensures turns { (way : Way) (n : ℕ) → HasTurns way (set_of templates.now) limits 0 n self.old
+            → HasTurnsBehind result.turn way (set_of templates.now) limits n self.new }
     {
         match self.cursor.take_map(rest) {
             MapFront::Cut => Quick::cut(rest),
@@ -356,7 +386,8 @@ impl<'t> Machine<'t> {
         ensures turn { IsTurn S.takes S.stops (set_of templates.now) limits
             (segment_reader (set_of templates.now) limits self.old width)
             sink.old result sink.new self.new }
-        ensures turns { (way : Way) (n : ℕ) → HasTurns way (set_of templates.now) limits 0 n self.old → HasTurnsBehind result way (set_of templates.now) limits n self.new }
+        ensures turns { (way : Way) (n : ℕ) → HasTurns way (set_of templates.now) limits 0 n self.old
+            → HasTurnsBehind result way (set_of templates.now) limits n self.new }
     {
         if is_overlong(limits.strict, self.cursor.map()) {
             return Err(FaultCode::Stream(Code::R7));
@@ -378,8 +409,11 @@ impl<'t> Machine<'t> {
         requires waits { self.old.waiting ≡ Waiting.Field }
         requires ready { IsReady (set_of templates.now) limits self.old }
         requires some { 0 < length rest.now }
-        ensures taken { IsTakenTo S.takes S.stops (set_of templates.now) limits (meaning (set_of templates.now) limits self.old) rest.now sink.old result.bytes result.turn sink.new self.new }
-        ensures turns { (way : Way) (n : ℕ) → HasTurns way (set_of templates.now) limits 1 n self.old → HasTurnsBehind result.turn way (set_of templates.now) limits n self.new }
+        ensures taken { IsTakenTo S.takes S.stops (set_of templates.now) limits
+            (meaning (set_of templates.now) limits self.old) rest.now sink.old result.bytes result.turn sink.new
+            self.new }
+        ensures turns { (way : Way) (n : ℕ) → HasTurns way (set_of templates.now) limits 1 n self.old
+            → HasTurnsBehind result.turn way (set_of templates.now) limits n self.new }
     {
         let Some(number) = self.cursor.next() else {
             return Quick::cut(rest);
@@ -430,12 +464,18 @@ impl<'t> Machine<'t> {
         requires waits { self.old.waiting ≡ Waiting.Field }
         requires ready { IsReady (set_of templates.now) limits self.old }
         requires some { 0 < length rest.now }
-        requires next { IsAtParts (set_of templates.now) self.old.cursor node (field_data exponent.now) (field_data mantissa.now) }
-        requires exponent { Serves (set_of templates.now).entries (slots_terms self.old.slots) (field_data exponent.now) }
-        requires mantissa { Serves (set_of templates.now).entries (slots_terms self.old.slots) (field_data mantissa.now) }
+        requires next { IsAtParts (set_of templates.now) self.old.cursor node (field_data exponent.now)
+            (field_data mantissa.now) }
+        requires exponent { Serves (set_of templates.now).entries (slots_terms self.old.slots)
+            (field_data exponent.now) }
+        requires mantissa { Serves (set_of templates.now).entries (slots_terms self.old.slots)
+            (field_data mantissa.now) }
         requires kind { exponent.now.kind ≡ Kind.Int32 }
-        ensures taken { IsTakenTo S.takes S.stops (set_of templates.now) limits (meaning (set_of templates.now) limits self.old) rest.now sink.old result.bytes result.turn sink.new self.new }
-        ensures turns { (way : Way) (n : ℕ) → HasTurns way (set_of templates.now) limits 1 n self.old → HasTurnsBehind result.turn way (set_of templates.now) limits n self.new }
+        ensures taken { IsTakenTo S.takes S.stops (set_of templates.now) limits
+            (meaning (set_of templates.now) limits self.old) rest.now sink.old result.bytes result.turn sink.new
+            self.new }
+        ensures turns { (way : Way) (n : ℕ) → HasTurns way (set_of templates.now) limits 1 n self.old
+            → HasTurnsBehind result.turn way (set_of templates.now) limits n self.new }
     {
         match take_integer(
             &mut self.slots,
@@ -473,10 +513,14 @@ impl<'t> Machine<'t> {
         requires serves { Serves (set_of templates.now).entries (slots_terms self.old.slots) (field_data length.now) }
         requires kind { length.now.kind ≡ Kind.UInt32 }
         requires below { AreBelow (list_length (set_of templates.now).nodes) body.now }
-        requires width { slice_index self.old.widths.nodes.items node ≡ bits_of (body_in (set_of templates.now) body.now) }
+        requires width { slice_index self.old.widths.nodes.items node
+            ≡ bits_of (body_in (set_of templates.now) body.now) }
         requires node { node < list_length (set_of templates.now).nodes }
-        ensures taken { IsTakenTo S.takes S.stops (set_of templates.now) limits (meaning (set_of templates.now) limits self.old) rest.now sink.old result.bytes result.turn sink.new self.new }
-        ensures turns { (way : Way) (n : ℕ) → HasTurns way (set_of templates.now) limits 1 n self.old → HasTurnsBehind result.turn way (set_of templates.now) limits n self.new }
+        ensures taken { IsTakenTo S.takes S.stops (set_of templates.now) limits
+            (meaning (set_of templates.now) limits self.old) rest.now sink.old result.bytes result.turn sink.new
+            self.new }
+        ensures turns { (way : Way) (n : ℕ) → HasTurns way (set_of templates.now) limits 1 n self.old
+            → HasTurnsBehind result.turn way (set_of templates.now) limits n self.new }
     {
         match take_integer(
             &mut self.slots,
@@ -506,8 +550,11 @@ impl<'t> Machine<'t> {
         requires waits { self.old.waiting ≡ Waiting.Mantissa exponent }
         requires ready { IsReady (set_of templates.now) limits self.old }
         requires some { 0 < length rest.now }
-        ensures taken { IsTakenTo S.takes S.stops (set_of templates.now) limits (meaning (set_of templates.now) limits self.old) rest.now sink.old result.bytes result.turn sink.new self.new }
-        ensures turns { (way : Way) (n : ℕ) → HasTurns way (set_of templates.now) limits 1 n self.old → HasTurnsBehind result.turn way (set_of templates.now) limits n self.new }
+        ensures taken { IsTakenTo S.takes S.stops (set_of templates.now) limits
+            (meaning (set_of templates.now) limits self.old) rest.now sink.old result.bytes result.turn sink.new
+            self.new }
+        ensures turns { (way : Way) (n : ℕ) → HasTurns way (set_of templates.now) limits 1 n self.old
+            → HasTurnsBehind result.turn way (set_of templates.now) limits n self.new }
     {
         let Some(number) = self.cursor.next() else {
             return Quick::cut(rest);
@@ -542,8 +589,11 @@ impl<'t> Machine<'t> {
         requires waits { IsOfFieldLater self.old.waiting }
         requires ready { IsReady (set_of templates.now) limits self.old }
         requires some { 0 < length rest.now }
-        ensures taken { IsTakenTo S.takes S.stops (set_of templates.now) limits (meaning (set_of templates.now) limits self.old) rest.now sink.old result.bytes result.turn sink.new self.new }
-        ensures turns { (way : Way) (n : ℕ) → HasTurns way (set_of templates.now) limits 1 n self.old → HasTurnsBehind result.turn way (set_of templates.now) limits n self.new }
+        ensures taken { IsTakenTo S.takes S.stops (set_of templates.now) limits
+            (meaning (set_of templates.now) limits self.old) rest.now sink.old result.bytes result.turn sink.new
+            self.new }
+        ensures turns { (way : Way) (n : ℕ) → HasTurns way (set_of templates.now) limits 1 n self.old
+            → HasTurnsBehind result.turn way (set_of templates.now) limits n self.new }
     {
         let Some(number) = self.cursor.next() else {
             return Quick::cut(rest);
@@ -619,9 +669,13 @@ impl<'t> Machine<'t> {
         requires serves { Serves (set_of templates.now).entries (slots_terms self.old.slots) (field_data field.now) }
         requires progress { CanProgress (set_of templates.now) limits self.old (field_data field.now) progress }
         requires within { (step : Step) (n : ℕ) → progress ≡ Progress.Whole step n → n ≤ length rest.now }
-        ensures taken { (m : Machine) → IsReady (set_of templates.now) limits m → IsOfField m.waiting → 0 < length rest.now → IsScalarUnit limits m self.old (field_data field.now) rest.now progress
-            → IsTakenTo S.takes S.stops (set_of templates.now) limits (meaning (set_of templates.now) limits m) rest.now sink.old result.bytes result.turn sink.new self.new }
-        ensures turns { (way : Way) (n : ℕ) → IsOfField self.old.waiting → HasTurns way (set_of templates.now) limits 1 n self.old → HasTurnsBehind result.turn way (set_of templates.now) limits n self.new }
+        ensures taken { (m : Machine) → IsReady (set_of templates.now) limits m → IsOfField m.waiting
+            → 0 < length rest.now → IsScalarUnit limits m self.old (field_data field.now) rest.now progress
+            → IsTakenTo S.takes S.stops (set_of templates.now) limits (meaning (set_of templates.now) limits m) rest.now
+            sink.old result.bytes result.turn sink.new self.new }
+        ensures turns { (way : Way) (n : ℕ) → IsOfField self.old.waiting
+            → HasTurns way (set_of templates.now) limits 1 n self.old
+            → HasTurnsBehind result.turn way (set_of templates.now) limits n self.new }
     {
         match progress {
             Progress::Cut => Quick::cut(rest),
@@ -650,9 +704,11 @@ impl<'t> Machine<'t> {
         requires serves { Serves (set_of templates.now).entries (slots_terms self.old.slots) (field_data field.now) }
         requires step { CanStep (set_of templates.now) limits self.old (field_data field.now) step }
         ensures turn { IsTurn S.takes S.stops (set_of templates.now) limits
-            (reader_of limits.strict (step_then (set_of templates.now) limits node (field_data field.now) self.old piece.now step))
+            (reader_of limits.strict
+            (step_then (set_of templates.now) limits node (field_data field.now) self.old piece.now step))
             sink.old result sink.new self.new }
-        ensures turns { (way : Way) (n : ℕ) → HasTurns way (set_of templates.now) limits 1 n self.old → HasTurnsBehind result way (set_of templates.now) limits n self.new }
+        ensures turns { (way : Way) (n : ℕ) → HasTurns way (set_of templates.now) limits 1 n self.old
+            → HasTurnsBehind result way (set_of templates.now) limits n self.new }
     {
         match step {
             Step::Settled(source) => self.finish(node, field, source, piece, sink),
@@ -666,7 +722,8 @@ impl<'t> Machine<'t> {
     /// Waits for a later unit of a field.
     fn wait_behind(&mut self, field: &FieldInstruction, stage: Stage)
         ensures waits { self.new.waiting ≡ Waiting.Number stage × IsNumberStage (field_data field.now) stage
-            ⊎ self.new.waiting ≡ Waiting.Bytes stage × (self.new.text.text ≡ []) × ¬ (IsNumberStage (field_data field.now) stage) }
+            ⊎ self.new.waiting ≡ Waiting.Bytes stage × (self.new.text.text ≡ [])
+            × ¬ (IsNumberStage (field_data field.now) stage) }
         ensures same { self.new ≡ record self.old { waiting = self.new.waiting; text = self.new.text } }
         ensures capacity { self.new.text.capacity ≡ self.old.text.capacity }
     {
@@ -694,11 +751,14 @@ impl<'t> Machine<'t> {
     ) -> Result<(), FaultCode>
         requires supplied { IsSupplied (set_of templates.now) limits self.old }
         requires goes_on { GoesOn (set_of templates.now) limits self.old turn }
-        ensures hands { (r : Reader Dictionary) (s : S) → Moves S.takes S.stops r s turn sink.old (turning (set_of templates.now) limits self.old) (meaning (set_of templates.now) limits self.old)
+        ensures hands { (r : Reader Dictionary) (s : S)
+            → Moves S.takes S.stops r s turn sink.old (turning (set_of templates.now) limits self.old)
+            (meaning (set_of templates.now) limits self.old)
             → Hands S.takes S.stops r s result sink.new (meaning (set_of templates.now) limits self.new) }
         ensures ready { OnOk result (IsReady (set_of templates.now) limits self.new) }
         ensures supplied { IsSupplied (set_of templates.now) limits self.new }
-        ensures turns { (way : Way) (n : ℕ) → HasTurnsBehind turn way (set_of templates.now) limits n self.old → HasTurnsAfter result way (set_of templates.now) limits n self.new }
+        ensures turns { (way : Way) (n : ℕ) → HasTurnsBehind turn way (set_of templates.now) limits n self.old
+            → HasTurnsAfter result way (set_of templates.now) limits n self.new }
     {
         match turn {
             Err(code) => Err(code),
@@ -720,9 +780,13 @@ impl<'t> Machine<'t> {
     ) -> Quick
         requires ready { IsReady (set_of templates.now) limits self.old }
         requires some { 0 < length rest.now }
-        ensures taken { IsTakenTo S.takes S.stops (set_of templates.now) limits (meaning (set_of templates.now) limits self.old) rest.now sink.old result.bytes result.turn sink.new self.new }
+        ensures taken { IsTakenTo S.takes S.stops (set_of templates.now) limits
+            (meaning (set_of templates.now) limits self.old) rest.now sink.old result.bytes result.turn sink.new
+            self.new }
         ensures turns { (way : Way) (n : ℕ) → HasTurnsWaiting way (set_of templates.now) limits n self.old
-            → HasTurnsBehind result.turn way (set_of templates.now) limits (1 + n + turns_begun_at self.old.waiting self.old.cursor.map way (tree_in (set_of templates.now)) limits) self.new }
+            → HasTurnsBehind result.turn way (set_of templates.now) limits
+            (1 + n + turns_begun_at self.old.waiting self.old.cursor.map way (tree_in (set_of templates.now)) limits)
+            self.new }
     {
         self.turns = Turns::after(&self.turns);
         self.take_awaited(templates, limits, rest, sink)
@@ -739,9 +803,13 @@ impl<'t> Machine<'t> {
     ) -> Quick
         requires ready { IsReady (set_of templates.now) limits self.old }
         requires some { 0 < length rest.now }
-        ensures taken { IsTakenTo S.takes S.stops (set_of templates.now) limits (meaning (set_of templates.now) limits self.old) rest.now sink.old result.bytes result.turn sink.new self.new }
+        ensures taken { IsTakenTo S.takes S.stops (set_of templates.now) limits
+            (meaning (set_of templates.now) limits self.old) rest.now sink.old result.bytes result.turn sink.new
+            self.new }
         ensures turns { (way : Way) (n : ℕ) → HasTurnsWaiting way (set_of templates.now) limits n self.old
-            → HasTurnsBehind result.turn way (set_of templates.now) limits (n + turns_begun_at self.old.waiting self.old.cursor.map way (tree_in (set_of templates.now)) limits) self.new }
+            → HasTurnsBehind result.turn way (set_of templates.now) limits
+            (n + turns_begun_at self.old.waiting self.old.cursor.map way (tree_in (set_of templates.now)) limits)
+            self.new }
     {
         match self.waiting {
             Waiting::Field => self.take_other(templates, limits, rest, sink),
@@ -771,12 +839,16 @@ impl<'t> Machine<'t> {
         requires ready { IsReady (set_of templates.now) limits self.old }
         ensures within { result.bytes ≤ length piece.now }
         ensures all { IsOk result.outcome → result.bytes ≡ length piece.now }
-        ensures fed { Fed S.takes S.stops (tree_in (set_of templates.now)) limits (stood (meaning (set_of templates.now) limits self.old)) (take result.bytes piece.now)
+        ensures fed { Fed S.takes S.stops (tree_in (set_of templates.now)) limits
+            (stood (meaning (set_of templates.now) limits self.old)) (take result.bytes piece.now)
             sink.old result.outcome sink.new (stood (meaning (set_of templates.now) limits self.new)) }
         ensures ready { OnOk result.outcome (IsReady (set_of templates.now) limits self.new) }
         ensures supplied { IsSupplied (set_of templates.now) limits self.new }
-        ensures turns { (way : Way) → self.old.turns.count ≡ 0 → HasTurnsWaiting way (set_of templates.now) limits (most_by way (tree_in (set_of templates.now)) limits) self.old
-            → (self.new.turns.count ≤ result.bytes * (1 + most_by way (tree_in (set_of templates.now)) limits)) × OnOk result.outcome ((k : ℕ) × HasTurnsWaiting way (set_of templates.now) limits k self.new) }
+        ensures turns { (way : Way) → self.old.turns.count ≡ 0
+            → HasTurnsWaiting way (set_of templates.now) limits (most_by way (tree_in (set_of templates.now)) limits)
+            self.old
+            → (self.new.turns.count ≤ result.bytes * (1 + most_by way (tree_in (set_of templates.now)) limits))
+            × OnOk result.outcome ((k : ℕ) × HasTurnsWaiting way (set_of templates.now) limits k self.new) }
     {
         let mut bytes = 0;
         while bytes < piece.len() {

@@ -13,6 +13,7 @@ use Rattle.fast_tree.specs.Tree.{FieldData}
 use Rattle.fast_dict.specs.Dictionary.{PreviousData, undefined, empty, assigned}
 
 -- The value, or None for absent, and what the entry holds next.
+-- FAST 1.1: Template Definition, Dictionaries and Previous Values.
 pub record Outcome : Type 0 where
   pub value : Option ScalarData
   pub next : PreviousData
@@ -36,10 +37,12 @@ abbrev pub gives_none : PreviousData → Result Outcome Code
 gives_none p = Ok (record { value = None; next = p })
 
 -- A previous value of another kind than the field's is a fault.
+-- FAST 1.1: Error Codes, D4.
 abbrev pub of_kind : Kind → Kind → ScalarData → Result ScalarData Code
 of_kind kind found v = if same_kind kind found then Ok v else Err D4
 
 -- A Unicode text must be UTF-8.
+-- FAST 1.1: Error Codes, R2.
 abbrev pub checked_text : Kind → List ℕ → Result ScalarData Code
 checked_text Unicode v = if is_utf8 v then Ok (value_of_text Unicode v) else Err R2
 checked_text kind v = Ok (value_of_text kind v)
@@ -55,31 +58,37 @@ range_in decimals = exponent_range
 range_in texts = exponent_range
 
 -- the range of a kind of integers
+-- FAST 1.1: Template Definition, Primitive Field Types.
 abbrev pub range_of : Kind → Range
 range_of kind = range_in (family kind)
 
 -- Nothing is sent, and the entry holds no value of use: the initial value; without one an optional field is absent.
+-- FAST 1.1: Template Definition, Initial Value; Error Codes, D5.
 abbrev pub from_initial : Kind → Bool → Code → Option ScalarData → Result Outcome Code
 from_initial kind optional c (Some v) = keeps kind v
 from_initial kind true c None = gives_none empty
 from_initial kind false c None = Err c
 
 -- one more; after the greatest comes the least
+-- FAST 1.1: Template Definition, Increment Operator.
 abbrev pub incremented : Range → ℤ → ℤ
 incremented range x = if int_lt x range.high then x +ℤ pos 1 else range.low
 
 -- what copy, increment and tail make of an assigned previous value
+-- FAST 1.1: Template Definition, Copy, Increment and Tail Operators.
 abbrev pub next_value : Operator → Kind → ScalarData → ScalarData
 next_value Increment kind v = value_of_integer kind (incremented (range_of kind) (integer_of v))
 next_value operator kind v = v
 
 -- Copy, increment and tail where nothing is sent.
+-- FAST 1.1: Template Definition, Copy, Increment and Tail Operators; Error Codes, D5 and D6.
 abbrev pub unsent : FieldData → PreviousData → Result Outcome Code
 unsent f (assigned kind v) = of_kind f.kind kind v >>= (λ w. keeps f.kind (next_value f.operator f.kind w))
 unsent f undefined = from_initial f.kind f.optional D5 f.initial
 unsent f empty = from_initial f.kind f.optional D6 None
 
 -- A constant, and a default where nothing is sent, are the initial value; without one a default is absent.
+-- FAST 1.1: Template Definition, Constant and Default Operators.
 abbrev pub fixed : Option ScalarData → PreviousData → Result Outcome Code
 fixed (Some v) p = gives v p
 fixed None p = gives_none p
@@ -91,22 +100,26 @@ zero_in kind decimals = Dec (pos 0) (pos 0)
 zero_in kind texts = value_of_text kind []
 
 -- the base of a delta under an undefined entry
+-- FAST 1.1: Template Definition, Delta Operator.
 abbrev pub start_value : FieldData → ScalarData
 start_value f = unwrap_or f.initial (zero_in f.kind (family f.kind))
 
 -- the base of a delta, and of a tail
+-- FAST 1.1: Template Definition, Delta Operator; Error Codes, D6.
 abbrev pub delta_base : FieldData → PreviousData → Result ScalarData Code
 delta_base f (assigned kind v) = of_kind f.kind kind v
 delta_base f undefined = Ok (start_value f)
 delta_base f empty = Err D6
 
 -- the base of a tail
+-- FAST 1.1: Template Definition, Tail Operator.
 abbrev pub tail_base : FieldData → PreviousData → Result ScalarData Code
 tail_base f (assigned kind v) = of_kind f.kind kind v
 tail_base f undefined = Ok (start_value f)
 tail_base f empty = Ok (start_value f)
 
 -- A tail takes the place of the base's last items, one for one. Where the base has too few of them, the tail is all of the value.
+-- FAST 1.1: Template Definition, Tail Operator.
 abbrev pub with_tail : List ℕ → List ℕ → List ℕ
 with_tail base part = if nat_le (length part) (length base) then take (length base - length part) base ++ part else part
 
@@ -116,6 +129,7 @@ pub data Kept : Type 0 where
   prepend_to : List ℕ → Kept
 
 -- A length of k takes k items from the back; one of -k - 1 takes k from the front. There must be as many.
+-- FAST 1.1: Template Definition, Delta Operator; Error Codes, D7.
 abbrev pub kept_of : List ℕ → ℤ → Result Kept Code
 kept_of base (pos k) = if nat_le k (length base) then Ok (append_to (take (length base - k) base)) else Err D7
 kept_of base (negsuc k) = if nat_le k (length base) then Ok (prepend_to (drop k base)) else Err D7
@@ -126,32 +140,39 @@ kept_length (append_to v) = length v
 kept_length (prepend_to v) = length v
 
 -- the part on its side of what is kept
+-- FAST 1.1: Template Definition, Delta Operator.
 abbrev pub joined : Kept → List ℕ → List ℕ
 joined (append_to v) part = v ++ part
 joined (prepend_to v) part = part ++ v
 
 -- the steps of a delta: an integer's sum, a decimal's exponent and its mantissa, what is kept of a text, the text
+-- FAST 1.1: Template Definition, Delta Operator; Error Codes, D2.
 abbrev pub integer_step : FieldData → PreviousData → ℤ → Result Outcome Code
 integer_step f p k = delta_base f p >>= (λ base. ranged (range_of f.kind) D2 (integer_of base +ℤ k) >>= (λ x. keeps f.kind (value_of_integer f.kind x)))
 
 -- a decimal's exponent behind its delta
+-- FAST 1.1: Template Definition, Delta Operator; Error Codes, R1.
 abbrev pub exponent_step : FieldData → PreviousData → ℤ → Result ℤ Code
 exponent_step f p k = delta_base f p >>= (λ base. ranged exponent_range R1 (exponent_of base +ℤ k))
 
 -- a decimal behind its mantissa delta
+-- FAST 1.1: Template Definition, Delta Operator; Error Codes, R1.
 abbrev pub mantissa_step : FieldData → PreviousData → ℤ → ℤ → Result Outcome Code
 mantissa_step f p e k = delta_base f p >>= (λ base. ranged (signed_range 63) R1 (mantissa_of base +ℤ k) >>= (λ m. keeps f.kind (Dec e m)))
 
 -- what a subtraction length keeps of the base
+-- FAST 1.1: Template Definition, Delta Operator; Error Codes, D7.
 abbrev pub subtraction_step : FieldData → PreviousData → ℤ → Result Kept Code
 subtraction_step f p k = delta_base f p >>= (λ base. kept_of (text_of base) k)
 
 -- a text behind the part of its delta
+-- FAST 1.1: Template Definition, Delta Operator; Error Codes, R2.
 abbrev pub text_step : FieldData → Kept → List ℕ → Result Outcome Code
 text_step f kept part = checked_text f.kind (joined kept part) >>= keeps f.kind
 
 -- What was sent for a field: nothing, NULL, a value (of a tail, the tail), or a delta: of an integer, of a
 -- decimal, of a text with the length that it subtracts.
+-- FAST 1.1: Transfer Encoding, Field Instructions.
 pub data Sent : Type 0 where
   nothing : Sent
   null : Sent
@@ -172,21 +193,25 @@ checked f v = checked_in (family f.kind) f.kind v
 
 -- What is sent for a field, by its operator. NULL is absent: of copy, increment and tail it makes the entry empty, of
 -- a delta it leaves the entry as it is.
+-- FAST 1.1: Template Definition, Default Operator.
 abbrev pub sent_plain : FieldData → PreviousData → Sent → Result Outcome Code
 sent_plain f p (value v) = checked f v >>= (λ w. gives w p)
 sent_plain f p other = gives_none p
 
 -- a value that was sent under copy or increment
+-- FAST 1.1: Template Definition, Copy and Increment Operators.
 abbrev pub sent_kept : FieldData → Sent → Result Outcome Code
 sent_kept f (value v) = checked f v >>= keeps f.kind
 sent_kept f other = gives_none empty
 
 -- a tail that was sent
+-- FAST 1.1: Template Definition, Tail Operator.
 abbrev pub sent_tail : FieldData → PreviousData → Sent → Result Outcome Code
 sent_tail f p (value v) = tail_base f p >>= (λ base. checked_text f.kind (with_tail (text_of base) (text_of v)) >>= keeps f.kind)
 sent_tail f p other = gives_none empty
 
 -- a delta that was sent
+-- FAST 1.1: Template Definition, Delta Operator.
 abbrev pub sent_delta : FieldData → PreviousData → Sent → Result Outcome Code
 sent_delta f p (integer_delta k) = integer_step f p k
 sent_delta f p (decimal_delta k j) = exponent_step f p k >>= (λ e. mantissa_step f p e j)
@@ -194,6 +219,7 @@ sent_delta f p (text_delta k part) = subtraction_step f p k >>= (λ kept. text_s
 sent_delta f p other = gives_none p
 
 -- The table: operator, presence bit (taken as set where the instruction uses none), and what was sent.
+-- FAST 1.1: Template Definition, Field Operators.
 abbrev pub decide_by : Operator → Bool → FieldData → PreviousData → Sent → Result Outcome Code
 decide_by no_operator bit f p item = sent_plain f p item
 decide_by Constant true f p item = fixed f.initial p
@@ -209,6 +235,7 @@ decide_by Tail true f p item = sent_tail f p item
 decide_by Tail false f p item = unsent f p
 
 -- the value and what the entry holds next, or the fault, by previous value, bit and item
+-- FAST 1.1: Template Definition, Field Operators.
 abbrev pub decide : FieldData → PreviousData → Bool → Sent → Result Outcome Code
 decide f p bit item = decide_by f.operator bit f p item
 
@@ -242,9 +269,11 @@ IsItemBy operator true f item = IsPlainItem f item
 IsItemBy operator false f item = item ≡ nothing
 
 -- the item can stand for the field
+-- FAST 1.1: Transfer Encoding, Field Instructions.
 abbrev pub IsItemOf : FieldData → Bool → Sent → Type 0
 IsItemOf f bit item = IsItemBy f.operator bit f item
 
 -- Under the previous value p, the bit and what was sent give the value, or absence, and the next previous value.
+-- FAST 1.1: Template Definition, Field Operators.
 abbrev pub Op : FieldData → PreviousData → Bool → Sent → Option ScalarData → PreviousData → Type 0
 Op f p bit item v next = IsItemOf f bit item × (decide f p bit item ≡ Ok (record { value = v; next = next }))

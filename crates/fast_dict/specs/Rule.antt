@@ -61,6 +61,7 @@ abbrev pub GoesUnsent : FieldData → PreviousData → Option ScalarData → Typ
 GoesUnsent f p v = (next : PreviousData) × (uses_bit f ≡ true) × Op f p false nothing v next
 
 -- The bit is clear wherever that will do. Else it is set, and the value stands in the stream.
+-- FAST 1.1: Template Definition, Field Operators, read from the other side.
 abbrev pub Rule : FieldData → PreviousData → Option ScalarData → Bool → Sent → Type 0
 Rule f p v false item = GoesUnsent f p v × (item ≡ nothing)
 Rule f p v true item = ¬ (GoesUnsent f p v) × SentFor f p v item

@@ -50,7 +50,8 @@ impl Entry {
     /// The entry of a value under a kind, without the bytes of a text.
     #[inline(always)]
     pub fn of(kind: Kind, scalar: Scalar<'_>) -> Entry
-        ensures value { with_text result (text_of (scalar_data scalar.entry)) ≡ assigned kind (scalar_data scalar.entry) }
+        ensures value { with_text result (text_of (scalar_data scalar.entry))
+            ≡ assigned kind (scalar_data scalar.entry) }
         ensures size { text_length result ≡ length (text_of (scalar_data scalar.entry)) }
     {
         match scalar {

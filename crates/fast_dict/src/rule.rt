@@ -6,7 +6,6 @@ pub mod items;
 ghost use Rattle.std.specs.Prelude.{◌≡◌, ◌↔◌, Bool, true, IsTrue, IfSome, IfNone, option_map};
 ghost use Rattle.fast_value.specs.Values.{scalar_data};
 ghost use Rattle.fast_tree.specs.Nodes.{field_data};
-ghost use Rattle.fast_tree.specs.Tree.{uses_bit};
 ghost use Rattle.fast_dict.specs.Operators.{Sent as SentData};
 ghost use Rattle.fast_dict.specs.Previous.{previous_data};
 ghost use Rattle.fast_dict.specs.Rule.{Rule, GoesUnsent};
@@ -15,7 +14,7 @@ ghost use Rattle.fast_dict.specs.Sending.{sent_data};
 use crate::operators::{Sent, decide};
 use crate::previous::Previous;
 use common::is_same_value;
-use fast_tree::{FieldInstruction, Operator};
+use fast_tree::FieldInstruction;
 use fast_value::Scalar;
 use items::item_for;
 
@@ -59,22 +58,11 @@ fn goes_unsent<'p>(
     ensures { IsTrue result ↔ GoesUnsent (field_data field.now) (previous_data previous.entry)
         (option_map scalar_data value.entry) }
 {
-    if !uses_bit(field) {
+    if !field.uses_bit() {
         return false;
     }
     match decide(field, previous, false, Sent::Nothing) {
         Ok(outcome) => is_same_value(outcome.value, value),
         Err(_) => false,
-    }
-}
-
-/// Whether the instruction uses a presence bit.
-pub fn uses_bit(field: &FieldInstruction) -> bool
-    ensures { result ≡ uses_bit (field_data field.now) }
-{
-    match field.operator {
-        Operator::None | Operator::Delta => false,
-        Operator::Constant => field.optional,
-        Operator::Default | Operator::Copy | Operator::Increment | Operator::Tail => true,
     }
 }

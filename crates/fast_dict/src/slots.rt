@@ -46,7 +46,8 @@ impl Slots {
     /// Memory was refused.
     pub fn new(alloc: Global, takes_text: &[bool], max_text: usize) -> Result<Slots, AllocError>
         ensures entries { IfOk result (λ s. slots_dictionary s ≡ fresh (length takes_text.now)) }
-        ensures texts { IfOk result (λ s. (e : ℕ) → (slots_terms s).takes_text e ≡ slice_index_or takes_text.now e false) }
+        ensures texts { IfOk result (λ s. (e : ℕ)
+            → (slots_terms s).takes_text e ≡ slice_index_or takes_text.now e false) }
         ensures max_text { IfOk result (λ s. (slots_terms s).max_text ≡ max_text) }
     {
         let count = takes_text.iter().filter(|takes| **takes).count();
@@ -78,7 +79,8 @@ impl Slots {
     pub fn set_number(&mut self, entry: usize, held: Entry)
         requires there { entry < length (slots_dictionary self.old) }
         requires number { text_length held ≡ 0 }
-        ensures entry { slots_dictionary self.new ≡ write_at (Some entry) (with_text held []) (slots_dictionary self.old) }
+        ensures entry { slots_dictionary self.new
+            ≡ write_at (Some entry) (with_text held []) (slots_dictionary self.old) }
         ensures same { slots_terms self.new ≡ slots_terms self.old }
     {
         self.put(entry, held);
@@ -98,7 +100,8 @@ impl Slots {
     #[inline(always)]
     fn previous(&self, entry: usize) -> Previous<'_>
         requires { entry < vec_len self.now.entries }
-        ensures { previous_data result ≡ entry_data self.now.block.items (slice_index_or self.now.places.items entry None)
+        ensures { previous_data result ≡ entry_data self.now.block.items
+            (slice_index_or self.now.places.items entry None)
             (slice_index_or self.now.entries.items entry Undefined) }
     {
         match self.entry(entry) {
@@ -168,7 +171,8 @@ impl Slots {
         requires there { entry < vec_len self.old.entries }
         requires fits { length text.now ≤ self.old.max_text }
         requires takes { 0 < length text.now → IsTrue ((slots_terms self.old).takes_text entry) }
-        ensures text { text_in self.new.block.items (slice_index_or self.new.places.items entry None) (length text.now) ≡ text.now }
+        ensures text { text_in self.new.block.items (slice_index_or self.new.places.items entry None) (length text.now)
+            ≡ text.now }
         ensures others { (i size : ℕ) → i ≢ entry → size ≤ self.new.max_text
             → text_in self.new.block.items (slice_index_or self.new.places.items i None) size
             ≡ text_in self.old.block.items (slice_index_or self.old.places.items i None) size }
@@ -304,7 +308,8 @@ fn places_of(alloc: Global, marks: &[bool], size: usize) -> Result<Vec<Option<us
 /// Writes the text into the block at the place.
 fn copy_into(block: &mut Vec<u8>, place: usize, text: &[u8])
     requires { place + length text.now ≤ vec_len block.old }
-    ensures items { block.new.items ≡ take place block.old.items ++ text.now ++ drop (place + length text.now) block.old.items }
+    ensures items { block.new.items ≡ take place block.old.items ++ text.now
+        ++ drop (place + length text.now) block.old.items }
     ensures len { vec_len block.new ≡ vec_len block.old }
 {
     block[place..place + text.len()].copy_from_slice(text);

@@ -64,9 +64,12 @@ impl<'t> Encoder<'t> {
         templates: &'t Templates,
         limits: Limits,
     ) -> Result<Encoder<'t>, MakeError>
-        ensures made { IfOk result (λ e. (tree e ≡ tree_of templates.entry.now) × (e.limits ≡ limits) × (e.dictionary ≡ fresh (tree_of templates.entry.now).entries)) }
+        ensures made { IfOk result
+            (λ e. (tree e ≡ tree_of templates.entry.now) × (e.limits ≡ limits)
+            × (e.dictionary ≡ fresh (tree_of templates.entry.now).entries)) }
         ensures bad_limits { (result ≡ Err MakeError.BadLimits) ↔ (AreBadLimits limits) }
-        ensures long_initial { (result ≡ Err MakeError.InitialTooLong) ↔ (¬ (AreBadLimits limits) × HasLongInitial limits.max_text (nodes_of templates.entry.now)) }
+        ensures long_initial { (result ≡ Err MakeError.InitialTooLong)
+            ↔ (¬ (AreBadLimits limits) × HasLongInitial limits.max_text (nodes_of templates.entry.now)) }
     {
         if limits.max_text < MIN_TEXT || limits.max_text > MAX_TEXT {
             return Err(MakeError::BadLimits);
@@ -107,7 +110,9 @@ impl<'t> Encoder<'t> {
         ensures ok { OnOk result (IsEncoded self.old (message_data message.now) out.old.items self.new out.new.items) }
         ensures err { IfErr result (IsToldOf self.old (message_data message.now)) }
         // A fault that stands is told, unless memory was refused.
-        ensures told { (c : EncodeFault) → IsRefused (tree self.old) self.old.limits self.old.dictionary (message_data message.now) c → (result ≡ Err c) ⊎ (result ≡ Err EncodeFault.Memory) }
+        ensures told { (c : EncodeFault)
+            → IsRefused (tree self.old) self.old.limits self.old.dictionary (message_data message.now) c
+            → (result ≡ Err c) ⊎ (result ≡ Err EncodeFault.Memory) }
         ensures unchanged { OnErr result ((self.new ≡ self.old) × (out.new.items ≡ out.old.items)) }
         ensures same_set { (self.new.set ≡ self.old.set) × (self.new.limits ≡ self.old.limits) }
     {
@@ -121,7 +126,8 @@ impl<'t> Encoder<'t> {
     /// and which fault comes first is not said.
     #[inline(always)]
     fn try_encode(&mut self, message: &Message, out: &mut Vec<u8>) -> bool
-        ensures encoded { IsTrue result → IsEncoded self.old (message_data message.now) out.old.items self.new out.new.items }
+        ensures encoded { IsTrue result
+            → IsEncoded self.old (message_data message.now) out.old.items self.new out.new.items }
         ensures unchanged { IsFalse result → (self.new ≡ self.old) × (out.new.items ≡ out.old.items) }
         ensures same_set { (self.new.set ≡ self.old.set) × (self.new.limits ≡ self.old.limits) }
     {
@@ -157,7 +163,9 @@ impl<'t> Encoder<'t> {
     fn encode_in_order(&mut self, message: &Message, out: &mut Vec<u8>) -> Result<(), EncodeFault>
         ensures ok { OnOk result (IsEncoded self.old (message_data message.now) out.old.items self.new out.new.items) }
         ensures err { IfErr result (IsToldOf self.old (message_data message.now)) }
-        ensures told { (c : EncodeFault) → IsRefused (tree self.old) self.old.limits self.old.dictionary (message_data message.now) c → (result ≡ Err c) ⊎ (result ≡ Err EncodeFault.Memory) }
+        ensures told { (c : EncodeFault)
+            → IsRefused (tree self.old) self.old.limits self.old.dictionary (message_data message.now) c
+            → (result ≡ Err c) ⊎ (result ≡ Err EncodeFault.Memory) }
         ensures unchanged { OnErr result ((self.new ≡ self.old) × (out.new.items ≡ out.old.items)) }
         ensures same_set { (self.new.set ≡ self.old.set) × (self.new.limits ≡ self.old.limits) }
     {

@@ -19,9 +19,11 @@ pub use fast_stream::laws::read_back;
 /// what it wrote, and a sink that does not stop (`from` before the feed, `to` behind it), they do so again, and the sink took the
 /// message's events. Of the two calls no more is used than what their contracts say.
 pub fn reading_back<S: Sink>(from: &S, to: &S)
-    ensures { (e f : EncoderData) (d g : DecoderData) (m : MessageData) (out longer w : List ℕ) (es : List EventData) (r : Result Unit Fault)
+    ensures { (e f : EncoderData) (d g : DecoderData) (m : MessageData) (out longer w : List ℕ) (es : List EventData)
+        (r : Result Unit Fault)
         → AreLevel e d w es → (written : IsEncoded e m out f longer) → (tree f ≡ tree e) → (f.limits ≡ e.limits)
         → NeverStops S.stops → d.consumed + length written.bytes < 2 ^ 64
-        → Carried S.takes S.stops d w es written.bytes from.now r g to.now → r ≡ answer g.fault → (decoded_tree g ≡ decoded_tree d) → (g.limits ≡ d.limits)
+        → Carried S.takes S.stops d w es written.bytes from.now r g to.now → r ≡ answer g.fault
+        → (decoded_tree g ≡ decoded_tree d) → (g.limits ≡ d.limits)
         → IsReadBack S.takes m written.bytes w es from.now r f g to.now }
 {}

@@ -7,7 +7,7 @@ mod keys;
 pub mod notes;
 mod places;
 mod shapes;
-pub mod sights;
+mod sights;
 mod sizes;
 pub mod streams;
 pub mod tails;
@@ -16,7 +16,6 @@ mod uses;
 mod walks;
 
 pub use notes::{NOTE_ROOM, Note};
-pub use sights::Seen;
 pub use streams::explain_stream;
 pub use tails::Kept;
 pub use templates::explain_templates;

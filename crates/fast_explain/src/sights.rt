@@ -1,129 +1,213 @@
-//! What was shown last, to tell in which message and behind which field a stream is at fault.
-
-ghost use Rattle.std.specs.Prelude.{◌≡◌};
+//! A second decoder of what is read: it stands at the end where the first one does, and tells at which field.
 
 use crate::notes::{Note, Quoted};
-use arrayvec::ArrayString;
-use fast_text::{Failed, Target};
+use crate::tails::{is_digit, value_of};
+use arrayvec::ArrayVec;
+use fast_decoder::{Decoder, Due, Event, FaultCode, Sink, Stop};
+use fast_template::Templates;
+use fast_tree::{Node, Shape, Template};
+use fast_value::{Code, Limits};
+use std::alloc::Global;
 use std::fmt::Write;
 
-/// How many bytes of a line are kept: more than its words and a name have.
-const LINE: usize = 128;
+/// How many groups and sequences nest at most.
+const DEPTH: usize = 64;
 
-/// The lines that were written last.
+/// A sink that knows which message is in hand, and which groups and sequences of it are open.
 #[derive(Drop)]
-struct Lines {
-    /// The front of the line that is being written.
-    line: ArrayString<LINE>,
-    /// The name of the message in hand, if one is.
-    message: Option<ArrayString<LINE>>,
-    /// What came last in it: a field, a group, a sequence or an end.
-    last: ArrayString<LINE>,
+struct Hearer {
+    /// The number of its template, if one is.
+    template: Option<u32>,
+    /// The nodes of what is open, the outermost first.
+    open: ArrayVec<u32, DEPTH>,
 }
 
-/// A writer of which it is known what was shown last. It takes what the inner one takes.
+impl Sink for Hearer {
+    ghost takes = { λ _ _ _. Unit {0} };
+
+    ghost stops = { λ _ _ _. Unit {0} };
+
+    fn take(&mut self, event: Event<'_>) -> Result<(), Stop> {
+        match event {
+            Event::MessageStart { template } => self.template = Some(template),
+            Event::MessageEnd => self.template = None,
+            Event::GroupStart { node } | Event::SequenceStart { node, .. } => {
+                let _ = self.open.try_push(node);
+            }
+            Event::GroupEnd | Event::SequenceEnd => {
+                let _ = self.open.pop();
+            }
+            Event::Field { .. } | Event::ElementStart | Event::ElementEnd => {}
+        }
+        Ok(())
+    }
+}
+
+/// A decoder that is fed what another one is.
 #[derive(Drop)]
-pub struct Seen<T> {
-    inner: T,
-    lines: Lines,
+pub(crate) struct Shadow<'t> {
+    templates: &'t Templates,
+    decoder: Decoder<'t>,
+    hearer: Hearer,
+    /// The first digit of a byte whose second has not come.
+    half: Option<u8>,
 }
 
-/// The first words of a line, as many as there are up to a number of them.
-fn first_words(line: &str, count: usize) -> ArrayString<LINE> {
-    let mut words = ArrayString::new();
-    for (k, word) in line.split(' ').enumerate() {
-        if k == count {
-            break;
-        }
-        let _ = write!(words, "{}{word}", if k == 0 { "" } else { " " });
-    }
-    words
+/// Whether a code is one of presence maps.
+fn is_of_maps(code: FaultCode) -> bool {
+    matches!(code, FaultCode::Stream(Code::R7 | Code::R8 | Code::L3))
 }
 
-impl Lines {
-    /// Takes note of a whole line.
-    fn note_line(&mut self) {
-        let line = self.line.as_str();
-        if let Some(name) = line.strip_prefix("message ") {
-            self.message = Some(first_words(name, 1));
-            self.last = ArrayString::new();
-        } else if line == "end message" {
-            self.message = None;
-            self.last = ArrayString::new();
-        } else if !line.starts_with("fault ") && !line.starts_with("truncated ") {
-            self.last = first_words(line, 3);
+/// Whether a code is one of sequences with too many elements.
+fn is_of_counts(code: FaultCode) -> bool {
+    matches!(code, FaultCode::Stream(Code::L2 | Code::L5))
+}
+
+/// The nodes of the segment within a node.
+fn body_of(node: &Node) -> &[u32] {
+    match &node.shape {
+        Shape::Field(_) | Shape::Decimal { .. } => &[],
+        Shape::Group { body, .. } | Shape::Sequence { body, .. } => body.as_slice(),
+    }
+}
+
+/// The last node of a segment before another one, or of all.
+fn last_before(body: &[u32], next: Option<u32>) -> Option<u32> {
+    let mut last = None;
+    for number in body {
+        if next.is_none_or(|next| *number < next) {
+            last = Some(*number);
         }
-        self.line = ArrayString::new();
+    }
+    last
+}
+
+/// Tells a node.
+fn tell_node(number: u32, node: &Node, note: &mut Note) {
+    let word = match &node.shape {
+        Shape::Field(_) | Shape::Decimal { .. } => "field",
+        Shape::Group { .. } => "group",
+        Shape::Sequence { .. } => "sequence",
+    };
+    let name = Quoted(node.name.as_str());
+    let _ = write!(note, ", {word} {number} {name}");
+}
+
+impl<'t> Shadow<'t> {
+    /// A decoder before the first byte, if there is memory for one.
+    pub(crate) fn new(
+        alloc: Global,
+        templates: &'t Templates,
+        limits: Limits,
+    ) -> Option<Shadow<'t>> {
+        match Decoder::new(alloc, templates, limits) {
+            Err(_) => None,
+            Ok(decoder) => Some(Shadow {
+                templates,
+                decoder,
+                hearer: Hearer {
+                    template: None,
+                    open: ArrayVec::new(),
+                },
+                half: None,
+            }),
+        }
     }
 
-    /// Takes note of a piece of the lines.
-    fn take(&mut self, piece: &[u8]) {
-        for byte in piece {
-            if *byte == b'\n' {
-                self.note_line();
-            } else {
-                let _ = self.line.write_char(char::from(*byte));
+    /// Takes bytes of the stream.
+    pub(crate) fn take(&mut self, bytes: &[u8]) {
+        let _ = self.decoder.feed(bytes, &mut self.hearer);
+    }
+
+    /// Takes bytes of the stream as hexadecimal digits.
+    pub(crate) fn take_digits(&mut self, text: &[u8]) {
+        for character in text {
+            if is_digit(*character) {
+                let value = value_of(*character);
+                match self.half {
+                    None => self.half = Some(value),
+                    Some(high) => {
+                        self.half = None;
+                        self.take(&[high << 4 | value]);
+                    }
+                }
             }
         }
     }
-}
 
-impl<T> Seen<T> {
-    ghost use Rattle.fast_explain.specs.Listening.{writer_of};
+    /// The nodes of the innermost segment, of which this is the template.
+    fn segment<'a>(&'a self, template: &'a Template) -> &'a [u32] {
+        if let Some(number) = self.hearer.open.last().copied() {
+            if number < self.templates.nodes() {
+                return body_of(self.templates.node(number));
+            }
+        }
+        template.body.as_slice()
+    }
 
-    /// The writer, to which nothing was written.
-    pub fn new(inner: T) -> Seen<T>
-        ensures { writer_of result ≡ inner }
-    {
-        Seen {
-            inner,
-            lines: Lines {
-                line: ArrayString::new(),
-                message: None,
-                last: ArrayString::new(),
-            },
+    /// Tells a node, if the set has it.
+    fn tell_number(&self, number: u32, note: &mut Note) {
+        if number < self.templates.nodes() {
+            tell_node(number, self.templates.node(number), note);
         }
     }
 
-    /// Tells which message was in hand, and what was shown of it last.
-    pub fn tell_last(&self, note: &mut Note) {
-        let last = self.lines.last.as_str();
-        let _ = match &self.lines.message {
-            None => writeln!(note, "  at the head of a message"),
-            Some(name) if last.is_empty() => {
-                writeln!(
-                    note,
-                    "  template {}, before its first value",
-                    Quoted(name.as_str())
-                )
+    /// Tells what of a message of this template is at fault with this code, or cut: the groups and sequences that are open, and what is
+    /// in hand of the innermost one.
+    fn tell_way(&self, template: &Template, code: Option<FaultCode>, note: &mut Note) {
+        let _ = write!(note, "  template {}", Quoted(template.name.as_str()));
+        for number in self.hearer.open.iter() {
+            self.tell_number(*number, note);
+        }
+        let next = match self.decoder.in_hand() {
+            Due::SegmentMap => {
+                let _ = note.write_str(", its presence map");
+                return;
             }
-            Some(name) => writeln!(note, "  template {}, behind {last}", Quoted(name.as_str())),
+            Due::Instruction(number) => Some(number),
+            Due::Nothing => None,
         };
-    }
-}
-
-impl<T: Target> Target for Seen<T> {
-    ghost use Rattle.fast_explain.specs.Listening.{writer_of};
-
-    ghost written = { λ s. T.written (writer_of s) };
-
-    ghost has_failed = { λ s. T.has_failed (writer_of s) };
-
-    fn write(&mut self, piece: &[u8]) -> Result<usize, Failed> {
-        match self.inner.write(piece) {
-            Ok(count) => {
-                self.lines.take(&piece[..count]);
-                Ok(count)
-            }
-            Err(failed) => Err(failed),
+        if code.is_some_and(is_of_maps) {
+            let _ = note.write_str(", its presence map");
+            return;
+        }
+        // A sequence that is too long has been passed.
+        let place = if code.is_some_and(is_of_counts) {
+            last_before((&*self).segment(&*template), next)
+        } else {
+            next
+        };
+        if let Some(number) = place {
+            self.tell_number(number, note);
         }
     }
 
-    fn flush(&mut self) -> Result<(), Failed> {
-        self.inner.flush()
+    /// The template of the message in hand, if one is.
+    fn template(&self) -> Option<&Template> {
+        let number = self.hearer.template?;
+        if number < self.templates.count() {
+            return Some(self.templates.template(number));
+        }
+        None
     }
 
-    fn failed(&self) -> bool {
-        self.inner.failed()
+    /// Tells what is at fault with this code, or what is cut: a field, or a presence map.
+    pub(crate) fn tell_place(&self, code: Option<FaultCode>, note: &mut Note) {
+        match (self.template(), code) {
+            (Some(template), _) => self.tell_way(template, code, note),
+            (None, None) => {
+                let _ = note.write_str(
+                    "  the presence map or the template identifier of a message",
+                );
+            }
+            (None, Some(code)) => {
+                let _ = note.write_str(if is_of_maps(code) {
+                    "  the presence map of a message"
+                } else {
+                    "  the template identifier of a message"
+                });
+            }
+        }
+        let _ = writeln!(note);
     }
 }

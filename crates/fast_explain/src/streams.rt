@@ -3,19 +3,13 @@
 ghost use Rattle.std.specs.Prelude.{◌≤◌, length};
 
 use crate::notes::{NOTE_ROOM, Note};
-use crate::sights::Seen;
 use crate::tails::Kept;
 use fast_stream::FaultCode;
 use std::fmt::Write;
 
-/// Says of a stream in words what is wrong behind so many bytes of it, in which message and behind which of its values, and which bytes stand
-/// there. Without a code the stream ends inside a message.
-pub fn explain_stream<S, T>(
-    code: Option<FaultCode>,
-    consumed: u64,
-    reader: &Kept<S>,
-    writer: &Seen<T>,
-) -> Note
+/// Says of a stream in words what is wrong behind so many bytes of it, in which field of which message, and which bytes stand there.
+/// Without a code the stream ends inside a message.
+pub fn explain_stream<S>(code: Option<FaultCode>, consumed: u64, reader: &Kept<'_, S>) -> Note
     ensures { length result.bytes ≤ NOTE_ROOM }
 {
     let mut note = Note::new();
@@ -23,7 +17,7 @@ pub fn explain_stream<S, T>(
         Some(code) => writeln!(note, "  {code}"),
         None => writeln!(note, "  the stream ends inside a message"),
     };
-    writer.tell_last(&mut note);
+    reader.tell_place(code, &mut note);
     reader.tell_bytes(consumed, &mut note);
     prove!(note.len() <= NOTE_ROOM);
     note

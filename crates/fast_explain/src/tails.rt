@@ -1,9 +1,14 @@
-//! What a reader has given last, to tell the bytes around a place of a stream.
+//! What a reader has given: its last bytes, and where all of them have led.
 
 ghost use Rattle.std.specs.Prelude.{◌≡◌};
 
 use crate::notes::Note;
+use crate::sights::Shadow;
+use fast_stream::FaultCode;
+use fast_template::Templates;
 use fast_text::{Failed, Source};
+use fast_value::Limits;
+use std::alloc::Global;
 use std::fmt::Write;
 
 /// How many bytes are kept: more than two reads give.
@@ -23,19 +28,20 @@ struct Tail {
     count: u64,
     /// How many digits were dropped, where the input is hexadecimal.
     dropped: u64,
-    is_kept: bool,
     is_hex: bool,
 }
 
-/// A reader whose last bytes are kept. It gives what the inner one gives.
+/// A reader whose last bytes are kept, and decoded a second time. It gives what the inner one gives.
 #[derive(Drop)]
-pub struct Kept<S> {
+pub struct Kept<'t, S> {
     inner: S,
     tail: Tail,
+    /// The second decoder, if there was memory for one.
+    shadow: Option<Shadow<'t>>,
 }
 
 /// Whether a character is a hexadecimal digit.
-fn is_digit(character: u8) -> bool {
+pub(crate) fn is_digit(character: u8) -> bool {
     matches!(character, b'0'..=b'9' | b'a'..=b'f' | b'A'..=b'F')
 }
 
@@ -54,10 +60,8 @@ impl Tail {
 
     /// Takes in a piece.
     fn take(&mut self, piece: &[u8]) {
-        if self.is_kept {
-            for byte in piece {
-                self.push(*byte);
-            }
+        for byte in piece {
+            self.push(*byte);
         }
     }
 
@@ -85,7 +89,7 @@ impl Tail {
 }
 
 /// The value of a hexadecimal digit.
-fn value_of(character: u8) -> u8 {
+pub(crate) fn value_of(character: u8) -> u8 {
     match character {
         b'0'..=b'9' => character - b'0',
         b'a'..=b'f' => character - b'a' + 10,
@@ -111,11 +115,17 @@ fn tell_digit(note: &mut Note, number: u64, place: u64, is_last: bool, digit: u8
     }
 }
 
-impl<S> Kept<S> {
+impl<'t, S> Kept<'t, S> {
     ghost use Rattle.fast_explain.specs.Listening.{reader_of};
 
-    /// The reader, of which nothing was read. Nothing is kept of it if it is not to be.
-    pub fn new(inner: S, is_kept: bool, is_hex: bool) -> Kept<S>
+    /// The reader, of which nothing was read, of a stream of these templates, or of its hexadecimal digits.
+    pub fn new(
+        alloc: Global,
+        inner: S,
+        templates: &'t Templates,
+        limits: Limits,
+        is_hex: bool,
+    ) -> Kept<'t, S>
         ensures { reader_of result ≡ inner }
     {
         Kept {
@@ -124,9 +134,30 @@ impl<S> Kept<S> {
                 cells: [0; KEPT],
                 count: 0,
                 dropped: 0,
-                is_kept,
                 is_hex,
             },
+            shadow: Shadow::new(alloc, templates, limits),
+        }
+    }
+
+    /// Takes note of a piece.
+    fn note(&mut self, piece: &[u8])
+        ensures { reader_of self.new ≡ reader_of self.old }
+    {
+        self.tail.take(piece);
+        if let Some(shadow) = &mut self.shadow {
+            if self.tail.is_hex {
+                shadow.take_digits(piece);
+            } else {
+                shadow.take(piece);
+            }
+        }
+    }
+
+    /// Tells the field at which the stream is at fault with this code, or cut.
+    pub fn tell_place(&self, code: Option<FaultCode>, note: &mut Note) {
+        if let Some(shadow) = &self.shadow {
+            shadow.tell_place(code, note);
         }
     }
 
@@ -139,7 +170,7 @@ impl<S> Kept<S> {
     }
 }
 
-impl<S: Source> Source for Kept<S> {
+impl<S: Source> Source for Kept<'_, S> {
     ghost use Rattle.fast_explain.specs.Listening.{reader_of};
 
     ghost left = { λ s. S.left (reader_of s) };
@@ -149,7 +180,7 @@ impl<S: Source> Source for Kept<S> {
     fn read(&mut self, buf: &mut [u8]) -> Result<usize, Failed> {
         match self.inner.read(buf) {
             Ok(count) => {
-                self.tail.take(&buf[..count]);
+                self.note(&buf[..count]);
                 Ok(count)
             }
             Err(failed) => Err(failed),

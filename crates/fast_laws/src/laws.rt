@@ -31,23 +31,27 @@ ghost use Rattle.fast_laws.specs.Raising.{IsOtherEnd, IsPassed, is_count_code, w
 /// A set that was read, under limits that no initial text passes, grants what the next law asks of its tree.
 pub fn set_is_granted()
     // IsTree is what `Templates::read` ensures of the set, and no `Decoder` and no `Encoder` is made of a set with a long initial text.
-    ensures { (document : Members) (t : Templates) (l : Limits) → IsTree document (tree_of t) → ¬ (HasLongInitial l.max_text (nodes_of t)) → IsGrantedTree l (tree_of t) }
+    ensures { (document : Members) (t : Templates) (l : Limits) → IsTree document (tree_of t)
+        → ¬ (HasLongInitial l.max_text (nodes_of t)) → IsGrantedTree l (tree_of t) }
 {}
 
 /// The events of a stream are those of messages that suit their templates and the limits, and then the first events of one more such
 /// message, however the stream ends.
 pub fn events_are_of_messages()
     // IsGrantedTree is given by `set_is_granted`, and Stream by `Decoder::feed_all`, `feed` and `push` (`followed`).
-    ensures { (t : Tree) (l : Limits) (w : List ℕ) (es : List EventData) (e : End) → IsGrantedTree l t → Stream t l w es e → AreOfMessages t l es e }
+    ensures { (t : Tree) (l : Limits) (w : List ℕ) (es : List EventData) (e : End) → IsGrantedTree l t
+        → Stream t l w es e → AreOfMessages t l es e }
 {}
 
 /// A value that is handed over is a value of its field: each event names a node of the set (or a template) of its own sort, a value is in
 /// the range of its field's kind, and starts and ends nest. So it is at each moment, since each front of a stream is a stream.
 pub fn events_are_of_fields()
     // The premises are those of the two laws above, and given by the same contracts.
-    ensures named { (document : Members) (t : Templates) (l : Limits) (w : List ℕ) (es : List EventData) (e : End) → IsTree document (tree_of t) → ¬ (HasLongInitial l.max_text (nodes_of t))
+    ensures named { (document : Members) (t : Templates) (l : Limits) (w : List ℕ) (es : List EventData) (e : End)
+        → IsTree document (tree_of t) → ¬ (HasLongInitial l.max_text (nodes_of t))
         → Stream (tree_of t) l w es e → All (IsNamed t l) es }
-    ensures nested { (t : Tree) (l : Limits) (w : List ℕ) (es : List EventData) (e : End) → IsGrantedTree l t → Stream t l w es e → AreNested es e }
+    ensures nested { (t : Tree) (l : Limits) (w : List ℕ) (es : List EventData) (e : End) → IsGrantedTree l t
+        → Stream t l w es e → AreNested es e }
 {}
 
 /// The elements of a message, inner ones too, are those that its events announce.
@@ -59,8 +63,10 @@ pub fn total_is_counted()
 /// Each sequence has no more elements than one may have, and at no moment has a message more than all of its sequences may have.
 pub fn elements_are_few()
     // IsGrantedTree and Stream are given as for `events_are_of_messages`.
-    ensures each { (t : Tree) (l : Limits) (w : List ℕ) (es : List EventData) (e : End) → IsGrantedTree l t → Stream t l w es e → All (HasFew l) es }
-    ensures all { (t : Tree) (l : Limits) (w : List ℕ) (es : List EventData) (e : End) → IsGrantedTree l t → Stream t l w es e → AreFew l es }
+    ensures each { (t : Tree) (l : Limits) (w : List ℕ) (es : List EventData) (e : End) → IsGrantedTree l t
+        → Stream t l w es e → All (HasFew l) es }
+    ensures all { (t : Tree) (l : Limits) (w : List ℕ) (es : List EventData) (e : End) → IsGrantedTree l t
+        → Stream t l w es e → AreFew l es }
 {}
 
 /// L2 and L5 come exactly where the next sequence would pass a limit. A stream that ends with one of them has announced such a sequence
@@ -68,16 +74,21 @@ pub fn elements_are_few()
 /// more room; so where with more room a sequence passes a limit, the stream ends with one of the two.
 pub fn limits_come_where_passed()
     // Stream is given by `Decoder::feed_all`, `feed` and `push` (`followed`), under other limits by another decoder, or by `some_answer`.
-    ensures passed { (t : Tree) (l : Limits) (w : List ℕ) (es : List EventData) (c : Code) (place : ℕ) → is_count_code c ≡ true → Stream t l w es (faulted c place) → IsPassed t l w es c place }
-    ensures same { (t : Tree) (l : Limits) (m n : ℕ) (w : List ℕ) (es : List EventData) (e : End) → l.max_elements ≤ m → l.max_total ≤ n → IsOtherEnd e → Stream t l w es e → Stream t (with_room m n l) w es e }
-    ensures ends { (t : Tree) (l : Limits) (m n : ℕ) (w : List ℕ) (es fs gs : List EventData) (node k : ℕ) (e e' : End) → IsGrantedTree l t → l.max_elements ≤ m → l.max_total ≤ n → Stream t l w es e
-        → Stream t (with_room m n l) w (fs ++ SequenceStart node k ∷ gs) e' → (l.max_elements < k) ⊎ (l.max_total < counted fs + k) → ¬ (IsOtherEnd e) }
+    ensures passed { (t : Tree) (l : Limits) (w : List ℕ) (es : List EventData) (c : Code) (place : ℕ)
+        → is_count_code c ≡ true → Stream t l w es (faulted c place) → IsPassed t l w es c place }
+    ensures same { (t : Tree) (l : Limits) (m n : ℕ) (w : List ℕ) (es : List EventData) (e : End) → l.max_elements ≤ m
+        → l.max_total ≤ n → IsOtherEnd e → Stream t l w es e → Stream t (with_room m n l) w es e }
+    ensures ends { (t : Tree) (l : Limits) (m n : ℕ) (w : List ℕ) (es fs gs : List EventData) (node k : ℕ) (e e' : End)
+        → IsGrantedTree l t → l.max_elements ≤ m → l.max_total ≤ n → Stream t l w es e
+        → Stream t (with_room m n l) w (fs ++ SequenceStart node k ∷ gs) e'
+        → (l.max_elements < k) ⊎ (l.max_total < counted fs + k) → ¬ (IsOtherEnd e) }
 {}
 
 /// The bytes of a field are those of an item that its operator takes, in the spelling of its kind, and its value, or absence, and what the
 /// entry holds next are those of the operator table: of each row, those of deltas too. So the table and the spellings govern streams.
 pub fn field_is_an_item()
-    ensures item { (l : Limits) (f : FieldData) (p : PreviousData) (bit : Bool) (v : Option ScalarData) (next : PreviousData) (w : List ℕ)
+    ensures item { (l : Limits) (f : FieldData) (p : PreviousData) (bit : Bool) (v : Option ScalarData)
+        (next : PreviousData) (w : List ℕ)
         → field_phrase l f p bit w [] (whole (record { value = v; next = next })) ↔ IsByItem l f p bit v next w }
     // A message reads its fields so.
     ensures found { (l : Limits) (f : FieldData) (s : State) (w : List ℕ) (es : List EventData) (r : Found)

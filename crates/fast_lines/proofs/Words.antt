@@ -1,9 +1,11 @@
 -- The words of lines.
 use Rattle.std.proofs.Common.{◌≡◌, ◌≢◌, ℕ, ◌<◌, ◌^◌, Bool, true, not, ◌&&◌, List, [], ◌∷◌, ◌++◌, codes, refl, sym, ◌∙◌, inl, append_assoc, arith}
-use Rattle.std.specs.Prelude.{decimal, nat_eq}
+use Rattle.std.specs.Prelude.{decimal, nat_eq, Option, Some, None, IfNone}
 use Rattle.std.proofs.lemmas.Bool.Decides.{nat_tests}
 use Rattle.std.proofs.lemmas.List.Elements.{All-nil, All-cons}
 use Rattle.fast_lines.specs.Values.{Lacks}
+use Rattle.fast_lines.specs.declared.forms.Keyword.TheVariants as Key
+use Rattle.fast_lines.specs.declared.forms.Line.{Line}
 use Rattle.fast_lines.specs.Forms.{LineData, message, field, group, group_end, sequence, element, element_end, sequence_end, message_end, text_of_line, IsWord, IsForm, keyword_of, IsNoForm}
 use Rattle.fast_lines.proofs.Splits.{first_split, no_split, decimal_lacks}
 
@@ -78,3 +80,8 @@ no_such_line word rest lacks none element form h = no_split 0x20 (codes "element
 no_such_line word rest lacks none element_end form h = (behind (codes "end") word rest (codes "element") refl lacks h none).1 refl
 no_such_line word rest lacks none sequence_end form h = (behind (codes "end") word rest (codes "sequence") refl lacks h none).2 refl
 no_such_line word rest lacks none message_end form h = (behind (codes "end") word rest (codes "message") refl lacks h none).3 refl
+
+-- A text that begins with `message` is no line where no name stands behind it.
+pub no_message : (o : Option Line) (text rest : List ℕ) → text ≡ codes "message " ++ rest → IfNone o (IsNoForm Key.Message rest) → IfNone o ((d : LineData) → IsForm d → text ≢ text_of_line d)
+no_message (Some line) text rest is none = tt
+no_message None text rest is none = λ d form h. no_such_line (codes "message") rest (tested (codes "message") refl) none d form (sym is ∙ h)

@@ -99,7 +99,8 @@ fn is_word(text: &[u8]) -> bool
 /// A node's number and name.
 fn parse_node(text: &[u8]) -> Option<(u32, &[u8])>
     ensures node { IfSome result (λ r. (text.now ≡ decimal r.0 ++ codes " " ++ r.1.now) × IsWord r.1.now) }
-    ensures none { IfNone result ((n : ℕ) (name : List ℕ) → n < 2 ^ 32 → IsWord name → text.now ≢ decimal n ++ codes " " ++ name) }
+    ensures none { IfNone result
+        ((n : ℕ) (name : List ℕ) → n < 2 ^ 32 → IsWord name → text.now ≢ decimal n ++ codes " " ++ name) }
 {
     let Some((number, name)) = split_at_byte(text, b' ') else {
         return None;
@@ -112,8 +113,11 @@ fn parse_node(text: &[u8]) -> Option<(u32, &[u8])>
 
 /// A node's number and name, and what follows the space behind them.
 fn first_node(text: &[u8]) -> Option<(u32, &[u8], &[u8])>
-    ensures node { IfSome result (λ r. (text.now ≡ (decimal r.0 ++ codes " " ++ r.1.now) ++ codes " " ++ r.2.now) × IsWord r.1.now) }
-    ensures none { IfNone result ((n : ℕ) (name rest : List ℕ) → n < 2 ^ 32 → IsWord name → text.now ≢ (decimal n ++ codes " " ++ name) ++ codes " " ++ rest) }
+    ensures node { IfSome result
+        (λ r. (text.now ≡ (decimal r.0 ++ codes " " ++ r.1.now) ++ codes " " ++ r.2.now) × IsWord r.1.now) }
+    ensures none { IfNone result
+        ((n : ℕ) (name rest : List ℕ) → n < 2 ^ 32 → IsWord name
+        → text.now ≢ (decimal n ++ codes " " ++ name) ++ codes " " ++ rest) }
 {
     let Some((number, others)) = split_at_byte(text, b' ') else {
         return None;
@@ -193,7 +197,7 @@ fn end_line(text: &[u8]) -> Option<Line<'_>>
     }
 }
 
-/// The line, if the text is of a line's form. The most common ones, those of fields, are told by their first bytes.
+/// The line, if the text is of a line's form. The most common ones are told by their first bytes.
 pub fn parse_line(text: &[u8]) -> Option<Line<'_>>
     ensures line { IfSome result (λ l. text.now ≡ text_of_line (line_data l)) }
     ensures form { IfSome result (λ l. IsForm (line_data l)) }
@@ -201,6 +205,32 @@ pub fn parse_line(text: &[u8]) -> Option<Line<'_>>
 {
     match text {
         [b'f', b'i', b'e', b'l', b'd', b' ', rest @ ..] => field_line(rest),
+        _ => bare_line(text),
+    }
+}
+
+/// The same, where it may still be an end.
+#[inline(always)]
+fn bare_line(text: &[u8]) -> Option<Line<'_>>
+    ensures line { IfSome result (λ l. text.now ≡ text_of_line (line_data l)) }
+    ensures form { IfSome result (λ l. IsForm (line_data l)) }
+    ensures none { IfNone result ((d : LineData) → IsForm d → text.now ≢ text_of_line d) }
+{
+    match text {
+        [b'e', b'n', b'd', b' ', rest @ ..] => end_line(rest),
+        _ => opening_line(text),
+    }
+}
+
+/// The same, where it may still be the start of a message.
+#[inline(always)]
+fn opening_line(text: &[u8]) -> Option<Line<'_>>
+    ensures line { IfSome result (λ l. text.now ≡ text_of_line (line_data l)) }
+    ensures form { IfSome result (λ l. IsForm (line_data l)) }
+    ensures none { IfNone result ((d : LineData) → IsForm d → text.now ≢ text_of_line d) }
+{
+    match text {
+        [b'm', b'e', b's', b's', b'a', b'g', b'e', b' ', rest @ ..] => message_line(rest),
         _ => any_line(text),
     }
 }

@@ -29,7 +29,9 @@ pub fn split_at_byte(text: &[u8], byte: u8) -> Option<(&[u8], &[u8])>
 /// A decimal: the mantissa, `e` and the exponent.
 fn parse_decimal(text: &[u8]) -> Option<(i32, i64)>
     ensures decimal { IfSome result (λ d. text.now ≡ signed_decimal d.1 ++ 0x65 ∷ signed_decimal d.0) }
-    ensures none { IfNone result ((e m : ℤ) → IsWithin (signed_range 31) e → IsWithin (signed_range 63) m → text.now ≢ signed_decimal m ++ 0x65 ∷ signed_decimal e) }
+    ensures none { IfNone result
+        ((e m : ℤ) → IsWithin (signed_range 31) e → IsWithin (signed_range 63) m
+        → text.now ≢ signed_decimal m ++ 0x65 ∷ signed_decimal e) }
 {
     let Some((mantissa, exponent)) = split_at_byte(text, b'e') else {
         return None;

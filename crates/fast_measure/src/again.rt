@@ -2,30 +2,16 @@
 
 ghost use Rattle.std.specs.Prelude.{◌<◌};
 
-use crate::decoding::{Answer, BETWEEN, answer_of, bytes_of, feed_all, read_set};
-use crate::encoding::{encode_all, status_of};
+use crate::decoding::{Answer, BETWEEN, answer_of, bytes_of, decoder_of, feed_all, read_set};
+use crate::encoding::{encode_all, encoder_of, status_of};
 use crate::sinks::Check;
 use crate::trees::Trees;
-use fast_decoder::Decoder;
-use fast_encoder::Encoder;
 use fast_template::Templates;
 use fast_value::Limits;
 use std::alloc::Global;
 
-impl Answer {
-    /// The answer where nothing is decoded again.
-    fn ended(status: u64) -> Answer {
-        Answer {
-            status,
-            consumed: 0,
-            events: 0,
-            sum: 0,
-        }
-    }
-}
-
-/// Decodes a stream leniently into messages, encodes them, and decodes that in strict mode.
-fn run_again(alloc: Global, set: &Templates, limits: Limits, stream: &[u8]) -> Answer {
+/// Decodes a stream leniently into messages, encodes them, and decodes that in strict mode; or the status where one of these is not done.
+fn run_again(alloc: Global, set: &Templates, limits: Limits, stream: &[u8]) -> Result<Answer, u64> {
     let lenient = Limits {
         strict: false,
         ..limits
@@ -34,35 +20,33 @@ fn run_again(alloc: Global, set: &Templates, limits: Limits, stream: &[u8]) -> A
         strict: true,
         ..limits
     };
-    let Ok(mut decoder) = Decoder::new(alloc, set, lenient) else {
-        return Answer::NOT_MADE;
-    };
-    let Ok(mut encoder) = Encoder::new(alloc, set, limits) else {
-        return Answer::NOT_MADE;
-    };
+    let mut decoder = decoder_of(alloc, set, lenient)?;
+    let mut encoder = encoder_of(alloc, set, limits)?;
     let mut trees = Trees::new(alloc, set);
     let status = feed_all(&mut decoder, stream, usize::MAX, &mut trees);
     if status != BETWEEN {
-        return Answer::ended(status);
+        return Err(status);
     }
     let mut list = Vec::new(alloc);
     if let Err(fault) = encode_all(&mut encoder, &trees.messages, &mut list) {
-        return Answer::ended(status_of(fault));
+        return Err(status_of(fault));
     }
-    match Decoder::new(alloc, set, strict) {
-        Ok(mut decoder) => answer_of(&mut decoder, &list, usize::MAX, Check::new()),
-        Err(_) => Answer::NOT_MADE,
-    }
+    let mut decoder = decoder_of(alloc, set, strict)?;
+    Ok(answer_of(&mut decoder, &list, usize::MAX, Check::new()))
 }
 
 /// Decodes a stream whole, or in pieces of so many bytes.
-fn run_once(alloc: Global, set: &Templates, limits: Limits, stream: &[u8], piece: usize) -> Answer
+fn run_once(
+    alloc: Global,
+    set: &Templates,
+    limits: Limits,
+    stream: &[u8],
+    piece: usize,
+) -> Result<Answer, u64>
     requires { 0 < piece }
 {
-    match Decoder::new(alloc, set, limits) {
-        Ok(mut decoder) => answer_of(&mut decoder, stream, piece, Check::new()),
-        Err(_) => Answer::NOT_MADE,
-    }
+    let mut decoder = decoder_of(alloc, set, limits)?;
+    Ok(answer_of(&mut decoder, stream, piece, Check::new()))
 }
 
 /// What three ways to decode a stream came to.
@@ -78,11 +62,13 @@ pub struct ThreeWays {
 
 impl ThreeWays {
     /// Where there is no template set.
-    const NOT_MADE: ThreeWays = ThreeWays {
-        whole: Answer::NOT_MADE,
-        pieces: Answer::NOT_MADE,
-        again: Answer::NOT_MADE,
-    };
+    fn ended(status: u64) -> ThreeWays {
+        ThreeWays {
+            whole: Answer::ended(status),
+            pieces: Answer::ended(status),
+            again: Answer::ended(status),
+        }
+    }
 }
 
 /// Decodes a stream whole; in pieces of so many bytes, or in one where `piece` is 0; and, whatever the limits say of strictness, leniently
@@ -97,12 +83,13 @@ pub fn three_ways(
     stream: &[u8],
     piece: usize,
 ) -> ThreeWays {
-    let Some(set) = read_set(alloc, templates) else {
-        return ThreeWays::NOT_MADE;
+    let set = match read_set(alloc, templates) {
+        Ok(set) => set,
+        Err(status) => return ThreeWays::ended(status),
     };
     ThreeWays {
-        whole: run_once(alloc, &set, limits, stream, usize::MAX),
-        pieces: run_once(alloc, &set, limits, stream, bytes_of(piece)),
-        again: run_again(alloc, &set, limits, stream),
+        whole: Answer::of(run_once(alloc, &set, limits, stream, usize::MAX)),
+        pieces: Answer::of(run_once(alloc, &set, limits, stream, bytes_of(piece))),
+        again: Answer::of(run_again(alloc, &set, limits, stream)),
     }
 }

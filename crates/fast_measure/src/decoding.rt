@@ -3,8 +3,8 @@
 ghost use Rattle.std.specs.Prelude.{◌<◌};
 
 use crate::sinks::{Check, Count, Tallied};
-use fast_decoder::{Decoder, FaultCode, Sink};
-use fast_template::Templates;
+use fast_decoder::{Decoder, FaultCode, MakeError, Sink};
+use fast_template::{StaticCode, Templates};
 use fast_value::{Code, Limits};
 use std::alloc::Global;
 
@@ -17,10 +17,13 @@ const INSIDE: u64 = 1;
 /// The status of a run for which no decoder was made.
 pub const NOT_MADE: u64 = 256;
 
+/// The status of a run for which there was no memory.
+const NO_MEMORY: u64 = 518;
+
 /// What a run came to.
-#[derive(Clone, Copy)]
+#[derive(Clone, Copy, PartialEq, Eq)]
 pub struct Answer {
-    /// 0 between two messages, 1 inside of one, 2 to 19 at a fault, 256 where no decoder was made.
+    /// 0 between two messages, 1 inside of one, 2 to 19 at a fault; 256 where no decoder was made, 518 where there was no memory for one.
     pub status: u64,
     /// The number of bytes consumed.
     pub consumed: u64,
@@ -31,13 +34,23 @@ pub struct Answer {
 }
 
 impl Answer {
-    /// The answer where no decoder is made.
-    pub const NOT_MADE: Answer = Answer {
-        status: NOT_MADE,
-        consumed: 0,
-        events: 0,
-        sum: 0,
-    };
+    /// The answer where nothing is decoded.
+    pub fn ended(status: u64) -> Answer {
+        Answer {
+            status,
+            consumed: 0,
+            events: 0,
+            sum: 0,
+        }
+    }
+
+    /// What a run came to, or the answer where nothing is decoded.
+    pub fn of(run: Result<Answer, u64>) -> Answer {
+        match run {
+            Ok(answer) => answer,
+            Err(status) => Answer::ended(status),
+        }
+    }
 
     /// Writes the four numbers, each as eight bytes, the least first.
     pub fn write_to(&self, out: &mut [u8; 32]) {
@@ -74,14 +87,35 @@ fn status_of(code: FaultCode) -> u64 {
     }
 }
 
-/// The template set of a text.
-pub fn read_set(alloc: Global, text: &[u8]) -> Option<Templates> {
+/// The template set of a text, or the status of a run without one.
+pub fn read_set(alloc: Global, text: &[u8]) -> Result<Templates, u64> {
     let Ok(text) = std::str::from_utf8(text) else {
-        return None;
+        return Err(NOT_MADE);
     };
     match Templates::read(alloc, text) {
-        Ok(set) => Some(set),
-        Err(_) => None,
+        Ok(set) => Ok(set),
+        Err(fault) if fault.code == StaticCode::Memory => Err(NO_MEMORY),
+        Err(_) => Err(NOT_MADE),
+    }
+}
+
+/// The status of a run for which no decoder or no encoder is made.
+pub fn status_of_make(error: MakeError) -> u64 {
+    match error {
+        MakeError::Memory => NO_MEMORY,
+        _ => NOT_MADE,
+    }
+}
+
+/// A decoder, or the status of a run without one.
+pub fn decoder_of<'t>(
+    alloc: Global,
+    set: &'t Templates,
+    limits: Limits,
+) -> Result<Decoder<'t>, u64> {
+    match Decoder::new(alloc, set, limits) {
+        Ok(decoder) => Ok(decoder),
+        Err(error) => Err(status_of_make(error)),
     }
 }
 
@@ -129,16 +163,12 @@ fn run<S: Tallied>(
     stream: &[u8],
     piece: usize,
     sink: S,
-) -> Answer
+) -> Result<Answer, u64>
     requires { 0 < piece }
 {
-    let Some(set) = read_set(alloc, templates) else {
-        return Answer::NOT_MADE;
-    };
-    let Ok(mut decoder) = Decoder::new(alloc, &set, limits) else {
-        return Answer::NOT_MADE;
-    };
-    answer_of(&mut decoder, stream, piece, sink)
+    let set = read_set(alloc, templates)?;
+    let mut decoder = decoder_of(alloc, &set, limits)?;
+    Ok(answer_of(&mut decoder, stream, piece, sink))
 }
 
 /// Decodes a stream under a template set, fed in pieces of so many bytes, or in one where `piece` is 0: counted, or with a checksum.
@@ -151,11 +181,12 @@ pub fn decode(
     is_counted: bool,
 ) -> Answer {
     let piece = bytes_of(piece);
-    if is_counted {
+    let run = if is_counted {
         run(alloc, templates, limits, stream, piece, Count::new())
     } else {
         run(alloc, templates, limits, stream, piece, Check::new())
-    }
+    };
+    Answer::of(run)
 }
 
 /// How many bytes a piece has: all, where none are asked for.

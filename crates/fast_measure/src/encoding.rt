@@ -1,17 +1,18 @@
 //! One run of the encoder over the messages of a stream in memory.
 
-use crate::decoding::{BETWEEN, NOT_MADE, feed_all, read_set};
+use crate::decoding::{BETWEEN, decoder_of, feed_all, read_set, status_of_make};
 use crate::sinks::with_bytes;
 use crate::trees::Trees;
-use fast_decoder::Decoder;
 use fast_encoder::{EncodeFault, Encoder};
+use fast_template::Templates;
 use fast_value::{Limits, Message};
 use std::alloc::Global;
 
 /// What a run came to.
 #[derive(Clone, Copy)]
 pub struct Encoded {
-    /// How the stream ended, as that of an `Answer` says; from 513 where a message was refused: E1, E2, E3, E4, R9, no memory.
+    /// How the stream ended, as that of an `Answer` says; from 513 where a message was refused: E1, E2, E3, E4, R9; 518 where there was no
+    /// memory for it, or for a set, a decoder or an encoder.
     pub status: u64,
     /// The number of messages.
     pub messages: u64,
@@ -50,6 +51,18 @@ pub fn status_of(fault: EncodeFault) -> u64 {
         EncodeFault::E4 => 516,
         EncodeFault::R9 => 517,
         EncodeFault::Memory => 518,
+    }
+}
+
+/// An encoder, or the status of a run without one.
+pub fn encoder_of<'t>(
+    alloc: Global,
+    set: &'t Templates,
+    limits: Limits,
+) -> Result<Encoder<'t>, u64> {
+    match Encoder::new(alloc, set, limits) {
+        Ok(encoder) => Ok(encoder),
+        Err(error) => Err(status_of_make(error)),
     }
 }
 
@@ -118,6 +131,32 @@ fn encode_rounds(
     })
 }
 
+/// As `encode`, or the status where nothing is encoded.
+fn run(
+    alloc: Global,
+    templates: &[u8],
+    limits: Limits,
+    stream: &[u8],
+    rounds: Option<u32>,
+) -> Result<Encoded, u64> {
+    let set = read_set(alloc, templates)?;
+    let mut decoder = decoder_of(alloc, &set, limits)?;
+    let mut encoder = encoder_of(alloc, &set, limits)?;
+    let mut trees = Trees::new(alloc, &set);
+    let status = feed_all(&mut decoder, stream, usize::MAX, &mut trees);
+    if status != BETWEEN {
+        return Err(status);
+    }
+    let encoded = match rounds {
+        Some(rounds) => encode_rounds(alloc, &mut encoder, &trees.messages, rounds),
+        None => encode_patiently(alloc, &mut encoder, &trees.messages),
+    };
+    match encoded {
+        Ok(encoded) => Ok(encoded),
+        Err(fault) => Err(status_of(fault)),
+    }
+}
+
 /// Decodes a stream under a template set into messages, once, and encodes these so many times, each time from a reset encoder. Where no
 /// number is given it encodes each message once, and once more where memory was refused.
 pub fn encode(
@@ -127,26 +166,8 @@ pub fn encode(
     stream: &[u8],
     rounds: Option<u32>,
 ) -> Encoded {
-    let Some(set) = read_set(alloc, templates) else {
-        return Encoded::failed(NOT_MADE);
-    };
-    let Ok(mut decoder) = Decoder::new(alloc, &set, limits) else {
-        return Encoded::failed(NOT_MADE);
-    };
-    let Ok(mut encoder) = Encoder::new(alloc, &set, limits) else {
-        return Encoded::failed(NOT_MADE);
-    };
-    let mut trees = Trees::new(alloc, &set);
-    let status = feed_all(&mut decoder, stream, usize::MAX, &mut trees);
-    if status != BETWEEN {
-        return Encoded::failed(status);
-    }
-    let encoded = match rounds {
-        Some(rounds) => encode_rounds(alloc, &mut encoder, &trees.messages, rounds),
-        None => encode_patiently(alloc, &mut encoder, &trees.messages),
-    };
-    match encoded {
+    match run(alloc, templates, limits, stream, rounds) {
         Ok(encoded) => encoded,
-        Err(fault) => Encoded::failed(status_of(fault)),
+        Err(status) => Encoded::failed(status),
     }
 }

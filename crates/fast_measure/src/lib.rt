@@ -3,6 +3,7 @@
 #![tactic(auto)]
 
 mod again;
+mod cuts;
 mod decoding;
 mod encoding;
 mod sinks;
@@ -10,6 +11,7 @@ mod stops;
 mod trees;
 
 pub use crate::again::{ThreeWays, three_ways};
+pub use crate::cuts::{Cuts, cut_everywhere};
 pub use crate::decoding::{Answer, decode};
 pub use crate::encoding::{Encoded, encode};
 pub use crate::stops::{Runs, stop_and_decode};

@@ -1,8 +1,8 @@
 //! A run of the decoder with a sink that stops, and one behind a reset.
 
-use crate::decoding::{Answer, answer_of, bytes_of, read_set};
+use crate::decoding::{Answer, answer_of, bytes_of, decoder_of, read_set};
 use crate::sinks::{Check, Tallied, Tally};
-use fast_decoder::{Decoder, Event, Sink, Stop};
+use fast_decoder::{Event, Sink, Stop};
 use fast_value::Limits;
 use std::alloc::Global;
 
@@ -45,11 +45,37 @@ pub struct Runs {
 }
 
 impl Runs {
-    /// Where no decoder was made.
-    const NOT_MADE: Runs = Runs {
-        stopped: Answer::NOT_MADE,
-        again: Answer::NOT_MADE,
+    /// Where nothing is decoded.
+    fn ended(status: u64) -> Runs {
+        Runs {
+            stopped: Answer::ended(status),
+            again: Answer::ended(status),
+        }
+    }
+}
+
+/// As `stop_and_decode`, or the status where nothing is decoded.
+fn run_twice(
+    alloc: Global,
+    templates: &[u8],
+    limits: Limits,
+    stream: &[u8],
+    piece: usize,
+    most: u64,
+) -> Result<Runs, u64> {
+    let set = read_set(alloc, templates)?;
+    let mut decoder = decoder_of(alloc, &set, limits)?;
+    let piece = bytes_of(piece);
+    let stopping = Stopping {
+        check: Check::new(),
+        left: most,
     };
+    let stopped = answer_of(&mut decoder, stream, piece, stopping);
+    decoder.reset();
+    Ok(Runs {
+        stopped,
+        again: answer_of(&mut decoder, stream, piece, Check::new()),
+    })
 }
 
 /// Decodes a stream twice, fed in pieces of so many bytes, or in one where `piece` is 0: first with a sink that takes `most` events and
@@ -62,21 +88,8 @@ pub fn stop_and_decode(
     piece: usize,
     most: u64,
 ) -> Runs {
-    let Some(set) = read_set(alloc, templates) else {
-        return Runs::NOT_MADE;
-    };
-    let Ok(mut decoder) = Decoder::new(alloc, &set, limits) else {
-        return Runs::NOT_MADE;
-    };
-    let piece = bytes_of(piece);
-    let stopping = Stopping {
-        check: Check::new(),
-        left: most,
-    };
-    let stopped = answer_of(&mut decoder, stream, piece, stopping);
-    decoder.reset();
-    Runs {
-        stopped,
-        again: answer_of(&mut decoder, stream, piece, Check::new()),
+    match run_twice(alloc, templates, limits, stream, piece, most) {
+        Ok(runs) => runs,
+        Err(status) => Runs::ended(status),
     }
 }

@@ -19,6 +19,7 @@ end then is = is
 
 -- The instructions stand in a template's text. With references in place, in a chain of no more than so many, they
 -- are the body, whose nodes are numbered from the first number up to the second.
+-- FAST 1.1: Template Definition, Template Reference Instruction.
 pub data InPlace (ts : List DeclaredTemplate) (entries : List Entry) : ℕ → Scope → DeclaredList → ℕ → Body → ℕ → Type 0 where
   nothing : {chain : ℕ} {s : Scope} {n : ℕ} → InPlace ts entries chain s no_more n end n
   a_field : {chain : ℕ} {s : Scope} {n m : ℕ} {name : List ℕ} {optional : Bool} {kind : Kind} {w : Written} {ds : DeclaredList} {f : FieldData} {is : Body}

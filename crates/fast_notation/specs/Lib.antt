@@ -17,6 +17,7 @@ pub mod FivePasses
 pub mod Chains
 pub mod EntryKeys
 pub mod Built
+pub mod Builders
 pub mod ReadSets
 pub mod Extents
 pub mod Cycles

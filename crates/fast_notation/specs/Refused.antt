@@ -20,6 +20,7 @@ abbrev pub IsBodyOf : List DeclaredTemplate → ℕ → Body → Type 0
 IsBodyOf ts k body = (entries : List Entry) × (t : DeclaredTemplate) × (n m : ℕ) × (slice_get ts k ≡ Some t) × InPlace ts entries nesting_limit (scope_of k t) t.fields n body m
 
 -- The condition of a code stands in the written set, at the template of this number. (S1 is that no set is written.)
+-- FAST 1.1: Error Codes, S1 to S5 and D8.
 abbrev pub StandsAt : List DeclaredTemplate → StaticCode → ℕ → Type 0
 StandsAt ts S1 k = ⊥
 StandsAt ts S2 k = (t : DeclaredTemplate) × (slice_get ts k ≡ Some t) × Any IsS2 (all_uses t.fields)

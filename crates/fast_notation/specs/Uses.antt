@@ -9,6 +9,7 @@ use Rattle.fast_tree.specs.AsWritten.{Part, exponent, Use}
 use Rattle.fast_tree.specs.Entries.{Entry, Scope, EntryNumber}
 
 -- The operator suits the family.
+-- FAST 1.1: Template Definition, Field Operators.
 abbrev pub suits : Operator → Family → Bool
 suits Increment decimals = false
 suits Increment texts = false
@@ -22,6 +23,7 @@ IsInitialInPart exponent v = IsWithin exponent_range (integer_of v)
 IsInitialInPart part v = Unit {0}
 
 -- The text of the initial value means this value.
+-- FAST 1.1: Template Definition, Initial Value.
 abbrev pub IsInitialOf : Use → Option (List ℕ) → Option ScalarData → Type 0
 IsInitialOf u None None = Unit {0}
 IsInitialOf u None (Some v) = ⊥
@@ -30,18 +32,22 @@ IsInitialOf u (Some text) (Some v) = IsInitial u.kind text v × IsInitialInPart 
 
 -- The codes that a use of an operator can raise: it doesn't suit the family; the initial value is no text of one; a
 -- constant has none; a mandatory default has none.
+-- FAST 1.1: Error Codes, S2.
 abbrev pub IsS2 : Use → Type 0
 IsS2 u = suits u.written.operator (family u.kind) ≡ false
 
 -- the initial value is no text of one
+-- FAST 1.1: Error Codes, S3.
 abbrev pub IsS3 : Use → Type 0
 IsS3 u = (v : Option ScalarData) → ¬ (IsInitialOf u u.written.value v)
 
 -- a constant without initial value
+-- FAST 1.1: Error Codes, S4.
 abbrev pub IsS4 : Use → Type 0
 IsS4 u = (u.written.operator ≡ Constant) × (u.written.value ≡ None)
 
 -- a mandatory default without initial value
+-- FAST 1.1: Error Codes, S5.
 abbrev pub IsS5 : Use → Type 0
 IsS5 u = (u.written.operator ≡ Default) × (u.optional ≡ false) × (u.written.value ≡ None)
 

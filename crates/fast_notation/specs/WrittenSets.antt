@@ -35,3 +35,7 @@ fields_data fs = list_of (map instruction_data fs)
 -- what a template holds
 abbrev pub written_data : WrittenTemplate → DeclaredTemplate
 written_data t = record { name = string_bytes t.name; id = t.id; reset = t.reset; dictionary = string_bytes t.dictionary; fields = fields_data t.fields.items }
+
+-- what templates hold
+abbrev pub templates_data : List WrittenTemplate → List DeclaredTemplate
+templates_data ts = map written_data ts

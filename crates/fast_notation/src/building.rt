@@ -4,16 +4,17 @@ ghost use Rattle.std.specs.Prelude.{ℕ, suc, Bool, false, List, Option, ◌≡�
 ghost use Rattle.std.specs.HashMap.{get_by_text};
 ghost use Rattle.fast_value.specs.Values.{value_data};
 ghost use Rattle.fast_tree.specs.AsWritten.{Written, group, sequence, reference, no_more, more, length_use};
-ghost use Rattle.fast_notation.specs.Built.{with_shape, data_of, IsReady, IsIndexed, CanBuild, IsBuilt, AreBuilt};
+ghost use Rattle.fast_notation.specs.Built.{with_shape, data_of, IsReady, AreBuilt};
 ghost use Rattle.fast_notation.specs.Chains.{Fits, nodes_in};
-ghost use Rattle.fast_notation.specs.EntryKeys.{scope_data, use_data, entries_of};
+ghost use Rattle.fast_notation.specs.EntryKeys.{scope_data, use_data};
 ghost use Rattle.fast_notation.specs.ReadSets.{IsChecked, IsSetBuilt};
 ghost use Rattle.fast_tree.specs.NodeData.{a_group, node_data, shape_data, outline};
 ghost use Rattle.fast_tree.specs.Nodes.{field_data};
 ghost use Rattle.fast_tree.specs.Sizes.{nesting_limit, node_limit};
 ghost use Rattle.fast_notation.specs.Uses.{IsInitialOf, IsField};
 ghost use Rattle.fast_notation.specs.Sound.{IsSound};
-ghost use Rattle.fast_notation.specs.WrittenSets.{instruction_data, fields_data, written_data};
+ghost use Rattle.fast_notation.specs.WrittenSets.{instruction_data, fields_data, written_data, templates_data};
+ghost use Rattle.fast_notation.specs.Builders.{templates_in, entries_in, IsBuilder, CanBuildAt, IsBuiltAt};
 
 use crate::codes::StaticCode;
 use crate::entries::{Entries, collect_entries};
@@ -30,7 +31,8 @@ use std::alloc::{AllocError, Global};
 fn initial_of(alloc: Global, used: OperatorUse<'_>) -> Result<Option<Value>, AllocError>
     requires sound { IsSound (use_data used) }
     requires exponent { used.part ≡ OperatorPart.Exponent → used.kind ≡ Kind.Int32 }
-    ensures { IfOk result (λ v. IsInitialOf (use_data used.entry) (use_data used.entry).written.value (option_map value_data v)) }
+    ensures { IfOk result (λ v. IsInitialOf (use_data used.entry) (use_data used.entry).written.value
+        (option_map value_data v)) }
 {
     let Some(text) = &used.written.value else {
         return Ok(None);
@@ -51,7 +53,8 @@ fn add_node(
     shape: Shape,
 ) -> Result<(), AllocError>
     requires { length (data_of nodes.old) < node_limit }
-    ensures nodes { OnOk result (data_of nodes.new ≡ data_of nodes.old ++ record { name = name.now; shape = shape_data shape } ∷ []) }
+    ensures nodes { OnOk result (data_of nodes.new
+        ≡ data_of nodes.old ++ record { name = name.now; shape = shape_data shape } ∷ []) }
     ensures body { OnOk result (body.new.items ≡ body.old.items ++ length (data_of nodes.old) ∷ []) }
 {
     body.push(nodes.len() as u32)?;
@@ -86,7 +89,13 @@ fn template_of(
     written: &WrittenTemplate,
     body: Vec<u32>,
 ) -> Result<Template, AllocError>
-    ensures { IfOk result (λ t. outline t ≡ record { name = (written_data written.now).name; id = written.now.id; reset = written.now.reset; body = body.items }) }
+    ensures { IfOk result (λ t. outline t
+        ≡ record {
+          name = (written_data written.now).name;
+          id = written.now.id;
+          reset = written.now.reset;
+          body = body.items;
+        }) }
 {
     Ok(Template {
         name: String::from_str(alloc, written.name.as_str())?,
@@ -123,11 +132,13 @@ impl Builder<'_> {
     /// Builds all templates.
     pub(crate) fn build(&self) -> Result<BuiltSet, AllocError>
         requires many { length self.now.set.now.templates.items < 2 ^ 32 }
-        requires set { IsIndexed (get_by_text self.now.set.now.names) (map written_data self.now.set.now.templates.items) (entries_of self.now.entries.now) }
-        requires fits { All (λ t. Fits (map written_data self.now.set.now.templates.items) nesting_limit t.fields) (map written_data self.now.set.now.templates.items) }
-        requires few { sum_by (λ t. nodes_in (map written_data self.now.set.now.templates.items) nesting_limit t.fields) (map written_data self.now.set.now.templates.items) ≤ node_limit }
-        ensures entries { IfOk result (λ b. b.entries ≡ suc (length (entries_of self.now.entries.now))) }
-        ensures built { IfOk result (λ b. AreBuilt (map written_data self.now.set.now.templates.items) (entries_of self.now.entries.now) (map written_data self.now.set.now.templates.items) (map node_data b.nodes.items) (map outline b.templates.items)) }
+        requires set { IsBuilder self.now }
+        requires fits { All (λ t. Fits (templates_in self.now) nesting_limit t.fields) (templates_in self.now) }
+        requires few { sum_by (λ t. nodes_in (templates_in self.now) nesting_limit t.fields) (templates_in self.now)
+            ≤ node_limit }
+        ensures entries { IfOk result (λ b. b.entries ≡ suc (length (entries_in self.now))) }
+        ensures built { IfOk result (λ b. AreBuilt (templates_in self.now) (entries_in self.now) (templates_in self.now)
+            (map node_data b.nodes.items) (map outline b.templates.items)) }
     {
         let mut nodes = Vec::new(self.alloc);
         let mut templates = Vec::new(self.alloc);
@@ -157,10 +168,11 @@ impl Builder<'_> {
         scope: TextScope<'_>,
         used: OperatorUse<'_>,
     ) -> Result<FieldInstruction, AllocError>
-        requires few { length (entries_of self.now.entries.now) ≤ 2 * node_limit }
-        requires ready { IsReady (entries_of self.now.entries.now) (scope_data scope) (use_data used) }
+        requires few { length (entries_in self.now) ≤ 2 * node_limit }
+        requires ready { IsReady (entries_in self.now) (scope_data scope) (use_data used) }
         requires exponent { used.part ≡ OperatorPart.Exponent → used.kind ≡ Kind.Int32 }
-        ensures { IfOk result (λ f. IsField (entries_of self.now.entries.now) (scope_data scope.entry) (use_data used.entry) (field_data f)) }
+        ensures { IfOk result (λ f. IsField (entries_in self.now) (scope_data scope.entry) (use_data used.entry)
+            (field_data f)) }
     {
         Ok(FieldInstruction {
             kind: used.kind,
@@ -179,9 +191,10 @@ impl Builder<'_> {
         at: Standing<'_>,
         fields: &[WrittenInstruction],
     ) -> Result<(), AllocError>
-        requires set { IsIndexed (get_by_text self.now.set.now.names) (map written_data self.now.set.now.templates.items) (entries_of self.now.entries.now) }
-        requires can { CanBuild (map written_data self.now.set.now.templates.items) (entries_of self.now.entries.now) at.chain (scope_data at.scope) (fields_data fields.now) (length (data_of nodes.old)) }
-        ensures { OnOk result (IsBuilt (map written_data self.now.set.now.templates.items) (entries_of self.now.entries.now) at.entry.chain (scope_data at.entry.scope) (fields_data fields.now) (data_of nodes.old) (data_of nodes.new) body.old.items body.new.items) }
+        requires set { IsBuilder self.now }
+        requires can { CanBuildAt self.now at (fields_data fields.now) (length (data_of nodes.old)) }
+        ensures { OnOk result (IsBuiltAt self.now at.entry (fields_data fields.now) nodes.old nodes.new body.old.items
+            body.new.items) }
     {
         for field in fields {
             self.build_instruction(nodes, body, at, field)?;
@@ -198,9 +211,11 @@ impl Builder<'_> {
         at: Standing<'_>,
         instruction: &WrittenInstruction,
     ) -> Result<(), AllocError>
-        requires set { IsIndexed (get_by_text self.now.set.now.names) (map written_data self.now.set.now.templates.items) (entries_of self.now.entries.now) }
-        requires can { CanBuild (map written_data self.now.set.now.templates.items) (entries_of self.now.entries.now) at.chain (scope_data at.scope) (more (instruction_data instruction.now) no_more) (length (data_of nodes.old)) }
-        ensures { OnOk result (IsBuilt (map written_data self.now.set.now.templates.items) (entries_of self.now.entries.now) at.entry.chain (scope_data at.entry.scope) (more (instruction_data instruction.now) no_more) (data_of nodes.old) (data_of nodes.new) body.old.items body.new.items) }
+        requires set { IsBuilder self.now }
+        requires can { CanBuildAt self.now at (more (instruction_data instruction.now) no_more)
+            (length (data_of nodes.old)) }
+        ensures { OnOk result (IsBuiltAt self.now at.entry (more (instruction_data instruction.now) no_more) nodes.old
+            nodes.new body.old.items body.new.items) }
     {
         match instruction {
             WrittenInstruction::Scalar {
@@ -265,9 +280,11 @@ impl Builder<'_> {
         optional: bool,
         fields: &[WrittenInstruction],
     ) -> Result<(), AllocError>
-        requires set { IsIndexed (get_by_text self.now.set.now.names) (map written_data self.now.set.now.templates.items) (entries_of self.now.entries.now) }
-        requires can { CanBuild (map written_data self.now.set.now.templates.items) (entries_of self.now.entries.now) at.chain (scope_data at.scope) (fields_data fields.now) (suc (length (data_of nodes.old))) }
-        ensures { OnOk result (IsBuilt (map written_data self.now.set.now.templates.items) (entries_of self.now.entries.now) at.entry.chain (scope_data at.entry.scope) (more (group name.now optional (fields_data fields.now)) no_more) (data_of nodes.old) (data_of nodes.new) body.old.items body.new.items) }
+        requires set { IsBuilder self.now }
+        requires can { CanBuildAt self.now at (fields_data fields.now) (suc (length (data_of nodes.old))) }
+        ensures { OnOk result (IsBuiltAt self.now at.entry
+            (more (group name.now optional (fields_data fields.now)) no_more) nodes.old nodes.new body.old.items
+            body.new.items) }
     {
         let number = nodes.len();
         add_node(self.alloc, nodes, body, name, empty_group(self.alloc))?;
@@ -292,10 +309,13 @@ impl Builder<'_> {
         sent: FieldInstruction,
         fields: &[WrittenInstruction],
     ) -> Result<(), AllocError>
-        requires set { IsIndexed (get_by_text self.now.set.now.names) (map written_data self.now.set.now.templates.items) (entries_of self.now.entries.now) }
-        requires can { CanBuild (map written_data self.now.set.now.templates.items) (entries_of self.now.entries.now) at.chain (scope_data at.scope) (fields_data fields.now) (suc (length (data_of nodes.old))) }
-        ensures { OnOk result ((optional : Bool) (own : Option (List ℕ)) (w : Written) → IsField (entries_of self.now.entries.now) (scope_data at.entry.scope) (length_use name.now optional own w) (field_data sent)
-            → IsBuilt (map written_data self.now.set.now.templates.items) (entries_of self.now.entries.now) at.entry.chain (scope_data at.entry.scope) (more (sequence name.now optional own w (fields_data fields.now)) no_more) (data_of nodes.old) (data_of nodes.new) body.old.items body.new.items) }
+        requires set { IsBuilder self.now }
+        requires can { CanBuildAt self.now at (fields_data fields.now) (suc (length (data_of nodes.old))) }
+        ensures { OnOk result ((optional : Bool) (own : Option (List ℕ)) (w : Written)
+            → IsField (entries_in self.now) (scope_data at.entry.scope) (length_use name.now optional own w)
+            (field_data sent)
+            → IsBuiltAt self.now at.entry (more (sequence name.now optional own w (fields_data fields.now)) no_more)
+            nodes.old nodes.new body.old.items body.new.items) }
     {
         let number = nodes.len();
         add_node(self.alloc, nodes, body, name, empty_group(self.alloc))?;
@@ -318,9 +338,10 @@ impl Builder<'_> {
         at: Standing<'_>,
         name: &str,
     ) -> Result<(), AllocError>
-        requires set { IsIndexed (get_by_text self.now.set.now.names) (map written_data self.now.set.now.templates.items) (entries_of self.now.entries.now) }
-        requires can { CanBuild (map written_data self.now.set.now.templates.items) (entries_of self.now.entries.now) at.chain (scope_data at.scope) (more (reference name.now) no_more) (length (data_of nodes.old)) }
-        ensures { OnOk result (IsBuilt (map written_data self.now.set.now.templates.items) (entries_of self.now.entries.now) at.entry.chain (scope_data at.entry.scope) (more (reference name.now) no_more) (data_of nodes.old) (data_of nodes.new) body.old.items body.new.items) }
+        requires set { IsBuilder self.now }
+        requires can { CanBuildAt self.now at (more (reference name.now) no_more) (length (data_of nodes.old)) }
+        ensures { OnOk result (IsBuiltAt self.now at.entry (more (reference name.now) no_more) nodes.old nodes.new
+            body.old.items body.new.items) }
     {
         let Some(number) = self.set.names.get(name).copied() else {
             unreachable!();
@@ -340,8 +361,8 @@ impl Builder<'_> {
 
 /// Numbers the entries of a set, and builds its nodes.
 pub(crate) fn build_set(alloc: Global, set: &WrittenSet) -> Result<BuiltSet, AllocError>
-    requires { IsChecked (get_by_text set.now.names) (map written_data set.now.templates.items) }
-    ensures { IfOk result (λ b. IsSetBuilt (map written_data set.now.templates.items) b) }
+    requires { IsChecked (get_by_text set.now.names) (templates_data set.now.templates.items) }
+    ensures { IfOk result (λ b. IsSetBuilt (templates_data set.now.templates.items) b) }
 {
     let entries = collect_entries(alloc, &set.templates)?;
     let builder = Builder {

@@ -1,7 +1,7 @@
 //! Chains of references: those that never end, those that are too long, and what they come to, all of it found out
 //! before any reference is put in place.
 
-ghost use Rattle.std.specs.Prelude.{◌≡◌, ◌≢◌, ◌↔◌, ◌<◌, ◌≤◌, ◌^◌, ℕ, suc, List, is_some, map, length, replicate, take, sum_by, All, AllPairs, Some, None, IsTrue, IfSome, IfOk, IfErr, OnOk};
+ghost use Rattle.std.specs.Prelude.{◌≡◌, ◌≢◌, ◌↔◌, ◌<◌, ◌≤◌, ◌^◌, ℕ, suc, List, is_some, length, replicate, take, sum_by, All, AllPairs, Some, None, IsTrue, IfSome, IfOk, IfErr, OnOk};
 ghost use Rattle.std.specs.List.{list_all};
 ghost use Rattle.std.specs.HashMap.{get_by_text};
 ghost use Rattle.fast_tree.specs.AsWritten.{all_uses};
@@ -14,7 +14,7 @@ ghost use Rattle.fast_notation.specs.Refused.{StandsAt};
 ghost use Rattle.fast_notation.specs.References.{KnowsReferences};
 ghost use Rattle.fast_tree.specs.Sizes.{nesting_limit, node_limit};
 ghost use Rattle.fast_notation.specs.Sound.{IsSound};
-ghost use Rattle.fast_notation.specs.WrittenSets.{written_data};
+ghost use Rattle.fast_notation.specs.WrittenSets.{templates_data};
 
 use crate::codes::{StaticCode, StaticFault};
 use crate::cycles::first_cyclic;
@@ -58,7 +58,8 @@ fn next_extents(
     extents: &[Option<Extent>],
 ) -> Result<Vec<Option<Extent>>, AllocError>
     requires { length extents.now ≡ length templates.now }
-    ensures { IfOk result (λ v. v.items ≡ next_extents (named_extent (get_by_text names.now) extents.now) extents.now (map written_data templates.now)) }
+    ensures { IfOk result (λ v. v.items
+        ≡ next_extents (named_extent (get_by_text names.now) extents.now) extents.now (templates_data templates.now)) }
 {
     let mut next = Vec::new(alloc);
     for (k, template) in templates.iter().enumerate() {
@@ -77,10 +78,10 @@ fn extents_of(
     names: &HashMap<String, u32>,
     templates: &[WrittenTemplate],
 ) -> Result<Vec<Option<Extent>>, AllocError>
-    requires index { (q : List ℕ) → get_by_text names.now q ≡ place_of_name q (map written_data templates.now) }
-    requires apart { AllPairs (λ a b. a.name ≢ b.name) (map written_data templates.now) }
-    requires known { KnowsReferences (map written_data templates.now) }
-    ensures { IfOk result (λ v. AreExtents (map written_data templates.now) (suc nesting_limit) v.items) }
+    requires index { (q : List ℕ) → get_by_text names.now q ≡ place_of_name q (templates_data templates.now) }
+    requires apart { AllPairs (λ a b. a.name ≢ b.name) (templates_data templates.now) }
+    requires known { KnowsReferences (templates_data templates.now) }
+    ensures { IfOk result (λ v. AreExtents (templates_data templates.now) (suc nesting_limit) v.items) }
 {
     let mut extents = nothing_known(alloc, templates.len())?;
     for _round in 0..=NESTING_LIMIT {
@@ -103,8 +104,10 @@ fn is_shallow(extent: Option<Extent>) -> bool
 fn check_depths(extents: &[Option<Extent>]) -> Result<(), StaticFault>
     requires { length extents.now < 2 ^ 32 }
     ensures shallow { OnOk result (All IsShallow extents.now) }
-    ensures fault { IfErr result (λ e. (k : ℕ) × (e.code ≡ StaticCode.C4) × (e.template ≡ Some k) × IsDeepAt extents.now k) }
-    ensures first { IfErr result (λ e. (k : ℕ) × (e.code ≡ StaticCode.C4) × (e.template ≡ Some k) × All IsShallow (take k extents.now)) }
+    ensures fault { IfErr result (λ e. (k : ℕ) × (e.code ≡ StaticCode.C4) × (e.template ≡ Some k)
+        × IsDeepAt extents.now k) }
+    ensures first { IfErr result (λ e. (k : ℕ) × (e.code ≡ StaticCode.C4) × (e.template ≡ Some k)
+        × All IsShallow (take k extents.now)) }
 {
     for (k, extent) in extents.iter().enumerate() {
         if !is_shallow(*extent) {
@@ -128,8 +131,10 @@ fn known_nodes(extent: Option<Extent>) -> u32
 fn check_nodes(extents: &[Option<Extent>]) -> Result<(), StaticFault>
     requires { length extents.now < 2 ^ 32 }
     ensures few { OnOk result (sum_by known_nodes extents.now ≤ node_limit) }
-    ensures fault { IfErr result (λ e. (k : ℕ) × (e.code ≡ StaticCode.C6) × (e.template ≡ Some k) × (k < length extents.now) × (node_limit < sum_by known_nodes (take (suc k) extents.now))) }
-    ensures first { IfErr result (λ e. (k : ℕ) × (e.code ≡ StaticCode.C6) × (e.template ≡ Some k) × (sum_by known_nodes (take k extents.now) ≤ node_limit)) }
+    ensures fault { IfErr result (λ e. (k : ℕ) × (e.code ≡ StaticCode.C6) × (e.template ≡ Some k)
+        × (k < length extents.now) × (node_limit < sum_by known_nodes (take (suc k) extents.now))) }
+    ensures first { IfErr result (λ e. (k : ℕ) × (e.code ≡ StaticCode.C6) × (e.template ≡ Some k)
+        × (sum_by known_nodes (take k extents.now) ≤ node_limit)) }
 {
     let mut room = NODE_LIMIT;
     for (k, extent) in extents.iter().enumerate() {
@@ -152,9 +157,11 @@ fn check_cycles(
     templates: &[WrittenTemplate],
 ) -> Result<(), StaticFault>
     requires few { length templates.now < 2 ^ 32 }
-    requires index { (q : List ℕ) → get_by_text names.now q ≡ place_of_name q (map written_data templates.now) }
-    ensures fault { IfErr result (λ e. IsFaultAt (map written_data templates.now) e.code e.template) }
-    ensures first { AllPairs (λ a b. a.name ≢ b.name) (map written_data templates.now) → IfErr result (λ e. IfSome e.template (λ k. (e.code ≡ StaticCode.C3) × ((j : ℕ) → j < k → ¬ (StandsAt (map written_data templates.now) StaticCode.C3 j)))) }
+    requires index { (q : List ℕ) → get_by_text names.now q ≡ place_of_name q (templates_data templates.now) }
+    ensures fault { IfErr result (λ e. IsFaultAt (templates_data templates.now) e.code e.template) }
+    ensures first { AllPairs (λ a b. a.name ≢ b.name) (templates_data templates.now)
+        → IfErr result (λ e. IfSome e.template (λ k. (e.code ≡ StaticCode.C3)
+        × ((j : ℕ) → j < k → ¬ (StandsAt (templates_data templates.now) StaticCode.C3 j)))) }
 {
     match first_cyclic(alloc, names, templates) {
         Ok(None) => Ok(()),
@@ -170,15 +177,21 @@ fn check_cycles(
 /// no chain of references is too long, and no template too deep; and there are not too many nodes.
 pub(crate) fn check_chains(alloc: Global, set: &WrittenSet) -> Result<(), StaticFault>
     requires few { length set.now.templates.items < 2 ^ 32 }
-    requires names { (q : List ℕ) → get_by_text set.now.names q ≡ place_of_name q (map written_data set.now.templates.items) }
-    requires apart { AllPairs (λ a b. a.name ≢ b.name) (map written_data set.now.templates.items) }
-    requires known { KnowsReferences (map written_data set.now.templates.items) }
-    requires sound { All (λ t. All IsSound (all_uses t.fields)) (map written_data set.now.templates.items) }
-    ensures fits { OnOk result (All (λ t. Fits (map written_data set.now.templates.items) nesting_limit t.fields) (map written_data set.now.templates.items)) }
-    ensures shallow { OnOk result (All (λ t. depth_in (map written_data set.now.templates.items) nesting_limit t.fields ≤ nesting_limit) (map written_data set.now.templates.items)) }
-    ensures few_nodes { OnOk result (sum_by (λ t. nodes_in (map written_data set.now.templates.items) nesting_limit t.fields) (map written_data set.now.templates.items) ≤ node_limit) }
-    ensures fault { IfErr result (λ e. IsFaultAt (map written_data set.now.templates.items) e.code e.template) }
-    ensures first { IfErr result (λ e. IfSome e.template (IsFirstInChains (map written_data set.now.templates.items) e.code)) }
+    requires names { (q : List ℕ) → get_by_text set.now.names q
+        ≡ place_of_name q (templates_data set.now.templates.items) }
+    requires apart { AllPairs (λ a b. a.name ≢ b.name) (templates_data set.now.templates.items) }
+    requires known { KnowsReferences (templates_data set.now.templates.items) }
+    requires sound { All (λ t. All IsSound (all_uses t.fields)) (templates_data set.now.templates.items) }
+    ensures fits { OnOk result (All (λ t. Fits (templates_data set.now.templates.items) nesting_limit t.fields)
+        (templates_data set.now.templates.items)) }
+    ensures shallow { OnOk result (All (λ t. depth_in (templates_data set.now.templates.items) nesting_limit t.fields
+        ≤ nesting_limit) (templates_data set.now.templates.items)) }
+    ensures few_nodes { OnOk result (sum_by
+        (λ t. nodes_in (templates_data set.now.templates.items) nesting_limit t.fields)
+        (templates_data set.now.templates.items) ≤ node_limit) }
+    ensures fault { IfErr result (λ e. IsFaultAt (templates_data set.now.templates.items) e.code e.template) }
+    ensures first { IfErr result (λ e. IfSome e.template
+        (IsFirstInChains (templates_data set.now.templates.items) e.code)) }
 {
     let Ok(extents) = extents_of(alloc, &set.names, &set.templates) else {
         return Err(NO_MEMORY);

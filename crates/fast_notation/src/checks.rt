@@ -1,6 +1,6 @@
 //! The passes over a set that is written, each of which looks at the whole set.
 
-ghost use Rattle.std.specs.Prelude.{◌≡◌, ◌≢◌, ◌<◌, ◌^◌, ℕ, List, nat_eq, is_some, map, length, take, All, AllPairs, Some, IfSome, IsSome, IfOk, IfErr, OnOk};
+ghost use Rattle.std.specs.Prelude.{◌≡◌, ◌≢◌, ◌<◌, ◌^◌, ℕ, List, nat_eq, is_some, length, take, All, AllPairs, Some, IfSome, IsSome, IfOk, IfErr, OnOk};
 ghost use Rattle.std.specs.List.{list_all};
 ghost use Rattle.std.specs.HashMap.{get, get_by_text};
 ghost use Rattle.fast_tree.specs.AsWritten.{all_uses, references, all_references};
@@ -9,7 +9,7 @@ ghost use Rattle.fast_notation.specs.Firsts.{pass_of};
 ghost use Rattle.fast_tree.specs.Places.{place_of_name, place_of_id};
 ghost use Rattle.fast_notation.specs.References.{references_in, KnowsReferences};
 ghost use Rattle.fast_notation.specs.Sound.{IsSound};
-ghost use Rattle.fast_notation.specs.WrittenSets.{instruction_data, written_data};
+ghost use Rattle.fast_notation.specs.WrittenSets.{instruction_data, templates_data};
 
 use crate::codes::{StaticCode, StaticFault};
 use crate::uses::check_fields;
@@ -37,9 +37,10 @@ fn fault_at(code: StaticCode, template: usize) -> StaticFault
 /// The fourth pass: operators that do not suit their types, and initial values that are missing or mean nothing.
 pub(crate) fn check_uses(alloc: Global, templates: &[WrittenTemplate]) -> Result<(), StaticFault>
     requires { length templates.now < 2 ^ 32 }
-    ensures sound { OnOk result (All (λ t. All IsSound (all_uses t.fields)) (map written_data templates.now)) }
-    ensures fault { IfErr result (λ e. IsFaultAt (map written_data templates.now) e.code e.template) }
-    ensures first { IfErr result (λ e. IfSome e.template (λ k. (pass_of e.code ≡ 3) × All (λ t. All IsSound (all_uses t.fields)) (take k (map written_data templates.now)))) }
+    ensures sound { OnOk result (All (λ t. All IsSound (all_uses t.fields)) (templates_data templates.now)) }
+    ensures fault { IfErr result (λ e. IsFaultAt (templates_data templates.now) e.code e.template) }
+    ensures first { IfErr result (λ e. IfSome e.template (λ k. (pass_of e.code ≡ 3)
+        × All (λ t. All IsSound (all_uses t.fields)) (take k (templates_data templates.now)))) }
 {
     for (k, template) in templates.iter().enumerate() {
         if let Err(code) = check_fields(alloc, &template.fields) {
@@ -55,10 +56,11 @@ pub(crate) fn index_names(
     templates: &[WrittenTemplate],
 ) -> Result<HashMap<String, u32>, StaticFault>
     requires { length templates.now < 2 ^ 32 }
-    ensures names { OnOk result (AllPairs (λ a b. a.name ≢ b.name) (map written_data templates.now)) }
-    ensures index { IfOk result (λ m. (q : List ℕ) → get_by_text m q ≡ place_of_name q (map written_data templates.now)) }
-    ensures fault { IfErr result (λ e. IsFaultAt (map written_data templates.now) e.code e.template) }
-    ensures first { IfErr result (λ e. IfSome e.template (λ k. (e.code ≡ StaticCode.C1) × AllPairs (λ a b. a.name ≢ b.name) (take k (map written_data templates.now)))) }
+    ensures names { OnOk result (AllPairs (λ a b. a.name ≢ b.name) (templates_data templates.now)) }
+    ensures index { IfOk result (λ m. (q : List ℕ) → get_by_text m q ≡ place_of_name q (templates_data templates.now)) }
+    ensures fault { IfErr result (λ e. IsFaultAt (templates_data templates.now) e.code e.template) }
+    ensures first { IfErr result (λ e. IfSome e.template (λ k. (e.code ≡ StaticCode.C1)
+        × AllPairs (λ a b. a.name ≢ b.name) (take k (templates_data templates.now)))) }
 {
     let mut names = HashMap::new(alloc);
     for (k, template) in templates.iter().enumerate() {
@@ -81,10 +83,12 @@ pub(crate) fn index_ids(
     templates: &[WrittenTemplate],
 ) -> Result<HashMap<u32, u32>, StaticFault>
     requires { length templates.now < 2 ^ 32 }
-    ensures ids { OnOk result (AllPairs (λ a b. (id : ℕ) → a.id ≡ Some id → b.id ≢ Some id) (map written_data templates.now)) }
-    ensures index { IfOk result (λ m. (q : ℕ) → get nat_eq m q ≡ place_of_id q (map written_data templates.now)) }
-    ensures fault { IfErr result (λ e. IsFaultAt (map written_data templates.now) e.code e.template) }
-    ensures first { IfErr result (λ e. IfSome e.template (λ k. (e.code ≡ StaticCode.C2) × AllPairs (λ a b. (id : ℕ) → a.id ≡ Some id → b.id ≢ Some id) (take k (map written_data templates.now)))) }
+    ensures ids { OnOk result (AllPairs (λ a b. (id : ℕ) → a.id ≡ Some id → b.id ≢ Some id)
+        (templates_data templates.now)) }
+    ensures index { IfOk result (λ m. (q : ℕ) → get nat_eq m q ≡ place_of_id q (templates_data templates.now)) }
+    ensures fault { IfErr result (λ e. IsFaultAt (templates_data templates.now) e.code e.template) }
+    ensures first { IfErr result (λ e. IfSome e.template (λ k. (e.code ≡ StaticCode.C2)
+        × AllPairs (λ a b. (id : ℕ) → a.id ≡ Some id → b.id ≢ Some id) (take k (templates_data templates.now)))) }
 {
     let mut ids = HashMap::new(alloc);
     for (k, template) in templates.iter().enumerate() {
@@ -117,7 +121,8 @@ fn are_known(names: &HashMap<String, u32>, fields: &[WrittenInstruction]) -> boo
 /// Whether each reference of an instruction names a template.
 #[cycle(references)]
 fn is_known(names: &HashMap<String, u32>, instruction: &WrittenInstruction) -> bool
-    ensures { result ≡ list_all (λ q. is_some (get_by_text names.now q)) (references (instruction_data instruction.now)) }
+    ensures { result ≡ list_all (λ q. is_some (get_by_text names.now q))
+        (references (instruction_data instruction.now)) }
 {
     match instruction {
         WrittenInstruction::Scalar { .. } | WrittenInstruction::Parts { .. } => true,
@@ -133,10 +138,12 @@ pub(crate) fn check_references(
     templates: &[WrittenTemplate],
 ) -> Result<(), StaticFault>
     requires few { length templates.now < 2 ^ 32 }
-    requires index { (q : List ℕ) → get_by_text names.now q ≡ place_of_name q (map written_data templates.now) }
-    ensures known { OnOk result (KnowsReferences (map written_data templates.now)) }
-    ensures fault { IfErr result (λ e. IsFaultAt (map written_data templates.now) e.code e.template) }
-    ensures first { IfErr result (λ e. IfSome e.template (λ k. (e.code ≡ StaticCode.D8) × All (λ t. All (λ name. IsSome (place_of_name name (map written_data templates.now))) (all_references t.fields)) (take k (map written_data templates.now)))) }
+    requires index { (q : List ℕ) → get_by_text names.now q ≡ place_of_name q (templates_data templates.now) }
+    ensures known { OnOk result (KnowsReferences (templates_data templates.now)) }
+    ensures fault { IfErr result (λ e. IsFaultAt (templates_data templates.now) e.code e.template) }
+    ensures first { IfErr result (λ e. IfSome e.template (λ k. (e.code ≡ StaticCode.D8)
+        × All (λ t. All (λ name. IsSome (place_of_name name (templates_data templates.now))) (all_references t.fields))
+        (take k (templates_data templates.now)))) }
 {
     for (k, template) in templates.iter().enumerate() {
         if !are_known(names, &template.fields) {

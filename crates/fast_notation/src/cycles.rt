@@ -8,7 +8,7 @@ ghost use Rattle.fast_notation.specs.Cycles.{numbers, targets_of, IsReached, IsC
 ghost use Rattle.fast_tree.specs.Places.{place_of_name};
 ghost use Rattle.fast_notation.specs.Refused.{StandsAt};
 ghost use Rattle.fast_notation.specs.References.{references_in};
-ghost use Rattle.fast_notation.specs.WrittenSets.{instruction_data, written_data};
+ghost use Rattle.fast_notation.specs.WrittenSets.{instruction_data, templates_data};
 
 use crate::codes::StaticCode;
 use crate::components::components_of;
@@ -23,7 +23,8 @@ fn add_targets(
     names: &HashMap<String, u32>,
     fields: &[WrittenInstruction],
 ) -> Result<(), AllocError>
-    ensures { OnOk result (targets.new.items ≡ targets.old.items ++ filter_map (get_by_text names.now) (references_in fields.now)) }
+    ensures { OnOk result (targets.new.items
+        ≡ targets.old.items ++ filter_map (get_by_text names.now) (references_in fields.now)) }
 {
     for field in fields {
         add_target(targets, names, field)?;
@@ -38,7 +39,8 @@ fn add_target(
     names: &HashMap<String, u32>,
     instruction: &WrittenInstruction,
 ) -> Result<(), AllocError>
-    ensures { OnOk result (targets.new.items ≡ targets.old.items ++ filter_map (get_by_text names.now) (references (instruction_data instruction.now))) }
+    ensures { OnOk result (targets.new.items
+        ≡ targets.old.items ++ filter_map (get_by_text names.now) (references (instruction_data instruction.now))) }
 {
     match instruction {
         WrittenInstruction::Scalar { .. } | WrittenInstruction::Parts { .. } => Ok(()),
@@ -59,7 +61,8 @@ fn graph_of(
     names: &HashMap<String, u32>,
     templates: &[WrittenTemplate],
 ) -> Result<Vec<Vec<u32>>, AllocError>
-    ensures { IfOk result (λ v. map numbers v.items ≡ map (targets_of (get_by_text names.now)) (map written_data templates.now)) }
+    ensures { IfOk result (λ v. map numbers v.items
+        ≡ map (targets_of (get_by_text names.now)) (templates_data templates.now)) }
 {
     let mut graph = Vec::new(alloc);
     for template in templates {
@@ -160,9 +163,12 @@ pub(crate) fn first_cyclic(
     templates: &[WrittenTemplate],
 ) -> Result<Option<usize>, AllocError>
     requires few { length templates.now < 2 ^ 32 }
-    requires index { (q : List ℕ) → get_by_text names.now q ≡ place_of_name q (map written_data templates.now) }
-    ensures cyclic { IfOk result (λ o. IfSome o (λ k. (k < 2 ^ 32) × StandsAt (map written_data templates.now) StaticCode.C3 k)) }
-    ensures first { AllPairs (λ a b. a.name ≢ b.name) (map written_data templates.now) → IfOk result (λ o. IfSome o (λ k. (j : ℕ) → j < k → ¬ (StandsAt (map written_data templates.now) StaticCode.C3 j))) }
+    requires index { (q : List ℕ) → get_by_text names.now q ≡ place_of_name q (templates_data templates.now) }
+    ensures cyclic { IfOk result (λ o. IfSome o (λ k. (k < 2 ^ 32)
+        × StandsAt (templates_data templates.now) StaticCode.C3 k)) }
+    ensures first { AllPairs (λ a b. a.name ≢ b.name) (templates_data templates.now)
+        → IfOk result (λ o. IfSome o (λ k. (j : ℕ) → j < k
+        → ¬ (StandsAt (templates_data templates.now) StaticCode.C3 j))) }
 {
     let graph = graph_of(alloc, names, templates)?;
     let components = components_of(alloc, &graph)?;

@@ -1,21 +1,22 @@
 //! From the text of a template set to the set as it is written: the first pass, whose fault is S1.
 
-ghost use Rattle.std.specs.Prelude.{◌≡◌, ◌<◌, ◌^◌, codes, map, option_map, length, true, Some, None, Err, ℕ, IfOk, IfErr, IfSome, IsSome, string_bytes};
-ghost use Rattle.toml.specs.Data.{Data, Members, get_member, get_item};
+ghost use Rattle.std.specs.Prelude.{◌≡◌, ◌<◌, ◌^◌, codes, option_map, length, true, Some, None, Err, ℕ, IfOk, IfErr, IfSome, IsSome, string_bytes};
+ghost use Rattle.toml.specs.Data.{Data, Members, get_member, get_item, as_array};
 ghost use Rattle.toml.specs.Parse.{parse_document};
-ghost use Rattle.toml.specs.View.{view, items_view, table_view};
+ghost use Rattle.toml.specs.View.{view, items_view, array_view, table_view};
 ghost use Rattle.fast_notation.specs.Firsts.{IsFirstUnwritten};
 ghost use Rattle.fast_notation.specs.Notation.{WritesSet};
 ghost use Rattle.fast_notation.specs.Reading.{id_of, dictionary_of, template_of, template_in, all_templates, tables_of, are_tables, are_templates};
 ghost use Rattle.fast_notation.specs.Unwritten.{IsUnwritten};
 ghost use Rattle.fast_notation.specs.WrittenReading.{IsUnread};
-ghost use Rattle.fast_notation.specs.WrittenSets.{written_data};
+ghost use Rattle.fast_notation.specs.WrittenSets.{written_data, templates_data};
 
 use crate::codes::{StaticCode, StaticFault};
 use crate::keys::{Unread, flag_at, has_only, name_at, text_at, value_at};
 use crate::reading::{is_dictionary, nested_fields, owned};
 use crate::written::WrittenTemplate;
 use std::alloc::Global;
+use std::mem;
 use toml::{Table, Value};
 
 /// The identifier of a template, if it has one.
@@ -37,8 +38,10 @@ fn id_at(table: &Table) -> Result<Option<u32>, Unread>
 
 /// The dictionary of a template, which is the global one where nothing is written.
 fn dictionary_at<'a>(table: &'a Table) -> Result<&'a str, Unread>
-    ensures dictionary { IfOk result (λ s. dictionary_of (get_member (codes "dictionary") (table_view table.now)) ≡ Some s.now) }
-    ensures shape { result ≡ Err Unread.Shape → dictionary_of (get_member (codes "dictionary") (table_view table.now)) ≡ None }
+    ensures dictionary { IfOk result (λ s. dictionary_of (get_member (codes "dictionary") (table_view table.now))
+        ≡ Some s.now) }
+    ensures shape { result ≡ Err Unread.Shape
+        → dictionary_of (get_member (codes "dictionary") (table_view table.now)) ≡ None }
 {
     let Some(dictionary) = text_at(table, "dictionary")? else {
         return Ok("global");
@@ -100,24 +103,41 @@ fn are_templates(items: &[Value]) -> bool
     are_tables(items)
 }
 
-/// The tables of a document.
-fn tables_in(document: &Table) -> Option<&[Value]>
-    ensures tables { option_map (λ xs. items_view xs.now) result ≡ tables_of (table_view document.now) }
-    ensures few { IfSome result (λ xs. length xs.now < 2 ^ 32) }
+/// Takes what stands at a key out of a table.
+fn taken_at(table: &mut Table, key: &str) -> Option<Value>
+    ensures { option_map view result ≡ get_member key.now (table_view table.old) }
+{
+    table.remove(key)
+}
+
+/// The items of an array.
+fn items_of(value: Value) -> Option<Vec<Value>>
+    ensures { option_map array_view result ≡ as_array (view value) }
+{
+    match value {
+        Value::Array(items) => Some(items),
+        _ => None,
+    }
+}
+
+/// The tables of a document, taken out of it.
+fn tables_in(mut document: Table) -> Option<Vec<Value>>
+    ensures tables { option_map array_view result ≡ tables_of (table_view document) }
+    ensures few { IfSome result (λ v. length v.items < 2 ^ 32) }
 {
     if document.len() != 1 {
         return None;
     }
-    let Some(value) = value_at(document, "template") else {
+    let Some(value) = taken_at(&mut document, "template") else {
         return None;
     };
-    let Some(items) = value.as_array() else {
+    let Some(items) = items_of(value) else {
         return None;
     };
-    if !are_templates(items) {
+    if !are_templates(items.as_slice()) {
         return None;
     }
-    Some(items.as_slice())
+    Some(items)
 }
 
 /// A fault at a template.
@@ -149,16 +169,18 @@ fn template_at(alloc: Global, value: &Value) -> Result<WrittenTemplate, Unread>
     }
 }
 
-/// The templates of tables.
-fn templates_in(alloc: Global, items: &[Value]) -> Result<Vec<WrittenTemplate>, StaticFault>
-    requires { length items.now < 2 ^ 32 }
-    ensures templates { IfOk result (λ v. all_templates (items_view items.now) ≡ Some (map written_data v.items)) }
-    ensures fault { IfErr result (λ e. IsUnread (items_view items.now) e.code e.template) }
-    ensures first { IfErr result (λ e. IfSome e.template (λ k. (e.code ≡ StaticCode.S1) × ((j : ℕ) (d : Data) → j < k → get_item j (items_view items.now) ≡ Some d → IsSome (template_in d)))) }
+/// The templates of tables, each of which is dropped once it is read: the tree of a text takes many times the text's length.
+fn templates_in(alloc: Global, items: &mut [Value]) -> Result<Vec<WrittenTemplate>, StaticFault>
+    requires { length items.old < 2 ^ 32 }
+    ensures templates { IfOk result (λ v. all_templates (items_view items.old) ≡ Some (templates_data v.items)) }
+    ensures fault { IfErr result (λ e. IsUnread (items_view items.old) e.code e.template) }
+    ensures first { IfErr result (λ e. IfSome e.template (λ k. (e.code ≡ StaticCode.S1)
+        × ((j : ℕ) (d : Data) → j < k → get_item j (items_view items.old) ≡ Some d → IsSome (template_in d)))) }
 {
     let mut templates = Vec::new(alloc);
-    for (k, item) in items.iter().enumerate() {
-        let template = match template_at(alloc, item) {
+    for k in 0..items.len() {
+        let item = mem::replace(&mut items[k], Value::Boolean(false));
+        let template = match template_at(alloc, &item) {
             Ok(template) => template,
             Err(fault) => return Err(fault_at(fault, k)),
         };
@@ -172,9 +194,11 @@ fn templates_in(alloc: Global, items: &[Value]) -> Result<Vec<WrittenTemplate>, 
 
 /// The set that a text writes.
 pub(crate) fn read_written(alloc: Global, text: &str) -> Result<Vec<WrittenTemplate>, StaticFault>
-    ensures written { IfOk result (λ v. (document : Members) × (parse_document text.now ≡ Some document) × WritesSet document (map written_data v.items)) }
+    ensures written { IfOk result (λ v. (document : Members) × (parse_document text.now ≡ Some document)
+        × WritesSet document (templates_data v.items)) }
     ensures fault { IfErr result (λ e. IsUnwritten (parse_document text.now) e.code e.template) }
-    ensures first { IfErr result (λ e. IfSome e.template (λ k. (e.code ≡ StaticCode.S1) × IsFirstUnwritten (parse_document text.now) k)) }
+    ensures first { IfErr result (λ e. IfSome e.template (λ k. (e.code ≡ StaticCode.S1)
+        × IsFirstUnwritten (parse_document text.now) k)) }
 {
     let document = match toml::table_from_str(alloc, text) {
         Ok(document) => document,
@@ -186,8 +210,8 @@ pub(crate) fn read_written(alloc: Global, text: &str) -> Result<Vec<WrittenTempl
         }
         Err(_) => return Err(no_set()),
     };
-    match tables_in(&document) {
-        Some(items) => templates_in(alloc, items),
+    match tables_in(document) {
+        Some(mut items) => templates_in(alloc, &mut items),
         None => Err(no_set()),
     }
 }

@@ -1,12 +1,12 @@
 //! The dictionary entries of a set, numbered in the order of its text.
 
-ghost use Rattle.std.specs.Prelude.{◌≡◌, ◌⊎◌, ◌++◌, ◌∷◌, [], suc, ◌<◌, ◌≤◌, ◌*◌, ◌^◌, slice_get, length, map, Contains, Some, IfSome, IfNone, IfOk, OnOk};
+ghost use Rattle.std.specs.Prelude.{◌≡◌, ◌⊎◌, ◌++◌, ◌∷◌, [], suc, ◌<◌, ◌≤◌, ◌*◌, ◌^◌, slice_get, length, Contains, Some, IfSome, IfNone, IfOk, OnOk};
 ghost use Rattle.fast_tree.specs.AsWritten.{uses};
 ghost use Rattle.fast_tree.specs.Entries.{IsPlace, IsEntry, EntryNumber, keeps_value, Collects, in_scope, uses_from};
 ghost use Rattle.fast_notation.specs.EntryKeys.{scope_data, use_data, place_data, key_data, entries_of, HasEntry};
 ghost use Rattle.fast_tree.specs.Sizes.{node_limit};
 ghost use Rattle.fast_notation.specs.Sound.{uses_in};
-ghost use Rattle.fast_notation.specs.WrittenSets.{instruction_data, written_data};
+ghost use Rattle.fast_notation.specs.WrittenSets.{instruction_data, templates_data};
 
 use crate::scopes::{OperatorUse, TextScope, exponent_use, length_use, mantissa_use, scalar_use};
 use crate::uses::OperatorPart;
@@ -89,8 +89,10 @@ fn key_of(
 impl Entries {
     /// Puts an entry behind the others, if it is none of them.
     fn add(&mut self, key: EntryKey) -> Result<(), AllocError>
-        ensures { OnOk result (Contains (entries_of self.old) (key_data key) × (entries_of self.new ≡ entries_of self.old)
-            ⊎ ¬ (Contains (entries_of self.old) (key_data key)) × (entries_of self.new ≡ entries_of self.old ++ key_data key ∷ [])) }
+        ensures { OnOk result (Contains (entries_of self.old) (key_data key)
+            × (entries_of self.new ≡ entries_of self.old)
+            ⊎ ¬ (Contains (entries_of self.old) (key_data key))
+            × (entries_of self.new ≡ entries_of self.old ++ key_data key ∷ [])) }
     {
         match self.keys.insert_full(key) {
             Ok(_) => Ok(()),
@@ -123,7 +125,8 @@ impl Entries {
     ) -> Result<Option<u32>, AllocError>
         requires few { length (entries_of self.now) ≤ 2 * node_limit }
         requires there { HasEntry (entries_of self.now) (scope_data scope) (use_data used) }
-        ensures { IfOk result (λ n. EntryNumber (entries_of self.now) (scope_data scope.entry) (use_data used.entry) n) }
+        ensures { IfOk result (λ n. EntryNumber (entries_of self.now) (scope_data scope.entry) (use_data used.entry)
+            n) }
     {
         if !keeps_value(used.written.operator) {
             return Ok(None);
@@ -142,7 +145,8 @@ impl Entries {
         scope: TextScope<'_>,
         used: OperatorUse<'_>,
     ) -> Result<(), AllocError>
-        ensures { OnOk result (Collects (entries_of self.old) ((scope_data scope.entry, use_data used.entry) ∷ []) (entries_of self.new)) }
+        ensures { OnOk result (Collects (entries_of self.old) ((scope_data scope.entry, use_data used.entry) ∷ [])
+            (entries_of self.new)) }
     {
         if keeps_value(used.written.operator) {
             let key = key_of(alloc, scope, used)?;
@@ -159,7 +163,8 @@ impl Entries {
         scope: TextScope<'_>,
         fields: &[WrittenInstruction],
     ) -> Result<(), AllocError>
-        ensures { OnOk result (Collects (entries_of self.old) (in_scope (scope_data scope.entry) (uses_in fields.now)) (entries_of self.new)) }
+        ensures { OnOk result (Collects (entries_of self.old) (in_scope (scope_data scope.entry) (uses_in fields.now))
+            (entries_of self.new)) }
     {
         for field in fields {
             self.add_instruction(alloc, scope, field)?;
@@ -175,7 +180,8 @@ impl Entries {
         scope: TextScope<'_>,
         instruction: &WrittenInstruction,
     ) -> Result<(), AllocError>
-        ensures { OnOk result (Collects (entries_of self.old) (in_scope (scope_data scope.entry) (uses (instruction_data instruction.now))) (entries_of self.new)) }
+        ensures { OnOk result (Collects (entries_of self.old)
+            (in_scope (scope_data scope.entry) (uses (instruction_data instruction.now))) (entries_of self.new)) }
     {
         match instruction {
             WrittenInstruction::Scalar {
@@ -227,7 +233,7 @@ pub(crate) fn collect_entries(
     templates: &[WrittenTemplate],
 ) -> Result<Entries, AllocError>
     requires { length templates.now < 2 ^ 32 }
-    ensures { IfOk result (λ es. Collects [] (uses_from 0 (map written_data templates.now)) (entries_of es)) }
+    ensures { IfOk result (λ es. Collects [] (uses_from 0 (templates_data templates.now)) (entries_of es)) }
 {
     let mut entries = Entries {
         keys: IndexSet::new(alloc),

@@ -50,7 +50,8 @@ pub(crate) fn has_only(table: &Table, keys: &[&str]) -> bool
 
 /// The text at a key, if there is something.
 pub(crate) fn text_at<'a>(table: &'a Table, key: &str) -> Result<Option<&'a str>, Unread>
-    ensures text { IfOk result (λ o. text_of (get_member key.now (table_view table.now)) ≡ Some (option_map (λ s. s.now) o)) }
+    ensures text { IfOk result (λ o. text_of (get_member key.now (table_view table.now))
+        ≡ Some (option_map (λ s. s.now) o)) }
     ensures shape { result ≡ Err Unread.Shape → text_of (get_member key.now (table_view table.now)) ≡ None }
 {
     let Some(value) = value_at(table, key) else {
@@ -78,7 +79,8 @@ pub(crate) fn flag_at(table: &Table, key: &str) -> Result<bool, Unread>
 
 /// The items of the array at a key, if there is something.
 pub(crate) fn items_at<'a>(table: &'a Table, key: &str) -> Result<&'a [Value], Unread>
-    ensures items { IfOk result (λ xs. items_of (get_member key.now (table_view table.now)) ≡ Some (items_view xs.now)) }
+    ensures items { IfOk result (λ xs. items_of (get_member key.now (table_view table.now))
+        ≡ Some (items_view xs.now)) }
     ensures shape { result ≡ Err Unread.Shape → items_of (get_member key.now (table_view table.now)) ≡ None }
 {
     let Some(value) = value_at(table, key) else {

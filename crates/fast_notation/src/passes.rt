@@ -1,12 +1,12 @@
 //! The first five passes over the text of a template set, in their order.
 
-ghost use Rattle.std.specs.Prelude.{◌≡◌, ℕ, List, nat_eq, map, IfOk, IfErr};
+ghost use Rattle.std.specs.Prelude.{◌≡◌, ℕ, List, nat_eq, IfOk, IfErr};
 ghost use Rattle.std.specs.HashMap.{get, get_by_text};
 ghost use Rattle.toml.specs.Parse.{parse_document};
 ghost use Rattle.fast_notation.specs.Firsts.{IsFirstFault};
 ghost use Rattle.fast_notation.specs.FivePasses.{IsWellWritten, IsAtFault};
 ghost use Rattle.fast_tree.specs.Places.{place_of_name, place_of_id};
-ghost use Rattle.fast_notation.specs.WrittenSets.{written_data};
+ghost use Rattle.fast_notation.specs.WrittenSets.{templates_data};
 
 use crate::checks::{check_references, check_uses, index_ids, index_names};
 use crate::codes::StaticFault;
@@ -26,9 +26,10 @@ pub(crate) struct WrittenSet {
 /// The set that a text writes, where the first five passes find no fault: shape, names, identifiers, operators,
 /// references.
 pub(crate) fn read_set(alloc: Global, text: &str) -> Result<WrittenSet, StaticFault>
-    ensures set { IfOk result (λ s. IsWellWritten (parse_document text.now) (map written_data s.templates.items)) }
-    ensures names { IfOk result (λ s. (q : List ℕ) → get_by_text s.names q ≡ place_of_name q (map written_data s.templates.items)) }
-    ensures ids { IfOk result (λ s. (q : ℕ) → get nat_eq s.ids q ≡ place_of_id q (map written_data s.templates.items)) }
+    ensures set { IfOk result (λ s. IsWellWritten (parse_document text.now) (templates_data s.templates.items)) }
+    ensures names { IfOk result (λ s. (q : List ℕ)
+        → get_by_text s.names q ≡ place_of_name q (templates_data s.templates.items)) }
+    ensures ids { IfOk result (λ s. (q : ℕ) → get nat_eq s.ids q ≡ place_of_id q (templates_data s.templates.items)) }
     ensures fault { IfErr result (λ e. IsAtFault (parse_document text.now) e.code e.template) }
     ensures first { IfErr result (λ e. IsFirstFault (parse_document text.now) e.code e.template) }
 {

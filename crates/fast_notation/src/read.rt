@@ -25,10 +25,12 @@ impl CheckedSet {
     /// The fault of the first pass that finds one, at the first template at which it stands: S1, C1, C2, S2 to S5, D8,
     /// C3, C4, C6, C5. Or that there was no memory left.
     pub fn read(alloc: Global, text: &str) -> Result<CheckedSet, StaticFault>
-        ensures read { IfOk result (λ s. (document : Members) × (parse_document text.now ≡ Some document) × IsTree document (tree_of_set s)) }
+        ensures read { IfOk result (λ s. (document : Members) × (parse_document text.now ≡ Some document)
+            × IsTree document (tree_of_set s)) }
         ensures fault { IfErr result (λ e. IsAtFault (parse_document text.now) e.code e.template) }
         ensures first { IfErr result (λ e. IsFirstFault (parse_document text.now) e.code e.template) }
-        ensures none { IfErr result (λ e. e.code ≢ StaticCode.Memory → (document : Members) (t : Tree) → parse_document text.now ≡ Some document → ¬ (IsTree document t)) }
+        ensures none { IfErr result (λ e. e.code ≢ StaticCode.Memory → (document : Members) (t : Tree)
+            → parse_document text.now ≡ Some document → ¬ (IsTree document t)) }
     {
         let set = read_set(alloc, text)?;
         check_chains(alloc, &set)?;

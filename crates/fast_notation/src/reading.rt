@@ -64,7 +64,8 @@ fn operator_at(table: &Table) -> Result<Operator, Unread>
 
 /// The text at a key in memory of its own, if there is something.
 fn string_at(alloc: Global, table: &Table, key: &str) -> Result<Option<String>, Unread>
-    ensures text { IfOk result (λ o. text_of (get_member key.now (table_view table.now)) ≡ Some (option_map string_bytes o)) }
+    ensures text { IfOk result (λ o. text_of (get_member key.now (table_view table.now))
+        ≡ Some (option_map string_bytes o)) }
     ensures shape { result ≡ Err Unread.Shape → text_of (get_member key.now (table_view table.now)) ≡ None }
 {
     let Some(text) = text_at(table, key)? else {
@@ -152,8 +153,10 @@ pub(crate) fn owned(alloc: Global, text: &str) -> Result<String, Unread>
 
 /// The operator of the part at a key, which has none where nothing is written.
 fn part_at(alloc: Global, table: &Table, key: &str) -> Result<WrittenOperator, Unread>
-    ensures part { IfOk result (λ w. part_of operator_keys (get_member key.now (table_view table.now)) ≡ Some (operator_data w)) }
-    ensures shape { result ≡ Err Unread.Shape → part_of operator_keys (get_member key.now (table_view table.now)) ≡ None }
+    ensures part { IfOk result (λ w. part_of operator_keys (get_member key.now (table_view table.now))
+        ≡ Some (operator_data w)) }
+    ensures shape { result ≡ Err Unread.Shape
+        → part_of operator_keys (get_member key.now (table_view table.now)) ≡ None }
 {
     let Some(value) = value_at(table, key) else {
         return Ok(plain());
@@ -181,7 +184,8 @@ fn plain() -> WrittenOperator
 
 /// The name of a length, if it has one.
 fn own_name_at(alloc: Global, table: &Table) -> Result<Option<String>, Unread>
-    ensures name { IfOk result (λ o. own_name_of (get_member (codes "name") (table_view table.now)) ≡ Some (option_map string_bytes o)) }
+    ensures name { IfOk result (λ o. own_name_of (get_member (codes "name") (table_view table.now))
+        ≡ Some (option_map string_bytes o)) }
     ensures shape { result ≡ Err Unread.Shape → own_name_of (get_member (codes "name") (table_view table.now)) ≡ None }
 {
     let name = string_at(alloc, table, "name")?;
@@ -200,7 +204,8 @@ struct WrittenLength {
 
 /// The length that a table writes.
 fn length_at(alloc: Global, table: &Table) -> Result<WrittenLength, Unread>
-    ensures length { IfOk result (λ l. length_of (get_member (codes "length") (table_view table.now)) ≡ Some (option_map string_bytes l.name, operator_data l.operator)) }
+    ensures length { IfOk result (λ l. length_of (get_member (codes "length") (table_view table.now))
+        ≡ Some (option_map string_bytes l.name, operator_data l.operator)) }
     ensures shape { result ≡ Err Unread.Shape → length_of (get_member (codes "length") (table_view table.now)) ≡ None }
 {
     let Some(value) = value_at(table, "length") else {
@@ -278,8 +283,10 @@ fn group_in(
     table: &Table,
     fields: Vec<WrittenInstruction>,
 ) -> Result<WrittenInstruction, Unread>
-    ensures group { IfOk result (λ w. group_of (table_view table.now) (Some (fields_data fields.items)) ≡ Some (instruction_data w)) }
-    ensures shape { result ≡ Err Unread.Shape → group_of (table_view table.now) (Some (fields_data fields.items)) ≡ None }
+    ensures group { IfOk result (λ w. group_of (table_view table.now) (Some (fields_data fields.items))
+        ≡ Some (instruction_data w)) }
+    ensures shape { result ≡ Err Unread.Shape
+        → group_of (table_view table.now) (Some (fields_data fields.items)) ≡ None }
 {
     if !has_only(table, &["kind", "name", "optional", "fields"]) {
         return Err(Unread::Shape);
@@ -300,8 +307,10 @@ fn sequence_in(
     table: &Table,
     fields: Vec<WrittenInstruction>,
 ) -> Result<WrittenInstruction, Unread>
-    ensures sequence { IfOk result (λ w. sequence_of (table_view table.now) (Some (fields_data fields.items)) ≡ Some (instruction_data w)) }
-    ensures shape { result ≡ Err Unread.Shape → sequence_of (table_view table.now) (Some (fields_data fields.items)) ≡ None }
+    ensures sequence { IfOk result (λ w. sequence_of (table_view table.now) (Some (fields_data fields.items))
+        ≡ Some (instruction_data w)) }
+    ensures shape { result ≡ Err Unread.Shape
+        → sequence_of (table_view table.now) (Some (fields_data fields.items)) ≡ None }
 {
     if !has_only(table, &["kind", "name", "optional", "fields", "length"]) {
         return Err(Unread::Shape);

@@ -84,7 +84,8 @@ pub(crate) fn length_use<'a>(
     own: &'a Option<String>,
     written: &'a WrittenOperator,
 ) -> OperatorUse<'a>
-    ensures use_of { use_data result ≡ length_use name.now optional (option_map string_bytes own.now) (operator_data written.now) }
+    ensures use_of { use_data result ≡ length_use name.now optional (option_map string_bytes own.now)
+        (operator_data written.now) }
     ensures exponent { result.part ≡ OperatorPart.Exponent → result.kind ≡ Kind.Int32 }
 {
     match own {

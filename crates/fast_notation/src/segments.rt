@@ -2,24 +2,13 @@
 
 ghost use Rattle.std.specs.Prelude.{◌≡◌, ◌↔◌, ℕ, ◌<◌, ◌≤◌, ◌^◌, length, map, take, slice_get, slice_index_or, All, Some, IsTrue, OnOk, IfErr, List};
 ghost use Rattle.fast_notation.specs.Checked.{IsNarrowInside};
-ghost use Rattle.fast_tree.specs.Nodes.{field_data, body_of, instruction_of, instructions_from, no_instruction, template_data};
+ghost use Rattle.fast_tree.specs.Nodes.{body_of, instruction_of, instructions_from, no_instruction, template_data};
 ghost use Rattle.fast_tree.specs.Numbers.{AreBelow, NameNodes, NameLaterNodes};
 ghost use Rattle.fast_notation.specs.Segments.{IsNarrowSegment, IsNarrow, IsWide};
-ghost use Rattle.fast_tree.specs.Tree.{Label, Instruction, uses_bit, bits_used, bits_of, TemplateData};
+ghost use Rattle.fast_tree.specs.Tree.{Label, Instruction, bits_used, bits_of, TemplateData};
 
 use crate::limits::SEGMENT_LIMIT;
-use fast_tree::{FieldInstruction, Node, Operator, Shape, Template};
-
-/// Whether a field uses a presence bit.
-fn uses_bit(field: &FieldInstruction) -> bool
-    ensures { result ≡ uses_bit (field_data field.now) }
-{
-    match field.operator {
-        Operator::None | Operator::Delta => false,
-        Operator::Constant => field.optional,
-        Operator::Default | Operator::Copy | Operator::Increment | Operator::Tail => true,
-    }
-}
+use fast_tree::{Node, Shape, Template};
 
 /// The bits that an instruction uses of its own segment.
 fn bits_used(shape: &Shape) -> usize
@@ -27,12 +16,12 @@ fn bits_used(shape: &Shape) -> usize
     ensures number { (at : Label) (is : List Instruction) → result ≡ bits_used (instruction_of at 0 is shape.now) }
 {
     match shape {
-        Shape::Field(field) => usize::from(uses_bit(field)),
+        Shape::Field(field) => usize::from(field.uses_bit()),
         Shape::Decimal { exponent, mantissa } => {
-            usize::from(uses_bit(exponent)) + usize::from(uses_bit(mantissa))
+            usize::from(exponent.uses_bit()) + usize::from(mantissa.uses_bit())
         }
         Shape::Group { optional, .. } => usize::from(*optional),
-        Shape::Sequence { length, .. } => usize::from(uses_bit(length)),
+        Shape::Sequence { length, .. } => usize::from(length.uses_bit()),
     }
 }
 
@@ -97,8 +86,10 @@ pub(crate) fn check_segments(nodes: &[Node], templates: &[Template]) -> Result<(
     requires named { NameNodes (length nodes.now) templates.now }
     requires few { length templates.now < 2 ^ 32 }
     ensures narrow { OnOk result (All IsNarrow (map (template_data (instructions_from 0 nodes.now)) templates.now)) }
-    ensures wide { IfErr result (λ k. (u : TemplateData) × (slice_get (map (template_data (instructions_from 0 nodes.now)) templates.now) k ≡ Some u) × IsWide u) }
-    ensures first { IfErr result (λ k. All IsNarrow (take k (map (template_data (instructions_from 0 nodes.now)) templates.now))) }
+    ensures wide { IfErr result (λ k. (u : TemplateData)
+        × (slice_get (map (template_data (instructions_from 0 nodes.now)) templates.now) k ≡ Some u) × IsWide u) }
+    ensures first { IfErr result (λ k. All IsNarrow
+        (take k (map (template_data (instructions_from 0 nodes.now)) templates.now))) }
 {
     for (k, template) in templates.iter().enumerate() {
         if !is_narrow(nodes, template) {

@@ -120,8 +120,10 @@ fn check_length(
     name: &Option<String>,
     written: &WrittenOperator,
 ) -> Result<(), StaticCode>
-    ensures sound { OnOk result (IsSound (length_use [] optional (option_map string_bytes name.now) (operator_data written.now))) }
-    ensures fault { IfErr result (λ c. IsUnsound c (length_use [] optional (option_map string_bytes name.now) (operator_data written.now))) }
+    ensures sound { OnOk result (IsSound
+        (length_use [] optional (option_map string_bytes name.now) (operator_data written.now))) }
+    ensures fault { IfErr result (λ c. IsUnsound c
+        (length_use [] optional (option_map string_bytes name.now) (operator_data written.now))) }
 {
     match name {
         Some(_) => check_use(alloc, OperatorPart::Whole, Kind::UInt32, optional, written),

@@ -28,3 +28,4 @@ pub mod AllNamed
 pub mod Shown
 pub mod ShownMessages
 pub mod ReadAgain
+mod Utf8Lines

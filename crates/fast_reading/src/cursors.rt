@@ -1,6 +1,6 @@
 //! The lines of a text, one after the other.
 
-ghost use Rattle.std.specs.Prelude.{◌≡◌, ◌≢◌, ℕ, ◌≤◌, ◌∷◌, ◌++◌, length, IsUtf8, IsSome, IfSome, IfNone, IfOk, IfErr};
+ghost use Rattle.std.specs.Prelude.{◌≡◌, ◌≢◌, ℕ, ◌≤◌, ◌∷◌, ◌++◌, length, IsUtf8, IsTrue, IsSome, IfSome, IfNone, IfOk, IfErr};
 ghost use Rattle.fast_lines.specs.Forms.{LineData, IsForm, line_data, text_of_line};
 ghost use Rattle.fast_lines.specs.Values.{Lacks};
 ghost use Rattle.fast_reading.specs.Ahead.{IsValueOf, TellsValue, TellsNone, IsAt, IsAtText, IsNextNumber, IsNextText, IsOneLine, OnBadLine, HasNoValue, HasNoLines};
@@ -8,8 +8,9 @@ ghost use Rattle.fast_reading.specs.Reading.{closed};
 
 use crate::faults::{LineFault, TextFault};
 use fast_lines::forms::{Line, parse_line};
-use fast_lines::values::{is_number, parse_value, split_at_byte};
+use fast_lines::values::{is_number, parse_value};
 use fast_value::Value;
+use memchr::memchr;
 use std::alloc::Global;
 use std::str;
 
@@ -24,10 +25,26 @@ pub struct Cursor<'a> {
     pub number: u64,
     /// What follows the line ahead.
     pub rest: &'a [u8],
+    /// What follows is known to be UTF-8, so that no line of it is looked at again.
+    pub is_utf8: bool,
     ghost told: { TellsValue line value },
     ghost untold: { TellsNone line value },
     ghost one_line: { IsOneLine line },
     ghost formed: { ∥ IfSome line (λ l. IsForm (line_data l)) ∥₁ },
+    ghost utf8: { IsTrue is_utf8 → ∥ IsUtf8 rest.now ∥₁ },
+}
+
+/// What stands before the first LF of a text, and behind it.
+#[inline(always)]
+fn split_at_feed(text: &[u8]) -> Option<(&[u8], &[u8])>
+    ensures parts { IfSome result (λ r. text.now ≡ r.0.now ++ 0x0A ∷ r.1.now) }
+    ensures first { IfSome result (λ r. Lacks 0x0A r.0.now) }
+    ensures none { IfNone result (Lacks 0x0A text.now) }
+{
+    match memchr(b'\n', text) {
+        Some(at) => Some((&text[..at], &text[at + 1..])),
+        None => None,
+    }
 }
 
 /// The first line of a text, without its LF, and what follows it. The last line may have none.
@@ -35,23 +52,26 @@ pub fn first_line(text: &[u8]) -> (&[u8], &[u8])
     requires { 1 ≤ length text.now }
     ensures parts { closed text.now ≡ result.0.now ++ 0x0A ∷ closed result.1.now }
     ensures line { Lacks 0x0A result.0.now }
+    ensures utf8 { IsUtf8 text.now → IsUtf8 result.0.now × IsUtf8 result.1.now }
 {
-    match split_at_byte(text, b'\n') {
+    match split_at_feed(text) {
         Some((line, rest)) => (line, rest),
         None => (text, b"".as_slice()),
     }
 }
 
-/// The line, if the text is UTF-8 and of a line's form.
-pub fn checked_line(text: &[u8]) -> Option<Line<'_>>
+/// The line, if the text is UTF-8 and of a line's form. Where it is known to be UTF-8, that is not looked for.
+pub fn checked_line(text: &[u8], is_utf8: bool) -> Option<Line<'_>>
+    requires { IsTrue is_utf8 → IsUtf8 text.now }
     ensures utf8 { IfSome result (λ _. IsUtf8 text.now) }
     ensures line { IfSome result (λ l. text.now ≡ text_of_line (line_data l)) }
     ensures form { IfSome result (λ l. IsForm (line_data l)) }
     ensures none { IfNone result ((d : LineData) → IsForm d → IsUtf8 (text_of_line d) → text.now ≢ text_of_line d) }
 {
-    match str::from_utf8(text) {
-        Ok(_) => parse_line(text),
-        Err(_) => None,
+    if is_utf8 || str::from_utf8(text).is_ok() {
+        parse_line(text)
+    } else {
+        None
     }
 }
 
@@ -90,11 +110,17 @@ impl<'a> Cursor<'a> {
         ensures line { IfErr result (IsAtText 1 (closed text.entry.now)) }
         ensures refused { IfErr result (OnBadLine (HasNoLines (closed text.entry.now))) }
     {
-        Cursor::at(alloc, text, 1)
+        Cursor::at(alloc, text, 1, str::from_utf8(text).is_ok())
     }
 
-    /// The place before a text whose first line has this number.
-    fn at(alloc: Global, text: &'a [u8], number: u64) -> Result<Cursor<'a>, TextFault>
+    /// The place before a text whose first line has this number, and which may be known to be UTF-8.
+    fn at(
+        alloc: Global,
+        text: &'a [u8],
+        number: u64,
+        is_utf8: bool,
+    ) -> Result<Cursor<'a>, TextFault>
+        requires { IsTrue is_utf8 → IsUtf8 text.now }
         ensures ahead { IfOk result (λ c. ahead c ≡ closed text.entry.now) }
         ensures number { IfOk result (λ c. c.number ≡ number) }
         ensures line { IfErr result (IsAtText number (closed text.entry.now)) }
@@ -106,10 +132,11 @@ impl<'a> Cursor<'a> {
                 value: None,
                 number,
                 rest: text,
+                is_utf8,
             });
         }
         let (first, rest) = first_line(text);
-        let Some(line) = checked_line(first) else {
+        let Some(line) = checked_line(first, is_utf8) else {
             return Err(TextFault::BadLine {
                 line: number,
                 kind: LineFault::Form,
@@ -121,23 +148,30 @@ impl<'a> Cursor<'a> {
             value,
             number,
             rest,
+            is_utf8,
         })
     }
 
-    /// The place before a text that stands behind the line of this number.
+    /// The place before a text that stands behind the line of this number, and which may be known to be UTF-8.
     ///
     /// # Errors
     ///
     /// The line behind it is not of a line's form; memory was refused.
     #[inline(always)]
-    pub fn behind(alloc: Global, number: u64, text: &'a [u8]) -> Result<Cursor<'a>, TextFault>
+    pub fn behind(
+        alloc: Global,
+        number: u64,
+        text: &'a [u8],
+        is_utf8: bool,
+    ) -> Result<Cursor<'a>, TextFault>
+        requires { IsTrue is_utf8 → IsUtf8 text.now }
         ensures ahead { IfOk result (λ c. ahead c ≡ closed text.entry.now) }
         ensures number { IfOk result (λ c. IsNextNumber number c.number) }
         ensures line { IfErr result (IsNextText number (closed text.entry.now)) }
         ensures refused { IfErr result (OnBadLine (HasNoLines (closed text.entry.now))) }
     {
         // no text has so many lines that this saturates
-        Cursor::at(alloc, text, number.saturating_add(1))
+        Cursor::at(alloc, text, number.saturating_add(1), is_utf8)
     }
 
     /// The place behind the line ahead.
@@ -152,7 +186,7 @@ impl<'a> Cursor<'a> {
         ensures line { IfErr result (IsNear self.entry) }
         ensures refused { IfErr result (OnBadLine (HasNoNext self.entry)) }
     {
-        Cursor::behind(alloc, self.number, self.rest)
+        Cursor::behind(alloc, self.number, self.rest, self.is_utf8)
     }
 
     /// That the line ahead is at fault.

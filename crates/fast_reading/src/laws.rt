@@ -56,7 +56,8 @@ pub fn one_reading()
 /// Lines of messages are read as these messages, where memory is given.
 pub fn lines_are_read_back()
     // Read is what `read_lines` ensures of its result by `ok` and `err`.
-    ensures { (t : Tree) (ms : List MessageData) (text : List ℕ) (r : Result (Vec Message Global) TextFault) → HasDistinctBodies t
+    ensures { (t : Tree) (ms : List MessageData) (text : List ℕ) (r : Result (Vec Message Global) TextFault)
+        → HasDistinctBodies t
         → HasDistinctNames t → HasNames t → All (SuitsTemplate t) ms → All IsShown (flat_map (events t) ms)
         → closed text ≡ lines t (flat_map (events t) ms) → IsRead t text r → IsReadAs ms r }
 {}
@@ -89,21 +90,26 @@ pub fn refused_says_nothing()
 /// A value of a kind can be read back from its line: the types of values hold it, and its text is UTF-8.
 pub fn values_are_shown()
     // IsOfKind is what `events_are_of_fields` of fast_laws says of each value of a stream; HasBytes holds of all values of the Rust type.
-    ensures { (l : Limits) (kind : Kind) (v : ScalarData) → IsOfKind l kind v → HasBytes v → IsHeld v × IsUtf8 (written v) }
+    ensures { (l : Limits) (kind : Kind) (v : ScalarData) → IsOfKind l kind v → HasBytes v
+        → IsHeld v × IsUtf8 (written v) }
 {}
 
 /// The events of messages that suit their templates can be read back, if the elements of byte vectors are bytes.
 pub fn messages_are_shown()
-    // HoldsBytes is so of each event of the Rust type, and of those of a `Message`.
-    ensures { (t : Tree) (ms : List MessageData) → All (SuitsTemplate t) ms → All HoldsBytes (flat_map (events t) ms) → All IsShown (flat_map (events t) ms) }
+    // HoldsBytes is what `event_holds_bytes` ensures of each event that a sink is handed; it is so of those of a `Message` too.
+    ensures { (t : Tree) (ms : List MessageData) → All (SuitsTemplate t) ms → All HoldsBytes (flat_map (events t) ms)
+        → All IsShown (flat_map (events t) ms) }
 {}
 
 /// The lines of a stream of whole messages are read as the messages that its bytes spell, where memory is given, and these are encoded
 /// again, but for ASCII texts with U+0000.
 pub fn shown_lines_are_read()
     // IsTree is what `Templates::read` ensures of the set, and IsGrantedTree is given by `set_is_granted` of fast_laws; Stream by
-    // `Decoder::feed_all`, `feed` and `push` (`followed`), and IsRead by `read_lines`. HoldsBytes is so of each event of the Rust type.
-    ensures { (document : Members) (t : Templates) (l : Limits) (w : List ℕ) (es : List EventData) (text : List ℕ) (r : Result (Vec Message Global) TextFault)
-        → IsTree document (tree_of t) → IsGrantedTree l (tree_of t) → Stream (tree_of t) l w es between → All HoldsBytes es
+    // `Decoder::feed_all`, `feed` and `push` (`followed`), and IsRead by `read_lines`. HoldsBytes is what `event_holds_bytes` ensures of each
+    // event that a sink is handed.
+    ensures { (document : Members) (t : Templates) (l : Limits) (w : List ℕ) (es : List EventData) (text : List ℕ)
+        (r : Result (Vec Message Global) TextFault)
+        → IsTree document (tree_of t) → IsGrantedTree l (tree_of t) → Stream (tree_of t) l w es between
+        → All HoldsBytes es
         → closed text ≡ lines (tree_of t) es → IsRead (tree_of t) text r → IsReadAgain (tree_of t) l w es r }
 {}

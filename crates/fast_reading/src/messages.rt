@@ -88,9 +88,12 @@ fn read_body<'a>(
     at: Cursor<'a>,
 ) -> Result<(Vec<Option<Item>>, Cursor<'a>), TextFault>
     requires { AreBelow (length (nodes_of templates.now)) body.now }
-    ensures ok { IfOk result (λ r. IsBodyRead (tree_of templates.now) (body_among (nodes_of templates.now) body.now) ending (slots_data r.0.items) at.entry r.1) }
+    ensures ok { IfOk result
+        (λ r. IsBodyRead (tree_of templates.now) (body_among (nodes_of templates.now) body.now) ending
+        (slots_data r.0.items) at.entry r.1) }
     ensures line { IfErr result (IsNear at.entry) }
-    ensures refused { IfErr result (OnBadLine (HasNoBody (tree_of templates.now) (body_among (nodes_of templates.now) body.now) ending at.entry)) }
+    ensures refused { IfErr result
+        (OnBadLine (HasNoBody (tree_of templates.now) (body_among (nodes_of templates.now) body.now) ending at.entry)) }
 {
     let mut place = at;
     let mut slots = Vec::new(alloc);
@@ -124,10 +127,14 @@ fn read_item<'a>(
     at: Cursor<'a>,
 ) -> Result<(Item, Cursor<'a>), TextFault>
     requires node { node < length (nodes_of templates.now) }
-    requires named { Names (tree_of templates.now) node (instruction_in (nodes_of templates.now) node) (option_map line_data at.line) }
-    ensures ok { IfOk result (λ r. IsItemRead (tree_of templates.now) (instruction_in (nodes_of templates.now) node) (item_data r.0) at.entry r.1) }
+    requires named { Names (tree_of templates.now) node (instruction_in (nodes_of templates.now) node)
+        (option_map line_data at.line) }
+    ensures ok { IfOk result
+        (λ r. IsItemRead (tree_of templates.now) (instruction_in (nodes_of templates.now) node) (item_data r.0) at.entry
+        r.1) }
     ensures line { IfErr result (IsNear at.entry) }
-    ensures refused { IfErr result (OnBadLine (HasNoItem (tree_of templates.now) (instruction_in (nodes_of templates.now) node) at.entry)) }
+    ensures refused { IfErr result
+        (OnBadLine (HasNoItem (tree_of templates.now) (instruction_in (nodes_of templates.now) node) at.entry)) }
 {
     match &templates.node(node).shape {
         Shape::Field(_) | Shape::Decimal { .. } => read_value(alloc, templates, node, at),
@@ -155,9 +162,12 @@ fn read_rows<'a>(
     at: Cursor<'a>,
 ) -> Result<(Vec<Vec<Option<Item>>>, Cursor<'a>), TextFault>
     requires { AreBelow (length (nodes_of templates.now)) body.now }
-    ensures ok { IfOk result (λ r. AreRowsRead (tree_of templates.now) (body_among (nodes_of templates.now) body.now) count (elements_data r.0.items) at.entry r.1) }
+    ensures ok { IfOk result
+        (λ r. AreRowsRead (tree_of templates.now) (body_among (nodes_of templates.now) body.now) count
+        (elements_data r.0.items) at.entry r.1) }
     ensures line { IfErr result (IsNear at.entry) }
-    ensures refused { IfErr result (OnBadLine (HasNoRows (tree_of templates.now) (body_among (nodes_of templates.now) body.now) count at.entry)) }
+    ensures refused { IfErr result
+        (OnBadLine (HasNoRows (tree_of templates.now) (body_among (nodes_of templates.now) body.now) count at.entry)) }
 {
     let mut place = at;
     let mut rows = Vec::new(alloc);
@@ -194,7 +204,8 @@ fn push<T: Drop>(items: &mut Vec<T>, item: T) -> Result<(), TextFault>
 
 /// How many elements a sequence's line says; none where it is no sequence's.
 fn count_of(line: Option<Line<'_>>) -> u32
-    ensures { (n : ℕ) (name : List ℕ) (count : ℕ) → option_map line_data line.entry ≡ Some (sequence_line n name count) → result ≡ count }
+    ensures { (n : ℕ) (name : List ℕ) (count : ℕ) → option_map line_data line.entry ≡ Some (sequence_line n name count)
+        → result ≡ count }
 {
     match line {
         Some(Line::Sequence { count, .. }) => count,
@@ -252,16 +263,21 @@ fn read_value<'a>(
 ) -> Result<(Item, Cursor<'a>), TextFault>
     requires node { node < length (nodes_of templates.now) }
     requires field { IsValue (instruction_in (nodes_of templates.now) node) }
-    requires named { Names (tree_of templates.now) node (instruction_in (nodes_of templates.now) node) (option_map line_data at.line) }
-    ensures ok { IfOk result (λ r. IsItemRead (tree_of templates.now) (instruction_in (nodes_of templates.now) node) (item_data r.0) at.entry r.1) }
+    requires named { Names (tree_of templates.now) node (instruction_in (nodes_of templates.now) node)
+        (option_map line_data at.line) }
+    ensures ok { IfOk result
+        (λ r. IsItemRead (tree_of templates.now) (instruction_in (nodes_of templates.now) node) (item_data r.0) at.entry
+        r.1) }
     ensures line { IfErr result (IsNear at.entry) }
-    ensures refused { IfErr result (OnBadLine (HasNoItem (tree_of templates.now) (instruction_in (nodes_of templates.now) node) at.entry)) }
+    ensures refused { IfErr result
+        (OnBadLine (HasNoItem (tree_of templates.now) (instruction_in (nodes_of templates.now) node) at.entry)) }
 {
     let Cursor {
         line: _,
         value,
         number,
         rest,
+        is_utf8,
     } = at;
     let Some(value) = value else {
         return Err(TextFault::BadLine {
@@ -274,6 +290,6 @@ fn read_value<'a>(
     if !suits_item(templates, node, &item) {
         return Err(fault);
     }
-    let next = Cursor::behind(alloc, number, rest)?;
+    let next = Cursor::behind(alloc, number, rest, is_utf8)?;
     Ok((item, next))
 }

@@ -14,8 +14,11 @@ use std::str;
 
 /// The number of the template with a name.
 pub fn number_of(templates: &Templates, name: &[u8]) -> Option<u32>
-    ensures found { IfSome result (λ i. (u : Template) × (slice_get (templates_of templates.now) i ≡ Some u) × (string_bytes u.name ≡ name.now)) }
-    ensures none { IfNone result (IsUtf8 name.now → (j : ℕ) (u : Template) → slice_get (templates_of templates.now) j ≡ Some u → string_bytes u.name ≢ name.now) }
+    ensures found { IfSome result
+        (λ i. (u : Template) × (slice_get (templates_of templates.now) i ≡ Some u) × (string_bytes u.name ≡ name.now)) }
+    ensures none { IfNone result
+        (IsUtf8 name.now → (j : ℕ) (u : Template) → slice_get (templates_of templates.now) j ≡ Some u
+        → string_bytes u.name ≢ name.now) }
 {
     match str::from_utf8(name) {
         Ok(name) => templates.by_name(name),
@@ -26,7 +29,8 @@ pub fn number_of(templates: &Templates, name: &[u8]) -> Option<u32>
 /// Whether the line is that of a node.
 pub fn names(templates: &Templates, node: u32, line: Option<Line<'_>>) -> bool
     requires { node < length (nodes_of templates.now) }
-    ensures { IsTrue result ↔ Names (tree_of templates.now) node (instruction_in (nodes_of templates.now) node) (option_map line_data line.entry) }
+    ensures { IsTrue result ↔ Names (tree_of templates.now) node (instruction_in (nodes_of templates.now) node)
+        (option_map line_data line.entry) }
 {
     match line {
         Some(
@@ -53,7 +57,8 @@ pub fn names(templates: &Templates, node: u32, line: Option<Line<'_>>) -> bool
 /// Whether a node is a field of this name.
 fn is_value_called(templates: &Templates, node: u32, name: &[u8]) -> bool
     requires { node < length (nodes_of templates.now) }
-    ensures { IsTrue result ↔ (IsValue (instruction_in (nodes_of templates.now) node) × (name.now ≡ node_name (tree_of templates.now) node)) }
+    ensures { IsTrue result ↔ (IsValue (instruction_in (nodes_of templates.now) node)
+        × (name.now ≡ node_name (tree_of templates.now) node)) }
 {
     let of = templates.node(node);
     match of.shape {
@@ -65,7 +70,8 @@ fn is_value_called(templates: &Templates, node: u32, name: &[u8]) -> bool
 /// Whether a node is a group of this name.
 fn is_group_called(templates: &Templates, node: u32, name: &[u8]) -> bool
     requires { node < length (nodes_of templates.now) }
-    ensures { IsTrue result ↔ (IsGroup (instruction_in (nodes_of templates.now) node) × (name.now ≡ node_name (tree_of templates.now) node)) }
+    ensures { IsTrue result ↔ (IsGroup (instruction_in (nodes_of templates.now) node)
+        × (name.now ≡ node_name (tree_of templates.now) node)) }
 {
     let of = templates.node(node);
     match of.shape {
@@ -77,7 +83,8 @@ fn is_group_called(templates: &Templates, node: u32, name: &[u8]) -> bool
 /// Whether a node is a sequence of this name.
 fn is_sequence_called(templates: &Templates, node: u32, name: &[u8]) -> bool
     requires { node < length (nodes_of templates.now) }
-    ensures { IsTrue result ↔ (IsSequence (instruction_in (nodes_of templates.now) node) × (name.now ≡ node_name (tree_of templates.now) node)) }
+    ensures { IsTrue result ↔ (IsSequence (instruction_in (nodes_of templates.now) node)
+        × (name.now ≡ node_name (tree_of templates.now) node)) }
 {
     let of = templates.node(node);
     match of.shape {

@@ -85,11 +85,14 @@ pub fn feed_records(
     texts: &mut [u8],
 ) -> Fed
     ensures delivers { (w : List ℕ) (es : List EventData) → So decoder.old w es
-        → Delivers (tree decoder.old) decoder.old.limits w es piece.now (pending waiting.old) decoder.new (take result.records records.new)
+        → Delivers (tree decoder.old) decoder.old.limits w es piece.now (pending waiting.old) decoder.new
+        (take result.records records.new)
         (take result.texts texts.new) (pending waiting.new) }
-    ensures room { (w : List ℕ) (es : List EventData) → So decoder.old w es → (result.records ≤ length records.new) × (result.texts ≤ length texts.new) }
+    ensures room { (w : List ℕ) (es : List EventData) → So decoder.old w es
+        → (result.records ≤ length records.new) × (result.texts ≤ length texts.new) }
     ensures outcome { (w : List ℕ) (es : List EventData) → So decoder.old w es
-        → result.outcome ≡ outcome_of (nat_lt 0 (length (pending waiting.new))) (answer decoder.new.fault) (result.taken == length piece.now) (result.taken == 0 && result.records == 0) }
+        → result.outcome ≡ outcome_of (nat_lt 0 (length (pending waiting.new))) (answer decoder.new.fault)
+        (result.taken == length piece.now) (result.taken == 0 && result.records == 0) }
     ensures consumed { decoder.new.consumed ≡ decoder.old.consumed + result.taken }
     ensures taken { result.taken ≤ length piece.now }
     ensures same_set { (tree decoder.new ≡ tree decoder.old) × (decoder.new.limits ≡ decoder.old.limits) }

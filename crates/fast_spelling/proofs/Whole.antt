@@ -1,5 +1,5 @@
 -- A whole message: its identifier is never refused, and what is written or refused of its parts is so of the message.
-use Rattle.std.proofs.Common.{◌≡◌, inl, inr, ℕ, List, [], ◌++◌, refl, ap, sym, subst, ◌∙◌}
+use Rattle.std.proofs.Common.{◌≡◌, inl, inr, ℕ, List, [], ◌∷◌, ◌++◌, refl, ap, sym, subst, ◌∙◌}
 use Rattle.std.specs.Prelude.{Bool, true, false, if◌then◌else◌, take, drop, Some, Result, Ok, Err, IfErr, slice_get, option_map}
 use Rattle.std.proofs.lemmas.List.{append_assoc}
 use Rattle.std.proofs.lemmas.Option.{slice_get-map}
@@ -114,4 +114,32 @@ message_written t l d mid now d' m id v a b c n k z found known no_bits no_bytes
   subst (λ (y : Dictionary). EncodesBody l (body_among (nodes_of t) v.body.items) y m.slots b2 w d') is body,
   subst (λ (y : List Bool). ShortestMap true y map) (both_bits a b c k b1 b2 no_bits start_bits bits bits') shortest,
   all ∙ ap (λ (y : List ℕ). y ++ (map ++ drop n c.bytes.items)) (nothing_before n c.bytes.items start_bytes) ∙ ap (λ (y : List ℕ). map ++ y) (both_bytes a b c n x w no_bytes start_bytes bytes bytes') ∙ sym (append_assoc map x w),
+)
+
+kept_bytes : (a b c : Draft) (x y : List ℕ) → a.bytes.items ≡ 0 ∷ [] → b.bytes.items ≡ a.bytes.items ++ x → c.bytes.items ≡ b.bytes.items ++ y → drop 1 c.bytes.items ≡ x ++ y
+kept_bytes a b c x y kept one two = ap (λ (z : List ℕ). drop 1 z) (two ∙ ap (λ (z : List ℕ). z ++ y) (one ∙ ap (λ (z : List ℕ). z ++ x) kept))
+
+kept_bits : (a b c : Draft) (x y : List Bool) → a.bits.items ≡ [] → b.bits.items ≡ a.bits.items ++ x → c.bits.items ≡ b.bits.items ++ y → c.bits.items ≡ x ++ y
+kept_bits a b c x y empty one two = two ∙ ap (λ (z : List Bool). z ++ y) (one ∙ ap (λ (z : List Bool). z ++ x) empty)
+
+-- All is written behind a byte, and the map takes its place.
+pub message_made : (t : Templates) (l : Limits) (d mid now d' : Dictionary) (m : MessageData) (id : ℕ) (v : Template) (a b c : Draft) (z : List ℕ) → slice_get (templates_of t) m.template ≡ Some v → IsKnownAs (tree_of t) m id
+    → a.bits.items ≡ [] → a.bytes.items ≡ 0 ∷ [] → Wrote (EncodesField l identifier d (Some (U id))) a b mid → now ≡ (if v.reset then reset mid else mid) → Wrote (EncodesBody l (body_among (nodes_of t) v.body.items) now m.slots) b c d'
+    → Closes true [] (drop 1 c.bytes.items) c.bits.items z → EncodesMessage (tree_of t) l d m z d'
+unfolding EncodesMessage
+message_made t l d mid now d' m id v a b c z found known no_bits kept (b1, x, bits, bytes, field) is (b2, w, bits', bytes', body) (map, shortest, all) = (
+  template_data (instructions_from 0 (nodes_of t)) v,
+  id,
+  b1,
+  b2,
+  map,
+  x,
+  w,
+  mid,
+  template_there t m.template v found,
+  identified t m id v found known,
+  field,
+  subst (λ (y : Dictionary). EncodesBody l (body_among (nodes_of t) v.body.items) y m.slots b2 w d') is body,
+  subst (λ (y : List Bool). ShortestMap true y map) (kept_bits a b c b1 b2 no_bits bits bits') shortest,
+  all ∙ ap (λ (y : List ℕ). map ++ y) (kept_bytes a b c x w kept bytes bytes') ∙ sym (append_assoc map x w),
 )

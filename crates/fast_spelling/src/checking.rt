@@ -45,12 +45,13 @@ pub fn try_message(
     requires ready { IsReady templates.now limits ledger.old }
     ensures suits { OnOk result (SuitsTemplate (tree_of templates.now) (message_data message.now)) }
     ensures fits { OnOk result (FitsLimits limits (slots_data message.now.items.items)) }
-    ensures ok { OnOk result (EncodesMessage (tree_of templates.now) limits ledger.old.now (message_data message.now) draft.new.bytes.items ledger.new.now) }
+    ensures ok { OnOk result
+        (EncodesMessage (tree_of templates.now) limits ledger.old.now (message_data message.now) draft.new.bytes.items
+        ledger.new.now) }
     ensures keeps { Keeps ledger.old ledger.new }
 {
     let template = templates.template(message.template);
-    draft.clear();
-    let mark = draft.mark();
+    draft.begin()?;
     write_identifier(templates, limits, id, draft, ledger)?;
     reset_if(template.reset, ledger);
     try_body(
@@ -63,7 +64,7 @@ pub fn try_message(
         draft,
         ledger,
     )?;
-    draft.close(mark, true)
+    draft.finish()
 }
 
 /// Writes the slots of the instructions of these nodes, if they suit and fit. Gives what the elements of their sequences leave of the room.
@@ -86,8 +87,11 @@ pub fn try_body(
     requires widths { AreNodeWidths (nodes_of templates.now) widths.now }
     requires ready { IsReady templates.now limits ledger.old }
     ensures suits { OnOk result (SuitsBody (body_among (nodes_of templates.now) body.now) (slots_data slots.now)) }
-    ensures fits { IfOk result (λ left. AreWithinLimits limits (slots_data slots.now) × (left + total (slots_data slots.now) ≡ room)) }
-    ensures ok { OnOk result (Wrote (EncodesBody limits (body_among (nodes_of templates.now) body.now) ledger.old.now (slots_data slots.now)) draft.old draft.new ledger.new.now) }
+    ensures fits { IfOk result
+        (λ left. AreWithinLimits limits (slots_data slots.now) × (left + total (slots_data slots.now) ≡ room)) }
+    ensures ok { OnOk result
+        (Wrote (EncodesBody limits (body_among (nodes_of templates.now) body.now) ledger.old.now (slots_data slots.now))
+        draft.old draft.new ledger.new.now) }
     ensures keeps { Keeps ledger.old ledger.new }
 {
     if body.len() != slots.len() {
@@ -118,8 +122,11 @@ fn try_slot(
     requires node { node < length (nodes_of templates.now) }
     requires widths { AreNodeWidths (nodes_of templates.now) widths.now }
     requires ready { IsReady templates.now limits ledger.old }
-    ensures accepted { IfOk result (IsAccepted limits (instruction_in (nodes_of templates.now) node) (option_map item_data slot.now) room) }
-    ensures ok { OnOk result (Wrote (Encodes limits (instruction_in (nodes_of templates.now) node) ledger.old.now (option_map item_data slot.now)) draft.old draft.new ledger.new.now) }
+    ensures accepted { IfOk result
+        (IsAccepted limits (instruction_in (nodes_of templates.now) node) (option_map item_data slot.now) room) }
+    ensures ok { OnOk result
+        (Wrote (Encodes limits (instruction_in (nodes_of templates.now) node) ledger.old.now
+        (option_map item_data slot.now)) draft.old draft.new ledger.new.now) }
     ensures keeps { Keeps ledger.old ledger.new }
 {
     match slot {
@@ -150,8 +157,11 @@ fn try_item(
     requires node { node < length (nodes_of templates.now) }
     requires widths { AreNodeWidths (nodes_of templates.now) widths.now }
     requires ready { IsReady templates.now limits ledger.old }
-    ensures accepted { IfOk result (IsAccepted limits (instruction_in (nodes_of templates.now) node) (Some (item_data item.now)) room) }
-    ensures ok { OnOk result (Wrote (Encodes limits (instruction_in (nodes_of templates.now) node) ledger.old.now (Some (item_data item.now))) draft.old draft.new ledger.new.now) }
+    ensures accepted { IfOk result
+        (IsAccepted limits (instruction_in (nodes_of templates.now) node) (Some (item_data item.now)) room) }
+    ensures ok { OnOk result
+        (Wrote (Encodes limits (instruction_in (nodes_of templates.now) node) ledger.old.now
+        (Some (item_data item.now))) draft.old draft.new ledger.new.now) }
     ensures keeps { Keeps ledger.old ledger.new }
 {
     match (&templates.node(node).shape, item) {
@@ -196,7 +206,8 @@ fn try_item(
 /// Whether the value is one of the kind, and no longer than a text may be.
 #[inline(always)]
 fn may_be(limits: Limits, kind: Kind, value: &Value) -> bool
-    ensures { IsTrue result → IsRight kind (value_data value.now) × (length (text_of (value_data value.now)) ≤ limits.max_text) }
+    ensures { IsTrue result → IsRight kind (value_data value.now)
+        × (length (text_of (value_data value.now)) ≤ limits.max_text) }
 {
     is_right(kind, value) && text_len(value) <= limits.max_text
 }

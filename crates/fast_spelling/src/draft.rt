@@ -51,6 +51,34 @@ impl Draft {
         self.bits.clear();
     }
 
+    /// Begins a message: the draft has no bits, and one byte, which is kept for the map.
+    ///
+    /// # Errors
+    ///
+    /// Memory was refused.
+    #[inline(always)]
+    pub fn begin(&mut self) -> Result<(), AllocError>
+        ensures bytes { OnOk result (self.new.bytes.items ≡ 0 ∷ []) }
+        ensures bits { OnOk result (self.new.bits.items ≡ []) }
+    {
+        self.clear();
+        self.bytes.push(0)?;
+        Ok(())
+    }
+
+    /// Ends a message: the map of its bits takes the place of the byte that was kept for it.
+    ///
+    /// # Errors
+    ///
+    /// E3 if no map has room for the bits; memory was refused.
+    #[inline(always)]
+    pub fn finish(&mut self) -> Result<(), EncodeFault>
+        requires { 1 ≤ vec_len self.old.bytes }
+        ensures { OnOk result (Closes true [] (drop 1 self.old.bytes.items) self.old.bits.items self.new.bytes.items) }
+    {
+        put_first_map(&mut self.bytes, &self.bits)
+    }
+
     /// Appends a presence bit of the innermost segment.
     ///
     /// # Errors
@@ -101,10 +129,12 @@ impl Draft {
     pub fn close(&mut self, mark: Mark, has_map: bool) -> Result<(), EncodeFault>
         requires bytes { mark.bytes ≤ vec_len self.old.bytes }
         requires bits { mark.bits ≤ vec_len self.old.bits }
-        ensures ok { OnOk result (Closes has_map (take mark.bytes self.old.bytes.items) (drop mark.bytes self.old.bytes.items)
+        ensures ok { OnOk result
+            (Closes has_map (take mark.bytes self.old.bytes.items) (drop mark.bytes self.old.bytes.items)
             (drop mark.bits self.old.bits.items) self.new.bytes.items) }
         ensures bits { OnOk result (self.new.bits.items ≡ take mark.bits self.old.bits.items) }
-        ensures err { IfErr result (IsTold (λ c. (c ≡ E3) × (has_map ≡ true) × HaveNoMap (drop mark.bits self.old.bits.items))) }
+        ensures err { IfErr result
+            (IsTold (λ c. (c ≡ E3) × (has_map ≡ true) × HaveNoMap (drop mark.bits self.old.bits.items))) }
     {
         if has_map {
             put_map(&mut self.bytes, mark.bytes, &self.bits[mark.bits..])?;
@@ -122,7 +152,8 @@ impl Draft {
 #[inline(always)]
 fn put_map(bytes: &mut Vec<u8>, place: usize, presence: &[bool]) -> Result<(), EncodeFault>
     requires { place ≤ vec_len bytes.old }
-    ensures ok { OnOk result (Closes true (take place bytes.old.items) (drop place bytes.old.items) presence.now bytes.new.items) }
+    ensures ok { OnOk result
+        (Closes true (take place bytes.old.items) (drop place bytes.old.items) presence.now bytes.new.items) }
     ensures err { IfErr result (IsTold (λ c. (c ≡ E3) × HaveNoMap presence.now)) }
 {
     match byte_of(presence) {
@@ -133,6 +164,38 @@ fn put_map(bytes: &mut Vec<u8>, place: usize, presence: &[bool]) -> Result<(), E
         },
     }
     Ok(())
+}
+
+/// Puts the shortest map of the bits in place of the first byte.
+///
+/// # Errors
+///
+/// E3 if no map has room for the bits; memory was refused.
+#[inline(always)]
+fn put_first_map(bytes: &mut Vec<u8>, presence: &[bool]) -> Result<(), EncodeFault>
+    requires { 1 ≤ vec_len bytes.old }
+    ensures { OnOk result (Closes true [] (drop 1 bytes.old.items) presence.now bytes.new.items) }
+{
+    match byte_of(presence) {
+        Some(byte) => {
+            bytes[0] = byte;
+            Ok(())
+        }
+        None => widen_first(bytes, presence),
+    }
+}
+
+/// The same for a map of several bytes.
+#[cold]
+fn widen_first(bytes: &mut Vec<u8>, presence: &[bool]) -> Result<(), EncodeFault>
+    requires { 1 ≤ vec_len bytes.old }
+    ensures { OnOk result (Closes true [] (drop 1 bytes.old.items) presence.now bytes.new.items) }
+{
+    let _ = bytes.remove(0);
+    match map_of(presence) {
+        Some(map) => Ok(insert(bytes, 0, map.as_slice())?),
+        None => Err(EncodeFault::E3),
+    }
 }
 
 /// The map of the bits, if one byte is enough.

@@ -144,7 +144,8 @@ impl Entry {
         ensures now { OnOk result (entry_now self.new ≡ assigned kind (scalar_data scalar.entry)) }
         ensures epoch { self.new.epoch ≡ self.old.epoch }
         ensures before { (e : ℕ) → e ≡ self.old.epoch → entry_before e self.new ≡ entry_before e self.old }
-        ensures short { (m : ℕ) → IsShort m self.old → length (text_of (scalar_data scalar.entry)) ≤ m → IsShort m self.new }
+        ensures short { (m : ℕ) → IsShort m self.old → length (text_of (scalar_data scalar.entry)) ≤ m
+            → IsShort m self.new }
     {
         self.held = match scalar {
             Scalar::U(number) => Held::U(kind, number),

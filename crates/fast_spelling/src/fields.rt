@@ -23,7 +23,6 @@ use crate::items::write_item;
 use crate::ledger::Ledger;
 use crate::quick::{write_none, write_other, write_signed, write_unsigned};
 use fast_dict::operators::delta_base;
-use fast_dict::rule::uses_bit;
 use fast_dict::{Previous, Sent, choose};
 use fast_template::{FieldInstruction, Operator};
 use fast_value::Scalar;
@@ -44,8 +43,10 @@ pub fn write_field(
     requires served { IsServed ledger.old (field_data field.now) }
     requires suited { IsSuited ledger.old.max_text (field_data field.now) (option_map scalar_data value) }
     ensures ok { OnOk result ((l : Limits) → l.max_text ≡ ledger.old.max_text
-        → Wrote (EncodesField l (field_data field.now) ledger.old.now (option_map scalar_data value.entry)) draft.old draft.new ledger.new.now) }
-    ensures err { IfErr result (IsTold (RefusesField (field_data field.now) ledger.old.now (option_map scalar_data value.entry))) }
+        → Wrote (EncodesField l (field_data field.now) ledger.old.now (option_map scalar_data value.entry)) draft.old
+        draft.new ledger.new.now) }
+    ensures err { IfErr result
+        (IsTold (RefusesField (field_data field.now) ledger.old.now (option_map scalar_data value.entry))) }
     ensures before { ledger.new.before ≡ ledger.old.before }
     ensures max_text { ledger.new.max_text ≡ ledger.old.max_text }
     ensures length { length ledger.new.now ≡ length ledger.old.now }
@@ -67,8 +68,10 @@ fn write_present(
     requires served { IsServed ledger.old (field_data field.now) }
     requires suited { IsSuited ledger.old.max_text (field_data field.now) (Some (scalar_data value)) }
     ensures ok { OnOk result ((l : Limits) → l.max_text ≡ ledger.old.max_text
-        → Wrote (EncodesField l (field_data field.now) ledger.old.now (Some (scalar_data value.entry))) draft.old draft.new ledger.new.now) }
-    ensures err { IfErr result (IsTold (RefusesField (field_data field.now) ledger.old.now (Some (scalar_data value.entry)))) }
+        → Wrote (EncodesField l (field_data field.now) ledger.old.now (Some (scalar_data value.entry))) draft.old
+        draft.new ledger.new.now) }
+    ensures err { IfErr result
+        (IsTold (RefusesField (field_data field.now) ledger.old.now (Some (scalar_data value.entry)))) }
     ensures keeps { Keeps ledger.old ledger.new }
 {
     match value {
@@ -94,8 +97,10 @@ pub fn write_chosen(
     requires served { IsServed ledger.old (field_data field.now) }
     requires suited { IsSuited ledger.old.max_text (field_data field.now) (option_map scalar_data value) }
     ensures ok { OnOk result ((l : Limits) → l.max_text ≡ ledger.old.max_text
-        → Wrote (EncodesField l (field_data field.now) ledger.old.now (option_map scalar_data value.entry)) draft.old draft.new ledger.new.now) }
-    ensures err { IfErr result (IsTold (RefusesField (field_data field.now) ledger.old.now (option_map scalar_data value.entry))) }
+        → Wrote (EncodesField l (field_data field.now) ledger.old.now (option_map scalar_data value.entry)) draft.old
+        draft.new ledger.new.now) }
+    ensures err { IfErr result
+        (IsTold (RefusesField (field_data field.now) ledger.old.now (option_map scalar_data value.entry))) }
     ensures before { ledger.new.before ≡ ledger.old.before }
     ensures max_text { ledger.new.max_text ≡ ledger.old.max_text }
     ensures length { length ledger.new.now ≡ length ledger.old.now }
@@ -124,16 +129,19 @@ pub fn send(
 ) -> Result<(), EncodeFault>
     requires served { IsServed ledger.old (field_data field.now) }
     requires suited { IsSuited ledger.old.max_text (field_data field.now) (option_map scalar_data value) }
-    requires ruled { Rule (field_data field.now) (previous_at (field_data field.now).entry ledger.old.now) (option_map scalar_data value) bit (sent_data item) }
+    requires ruled { Rule (field_data field.now) (previous_at (field_data field.now).entry ledger.old.now)
+        (option_map scalar_data value) bit (sent_data item) }
     requires sendable { IsSendable (field_data field.now) (sent_data item) }
     ensures ok { OnOk result ((l : Limits) → l.max_text ≡ ledger.old.max_text
-        → Wrote (EncodesField l (field_data field.now) ledger.old.now (option_map scalar_data value.entry)) draft.old draft.new ledger.new.now) }
-    ensures err { IfErr result (IsTold (RefusesField (field_data field.now) ledger.old.now (option_map scalar_data value.entry))) }
+        → Wrote (EncodesField l (field_data field.now) ledger.old.now (option_map scalar_data value.entry)) draft.old
+        draft.new ledger.new.now) }
+    ensures err { IfErr result
+        (IsTold (RefusesField (field_data field.now) ledger.old.now (option_map scalar_data value.entry))) }
     ensures before { ledger.new.before ≡ ledger.old.before }
     ensures max_text { ledger.new.max_text ≡ ledger.old.max_text }
     ensures length { length ledger.new.now ≡ length ledger.old.now }
 {
-    if uses_bit(field) {
+    if field.uses_bit() {
         draft.push_bit(bit)?;
     }
     write_item(&mut draft.bytes, field, item)?;
@@ -156,7 +164,8 @@ pub fn previous_of<'a>(ledger: &'a Ledger, field: &FieldInstruction) -> Previous
 
 /// Notes, for the proof alone, that the numbers of a delta's base lie in the range of a Rust type.
 fn note_base(field: &FieldInstruction, previous: Previous<'_>)
-    ensures { (base : ScalarData) → delta_base (field_data field.now) (previous_data previous.entry) ≡ Ok base → IsNarrow base }
+    ensures { (base : ScalarData) → delta_base (field_data field.now) (previous_data previous.entry) ≡ Ok base
+        → IsNarrow base }
 {
     if let Ok(base) = delta_base(field, previous) {
         note_range(base);
@@ -191,7 +200,8 @@ fn keep(
     requires served { IsServed ledger.old (field_data field.now) }
     requires suited { IsSuited ledger.old.max_text (field_data field.now) (option_map scalar_data value) }
     ensures now { OnOk result (ledger.new.now ≡ write_at (field_data field.now).entry
-        (next_of (field_data field.now) (previous_at (field_data field.now).entry ledger.old.now) (option_map scalar_data value.entry)) ledger.old.now) }
+        (next_of (field_data field.now) (previous_at (field_data field.now).entry ledger.old.now)
+        (option_map scalar_data value.entry)) ledger.old.now) }
     ensures before { ledger.new.before ≡ ledger.old.before }
     ensures max_text { ledger.new.max_text ≡ ledger.old.max_text }
     ensures length { length ledger.new.now ≡ length ledger.old.now }

@@ -32,7 +32,8 @@ pub fn write_item(
     item: Sent<'_>,
 ) -> Result<(), EncodeFault>
     requires { IsSendable (field_data field.now) (sent_data item) }
-    ensures ok { OnOk result (Adds (SpellsItem (field_data field.now) (sent_data item.entry)) bytes.old.items bytes.new.items) }
+    ensures ok { OnOk result
+        (Adds (SpellsItem (field_data field.now) (sent_data item.entry)) bytes.old.items bytes.new.items) }
     ensures err { IfErr result (IsTold (λ c. (c ≡ R9) × HasZeroInFront field.now.kind (sent_data item.entry))) }
 {
     match item {
@@ -70,8 +71,10 @@ fn write_value(
     value: Scalar<'_>,
 ) -> Result<(), EncodeFault>
     requires { IsSendableValue kind (scalar_data value) }
-    ensures ok { OnOk result (Adds (SpellsValue kind nullable (scalar_data value.entry)) bytes.old.items bytes.new.items) }
-    ensures err { IfErr result (IsTold (λ c. (c ≡ R9) × HasZeroInFront kind (SentData.value (scalar_data value.entry)))) }
+    ensures ok { OnOk result
+        (Adds (SpellsValue kind nullable (scalar_data value.entry)) bytes.old.items bytes.new.items) }
+    ensures err { IfErr result
+        (IsTold (λ c. (c ≡ R9) × HasZeroInFront kind (SentData.value (scalar_data value.entry)))) }
 {
     match value {
         Scalar::U(number) => {
@@ -102,7 +105,8 @@ fn write_text(
 ) -> Result<(), EncodeFault>
     requires { IsSendablePart kind text.now }
     ensures ok { OnOk result (Adds (SpellsPart kind nullable text.now) bytes.old.items bytes.new.items) }
-    ensures err { IfErr result (IsTold (λ c. (c ≡ R9) × (kind ≡ Kind.Ascii) × ((rest : List ℕ) × (text.now ≡ 0 ∷ rest)))) }
+    ensures err { IfErr result
+        (IsTold (λ c. (c ≡ R9) × (kind ≡ Kind.Ascii) × ((rest : List ℕ) × (text.now ≡ 0 ∷ rest)))) }
 {
     match kind {
         Kind::Ascii => write_ascii(bytes, nullable, text),
@@ -117,7 +121,9 @@ fn write_text(
 /// Writes an ASCII text: its characters, with the stop bit on the last.
 fn write_ascii(bytes: &mut Vec<u8>, nullable: bool, text: &[u8]) -> Result<(), EncodeFault>
     requires { All (λ c. c < 128) text.now }
-    ensures ok { OnOk result (Adds (λ w. (room : ℕ) → length text.now ≤ room → SpellsAscii nullable room (Some text.now) w) bytes.old.items bytes.new.items) }
+    ensures ok { OnOk result
+        (Adds (λ w. (room : ℕ) → length text.now ≤ room → SpellsAscii nullable room (Some text.now) w) bytes.old.items
+        bytes.new.items) }
     ensures err { IfErr result (IsTold (λ c. (c ≡ R9) × ((rest : List ℕ) × (text.now ≡ 0 ∷ rest)))) }
 {
     if text.is_empty() {

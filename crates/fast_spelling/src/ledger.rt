@@ -90,7 +90,8 @@ impl Ledger {
     pub fn set(&mut self, entry: usize, kind: Kind, scalar: Scalar<'_>) -> Result<(), AllocError>
         requires there { entry < length self.old.now }
         requires short { length (text_of (scalar_data scalar)) ≤ self.old.max_text }
-        ensures now { OnOk result (self.new.now ≡ write_at (Some entry) (assigned kind (scalar_data scalar.entry)) self.old.now) }
+        ensures now { OnOk result
+            (self.new.now ≡ write_at (Some entry) (assigned kind (scalar_data scalar.entry)) self.old.now) }
         ensures before { self.new.before ≡ self.old.before }
         ensures max_text { self.new.max_text ≡ self.old.max_text }
         ensures length { length self.new.now ≡ length self.old.now }
@@ -164,9 +165,12 @@ fn assign_at(
     scalar: Scalar<'_>,
 ) -> Result<(), AllocError>
     requires { entry < length entries.old.items }
-    ensures now { OnOk result (all_now entries.new.items ≡ slice_set (all_now entries.old.items) entry (assigned kind (scalar_data scalar.entry))) }
+    ensures now { OnOk result
+        (all_now entries.new.items
+        ≡ slice_set (all_now entries.old.items) entry (assigned kind (scalar_data scalar.entry))) }
     ensures before { all_before epoch entries.new.items ≡ all_before epoch entries.old.items }
-    ensures kept { (m : ℕ) → AreKept epoch m entries.old.items → length (text_of (scalar_data scalar.entry)) ≤ m → AreKept epoch m entries.new.items }
+    ensures kept { (m : ℕ) → AreKept epoch m entries.old.items → length (text_of (scalar_data scalar.entry)) ≤ m
+        → AreKept epoch m entries.new.items }
     ensures length { length entries.new.items ≡ length entries.old.items }
 {
     let slot = &mut entries[entry];
@@ -190,7 +194,8 @@ fn clear_at(entries: &mut Vec<Entry>, epoch: u64, entry: usize)
 
 /// Makes the entries from a number on undefined.
 fn undefine_from(entries: &mut Vec<Entry>, epoch: u64, first: usize)
-    ensures now { all_now entries.new.items ≡ take first (all_now entries.old.items) ++ fresh (length entries.old.items - first) }
+    ensures now { all_now entries.new.items
+        ≡ take first (all_now entries.old.items) ++ fresh (length entries.old.items - first) }
     ensures before { all_before epoch entries.new.items ≡ all_before epoch entries.old.items }
     ensures kept { (m : ℕ) → AreKept epoch m entries.old.items → AreKept epoch m entries.new.items }
     ensures length { length entries.new.items ≡ length entries.old.items }

@@ -20,8 +20,10 @@ pub fn fits_limits(limits: Limits, slots: &[Option<Item>]) -> bool
 /// the room does not suffice.
 #[cycle(room)]
 fn room_after_slots(limits: Limits, slots: &[Option<Item>], room: u32) -> Option<u32>
-    ensures some { IfSome result (λ left. AreWithinLimits limits (slots_data slots.now) × (left + total (slots_data slots.now) ≡ room)) }
-    ensures none { IfNone result (¬ (AreWithinLimits limits (slots_data slots.now) × (total (slots_data slots.now) ≤ room))) }
+    ensures some { IfSome result
+        (λ left. AreWithinLimits limits (slots_data slots.now) × (left + total (slots_data slots.now) ≡ room)) }
+    ensures none { IfNone result
+        (¬ (AreWithinLimits limits (slots_data slots.now) × (total (slots_data slots.now) ≤ room))) }
 {
     let mut left = room;
     for slot in slots {
@@ -36,8 +38,10 @@ fn room_after_slots(limits: Limits, slots: &[Option<Item>], room: u32) -> Option
 #[cycle(room)]
 #[inline(always)]
 fn room_after_item(limits: Limits, item: &Item, room: u32) -> Option<u32>
-    ensures some { IfSome result (λ left. IsWithinLimits limits (item_data item.now) × (left + item_total (item_data item.now) ≡ room)) }
-    ensures none { IfNone result (¬ (IsWithinLimits limits (item_data item.now) × (item_total (item_data item.now) ≤ room))) }
+    ensures some { IfSome result
+        (λ left. IsWithinLimits limits (item_data item.now) × (left + item_total (item_data item.now) ≡ room)) }
+    ensures none { IfNone result
+        (¬ (IsWithinLimits limits (item_data item.now) × (item_total (item_data item.now) ≤ room))) }
 {
     match item {
         Item::One(value) => {
@@ -55,8 +59,12 @@ fn room_after_item(limits: Limits, item: &Item, room: u32) -> Option<u32>
 #[cycle(room)]
 #[inline(always)]
 fn room_after_sequence(limits: Limits, rows: &[Vec<Option<Item>>], room: u32) -> Option<u32>
-    ensures some { IfSome result (λ left. IsWithinLimits limits (sequence (elements_data rows.now)) × (left + item_total (sequence (elements_data rows.now)) ≡ room)) }
-    ensures none { IfNone result (¬ (IsWithinLimits limits (sequence (elements_data rows.now)) × (item_total (sequence (elements_data rows.now)) ≤ room))) }
+    ensures some { IfSome result
+        (λ left. IsWithinLimits limits (sequence (elements_data rows.now))
+        × (left + item_total (sequence (elements_data rows.now)) ≡ room)) }
+    ensures none { IfNone result
+        (¬ (IsWithinLimits limits (sequence (elements_data rows.now))
+        × (item_total (sequence (elements_data rows.now)) ≤ room))) }
 {
     if rows.len() > limits.max_elements as usize {
         return None;

@@ -18,8 +18,8 @@ ghost use Rattle.fast_spelling.specs.Suiting.{IsKnownAs, SuitsTemplate, FitsLimi
 
 use crate::draft::Draft;
 use crate::faults::EncodeFault;
-use crate::fields::write_field;
 use crate::ledger::Ledger;
+use crate::quick::write_integer;
 use crate::writing::write_body;
 use fast_template::{FieldInstruction, Operator, Templates};
 use fast_value::{Kind, Limits, Message, Scalar};
@@ -43,8 +43,11 @@ pub fn write_message(
     requires ready { IsReady templates.now limits ledger.old }
     requires suits { SuitsTemplate (tree_of templates.now) (message_data message.now) }
     requires fits { FitsLimits limits (slots_data message.now.items.items) }
-    ensures ok { OnOk result (EncodesMessage (tree_of templates.now) limits ledger.old.now (message_data message.now) draft.new.bytes.items ledger.new.now) }
-    ensures err { IfErr result (IsTold (RefusesMessage (tree_of templates.now) limits ledger.old.now (message_data message.now))) }
+    ensures ok { OnOk result
+        (EncodesMessage (tree_of templates.now) limits ledger.old.now (message_data message.now) draft.new.bytes.items
+        ledger.new.now) }
+    ensures err { IfErr result
+        (IsTold (RefusesMessage (tree_of templates.now) limits ledger.old.now (message_data message.now))) }
     ensures keeps { Keeps ledger.old ledger.new }
 {
     let template = templates.template(message.template);
@@ -73,11 +76,12 @@ pub fn write_identifier(
     ledger: &mut Ledger,
 ) -> Result<(), EncodeFault>
     requires ready { IsReady templates.now limits ledger.old }
-    ensures ok { OnOk result (Wrote (EncodesField limits identifier ledger.old.now (Some (U id))) draft.old draft.new ledger.new.now) }
+    ensures ok { OnOk result
+        (Wrote (EncodesField limits identifier ledger.old.now (Some (U id))) draft.old draft.new ledger.new.now) }
     ensures err { IfErr result (λ c. c ≡ Memory) }
     ensures keeps { Keeps ledger.old ledger.new }
 {
-    write_field(draft, ledger, &identifier(), Some(Scalar::U(u64::from(id))))
+    write_integer(draft, ledger, &identifier(), Scalar::U(u64::from(id)))
 }
 
 /// The instruction of the template identifier: a mandatory uInt32 with the operator copy, at the first entry.

@@ -36,9 +36,11 @@ pub fn write_decimal(
     requires kinds { (exponent.now.kind ≡ Int32) × (mantissa.now.kind ≡ Int64) }
     requires right { IsRightDecimal (field_data exponent.now) (Some (one (value_data value.now))) }
     ensures ok { OnOk result ((l : Limits) → l.max_text ≡ ledger.old.max_text
-        → Wrote (EncodesDecimal l (field_data exponent.now) (field_data mantissa.now) ledger.old.now (Some (one (value_data value.now)))) draft.old draft.new ledger.new.now) }
+        → Wrote (EncodesDecimal l (field_data exponent.now) (field_data mantissa.now) ledger.old.now
+        (Some (one (value_data value.now)))) draft.old draft.new ledger.new.now) }
     ensures err { IfErr result (IsTold (λ c. (l : Limits) → l.max_text ≡ ledger.old.max_text
-        → RefusesDecimal l (field_data exponent.now) (field_data mantissa.now) ledger.old.now (Some (one (value_data value.now))) c)) }
+        → RefusesDecimal l (field_data exponent.now) (field_data mantissa.now) ledger.old.now
+        (Some (one (value_data value.now))) c)) }
     ensures keeps { Keeps ledger.old ledger.new }
 {
     match value {
@@ -65,8 +67,11 @@ pub fn write_absent(
     requires node { node < length (nodes_of templates.now) }
     requires ready { IsReady templates.now limits ledger.old }
     requires suits { Suits (instruction_in (nodes_of templates.now) node) None }
-    ensures ok { OnOk result (Wrote (Encodes limits (instruction_in (nodes_of templates.now) node) ledger.old.now None) draft.old draft.new ledger.new.now) }
-    ensures err { IfErr result (IsTold (Refuses limits (instruction_in (nodes_of templates.now) node) ledger.old.now None)) }
+    ensures ok { OnOk result
+        (Wrote (Encodes limits (instruction_in (nodes_of templates.now) node) ledger.old.now None) draft.old draft.new
+        ledger.new.now) }
+    ensures err { IfErr result
+        (IsTold (Refuses limits (instruction_in (nodes_of templates.now) node) ledger.old.now None)) }
     ensures keeps { Keeps ledger.old ledger.new }
 {
     match head_of(templates, node) {
@@ -84,7 +89,8 @@ fn head_of(templates: &Templates, node: u32) -> Option<&FieldInstruction>
     requires { node < length (nodes_of templates.now) }
     ensures head { option_map (λ f. field_data f.now) result ≡ head_in (instruction_in (nodes_of templates.now) node) }
     ensures usable { IfSome result (λ f. IsUsable (tree_of templates.now).entries (field_data f.now)) }
-    ensures initial { IfSome result (λ f. (m : ℕ) → ¬ (HasLongInitial m (nodes_of templates.now)) → ¬ (IsLongText m (field_data f.now).initial)) }
+    ensures initial { IfSome result
+        (λ f. (m : ℕ) → ¬ (HasLongInitial m (nodes_of templates.now)) → ¬ (IsLongText m (field_data f.now).initial)) }
 {
     match &templates.node(node).shape {
         Shape::Field(field) => Some(field),

@@ -42,7 +42,8 @@ pub fn write_unsigned(
     requires served { IsServed ledger.old (field_data field.now) }
     requires suited { IsSuited ledger.old.max_text (field_data field.now) (Some (U number)) }
     ensures ok { OnOk result ((l : Limits) → l.max_text ≡ ledger.old.max_text
-        → Wrote (EncodesField l (field_data field.now) ledger.old.now (Some (U number))) draft.old draft.new ledger.new.now) }
+        → Wrote (EncodesField l (field_data field.now) ledger.old.now (Some (U number))) draft.old draft.new
+        ledger.new.now) }
     ensures err { IfErr result (IsTold (RefusesField (field_data field.now) ledger.old.now (Some (U number)))) }
     ensures keeps { Keeps ledger.old ledger.new }
 {
@@ -63,7 +64,8 @@ fn write_kept_unsigned(
     requires served { IsServed ledger.old (field_data field.now) }
     requires suited { IsSuited ledger.old.max_text (field_data field.now) (Some (U number)) }
     ensures ok { OnOk result ((l : Limits) → l.max_text ≡ ledger.old.max_text
-        → Wrote (EncodesField l (field_data field.now) ledger.old.now (Some (U number))) draft.old draft.new ledger.new.now) }
+        → Wrote (EncodesField l (field_data field.now) ledger.old.now (Some (U number))) draft.old draft.new
+        ledger.new.now) }
     ensures err { IfErr result (IsTold (RefusesField (field_data field.now) ledger.old.now (Some (U number)))) }
     ensures keeps { Keeps ledger.old ledger.new }
 {
@@ -84,7 +86,8 @@ pub fn write_signed(
     requires served { IsServed ledger.old (field_data field.now) }
     requires suited { IsSuited ledger.old.max_text (field_data field.now) (Some (I number)) }
     ensures ok { OnOk result ((l : Limits) → l.max_text ≡ ledger.old.max_text
-        → Wrote (EncodesField l (field_data field.now) ledger.old.now (Some (I number))) draft.old draft.new ledger.new.now) }
+        → Wrote (EncodesField l (field_data field.now) ledger.old.now (Some (I number))) draft.old draft.new
+        ledger.new.now) }
     ensures err { IfErr result (IsTold (RefusesField (field_data field.now) ledger.old.now (Some (I number)))) }
     ensures keeps { Keeps ledger.old ledger.new }
 {
@@ -92,8 +95,12 @@ pub fn write_signed(
 }
 
 /// Writes a field that has an integer.
+///
+/// # Errors
+///
+/// E3; memory was refused. Then the draft is of no use.
 #[inline(always)]
-fn write_integer(
+pub fn write_integer(
     draft: &mut Draft,
     ledger: &mut Ledger,
     field: &FieldInstruction,
@@ -103,8 +110,10 @@ fn write_integer(
     requires suited { IsSuited ledger.old.max_text (field_data field.now) (Some (scalar_data value)) }
     requires number { IsNumber (scalar_data value) }
     ensures ok { OnOk result ((l : Limits) → l.max_text ≡ ledger.old.max_text
-        → Wrote (EncodesField l (field_data field.now) ledger.old.now (Some (scalar_data value.entry))) draft.old draft.new ledger.new.now) }
-    ensures err { IfErr result (IsTold (RefusesField (field_data field.now) ledger.old.now (Some (scalar_data value.entry)))) }
+        → Wrote (EncodesField l (field_data field.now) ledger.old.now (Some (scalar_data value.entry))) draft.old
+        draft.new ledger.new.now) }
+    ensures err { IfErr result
+        (IsTold (RefusesField (field_data field.now) ledger.old.now (Some (scalar_data value.entry)))) }
     ensures keeps { Keeps ledger.old ledger.new }
 {
     match field.operator {
@@ -157,8 +166,10 @@ pub fn write_other(
     requires served { IsServed ledger.old (field_data field.now) }
     requires suited { IsSuited ledger.old.max_text (field_data field.now) (Some (scalar_data value)) }
     ensures ok { OnOk result ((l : Limits) → l.max_text ≡ ledger.old.max_text
-        → Wrote (EncodesField l (field_data field.now) ledger.old.now (Some (scalar_data value.entry))) draft.old draft.new ledger.new.now) }
-    ensures err { IfErr result (IsTold (RefusesField (field_data field.now) ledger.old.now (Some (scalar_data value.entry)))) }
+        → Wrote (EncodesField l (field_data field.now) ledger.old.now (Some (scalar_data value.entry))) draft.old
+        draft.new ledger.new.now) }
+    ensures err { IfErr result
+        (IsTold (RefusesField (field_data field.now) ledger.old.now (Some (scalar_data value.entry)))) }
     ensures keeps { Keeps ledger.old ledger.new }
 {
     match field.operator {
@@ -249,8 +260,10 @@ fn choose_value(
     requires served { IsServed ledger.old (field_data field.now) }
     requires suited { IsSuited ledger.old.max_text (field_data field.now) (Some (scalar_data value)) }
     ensures ok { OnOk result ((l : Limits) → l.max_text ≡ ledger.old.max_text
-        → Wrote (EncodesField l (field_data field.now) ledger.old.now (Some (scalar_data value.entry))) draft.old draft.new ledger.new.now) }
-    ensures err { IfErr result (IsTold (RefusesField (field_data field.now) ledger.old.now (Some (scalar_data value.entry)))) }
+        → Wrote (EncodesField l (field_data field.now) ledger.old.now (Some (scalar_data value.entry))) draft.old
+        draft.new ledger.new.now) }
+    ensures err { IfErr result
+        (IsTold (RefusesField (field_data field.now) ledger.old.now (Some (scalar_data value.entry)))) }
     ensures keeps { Keeps ledger.old ledger.new }
 {
     match value {
@@ -276,7 +289,8 @@ fn choose_unsigned(
     requires served { IsServed ledger.old (field_data field.now) }
     requires suited { IsSuited ledger.old.max_text (field_data field.now) (Some (U number)) }
     ensures ok { OnOk result ((l : Limits) → l.max_text ≡ ledger.old.max_text
-        → Wrote (EncodesField l (field_data field.now) ledger.old.now (Some (U number))) draft.old draft.new ledger.new.now) }
+        → Wrote (EncodesField l (field_data field.now) ledger.old.now (Some (U number))) draft.old draft.new
+        ledger.new.now) }
     ensures err { IfErr result (IsTold (RefusesField (field_data field.now) ledger.old.now (Some (U number)))) }
     ensures keeps { Keeps ledger.old ledger.new }
 {
@@ -294,7 +308,8 @@ fn choose_signed(
     requires served { IsServed ledger.old (field_data field.now) }
     requires suited { IsSuited ledger.old.max_text (field_data field.now) (Some (I number)) }
     ensures ok { OnOk result ((l : Limits) → l.max_text ≡ ledger.old.max_text
-        → Wrote (EncodesField l (field_data field.now) ledger.old.now (Some (I number))) draft.old draft.new ledger.new.now) }
+        → Wrote (EncodesField l (field_data field.now) ledger.old.now (Some (I number))) draft.old draft.new
+        ledger.new.now) }
     ensures err { IfErr result (IsTold (RefusesField (field_data field.now) ledger.old.now (Some (I number)))) }
     ensures keeps { Keeps ledger.old ledger.new }
 {
@@ -313,8 +328,10 @@ fn choose_decimal(
     requires served { IsServed ledger.old (field_data field.now) }
     requires suited { IsSuited ledger.old.max_text (field_data field.now) (Some (Dec exponent mantissa)) }
     ensures ok { OnOk result ((l : Limits) → l.max_text ≡ ledger.old.max_text
-        → Wrote (EncodesField l (field_data field.now) ledger.old.now (Some (Dec exponent mantissa))) draft.old draft.new ledger.new.now) }
-    ensures err { IfErr result (IsTold (RefusesField (field_data field.now) ledger.old.now (Some (Dec exponent mantissa)))) }
+        → Wrote (EncodesField l (field_data field.now) ledger.old.now (Some (Dec exponent mantissa))) draft.old
+        draft.new ledger.new.now) }
+    ensures err { IfErr result
+        (IsTold (RefusesField (field_data field.now) ledger.old.now (Some (Dec exponent mantissa)))) }
     ensures keeps { Keeps ledger.old ledger.new }
 {
     write_chosen(
@@ -335,8 +352,10 @@ fn choose_ascii(
     requires served { IsServed ledger.old (field_data field.now) }
     requires suited { IsSuited ledger.old.max_text (field_data field.now) (Some (AsciiText text.now)) }
     ensures ok { OnOk result ((l : Limits) → l.max_text ≡ ledger.old.max_text
-        → Wrote (EncodesField l (field_data field.now) ledger.old.now (Some (AsciiText text.now))) draft.old draft.new ledger.new.now) }
-    ensures err { IfErr result (IsTold (RefusesField (field_data field.now) ledger.old.now (Some (AsciiText text.now)))) }
+        → Wrote (EncodesField l (field_data field.now) ledger.old.now (Some (AsciiText text.now))) draft.old draft.new
+        ledger.new.now) }
+    ensures err { IfErr result
+        (IsTold (RefusesField (field_data field.now) ledger.old.now (Some (AsciiText text.now)))) }
     ensures keeps { Keeps ledger.old ledger.new }
 {
     write_chosen(draft, ledger, field, Some(Scalar::Ascii(text)))
@@ -352,8 +371,10 @@ fn choose_unicode(
     requires served { IsServed ledger.old (field_data field.now) }
     requires suited { IsSuited ledger.old.max_text (field_data field.now) (Some (UnicodeText text.now)) }
     ensures ok { OnOk result ((l : Limits) → l.max_text ≡ ledger.old.max_text
-        → Wrote (EncodesField l (field_data field.now) ledger.old.now (Some (UnicodeText text.now))) draft.old draft.new ledger.new.now) }
-    ensures err { IfErr result (IsTold (RefusesField (field_data field.now) ledger.old.now (Some (UnicodeText text.now)))) }
+        → Wrote (EncodesField l (field_data field.now) ledger.old.now (Some (UnicodeText text.now))) draft.old draft.new
+        ledger.new.now) }
+    ensures err { IfErr result
+        (IsTold (RefusesField (field_data field.now) ledger.old.now (Some (UnicodeText text.now)))) }
     ensures keeps { Keeps ledger.old ledger.new }
 {
     write_chosen(draft, ledger, field, Some(Scalar::Unicode(text)))
@@ -369,8 +390,10 @@ fn choose_bytes(
     requires served { IsServed ledger.old (field_data field.now) }
     requires suited { IsSuited ledger.old.max_text (field_data field.now) (Some (ByteVector text.now)) }
     ensures ok { OnOk result ((l : Limits) → l.max_text ≡ ledger.old.max_text
-        → Wrote (EncodesField l (field_data field.now) ledger.old.now (Some (ByteVector text.now))) draft.old draft.new ledger.new.now) }
-    ensures err { IfErr result (IsTold (RefusesField (field_data field.now) ledger.old.now (Some (ByteVector text.now)))) }
+        → Wrote (EncodesField l (field_data field.now) ledger.old.now (Some (ByteVector text.now))) draft.old draft.new
+        ledger.new.now) }
+    ensures err { IfErr result
+        (IsTold (RefusesField (field_data field.now) ledger.old.now (Some (ByteVector text.now)))) }
     ensures keeps { Keeps ledger.old ledger.new }
 {
     write_chosen(draft, ledger, field, Some(Scalar::Bytes(text)))
@@ -389,7 +412,8 @@ fn is_empty_in(ledger: &Ledger, field: &FieldInstruction) -> bool
 #[inline(always)]
 fn held_value<'a>(ledger: &'a Ledger, field: &FieldInstruction) -> Option<Scalar<'a>>
     requires { IsServed ledger.now (field_data field.now) }
-    ensures { IfSome result (λ held. previous_at (field_data field.now).entry ledger.now.now ≡ assigned (field_data field.now).kind (scalar_data held)) }
+    ensures { IfSome result (λ held. previous_at (field_data field.now).entry ledger.now.now
+        ≡ assigned (field_data field.now).kind (scalar_data held)) }
 {
     match previous_of(ledger, field) {
         Previous::Assigned(kind, held) if kind == field.kind => Some(held),
@@ -401,7 +425,8 @@ fn held_value<'a>(ledger: &'a Ledger, field: &FieldInstruction) -> Option<Scalar
 #[inline(always)]
 fn held_in(ledger: &Ledger, field: &FieldInstruction, value: Scalar<'_>) -> Option<Scalar<'static>>
     requires { IsServed ledger.now (field_data field.now) }
-    ensures { IfSome result (λ held. previous_at (field_data field.now).entry ledger.now.now ≡ assigned (field_data field.now).kind (scalar_data held)) }
+    ensures { IfSome result (λ held. previous_at (field_data field.now).entry ledger.now.now
+        ≡ assigned (field_data field.now).kind (scalar_data held)) }
 {
     let Some(entry) = field.entry else {
         return None;
@@ -416,7 +441,8 @@ fn held_in(ledger: &Ledger, field: &FieldInstruction, value: Scalar<'_>) -> Opti
 /// Whether a value is the one behind the one that is held.
 #[inline(always)]
 fn is_next(kind: Kind, held: Scalar<'_>, value: Scalar<'_>) -> bool
-    ensures { IsTrue result ↔ (value_of_integer kind (incremented (range_of kind) (integer_of (scalar_data held.entry))) ≡ scalar_data value.entry) }
+    ensures { IsTrue result ↔ (value_of_integer kind (incremented (range_of kind) (integer_of (scalar_data held.entry)))
+        ≡ scalar_data value.entry) }
 {
     match (kind, held) {
         (Kind::UInt32, Scalar::U(number)) => is_same(next_uint32(number), value),

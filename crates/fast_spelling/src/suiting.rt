@@ -68,7 +68,8 @@ pub fn suits_item(templates: &Templates, node: u32, item: &Item) -> bool
 #[inline(always)]
 fn suits_rows(templates: &Templates, body: &[u32], rows: &[Vec<Option<Item>>]) -> bool
     requires { AreBelow (length (nodes_of templates.now)) body.now }
-    ensures { IsTrue result ↔ (AreRight (SuitsBody (body_among (nodes_of templates.now) body.now)) (elements_data rows.now)
+    ensures { IsTrue result ↔ (AreRight (SuitsBody (body_among (nodes_of templates.now) body.now))
+        (elements_data rows.now)
         × (count (elements_data rows.now) < 2 ^ 32)) }
 {
     if rows.len() > u32::MAX as usize {

@@ -40,8 +40,12 @@ pub fn write_body(
     requires ready { IsReady templates.now limits ledger.old }
     requires suits { SuitsBody (body_among (nodes_of templates.now) body.now) (slots_data slots.now) }
     requires fits { AreWithinLimits limits (slots_data slots.now) }
-    ensures ok { OnOk result (Wrote (EncodesBody limits (body_among (nodes_of templates.now) body.now) ledger.old.now (slots_data slots.now)) draft.old draft.new ledger.new.now) }
-    ensures err { IfErr result (IsTold (RefusesBody limits (body_among (nodes_of templates.now) body.now) ledger.old.now (slots_data slots.now))) }
+    ensures ok { OnOk result
+        (Wrote (EncodesBody limits (body_among (nodes_of templates.now) body.now) ledger.old.now (slots_data slots.now))
+        draft.old draft.new ledger.new.now) }
+    ensures err { IfErr result
+        (IsTold (RefusesBody limits (body_among (nodes_of templates.now) body.now) ledger.old.now
+        (slots_data slots.now))) }
     ensures keeps { Keeps ledger.old ledger.new }
 {
     for (i, slot) in slots.iter().enumerate() {
@@ -74,8 +78,12 @@ fn write_item(
     requires ready { IsReady templates.now limits ledger.old }
     requires suits { Suits (instruction_in (nodes_of templates.now) node) (Some (item_data item.now)) }
     requires fits { IsWithinLimits limits (item_data item.now) }
-    ensures ok { OnOk result (Wrote (Encodes limits (instruction_in (nodes_of templates.now) node) ledger.old.now (Some (item_data item.now))) draft.old draft.new ledger.new.now) }
-    ensures err { IfErr result (IsTold (Refuses limits (instruction_in (nodes_of templates.now) node) ledger.old.now (Some (item_data item.now)))) }
+    ensures ok { OnOk result
+        (Wrote (Encodes limits (instruction_in (nodes_of templates.now) node) ledger.old.now
+        (Some (item_data item.now))) draft.old draft.new ledger.new.now) }
+    ensures err { IfErr result
+        (IsTold (Refuses limits (instruction_in (nodes_of templates.now) node) ledger.old.now
+        (Some (item_data item.now)))) }
     ensures keeps { Keeps ledger.old ledger.new }
 {
     match (&templates.node(node).shape, item) {

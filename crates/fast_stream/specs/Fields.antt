@@ -16,11 +16,13 @@ use Rattle.fast_stream.specs.Phrases.{whole, Phrase}
 use Rattle.fast_stream.specs.Grammar.{Grammar, give, integer, ascii_text, raw, ◌>>=◌, of_result, phrase_of}
 
 -- a vector's bytes once its size is known
+-- FAST 1.1: Transfer Encoding, Byte Vectors.
 abbrev pub sized : ℕ → Option ℤ → Grammar (Option (List ℕ))
 sized room None = give None
 sized room (Some n) = of_result (if nat_le (nat_abs n) room then Ok (nat_abs n) else Err L1) >>= (λ size. raw size (λ v. give (Some v)))
 
 -- A text of a kind of texts, or a part of one: as ASCII, or as a vector, which has its size in front.
+-- FAST 1.1: Transfer Encoding, ASCII Strings, Unicode Strings and Byte Vectors.
 abbrev pub text : Kind → Bool → ℕ → Grammar (Option (List ℕ))
 text Ascii nullable room = ascii_text nullable room give
 text kind nullable room = integer (unsigned_range 32) nullable D2 (sized room)
@@ -41,6 +43,7 @@ sent_decimal e None = null
 sent_decimal e (Some m) = value (Dec e m)
 
 -- a decimal behind its exponent
+-- FAST 1.1: Transfer Encoding, Scaled Numbers; Error Codes, R1.
 abbrev pub decimal_from : Option ℤ → Grammar Sent
 decimal_from None = give null
 decimal_from (Some e) = integer (signed_range 63) false R1 (λ m. give (sent_decimal e m))
@@ -52,10 +55,12 @@ item_in decimals l f = integer exponent_range f.optional R1 decimal_from
 item_in texts l f = text f.kind f.optional l.max_text >>= (λ v. give (sent_text f.kind v))
 
 -- a value of the field's kind, or NULL
+-- FAST 1.1: Transfer Encoding, Field Instructions.
 abbrev pub item : Bounds → FieldData → Grammar Sent
 item l f = item_in (family f.kind) l f
 
 -- An integer behind its delta. NULL is absent, and leaves the previous value as it is: so in all deltas.
+-- FAST 1.1: Template Definition, Delta Operator.
 abbrev pub integer_change : FieldData → PreviousData → Option ℤ → Grammar Outcome
 integer_change f p None = of_result (gives_none p)
 integer_change f p (Some k) = of_result (integer_step f p k)
@@ -66,6 +71,7 @@ mantissa_change f p e None = of_result (gives_none p)
 mantissa_change f p e (Some j) = of_result (mantissa_step f p e j)
 
 -- the mantissa delta behind the exponent delta
+-- FAST 1.1: Template Definition, Delta Operator.
 abbrev pub decimal_change : FieldData → PreviousData → Option ℤ → Grammar Outcome
 decimal_change f p None = of_result (gives_none p)
 decimal_change f p (Some k) =
@@ -78,6 +84,7 @@ part_change f p kept None = of_result (gives_none p)
 part_change f p kept (Some part) = of_result (text_step f kept part)
 
 -- the part behind the subtraction length
+-- FAST 1.1: Template Definition, Delta Operator.
 abbrev pub text_change : Bounds → FieldData → PreviousData → Option ℤ → Grammar Outcome
 text_change l f p None = of_result (gives_none p)
 text_change l f p (Some k) =
@@ -91,18 +98,22 @@ change_in decimals l f p = integer delta_range f.optional D2 (decimal_change f p
 change_in texts l f p = integer (signed_range 31) f.optional D7 (text_change l f p)
 
 -- the delta of the field
+-- FAST 1.1: Template Definition, Delta Operator.
 abbrev pub change : Bounds → FieldData → PreviousData → Grammar Outcome
 change l f p = change_in (family f.kind) l f p
 
 -- a field that stands in the stream
+-- FAST 1.1: Template Definition, Field Operators.
 abbrev pub sent : Bounds → FieldData → PreviousData → Grammar Outcome
 sent l f p = item l f >>= (λ x. of_result (decide f p true x))
 
 -- a field of which nothing is sent
+-- FAST 1.1: Template Definition, Field Operators.
 abbrev pub not_sent : FieldData → PreviousData → Bool → Grammar Outcome
 not_sent f p bit = of_result (decide f p bit nothing)
 
 -- the field under its operator: which of these it is
+-- FAST 1.1: Template Definition, Field Operators.
 abbrev pub field_by : Operator → Bool → Bounds → FieldData → PreviousData → Grammar Outcome
 field_by no_operator bit l f p = sent l f p
 field_by Delta bit l f p = change l f p
@@ -111,6 +122,7 @@ field_by operator true l f p = sent l f p
 field_by operator false l f p = not_sent f p false
 
 -- The field under its previous value and its presence bit (which is taken as set where it uses none).
+-- FAST 1.1: Transfer Encoding, Field Instructions.
 unfoldable pub field_term : Bounds → FieldData → PreviousData → Bool → Grammar Outcome
 field_term l f p bit = field_by f.operator bit l f p
 
@@ -119,5 +131,6 @@ abbrev pub field_phrase : Limits → FieldData → PreviousData → Bool → Phr
 field_phrase l f p bit = phrase_of l.strict (field_term (bounds l) f p bit)
 
 -- The bytes spell the value, or absence, of the field; of the dictionary its entry alone changes.
+-- FAST 1.1: Transfer Encoding, Field Instructions.
 abbrev pub SpellsField : Limits → FieldData → Dictionary → Bool → Option ScalarData → List ℕ → Dictionary → Type 0
 SpellsField l f d bit v w d' = (next : PreviousData) × field_phrase l f (previous_at f.entry d) bit w [] (whole (record { value = v; next = next })) × (d' ≡ write_at f.entry next d)

@@ -42,6 +42,7 @@ abbrev pub found : FieldData → State → Outcome → Found
 found f s o = (o.value, record { context = with_dictionary (write_at f.entry o.next s.context.dictionary) s.context; bits = if uses_bit f then later_bits s.bits else s.bits })
 
 -- a field at a state
+-- FAST 1.1: Transfer Encoding, Presence Map Utilization.
 abbrev pub field_in : Bounds → FieldData → State → Grammar Found
 field_in l f s = field_term l f (previous_at f.entry s.context.dictionary) (if uses_bit f then first_bit s.bits else true) >>= (λ o. give (found f s o))
 
@@ -75,6 +76,7 @@ decimal_with x (Some m) = Some (Dec x (signed_of m))
 
 -- An exponent by parts lies in the range of exponents, however it came about. If it is absent, the decimal is, and
 -- neither the mantissa nor its bit is there.
+-- FAST 1.1: Template Definition, Decimal Field Instruction; Error Codes, R1.
 abbrev pub mantissa_after : Bounds → ℕ → FieldData → Found → Grammar Read
 mantissa_after l n mantissa (None, s) = give (None, s)
 mantissa_after l n mantissa (Some e, s) =
@@ -82,11 +84,13 @@ mantissa_after l n mantissa (Some e, s) =
     field_in l mantissa s >>= (λ m. handed n (decimal_with x m.0) m.1))
 
 -- The bits of a map for n bits, or none where there is no map.
+-- FAST 1.1: Transfer Encoding, Presence Map.
 abbrev pub map_bits : ℕ → Bool → Grammar (List Bool)
 map_bits n false = give []
 map_bits n true = presence_map (λ m. narrow n m (give (bits m)))
 
 -- A segment has a map of its own only if one of its instructions uses a bit.
+-- FAST 1.1: Transfer Encoding, Segments.
 abbrev pub own_bits : Body → Grammar (List Bool)
 own_bits body = map_bits (bits_of body) (has_map body)
 
@@ -95,12 +99,14 @@ abbrev pub Segment : Type 0
 Segment = Context → Grammar (Slots × Context)
 
 -- a group or an element: its map, and then what its instructions say
+-- FAST 1.1: Transfer Encoding, Segments; Error Codes, R8.
 abbrev pub segment : Body → (State → Grammar ReadAll) → Segment
 segment body inside c =
     own_bits body >>= (λ b.
     inside (record { context = c; bits = b }) >>= (λ r. give (r.0, r.1.context)))
 
 -- so many elements, one after the other
+-- FAST 1.1: Template Definition, Sequence Field Instruction.
 abbrev pub elements : Segment → ℕ → Context → Grammar (Elements × Context)
 elements inside zero c = give (no_elements, c)
 elements inside (suc n) c =
@@ -119,6 +125,7 @@ group_if true n inside s = group_from n inside s
 group_if false n inside s = give (None, s)
 
 -- A group that may be absent takes a bit, which tells whether it is there.
+-- FAST 1.1: Template Definition, Group Field Instruction.
 abbrev pub group_in : Bool → ℕ → Segment → State → Grammar Read
 group_in false n inside s = group_from n inside s
 group_in true n inside s = group_if (first_bit s.bits) n inside (record s { bits = later_bits s.bits })
@@ -128,6 +135,7 @@ abbrev pub within_limits : Bounds → ℕ → ℕ → Result ℕ Code
 within_limits l before n = if nat_le n l.max_elements then (if nat_le (before + n) l.max_total then Ok n else Err L5) else Err L2
 
 -- the elements that a length claims
+-- FAST 1.1: Template Definition, Sequence Field Instruction.
 abbrev pub length_in : Bounds → Context → ScalarData → Result ℕ Code
 length_in l c v = within_limits l c.counted (nat_abs (integer_of v))
 
@@ -136,6 +144,7 @@ abbrev pub count_more : ℕ → Context → Context
 count_more n c = record c { counted = c.counted + n }
 
 -- A sequence behind its length. An absent length is an absent sequence.
+-- FAST 1.1: Template Definition, Sequence Field Instruction.
 abbrev pub sequence_from : Bounds → ℕ → Segment → Found → Grammar Read
 sequence_from l n inside (None, s) = give (None, s)
 sequence_from l n inside (Some v, s) =
@@ -145,6 +154,7 @@ sequence_from l n inside (Some v, s) =
 
 -- an instruction from a state on, and a body
 unfoldable mutual
+  -- FAST 1.1: Template Definition, Field Instructions.
   pub instruction : Bounds → Instruction → State → Grammar Read
   instruction l (field at f) s = field_in l f s >>= (λ r. handed at.node r.0 r.1)
   instruction l (parts at exponent mantissa) s = field_in l exponent s >>= mantissa_after l at.node mantissa
@@ -166,11 +176,13 @@ with_id id n [] = Err D9
 with_id id n (t ∷ ts) = if has_id t.id id then Ok (n, t) else with_id id (suc n) ts
 
 -- the template that an identifier's value names
+-- FAST 1.1: Transfer Encoding, Template Identifier; Error Codes, D9.
 abbrev pub template_of : Tree → Option ScalarData → Result (ℕ × TemplateData) Code
 template_of t None = Err D9
 template_of t (Some v) = with_id (nat_abs (integer_of v)) 0 t.templates
 
 -- A template with the key `reset` forgets all entries but the identifier's.
+-- FAST 1.1: Template Definition, Dictionaries and Previous Values.
 abbrev pub reset_if : Bool → State → State
 reset_if true s = record s { context = with_dictionary (reset s.context.dictionary) s.context }
 reset_if false s = s
@@ -188,15 +200,18 @@ message_behind t l m id =
     narrow (message_bits u.1) m (message_of l u.0 u.1 id.1))
 
 -- A message: its map, the identifier as a field under the map's first bit, and what stands behind that.
+-- FAST 1.1: Transfer Encoding, Messages.
 unfoldable pub message_term : Tree → Bounds → Dictionary → Grammar (MessageData × Dictionary)
 message_term t l d =
     presence_map (λ m.
     field_in l identifier (begin d (bits m)) >>= message_behind t l m)
 
 -- the same as a phrase
+-- FAST 1.1: Transfer Encoding, Messages.
 abbrev pub message : Tree → Limits → Dictionary → Phrase (MessageData × Dictionary)
 message t l d = phrase_of l.strict (message_term t (bounds l) d)
 
 -- The bytes spell the message, and lead from one dictionary to the other.
+-- FAST 1.1: Transfer Encoding, Messages.
 unfoldable pub SpellsMessage : Tree → Limits → Dictionary → MessageData → List ℕ → Dictionary → Type 0
 SpellsMessage t l d m w d' = message t l d w (events t m) (whole (m, d'))

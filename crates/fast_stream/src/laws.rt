@@ -19,54 +19,67 @@ ghost use Rattle.fast_stream.specs.Running.{reading, run, message_begun, end_of}
 
 /// A stream has at most one answer: the same events, and the same end.
 pub fn one_answer()
-    ensures { (t : Tree) (l : Limits) (w : List ℕ) (es fs : List EventData) (e f : End) → Stream t l w es e → Stream t l w fs f → (es ≡ fs) × (e ≡ f) }
+    ensures { (t : Tree) (l : Limits) (w : List ℕ) (es fs : List EventData) (e f : End) → Stream t l w es e
+        → Stream t l w fs f → (es ≡ fs) × (e ≡ f) }
 {}
 
 /// Each stream of bytes has an answer.
 pub fn some_answer()
-    ensures { (t : Tree) (l : Limits) (w : List ℕ) → AreBytes w → (es : List EventData) × (e : End) × Stream t l w es e }
+    ensures { (t : Tree) (l : Limits) (w : List ℕ) → AreBytes w
+        → (es : List EventData) × (e : End) × Stream t l w es e }
 {}
 
 /// What is read from bytes, one after the other, is their stream.
 pub fn reading_is_the_stream()
-    ensures { (t : Tree) (l : Limits) (w : List ℕ) → AreBytes w → Stream t l w (reading t l w).0 (end_of (reading t l w).1) }
+    ensures { (t : Tree) (l : Limits) (w : List ℕ) → AreBytes w
+        → Stream t l w (reading t l w).0 (end_of (reading t l w).1) }
 {}
 
 /// Bytes in two pieces: the second piece is read from where the first has led.
 pub fn reading_in_pieces()
-    ensures { (t : Tree) (l : Limits) (w v : List ℕ) → ((reading t l (w ++ v)).0 ≡ (reading t l w).0 ++ (run (message_begun t l) (length w) (reading t l w).1 v).0) × ((reading t l (w ++ v)).1 ≡ (run (message_begun t l) (length w) (reading t l w).1 v).1) }
+    ensures { (t : Tree) (l : Limits) (w v : List ℕ)
+        → ((reading t l (w ++ v)).0 ≡ (reading t l w).0 ++ (run (message_begun t l) (length w) (reading t l w).1 v).0)
+        × ((reading t l (w ++ v)).1 ≡ (run (message_begun t l) (length w) (reading t l w).1 v).1) }
 {}
 
 /// What a whole message hands over is the events of the message.
 pub fn message_events()
-    ensures { (t : Tree) (l : Limits) (d : Dictionary) (w : List ℕ) (es : List EventData) (r : MessageData × Dictionary) → message t l d w es (whole r) → es ≡ events t r.0 }
+    ensures { (t : Tree) (l : Limits) (d : Dictionary) (w : List ℕ) (es : List EventData) (r : MessageData × Dictionary)
+        → message t l d w es (whole r) → es ≡ events t r.0 }
 {}
 
 /// Lenient mode takes what strict mode takes: bytes that spell a message there spell it here too.
 pub fn strict_is_lenient()
-    ensures { (t : Tree) (l : Limits) (d : Dictionary) (m : MessageData) (w : List ℕ) (d' : Dictionary) → SpellsMessage t (in_mode true l) d m w d' → SpellsMessage t l d m w d' }
+    ensures { (t : Tree) (l : Limits) (d : Dictionary) (m : MessageData) (w : List ℕ) (d' : Dictionary)
+        → SpellsMessage t (in_mode true l) d m w d' → SpellsMessage t l d m w d' }
 {}
 
 /// A chain of messages, and one more that is spelled in strict mode, are a stream between messages and a chain, in both modes.
 pub fn read_back()
-    ensures { (t : Tree) (l : Limits) (w v : List ℕ) (es : List EventData) (m : MessageData) (d d' : Dictionary) → Chain t l w es d → SpellsMessage t (in_mode true l) d m v d' → Stream t l (w ++ v) (es ++ events t m) between × Chain t l (w ++ v) (es ++ events t m) d' }
+    ensures { (t : Tree) (l : Limits) (w v : List ℕ) (es : List EventData) (m : MessageData) (d d' : Dictionary)
+        → Chain t l w es d → SpellsMessage t (in_mode true l) d m v d'
+        → Stream t l (w ++ v) (es ++ events t m) between × Chain t l (w ++ v) (es ++ events t m) d' }
 {}
 
 /// A message that was begun hands over no more events than the cap of the set, whether it is whole, cut short or at fault.
 pub fn message_bound()
-    ensures { (t : Tree) (l : Limits) (d : Dictionary) (w : List ℕ) (es : List EventData) (r : Reached (MessageData × Dictionary)) → message t l d w es r → length es ≤ message_cap t l }
+    ensures { (t : Tree) (l : Limits) (d : Dictionary) (w : List ℕ) (es : List EventData)
+        (r : Reached (MessageData × Dictionary)) → message t l d w es r → length es ≤ message_cap t l }
 {}
 
 /// A stream hands over no more events than its bytes times the cap of the set.
 pub fn events_bound()
-    ensures { (t : Tree) (l : Limits) (w : List ℕ) (es : List EventData) (e : End) → Stream t l w es e → length es ≤ length w * message_cap t l }
+    ensures { (t : Tree) (l : Limits) (w : List ℕ) (es : List EventData) (e : End) → Stream t l w es e
+        → length es ≤ length w * message_cap t l }
 {}
 
 /// Each stream begins a number of messages: whole ones, and then perhaps one that is cut short or wrong. It hands over no more
 /// events than the cap of the set for each.
 pub fn begun_bound()
-    ensures some { (t : Tree) (l : Limits) (w : List ℕ) (es : List EventData) (e : End) → Stream t l w es e → (n : ℕ) × Begins t l w e n }
-    ensures bound { (t : Tree) (l : Limits) (w : List ℕ) (es : List EventData) (e : End) (n : ℕ) → Stream t l w es e → Begins t l w e n → length es ≤ n * message_cap t l }
+    ensures some { (t : Tree) (l : Limits) (w : List ℕ) (es : List EventData) (e : End) → Stream t l w es e
+        → (n : ℕ) × Begins t l w e n }
+    ensures bound { (t : Tree) (l : Limits) (w : List ℕ) (es : List EventData) (e : End) (n : ℕ) → Stream t l w es e
+        → Begins t l w e n → length es ≤ n * message_cap t l }
 {}
 
 /// The caps of a message, on its events and on its turns, are each the lesser of two numbers: the greatest template where each
@@ -75,16 +88,19 @@ pub fn begun_bound()
 pub fn message_caps()
     ensures events { (t : Tree) (l : Limits) → message_cap t l ≡ min
         (greatest (map (λ u. 2 + body_size event_weights l u.body) t.templates))
-        (greatest (map (λ u. 2 + body_outer event_weights u.body + l.max_total * body_widest event_weights u.body) t.templates)) }
+        (greatest (map (λ u. 2 + body_outer event_weights u.body + l.max_total * body_widest event_weights u.body)
+        t.templates)) }
     ensures turns { (t : Tree) (l : Limits) → turn_cap t l ≡ min
         (greatest (map (λ u. 4 + body_size turn_weights l u.body) t.templates))
-        (greatest (map (λ u. 4 + body_outer turn_weights u.body + l.max_total * body_widest turn_weights u.body) t.templates)) }
+        (greatest (map (λ u. 4 + body_outer turn_weights u.body + l.max_total * body_widest turn_weights u.body)
+        t.templates)) }
 {}
 
 /// A body in two parts counts the sum of both, with the elements of its sequences and without, and its widest element is the
 /// wider one of the two.
 pub fn body_parts()
-    ensures size { (u : Weights) (l : Limits) (a b : Body) → body_size u l (joined a b) ≡ body_size u l a + body_size u l b }
+    ensures size { (u : Weights) (l : Limits) (a b : Body)
+        → body_size u l (joined a b) ≡ body_size u l a + body_size u l b }
     ensures outer { (u : Weights) (a b : Body) → body_outer u (joined a b) ≡ body_outer u a + body_outer u b }
     ensures widest { (u : Weights) (a b : Body) → body_widest u (joined a b) ≡ max (body_widest u a) (body_widest u b) }
 {}
@@ -92,11 +108,14 @@ pub fn body_parts()
 /// An element counts at most what its sequence counts, where a sequence may have one; without the elements in it, it counts at
 /// most what the widest one does.
 pub fn element_within()
-    ensures size { (u : Weights) (l : Limits) (at : Label) (f : FieldData) (body : Body) → 1 ≤ l.max_elements → 2 + body_size u l body ≤ size u l (sequence at f body) }
-    ensures widest { (u : Weights) (at : Label) (f : FieldData) (body : Body) → 2 + body_outer u body ≤ widest u (sequence at f body) }
+    ensures size { (u : Weights) (l : Limits) (at : Label) (f : FieldData) (body : Body) → 1 ≤ l.max_elements
+        → 2 + body_size u l body ≤ size u l (sequence at f body) }
+    ensures widest { (u : Weights) (at : Label) (f : FieldData) (body : Body)
+        → 2 + body_outer u body ≤ widest u (sequence at f body) }
 {}
 
 /// After a fault nothing is read: more bytes change neither the events nor the end.
 pub fn faults_stay()
-    ensures { (t : Tree) (l : Limits) (w v : List ℕ) (es : List EventData) (c : Code) (place : ℕ) → Stream t l w es (faulted c place) → Stream t l (w ++ v) es (faulted c place) }
+    ensures { (t : Tree) (l : Limits) (w v : List ℕ) (es : List EventData) (c : Code) (place : ℕ)
+        → Stream t l w es (faulted c place) → Stream t l (w ++ v) es (faulted c place) }
 {}

@@ -137,7 +137,8 @@ fn node_counts(nodes: &[Node], limits: Limits, number: usize) -> Counts
 
 /// The events of one part of a body and of the next.
 fn counts_of_both(first: Counts, next: Counts) -> Counts
-    ensures { (a o w b p v : ℕ) → AreCounts first a o w → AreCounts next b p v → AreCounts result (a + b) (o + p) (max w v) }
+    ensures { (a o w b p v : ℕ) → AreCounts first a o w → AreCounts next b p v
+        → AreCounts result (a + b) (o + p) (max w v) }
 {
     Counts {
         all: first.all.saturating_add(next.all),

@@ -7,9 +7,11 @@ pub mod queries;
 mod read;
 pub mod sets;
 mod texts;
+pub mod vectors;
 mod widths;
 
 pub use fast_notation::{NESTING_LIMIT, NODE_LIMIT, SEGMENT_LIMIT, StaticCode, StaticFault};
 pub use fast_tree::{FieldInstruction, Node, Operator, Shape, Template};
 pub use opcodes::{Opcode, Sending};
 pub use sets::Templates;
+pub use vectors::VECTORS;

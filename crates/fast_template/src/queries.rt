@@ -73,9 +73,12 @@ impl Templates {
     /// The number of the template with an identifier.
     #[inline]
     pub fn by_id(&self, id: u32) -> Option<u32>
-        ensures found { IfSome result (λ i. (t : Template) × (slice_get (templates_of self.now) i ≡ Some t) × (t.id ≡ Some id)) }
-        ensures first { IfSome result (λ i. (j : ℕ) (t : Template) → j < i → slice_get (templates_of self.now) j ≡ Some t → t.id ≢ Some id) }
-        ensures none { IfNone result ((j : ℕ) (t : Template) → slice_get (templates_of self.now) j ≡ Some t → t.id ≢ Some id) }
+        ensures found { IfSome result (λ i. (t : Template) × (slice_get (templates_of self.now) i ≡ Some t)
+            × (t.id ≡ Some id)) }
+        ensures first { IfSome result (λ i. (j : ℕ) (t : Template) → j < i
+            → slice_get (templates_of self.now) j ≡ Some t → t.id ≢ Some id) }
+        ensures none { IfNone result ((j : ℕ) (t : Template) → slice_get (templates_of self.now) j ≡ Some t
+            → t.id ≢ Some id) }
         ensures distinct { HasDistinctIds (tree_of self.now) }
     {
         self.ids.get(&id).copied()
@@ -83,9 +86,12 @@ impl Templates {
 
     /// The number of the template with a name.
     pub fn by_name(&self, name: &str) -> Option<u32>
-        ensures found { IfSome result (λ i. (t : Template) × (slice_get (templates_of self.now) i ≡ Some t) × (string_bytes t.name ≡ name.now)) }
-        ensures first { IfSome result (λ i. (j : ℕ) (t : Template) → j < i → slice_get (templates_of self.now) j ≡ Some t → string_bytes t.name ≢ name.now) }
-        ensures none { IfNone result ((j : ℕ) (t : Template) → slice_get (templates_of self.now) j ≡ Some t → string_bytes t.name ≢ name.now) }
+        ensures found { IfSome result (λ i. (t : Template) × (slice_get (templates_of self.now) i ≡ Some t)
+            × (string_bytes t.name ≡ name.now)) }
+        ensures first { IfSome result (λ i. (j : ℕ) (t : Template) → j < i
+            → slice_get (templates_of self.now) j ≡ Some t → string_bytes t.name ≢ name.now) }
+        ensures none { IfNone result ((j : ℕ) (t : Template) → slice_get (templates_of self.now) j ≡ Some t
+            → string_bytes t.name ≢ name.now) }
     {
         self.names.get(name).copied()
     }

@@ -22,10 +22,12 @@ impl Templates {
     /// The fault of the first pass that finds one, at the first template at which it stands: S1, C1, C2, S2 to S5, D8,
     /// C3, C4, C6, C5. Or that there was no memory left.
     pub fn read(alloc: Global, text: &str) -> Result<Templates, StaticFault>
-        ensures read { IfOk result (λ t. (document : Members) × (parse_document text.now ≡ Some document) × IsTree document (tree_of t)) }
+        ensures read { IfOk result (λ t. (document : Members) × (parse_document text.now ≡ Some document)
+            × IsTree document (tree_of t)) }
         ensures fault { IfErr result (λ e. IsAtFault (parse_document text.now) e.code e.template) }
         ensures first { IfErr result (λ e. IsFirstFault (parse_document text.now) e.code e.template) }
-        ensures none { IfErr result (λ e. e.code ≢ StaticCode.Memory → (document : Members) (t : Tree) → parse_document text.now ≡ Some document → ¬ (IsTree document t)) }
+        ensures none { IfErr result (λ e. e.code ≢ StaticCode.Memory → (document : Members) (t : Tree)
+            → parse_document text.now ≡ Some document → ¬ (IsTree document t)) }
     {
         let set = CheckedSet::read(alloc, text)?;
         let Ok(opcodes) = opcodes_of(alloc, &set.nodes) else {

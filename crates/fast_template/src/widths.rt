@@ -1,23 +1,24 @@
 //! How many presence bits segments use, and which instructions may be absent. No query takes memory.
 
 ghost use Rattle.std.specs.Prelude.{◌≡◌, ℕ, ◌<◌, ◌≤◌, ◌^◌, ◌-◌, List, length, slice_get, Some};
-ghost use Rattle.fast_tree.specs.Tree.{Label, Instruction, uses_bit, bits_used, bits_of, message_bits};
+ghost use Rattle.fast_tree.specs.Tree.{Label, Instruction, bits_used, bits_of, message_bits};
 ghost use Rattle.fast_tree.specs.declared.instructions.Node.{Node};
 ghost use Rattle.fast_tree.specs.declared.instructions.Template.{Template};
 ghost use Rattle.fast_tree.specs.Bodies.{body_among};
 ghost use Rattle.fast_tree.specs.Numbers.{AreBelow, numbers_of};
-ghost use Rattle.fast_template.specs.Flat.{nodes_of, templates_of, field_data, instruction_of, instructions_from, template_data};
+ghost use Rattle.fast_template.specs.Flat.{nodes_of, templates_of, instruction_of, instructions_from, template_data};
 ghost use Rattle.fast_template.specs.Presence.{may_be_absent};
 
 use crate::sets::Templates;
-use fast_tree::{FieldInstruction, Node, Operator, Shape};
+use fast_tree::{Node, Shape};
 
 impl Templates {
     /// The greatest number of presence bits that a message of a template can use in its own map, the identifier's among
     /// them.
     pub fn message_bits(&self, i: u32) -> usize
         requires { i < length (templates_of self.now) }
-        ensures { (t : Template) → slice_get (templates_of self.now) i ≡ Some t → result ≡ message_bits (template_data (instructions_from 0 (nodes_of self.now)) t) }
+        ensures { (t : Template) → slice_get (templates_of self.now) i ≡ Some t
+            → result ≡ message_bits (template_data (instructions_from 0 (nodes_of self.now)) t) }
     {
         1 + body_bits(self, &self.template(i).body)
     }
@@ -26,7 +27,8 @@ impl Templates {
     /// of a sequence. 0 for a field.
     pub fn segment_bits(&self, n: u32) -> usize
         requires { n < length (nodes_of self.now) }
-        ensures { (v : Node) → slice_get (nodes_of self.now) n ≡ Some v → result ≡ bits_of (body_among (nodes_of self.now) (numbers_of v.shape)) }
+        ensures { (v : Node) → slice_get (nodes_of self.now) n ≡ Some v
+            → result ≡ bits_of (body_among (nodes_of self.now) (numbers_of v.shape)) }
     {
         body_bits(self, body_of(self.node(n)))
     }
@@ -45,29 +47,19 @@ impl Templates {
     }
 }
 
-/// Whether the field uses a bit of the presence map.
-fn has_bit(field: &FieldInstruction) -> bool
-    ensures { result ≡ uses_bit (field_data field.now) }
-{
-    match field.operator {
-        Operator::None | Operator::Delta => false,
-        Operator::Constant => field.optional,
-        Operator::Default | Operator::Copy | Operator::Increment | Operator::Tail => true,
-    }
-}
-
 /// The bits that the instruction uses of its own segment's map.
 fn bits_used(node: &Node) -> usize
-    ensures used { (at : Label) (first : ℕ) (is : List Instruction) → result ≡ bits_used (instruction_of at first is node.now.shape) }
+    ensures used { (at : Label) (first : ℕ) (is : List Instruction)
+        → result ≡ bits_used (instruction_of at first is node.now.shape) }
     ensures few { result ≤ 2 }
 {
     match &node.shape {
-        Shape::Field(field) => usize::from(has_bit(field)),
+        Shape::Field(field) => usize::from(field.uses_bit()),
         Shape::Decimal { exponent, mantissa } => {
-            usize::from(has_bit(exponent)) + usize::from(has_bit(mantissa))
+            usize::from(exponent.uses_bit()) + usize::from(mantissa.uses_bit())
         }
         Shape::Group { optional, .. } => usize::from(*optional),
-        Shape::Sequence { length, .. } => usize::from(has_bit(length)),
+        Shape::Sequence { length, .. } => usize::from(length.uses_bit()),
     }
 }
 

@@ -3,3 +3,4 @@ pub mod Writing
 pub mod Names
 pub mod Fronted
 pub mod Blocks
+mod Cells

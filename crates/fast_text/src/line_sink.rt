@@ -93,14 +93,14 @@ fn put_event<T: Target>(
 )
     requires fields { AreFronts (field_front (tree_of templates.now)) fronts.now }
     requires messages { AreFronts (message_front (tree_of templates.now)) messages.now }
-    ensures { Writes T.written T.has_failed line.old (line_of (tree_of templates.now) (event_data event.entry) ++ 0x0A ∷ []) line.new }
+    ensures { Writes T.written T.has_failed line.old
+        (line_of (tree_of templates.now) (event_data event.entry) ++ 0x0A ∷ []) line.new }
 {
     match event {
         Event::MessageStart { template } => put_message(line, templates, messages, template),
         Event::Field { node, value } => {
             put_field(line, templates, fronts, node);
-            line.put_value(value);
-            line.put(b"\n");
+            line.put_value_line(value);
         }
         Event::GroupStart { node } => {
             line.put(b"group ");

@@ -39,6 +39,12 @@ impl<T: Target> fmt::Write for LineWriter<'_, T> {
 /// How many digits a number has at most.
 const DIGITS: usize = 20;
 
+/// How long the letter of a value is, with the space behind it.
+const LETTER: usize = 2;
+
+/// How much is copied of an unsigned value: its letter, all digits and the LF, in whole words.
+const VALUE: usize = 24;
+
 /// How many bytes are turned into hexadecimal digits at a time.
 const HEX_CHUNK: usize = 32;
 
@@ -261,6 +267,33 @@ impl<'a, T: Target> LineWriter<'a, T> {
             Scalar::Bytes(bytes) => {
                 self.put(b"b ");
                 self.put_hex(bytes);
+            }
+        }
+    }
+
+    /// Writes an unsigned value and the LF behind it, in one piece.
+    #[inline(always)]
+    fn put_unsigned_line(&mut self, number: u64)
+        ensures { Writes T.written T.has_failed self.old (codes "u " ++ decimal number ++ 0x0A ∷ []) self.new }
+    {
+        let mut cells = [b'\n'; LETTER + DIGITS + VALUE];
+        let start = write_digits(number, &mut cells, LETTER + DIGITS);
+        let at = start - LETTER;
+        cells[at] = b'u';
+        cells[at + 1] = b' ';
+        self.put_front(&cells[at..at + VALUE], LETTER + DIGITS + 1 - at);
+    }
+
+    /// Writes a value as [`LineWriter::put_value`] does, and the LF behind it.
+    #[inline(always)]
+    pub fn put_value_line(&mut self, value: Scalar<'_>)
+        ensures { Writes T.written T.has_failed self.old (value_text (scalar_data value.entry) ++ 0x0A ∷ []) self.new }
+    {
+        match value {
+            Scalar::U(number) => self.put_unsigned_line(number),
+            _ => {
+                self.put_value(value);
+                self.put(b"\n");
             }
         }
     }

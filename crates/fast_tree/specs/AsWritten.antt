@@ -6,6 +6,7 @@ use Rattle.fast_tree.specs.declared.operators.Operator.{Operator}
 use Rattle.fast_tree.specs.declared.operators.Operator.TheVariants.{None as no_operator}
 
 -- An operator with its initial value, key and dictionary, each as a text and only where it is written.
+-- FAST 1.1: Template Definition, Field Operators.
 pub record Written : Type 0 where
   pub operator : Operator
   pub value : Option (List ℕ)
@@ -18,6 +19,7 @@ plain = record { operator = no_operator; value = None; key = None; dictionary = 
 
 mutual
   -- each begins with its name, and but for a reference goes on with whether it is optional
+  -- FAST 1.1: Template Definition, Field Instructions.
   pub data Declared : Type 0 where
     scalar : List ℕ → Bool → Kind → Written → Declared
     -- exponent, mantissa
@@ -33,6 +35,7 @@ mutual
     more : Declared → DeclaredList → DeclaredList
 
 -- a template as it is written
+-- FAST 1.1: Template Definition, Templates.
 pub record DeclaredTemplate : Type 0 where
   pub name : List ℕ
   pub id : Option ℕ

@@ -5,12 +5,14 @@ use Rattle.fast_tree.specs.declared.operators.Operator.TheVariants.{Copy, Increm
 use Rattle.fast_tree.specs.AsWritten.{DeclaredTemplate, Part, whole, Use, all_uses}
 
 -- A dictionary: the global one, that of a template in whose text the operator stands, or one with a name.
+-- FAST 1.1: Template Definition, Dictionaries and Previous Values.
 pub data Place : Type 0 where
   global : Place
   of_template : ℕ → Place
   named : List ℕ → Place
 
 -- A dictionary entry by name. Equal names are one entry, whatever is kept there.
+-- FAST 1.1: Template Definition, Dictionaries and Previous Values.
 pub record Entry : Type 0 where
   pub place : Place
   pub key : List ℕ
@@ -22,6 +24,7 @@ pub record Scope : Type 0 where
   pub dictionary : List ℕ
 
 -- the dictionary of a name
+-- FAST 1.1: Template Definition, Dictionaries and Previous Values.
 pub record IsPlace (s : Scope) (name : List ℕ) (p : Place) : Type 0 where
   pub is_global : name ≡ codes "global" → p ≡ global
   pub is_template : name ≡ codes "template" → p ≡ of_template s.template
@@ -33,10 +36,12 @@ IsUnderKey None u e = (e.key ≡ u.name) × (e.part ≡ u.part)
 IsUnderKey (Some key) u e = (e.key ≡ key) × (e.part ≡ whole)
 
 -- The entry that a use of an operator has: with a key of its own it is a plain one under that key.
+-- FAST 1.1: Template Definition, Dictionaries and Previous Values.
 abbrev pub IsEntry : Scope → Use → Entry → Type 0
 IsEntry s u e = IsPlace s (unwrap_or u.written.dictionary s.dictionary) e.place × IsUnderKey u.written.key u e
 
 -- the operator keeps a value in the dictionary
+-- FAST 1.1: Template Definition, Dictionaries and Previous Values.
 abbrev pub keeps_value : Operator → Bool
 keeps_value Copy = true
 keeps_value Increment = true

@@ -1,5 +1,9 @@
 //! Templates and their instructions, as they are kept.
 
+ghost use Rattle.std.specs.Prelude.{◌≡◌};
+ghost use Rattle.fast_tree.specs.Nodes.{field_data};
+ghost use Rattle.fast_tree.specs.Tree.{uses_bit};
+
 use crate::operators::Operator;
 use fast_value::{Kind, Value};
 
@@ -16,6 +20,20 @@ pub struct FieldInstruction {
     pub initial: Option<Value>,
     /// The number of the dictionary entry that the operator reads and writes, where it is one that does.
     pub entry: Option<u32>,
+}
+
+impl FieldInstruction {
+    /// Whether the value has a bit in the presence map of its segment (FAST 1.1, Transfer Encoding, Presence Map Utilization).
+    #[inline]
+    pub fn uses_bit(&self) -> bool
+        ensures { result ≡ uses_bit (field_data self.now) }
+    {
+        match self.operator {
+            Operator::None | Operator::Delta => false,
+            Operator::Constant => self.optional,
+            Operator::Default | Operator::Copy | Operator::Increment | Operator::Tail => true,
+        }
+    }
 }
 
 /// What an instruction of a template stands for.

@@ -70,7 +70,8 @@ impl Number {
     /// Where the number stands: at hand.
     #[inline]
     pub fn source(self) -> Source
-        ensures { (f : FieldData) (d : Dictionary) (scratch piece : List ℕ) → value_at result f d scratch piece ≡ Some (number_data self) }
+        ensures { (f : FieldData) (d : Dictionary) (scratch piece : List ℕ)
+            → value_at result f d scratch piece ≡ Some (number_data self) }
     {
         match self {
             Number::Unsigned(number) => Source::Unsigned(number),
@@ -95,9 +96,11 @@ pub fn source_of(item: Option<Number>) -> Source
 #[inline]
 pub fn needs_bytes(field: &FieldInstruction, bit: bool) -> bool
     ensures needed { result ≡ needs_bytes field.now.operator bit }
-    ensures sent { result ≡ true → (l : Bounds) (p : PreviousData) → field_term l (field_data field.now) p bit ≡ field_term l (field_data field.now) p true }
+    ensures sent { result ≡ true → (l : Bounds) (p : PreviousData)
+        → field_term l (field_data field.now) p bit ≡ field_term l (field_data field.now) p true }
     ensures operator { result ≡ true → field.now.operator ≢ Operator.Constant }
-    ensures unsent { result ≡ false → (l : Bounds) (p : PreviousData) → field_term l (field_data field.now) p bit ≡ of_result (decide (field_data field.now) p bit nothing) }
+    ensures unsent { result ≡ false → (l : Bounds) (p : PreviousData)
+        → field_term l (field_data field.now) p bit ≡ of_result (decide (field_data field.now) p bit nothing) }
 {
     is_needed(field.operator, bit)
 }
@@ -130,8 +133,11 @@ pub fn previous<'s>(slots: &'s Slots, field: &FieldInstruction) -> Previous<'s>
 #[inline(always)]
 pub fn assign(slots: &mut Slots, field: &FieldInstruction, value: Scalar<'_>)
     requires within { (e : ℕ) → (field_data field.now).entry ≡ Some e → e < length (slots_dictionary slots.old) }
-    requires room { (e : ℕ) → (field_data field.now).entry ≡ Some e → IsStorable (slots_terms slots.old) e (scalar_data value) }
-    ensures entry { slots_dictionary slots.new ≡ write_at (field_data field.now).entry (assigned field.now.kind (scalar_data value.entry)) (slots_dictionary slots.old) }
+    requires room { (e : ℕ) → (field_data field.now).entry ≡ Some e
+        → IsStorable (slots_terms slots.old) e (scalar_data value) }
+    ensures entry { slots_dictionary slots.new
+        ≡ write_at (field_data field.now).entry (assigned field.now.kind (scalar_data value.entry))
+        (slots_dictionary slots.old) }
     ensures terms { slots_terms slots.new ≡ slots_terms slots.old }
 {
     if let Some(entry) = field.entry {
@@ -143,7 +149,8 @@ pub fn assign(slots: &mut Slots, field: &FieldInstruction, value: Scalar<'_>)
 #[inline]
 pub fn assign_empty(slots: &mut Slots, field: &FieldInstruction)
     requires within { (e : ℕ) → (field_data field.now).entry ≡ Some e → e < length (slots_dictionary slots.old) }
-    ensures entry { slots_dictionary slots.new ≡ write_at (field_data field.now).entry empty (slots_dictionary slots.old) }
+    ensures entry { slots_dictionary slots.new
+        ≡ write_at (field_data field.now).entry empty (slots_dictionary slots.old) }
     ensures terms { slots_terms slots.new ≡ slots_terms slots.old }
 {
     if let Some(entry) = field.entry {
@@ -155,8 +162,11 @@ pub fn assign_empty(slots: &mut Slots, field: &FieldInstruction)
 #[inline]
 pub fn keep(slots: &mut Slots, field: &FieldInstruction, number: Number) -> Source
     requires within { (e : ℕ) → (field_data field.now).entry ≡ Some e → e < length (slots_dictionary slots.old) }
-    ensures value { (d : Dictionary) (scratch piece : List ℕ) → value_at result (field_data field.now) d scratch piece ≡ Some (number_data number) }
-    ensures entry { slots_dictionary slots.new ≡ write_at (field_data field.now).entry (assigned field.now.kind (number_data number)) (slots_dictionary slots.old) }
+    ensures value { (d : Dictionary) (scratch piece : List ℕ)
+        → value_at result (field_data field.now) d scratch piece ≡ Some (number_data number) }
+    ensures entry { slots_dictionary slots.new
+        ≡ write_at (field_data field.now).entry (assigned field.now.kind (number_data number))
+        (slots_dictionary slots.old) }
     ensures terms { slots_terms slots.new ≡ slots_terms slots.old }
 {
     assign(slots, field, number.as_scalar());
@@ -167,7 +177,8 @@ pub fn keep(slots: &mut Slots, field: &FieldInstruction, number: Number) -> Sour
 #[inline(always)]
 pub fn own_number(slots: &Slots, field: &FieldInstruction) -> Option<Number>
     requires within { (e : ℕ) → (field_data field.now).entry ≡ Some e → e < length (slots_dictionary slots.now) }
-    ensures { IfSome result (λ n. previous_at (field_data field.now).entry (slots_dictionary slots.now) ≡ assigned field.now.kind (number_data n)) }
+    ensures { IfSome result (λ n. previous_at (field_data field.now).entry (slots_dictionary slots.now)
+        ≡ assigned field.now.kind (number_data n)) }
 {
     match field.entry {
         Some(entry) => number_under(field.kind, slots.held(entry as usize)),
@@ -196,7 +207,9 @@ pub fn number_under(kind: Kind, entry: Entry) -> Option<Number>
 #[inline(always)]
 fn has_own_text(slots: &Slots, field: &FieldInstruction) -> bool
     requires within { (e : ℕ) → (field_data field.now).entry ≡ Some e → e < length (slots_dictionary slots.now) }
-    ensures { result ≡ true → (text : List ℕ) × (previous_at (field_data field.now).entry (slots_dictionary slots.now) ≡ assigned field.now.kind (value_of_text field.now.kind text)) }
+    ensures { result ≡ true → (text : List ℕ)
+        × (previous_at (field_data field.now).entry (slots_dictionary slots.now)
+        ≡ assigned field.now.kind (value_of_text field.now.kind text)) }
 {
     match field.entry {
         Some(entry) => is_text_under(field.kind, slots.held(entry as usize)),
@@ -227,7 +240,9 @@ fn is_text_under(kind: Kind, entry: Entry) -> bool
 pub fn unsent(slots: &mut Slots, field: &FieldInstruction, bit: bool) -> Result<Source, Code>
     requires serves { Serves (length (slots_dictionary slots.old)) (slots_terms slots.old) (field_data field.now) }
     requires no_bytes { needs_bytes field.now.operator bit ≡ false }
-    ensures decided { IsDecided (decide (field_data field.now) (previous_at (field_data field.now).entry (slots_dictionary slots.old)) bit nothing)
+    ensures decided { IsDecided
+        (decide (field_data field.now) (previous_at (field_data field.now).entry (slots_dictionary slots.old)) bit
+        nothing)
         (field_data field.now) (slots_dictionary slots.old) (slots_dictionary slots.new) result }
     ensures terms { slots_terms slots.new ≡ slots_terms slots.old }
 {
@@ -247,7 +262,8 @@ pub fn unsent(slots: &mut Slots, field: &FieldInstruction, bit: bool) -> Result<
 fn copied(slots: &mut Slots, field: &FieldInstruction) -> Result<Source, Code>
     requires serves { Serves (length (slots_dictionary slots.old)) (slots_terms slots.old) (field_data field.now) }
     requires operator { field.now.operator ≢ Operator.Increment }
-    ensures decided { IsDecided (unsent (field_data field.now) (previous_at (field_data field.now).entry (slots_dictionary slots.old)))
+    ensures decided { IsDecided
+        (unsent (field_data field.now) (previous_at (field_data field.now).entry (slots_dictionary slots.old)))
         (field_data field.now) (slots_dictionary slots.old) (slots_dictionary slots.new) result }
     ensures terms { slots_terms slots.new ≡ slots_terms slots.old }
 {
@@ -271,7 +287,8 @@ fn copied(slots: &mut Slots, field: &FieldInstruction) -> Result<Source, Code>
 fn incremented(slots: &mut Slots, field: &FieldInstruction) -> Result<Source, Code>
     requires serves { Serves (length (slots_dictionary slots.old)) (slots_terms slots.old) (field_data field.now) }
     requires operator { field.now.operator ≡ Operator.Increment }
-    ensures decided { IsDecided (unsent (field_data field.now) (previous_at (field_data field.now).entry (slots_dictionary slots.old)))
+    ensures decided { IsDecided
+        (unsent (field_data field.now) (previous_at (field_data field.now).entry (slots_dictionary slots.old)))
         (field_data field.now) (slots_dictionary slots.old) (slots_dictionary slots.new) result }
     ensures terms { slots_terms slots.new ≡ slots_terms slots.old }
 {
@@ -293,7 +310,8 @@ fn incremented(slots: &mut Slots, field: &FieldInstruction) -> Result<Source, Co
 /// One more, and behind the greatest value of the kind the least.
 #[inline]
 fn next_number(kind: Kind, value: Scalar<'_>) -> Number
-    ensures { number_data result ≡ value_of_integer kind (incremented (range_of kind) (integer_of (scalar_data value.entry))) }
+    ensures { number_data result
+        ≡ value_of_integer kind (incremented (range_of kind) (integer_of (scalar_data value.entry))) }
 {
     Number::of_integer(kind, integer_of(next_integer(kind, value)))
 }
@@ -339,7 +357,8 @@ pub fn value_at<'x>(
     source: Source,
 ) -> Option<Scalar<'x>>
     requires within { (e : ℕ) → (field_data field.now).entry ≡ Some e → e < length (slots_dictionary slots.now) }
-    ensures { option_map scalar_data result ≡ value_at source (field_data field.now) (slots_dictionary slots.now) scratch.now piece.now }
+    ensures { option_map scalar_data result
+        ≡ value_at source (field_data field.now) (slots_dictionary slots.now) scratch.now piece.now }
 {
     match source {
         Source::Absent => None,

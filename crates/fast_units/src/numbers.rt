@@ -63,7 +63,9 @@ fn received(slots: &mut Slots, field: &FieldInstruction, item: Option<Number>) -
     requires numbers { family field.now.kind ≢ texts }
     requires no_delta { field.now.operator ≢ Operator.Delta }
     requires no_constant { field.now.operator ≢ Operator.Constant }
-    ensures decided { IsDecided (decide (field_data field.now) (previous_at (field_data field.now).entry (slots_dictionary slots.old)) true (sent_number item))
+    ensures decided { IsDecided
+        (decide (field_data field.now) (previous_at (field_data field.now).entry (slots_dictionary slots.old)) true
+        (sent_number item))
         (field_data field.now) (slots_dictionary slots.old) (slots_dictionary slots.new) (Ok result) }
     ensures terms { slots_terms slots.new ≡ slots_terms slots.old }
 {
@@ -80,7 +82,8 @@ fn received(slots: &mut Slots, field: &FieldInstruction, item: Option<Number>) -
 #[inline(always)]
 fn base_integer(slots: &Slots, field: &FieldInstruction) -> Result<i128, Code>
     requires within { (e : ℕ) → (field_data field.now).entry ≡ Some e → e < length (slots_dictionary slots.now) }
-    ensures { result ≡ base_integer (field_data field.now) (previous_at (field_data field.now).entry (slots_dictionary slots.now)) }
+    ensures { result ≡ base_integer (field_data field.now)
+        (previous_at (field_data field.now).entry (slots_dictionary slots.now)) }
 {
     if let Some(number) = own_number(slots, field) {
         return Ok(integer_of(number.as_scalar()));
@@ -92,7 +95,9 @@ fn base_integer(slots: &Slots, field: &FieldInstruction) -> Result<i128, Code>
 #[inline(always)]
 fn change_integer(slots: &mut Slots, field: &FieldInstruction, delta: i128) -> Result<Source, Code>
     requires serves { Serves (length (slots_dictionary slots.old)) (slots_terms slots.old) (field_data field.now) }
-    ensures decided { IsDecided (integer_step (field_data field.now) (previous_at (field_data field.now).entry (slots_dictionary slots.old)) delta)
+    ensures decided { IsDecided
+        (integer_step (field_data field.now) (previous_at (field_data field.now).entry (slots_dictionary slots.old))
+        delta)
         (field_data field.now) (slots_dictionary slots.old) (slots_dictionary slots.new) result }
     ensures terms { slots_terms slots.new ≡ slots_terms slots.old }
 {
@@ -111,7 +116,9 @@ fn change_mantissa(
     delta: i128,
 ) -> Result<Source, Code>
     requires serves { Serves (length (slots_dictionary slots.old)) (slots_terms slots.old) (field_data field.now) }
-    ensures decided { IsDecided (mantissa_step (field_data field.now) (previous_at (field_data field.now).entry (slots_dictionary slots.old)) exponent delta)
+    ensures decided { IsDecided
+        (mantissa_step (field_data field.now) (previous_at (field_data field.now).entry (slots_dictionary slots.old))
+        exponent delta)
         (field_data field.now) (slots_dictionary slots.old) (slots_dictionary slots.new) result }
     ensures terms { slots_terms slots.new ≡ slots_terms slots.old }
 {
@@ -171,10 +178,15 @@ pub fn take_integer(
     requires serves { Serves (length (slots_dictionary slots.old)) (slots_terms slots.old) (field_data field.now) }
     requires integers { family field.now.kind ≡ integers (range_of field.now.kind) }
     requires sent { field.now.operator ≢ Operator.Constant }
-    ensures unit { (l : Bounds) (scratch : List ℕ) → IsLastUnit (reader_of strict (field_term l (field_data field.now) (previous_at (field_data field.now).entry (slots_dictionary slots.old)) true))
-        (field_data field.now) pending.old rest.now (slots_dictionary slots.old) (slots_dictionary slots.new) scratch result }
+    ensures unit { (l : Bounds) (scratch : List ℕ)
+        → IsLastUnit (reader_of strict
+        (field_term l (field_data field.now) (previous_at (field_data field.now).entry (slots_dictionary slots.old))
+        true))
+        (field_data field.now) pending.old rest.now (slots_dictionary slots.old) (slots_dictionary slots.new) scratch
+        result }
     ensures whole { (s : Source) (n : ℕ) → result ≡ Progress.Whole s n → pending.new ≡ [] }
-    ensures cut { result ≡ Progress.Cut → (pending.new ≡ pending.old ++ rest.now) × HaveNoStop pending.new × (length pending.new < 10) }
+    ensures cut { result ≡ Progress.Cut
+        → (pending.new ≡ pending.old ++ rest.now) × HaveNoStop pending.new × (length pending.new < 10) }
     ensures terms { slots_terms slots.new ≡ slots_terms slots.old }
 {
     match field.operator {
@@ -198,10 +210,15 @@ fn take_integer_item(
     requires integers { family field.now.kind ≡ integers (range_of field.now.kind) }
     requires no_delta { field.now.operator ≢ Operator.Delta }
     requires no_constant { field.now.operator ≢ Operator.Constant }
-    ensures unit { (l : Bounds) (scratch : List ℕ) → IsLastUnit (reader_of strict (field_term l (field_data field.now) (previous_at (field_data field.now).entry (slots_dictionary slots.old)) true))
-        (field_data field.now) pending.old rest.now (slots_dictionary slots.old) (slots_dictionary slots.new) scratch result }
+    ensures unit { (l : Bounds) (scratch : List ℕ)
+        → IsLastUnit (reader_of strict
+        (field_term l (field_data field.now) (previous_at (field_data field.now).entry (slots_dictionary slots.old))
+        true))
+        (field_data field.now) pending.old rest.now (slots_dictionary slots.old) (slots_dictionary slots.new) scratch
+        result }
     ensures whole { (s : Source) (n : ℕ) → result ≡ Progress.Whole s n → pending.new ≡ [] }
-    ensures cut { result ≡ Progress.Cut → (pending.new ≡ pending.old ++ rest.now) × HaveNoStop pending.new × (length pending.new < 10) }
+    ensures cut { result ≡ Progress.Cut
+        → (pending.new ≡ pending.old ++ rest.now) × HaveNoStop pending.new × (length pending.new < 10) }
     ensures terms { slots_terms slots.new ≡ slots_terms slots.old }
 {
     if let Some(top) = mandatory_top(field) {
@@ -222,7 +239,8 @@ fn take_integer_item(
 /// The greatest number of a mandatory field of unsigned numbers.
 #[inline]
 fn mandatory_top(field: &FieldInstruction) -> Option<u64>
-    ensures { IfSome result (λ top. (field.now.optional ≡ false) × (unsigned_up_to top ≡ range_of field.now.kind) × ((n : ℕ) → value_of_integer field.now.kind (pos n) ≡ U n)) }
+    ensures { IfSome result (λ top. (field.now.optional ≡ false) × (unsigned_up_to top ≡ range_of field.now.kind)
+        × ((n : ℕ) → value_of_integer field.now.kind (pos n) ≡ U n)) }
 {
     if field.optional {
         return None;
@@ -253,10 +271,15 @@ fn take_unsigned(
     requires mandatory { field.now.optional ≡ false }
     requires range { unsigned_up_to top ≡ range_of field.now.kind }
     requires unsigned { (n : ℕ) → value_of_integer field.now.kind (pos n) ≡ U n }
-    ensures unit { (l : Bounds) (scratch : List ℕ) → IsLastUnit (reader_of strict (field_term l (field_data field.now) (previous_at (field_data field.now).entry (slots_dictionary slots.old)) true))
-        (field_data field.now) pending.old rest.now (slots_dictionary slots.old) (slots_dictionary slots.new) scratch result }
+    ensures unit { (l : Bounds) (scratch : List ℕ)
+        → IsLastUnit (reader_of strict
+        (field_term l (field_data field.now) (previous_at (field_data field.now).entry (slots_dictionary slots.old))
+        true))
+        (field_data field.now) pending.old rest.now (slots_dictionary slots.old) (slots_dictionary slots.new) scratch
+        result }
     ensures whole { (s : Source) (n : ℕ) → result ≡ Progress.Whole s n → pending.new ≡ [] }
-    ensures cut { result ≡ Progress.Cut → (pending.new ≡ pending.old ++ rest.now) × HaveNoStop pending.new × (length pending.new < 10) }
+    ensures cut { result ≡ Progress.Cut
+        → (pending.new ≡ pending.old ++ rest.now) × HaveNoStop pending.new × (length pending.new < 10) }
     ensures terms { slots_terms slots.new ≡ slots_terms slots.old }
 {
     match next_unsigned(pending, rest, strict, top) {
@@ -283,10 +306,15 @@ fn take_integer_delta(
     requires serves { Serves (length (slots_dictionary slots.old)) (slots_terms slots.old) (field_data field.now) }
     requires integers { family field.now.kind ≡ integers (range_of field.now.kind) }
     requires delta { field.now.operator ≡ Operator.Delta }
-    ensures unit { (l : Bounds) (scratch : List ℕ) → IsLastUnit (reader_of strict (field_term l (field_data field.now) (previous_at (field_data field.now).entry (slots_dictionary slots.old)) true))
-        (field_data field.now) pending.old rest.now (slots_dictionary slots.old) (slots_dictionary slots.new) scratch result }
+    ensures unit { (l : Bounds) (scratch : List ℕ)
+        → IsLastUnit (reader_of strict
+        (field_term l (field_data field.now) (previous_at (field_data field.now).entry (slots_dictionary slots.old))
+        true))
+        (field_data field.now) pending.old rest.now (slots_dictionary slots.old) (slots_dictionary slots.new) scratch
+        result }
     ensures whole { (s : Source) (n : ℕ) → result ≡ Progress.Whole s n → pending.new ≡ [] }
-    ensures cut { result ≡ Progress.Cut → (pending.new ≡ pending.old ++ rest.now) × HaveNoStop pending.new × (length pending.new < 10) }
+    ensures cut { result ≡ Progress.Cut
+        → (pending.new ≡ pending.old ++ rest.now) × HaveNoStop pending.new × (length pending.new < 10) }
     ensures terms { slots_terms slots.new ≡ slots_terms slots.old }
 {
     match next_integer(pending, rest, strict, DELTA, field.optional, Code::D2) {
@@ -312,10 +340,15 @@ pub fn take_exponent(
     requires serves { Serves (length (slots_dictionary slots.old)) (slots_terms slots.old) (field_data field.now) }
     requires decimals { family field.now.kind ≡ decimals }
     requires sent { field.now.operator ≢ Operator.Constant }
-    ensures unit { (scratch : List ℕ) → IsFieldUnit limits (reader_of limits.strict (field_term (bounds limits) (field_data field.now) (previous_at (field_data field.now).entry (slots_dictionary slots.old)) true))
-        (field_data field.now) pending.old rest.now (slots_dictionary slots.old) (slots_dictionary slots.new) scratch result }
+    ensures unit { (scratch : List ℕ)
+        → IsFieldUnit limits (reader_of limits.strict
+        (field_term (bounds limits) (field_data field.now)
+        (previous_at (field_data field.now).entry (slots_dictionary slots.old)) true))
+        (field_data field.now) pending.old rest.now (slots_dictionary slots.old) (slots_dictionary slots.new) scratch
+        result }
     ensures whole { (s : Step) (n : ℕ) → result ≡ Progress.Whole s n → pending.new ≡ [] }
-    ensures cut { result ≡ Progress.Cut → (pending.new ≡ pending.old ++ rest.now) × HaveNoStop pending.new × (length pending.new < 10) }
+    ensures cut { result ≡ Progress.Cut
+        → (pending.new ≡ pending.old ++ rest.now) × HaveNoStop pending.new × (length pending.new < 10) }
     ensures terms { slots_terms slots.new ≡ slots_terms slots.old }
 {
     match field.operator {
@@ -338,10 +371,15 @@ fn take_exponent_item(
     requires decimals { family field.now.kind ≡ decimals }
     requires no_delta { field.now.operator ≢ Operator.Delta }
     requires no_constant { field.now.operator ≢ Operator.Constant }
-    ensures unit { (scratch : List ℕ) → IsFieldUnit limits (reader_of limits.strict (field_term (bounds limits) (field_data field.now) (previous_at (field_data field.now).entry (slots_dictionary slots.old)) true))
-        (field_data field.now) pending.old rest.now (slots_dictionary slots.old) (slots_dictionary slots.new) scratch result }
+    ensures unit { (scratch : List ℕ)
+        → IsFieldUnit limits (reader_of limits.strict
+        (field_term (bounds limits) (field_data field.now)
+        (previous_at (field_data field.now).entry (slots_dictionary slots.old)) true))
+        (field_data field.now) pending.old rest.now (slots_dictionary slots.old) (slots_dictionary slots.new) scratch
+        result }
     ensures whole { (s : Step) (n : ℕ) → result ≡ Progress.Whole s n → pending.new ≡ [] }
-    ensures cut { result ≡ Progress.Cut → (pending.new ≡ pending.old ++ rest.now) × HaveNoStop pending.new × (length pending.new < 10) }
+    ensures cut { result ≡ Progress.Cut
+        → (pending.new ≡ pending.old ++ rest.now) × HaveNoStop pending.new × (length pending.new < 10) }
     ensures terms { slots_terms slots.new ≡ slots_terms slots.old }
 {
     let range = range_on_wire(field.kind);
@@ -377,10 +415,15 @@ fn take_exponent_delta(
     requires serves { Serves (length (slots_dictionary slots.old)) (slots_terms slots.old) (field_data field.now) }
     requires decimals { family field.now.kind ≡ decimals }
     requires delta { field.now.operator ≡ Operator.Delta }
-    ensures unit { (scratch : List ℕ) → IsFieldUnit limits (reader_of limits.strict (field_term (bounds limits) (field_data field.now) (previous_at (field_data field.now).entry (slots_dictionary slots.old)) true))
-        (field_data field.now) pending.old rest.now (slots_dictionary slots.old) (slots_dictionary slots.new) scratch result }
+    ensures unit { (scratch : List ℕ)
+        → IsFieldUnit limits (reader_of limits.strict
+        (field_term (bounds limits) (field_data field.now)
+        (previous_at (field_data field.now).entry (slots_dictionary slots.old)) true))
+        (field_data field.now) pending.old rest.now (slots_dictionary slots.old) (slots_dictionary slots.new) scratch
+        result }
     ensures whole { (s : Step) (n : ℕ) → result ≡ Progress.Whole s n → pending.new ≡ [] }
-    ensures cut { result ≡ Progress.Cut → (pending.new ≡ pending.old ++ rest.now) × HaveNoStop pending.new × (length pending.new < 10) }
+    ensures cut { result ≡ Progress.Cut
+        → (pending.new ≡ pending.old ++ rest.now) × HaveNoStop pending.new × (length pending.new < 10) }
     ensures terms { slots_terms slots.new ≡ slots_terms slots.old }
 {
     match next_integer(
@@ -415,11 +458,17 @@ pub fn take_mantissa(
     requires open { HaveNoStop pending.old }
     requires short { length pending.old < 10 }
     requires serves { Serves (length (slots_dictionary slots.old)) (slots_terms slots.old) (field_data field.now) }
-    requires stage { IsStageOf (bounds limits) (field_data field.now) (previous_at (field_data field.now).entry (slots_dictionary slots.old)) (Stage.Mantissa exponent) }
-    ensures unit { (scratch : List ℕ) → IsLastUnit (reader_of limits.strict (term_behind (bounds limits) (field_data field.now) (previous_at (field_data field.now).entry (slots_dictionary slots.old)) (Stage.Mantissa exponent)))
-        (field_data field.now) pending.old rest.now (slots_dictionary slots.old) (slots_dictionary slots.new) scratch result }
+    requires stage { IsStageOf (bounds limits) (field_data field.now)
+        (previous_at (field_data field.now).entry (slots_dictionary slots.old)) (Stage.Mantissa exponent) }
+    ensures unit { (scratch : List ℕ)
+        → IsLastUnit (reader_of limits.strict
+        (term_behind (bounds limits) (field_data field.now)
+        (previous_at (field_data field.now).entry (slots_dictionary slots.old)) (Stage.Mantissa exponent)))
+        (field_data field.now) pending.old rest.now (slots_dictionary slots.old) (slots_dictionary slots.new) scratch
+        result }
     ensures whole { (s : Source) (n : ℕ) → result ≡ Progress.Whole s n → pending.new ≡ [] }
-    ensures cut { result ≡ Progress.Cut → (pending.new ≡ pending.old ++ rest.now) × HaveNoStop pending.new × (length pending.new < 10) }
+    ensures cut { result ≡ Progress.Cut
+        → (pending.new ≡ pending.old ++ rest.now) × HaveNoStop pending.new × (length pending.new < 10) }
     ensures terms { slots_terms slots.new ≡ slots_terms slots.old }
 {
     match next_integer(pending, rest, limits.strict, MANTISSA, false, Code::R1) {
@@ -445,11 +494,17 @@ pub fn take_mantissa_delta(
     requires open { HaveNoStop pending.old }
     requires short { length pending.old < 10 }
     requires serves { Serves (length (slots_dictionary slots.old)) (slots_terms slots.old) (field_data field.now) }
-    requires stage { IsStageOf (bounds limits) (field_data field.now) (previous_at (field_data field.now).entry (slots_dictionary slots.old)) (Stage.MantissaDelta exponent) }
-    ensures unit { (scratch : List ℕ) → IsLastUnit (reader_of limits.strict (term_behind (bounds limits) (field_data field.now) (previous_at (field_data field.now).entry (slots_dictionary slots.old)) (Stage.MantissaDelta exponent)))
-        (field_data field.now) pending.old rest.now (slots_dictionary slots.old) (slots_dictionary slots.new) scratch result }
+    requires stage { IsStageOf (bounds limits) (field_data field.now)
+        (previous_at (field_data field.now).entry (slots_dictionary slots.old)) (Stage.MantissaDelta exponent) }
+    ensures unit { (scratch : List ℕ)
+        → IsLastUnit (reader_of limits.strict
+        (term_behind (bounds limits) (field_data field.now)
+        (previous_at (field_data field.now).entry (slots_dictionary slots.old)) (Stage.MantissaDelta exponent)))
+        (field_data field.now) pending.old rest.now (slots_dictionary slots.old) (slots_dictionary slots.new) scratch
+        result }
     ensures whole { (s : Source) (n : ℕ) → result ≡ Progress.Whole s n → pending.new ≡ [] }
-    ensures cut { result ≡ Progress.Cut → (pending.new ≡ pending.old ++ rest.now) × HaveNoStop pending.new × (length pending.new < 10) }
+    ensures cut { result ≡ Progress.Cut
+        → (pending.new ≡ pending.old ++ rest.now) × HaveNoStop pending.new × (length pending.new < 10) }
     ensures terms { slots_terms slots.new ≡ slots_terms slots.old }
 {
     match next_integer(pending, rest, limits.strict, DELTA, false, Code::D2) {

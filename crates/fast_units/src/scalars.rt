@@ -44,9 +44,14 @@ pub fn take_only(
     requires short { length pending.old < 10 }
     requires integers { family field.now.kind ≡ integers (range_of field.now.kind) }
     requires varies { field.now.operator ≢ Operator.Constant }
-    ensures unit { (scratch : List ℕ) → IsFieldUnit limits (reader_of limits.strict (field_term (bounds limits) (field_data field.now) (previous_at (field_data field.now).entry (slots_dictionary slots.old)) true))
-        (field_data field.now) pending.old rest.now (slots_dictionary slots.old) (slots_dictionary slots.new) scratch result }
-    ensures next { IsNextOf (bounds limits) (field_data field.now) (previous_at (field_data field.now).entry (slots_dictionary slots.old)) result }
+    ensures unit { (scratch : List ℕ)
+        → IsFieldUnit limits (reader_of limits.strict
+        (field_term (bounds limits) (field_data field.now)
+        (previous_at (field_data field.now).entry (slots_dictionary slots.old)) true))
+        (field_data field.now) pending.old rest.now (slots_dictionary slots.old) (slots_dictionary slots.new) scratch
+        result }
+    ensures next { IsNextOf (bounds limits) (field_data field.now)
+        (previous_at (field_data field.now).entry (slots_dictionary slots.old)) result }
     ensures pending { IsEntityKept pending.old rest.now pending.new result }
     ensures terms { slots_terms slots.new ≡ slots_terms slots.old }
 {
@@ -71,9 +76,14 @@ pub fn take_first(
     requires short { length pending.old < 10 }
     requires number { ¬ (IsAsciiFirst (field_data field.now)) }
     requires varies { field.now.operator ≢ Operator.Constant }
-    ensures unit { IsFieldUnit limits (reader_of limits.strict (field_term (bounds limits) (field_data field.now) (previous_at (field_data field.now).entry (slots_dictionary slots.old)) true))
-        (field_data field.now) pending.old rest.now (slots_dictionary slots.old) (slots_dictionary slots.new) scratch.new.text result }
-    ensures next { IsNextOf (bounds limits) (field_data field.now) (previous_at (field_data field.now).entry (slots_dictionary slots.old)) result }
+    ensures unit { IsFieldUnit limits
+        (reader_of limits.strict
+        (field_term (bounds limits) (field_data field.now)
+        (previous_at (field_data field.now).entry (slots_dictionary slots.old)) true))
+        (field_data field.now) pending.old rest.now (slots_dictionary slots.old) (slots_dictionary slots.new)
+        scratch.new.text result }
+    ensures next { IsNextOf (bounds limits) (field_data field.now)
+        (previous_at (field_data field.now).entry (slots_dictionary slots.old)) result }
     ensures pending { IsEntityKept pending.old rest.now pending.new result }
     ensures terms { slots_terms slots.new ≡ slots_terms slots.old }
     ensures capacity { (scratch.new.capacity ≡ scratch.old.capacity) × (joined.new.capacity ≡ joined.old.capacity) }
@@ -111,10 +121,16 @@ pub fn take_first_text(
     requires text { IsAsciiFirst (field_data field.now) }
     requires varies { field.now.operator ≢ Operator.Constant }
     requires open { ascii_text field.now.optional limits.max_text scratch.old.text [] cut }
-    ensures unit { IsFieldUnit limits (reader_of limits.strict (field_term (bounds limits) (field_data field.now) (previous_at (field_data field.now).entry (slots_dictionary slots.old)) true))
-        (field_data field.now) scratch.old.text rest.now (slots_dictionary slots.old) (slots_dictionary slots.new) scratch.new.text result }
+    ensures unit { IsFieldUnit limits
+        (reader_of limits.strict
+        (field_term (bounds limits) (field_data field.now)
+        (previous_at (field_data field.now).entry (slots_dictionary slots.old)) true))
+        (field_data field.now) scratch.old.text rest.now (slots_dictionary slots.old) (slots_dictionary slots.new)
+        scratch.new.text result }
     ensures settles { SettlesOnly result }
-    ensures kept { result ≡ Progress.Cut → (scratch.new.text ≡ scratch.old.text ++ rest.now) × ascii_text field.now.optional limits.max_text scratch.new.text [] cut }
+    ensures kept { result ≡ Progress.Cut
+        → (scratch.new.text ≡ scratch.old.text ++ rest.now)
+        × ascii_text field.now.optional limits.max_text scratch.new.text [] cut }
     ensures terms { slots_terms slots.new ≡ slots_terms slots.old }
     ensures capacity { (scratch.new.capacity ≡ scratch.old.capacity) × (joined.new.capacity ≡ joined.old.capacity) }
 {
@@ -138,11 +154,17 @@ pub fn take_number(
     requires joined { limits.max_text ≤ joined.old.capacity }
     requires open { HaveNoStop pending.old }
     requires short { length pending.old < 10 }
-    requires stage { IsStageOf (bounds limits) (field_data field.now) (previous_at (field_data field.now).entry (slots_dictionary slots.old)) stage }
+    requires stage { IsStageOf (bounds limits) (field_data field.now)
+        (previous_at (field_data field.now).entry (slots_dictionary slots.old)) stage }
     requires number { IsNumberStage (field_data field.now) stage }
-    ensures unit { (text : List ℕ) → IsFieldUnit limits (reader_of limits.strict (term_behind (bounds limits) (field_data field.now) (previous_at (field_data field.now).entry (slots_dictionary slots.old)) stage))
-        (field_data field.now) pending.old rest.now (slots_dictionary slots.old) (slots_dictionary slots.new) text result }
-    ensures next { IsNextOf (bounds limits) (field_data field.now) (previous_at (field_data field.now).entry (slots_dictionary slots.old)) result }
+    ensures unit { (text : List ℕ)
+        → IsFieldUnit limits (reader_of limits.strict
+        (term_behind (bounds limits) (field_data field.now)
+        (previous_at (field_data field.now).entry (slots_dictionary slots.old)) stage))
+        (field_data field.now) pending.old rest.now (slots_dictionary slots.old) (slots_dictionary slots.new) text
+        result }
+    ensures next { IsNextOf (bounds limits) (field_data field.now)
+        (previous_at (field_data field.now).entry (slots_dictionary slots.old)) result }
     ensures pending { IsEntityKept pending.old rest.now pending.new result }
     ensures terms { slots_terms slots.new ≡ slots_terms slots.old }
     ensures capacity { joined.new.capacity ≡ joined.old.capacity }
@@ -182,12 +204,21 @@ pub fn take_bytes(
     requires least { 16 ≤ limits.max_text }
     requires room { limits.max_text ≤ scratch.old.capacity }
     requires joined { limits.max_text ≤ joined.old.capacity }
-    requires stage { IsStageOf (bounds limits) (field_data field.now) (previous_at (field_data field.now).entry (slots_dictionary slots.old)) stage }
-    requires bytes { IsBytesStage (bounds limits) (field_data field.now) (previous_at (field_data field.now).entry (slots_dictionary slots.old)) stage scratch.old.text }
-    ensures unit { IsFieldUnit limits (reader_of limits.strict (term_behind (bounds limits) (field_data field.now) (previous_at (field_data field.now).entry (slots_dictionary slots.old)) stage))
-        (field_data field.now) scratch.old.text rest.now (slots_dictionary slots.old) (slots_dictionary slots.new) scratch.new.text result }
+    requires stage { IsStageOf (bounds limits) (field_data field.now)
+        (previous_at (field_data field.now).entry (slots_dictionary slots.old)) stage }
+    requires bytes { IsBytesStage (bounds limits) (field_data field.now)
+        (previous_at (field_data field.now).entry (slots_dictionary slots.old)) stage scratch.old.text }
+    ensures unit { IsFieldUnit limits
+        (reader_of limits.strict
+        (term_behind (bounds limits) (field_data field.now)
+        (previous_at (field_data field.now).entry (slots_dictionary slots.old)) stage))
+        (field_data field.now) scratch.old.text rest.now (slots_dictionary slots.old) (slots_dictionary slots.new)
+        scratch.new.text result }
     ensures settles { SettlesOnly result }
-    ensures kept { result ≡ Progress.Cut → (scratch.new.text ≡ scratch.old.text ++ rest.now) × IsBytesStage (bounds limits) (field_data field.now) (previous_at (field_data field.now).entry (slots_dictionary slots.old)) stage scratch.new.text }
+    ensures kept { result ≡ Progress.Cut
+        → (scratch.new.text ≡ scratch.old.text ++ rest.now)
+        × IsBytesStage (bounds limits) (field_data field.now)
+        (previous_at (field_data field.now).entry (slots_dictionary slots.old)) stage scratch.new.text }
     ensures terms { slots_terms slots.new ≡ slots_terms slots.old }
     ensures capacity { (scratch.new.capacity ≡ scratch.old.capacity) × (joined.new.capacity ≡ joined.old.capacity) }
 {

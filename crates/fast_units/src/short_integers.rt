@@ -48,7 +48,9 @@ fn unsigned_number(
     requires range { unsigned_up_to top ≡ range_of kind }
     requires unsigned { (n : ℕ) → value_of_integer kind (pos n) ≡ U n }
     requires first { IsShortEntity entity.number entity.len rest.now }
-    ensures { IfSome result (λ r. (x : Option ℤ) × IsFirstInt (λ y. y) strict (range_of kind) optional (Whole x entity.len) rest.now × (sent_number r ≡ sent_integer kind x)) }
+    ensures { IfSome result (λ r. (x : Option ℤ)
+        × IsFirstInt (λ y. y) strict (range_of kind) optional (Whole x entity.len) rest.now
+        × (sent_number r ≡ sent_integer kind x)) }
 {
     if optional {
         return match quick_nullable_unsigned(rest, entity, strict, top)? {
@@ -74,7 +76,9 @@ fn signed_number(
     requires range { signed_between low top ≡ range_of kind }
     requires signed { (x : ℤ) → value_of_integer kind x ≡ I x }
     requires first { IsShortEntity entity.number entity.len rest.now }
-    ensures { IfSome result (λ r. (x : Option ℤ) × IsFirstInt (λ y. y) strict (range_of kind) optional (Whole x entity.len) rest.now × (sent_number r ≡ sent_integer kind x)) }
+    ensures { IfSome result (λ r. (x : Option ℤ)
+        × IsFirstInt (λ y. y) strict (range_of kind) optional (Whole x entity.len) rest.now
+        × (sent_number r ≡ sent_integer kind x)) }
 {
     if optional {
         return match quick_nullable_signed(rest, entity, strict, low, top)? {
@@ -91,7 +95,9 @@ fn signed_number(
 fn keep_integer(slots: &mut Slots, field: &FieldInstruction, kind: Kind, number: Number)
     requires kind { kind ≡ field.now.kind }
     requires within { (e : ℕ) → (field_data field.now).entry ≡ Some e → e < length (slots_dictionary slots.old) }
-    ensures entry { slots_dictionary slots.new ≡ write_at (field_data field.now).entry (assigned field.now.kind (number_data number)) (slots_dictionary slots.old) }
+    ensures entry { slots_dictionary slots.new
+        ≡ write_at (field_data field.now).entry (assigned field.now.kind (number_data number))
+        (slots_dictionary slots.old) }
     ensures terms { slots_terms slots.new ≡ slots_terms slots.old }
 {
     if let Some(entry) = field.entry {
@@ -114,7 +120,9 @@ fn keep_item(
     requires integers { family field.now.kind ≡ integers (range_of field.now.kind) }
     requires no_delta { field.now.operator ≢ Operator.Delta }
     requires no_constant { field.now.operator ≢ Operator.Constant }
-    ensures decided { IsDecided (decide (field_data field.now) (previous_at (field_data field.now).entry (slots_dictionary slots.old)) true (sent_number item))
+    ensures decided { IsDecided
+        (decide (field_data field.now) (previous_at (field_data field.now).entry (slots_dictionary slots.old)) true
+        (sent_number item))
         (field_data field.now) (slots_dictionary slots.old) (slots_dictionary slots.new) (Ok (source_of item)) }
     ensures terms { slots_terms slots.new ≡ slots_terms slots.old }
 {
@@ -150,8 +158,13 @@ pub fn unsigned_item(
     requires integers { family field.now.kind ≡ integers (range_of field.now.kind) }
     requires no_delta { field.now.operator ≢ Operator.Delta }
     requires no_constant { field.now.operator ≢ Operator.Constant }
-    ensures unit { IfSome result (λ r. (l : Bounds) (scratch : List ℕ) → IsLastUnit (reader_of strict (field_term l (field_data field.now) (previous_at (field_data field.now).entry (slots_dictionary slots.old)) true))
-        (field_data field.now) [] rest.now (slots_dictionary slots.old) (slots_dictionary slots.new) scratch (Progress.Whole (source_of r) entity.len)) }
+    ensures unit { IfSome result
+        (λ r. (l : Bounds) (scratch : List ℕ)
+        → IsLastUnit (reader_of strict
+        (field_term l (field_data field.now) (previous_at (field_data field.now).entry (slots_dictionary slots.old))
+        true))
+        (field_data field.now) [] rest.now (slots_dictionary slots.old) (slots_dictionary slots.new) scratch
+        (Progress.Whole (source_of r) entity.len)) }
     ensures none { IfNone result (slots.new ≡ slots.old) }
     ensures terms { slots_terms slots.new ≡ slots_terms slots.old }
 {
@@ -184,8 +197,13 @@ pub fn signed_item(
     requires integers { family field.now.kind ≡ integers (range_of field.now.kind) }
     requires no_delta { field.now.operator ≢ Operator.Delta }
     requires no_constant { field.now.operator ≢ Operator.Constant }
-    ensures unit { IfSome result (λ r. (l : Bounds) (scratch : List ℕ) → IsLastUnit (reader_of strict (field_term l (field_data field.now) (previous_at (field_data field.now).entry (slots_dictionary slots.old)) true))
-        (field_data field.now) [] rest.now (slots_dictionary slots.old) (slots_dictionary slots.new) scratch (Progress.Whole (source_of r) entity.len)) }
+    ensures unit { IfSome result
+        (λ r. (l : Bounds) (scratch : List ℕ)
+        → IsLastUnit (reader_of strict
+        (field_term l (field_data field.now) (previous_at (field_data field.now).entry (slots_dictionary slots.old))
+        true))
+        (field_data field.now) [] rest.now (slots_dictionary slots.old) (slots_dictionary slots.new) scratch
+        (Progress.Whole (source_of r) entity.len)) }
     ensures none { IfNone result (slots.new ≡ slots.old) }
     ensures terms { slots_terms slots.new ≡ slots_terms slots.old }
 {
@@ -217,7 +235,9 @@ fn quick_change(
 fn changed(slots: &mut Slots, field: &FieldInstruction, kind: Kind, delta: i64) -> Option<Number>
     requires kind { kind ≡ field.now.kind }
     requires serves { Serves (length (slots_dictionary slots.old)) (slots_terms slots.old) (field_data field.now) }
-    ensures decided { IfSome result (λ n. IsDecided (integer_step (field_data field.now) (previous_at (field_data field.now).entry (slots_dictionary slots.old)) delta)
+    ensures decided { IfSome result
+        (λ n. IsDecided (integer_step (field_data field.now)
+        (previous_at (field_data field.now).entry (slots_dictionary slots.old)) delta)
         (field_data field.now) (slots_dictionary slots.old) (slots_dictionary slots.new) (Ok (source_of (Some n)))) }
     ensures none { IfNone result (slots.new ≡ slots.old) }
     ensures terms { slots_terms slots.new ≡ slots_terms slots.old }
@@ -253,8 +273,13 @@ pub fn delta_item(
     requires serves { Serves (length (slots_dictionary slots.old)) (slots_terms slots.old) (field_data field.now) }
     requires integers { family field.now.kind ≡ integers (range_of field.now.kind) }
     requires delta { field.now.operator ≡ Operator.Delta }
-    ensures unit { IfSome result (λ r. (l : Bounds) (scratch : List ℕ) → IsLastUnit (reader_of strict (field_term l (field_data field.now) (previous_at (field_data field.now).entry (slots_dictionary slots.old)) true))
-        (field_data field.now) [] rest.now (slots_dictionary slots.old) (slots_dictionary slots.new) scratch (Progress.Whole (source_of r) entity.len)) }
+    ensures unit { IfSome result
+        (λ r. (l : Bounds) (scratch : List ℕ)
+        → IsLastUnit (reader_of strict
+        (field_term l (field_data field.now) (previous_at (field_data field.now).entry (slots_dictionary slots.old))
+        true))
+        (field_data field.now) [] rest.now (slots_dictionary slots.old) (slots_dictionary slots.new) scratch
+        (Progress.Whole (source_of r) entity.len)) }
     ensures none { IfNone result (slots.new ≡ slots.old) }
     ensures terms { slots_terms slots.new ≡ slots_terms slots.old }
 {

@@ -40,7 +40,9 @@ fn is_emptied(operator: Operator) -> bool
 pub fn finish_absent(slots: &mut Slots, field: &FieldInstruction) -> Source
     requires serves { Serves (length (slots_dictionary slots.old)) (slots_terms slots.old) (field_data field.now) }
     requires sent { field.now.operator ≢ Operator.Constant }
-    ensures field { (scratch piece : List ℕ) → IsTextDecided (decide (field_data field.now) (previous_at (field_data field.now).entry (slots_dictionary slots.old)) true null)
+    ensures field { (scratch piece : List ℕ)
+        → IsTextDecided (decide (field_data field.now)
+        (previous_at (field_data field.now).entry (slots_dictionary slots.old)) true null)
         (field_data field.now) (slots_dictionary slots.old) (slots_dictionary slots.new) scratch piece (Ok result) }
     ensures terms { slots_terms slots.new ≡ slots_terms slots.old }
 {
@@ -79,8 +81,11 @@ fn join_tail(
     requires fits { length part.now ≤ (slots_terms slots.now).max_text }
     requires room { (slots_terms slots.now).max_text ≤ joined.old.capacity }
     ensures joined { MatchResult result
-        (λ _. (base : ScalarData) × (tail_base (field_data field.now) (previous_at (field_data field.now).entry (slots_dictionary slots.now)) ≡ Ok base) × (joined.new.text ≡ with_tail (text_of base) part.now))
-        (λ code. tail_base (field_data field.now) (previous_at (field_data field.now).entry (slots_dictionary slots.now)) ≡ Err code) }
+        (λ _. (base : ScalarData)
+        × (tail_base (field_data field.now) (previous_at (field_data field.now).entry (slots_dictionary slots.now))
+        ≡ Ok base) × (joined.new.text ≡ with_tail (text_of base) part.now))
+        (λ code. tail_base (field_data field.now)
+        (previous_at (field_data field.now).entry (slots_dictionary slots.now)) ≡ Err code) }
     ensures fits { result ≡ Ok tt → length joined.new.text ≤ (slots_terms slots.now).max_text }
     ensures capacity { joined.new.capacity ≡ joined.old.capacity }
 {
@@ -98,7 +103,9 @@ pub fn kept<'a>(
     subtraction: i32,
 ) -> Result<Kept<'a>, Code>
     requires { Serves (length (slots_dictionary slots.now)) (slots_terms slots.now) (field_data field.now) }
-    ensures { kept_answer result ≡ subtraction_step (field_data field.now) (previous_at (field_data field.now).entry (slots_dictionary slots.now)) subtraction }
+    ensures { kept_answer result
+        ≡ subtraction_step (field_data field.now)
+        (previous_at (field_data field.now).entry (slots_dictionary slots.now)) subtraction }
 {
     subtract(field, previous(slots, field), i128::from(subtraction))
 }
@@ -125,12 +132,18 @@ fn join_part(
     requires serves { Serves (length (slots_dictionary slots.now)) (slots_terms slots.now) (field_data field.now) }
     requires text { family field.now.kind ≡ texts }
     requires keeps { keeps_value field.now.operator ≡ true }
-    requires fits { (kept : KeptData) → subtraction_step (field_data field.now) (previous_at (field_data field.now).entry (slots_dictionary slots.now)) subtraction ≡ Ok kept
+    requires fits { (kept : KeptData)
+        → subtraction_step (field_data field.now)
+        (previous_at (field_data field.now).entry (slots_dictionary slots.now)) subtraction ≡ Ok kept
         → length part.now ≤ (slots_terms slots.now).max_text - kept_length kept }
     requires room { (slots_terms slots.now).max_text ≤ joined.old.capacity }
     ensures joined { MatchResult result
-        (λ _. (kept : KeptData) × (subtraction_step (field_data field.now) (previous_at (field_data field.now).entry (slots_dictionary slots.now)) subtraction ≡ Ok kept) × (joined.new.text ≡ joined_text kept part.now))
-        (λ code. subtraction_step (field_data field.now) (previous_at (field_data field.now).entry (slots_dictionary slots.now)) subtraction ≡ Err code) }
+        (λ _. (kept : KeptData)
+        × (subtraction_step (field_data field.now)
+        (previous_at (field_data field.now).entry (slots_dictionary slots.now)) subtraction ≡ Ok kept)
+        × (joined.new.text ≡ joined_text kept part.now))
+        (λ code. subtraction_step (field_data field.now)
+        (previous_at (field_data field.now).entry (slots_dictionary slots.now)) subtraction ≡ Err code) }
     ensures fits { result ≡ Ok tt → length joined.new.text ≤ (slots_terms slots.now).max_text }
     ensures capacity { joined.new.capacity ≡ joined.old.capacity }
 {
@@ -155,7 +168,10 @@ fn finish_tail(
     requires tail { field.now.operator ≡ Operator.Tail }
     requires fits { length part.now ≤ (slots_terms slots.old).max_text }
     requires room { (slots_terms slots.old).max_text ≤ joined.old.capacity }
-    ensures field { (scratch piece : List ℕ) → IsTextDecided (decide (field_data field.now) (previous_at (field_data field.now).entry (slots_dictionary slots.old)) true (sent_text field.now.kind (Some part.now)))
+    ensures field { (scratch piece : List ℕ)
+        → IsTextDecided (decide (field_data field.now)
+        (previous_at (field_data field.now).entry (slots_dictionary slots.old)) true
+        (sent_text field.now.kind (Some part.now)))
         (field_data field.now) (slots_dictionary slots.old) (slots_dictionary slots.new) scratch piece result }
     ensures terms { slots_terms slots.new ≡ slots_terms slots.old }
     ensures capacity { joined.new.capacity ≡ joined.old.capacity }
@@ -178,8 +194,12 @@ pub fn finish_text(
     requires whole { field.now.operator ≢ Operator.Delta }
     requires fits { length text.now ≤ (slots_terms slots.old).max_text }
     requires room { (slots_terms slots.old).max_text ≤ joined.old.capacity }
-    ensures field { (scratch piece : List ℕ) → value_at place (field_data field.now) (slots_dictionary slots.new) scratch piece ≡ Some (value_of_text field.now.kind text.now)
-        → IsTextDecided (decide (field_data field.now) (previous_at (field_data field.now).entry (slots_dictionary slots.old)) true (sent_text field.now.kind (Some text.now)))
+    ensures field { (scratch piece : List ℕ)
+        → value_at place (field_data field.now) (slots_dictionary slots.new) scratch piece
+        ≡ Some (value_of_text field.now.kind text.now)
+        → IsTextDecided (decide (field_data field.now)
+        (previous_at (field_data field.now).entry (slots_dictionary slots.old)) true
+        (sent_text field.now.kind (Some text.now)))
         (field_data field.now) (slots_dictionary slots.old) (slots_dictionary slots.new) scratch piece result }
     ensures terms { slots_terms slots.new ≡ slots_terms slots.old }
     ensures capacity { joined.new.capacity ≡ joined.old.capacity }
@@ -210,8 +230,12 @@ pub fn finish_ascii(
     requires whole { field.now.operator ≢ Operator.Delta }
     requires fits { length text.now ≤ (slots_terms slots.old).max_text }
     requires room { (slots_terms slots.old).max_text ≤ joined.old.capacity }
-    ensures field { (scratch piece : List ℕ) → value_at place (field_data field.now) (slots_dictionary slots.new) scratch piece ≡ Some (value_of_text field.now.kind text.now)
-        → IsTextDecided (decide (field_data field.now) (previous_at (field_data field.now).entry (slots_dictionary slots.old)) true (sent_text field.now.kind (Some text.now)))
+    ensures field { (scratch piece : List ℕ)
+        → value_at place (field_data field.now) (slots_dictionary slots.new) scratch piece
+        ≡ Some (value_of_text field.now.kind text.now)
+        → IsTextDecided (decide (field_data field.now)
+        (previous_at (field_data field.now).entry (slots_dictionary slots.old)) true
+        (sent_text field.now.kind (Some text.now)))
         (field_data field.now) (slots_dictionary slots.old) (slots_dictionary slots.new) scratch piece result }
     ensures terms { slots_terms slots.new ≡ slots_terms slots.old }
     ensures capacity { joined.new.capacity ≡ joined.old.capacity }
@@ -237,10 +261,14 @@ pub fn finish_part(
     requires serves { Serves (length (slots_dictionary slots.old)) (slots_terms slots.old) (field_data field.now) }
     requires text { family field.now.kind ≡ texts }
     requires delta { field.now.operator ≡ Operator.Delta }
-    requires fits { (kept : KeptData) → subtraction_step (field_data field.now) (previous_at (field_data field.now).entry (slots_dictionary slots.old)) subtraction ≡ Ok kept
+    requires fits { (kept : KeptData)
+        → subtraction_step (field_data field.now)
+        (previous_at (field_data field.now).entry (slots_dictionary slots.old)) subtraction ≡ Ok kept
         → length part.now ≤ (slots_terms slots.old).max_text - kept_length kept }
     requires room { (slots_terms slots.old).max_text ≤ joined.old.capacity }
-    ensures field { (kept : KeptData) → subtraction_step (field_data field.now) (previous_at (field_data field.now).entry (slots_dictionary slots.old)) subtraction ≡ Ok kept
+    ensures field { (kept : KeptData)
+        → subtraction_step (field_data field.now)
+        (previous_at (field_data field.now).entry (slots_dictionary slots.old)) subtraction ≡ Ok kept
         → (scratch piece : List ℕ) → IsTextDecided (text_step (field_data field.now) kept part.now)
         (field_data field.now) (slots_dictionary slots.old) (slots_dictionary slots.new) scratch piece result }
     ensures terms { slots_terms slots.new ≡ slots_terms slots.old }
@@ -258,7 +286,9 @@ pub fn part_room(
     max_text: usize,
 ) -> usize
     requires { Serves (length (slots_dictionary slots.now)) (slots_terms slots.now) (field_data field.now) }
-    ensures room { (kept : KeptData) → subtraction_step (field_data field.now) (previous_at (field_data field.now).entry (slots_dictionary slots.now)) subtraction ≡ Ok kept
+    ensures room { (kept : KeptData)
+        → subtraction_step (field_data field.now)
+        (previous_at (field_data field.now).entry (slots_dictionary slots.now)) subtraction ≡ Ok kept
         → result ≡ max_text - kept_length kept }
     ensures most { result ≤ max_text }
 {

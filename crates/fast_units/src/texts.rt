@@ -92,8 +92,12 @@ pub fn take_text(
     requires open { ascii_phrase field.now.optional limits.max_text scratch.old.text [] cut }
     requires scratch { limits.max_text ≤ scratch.old.capacity }
     requires joined { limits.max_text ≤ joined.old.capacity }
-    ensures unit { IsLastUnit (first_reader limits (field_data field.now) (slots_dictionary slots.old)) (field_data field.now) scratch.old.text rest.now (slots_dictionary slots.old) (slots_dictionary slots.new) scratch.new.text result }
-    ensures cut { result ≡ Progress.Cut → (scratch.new.text ≡ scratch.old.text ++ rest.now) × ascii_phrase field.now.optional limits.max_text scratch.new.text [] cut }
+    ensures unit { IsLastUnit (first_reader limits (field_data field.now) (slots_dictionary slots.old))
+        (field_data field.now) scratch.old.text rest.now (slots_dictionary slots.old) (slots_dictionary slots.new)
+        scratch.new.text result }
+    ensures cut { result ≡ Progress.Cut
+        → (scratch.new.text ≡ scratch.old.text ++ rest.now)
+        × ascii_phrase field.now.optional limits.max_text scratch.new.text [] cut }
     ensures terms { slots_terms slots.new ≡ slots_terms slots.old }
     ensures scratch { scratch.new.capacity ≡ scratch.old.capacity }
     ensures joined { joined.new.capacity ≡ joined.old.capacity }
@@ -131,10 +135,13 @@ pub fn take_size(
     requires open { HaveNoStop pending.old }
     requires short { length pending.old < 10 }
     requires joined { limits.max_text ≤ joined.old.capacity }
-    ensures unit { IsFieldUnit limits (first_reader limits (field_data field.now) (slots_dictionary slots.old)) (field_data field.now) pending.old rest.now (slots_dictionary slots.old) (slots_dictionary slots.new) [] result }
+    ensures unit { IsFieldUnit limits (first_reader limits (field_data field.now) (slots_dictionary slots.old))
+        (field_data field.now) pending.old rest.now (slots_dictionary slots.old) (slots_dictionary slots.new)
+        [] result }
     ensures more { (step : Step) (n : ℕ) → result ≡ Progress.Whole step n → HasBytes step }
     ensures whole { (step : Step) (n : ℕ) → result ≡ Progress.Whole step n → pending.new ≡ [] }
-    ensures cut { result ≡ Progress.Cut → (pending.new ≡ pending.old ++ rest.now) × HaveNoStop pending.new × (length pending.new < 10) }
+    ensures cut { result ≡ Progress.Cut
+        → (pending.new ≡ pending.old ++ rest.now) × HaveNoStop pending.new × (length pending.new < 10) }
     ensures terms { slots_terms slots.new ≡ slots_terms slots.old }
     ensures joined { joined.new.capacity ≡ joined.old.capacity }
 {
@@ -177,7 +184,11 @@ fn vector_next(
     requires sent { field.now.operator ≢ Operator.Constant }
     requires whole { field.now.operator ≢ Operator.Delta }
     requires joined { limits.max_text ≤ joined.old.capacity }
-    ensures step { (piece : List ℕ) → IsStepped limits (reader_of limits.strict (behind_size (bounds limits) (field_data field.now) (previous_at (field_data field.now).entry (slots_dictionary slots.old)) (Some (pos size)))) (field_data field.now) (slots_dictionary slots.old) (slots_dictionary slots.new) [] piece result }
+    ensures step { (piece : List ℕ)
+        → IsStepped limits (reader_of limits.strict
+        (behind_size (bounds limits) (field_data field.now)
+        (previous_at (field_data field.now).entry (slots_dictionary slots.old)) (Some (pos size))))
+        (field_data field.now) (slots_dictionary slots.old) (slots_dictionary slots.new) [] piece result }
     ensures more { IfOk result HasBytes }
     ensures terms { slots_terms slots.new ≡ slots_terms slots.old }
     ensures joined { joined.new.capacity ≡ joined.old.capacity }
@@ -202,12 +213,17 @@ pub fn take_vector(
     requires serves { Serves (length (slots_dictionary slots.old)) (slots_terms slots.old) (field_data field.now) }
     requires max_text { (slots_terms slots.old).max_text ≡ limits.max_text }
     requires least { 16 ≤ limits.max_text }
-    requires stage { IsStageOf (bounds limits) (field_data field.now) (previous_at (field_data field.now).entry (slots_dictionary slots.old)) (Stage.Vector size) }
+    requires stage { IsStageOf (bounds limits) (field_data field.now)
+        (previous_at (field_data field.now).entry (slots_dictionary slots.old)) (Stage.Vector size) }
     requires more { length scratch.old.text < size }
     requires scratch { limits.max_text ≤ scratch.old.capacity }
     requires joined { limits.max_text ≤ joined.old.capacity }
-    ensures unit { IsLastUnit (reader_behind limits (field_data field.now) (slots_dictionary slots.old) (Stage.Vector size)) (field_data field.now) scratch.old.text rest.now (slots_dictionary slots.old) (slots_dictionary slots.new) scratch.new.text result }
-    ensures cut { result ≡ Progress.Cut → (scratch.new.text ≡ scratch.old.text ++ rest.now) × (length scratch.new.text < size) }
+    ensures unit { IsLastUnit
+        (reader_behind limits (field_data field.now) (slots_dictionary slots.old) (Stage.Vector size))
+        (field_data field.now) scratch.old.text rest.now (slots_dictionary slots.old) (slots_dictionary slots.new)
+        scratch.new.text result }
+    ensures cut { result ≡ Progress.Cut
+        → (scratch.new.text ≡ scratch.old.text ++ rest.now) × (length scratch.new.text < size) }
     ensures terms { slots_terms slots.new ≡ slots_terms slots.old }
     ensures scratch { scratch.new.capacity ≡ scratch.old.capacity }
     ensures joined { joined.new.capacity ≡ joined.old.capacity }
@@ -247,10 +263,14 @@ pub fn take_subtraction(
     requires delta { field.now.operator ≡ Operator.Delta }
     requires open { HaveNoStop pending.old }
     requires short { length pending.old < 10 }
-    ensures unit { (scratch : List ℕ) → IsFieldUnit limits (first_reader limits (field_data field.now) (slots_dictionary slots.old)) (field_data field.now) pending.old rest.now (slots_dictionary slots.old) (slots_dictionary slots.new) scratch result }
+    ensures unit { (scratch : List ℕ)
+        → IsFieldUnit limits (first_reader limits (field_data field.now) (slots_dictionary slots.old))
+        (field_data field.now) pending.old rest.now (slots_dictionary slots.old) (slots_dictionary slots.new) scratch
+        result }
     ensures more { (step : Step) (n : ℕ) → result ≡ Progress.Whole step n → HasBytes step }
     ensures whole { (step : Step) (n : ℕ) → result ≡ Progress.Whole step n → pending.new ≡ [] }
-    ensures cut { result ≡ Progress.Cut → (pending.new ≡ pending.old ++ rest.now) × HaveNoStop pending.new × (length pending.new < 10) }
+    ensures cut { result ≡ Progress.Cut
+        → (pending.new ≡ pending.old ++ rest.now) × HaveNoStop pending.new × (length pending.new < 10) }
     ensures terms { slots_terms slots.new ≡ slots_terms slots.old }
 {
     let range = IntegerRange::Signed(-2_147_483_648, 2_147_483_647);
@@ -278,7 +298,10 @@ fn part_next(slots: &Slots, field: &FieldInstruction, subtraction: i32) -> Resul
     requires serves { Serves (length (slots_dictionary slots.now)) (slots_terms slots.now) (field_data field.now) }
     requires text { family field.now.kind ≡ texts }
     requires delta { field.now.operator ≡ Operator.Delta }
-    ensures step { (limits : Limits) (scratch piece : List ℕ) → IsStepped limits (reader_of limits.strict (text_change (bounds limits) (field_data field.now) (previous_at (field_data field.now).entry (slots_dictionary slots.now)) (Some subtraction)))
+    ensures step { (limits : Limits) (scratch piece : List ℕ)
+        → IsStepped limits (reader_of limits.strict
+        (text_change (bounds limits) (field_data field.now)
+        (previous_at (field_data field.now).entry (slots_dictionary slots.now)) (Some subtraction)))
         (field_data field.now) (slots_dictionary slots.now) (slots_dictionary slots.now) scratch piece result }
     ensures more { IfOk result HasBytes }
 {
@@ -299,14 +322,23 @@ pub fn take_part(
     requires serves { Serves (length (slots_dictionary slots.old)) (slots_terms slots.old) (field_data field.now) }
     requires max_text { (slots_terms slots.old).max_text ≡ limits.max_text }
     requires least { 16 ≤ limits.max_text }
-    requires stage { IsStageOf (bounds limits) (field_data field.now) (previous_at (field_data field.now).entry (slots_dictionary slots.old)) (Stage.Part subtraction) }
+    requires stage { IsStageOf (bounds limits) (field_data field.now)
+        (previous_at (field_data field.now).entry (slots_dictionary slots.old)) (Stage.Part subtraction) }
     requires kind { field.now.kind ≡ Kind.Ascii }
-    requires open { (kept : KeptData) → subtraction_step (field_data field.now) (previous_at (field_data field.now).entry (slots_dictionary slots.old)) subtraction ≡ Ok kept → ascii_phrase false (limits.max_text - kept_length kept) scratch.old.text [] cut }
+    requires open { (kept : KeptData)
+        → subtraction_step (field_data field.now)
+        (previous_at (field_data field.now).entry (slots_dictionary slots.old)) subtraction ≡ Ok kept
+        → ascii_phrase false (limits.max_text - kept_length kept) scratch.old.text [] cut }
     requires scratch { limits.max_text ≤ scratch.old.capacity }
     requires joined { limits.max_text ≤ joined.old.capacity }
-    ensures unit { IsLastUnit (reader_behind limits (field_data field.now) (slots_dictionary slots.old) (Stage.Part subtraction)) (field_data field.now) scratch.old.text rest.now (slots_dictionary slots.old) (slots_dictionary slots.new) scratch.new.text result }
+    ensures unit { IsLastUnit
+        (reader_behind limits (field_data field.now) (slots_dictionary slots.old) (Stage.Part subtraction))
+        (field_data field.now) scratch.old.text rest.now (slots_dictionary slots.old) (slots_dictionary slots.new)
+        scratch.new.text result }
     ensures cut { result ≡ Progress.Cut → (scratch.new.text ≡ scratch.old.text ++ rest.now)
-        × ((kept : KeptData) → subtraction_step (field_data field.now) (previous_at (field_data field.now).entry (slots_dictionary slots.old)) subtraction ≡ Ok kept → ascii_phrase false (limits.max_text - kept_length kept) scratch.new.text [] cut) }
+        × ((kept : KeptData) → subtraction_step (field_data field.now)
+        (previous_at (field_data field.now).entry (slots_dictionary slots.old)) subtraction ≡ Ok kept
+        → ascii_phrase false (limits.max_text - kept_length kept) scratch.new.text [] cut) }
     ensures terms { slots_terms slots.new ≡ slots_terms slots.old }
     ensures scratch { scratch.new.capacity ≡ scratch.old.capacity }
     ensures joined { joined.new.capacity ≡ joined.old.capacity }
@@ -336,15 +368,20 @@ pub fn take_part_size(
     requires serves { Serves (length (slots_dictionary slots.old)) (slots_terms slots.old) (field_data field.now) }
     requires max_text { (slots_terms slots.old).max_text ≡ limits.max_text }
     requires least { 16 ≤ limits.max_text }
-    requires stage { IsStageOf (bounds limits) (field_data field.now) (previous_at (field_data field.now).entry (slots_dictionary slots.old)) (Stage.Part subtraction) }
+    requires stage { IsStageOf (bounds limits) (field_data field.now)
+        (previous_at (field_data field.now).entry (slots_dictionary slots.old)) (Stage.Part subtraction) }
     requires kind { field.now.kind ≢ Kind.Ascii }
     requires open { HaveNoStop pending.old }
     requires short { length pending.old < 10 }
     requires joined { limits.max_text ≤ joined.old.capacity }
-    ensures unit { (scratch : List ℕ) → IsFieldUnit limits (reader_behind limits (field_data field.now) (slots_dictionary slots.old) (Stage.Part subtraction)) (field_data field.now) pending.old rest.now (slots_dictionary slots.old) (slots_dictionary slots.new) scratch result }
+    ensures unit { (scratch : List ℕ)
+        → IsFieldUnit limits (reader_behind limits (field_data field.now) (slots_dictionary slots.old)
+        (Stage.Part subtraction)) (field_data field.now) pending.old rest.now (slots_dictionary slots.old)
+        (slots_dictionary slots.new) scratch result }
     ensures more { (step : Step) (n : ℕ) → result ≡ Progress.Whole step n → HasBytes step }
     ensures whole { (step : Step) (n : ℕ) → result ≡ Progress.Whole step n → pending.new ≡ [] }
-    ensures cut { result ≡ Progress.Cut → (pending.new ≡ pending.old ++ rest.now) × HaveNoStop pending.new × (length pending.new < 10) }
+    ensures cut { result ≡ Progress.Cut
+        → (pending.new ≡ pending.old ++ rest.now) × HaveNoStop pending.new × (length pending.new < 10) }
     ensures terms { slots_terms slots.new ≡ slots_terms slots.old }
     ensures joined { joined.new.capacity ≡ joined.old.capacity }
 {
@@ -373,11 +410,18 @@ fn part_vector_next(
     requires serves { Serves (length (slots_dictionary slots.old)) (slots_terms slots.old) (field_data field.now) }
     requires max_text { (slots_terms slots.old).max_text ≡ limits.max_text }
     requires least { 16 ≤ limits.max_text }
-    requires stage { IsStageOf (bounds limits) (field_data field.now) (previous_at (field_data field.now).entry (slots_dictionary slots.old)) (Stage.Part subtraction) }
+    requires stage { IsStageOf (bounds limits) (field_data field.now)
+        (previous_at (field_data field.now).entry (slots_dictionary slots.old)) (Stage.Part subtraction) }
     requires kind { field.now.kind ≢ Kind.Ascii }
     requires joined { limits.max_text ≤ joined.old.capacity }
-    ensures step { (kept : KeptData) → subtraction_step (field_data field.now) (previous_at (field_data field.now).entry (slots_dictionary slots.old)) subtraction ≡ Ok kept → (scratch piece : List ℕ)
-        → IsStepped limits (reader_of limits.strict (behind_part_size (bounds limits) (field_data field.now) (previous_at (field_data field.now).entry (slots_dictionary slots.old)) kept (Some (pos size)))) (field_data field.now) (slots_dictionary slots.old) (slots_dictionary slots.new) scratch piece result }
+    ensures step { (kept : KeptData)
+        → subtraction_step (field_data field.now)
+        (previous_at (field_data field.now).entry (slots_dictionary slots.old)) subtraction ≡ Ok kept
+        → (scratch piece : List ℕ)
+        → IsStepped limits (reader_of limits.strict
+        (behind_part_size (bounds limits) (field_data field.now)
+        (previous_at (field_data field.now).entry (slots_dictionary slots.old)) kept (Some (pos size))))
+        (field_data field.now) (slots_dictionary slots.old) (slots_dictionary slots.new) scratch piece result }
     ensures more { IfOk result HasBytes }
     ensures terms { slots_terms slots.new ≡ slots_terms slots.old }
     ensures joined { joined.new.capacity ≡ joined.old.capacity }
@@ -404,12 +448,17 @@ pub fn take_part_vector(
     requires serves { Serves (length (slots_dictionary slots.old)) (slots_terms slots.old) (field_data field.now) }
     requires max_text { (slots_terms slots.old).max_text ≡ limits.max_text }
     requires least { 16 ≤ limits.max_text }
-    requires stage { IsStageOf (bounds limits) (field_data field.now) (previous_at (field_data field.now).entry (slots_dictionary slots.old)) (Stage.PartVector subtraction size) }
+    requires stage { IsStageOf (bounds limits) (field_data field.now)
+        (previous_at (field_data field.now).entry (slots_dictionary slots.old)) (Stage.PartVector subtraction size) }
     requires more { length scratch.old.text < size }
     requires scratch { limits.max_text ≤ scratch.old.capacity }
     requires joined { limits.max_text ≤ joined.old.capacity }
-    ensures unit { IsLastUnit (reader_behind limits (field_data field.now) (slots_dictionary slots.old) (Stage.PartVector subtraction size)) (field_data field.now) scratch.old.text rest.now (slots_dictionary slots.old) (slots_dictionary slots.new) scratch.new.text result }
-    ensures cut { result ≡ Progress.Cut → (scratch.new.text ≡ scratch.old.text ++ rest.now) × (length scratch.new.text < size) }
+    ensures unit { IsLastUnit
+        (reader_behind limits (field_data field.now) (slots_dictionary slots.old) (Stage.PartVector subtraction size))
+        (field_data field.now) scratch.old.text rest.now (slots_dictionary slots.old) (slots_dictionary slots.new)
+        scratch.new.text result }
+    ensures cut { result ≡ Progress.Cut
+        → (scratch.new.text ≡ scratch.old.text ++ rest.now) × (length scratch.new.text < size) }
     ensures terms { slots_terms slots.new ≡ slots_terms slots.old }
     ensures scratch { scratch.new.capacity ≡ scratch.old.capacity }
     ensures joined { joined.new.capacity ≡ joined.old.capacity }

@@ -43,9 +43,11 @@ pub fn next_integer(
 ) -> Progress<Option<i128>>
     requires open { HaveNoStop pending.old }
     requires short { length pending.old < 10 }
-    ensures unit { IsUnit (reader_of strict (integer (range_data range) nullable outside give)) (λ x. x) pending.old rest.now result }
+    ensures unit { IsUnit (reader_of strict (integer (range_data range) nullable outside give)) (λ x. x) pending.old
+        rest.now result }
     ensures whole { (x : Option ℤ) (n : ℕ) → result ≡ Progress.Whole x n → pending.new ≡ [] }
-    ensures cut { result ≡ Progress.Cut → (pending.new ≡ pending.old ++ rest.now) × HaveNoStop pending.new × (length pending.new < 10) }
+    ensures cut { result ≡ Progress.Cut
+        → (pending.new ≡ pending.old ++ rest.now) × HaveNoStop pending.new × (length pending.new < 10) }
 {
     if pending.is_empty() {
         match first_integer(rest, strict, range, nullable) {
@@ -64,9 +66,11 @@ pub fn next_integer(
 pub fn next_unsigned(pending: &mut Entity, rest: &[u8], strict: bool, top: u64) -> Progress<u64>
     requires open { HaveNoStop pending.old }
     requires short { length pending.old < 10 }
-    ensures unit { IsUnit (reader_of strict (integer (unsigned_up_to top) false Code.D2 give)) (λ x. Some (pos x)) pending.old rest.now result }
+    ensures unit { IsUnit (reader_of strict (integer (unsigned_up_to top) false Code.D2 give)) (λ x. Some (pos x))
+        pending.old rest.now result }
     ensures whole { (x n : ℕ) → result ≡ Progress.Whole x n → pending.new ≡ [] }
-    ensures cut { result ≡ Progress.Cut → (pending.new ≡ pending.old ++ rest.now) × HaveNoStop pending.new × (length pending.new < 10) }
+    ensures cut { result ≡ Progress.Cut
+        → (pending.new ≡ pending.old ++ rest.now) × HaveNoStop pending.new × (length pending.new < 10) }
 {
     if pending.is_empty() {
         match first_unsigned(rest, strict, top) {
@@ -87,9 +91,12 @@ pub fn next_ascii(scratch: &mut Scratch, rest: &[u8], room: usize, nullable: boo
     requires open { ascii_phrase nullable room scratch.old.text [] cut }
     requires fits { room ≤ scratch.old.capacity }
     requires some { 0 < scratch.old.capacity }
-    ensures unit { (strict : Bool) → IsUnit (reader_of strict (ascii_text nullable room give)) (text_or_null scratch.new.text) scratch.old.text rest.now result }
+    ensures unit { (strict : Bool)
+        → IsUnit (reader_of strict (ascii_text nullable room give)) (text_or_null scratch.new.text) scratch.old.text
+        rest.now result }
     ensures text { (n : ℕ) → result ≡ Progress.Whole true n → length scratch.new.text ≤ room }
-    ensures cut { result ≡ Progress.Cut → (scratch.new.text ≡ scratch.old.text ++ rest.now) × ascii_phrase nullable room scratch.new.text [] cut }
+    ensures cut { result ≡ Progress.Cut
+        → (scratch.new.text ≡ scratch.old.text ++ rest.now) × ascii_phrase nullable room scratch.new.text [] cut }
     ensures capacity { scratch.new.capacity ≡ scratch.old.capacity }
 {
     if scratch.is_empty() {
@@ -115,8 +122,10 @@ pub enum Run {
 pub fn next_raw(scratch: &mut Scratch, rest: &[u8], size: usize) -> Progress<Run>
     requires more { length scratch.old.text < size }
     requires fits { size ≤ scratch.old.capacity }
-    ensures unit { (strict : Bool) → IsNextRun (reader_of strict (raw size give)) size scratch.old.text rest.now scratch.new.text result }
-    ensures cut { result ≡ Progress.Cut → (scratch.new.text ≡ scratch.old.text ++ rest.now) × (length scratch.new.text < size) }
+    ensures unit { (strict : Bool)
+        → IsNextRun (reader_of strict (raw size give)) size scratch.old.text rest.now scratch.new.text result }
+    ensures cut { result ≡ Progress.Cut
+        → (scratch.new.text ≡ scratch.old.text ++ rest.now) × (length scratch.new.text < size) }
     ensures capacity { scratch.new.capacity ≡ scratch.old.capacity }
 {
     let missing = size - scratch.len();
@@ -201,7 +210,8 @@ fn mandatory_signed(first: First<i128>) -> First<Option<i128>>
 #[inline(never)]
 fn stream_fault(fault: WireFault, bytes: &[u8], outside: Code) -> Code
     requires { 0 < length bytes.now }
-    ensures { (strict : Bool) (range : Range) (nullable : Bool) → IsWrongInt strict range nullable fault bytes.now → WrongInt strict range nullable outside bytes.now result }
+    ensures { (strict : Bool) (range : Range) (nullable : Bool) → IsWrongInt strict range nullable fault bytes.now
+        → WrongInt strict range nullable outside bytes.now result }
 {
     match fault {
         WireFault::R6 => Code::R6,
@@ -239,7 +249,8 @@ fn complete_integer(
 ) -> Progress<Option<i128>>
     requires open { HaveNoStop pending.old }
     requires short { length pending.old < 10 }
-    ensures { IsNextInteger (λ x. x) strict (range_data range) nullable outside pending.old rest.now pending.new result }
+    ensures { IsNextInteger (λ x. x) strict (range_data range) nullable outside pending.old rest.now pending.new
+        result }
 {
     match gather(pending, rest) {
         Progress::Whole((), len) => {
@@ -262,7 +273,8 @@ fn complete_integer(
 fn complete_unsigned(pending: &mut Entity, rest: &[u8], strict: bool, top: u64) -> Progress<u64>
     requires open { HaveNoStop pending.old }
     requires short { length pending.old < 10 }
-    ensures { IsNextInteger (λ x. Some (pos x)) strict (unsigned_up_to top) false Code.D2 pending.old rest.now pending.new result }
+    ensures { IsNextInteger (λ x. Some (pos x)) strict (unsigned_up_to top) false Code.D2 pending.old rest.now
+        pending.new result }
 {
     match gather(pending, rest) {
         Progress::Whole((), len) => {
@@ -378,7 +390,9 @@ fn short_text(scratch: &mut Scratch, rest: &[u8], room: usize) -> Option<usize>
     requires begins { BeginsWithCharacter rest.now }
     requires fits { room ≤ scratch.old.capacity }
     ensures none { IfNone result (scratch.new.text ≡ []) }
-    ensures text { IfSome result (λ n. (nullable : Bool) → IsNextText nullable room scratch.old.text rest.now scratch.new.text (Progress.Whole true n)) }
+    ensures text { IfSome result
+        (λ n. (nullable : Bool)
+        → IsNextText nullable room scratch.old.text rest.now scratch.new.text (Progress.Whole true n)) }
     ensures capacity { scratch.new.capacity ≡ scratch.old.capacity }
 {
     if rest.len() < 16 || room < 16 {

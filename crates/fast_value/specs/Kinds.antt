@@ -6,6 +6,7 @@ use Rattle.fast_value.specs.declared.kinds.Kind.TheVariants.{UInt32, Int32, UInt
 pub use Rattle.fast_wire.specs.Integers.{Range, unsigned_range, signed_range, exponent_range, delta_range, IsWithin}
 
 -- What a value holds, lent or owned. A decimal has its exponent first.
+-- FAST 1.1: Template Definition, Primitive Field Types.
 pub data ScalarData : Type 0 where
   U : ℕ → ScalarData
   I : ℤ → ScalarData
@@ -21,6 +22,7 @@ pub data Family : Type 0 where
   texts : Family
 
 -- the family of a kind
+-- FAST 1.1: Template Definition, Primitive Field Types.
 abbrev pub family : Kind → Family
 family UInt32 = integers (unsigned_range 32)
 family Int32 = integers (signed_range 31)
@@ -67,6 +69,7 @@ mantissa_of (Dec e m) = m
 mantissa_of v = pos 0
 
 -- The value is one of the kind: in its range, a text no longer than `max_text`, ASCII below 128, Unicode in UTF-8.
+-- FAST 1.1: Template Definition, Primitive Field Types.
 abbrev pub IsOfKind : Limits → Kind → ScalarData → Type 0
 IsOfKind l UInt32 (U n) = n < 2 ^ 32
 IsOfKind l UInt64 (U n) = n < 2 ^ 64

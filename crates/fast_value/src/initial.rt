@@ -159,8 +159,10 @@ fn parse_bytes(alloc: Global, text: &[u8]) -> Result<Vec<u8>, InitialFault>
 
 /// The integer of a kind without sign.
 fn parse_unsigned(text: &[u8], high: u64) -> Result<Value, InitialFault>
-    ensures value { IfOk result (λ v. (n : ℕ) × IsInteger (range_between (pos 0) (pos high)) text.now (pos n) × (value_data v ≡ U n)) }
-    ensures none { result ≡ Err InitialFault.S3 → (x : ℤ) → ¬ (IsInteger (range_between (pos 0) (pos high)) text.now x) }
+    ensures value { IfOk result (λ v. (n : ℕ) × IsInteger (range_between (pos 0) (pos high)) text.now (pos n)
+        × (value_data v ≡ U n)) }
+    ensures none { result ≡ Err InitialFault.S3 → (x : ℤ)
+        → ¬ (IsInteger (range_between (pos 0) (pos high)) text.now x) }
 {
     match parse_within(text, 0, i128::from(high)) {
         Some(integer) => Ok(Value::U(integer as u64)),

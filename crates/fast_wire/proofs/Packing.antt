@@ -1,5 +1,5 @@
 -- Eight bytes of a word become the seven-bit digits of a number, by pairs, fours and eights.
-use Rattle.std.proofs.Common.{◌≡◌, ℕ, ◌+◌, ◌*◌, ◌-◌, ◌%◌, ◌/◌, ◌^◌, ◌<◌, List, [], ◌∷◌, ap, ◌∙◌, length, arith, lit<}
+use Rattle.std.proofs.Common.{◌≡◌, ℕ, ◌+◌, ◌*◌, ◌-◌, ◌%◌, ◌/◌, ◌^◌, ◌<◌, ◌≤◌, List, [], ◌∷◌, ap, ◌∙◌, length, arith, lit<}
 use Rattle.std.specs.Prelude.{All, bit_and}
 use Rattle.std.proofs.lemmas.Nat.{and_mask, and_block}
 use Rattle.std.proofs.Math.Nat.{mod-eq_of_lt}
@@ -103,3 +103,60 @@ packed_is (a ∷ b ∷ c ∷ d ∷ e ∷ f ∷ g ∷ h ∷ []) x l bytes is =
     steps a b c d e f g h x (bytes 0 0 (omega arith)) (bytes 1 0 (omega arith)) (bytes 2 0 (omega arith)) (bytes 3 0 (omega arith)) (bytes 4 0 (omega arith))
     (bytes 5 0 (omega arith)) (bytes 6 0 (omega arith)) (bytes 7 0 (omega arith)) (is ∙ omega arith)
 packed_is (a ∷ b ∷ c ∷ d ∷ e ∷ f ∷ g ∷ h ∷ i ∷ w) x l bytes is = absurd (omega arith)
+
+-- The same where the upper four bytes are zero.
+low_sevens_of : (e f g h : ℕ) → f < 256 → g < 256 → h < 256
+    → bit_and (((e * 256 + f) * 256 + g) * 256 + h) 0x7f7f_7f7f ≡ ((e % 128 * 256 + f % 128) * 256 + g % 128) * 256 + h % 128
+low_sevens_of e f g h f8 g8 h8 =
+    by_blocks 8 _ 0x7f_7f7f _ h 127 _ h8 (lit< tt)
+    (by_blocks 8 _ 0x7f7f _ g 127 _ g8 (lit< tt) (by_blocks 8 e 127 _ f 127 _ f8 (lit< tt) (seven e) (seven f)) (seven g)) (seven h)
+
+low_pairs_of : (e f g h s : ℕ) → e < 128 → f < 128 → g < 128 → h < 128 → s ≡ ((e * 256 + f) * 256 + g) * 256 + h
+    → s - bit_and s 0x7f00_7f00 / 2 ≡ (e * 128 + f) * 65536 + (g * 128 + h)
+low_pairs_of e f g h s e7 f7 g7 h7 is =
+    let lanes : s ≡ (e * 256 + f) * 65536 + (g * 256 + h) = omega arith in
+    let m : bit_and s 0x7f00_7f00 ≡ e * 256 * 65536 + g * 256 =
+    ap (λ (n : ℕ). bit_and n 0x7f00_7f00) lanes
+    ∙ by_blocks 16 _ 0x7f00 _ (g * 256 + h) 0x7f00 _ (omega arith) (lit< tt) (upper e f e7 f7) (upper g h g7 h7) in
+    omega arith
+
+four_of : (p q x : ℕ) → p < 16384 → q < 16384 → x ≡ p * 65536 + q → x - x / 65536 * 49152 ≡ p * 16384 + q
+four_of p q x hp hq is = omega arith
+
+-- the steps of the code
+abbrev pub low_sevens : ℕ → ℕ
+low_sevens x = bit_and x 0x7f7f_7f7f
+
+abbrev pub low_pairs : ℕ → ℕ
+low_pairs s = s - bit_and s 0x7f00_7f00 / 2
+
+abbrev pub low_fours : ℕ → ℕ
+low_fours p = p - p / 65536 * 49152
+
+-- the lower four of eight digits
+lower : (a b c d e f g h x : ℕ) → x ≤ 4294967295 → x ≡ ((((((a * 256 + b) * 256 + c) * 256 + d) * 256 + e) * 256 + f) * 256 + g) * 256 + h
+    → (a ≡ 0) × (b ≡ 0) × (c ≡ 0) × (d ≡ 0) × (x ≡ ((e * 256 + f) * 256 + g) * 256 + h)
+lower a b c d e f g h x small is = (omega (arith, small, is), omega (arith, small, is), omega (arith, small, is), omega (arith, small, is), omega (arith, small, is))
+
+low_steps : (a b c d e f g h x : ℕ) → e < 256 → f < 256 → g < 256 → h < 256 → x ≤ 4294967295
+    → x ≡ ((((((a * 256 + b) * 256 + c) * 256 + d) * 256 + e) * 256 + f) * 256 + g) * 256 + h
+    → low_fours (low_pairs (low_sevens x)) ≡ number (a ∷ b ∷ c ∷ d ∷ e ∷ f ∷ g ∷ h ∷ [])
+low_steps a b c d e f g h x e8 f8 g8 h8 small is =
+    let (a0, b0, c0, d0, low) = lower a b c d e f g h x small is in
+    let by_sevens = ap low_sevens low ∙ low_sevens_of e f g h f8 g8 h8 in
+    let by_pairs = low_pairs_of (e % 128) (f % 128) (g % 128) (h % 128) (low_sevens x) (omega arith) (omega arith) (omega arith) (omega arith) by_sevens in
+    four_of (e % 128 * 128 + f % 128) (g % 128 * 128 + h % 128) (low_pairs (low_sevens x)) (omega arith) (omega arith) by_pairs
+    ∙ omega (arith, a0, b0, c0, d0)
+
+pub packed_low_is : (w : List ℕ) (x : ℕ) → length w ≡ 8 → All (λ byte. byte < 256) w → x ≡ word_of w → x ≤ 4294967295 → low_fours (low_pairs (low_sevens x)) ≡ number w
+packed_low_is [] x l bytes is small = absurd (omega arith)
+packed_low_is (a ∷ []) x l bytes is small = absurd (omega arith)
+packed_low_is (a ∷ b ∷ []) x l bytes is small = absurd (omega arith)
+packed_low_is (a ∷ b ∷ c ∷ []) x l bytes is small = absurd (omega arith)
+packed_low_is (a ∷ b ∷ c ∷ d ∷ []) x l bytes is small = absurd (omega arith)
+packed_low_is (a ∷ b ∷ c ∷ d ∷ e ∷ []) x l bytes is small = absurd (omega arith)
+packed_low_is (a ∷ b ∷ c ∷ d ∷ e ∷ f ∷ []) x l bytes is small = absurd (omega arith)
+packed_low_is (a ∷ b ∷ c ∷ d ∷ e ∷ f ∷ g ∷ []) x l bytes is small = absurd (omega arith)
+packed_low_is (a ∷ b ∷ c ∷ d ∷ e ∷ f ∷ g ∷ h ∷ []) x l bytes is small =
+    low_steps a b c d e f g h x (bytes 4 0 (omega arith)) (bytes 5 0 (omega arith)) (bytes 6 0 (omega arith)) (bytes 7 0 (omega arith)) small (is ∙ omega arith)
+packed_low_is (a ∷ b ∷ c ∷ d ∷ e ∷ f ∷ g ∷ h ∷ i ∷ w) x l bytes is small = absurd (omega arith)

@@ -16,7 +16,8 @@ use crate::words::{ShortEntity, lowered, short_lowered, short_signed};
 #[inline(always)]
 pub fn quick_unsigned(bytes: &[u8], entity: ShortEntity, strict: bool, top: u64) -> Option<u64>
     requires first { IsShortEntity entity.number entity.len bytes.now }
-    ensures { IfSome result (λ x. IsFirstInt (λ y. Some (pos y)) strict (unsigned_up_to top) false (Whole x entity.len) bytes.now) }
+    ensures { IfSome result (λ x. IsFirstInt (λ y. Some (pos y)) strict (unsigned_up_to top) false (Whole x entity.len)
+        bytes.now) }
 {
     let w = &bytes[..entity.len];
     match judge_unsigned(w, u128::from(entity.number), strict, top) {
@@ -34,7 +35,8 @@ pub fn quick_nullable_unsigned(
     top: u64,
 ) -> Option<Option<u64>>
     requires first { IsShortEntity entity.number entity.len bytes.now }
-    ensures { IfSome result (λ x. IsFirstInt (λ y. option_map pos y) strict (unsigned_up_to top) true (Whole x entity.len) bytes.now) }
+    ensures { IfSome result (λ x. IsFirstInt (λ y. option_map pos y) strict (unsigned_up_to top) true
+        (Whole x entity.len) bytes.now) }
 {
     let w = &bytes[..entity.len];
     match judge_nullable_unsigned(w, short_lowered(entity.number), strict, top) {
@@ -53,7 +55,8 @@ pub fn quick_signed(
     top: i128,
 ) -> Option<i64>
     requires first { IsShortEntity entity.number entity.len bytes.now }
-    ensures { IfSome result (λ x. IsFirstInt (λ y. Some y) strict (signed_between low top) false (Whole x entity.len) bytes.now) }
+    ensures { IfSome result (λ x. IsFirstInt (λ y. Some y) strict (signed_between low top) false (Whole x entity.len)
+        bytes.now) }
 {
     let w = &bytes[..entity.len];
     let number = short_signed(w, entity.number);
@@ -73,7 +76,8 @@ pub fn quick_nullable_signed(
     top: i128,
 ) -> Option<Option<i64>>
     requires first { IsShortEntity entity.number entity.len bytes.now }
-    ensures { IfSome result (λ x. IsFirstInt (λ y. y) strict (signed_between low top) true (Whole x entity.len) bytes.now) }
+    ensures { IfSome result (λ x. IsFirstInt (λ y. y) strict (signed_between low top) true (Whole x entity.len)
+        bytes.now) }
 {
     let w = &bytes[..entity.len];
     let number = lowered(short_signed(w, entity.number));

@@ -64,7 +64,8 @@ pub fn read_signed(w: &[u8], strict: bool, low: i128, top: i128) -> Result<i128,
     requires entity { IsEntity w.now }
     requires short { length w.now ≤ 10 }
     ensures value { IfOk result (λ x. SpellsInt strict (signed_between low top) false (Some x) w.now) }
-    ensures overlong { (result ≡ Err WireFault.R6) ↔ (IsTrue strict × IsOverlong (value (signed_between low top)) w.now) }
+    ensures overlong { (result ≡ Err WireFault.R6)
+        ↔ (IsTrue strict × IsOverlong (value (signed_between low top)) w.now) }
     ensures outside { result ≡ Err WireFault.D2 → IsOutside strict (signed_between low top) false w.now }
 {
     judge_signed(w, signed_of(w), strict, low, top)
@@ -82,7 +83,8 @@ pub fn read_nullable_signed(
     requires entity { IsEntity w.now }
     requires short { length w.now ≤ 10 }
     ensures value { IfOk result (λ x. SpellsInt strict (signed_between low top) true x w.now) }
-    ensures overlong { (result ≡ Err WireFault.R6) ↔ (IsTrue strict × IsOverlong (value (signed_between low top)) w.now) }
+    ensures overlong { (result ≡ Err WireFault.R6)
+        ↔ (IsTrue strict × IsOverlong (value (signed_between low top)) w.now) }
     ensures outside { result ≡ Err WireFault.D2 → IsOutside strict (signed_between low top) true w.now }
 {
     judge_nullable_signed(w, lowered(signed_of(w)), strict, low, top)
@@ -147,7 +149,8 @@ pub(crate) fn judge_signed(
     requires short { length w.now ≤ 10 }
     requires number { n ≡ signed w.now }
     ensures value { IfOk result (λ x. SpellsInt strict (signed_between low top) false (Some x) w.now) }
-    ensures overlong { (result ≡ Err WireFault.R6) ↔ (IsTrue strict × IsOverlong (value (signed_between low top)) w.now) }
+    ensures overlong { (result ≡ Err WireFault.R6)
+        ↔ (IsTrue strict × IsOverlong (value (signed_between low top)) w.now) }
     ensures outside { result ≡ Err WireFault.D2 → IsOutside strict (signed_between low top) false w.now }
     ensures same { IfOk result (λ x. x ≡ n) }
 {
@@ -173,7 +176,8 @@ pub(crate) fn judge_nullable_signed(
     requires short { length w.now ≤ 10 }
     requires meaning { Means true (signed w.now) x }
     ensures value { IfOk result (λ x. SpellsInt strict (signed_between low top) true x w.now) }
-    ensures overlong { (result ≡ Err WireFault.R6) ↔ (IsTrue strict × IsOverlong (value (signed_between low top)) w.now) }
+    ensures overlong { (result ≡ Err WireFault.R6)
+        ↔ (IsTrue strict × IsOverlong (value (signed_between low top)) w.now) }
     ensures outside { result ≡ Err WireFault.D2 → IsOutside strict (signed_between low top) true w.now }
     ensures same { IfOk result (λ y. y ≡ x) }
 {

@@ -56,15 +56,37 @@ pub(crate) fn eight_bytes(bytes: &[u8]) -> Option<(u64, usize)>
     Some((packed(word), bits as usize / 8))
 }
 
-/// The lower seven bits of each of eight bytes, side by side.
+/// The lower seven bits of each of eight bytes, side by side. Most entities have four bytes at most.
 #[inline(always)]
 fn packed(word: u64) -> u64
+    ensures { (w : List ℕ) → length w ≡ 8 → All (λ byte. byte < 256) w → word ≡ word_of w → result ≡ number w }
+{
+    if word <= 0xffff_ffff {
+        return packed_low(word);
+    }
+    packed_whole(word)
+}
+
+/// The same in three steps.
+#[inline(always)]
+fn packed_whole(word: u64) -> u64
     ensures { (w : List ℕ) → length w ≡ 8 → All (λ byte. byte < 256) w → word ≡ word_of w → result ≡ number w }
 {
     let sevens = word & 0x7f7f_7f7f_7f7f_7f7f;
     let pairs = sevens - ((sevens & 0x7f00_7f00_7f00_7f00) >> 1);
     let fours = pairs - ((pairs & 0x3fff_0000_3fff_0000) >> 2) * 3;
     fours - (fours >> 32) * 0xf000_0000
+}
+
+/// The same in two, where the upper four bytes are zero.
+#[inline(always)]
+fn packed_low(word: u64) -> u64
+    requires low { word ≤ 4294967295 }
+    ensures { (w : List ℕ) → length w ≡ 8 → All (λ byte. byte < 256) w → word ≡ word_of w → result ≡ number w }
+{
+    let sevens = word & 0x7f7f_7f7f;
+    let pairs = sevens - ((sevens & 0x7f00_7f00) >> 1);
+    pairs - (pairs >> 16) * 0xc000
 }
 
 /// The number of a short entity in two's complement.

@@ -210,68 +210,36 @@ type UnsignedRow<T> = (
     Result<T, WireFault>,
 );
 
+#[rattlefmt::skip]
 const UNSIGNED_ROWS: [UnsignedRow<u64>; 10] = [
     (&[0x81], U32_TOP, Ok(1), Ok(1)),
     (&[0x80], U32_TOP, Ok(0), Ok(0)),
     (&[0x39, 0x45, 0xa3], U32_TOP, Ok(942_755), Ok(942_755)),
-    (
-        &[0x0f, 0x7f, 0x7f, 0x7f, 0xff],
-        U32_TOP,
-        Ok(U32_TOP),
-        Ok(U32_TOP),
-    ),
+    (&[0x0f, 0x7f, 0x7f, 0x7f, 0xff], U32_TOP, Ok(U32_TOP), Ok(U32_TOP)),
     (&[0x10, 0, 0, 0, 0x80], U32_TOP, Err(D2), Err(D2)),
     (&[1; 10], U32_TOP, Err(D2), Err(D2)),
     (&[0x00, 0x81], U32_TOP, Ok(1), Err(R6)),
-    (
-        &[0x01, 0x7f, 0x7f, 0x7f, 0x7f, 0x7f, 0x7f, 0x7f, 0x7f, 0xff],
-        u64::MAX,
-        Ok(u64::MAX),
-        Ok(u64::MAX),
-    ),
-    (
-        &[0x02, 0, 0, 0, 0, 0, 0, 0, 0, 0x80],
-        u64::MAX,
-        Err(D2),
-        Err(D2),
-    ),
-    (
-        &[0x7f, 0x7f, 0x7f, 0x7f, 0x7f, 0x7f, 0x7f, 0x7f, 0xff],
-        u64::MAX,
-        Ok(0x7fff_ffff_ffff_ffff),
-        Ok(0x7fff_ffff_ffff_ffff),
-    ),
+    (&[0x01, 0x7f, 0x7f, 0x7f, 0x7f, 0x7f, 0x7f, 0x7f, 0x7f, 0xff], u64::MAX, Ok(u64::MAX), Ok(u64::MAX)),
+    (&[0x02, 0, 0, 0, 0, 0, 0, 0, 0, 0x80], u64::MAX, Err(D2), Err(D2)),
+    (&[0x7f, 0x7f, 0x7f, 0x7f, 0x7f, 0x7f, 0x7f, 0x7f, 0xff], u64::MAX, Ok(0x7fff_ffff_ffff_ffff), Ok(0x7fff_ffff_ffff_ffff)),
 ];
 
+#[rattlefmt::skip]
 const NULLABLE_UNSIGNED_ROWS: [UnsignedRow<Option<u64>>; 8] = [
     (&[0x80], U32_TOP, Ok(None), Ok(None)),
     (&[0x81], U32_TOP, Ok(Some(0)), Ok(Some(0))),
-    (
-        &[0x10, 0, 0, 0, 0x80],
-        U32_TOP,
-        Ok(Some(U32_TOP)),
-        Ok(Some(U32_TOP)),
-    ),
+    (&[0x10, 0, 0, 0, 0x80], U32_TOP, Ok(Some(U32_TOP)), Ok(Some(U32_TOP))),
     (&[0x10, 0, 0, 0, 0x81], U32_TOP, Err(D2), Err(D2)),
     (&[1; 10], u64::MAX, Err(D2), Err(D2)),
     (&[0x00, 0x80], U32_TOP, Ok(None), Err(R6)),
-    (
-        &[0x02, 0, 0, 0, 0, 0, 0, 0, 0, 0x80],
-        u64::MAX,
-        Ok(Some(u64::MAX)),
-        Ok(Some(u64::MAX)),
-    ),
-    (
-        &[0x7f, 0x7f, 0x7f, 0x7f, 0x7f, 0x7f, 0x7f, 0x7f, 0xff],
-        u64::MAX,
-        Ok(Some(0x7fff_ffff_ffff_fffe)),
-        Ok(Some(0x7fff_ffff_ffff_fffe)),
-    ),
+    (&[0x02, 0, 0, 0, 0, 0, 0, 0, 0, 0x80], u64::MAX, Ok(Some(u64::MAX)), Ok(Some(u64::MAX))),
+    (&[0x7f, 0x7f, 0x7f, 0x7f, 0x7f, 0x7f, 0x7f, 0x7f, 0xff], u64::MAX, Ok(Some(0x7fff_ffff_ffff_fffe)), Ok(Some(0x7fff_ffff_ffff_fffe))),
 ];
 
 /// Bytes, and what they are in lenient mode and in strict, of all integers of 64 bits with a sign.
 type SignedRow<T> = (&'static [u8], Result<T, WireFault>, Result<T, WireFault>);
 
+#[rattlefmt::skip]
 const SIGNED_ROWS: [SignedRow<i128>; 13] = [
     (&[0x46, 0x3a, 0xdd], Ok(-942_755), Ok(-942_755)),
     (&[0x00, 0x40, 0x81], Ok(8193), Ok(8193)),
@@ -282,39 +250,20 @@ const SIGNED_ROWS: [SignedRow<i128>; 13] = [
     (&[1; 10], Err(D2), Err(D2)),
     (&[0x00, 0xbf], Ok(63), Err(R6)),
     (&[0x7f, 0xc0], Ok(-64), Err(R6)),
-    (
-        &[0x00, 0x7f, 0x7f, 0x7f, 0x7f, 0x7f, 0x7f, 0x7f, 0x7f, 0xff],
-        Ok(I64_TOP),
-        Ok(I64_TOP),
-    ),
+    (&[0x00, 0x7f, 0x7f, 0x7f, 0x7f, 0x7f, 0x7f, 0x7f, 0x7f, 0xff], Ok(I64_TOP), Ok(I64_TOP)),
     (&[0x01, 0, 0, 0, 0, 0, 0, 0, 0, 0x80], Err(D2), Err(D2)),
-    (
-        &[0x7f, 0, 0, 0, 0, 0, 0, 0, 0, 0x80],
-        Ok(I64_LOW),
-        Ok(I64_LOW),
-    ),
-    (
-        &[0x40, 0, 0, 0, 0, 0, 0, 0, 0x80],
-        Ok(I64_LOW / 2),
-        Ok(I64_LOW / 2),
-    ),
+    (&[0x7f, 0, 0, 0, 0, 0, 0, 0, 0, 0x80], Ok(I64_LOW), Ok(I64_LOW)),
+    (&[0x40, 0, 0, 0, 0, 0, 0, 0, 0x80], Ok(I64_LOW / 2), Ok(I64_LOW / 2)),
 ];
 
+#[rattlefmt::skip]
 const NULLABLE_SIGNED_ROWS: [SignedRow<Option<i128>>; 6] = [
     (&[0x80], Ok(None), Ok(None)),
     (&[0x81], Ok(Some(0)), Ok(Some(0))),
     (&[0xff], Ok(Some(-1)), Ok(Some(-1))),
     (&[0x00, 0x80], Ok(None), Err(R6)),
-    (
-        &[0x01, 0, 0, 0, 0, 0, 0, 0, 0, 0x80],
-        Ok(Some(I64_TOP)),
-        Ok(Some(I64_TOP)),
-    ),
-    (
-        &[0x7f, 0, 0, 0, 0, 0, 0, 0, 0, 0x80],
-        Ok(Some(I64_LOW)),
-        Ok(Some(I64_LOW)),
-    ),
+    (&[0x01, 0, 0, 0, 0, 0, 0, 0, 0, 0x80], Ok(Some(I64_TOP)), Ok(Some(I64_TOP))),
+    (&[0x7f, 0, 0, 0, 0, 0, 0, 0, 0, 0x80], Ok(Some(I64_LOW)), Ok(Some(I64_LOW))),
 ];
 
 #[test]

@@ -13,7 +13,7 @@ use fast_command::{
     run_check, show_all,
 };
 use fast_convert::run_convert;
-use fast_explain::{Kept, Note, Seen, explain_stream, explain_templates};
+use fast_explain::{Kept, Note, explain_stream, explain_templates};
 use fast_template::Templates;
 use fast_text::{BlockWriter, FromBytes, Source, Target, Watched};
 use std::alloc::{AllocError, Global};
@@ -30,13 +30,12 @@ const MISTAKE: u8 = 2;
 /// How often a run reads at most.
 const MAX_READS: u64 = 1 << 40;
 
-/// Shows what a reader gives on a writer.
-fn show_on<S: Source, T: Target>(
+/// Shows what a reader gives on standard output, in large pieces.
+fn show_from<S: Source>(
     rt: &HostRuntime,
     templates: &Templates,
     plan: &Plan<'_>,
     reader: &mut S,
-    writer: &mut T,
 ) -> Result<ShowEnd, RunFault> {
     show_all(
         rt.alloc(),
@@ -45,31 +44,25 @@ fn show_on<S: Source, T: Target>(
         plan.hex,
         MAX_READS,
         reader,
-        writer,
+        &mut BlockWriter::new(Watched::new(rt.stdout())),
     )
 }
 
-/// Shows what a reader gives on standard output, in large pieces, and notes in words what is wrong with it, if that is asked for.
-fn show_from<S: Source>(
+/// The same, and notes in words what is wrong with the stream.
+fn explain_from<S: Source + Drop>(
     rt: &HostRuntime,
     templates: &Templates,
     plan: &Plan<'_>,
-    reader: &mut Kept<S>,
+    reader: S,
     note: &mut Note,
 ) -> Result<ShowEnd, RunFault> {
-    let mut output = BlockWriter::new(Watched::new(rt.stdout()));
-    if !plan.explain {
-        return show_on(rt, templates, plan, reader, &mut output);
-    }
-    let mut writer = Seen::new(output);
-    let ending = show_on(rt, templates, plan, reader, &mut writer);
+    let mut reader = Kept::new(rt.alloc(), reader, templates, plan.limits(), plan.hex);
+    let ending = show_from(rt, templates, plan, &mut reader);
     match ending {
         Ok(ShowEnd::Faulted(fault)) => {
-            *note = explain_stream(Some(fault.code), fault.place, reader, &writer);
+            *note = explain_stream(Some(fault.code), fault.place, &reader);
         }
-        Ok(ShowEnd::Truncated(consumed)) => {
-            *note = explain_stream(None, consumed, reader, &writer);
-        }
+        Ok(ShowEnd::Truncated(consumed)) => *note = explain_stream(None, consumed, &reader),
         _ => {}
     }
     ending
@@ -98,13 +91,13 @@ fn read_from<S: Source + Drop>(
     rt: &HostRuntime,
     templates: &Templates,
     plan: &Plan<'_>,
-    reader: S,
+    mut reader: S,
     note: &mut Note,
 ) -> Result<ShowEnd, RunFault> {
-    let mut reader = Kept::new(reader, plan.explain, plan.hex);
     match plan.task {
         Task::Convert => convert_from(rt, templates, plan, &mut reader),
-        _ => show_from(rt, templates, plan, &mut reader, note),
+        _ if plan.explain => explain_from(rt, templates, plan, reader, note),
+        _ => show_from(rt, templates, plan, &mut reader),
     }
 }
 

@@ -1,9 +1,9 @@
 //! The limits of a decoder, and streams that come near them.
 
-use super::worked::WORKED;
 use super::{LENIENT, decoder_of, expect, expect_rows, set_of};
 use fast_decoder::MakeError;
 use fast_decoder::layout::has_long_initial;
+use fast_template::VECTORS;
 use fast_value::Limits;
 use itoa::Buffer;
 use std::alloc::{AllocError, Global};
@@ -199,7 +199,7 @@ const THE_LONGEST_MAPS: &str = "\
 
 #[test]
 fn the_longest_maps(rt: HostRuntime) -> Result<(), Fail> {
-    expect_rows(&rt, rt.alloc(), WORKED, &[THE_LONGEST_MAPS])
+    expect_rows(&rt, rt.alloc(), VECTORS, &[THE_LONGEST_MAPS])
 }
 
 /// A template of 300 optional copies.

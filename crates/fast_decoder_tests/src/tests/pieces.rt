@@ -1,8 +1,8 @@
 //! Streams that are fed as a list of pieces.
 
-use super::worked::WORKED;
 use super::{LENIENT, Script, Standing, decoder_of, expect, feed, set_of, standing_of, stopped_at};
 use fast_decoder::{Decoder, Fault, FaultCode, Sink};
+use fast_template::VECTORS;
 use fast_value::Code;
 use std::test::Fail;
 
@@ -28,7 +28,7 @@ fn feed_all<S: Sink>(decoder: &mut Decoder<'_>, pieces: &[&[u8]], sink: &mut S) 
 
 #[test]
 fn pieces_are_fed_as_one(rt: HostRuntime) -> Result<(), Fail> {
-    let set = set_of(rt.alloc(), WORKED)?;
+    let set = set_of(rt.alloc(), VECTORS)?;
     let mut decoder = decoder_of(rt.alloc(), &set, LENIENT)?;
     let mut script = Script::of(EVENTS);
     let answer = feed(&mut decoder, &WHOLE, &mut script);
@@ -48,7 +48,7 @@ fn pieces_are_fed_as_one(rt: HostRuntime) -> Result<(), Fail> {
 
 #[test]
 fn pieces_are_fed_up_to_a_fault(rt: HostRuntime) -> Result<(), Fail> {
-    let set = set_of(rt.alloc(), WORKED)?;
+    let set = set_of(rt.alloc(), VECTORS)?;
     let mut decoder = decoder_of(rt.alloc(), &set, LENIENT)?;
     let fault = Fault {
         code: FaultCode::Stream(Code::D5),

@@ -2,13 +2,13 @@
 
 use super::limits::{CONSTANTS, THOUSAND, thousand_events};
 use super::rows::{Columns, row_of};
-use super::worked::{LONG, LONG_EVENTS, WORKED};
+use super::worked::{LONG, LONG_EVENTS};
 use super::{
     LENIENT, STRICT, Script, decoder_of, expect, expect_line, expect_row, feed, feed_pieces, push,
     set_of, standing_of, stopped_at,
 };
 use fast_decoder::{Decoder, Event, Fault, FaultCode, Recorded, Recorder, Sink, Stop};
-use fast_template::Templates;
+use fast_template::{Templates, VECTORS};
 use fast_value::Code;
 use std::alloc::Global;
 use std::process::Abort;
@@ -78,7 +78,7 @@ fn is_stopped(decoder: &mut Decoder<'_>, most: usize, place: u64) -> bool {
 
 #[test]
 fn a_sink_stops_the_decoder(rt: HostRuntime) -> Result<(), Fail> {
-    let set = set_of(rt.alloc(), WORKED)?;
+    let set = set_of(rt.alloc(), VECTORS)?;
     let mut decoder = decoder_of(rt.alloc(), &set, LENIENT)?;
     for (most, place) in PLACES.into_iter().enumerate() {
         let is_stopped = is_stopped(&mut decoder, most, place);
@@ -141,7 +141,7 @@ fn expect_kept(
 #[test]
 fn a_recorder_keeps_each_event(rt: HostRuntime) -> Result<(), Fail> {
     let alloc = rt.alloc();
-    expect_kept(&rt, alloc, WORKED, LONG, LONG_EVENTS)?;
+    expect_kept(&rt, alloc, VECTORS, LONG, LONG_EVENTS)?;
     let events = thousand_events(alloc)?;
     expect_kept(&rt, alloc, CONSTANTS, THOUSAND, &events)
 }
@@ -165,7 +165,7 @@ const A_FIRST_MESSAGE: &str =
 
 #[test]
 fn a_fault_stays_until_reset(rt: HostRuntime) -> Result<(), Fail> {
-    let set = set_of(rt.alloc(), WORKED)?;
+    let set = set_of(rt.alloc(), VECTORS)?;
     let mut decoder = decoder_of(rt.alloc(), &set, LENIENT)?;
     let is_stopped = is_stopped_by_a_claim(&mut decoder);
     expect(&rt, is_stopped, "a claim", 0);
@@ -196,7 +196,7 @@ fn is_cut(decoder: &mut Decoder<'_>, bytes: &[u8]) -> bool {
 /// A reset forgets the identifier, the previous values, and the bytes of a unit that was cut.
 #[test]
 fn a_reset_forgets(rt: HostRuntime) -> Result<(), Fail> {
-    let set = set_of(rt.alloc(), WORKED)?;
+    let set = set_of(rt.alloc(), VECTORS)?;
     let mut decoder = decoder_of(rt.alloc(), &set, LENIENT)?;
     for bytes in CUTS {
         for line in [NO_IDENTIFIER, NOTHING_TO_COPY] {
@@ -219,7 +219,7 @@ const JOINED: &[u8] = &[
 #[test]
 fn feeds_take_no_memory(rt: HostRuntime) -> Result<(), Fail> {
     let alloc = rt.alloc();
-    let Ok(set) = Templates::read(alloc, WORKED) else {
+    let Ok(set) = Templates::read(alloc, VECTORS) else {
         return Ok(());
     };
     let Ok(mut decoder) = Decoder::new(alloc, &set, LENIENT) else {

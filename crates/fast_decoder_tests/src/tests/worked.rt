@@ -2,87 +2,8 @@
 
 use super::{LENIENT, Script, decoder_of, expect, expect_rows, push, set_of};
 use fast_decoder::Decoder;
+use fast_template::VECTORS;
 use std::test::Fail;
-
-/// One template for each kind of instruction; a template and its identifier have the same number.
-pub const WORKED: &str = r#"
-[[template]]
-name = "T1"
-id = 1
-fields = [{kind="uInt32", name="x"}]
-[[template]]
-name = "T2"
-id = 2
-fields = [{kind="sequence", name="s", fields=[{kind="uInt32", name="c", op="constant", value="7"}]}]
-[[template]]
-name = "T3"
-id = 3
-fields = [{kind="ascii", name="t", op="tail"}]
-[[template]]
-name = "T4"
-id = 4
-fields = [{kind="ascii", name="d", op="delta"}]
-[[template]]
-name = "T5"
-id = 5
-fields = [{kind="uInt32", name="n", op="increment"}]
-[[template]]
-name = "T6"
-id = 6
-fields = [{kind="uInt32", name="x", optional=true, op="copy"}]
-[[template]]
-name = "T7"
-id = 7
-fields = [{kind="decimal", name="p", optional=true, exponent={op="copy"}, mantissa={op="copy"}}, {kind="uInt32", name="y", op="copy"}]
-[[template]]
-name = "T8"
-id = 8
-fields = [{kind="unicode", name="u"}]
-[[template]]
-name = "T9"
-id = 9
-reset = true
-[[template]]
-name = "T10"
-id = 10
-fields = [{kind="uInt32", name="z", op="copy"}]
-[[template]]
-name = "T11"
-id = 11
-fields = [{kind="ascii", name="w", op="copy", key="x"}]
-[[template]]
-name = "T12"
-id = 12
-fields = [{kind="int64", name="i"}]
-[[template]]
-name = "T13"
-id = 13
-fields = [{kind="uInt32", name="o", optional=true}]
-[[template]]
-name = "T14"
-id = 14
-fields = [{kind="int64", name="q", optional=true}]
-[[template]]
-name = "T15"
-id = 15
-fields = [{kind="ref", name="T1"}, {kind="group", name="g", optional=true, fields=[{kind="bytes", name="b"}]}, {kind="sequence", name="legs", optional=true, fields=[{kind="ascii", name="sym", op="copy"}, {kind="int32", name="px", op="delta"}]}]
-[[template]]
-name = "T16"
-id = 16
-fields = [{kind="int32", name="v", optional=true, op="delta"}]
-[[template]]
-name = "T17"
-id = 17
-fields = [{kind="unicode", name="e", op="delta"}]
-[[template]]
-name = "T18"
-id = 18
-fields = [{kind="decimal", name="a"}, {kind="decimal", name="b", optional=true}]
-[[template]]
-name = "T19"
-id = 19
-fields = [{kind="ascii", name="r", optional=true}]
-"#;
 
 const MESSAGES: &str = "\
 no byte | lenient | | | between
@@ -166,7 +87,7 @@ the longest text | lenient text=16 | C0 93 41*15 C1 | m18 a25='AAAAAAAAAAAAAAAA'
 a text longer than the limit | lenient text=16 | C0 93 41*17 | m18 | L1@19
 ";
 
-const VECTORS: &str = "\
+const BYTE_VECTORS: &str = "\
 a text of two bytes | lenient text=16 | C0 88 82 C3 A9 | m7 t9='é' /m | between
 the longest text | lenient text=16 | C0 88 90 41*16 | m7 t9='AAAAAAAAAAAAAAAA' /m | between
 no UTF-8 | lenient text=16 | C0 88 82 C3 28 | m7 | R2@5
@@ -194,7 +115,7 @@ fn rows_of_worked(rt: HostRuntime) -> Result<(), Fail> {
     expect_rows(
         &rt,
         rt.alloc(),
-        WORKED,
+        VECTORS,
         &[
             MESSAGES,
             INTEGERS,
@@ -202,7 +123,7 @@ fn rows_of_worked(rt: HostRuntime) -> Result<(), Fail> {
             NUMBERS_WITH_OPERATORS,
             DECIMALS,
             ASCII_TEXTS,
-            VECTORS,
+            BYTE_VECTORS,
             GROUPS_AND_SEQUENCES,
         ],
     )
@@ -224,7 +145,7 @@ fn comes_in_time(decoder: &mut Decoder<'_>, script: &mut Script<'_>) -> bool {
 /// A message that is cut behind each of its bytes has handed over what those bytes decide.
 #[test]
 fn events_come_as_soon_as_they_are_decided(rt: HostRuntime) -> Result<(), Fail> {
-    let set = set_of(rt.alloc(), WORKED)?;
+    let set = set_of(rt.alloc(), VECTORS)?;
     let mut decoder = decoder_of(rt.alloc(), &set, LENIENT)?;
     let mut script = Script::of(LONG_EVENTS);
     let is_in_time = comes_in_time(&mut decoder, &mut script);

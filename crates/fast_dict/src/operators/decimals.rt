@@ -44,7 +44,8 @@ pub fn mantissa_delta<'a>(
     exponent: i32,
     delta: i128,
 ) -> Result<Outcome<'a>, Code>
-    ensures { outcome_answer result ≡ mantissa_step (field_data field.now) (previous_data previous.entry) exponent delta }
+    ensures { outcome_answer result ≡ mantissa_step (field_data field.now) (previous_data previous.entry) exponent
+        delta }
 {
     let base = delta_base(field, previous)?;
     let (low, high) = range_of(Kind::Int64);

@@ -73,7 +73,8 @@ pub fn incremented<'a>(
 
 /// The initial value under an undefined entry, which then holds it; without one absent.
 fn initial(field: &FieldInstruction) -> Result<Outcome<'_>, Code>
-    ensures { outcome_answer result ≡ from_initial field.now.kind field.now.optional Code.D5 (field_data field.now).initial }
+    ensures { outcome_answer result ≡ from_initial field.now.kind field.now.optional Code.D5
+        (field_data field.now).initial }
 {
     match initial_value(field) {
         Some(value) => Ok(Outcome::kept(field.kind, value)),
@@ -95,7 +96,8 @@ fn absent(field: &FieldInstruction, fault: Code) -> Result<Outcome<'_>, Code>
 /// One more, and behind the greatest value of the kind the least.
 #[inline]
 pub fn next_integer<'a>(kind: Kind, value: Scalar<'a>) -> Scalar<'a>
-    ensures { scalar_data result ≡ value_of_integer kind (incremented (range_of kind) (integer_of (scalar_data value.entry))) }
+    ensures { scalar_data result ≡ value_of_integer kind
+        (incremented (range_of kind) (integer_of (scalar_data value.entry))) }
 {
     match (kind, value) {
         (Kind::UInt32, Scalar::U(number)) => {
@@ -129,7 +131,8 @@ pub fn next_integer<'a>(kind: Kind, value: Scalar<'a>) -> Scalar<'a>
 /// The same for any pair of kind and value.
 #[cold]
 fn next_in_range(kind: Kind, value: Scalar<'_>) -> Scalar<'static>
-    ensures { scalar_data result ≡ value_of_integer kind (incremented (range_of kind) (integer_of (scalar_data value.entry))) }
+    ensures { scalar_data result ≡ value_of_integer kind
+        (incremented (range_of kind) (integer_of (scalar_data value.entry))) }
 {
     let (low, high) = range_of(kind);
     let number = integer_of(value);

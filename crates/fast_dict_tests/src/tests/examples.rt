@@ -76,30 +76,16 @@ const HELD_FIVE: Previous<'static> = Assigned(Kind::Int32, I(5));
 const HELD_HIGH: Previous<'static> = Assigned(Kind::Decimal, HIGH);
 
 /// The operator, the kind and whether the field is optional, of a field without an initial value, and then its steps.
+#[rattlefmt::skip]
 const EXAMPLES: [(Operator, Kind, bool, &[Step]); 12] = [
     (
         Operator::Tail,
         Kind::Ascii,
         false,
         &[
-            (
-                Undefined,
-                true,
-                Sent::Value(Ascii(b"ABCDE")),
-                Kept(Ascii(b"ABCDE")),
-            ),
-            (
-                Assigned(Kind::Ascii, Ascii(b"ABCDE")),
-                true,
-                Sent::Value(Ascii(b"XY")),
-                Kept(Ascii(b"ABCXY")),
-            ),
-            (
-                Assigned(Kind::Ascii, Ascii(b"ABCXY")),
-                false,
-                Nothing,
-                Kept(Ascii(b"ABCXY")),
-            ),
+            (Undefined, true, Sent::Value(Ascii(b"ABCDE")), Kept(Ascii(b"ABCDE"))),
+            (Assigned(Kind::Ascii, Ascii(b"ABCDE")), true, Sent::Value(Ascii(b"XY")), Kept(Ascii(b"ABCXY"))),
+            (Assigned(Kind::Ascii, Ascii(b"ABCXY")), false, Nothing, Kept(Ascii(b"ABCXY"))),
         ],
     ),
     (
@@ -108,33 +94,13 @@ const EXAMPLES: [(Operator, Kind, bool, &[Step]); 12] = [
         false,
         &[
             (Undefined, true, TextDelta(0, b"GEH6"), Kept(Ascii(b"GEH6"))),
-            (
-                Assigned(Kind::Ascii, Ascii(b"GEH6")),
-                true,
-                TextDelta(2, b"M6"),
-                Kept(Ascii(b"GEM6")),
-            ),
-            (
-                Assigned(Kind::Ascii, Ascii(b"GEM6")),
-                true,
-                TextDelta(-1, b"ZZ"),
-                Kept(Ascii(b"ZZGEM6")),
-            ),
+            (Assigned(Kind::Ascii, Ascii(b"GEH6")), true, TextDelta(2, b"M6"), Kept(Ascii(b"GEM6"))),
+            (Assigned(Kind::Ascii, Ascii(b"GEM6")), true, TextDelta(-1, b"ZZ"), Kept(Ascii(b"ZZGEM6"))),
             (HELD_ZZGEM6, true, TextDelta(7, b""), Fault(Code::D7)),
             (HELD_ZZGEM6, true, TextDelta(-8, b""), Fault(Code::D7)),
             (HELD_ZZGEM6, true, TextDelta(-7, b"A"), Kept(Ascii(b"A"))),
-            (
-                Undefined,
-                true,
-                TextDelta(2_147_483_647, b""),
-                Fault(Code::D7),
-            ),
-            (
-                Undefined,
-                true,
-                TextDelta(-2_147_483_648, b""),
-                Fault(Code::D7),
-            ),
+            (Undefined, true, TextDelta(2_147_483_647, b""), Fault(Code::D7)),
+            (Undefined, true, TextDelta(-2_147_483_648, b""), Fault(Code::D7)),
         ],
     ),
     (
@@ -143,37 +109,17 @@ const EXAMPLES: [(Operator, Kind, bool, &[Step]); 12] = [
         false,
         &[
             (Undefined, true, Sent::Value(GREATEST_32), Kept(GREATEST_32)),
-            (
-                Assigned(Kind::UInt32, GREATEST_32),
-                false,
-                Nothing,
-                Kept(U(0)),
-            ),
+            (Assigned(Kind::UInt32, GREATEST_32), false, Nothing, Kept(U(0))),
             (Assigned(Kind::UInt32, U(0)), false, Nothing, Kept(U(1))),
         ],
     ),
-    (
-        Operator::Increment,
-        Kind::UInt64,
-        false,
-        &[(
-            Assigned(Kind::UInt64, U(18_446_744_073_709_551_615)),
-            false,
-            Nothing,
-            Kept(U(0)),
-        )],
-    ),
+    (Operator::Increment, Kind::UInt64, false, &[(Assigned(Kind::UInt64, U(18_446_744_073_709_551_615)), false, Nothing, Kept(U(0)))]),
     (
         Operator::Increment,
         Kind::Int32,
         false,
         &[
-            (
-                Assigned(Kind::Int32, I(2_147_483_647)),
-                false,
-                Nothing,
-                Kept(I(-2_147_483_648)),
-            ),
+            (Assigned(Kind::Int32, I(2_147_483_647)), false, Nothing, Kept(I(-2_147_483_648))),
             (Assigned(Kind::Int32, I(63)), false, Nothing, Kept(I(64))),
         ],
     ),
@@ -188,23 +134,8 @@ const EXAMPLES: [(Operator, Kind, bool, &[Step]); 12] = [
             (Undefined, false, Nothing, Absent(Empty)),
         ],
     ),
-    (
-        Operator::Copy,
-        Kind::UInt32,
-        false,
-        &[(Undefined, false, Nothing, Fault(Code::D5))],
-    ),
-    (
-        Operator::Copy,
-        Kind::Ascii,
-        false,
-        &[(
-            Assigned(Kind::UInt32, U(0)),
-            false,
-            Nothing,
-            Fault(Code::D4),
-        )],
-    ),
+    (Operator::Copy, Kind::UInt32, false, &[(Undefined, false, Nothing, Fault(Code::D5))]),
+    (Operator::Copy, Kind::Ascii, false, &[(Assigned(Kind::UInt32, U(0)), false, Nothing, Fault(Code::D4))]),
     (
         Operator::Delta,
         Kind::Int32,
@@ -213,24 +144,9 @@ const EXAMPLES: [(Operator, Kind, bool, &[Step]); 12] = [
             (Undefined, true, IntegerDelta(5), Kept(I(5))),
             (HELD_FIVE, true, Null, Absent(HELD_FIVE)),
             (HELD_FIVE, true, IntegerDelta(1), Kept(I(6))),
-            (
-                Undefined,
-                true,
-                IntegerDelta(590_295_810_358_705_651_710),
-                Fault(Code::D2),
-            ),
-            (
-                HELD_FIVE,
-                true,
-                IntegerDelta(2_147_483_643),
-                Fault(Code::D2),
-            ),
-            (
-                HELD_FIVE,
-                true,
-                IntegerDelta(2_147_483_642),
-                Kept(I(2_147_483_647)),
-            ),
+            (Undefined, true, IntegerDelta(590_295_810_358_705_651_710), Fault(Code::D2)),
+            (HELD_FIVE, true, IntegerDelta(2_147_483_643), Fault(Code::D2)),
+            (HELD_FIVE, true, IntegerDelta(2_147_483_642), Kept(I(2_147_483_647))),
             (Empty, true, Null, Absent(Empty)),
         ],
     ),
@@ -240,12 +156,7 @@ const EXAMPLES: [(Operator, Kind, bool, &[Step]); 12] = [
         false,
         &[
             (Undefined, true, Sent::Value(E_ACUTE), Passed(E_ACUTE)),
-            (
-                Undefined,
-                true,
-                Sent::Value(Unicode(b"\xC3\x28")),
-                Fault(Code::R2),
-            ),
+            (Undefined, true, Sent::Value(Unicode(b"\xC3\x28")), Fault(Code::R2)),
         ],
     ),
     (
@@ -255,12 +166,7 @@ const EXAMPLES: [(Operator, Kind, bool, &[Step]); 12] = [
         &[
             (Undefined, true, TextDelta(0, b"\xC3\xA9"), Kept(E_ACUTE)),
             (HELD_E_ACUTE, true, TextDelta(1, b""), Fault(Code::R2)),
-            (
-                HELD_E_ACUTE,
-                true,
-                TextDelta(1, b"\xA8"),
-                Kept(Unicode(b"\xC3\xA8")),
-            ),
+            (HELD_E_ACUTE, true, TextDelta(1, b"\xA8"), Kept(Unicode(b"\xC3\xA8"))),
         ],
     ),
     (
@@ -270,18 +176,8 @@ const EXAMPLES: [(Operator, Kind, bool, &[Step]); 12] = [
         &[
             (Undefined, true, DecimalDelta(63, 1), Kept(HIGH)),
             (Undefined, true, DecimalDelta(64, 1), Fault(Code::R1)),
-            (
-                HELD_HIGH,
-                true,
-                DecimalDelta(-1, 9_223_372_036_854_775_806),
-                Kept(LAST),
-            ),
-            (
-                HELD_HIGH,
-                true,
-                DecimalDelta(0, 9_223_372_036_854_775_807),
-                Fault(Code::R1),
-            ),
+            (HELD_HIGH, true, DecimalDelta(-1, 9_223_372_036_854_775_806), Kept(LAST)),
+            (HELD_HIGH, true, DecimalDelta(0, 9_223_372_036_854_775_807), Fault(Code::R1)),
             (HELD_HIGH, true, DecimalDelta(-127, 0), Fault(Code::R1)),
         ],
     ),

@@ -69,87 +69,40 @@ const GREATEST_32: Previous<'static> = Assigned(Kind::UInt32, U(4_294_967_295));
 const HUNDRED: Previous<'static> = Assigned(Kind::Int32, I(100));
 
 /// Fields, and what is sent of them.
+#[rattlefmt::skip]
 const FIELDS: [(Field, &[Case]); 12] = [
     (
         (Operator::Tail, Kind::Ascii, false, None),
         &[
-            (
-                Undefined,
-                Some(Ascii(b"ABCDE")),
-                Some((true, Sent::Value(Ascii(b"ABCDE")))),
-            ),
-            (
-                Assigned(Kind::Ascii, Ascii(b"ABCDE")),
-                Some(Ascii(b"ABCXY")),
-                Some((true, Sent::Value(Ascii(b"XY")))),
-            ),
-            (
-                Assigned(Kind::Ascii, Ascii(b"ABCXY")),
-                Some(Ascii(b"ABCXY")),
-                UNSENT,
-            ),
-            (
-                Assigned(Kind::Ascii, Ascii(b"ABCXY")),
-                Some(Ascii(b"AB")),
-                None,
-            ),
-            (
-                Assigned(Kind::Ascii, Ascii(b"ABC")),
-                Some(Ascii(b"ABCD")),
-                Some((true, Sent::Value(Ascii(b"ABCD")))),
-            ),
+            (Undefined, Some(Ascii(b"ABCDE")), Some((true, Sent::Value(Ascii(b"ABCDE"))))),
+            (Assigned(Kind::Ascii, Ascii(b"ABCDE")), Some(Ascii(b"ABCXY")), Some((true, Sent::Value(Ascii(b"XY"))))),
+            (Assigned(Kind::Ascii, Ascii(b"ABCXY")), Some(Ascii(b"ABCXY")), UNSENT),
+            (Assigned(Kind::Ascii, Ascii(b"ABCXY")), Some(Ascii(b"AB")), None),
+            (Assigned(Kind::Ascii, Ascii(b"ABC")), Some(Ascii(b"ABCD")), Some((true, Sent::Value(Ascii(b"ABCD"))))),
             (OTHER, Some(Ascii(b"ABC")), None),
         ],
     ),
     (
         (Operator::Tail, Kind::Ascii, true, Some(Ascii(b"ABC"))),
         &[
-            (
-                Empty,
-                Some(Ascii(b"ABC")),
-                Some((true, Sent::Value(Ascii(b"")))),
-            ),
+            (Empty, Some(Ascii(b"ABC")), Some((true, Sent::Value(Ascii(b""))))),
             (OTHER, None, NULL),
         ],
     ),
     (
         (Operator::Delta, Kind::Ascii, false, None),
         &[
-            (
-                Undefined,
-                Some(Ascii(b"GEH6")),
-                Some((true, TextDelta(0, b"GEH6"))),
-            ),
-            (
-                Assigned(Kind::Ascii, Ascii(b"GEH6")),
-                Some(Ascii(b"GEM6")),
-                Some((true, TextDelta(2, b"M6"))),
-            ),
-            (
-                Assigned(Kind::Ascii, Ascii(b"GEM6")),
-                Some(Ascii(b"ZZGEM6")),
-                Some((true, TextDelta(-1, b"ZZ"))),
-            ),
-            (
-                Assigned(Kind::Ascii, Ascii(b"XAB")),
-                Some(Ascii(b"AB")),
-                Some((true, TextDelta(-2, b""))),
-            ),
-            (
-                Assigned(Kind::Ascii, Ascii(b"AA")),
-                Some(Ascii(b"A")),
-                Some((true, TextDelta(1, b""))),
-            ),
+            (Undefined, Some(Ascii(b"GEH6")), Some((true, TextDelta(0, b"GEH6")))),
+            (Assigned(Kind::Ascii, Ascii(b"GEH6")), Some(Ascii(b"GEM6")), Some((true, TextDelta(2, b"M6")))),
+            (Assigned(Kind::Ascii, Ascii(b"GEM6")), Some(Ascii(b"ZZGEM6")), Some((true, TextDelta(-1, b"ZZ")))),
+            (Assigned(Kind::Ascii, Ascii(b"XAB")), Some(Ascii(b"AB")), Some((true, TextDelta(-2, b"")))),
+            (Assigned(Kind::Ascii, Ascii(b"AA")), Some(Ascii(b"A")), Some((true, TextDelta(1, b"")))),
             (Empty, Some(Ascii(b"A")), None),
         ],
     ),
     (
         (Operator::Delta, Kind::Unicode, false, None),
-        &[(
-            Assigned(Kind::Unicode, Unicode(b"\xC3\xA9")),
-            Some(Unicode(b"\xC3\xA8")),
-            Some((true, TextDelta(1, b"\xA8"))),
-        )],
+        &[(Assigned(Kind::Unicode, Unicode(b"\xC3\xA9")), Some(Unicode(b"\xC3\xA8")), Some((true, TextDelta(1, b"\xA8"))))],
     ),
     (
         (Operator::Increment, Kind::UInt32, false, None),
@@ -167,31 +120,12 @@ const FIELDS: [(Field, &[Case]); 12] = [
     ),
     (
         (Operator::Delta, Kind::Decimal, false, None),
-        &[(
-            Undefined,
-            Some(Scalar::Dec {
-                exponent: -1,
-                mantissa: 15,
-            }),
-            Some((true, Sent::DecimalDelta(-1, 15))),
-        )],
+        &[(Undefined, Some(Scalar::Dec { exponent: -1, mantissa: 15 }), Some((true, Sent::DecimalDelta(-1, 15))))],
     ),
-    (
-        (Operator::Constant, Kind::UInt32, false, SEVEN),
-        &[(Undefined, SEVEN, SET), (Undefined, Some(U(8)), None)],
-    ),
-    (
-        (Operator::Constant, Kind::UInt32, true, SEVEN),
-        &[(Undefined, SEVEN, SET), (Undefined, None, UNSENT)],
-    ),
-    (
-        (Operator::Default, Kind::UInt32, true, SEVEN),
-        &[(Undefined, SEVEN, UNSENT), (Undefined, None, NULL)],
-    ),
-    (
-        (Operator::Copy, Kind::Int32, true, None),
-        &[(Undefined, None, UNSENT)],
-    ),
+    ((Operator::Constant, Kind::UInt32, false, SEVEN), &[(Undefined, SEVEN, SET), (Undefined, Some(U(8)), None)]),
+    ((Operator::Constant, Kind::UInt32, true, SEVEN), &[(Undefined, SEVEN, SET), (Undefined, None, UNSENT)]),
+    ((Operator::Default, Kind::UInt32, true, SEVEN), &[(Undefined, SEVEN, UNSENT), (Undefined, None, NULL)]),
+    ((Operator::Copy, Kind::Int32, true, None), &[(Undefined, None, UNSENT)]),
     (
         (Operator::None, Kind::UInt32, true, None),
         &[

@@ -3,10 +3,9 @@
 use super::LENIENT;
 use super::messages::message_of;
 use super::rows::is_hex;
-use super::worked::WORKED;
 use fast_decoder::MakeError;
 use fast_encoder::{EncodeFault, Encoder};
-use fast_template::Templates;
+use fast_template::{Templates, VECTORS};
 use fast_value::Message;
 use std::alloc::Global;
 use std::test::Fail;
@@ -55,7 +54,7 @@ const ENCODED: [(&str, &str); 4] = [
 #[test]
 fn a_refused_growth_changes_nothing(rt: HostRuntime) -> Result<(), Fail> {
     let alloc = rt.alloc();
-    let Ok(set) = Templates::read(alloc, WORKED) else {
+    let Ok(set) = Templates::read(alloc, VECTORS) else {
         return Ok(());
     };
     let mut encoder = made(alloc, &set)?;

@@ -1,10 +1,9 @@
 //! The limits of an encoder, and messages that come near them.
 
-use super::worked::WORKED;
 use super::{LENIENT, expect_rows};
 use fast_decoder::MakeError;
 use fast_encoder::{EncodeFault, Encoder};
-use fast_template::Templates;
+use fast_template::{Templates, VECTORS};
 use fast_value::Limits;
 use std::alloc::Global;
 use std::test::Fail;
@@ -81,7 +80,7 @@ const TEXTS: &[&str] = &[
 
 #[test]
 fn texts(rt: HostRuntime) -> Result<(), Fail> {
-    expect_rows(&rt, rt.alloc(), WORKED, TEXTS)
+    expect_rows(&rt, rt.alloc(), VECTORS, TEXTS)
 }
 
 /// A sequence of sequences; and one of a length that is not sent, with another behind it in a group.

@@ -1,33 +1,142 @@
-//! What is said of a stream, by what was read and what was shown.
+//! What is said of a stream, by what was read of it.
 
-use fast_explain::{Kept, Note, Seen, explain_stream};
+use fast_explain::{Kept, Note, explain_stream};
 use fast_stream::FaultCode;
-use fast_text::{FromBytes, Source, Target, ToBytes};
-use fast_value::Code;
+use fast_template::Templates;
+use fast_text::{FromBytes, Source};
+use fast_value::{Code, Limits};
+use std::alloc::Global;
 use std::test::Fail;
 
-/// What is said at a place of an input that was read in pieces of five bytes, once these lines were shown.
-fn told(input: &[u8], is_hex: bool, lines: &str, code: Option<FaultCode>, place: u64) -> Note {
-    let mut reader = Kept::new(FromBytes::new(input), true, is_hex);
+/// Templates with a field in each sort of place. The nodes of T are 0 to 9, those of U 10 to 20.
+const SET: &str = r#"
+[[template]]
+name = "T"
+id = 1
+[[template.fields]]
+kind = "uInt32"
+name = "a"
+[[template.fields]]
+kind = "uInt32"
+name = "b"
+optional = true
+[[template.fields]]
+kind = "uInt32"
+name = "c"
+op = "copy"
+[[template.fields]]
+kind = "group"
+name = "g"
+optional = true
+fields = [{kind="uInt32", name="d", op="increment"}, {kind="ascii", name="e"}]
+[[template.fields]]
+kind = "sequence"
+name = "s"
+[[template.fields.fields]]
+kind = "group"
+name = "h"
+fields = [{kind="decimal", name="p", exponent={op="copy"}, mantissa={op="delta"}}]
+[[template.fields.fields]]
+kind = "unicode"
+name = "u"
+optional = true
+op = "tail"
+[[template]]
+name = "U"
+id = 2
+fields = [{kind="ref", name="T"}, {kind="bytes", name="v"}]
+"#;
+
+/// Limits that short streams can pass.
+fn limits(strict: bool) -> Limits {
+    Limits {
+        strict,
+        max_text: 16,
+        max_elements: 2,
+        max_total: 2,
+    }
+}
+
+/// What is said at a place of an input that was read in pieces of five bytes.
+fn told(
+    alloc: Global,
+    input: &[u8],
+    is_hex: bool,
+    code: Option<FaultCode>,
+    place: u64,
+) -> Result<Note, Fail> {
+    let strict = matches!(
+        code,
+        Some(FaultCode::Stream(Code::R6 | Code::R7 | Code::R8))
+    );
+    let templates = Templates::read(alloc, SET)?;
+    let source = FromBytes::new(input);
+    let mut reader = Kept::new(alloc, source, &templates, limits(strict), is_hex);
     let mut piece = [0; 5];
     for _read in 0..input.len() {
         let _ = reader.read(&mut piece);
     }
-    let mut cells = [0; 256];
-    let mut writer = Seen::new(ToBytes::new(&mut cells));
-    let _ = writer.write_all(lines.as_bytes());
-    explain_stream(code, place, &reader, &writer)
+    Ok(explain_stream(code, place, &reader))
+}
+
+/// The digits of a stream, the code of its fault if it is not cut, how many bytes decide it, and the field that is told.
+type Row = (&'static str, Option<Code>, u64, &'static str);
+
+#[rattlefmt::skip]
+static ROWS: [Row; 28] = [
+    ("", None, 0, "the presence map or the template identifier of a message"),
+    ("40", None, 1, "the presence map or the template identifier of a message"),
+    ("C0", None, 1, "the presence map or the template identifier of a message"),
+    ("4080", Some(Code::R7), 2, "the presence map of a message"),
+    ("408181", Some(Code::R8), 3, "the presence map of a message"),
+    ("C0FF", Some(Code::D9), 2, "the template identifier of a message"),
+    ("C00081", Some(Code::R6), 3, "the template identifier of a message"),
+    ("C01000000080", Some(Code::D2), 6, "the template identifier of a message"),
+    ("E081", None, 2, "template \"T\", field 0 \"a\""),
+    ("E0811000000080", Some(Code::D2), 7, "template \"T\", field 0 \"a\""),
+    ("E08181801000000080", Some(Code::D2), 9, "template \"T\", field 2 \"c\""),
+    ("C0818182", Some(Code::D5), 4, "template \"T\", field 2 \"c\""),
+    ("F081818083", None, 5, "template \"T\", group 3 \"g\", its presence map"),
+    ("F0818180834080", Some(Code::R7), 7, "template \"T\", group 3 \"g\", its presence map"),
+    ("F081818083C0810041", Some(Code::R9), 8, "template \"T\", group 3 \"g\", field 5 \"e\""),
+    ("E08181808383", Some(Code::L2), 6, "template \"T\", sequence 6 \"s\""),
+    ("E081818083808083C0FF", Some(Code::L2), 10, "template \"T\", sequence 6 \"s\""),
+    ("E08281808383", Some(Code::L2), 6, "template \"U\", sequence 16 \"s\""),
+    ("E0818180838280C0808180808140", None, 14, "the presence map or the template identifier of a message"),
+    ("E08281808381", None, 6, "template \"U\", sequence 16 \"s\", its presence map"),
+    ("E081818083814080", Some(Code::R7), 8, "template \"T\", sequence 6 \"s\", its presence map"),
+    ("E08181808381C0", None, 7, "template \"T\", sequence 6 \"s\", group 7 \"h\", its presence map"),
+    ("E08181808381C04081", Some(Code::R8), 9, "template \"T\", sequence 6 \"s\", group 7 \"h\", its presence map"),
+    ("E08181808381C0C000C0", Some(Code::R1), 10, "template \"T\", sequence 6 \"s\", group 7 \"h\", field 8 \"p\""),
+    ("E08181808381C0C080", None, 9, "template \"T\", sequence 6 \"s\", group 7 \"h\", field 8 \"p\""),
+    ("E08181808381C0C0808182FF", Some(Code::R2), 12, "template \"T\", sequence 6 \"s\", field 9 \"u\""),
+    ("E0828180838091", Some(Code::L1), 7, "template \"U\", field 20 \"v\""),
+    ("E08181808380C0FF", Some(Code::D9), 8, "the template identifier of a message"),
+];
+
+#[test]
+fn fields_at_fault_are_told(rt: HostRuntime) -> Result<(), Fail> {
+    for (digits, code, place, wanted) in ROWS.iter() {
+        let code = code.map(FaultCode::Stream);
+        let note = told(rt.alloc(), digits.as_bytes(), true, code, *place)?;
+        let said = note.as_str().lines().nth(1).unwrap_or("");
+        assert!(rt;
+            said.strip_prefix("  ") == Some(*wanted),
+            "{digits}: {}",
+            note.as_str()
+        );
+    }
+    Ok(())
 }
 
 #[test]
 fn faults_are_told_with_the_bytes_around(rt: HostRuntime) -> Result<(), Fail> {
-    let input = b"\xE0\x81\x41\xC2\x00\x01\x02\x03\x04\x05\x06\x07\x08\x09\x0A";
-    let lines = "message T\nfield 2 px i -3\nfault D2 at 5\n";
+    let input = b"\xE0\x81\x10\x00\x00\x00\x80\x01\x02\x03\x04\x05\x06\x07\x08\x09\x0A";
     let code = Some(FaultCode::Stream(Code::D2));
-    let note = told(input, false, lines, code, 5);
+    let note = told(rt.alloc(), input, false, code, 7)?;
     let wanted = "  an integer lies outside its type, or has ten bytes and no stop bit
-  template \"T\", behind field 2 px
-  offset 0x4: E0 81 41 C2 [00] 01 02 03 04 05 06 07 08
+  template \"T\", field 0 \"a\"
+  offset 0x6: E0 81 10 00 00 00 [80] 01 02 03 04 05 06 07 08
 ";
     assert!(rt; note.as_str() == wanted, "{}", note.as_str());
     Ok(())
@@ -35,22 +144,10 @@ fn faults_are_told_with_the_bytes_around(rt: HostRuntime) -> Result<(), Fail> {
 
 #[test]
 fn digits_are_told_as_bytes(rt: HostRuntime) -> Result<(), Fail> {
-    let note = told(b"c 0\n41 C2 0", true, "message T\n", None, 3);
+    let note = told(rt.alloc(), b"e 0\n81 C2 0", true, None, 3)?;
     let wanted = "  the stream ends inside a message
-  template \"T\", before its first value
-  offset 0x2: C0 41 [C2] 0
-";
-    assert!(rt; note.as_str() == wanted, "{}", note.as_str());
-    Ok(())
-}
-
-#[test]
-fn a_head_has_no_template(rt: HostRuntime) -> Result<(), Fail> {
-    let code = Some(FaultCode::Stream(Code::D9));
-    let note = told(b"\xC0\xFF", false, "message T\nend message\n", code, 2);
-    let wanted = "  no template has the identifier
-  at the head of a message
-  offset 0x1: C0 [FF]
+  template \"T\", field 1 \"b\"
+  offset 0x2: E0 81 [C2] 0
 ";
     assert!(rt; note.as_str() == wanted, "{}", note.as_str());
     Ok(())
@@ -60,32 +157,20 @@ fn a_head_has_no_template(rt: HostRuntime) -> Result<(), Fail> {
 fn long_inputs_keep_their_offsets(rt: HostRuntime) -> Result<(), Fail> {
     let mut input = vec![in rt.alloc(); 0x80; 20000]?;
     input.push(0xAB)?;
-    let note = told(&input, false, "", None, 20001);
-    let wanted = "  the stream ends inside a message
-  at the head of a message
-  offset 0x4e20: 80 80 80 80 80 80 80 80 [AB]
-";
-    assert!(rt; note.as_str() == wanted, "{}", note.as_str());
+    let note = told(rt.alloc(), &input, false, None, 20001)?;
+    assert!(rt;
+        note.as_str()
+            .ends_with("  offset 0x4e20: 80 80 80 80 80 80 80 80 [AB]\n"),
+        "{}",
+        note.as_str()
+    );
     let digits = vec![in rt.alloc(); b'7'; 20001]?;
-    let note = told(&digits, true, "", None, 10000);
-    let wanted = "  the stream ends inside a message
-  at the head of a message
-  offset 0x270f: 77 77 77 77 77 77 77 77 [77] 7
-";
-    assert!(rt; note.as_str() == wanted, "{}", note.as_str());
-    Ok(())
-}
-
-#[test]
-fn nothing_is_kept_unasked(rt: HostRuntime) -> Result<(), Fail> {
-    let mut reader = Kept::new(FromBytes::new(b"\xC0\x81"), false, false);
-    let mut piece = [0; 2];
-    let Ok(count) = reader.read(&mut piece) else {
-        return Err(Fail::from("the read fails"));
-    };
-    assert!(rt; count == 2 && piece == [0xC0, 0x81]);
-    let mut note = Note::new();
-    reader.tell_bytes(2, &mut note);
-    assert!(rt; note.as_str() == "  offset 0x1:\n", "{}", note.as_str());
+    let note = told(rt.alloc(), &digits, true, None, 10000)?;
+    assert!(rt;
+        note.as_str()
+            .ends_with("  offset 0x270f: 77 77 77 77 77 77 77 77 [77] 7\n"),
+        "{}",
+        note.as_str()
+    );
     Ok(())
 }

@@ -8,6 +8,7 @@ use std::test::Fail;
 /// What is wrong, and texts with the number of the line.
 type Rows = &'static [(LineFault, &'static [(u64, &'static str)])];
 
+#[rattlefmt::skip]
 const FAULTS: Rows = &[
     (
         Form,
@@ -29,26 +30,11 @@ const FAULTS: Rows = &[
             (2, "message Order\nfield 4294967296 size u 5"),
             (3, "message Order\nfield 0 size u 5\nfield 1 shift i -0"),
             (3, "message Order\nfield 0 size u 5\nfield 2 price d 5"),
-            (
-                4,
-                "message Order\nfield 0 size u 5\ngroup 3 party\nfield 4 key b 01FF",
-            ),
-            (
-                4,
-                "message Order\nfield 0 size u 5\ngroup 3 party\nfield 4 key b 012",
-            ),
-            (
-                5,
-                "message Order\nfield 0 size u 5\ngroup 3 party\nfield 4 key b \nfield 5 desk a \"A",
-            ),
-            (
-                5,
-                "message Order\nfield 0 size u 5\ngroup 3 party\nfield 4 key b \nfield 5 desk a \"\\x41\"",
-            ),
-            (
-                3,
-                "message Order\nfield 0 size u 5\nsequence 6 legs 4294967296",
-            ),
+            (4, "message Order\nfield 0 size u 5\ngroup 3 party\nfield 4 key b 01FF"),
+            (4, "message Order\nfield 0 size u 5\ngroup 3 party\nfield 4 key b 012"),
+            (5, "message Order\nfield 0 size u 5\ngroup 3 party\nfield 4 key b \nfield 5 desk a \"A"),
+            (5, "message Order\nfield 0 size u 5\ngroup 3 party\nfield 4 key b \nfield 5 desk a \"\\x41\""),
+            (3, "message Order\nfield 0 size u 5\nsequence 6 legs 4294967296"),
             (3, "message Order\nfield 0 size u 5\nsequence 6 legs 00"),
             // where the line is out of place too
             (2, "message Beat\nfield 0 size u 05"),
@@ -76,22 +62,10 @@ const FAULTS: Rows = &[
             (2, "message Order\nfield 9 size u 5"),
             (2, "message Order\nend group"),
             (3, "message Order\nfield 0 size u 5\nfield 0 size u 5"),
-            (
-                4,
-                "message Order\nfield 0 size u 5\nfield 2 price d 0e0\nfield 1 shift i 3",
-            ),
-            (
-                4,
-                "message Order\nfield 0 size u 5\ngroup 3 party\nend message",
-            ),
-            (
-                4,
-                "message Order\nfield 0 size u 5\nsequence 6 legs 1\nfield 7 venue s \"\"",
-            ),
-            (
-                5,
-                "message Order\nfield 0 size u 5\nsequence 6 legs 1\nelement\nend sequence",
-            ),
+            (4, "message Order\nfield 0 size u 5\nfield 2 price d 0e0\nfield 1 shift i 3"),
+            (4, "message Order\nfield 0 size u 5\ngroup 3 party\nend message"),
+            (4, "message Order\nfield 0 size u 5\nsequence 6 legs 1\nfield 7 venue s \"\""),
+            (5, "message Order\nfield 0 size u 5\nsequence 6 legs 1\nelement\nend sequence"),
         ],
     ),
     (
@@ -100,29 +74,14 @@ const FAULTS: Rows = &[
             (2, "message Order\nfield 0 size i 5"),
             (2, "message Order\nfield 0 size u 4294967296"),
             (2, "message Order\nfield 0 size u 18446744073709551616"),
-            (
-                3,
-                "message Order\nfield 0 size u 5\nfield 1 shift i 9223372036854775808",
-            ),
+            (3, "message Order\nfield 0 size u 5\nfield 1 shift i 9223372036854775808"),
             (3, "message Order\nfield 0 size u 5\nfield 2 price d 1e64"),
-            (
-                3,
-                "message Order\nfield 0 size u 5\nfield 2 price d 1e-99999999999",
-            ),
-            (
-                5,
-                "message Order\nfield 0 size u 5\ngroup 3 party\nfield 4 key b 00\nfield 5 desk a \"é\"",
-            ),
-            (
-                4,
-                "message Order\nfield 0 size u 5\ngroup 3 party\nfield 4 key s \"\"",
-            ),
+            (3, "message Order\nfield 0 size u 5\nfield 2 price d 1e-99999999999"),
+            (5, "message Order\nfield 0 size u 5\ngroup 3 party\nfield 4 key b 00\nfield 5 desk a \"é\""),
+            (4, "message Order\nfield 0 size u 5\ngroup 3 party\nfield 4 key s \"\""),
             // where a mandatory field is left out too
             (2, "message Order\nfield 1 shift u 3"),
-            (
-                4,
-                "message Order\nfield 0 size u 5\ngroup 3 party\nfield 5 desk s \"\"",
-            ),
+            (4, "message Order\nfield 0 size u 5\ngroup 3 party\nfield 5 desk s \"\""),
             // before the next line, which is of no form
             (2, "message Order\nfield 0 size i 5\n?"),
         ],
@@ -134,39 +93,18 @@ const FAULTS: Rows = &[
             (2, "message Order\nfield 1 shift i 3"),
             (2, "message Order\nsequence 6 legs 1"),
             (3, "message Order\nfield 0 size u 5\nend message"),
-            (
-                4,
-                "message Order\nfield 0 size u 5\ngroup 3 party\nend group",
-            ),
-            (
-                5,
-                "message Order\nfield 0 size u 5\nsequence 6 legs 1\nelement\nfield 8 lots u 3",
-            ),
-            (
-                5,
-                "message Order\nfield 0 size u 5\nsequence 6 legs 1\nelement\nend element",
-            ),
+            (4, "message Order\nfield 0 size u 5\ngroup 3 party\nend group"),
+            (5, "message Order\nfield 0 size u 5\nsequence 6 legs 1\nelement\nfield 8 lots u 3"),
+            (5, "message Order\nfield 0 size u 5\nsequence 6 legs 1\nelement\nend element"),
         ],
     ),
     (
         WrongCount,
         &[
-            (
-                4,
-                "message Order\nfield 0 size u 5\nsequence 6 legs 0\nelement",
-            ),
-            (
-                4,
-                "message Order\nfield 0 size u 5\nsequence 6 legs 4294967295\nend sequence",
-            ),
-            (
-                7,
-                "message Order\nfield 0 size u 5\nsequence 6 legs 2\nelement\nfield 7 venue s \"\"\nend element\nend sequence",
-            ),
-            (
-                7,
-                "message Order\nfield 0 size u 5\nsequence 6 legs 1\nelement\nfield 7 venue s \"\"\nend element\nelement",
-            ),
+            (4, "message Order\nfield 0 size u 5\nsequence 6 legs 0\nelement"),
+            (4, "message Order\nfield 0 size u 5\nsequence 6 legs 4294967295\nend sequence"),
+            (7, "message Order\nfield 0 size u 5\nsequence 6 legs 2\nelement\nfield 7 venue s \"\"\nend element\nend sequence"),
+            (7, "message Order\nfield 0 size u 5\nsequence 6 legs 1\nelement\nfield 7 venue s \"\"\nend element\nelement"),
         ],
     ),
     (
@@ -177,10 +115,7 @@ const FAULTS: Rows = &[
             (4, "message Beat\nend message\nmessage Beat\n"),
             (2, "message Order"),
             (4, "message Order\nfield 0 size u 5\ngroup 3 party\n"),
-            (
-                4,
-                "message Order\nfield 0 size u 5\nsequence 6 legs 4294967295",
-            ),
+            (4, "message Order\nfield 0 size u 5\nsequence 6 legs 4294967295"),
         ],
     ),
 ];
@@ -206,12 +141,24 @@ fn the_first_line_at_fault_is_named(rt: HostRuntime) -> Result<(), Fail> {
 fn a_line_that_is_not_utf8_is_of_no_form(rt: HostRuntime) -> Result<(), Fail> {
     let alloc = rt.alloc();
     let set = set_of(alloc)?;
-    let answer = count_of(alloc, &set, b"message Beat\nend message\nmessage \xff\n");
-    let want = TextFault::BadLine {
-        line: 3,
-        kind: Form,
-    };
-    assert!(rt; answer == Err(want));
+    for (line, kind, text) in [
+        (
+            3,
+            Form,
+            b"message Beat\nend message\nmessage \xff\n".as_slice(),
+        ),
+        // a fault before it is told first
+        (
+            1,
+            UnknownTemplate,
+            b"message Bee\nend message\nmessage \xff\n".as_slice(),
+        ),
+        (2, Form, b"message Beat\nend\nmessage \xff\n".as_slice()),
+    ] {
+        let answer = count_of(alloc, &set, text);
+        let want = TextFault::BadLine { line, kind };
+        assert!(rt; answer == Err(want));
+    }
     Ok(())
 }
 

@@ -1,90 +1,10 @@
 //! Sets that are read: their numbers, entries and limits.
 
 use super::{Faults, expect_faults, finds, set_of};
-use fast_template::{FieldInstruction, Operator, Shape, StaticCode, Templates};
+use fast_template::{FieldInstruction, Operator, Shape, StaticCode, Templates, VECTORS};
 use fast_value::Value;
 use std::alloc::{AllocError, Global};
 use std::test::Fail;
-
-/// A set with an operator of each kind, of 19 templates.
-const WORKED: &str = r#"
-[[template]]
-name = "T1"
-id = 1
-fields = [{kind="uInt32", name="x"}]
-[[template]]
-name = "T2"
-id = 2
-fields = [{kind="sequence", name="s", fields=[{kind="uInt32", name="c", op="constant", value="7"}]}]
-[[template]]
-name = "T3"
-id = 3
-fields = [{kind="ascii", name="t", op="tail"}]
-[[template]]
-name = "T4"
-id = 4
-fields = [{kind="ascii", name="d", op="delta"}]
-[[template]]
-name = "T5"
-id = 5
-fields = [{kind="uInt32", name="n", op="increment"}]
-[[template]]
-name = "T6"
-id = 6
-fields = [{kind="uInt32", name="x", optional=true, op="copy"}]
-[[template]]
-name = "T7"
-id = 7
-fields = [{kind="decimal", name="p", optional=true, exponent={op="copy"}, mantissa={op="copy"}}, {kind="uInt32", name="y", op="copy"}]
-[[template]]
-name = "T8"
-id = 8
-fields = [{kind="unicode", name="u"}]
-[[template]]
-name = "T9"
-id = 9
-reset = true
-[[template]]
-name = "T10"
-id = 10
-fields = [{kind="uInt32", name="z", op="copy"}]
-[[template]]
-name = "T11"
-id = 11
-fields = [{kind="ascii", name="w", op="copy", key="x"}]
-[[template]]
-name = "T12"
-id = 12
-fields = [{kind="int64", name="i"}]
-[[template]]
-name = "T13"
-id = 13
-fields = [{kind="uInt32", name="o", optional=true}]
-[[template]]
-name = "T14"
-id = 14
-fields = [{kind="int64", name="q", optional=true}]
-[[template]]
-name = "T15"
-id = 15
-fields = [{kind="ref", name="T1"}, {kind="group", name="g", optional=true, fields=[{kind="bytes", name="b"}]}, {kind="sequence", name="legs", optional=true, fields=[{kind="ascii", name="sym", op="copy"}, {kind="int32", name="px", op="delta"}]}]
-[[template]]
-name = "T16"
-id = 16
-fields = [{kind="int32", name="v", optional=true, op="delta"}]
-[[template]]
-name = "T17"
-id = 17
-fields = [{kind="unicode", name="e", op="delta"}]
-[[template]]
-name = "T18"
-id = 18
-fields = [{kind="decimal", name="a"}, {kind="decimal", name="b", optional=true}]
-[[template]]
-name = "T19"
-id = 19
-fields = [{kind="ascii", name="r", optional=true}]
-"#;
 
 /// The set of a text, node by node: the name, and then what each value has: `?` if it may be absent, and its entry.
 fn spelled(alloc: Global, set: &Templates) -> Result<String, AllocError> {
@@ -151,18 +71,18 @@ fn is_seven(set: &Templates, n: u32) -> bool {
         )
 }
 
-const WORKED_SPELLED: &str =
+const VECTORS_SPELLED: &str =
     "x -; s - { 2 }; c -; t 1; d 2; n 3; x ?4; p ?5 6; y 7; u -; z 8; w 4; i -; o ?-; q ?-; x -; g ?{ 17 }; b -; legs ?- { 19 20 }; sym 9; px 10; v ?11; e 12; a -; b ?-; r ?-; ";
 
 #[test]
 fn the_worked_set_has_its_numbers(rt: HostRuntime) -> Result<(), Fail> {
-    let set = set_of(rt.alloc(), WORKED)?;
+    let set = set_of(rt.alloc(), VECTORS)?;
     let ids = [(15, Some(14)), (0, None)];
     let names = [("T19", Some(18)), ("T", None)];
     let has_numbers = finds(&set, 19, &ids, &names) && set.nodes() == 26 && set.entries() == 13;
     assert!(rt; has_numbers);
     let text = spelled(rt.alloc(), &set)?;
-    assert!(rt; text.as_str() == WORKED_SPELLED, "{text}");
+    assert!(rt; text.as_str() == VECTORS_SPELLED, "{text}");
     let has_parts = is_template(&set, 14, &[15, 16, 18], false)
         && is_template(&set, 8, &[], true)
         && is_seven(&set, 2);
@@ -230,22 +150,14 @@ const ENOUGH_BITS: Faults = &[(
 )];
 
 /// Behind one bit too many: earlier passes come first.
+#[rattlefmt::skip]
 const TOO_MANY_BITS: Faults = &[
     (Some((StaticCode::C5, Some(0))), &[""]),
     // a reference to itself, and one to nothing
-    (
-        Some((StaticCode::D8, Some(1))),
-        &["[[template]]\nname = 'B'\nfields = [{kind='ref', name='B'}, {kind='ref', name='X'}]"],
-    ),
+    (Some((StaticCode::D8, Some(1))), &["[[template]]\nname = 'B'\nfields = [{kind='ref', name='B'}, {kind='ref', name='X'}]"]),
     // a reference to itself
-    (
-        Some((StaticCode::C3, Some(1))),
-        &["[[template]]\nname = 'B'\nfields = [{kind='ref', name='B'}]"],
-    ),
-    (
-        Some((StaticCode::C1, Some(1))),
-        &["[[template]]\nname = 'A'"],
-    ),
+    (Some((StaticCode::C3, Some(1))), &["[[template]]\nname = 'B'\nfields = [{kind='ref', name='B'}]"]),
+    (Some((StaticCode::C1, Some(1))), &["[[template]]\nname = 'A'"]),
     // 65 times as many nodes
     (
         Some((StaticCode::C6, Some(1))),

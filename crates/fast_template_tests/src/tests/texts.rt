@@ -73,6 +73,7 @@ const KEYS: Faults = &[(
 )];
 
 /// Fields of the first template: operators and initial values.
+#[rattlefmt::skip]
 const FIELDS: Faults = &[
     (
         Some((S2, Some(0))),
@@ -116,10 +117,7 @@ const FIELDS: Faults = &[
             "{kind='sequence', name='g', fields=[{kind='ref', name='AA'}]}",
         ],
     ),
-    (
-        None,
-        &["{kind='uInt32', name='x', op='default', optional=true}"],
-    ),
+    (None, &["{kind='uInt32', name='x', op='default', optional=true}"]),
 ];
 
 /// Fields of the first template that have two codes: the first in the order of the instructions is told. Within one instruction an
@@ -171,17 +169,12 @@ const TWO_CODES: Faults = &[
 ];
 
 /// Behind a template with faults of three passes: earlier passes come first.
+#[rattlefmt::skip]
 const REST: Faults = &[
     (Some((C1, Some(1))), &["[[template]]\nname='A'\nid=1"]),
     (Some((C2, Some(1))), &["[[template]]\nname='B'\nid=1"]),
     (Some((S4, Some(0))), &["[[template]]\nname='B'"]),
-    (
-        Some((S1, Some(1))),
-        &[
-            "[[template]]\nname='B'\nid='1'",
-            "[[template]]\nname='B'\nfields=1\n[[template]]\nname='A'",
-        ],
-    ),
+    (Some((S1, Some(1))), &["[[template]]\nname='B'\nid='1'", "[[template]]\nname='B'\nfields=1\n[[template]]\nname='A'"]),
 ];
 
 #[test]

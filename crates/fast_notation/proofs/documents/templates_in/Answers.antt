@@ -1,7 +1,9 @@
-use Rattle.std.proofs.Common.{◌<◌, ℕ, get_or, ◌≡◌, ◌+◌, ◌++◌, ◌∷◌, [], List, map, drop, sym, ap, ◌∙◌, Some, Err}
+use Rattle.std.proofs.Common.{◌<◌, ◌≢◌, ℕ, get_or, get_or-set_other, ◌≡◌, ◌+◌, ◌++◌, ◌∷◌, [], List, map, drop, sym, ap, ◌∙◌, Some, Err, arith}
 use Rattle.std.specs.Prelude.{IsSome}
+use Rattle.std.proofs.lemmas.List.{length-set}
 use Rattle.toml.specs.Data.{Data, get_item}
 use Rattle.toml.specs.View.{view, items_view}
+use Rattle.toml.specs.declared.value.Value.{Value}
 use Rattle.toml.proofs.Views.{get_item_within}
 use Rattle.fast_notation.specs.Reading.{template_in, all_templates}
 use Rattle.fast_notation.specs.WrittenSets.{written_data}
@@ -11,20 +13,29 @@ use Rattle.fast_notation.proofs.documents.templates_in.Goals as goal
 
 pub loop-k-preserved : goal.loop-k-preserved
 loop-k-preserved c =
-    let ts = items_view c.args.items.now in
-    let found = get_item_within c.args.items.now c.loop-k.k c.index-items-k.result c.loop-k-test.true in
+    let k = c.loop-k.k in
+    let vs = c.args.items.now in
+    let d = c.index-items-k.result in
+    let found = get_item_within vs k d c.loop-k-test.true in
+    let at_k : c.replace-item.result ≡ get_or vs k d = c.replace-item.ensures.value ∙ c.loop-k.invariant.left k d (omega arith) in
     let pushed : c.push.new.self.items ≡ c.loop-k.templates.items ++ c.in-Ok.template ∷ [] = c.in-Ok-push.ensures.items in
-    let read = rw c.index-items-k.is at c.in-Ok.ensures.template in
+    let read = ap (λ (v : Value). template_in (view v)) (sym at_k) ∙ c.in-Ok.ensures.template in
     record {
-      all = ap (λ (ws : List WrittenTemplate). front (map written_data ws) (all_templates (items_view (drop (c.loop-k.k + 1) c.args.items.now)))) pushed
-          ∙ front_more c.loop-k.templates.items c.in-Ok.template c.args.items.now c.loop-k.k c.index-items-k.result (all_templates ts) c.loop-k-test.true read c.loop-k.invariant.all;
-      read = read_more ts c.loop-k.k (view (get_or c.args.items.now c.loop-k.k c.index-items-k.result)) (written_data c.in-Ok.template) (sym found) read c.loop-k.invariant.read;
+      all = ap (λ (ws : List WrittenTemplate). front (map written_data ws) (all_templates (items_view (drop (k + 1) vs)))) pushed
+          ∙ front_more c.loop-k.templates.items c.in-Ok.template vs k d (all_templates (items_view vs)) c.loop-k-test.true read c.loop-k.invariant.all;
+      read = read_more (items_view vs) k (view (get_or vs k d)) (written_data c.in-Ok.template) (sym found) read c.loop-k.invariant.read;
+      left = λ j v below. let ne : j ≢ k = omega (arith, below) in rw get_or-set_other (c.loop-k.invariant.left j v (omega (arith, below)));
+      count = length-set c.loop-k.items k c.replace-item.new.dest ∙ c.loop-k.invariant.count;
     }
 
 pub returns-in-Err-clause-fault : goal.returns-in-Err-clause-fault
 returns-in-Err-clause-fault c =
-    let found = ap (λ v. Some (view v)) c.index-items-k.is ∙ get_item_within c.args.items.now c.loop-k.k c.index-items-k.result c.loop-k-test.true in
-    unread_fault c.in-Err.fault c.fault_at.result (items_view c.args.items.now) c.loop-k.k (view c.index-items-k.result) c.fault_at.ensures.shape c.fault_at.ensures.memory (sym found)
+    let k = c.loop-k.k in
+    let vs = c.args.items.now in
+    let d = c.index-items-k.result in
+    let at_k : c.replace-item.result ≡ get_or vs k d = c.replace-item.ensures.value ∙ c.loop-k.invariant.left k d (omega arith) in
+    let found = ap (λ (v : Value). Some (view v)) at_k ∙ get_item_within vs k d c.loop-k-test.true in
+    unread_fault c.in-Err.fault c.fault_at.result (items_view vs) k (view c.replace-item.result) c.fault_at.ensures.shape c.fault_at.ensures.memory (sym found)
     (λ e. c.in-Err.ensures.shape (ap Err e))
 
 pub returns-in-Err-clause-first : goal.returns-in-Err-clause-first

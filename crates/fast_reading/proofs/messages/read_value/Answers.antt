@@ -1,6 +1,7 @@
 use Rattle.std.proofs.Common.{refl, sym, subst}
 use Rattle.std.specs.Prelude.{IsSome, Some}
 use Rattle.std.proofs.lemmas.Result.{err_from_is_err_and}
+use Rattle.std.proofs.lemmas.Str.{IsUtf8-had}
 use Rattle.fast_value.specs.declared.messages.Item.TheVariants as V
 use Rattle.fast_value.specs.Views.{item_data}
 use Rattle.fast_value.proofs.ItemViews.{item_data-One}
@@ -56,3 +57,6 @@ returns-in_err-next-clause-refused c =
     rw p.1 (subst (OnBadLine (HasNoItem set i c.args.at)) (sym p.2) (on_bad (HasNoLines (closed c.args.at.rest.now)) (HasNoItem set i c.args.at)
     (λ none. item_next set i c.args.at (next_refused c.args.at some none))
     c.in_err-next.field-0.0 (c.in_err-next.ensures.refused)))
+
+pub behind-requires : goal.behind-requires
+behind-requires c known = IsUtf8-had c.args.at.rest.now (c.args.at.utf8 known)

@@ -1,4 +1,8 @@
-use Rattle.std.proofs.Common.{◌∙◌, ap, decimal}
+use Rattle.std.proofs.Common.{◌∷◌, [], ◌∙◌, sym, ap, append_assoc, decimal}
+use Rattle.fast_value.specs.Values.{scalar_data}
+use Rattle.fast_template.specs.Flat.{tree_of}
+use Rattle.fast_lines.specs.Lines.{written as value_text}
+use Rattle.fast_text.specs.Front.{field_front}
 use Rattle.fast_text.proofs.Writing.{writes_both, writes_same}
 use Rattle.fast_text.proofs.line_sink.put_event.Goals as goal
 
@@ -6,10 +10,10 @@ pub returns-in-MessageStart : goal.returns-in-MessageStart
 returns-in-MessageStart g c = rw c.in-MessageStart.is c.put_message.ensures
 
 pub returns-in-Field : goal.returns-in-Field
-returns-in-Field g c = rw c.in-Field.is (writes_both (writes_both c.put_field.ensures c.put_value.ensures) c.put.ensures)
+returns-in-Field g c = rw c.in-Field.is (writes_same (sym (append_assoc (field_front (tree_of c.args.templates.now) c.in-Field.node) (value_text (scalar_data c.in-Field.value)) (0x0A ∷ []))) (writes_both c.put_field.ensures c.put_value_line.ensures))
 
 pub returns-in-GroupStart : goal.returns-in-GroupStart
-returns-in-GroupStart g c = rw c.in-GroupStart.is (writes_both (writes_both c.put-in-GroupStart.ensures c.put_node.ensures) c.put-in-GroupStart-2.ensures)
+returns-in-GroupStart g c = rw c.in-GroupStart.is (writes_both (writes_both c.put.ensures c.put_node.ensures) c.put-in-GroupStart.ensures)
 
 pub returns-in-SequenceStart : goal.returns-in-SequenceStart
 returns-in-SequenceStart g c = rw c.in-SequenceStart.is (writes_both (writes_both (writes_both (writes_both c.put-in-SequenceStart.ensures c.put_node-in-SequenceStart.ensures) c.put-in-SequenceStart-2.ensures) (writes_same (ap decimal c.from.ensures) c.put_unsigned.ensures)) c.put-in-SequenceStart-3.ensures)

@@ -1,3 +1,4 @@
+use Rattle.std.proofs.lemmas.Str.{IsUtf8-had}
 use Rattle.fast_reading.proofs.NoLines.{all_refused}
 use Rattle.fast_reading.proofs.Said.{all_on, all_near}
 use Rattle.fast_reading.proofs.cursors.Cursor.advance.Goals as goal
@@ -10,3 +11,6 @@ returns-clause-line c = all_near c.args.self c.behind.result c.requires c.behind
 
 pub returns-clause-refused : goal.returns-clause-refused
 returns-clause-refused c = all_refused c.args.self c.behind.result c.requires c.behind.ensures.refused
+
+pub behind-requires : goal.behind-requires
+behind-requires c known = IsUtf8-had c.args.self.rest.now (c.args.self.utf8 known)

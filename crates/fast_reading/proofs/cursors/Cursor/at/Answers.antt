@@ -37,4 +37,5 @@ invariant_of-result-2 c = record {
   untold = untold c.in-Some.line c.in_ok-value.value c.in_ok-value.ensures.value;
   one_line = one_line c.first_line.result.0.now c.in-Some.line c.in-Some.ensures.line c.first_line.ensures.line;
   formed = ∣ c.in-Some.ensures.form ∣₁;
+  utf8 = λ known. ∣ (c.first_line.ensures.utf8 (c.requires known)).1 ∣₁;
 }

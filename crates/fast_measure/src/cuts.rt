@@ -1,0 +1,83 @@
+//! Streams that are cut behind each of their bytes, for tests.
+
+use crate::decoding::{Answer, answer_of, decoder_of, read_set};
+use crate::sinks::Check;
+use fast_decoder::Decoder;
+use fast_value::Limits;
+use std::alloc::Global;
+
+/// What came of a stream, and of its fronts.
+#[derive(Clone, Copy)]
+pub struct Cuts {
+    /// Of the whole stream.
+    pub whole: Answer,
+    /// How many fronts were decoded.
+    pub fronts: u64,
+    /// How many of these are not as they have to be.
+    pub wrong: u64,
+}
+
+impl Cuts {
+    /// Where nothing is decoded.
+    fn ended(status: u64) -> Cuts {
+        Cuts {
+            whole: Answer::ended(status),
+            fronts: 0,
+            wrong: 0,
+        }
+    }
+}
+
+/// Decodes a stream behind a reset, fed in pieces of so many bytes.
+fn decode_again(decoder: &mut Decoder<'_>, stream: &[u8], piece: usize) -> Answer
+    requires { 0 < piece }
+{
+    decoder.reset();
+    answer_of(decoder, stream, piece, Check::new())
+}
+
+/// Whether a front comes to the same whole and in pieces of one, two and three bytes; and before the last byte that the whole stream
+/// consumed to no fault and no more events, and from there on to what the whole stream came to.
+fn is_right(decoder: &mut Decoder<'_>, front: &[u8], due: Answer) -> bool {
+    let is = decode_again(decoder, front, usize::MAX);
+    let is_alike = decode_again(decoder, front, 1) == is
+        && decode_again(decoder, front, 2) == is
+        && decode_again(decoder, front, 3) == is;
+    let length = front.len() as u64;
+    is_alike
+        && if length < due.consumed {
+            is.status <= 1 && is.consumed == length && is.events <= due.events
+        } else {
+            is == due
+        }
+}
+
+/// As `cut_everywhere`, or the status where nothing is decoded.
+fn cut(alloc: Global, templates: &[u8], limits: Limits, stream: &[u8]) -> Result<Cuts, u64> {
+    let set = read_set(alloc, templates)?;
+    let mut decoder = decoder_of(alloc, &set, limits)?;
+    let whole = decode_again(&mut decoder, stream, usize::MAX);
+    let mut wrong: u64 = 0;
+    for length in 0..stream.len() {
+        let (front, _) = stream.split_at(length);
+        if !is_right(&mut decoder, front, whole) {
+            wrong = wrong.saturating_add(1);
+        }
+    }
+    if !is_right(&mut decoder, stream, whole) {
+        wrong = wrong.saturating_add(1);
+    }
+    Ok(Cuts {
+        whole,
+        fronts: stream.len() as u64,
+        wrong,
+    })
+}
+
+/// Decodes a stream, and each of its fronts whole and in pieces, all with checksums.
+pub fn cut_everywhere(alloc: Global, templates: &[u8], limits: Limits, stream: &[u8]) -> Cuts {
+    match cut(alloc, templates, limits, stream) {
+        Ok(cuts) => cuts,
+        Err(status) => Cuts::ended(status),
+    }
+}

@@ -1,0 +1,56 @@
+"""What runs on this machine came to, kept beside the kit by the checksums of all that they read, as rt ci keeps its own."""
+
+import contextlib
+import hashlib
+import os
+import tempfile
+
+PARTS = ("src", "specs", "proofs")
+
+
+def add_files(sum, folder, is_whole):
+    """Adds the files below a folder to a sum: their texts, or else their sizes and times."""
+    for at, folders, files in os.walk(folder):
+        folders.sort()
+        for name in sorted(files):
+            sum.update(os.path.relpath(f"{at}/{name}", folder).encode())
+            if is_whole:
+                with open(f"{at}/{name}", "rb") as it:
+                    sum.update(hashlib.sha256(it.read()).digest())
+            else:
+                found = os.stat(f"{at}/{name}")
+                sum.update(f" {found.st_size} {found.st_mtime_ns}\n".encode())
+
+
+def sum_of(kit, crate, rows, tool):
+    """Returns a sum of all that the mutants of a crate are judged by: this tool, the kit, the crate, and what it stands on."""
+    sum = hashlib.sha256()
+    for part in ("bin", "logic_built", "rlibs"):
+        add_files(sum, f"{kit}/{part}", False)
+    for name in sorted(it for it in os.listdir(tool) if os.path.isfile(f"{tool}/{it}")):
+        with open(f"{tool}/{name}", "rb") as it:
+            sum.update(it.read())
+    for name in [*crate.below, crate.name]:
+        sum.update(repr((name, rows[name])).encode())
+        for part in (*PARTS, *(["mutants"] if name == crate.name else [])):
+            add_files(sum, f"{os.path.dirname(crate.folder)}/{name}/{part}", True)
+    return sum.hexdigest()
+
+
+def place(kit, sum):
+    return f"{os.path.dirname(os.path.realpath(kit))}/rattle-kept/mutants/{sum}"
+
+
+def refused(kit, sum):
+    """Returns whether an earlier run refused all mutants of this sum."""
+    return os.path.isfile(place(kit, sum))
+
+
+def keep(kit, sum, said):
+    """Keeps that a run refused all mutants of this sum, where there is such a place."""
+    at = os.path.dirname(place(kit, sum))
+    with contextlib.suppress(OSError):
+        os.makedirs(at, 0o700, exist_ok=True)
+        with tempfile.NamedTemporaryFile("w", dir=at, delete=False, encoding="utf-8") as it:
+            it.write(said)
+        os.replace(it.name, place(kit, sum))

@@ -1,0 +1,186 @@
+"""What the texts of crates.txt, of edits and of crates say: the functions of a crate, told by the layout of its files, and the crate without
+the bodies of some."""
+
+import os
+import re
+from dataclasses import dataclass
+
+TYPE = re.compile(r"(?m)^(?:pub(?:\(.*?\))? )?(?:struct|enum) (\w+)")
+# What a function with a body of its own has in its folder of proofs/, beside files of lemmas.
+PROOF_FILES = ("Answers.antt", "Invariants.antt", "Proof.antt")
+HOLE = """use Rattle.{crate}.proofs.{folder}.Statement.{{statement}}
+
+pub {name}_spec : {{M : Type 1}} → statement M
+{name}_spec = ?
+"""
+
+
+def rows_of(file):
+    """Returns the crates of crates.txt, each with what it stands on."""
+    rows = {}
+    with open(file, encoding="utf-8") as it:
+        for line in it:
+            line = line.partition("#")[0].strip()
+            if line:
+                head, _, deps = line.partition(":")
+                rows[head.split()[0]] = deps.split()
+    return rows
+
+
+def pairs_of(text):
+    """Yields the file, the old and the new text of each pair of an edit."""
+    file = old = None
+    for line in text.split("\n"):
+        if line.startswith("file: "):
+            file = line[len("file: ") :].strip()
+        elif line.startswith("old: "):
+            old = line[len("old: ") :]
+        elif line.startswith("new:") and file and old:
+            yield file, old, line[len("new:") :].removeprefix(" ")
+            old = None
+
+
+@dataclass(frozen=True)
+class Function:
+    """A function of a crate: its path, its file, its first and last line, and its cycle of calls."""
+
+    path: str
+    file: str
+    first: int
+    last: int
+    cycle: str
+
+    @property
+    def module(self):
+        """The path of its file's module, below the crate."""
+        return self.file.removeprefix("src/").removesuffix(".rt").removesuffix("/mod").replace("/", "::")
+
+    @property
+    def owned(self):
+        """The end of the path that a proof's folder has too: that of a method has its type's module, wherever the method stands."""
+        parts = self.path.split("::")
+        return "::".join(parts[-2:] if len(parts) > 2 else parts[-1:])
+
+
+def functions_of(crate, file, text):
+    """Returns the functions with a body in a file that is in rt fmt's layout, where heads and closing braces stand at one indentation. A
+    function begins with its attributes, where a check says of goals that they are open."""
+    module = file.removeprefix("src/").removesuffix(".rt")
+    module = "" if module in ("lib", "main") else module.removesuffix("/mod").replace("/", "::") + "::"
+    found, owner, cycle, head, above = [], "", "", None, 0
+    for number, line in enumerate(text.split("\n"), 1):
+        indent, bare = len(line) - len(line.lstrip()), line.strip()
+        if it := re.match(r"(?:unsafe )?impl(?:<.*?>)?\s+(?:(\w+)(?:<.*?>)? for )?&?(\w+)", line):
+            owner = f"{it[2]}{it[1] or ''}::"
+        elif it := re.match(r"(?:pub )?trait (\w+)", line):
+            owner = f"{it[1]}::"
+        elif line == "}" and head is None:
+            owner = ""
+        if it := re.match(r"#\[cycle\((\w+)\)\]", bare):
+            cycle = it[1]
+        if head is None and (it := re.match(r"(?:pub(?:\(.*?\))? )?(?:final )?(?:const )?(?:unsafe )?(?:extern \"C\" )?fn (\w+)", bare)):
+            head, is_open = (it[1], above or number, indent, owner if indent else "", number), False
+        above = (above or number) if head is None and bare.startswith("#[") else 0
+        if head is None:
+            continue
+        is_open = is_open or indent == head[2] and bare.endswith(("{", "{}"))
+        if not is_open and bare.endswith(";"):
+            head, cycle = None, ""  # a method of a trait, which has no body there
+        elif indent == head[2] and (bare in ("}", "{}") or number == head[4] and bare.endswith("}")):
+            found.append(Function(f"{crate}::{module}{head[3]}{head[0]}", file, head[1], number, cycle))
+            head, cycle = None, ""
+    return found
+
+
+def module_of(file):
+    """Returns the path of a file's module below the crate, which is empty for the root."""
+    module = file.removeprefix("src/").removesuffix(".rt")
+    return "" if module in ("lib", "main") else module.removesuffix("/mod").replace("/", "::")
+
+
+def proof_folder(fn, modules_of_types):
+    """Returns the folder of a function's proof below proofs/, or None where it is not told by its path: a method of a trait's impl, or of a
+    type whose name the crate has twice."""
+    names = fn.path.split("::")[1:]
+    module = [it for it in module_of(fn.file).split("::") if it]
+    own = names[len(module) :]
+    if len(own) == 1:
+        return "/".join(names)
+    modules = modules_of_types.get(own[0], [])
+    return "/".join([*filter(None, modules[0].split("::")), *own]) if len(own) == 2 and len(modules) == 1 else None
+
+
+def without_bodies(crate, texts, kept):
+    """Returns the texts of a crate's files in which only the kept functions have bodies, and the folders of the other functions' proofs,
+    with their names.
+
+    A function with its body stays where its proof's folder is not known, as does a cycle of calls with a kept member, or whose
+    members do not all go."""
+    modules_of_types = {}
+    for file, text in texts.items():
+        for it in TYPE.finditer(text):
+            modules_of_types.setdefault(it[1], []).append(module_of(file))
+    functions = {file: functions_of(crate, file, text) for file, text in texts.items()}
+    every = [fn for found in functions.values() for fn in found]
+    stays = lambda fn: fn.path in kept or proof_folder(fn, modules_of_types) is None or head_line(texts[fn.file].split("\n"), fn) is None
+    cycles = {(module_of(fn.file), fn.cycle) for fn in every if fn.cycle and stays(fn)}
+    cut, folders = {}, {}
+    for file, text in texts.items():
+        lines = text.split("\n")
+        for fn in functions[file]:
+            if stays(fn) or (module_of(file), fn.cycle) in cycles:
+                continue
+            opens = head_line(lines, fn)
+            for number in range(fn.first - 1, opens):
+                if re.match(r"\s*#\[(cycle|tactic)\(", lines[number]):
+                    lines[number] = ""
+            # (a line for a line, so that a note's place is that of the crate's own text)
+            lines[opens + 1 : fn.last - 1] = ["unreachable!()", *[""] * (fn.last - opens - 3)]
+            folders[proof_folder(fn, modules_of_types)] = fn.path.split("::")[-1]
+        cut[file] = "\n".join(lines)
+    return cut, folders
+
+
+def head_line(lines, fn):
+    """Returns the place of the line that opens a function's body, or None where the body has no line of its own, or is evaluated by the
+    compiler or called from C."""
+    head = next(it for it in range(fn.first - 1, fn.last) if re.match(r"\s*(pub(\(.*?\))? )?((final|const|unsafe|extern \"C\") )*fn ", lines[it]))
+    if re.search(r"\b(const|extern) .*\bfn\b", lines[head].partition("fn")[0] + "fn"):
+        return None
+    indent = len(lines[head]) - len(lines[head].lstrip())
+    for number in range(head, fn.last - 2):
+        line = lines[number]
+        if line.endswith("{") and len(line) - len(line.lstrip()) == indent:
+            return number
+    return None
+
+
+def leave_holes(room, crate, folders):
+    """Puts a hole in place of the proof of each function without a body."""
+    for at, inside, _ in os.walk(f"{room}/proofs"):
+        for name in [it for it in inside if it.startswith("+")]:
+            folder = os.path.dirname(os.path.relpath(f"{at}/{name}/x", f"{room}/proofs"))
+            if cycle_is_gone(room, folder):
+                remove_proof(f"{at}/{name}")
+    for folder, name in folders.items():
+        remove_proof(f"{room}/proofs/{folder}")
+        os.makedirs(f"{room}/proofs/{folder}", exist_ok=True)
+        with open(f"{room}/proofs/{folder}/Proof.antt", "w", encoding="utf-8") as it:
+            it.write(HOLE.format(crate=crate, folder=folder.replace("/", "."), name=name))
+
+
+def cycle_is_gone(room, folder):
+    """Returns whether no function is in the cycle of calls whose proof has this folder."""
+    word = f"#[cycle({os.path.basename(folder).removeprefix('+')})]"
+    for at, _, files in os.walk(f"{room}/src"):
+        for name in files:
+            with open(f"{at}/{name}", encoding="utf-8") as it:
+                if word in it.read():
+                    return False
+    return True
+
+
+def remove_proof(folder):
+    for name in PROOF_FILES:
+        if os.path.isfile(f"{folder}/{name}"):
+            os.remove(f"{folder}/{name}")
