@@ -3,19 +3,19 @@ use Rattle.std.proofs.Common.{◌≡◌, ◌⊎◌, ℕ, ◌+◌, ◌*◌, ◌�
 use Rattle.std.specs.Prelude.{IsTrue, is_some, if◌then◌else◌}
 use Rattle.fast_value.specs.declared.settings.Limits.{Limits}
 use Rattle.fast_value.specs.declared.codes.Code.{Code}
-use Rattle.fast_value.specs.Initial.{IsHex}
-use Rattle.fast_tree.specs.Tree.{Tree}
+use Rattle.fast_value.specs.meaning.Initial.{IsHex}
+use Rattle.fast_tree.specs.meaning.Tree.{Tree}
 use Rattle.fast_stream.specs.declared.faults.Fault.{Fault}
 use Rattle.fast_stream.specs.declared.faults.FaultCode.{FaultCode}
 use Rattle.fast_stream.specs.declared.faults.FaultCode.TheVariants as Why
-use Rattle.fast_stream.specs.Events.{EventData}
-use Rattle.fast_stream.specs.Streams.{End, between, inside, faulted, Stream}
-use Rattle.fast_stream.specs.Standing.{Standing, standing_at}
-use Rattle.fast_decoder.specs.Decoding.{DecoderData, So, tree, standing, answer}
-use Rattle.fast_decoder.proofs.Ends.{so-stream}
-use Rattle.fast_lines.specs.Lines.{lines}
-use Rattle.fast_lines.specs.Hex.{Unhexed, digits_in, ArePairs}
-use Rattle.fast_text.specs.Streams.{Appends, AppendsFront}
+use Rattle.fast_stream.specs.meaning.Events.{EventData}
+use Rattle.fast_stream.specs.meaning.Streams.{End, between, inside, faulted, Stream}
+use Rattle.fast_stream.specs.meaning.Standing.{Standing, standing_at}
+use Rattle.fast_decoder.specs.meaning.Decoding.{DecoderData, So, tree, standing, answer}
+use Rattle.fast_decoder.proofs.streams.Ends.{so-stream}
+use Rattle.fast_lines.specs.meaning.Lines.{lines}
+use Rattle.fast_lines.specs.meaning.Hex.{Unhexed, digits_in, ArePairs}
+use Rattle.fast_text.specs.meaning.Streams.{Appends, AppendsFront}
 use Rattle.fast_text.proofs.Writing.{appends_none, appends_both}
 use Rattle.fast_command.specs.declared.unhexer.Unhexer.{Unhexer}
 use Rattle.fast_command.specs.declared.unhexer.Place.{Place}
@@ -25,10 +25,10 @@ use Rattle.fast_command.specs.declared.faults.ShowEnd.{ShowEnd}
 use Rattle.fast_command.specs.declared.faults.ShowEnd.TheVariants.{Good, Faulted, Truncated}
 use Rattle.fast_command.specs.declared.faults.RunFault.{RunFault}
 use Rattle.fast_command.specs.declared.faults.RunFault.TheVariants.{Write, BadHex}
-use Rattle.fast_command.specs.Closing.{fault_line, truncated_line, closing}
-use Rattle.fast_command.specs.Unhexing.{StandsAt}
-use Rattle.fast_command.specs.Showing.{StandsFor, IsGoodEnd}
-use Rattle.fast_command.specs.Progress.{IsTaken, Progress, Change, Fed, CutShort, IsFedAt, GoesOn, Ended, IsBadPlace, IsClosedAt}
+use Rattle.fast_command.specs.meaning.Closing.{fault_line, truncated_line, closing}
+use Rattle.fast_command.specs.device.Unhexing.{StandsAt}
+use Rattle.fast_command.specs.meaning.Showing.{StandsFor, IsGoodEnd}
+use Rattle.fast_command.specs.device.Progress.{IsTaken, Progress, Change, Fed, CutShort, IsFedAt, GoesOn, Ended, IsBadPlace, IsClosedAt}
 use Rattle.fast_command.proofs.Characters.{is_shown}
 use Rattle.fast_command.proofs.Lined.{lines-append}
 

@@ -1,17 +1,17 @@
 //! Shows a stream as lines.
 
 ghost use Rattle.std.specs.Prelude.{◌≡◌, ◌⊎◌, ◌↔◌, ℕ, ◌+◌, ◌<◌, ◌≤◌, ◌^◌, List, [], ◌++◌, Bool, IsTrue, Err, IfErr, length, is_some, IfOk, IfSome, IfNone, All, MatchOption};
-ghost use Rattle.fast_tree.specs.Tree.{Tree};
-ghost use Rattle.fast_template.specs.Flat.{tree_of};
+ghost use Rattle.fast_tree.specs.meaning.Tree.{Tree};
+ghost use Rattle.fast_template.specs.meaning.Flat.{tree_of};
 ghost use Rattle.fast_value.specs.declared.settings.Limits.{Limits};
-ghost use Rattle.fast_stream.specs.Events.{EventData};
-ghost use Rattle.fast_decoder.specs.Decoding.{So, standing, tree, answer, AreBadLimits};
+ghost use Rattle.fast_stream.specs.meaning.Events.{EventData};
+ghost use Rattle.fast_decoder.specs.meaning.Decoding.{So, standing, tree, answer, AreBadLimits};
 ghost use Rattle.std.specs.Io.KnownBytes.{IsAtEnd};
-ghost use Rattle.fast_text.specs.Fronts.{set_of};
-ghost use Rattle.fast_text.specs.Streams.{Reads, Appends};
-ghost use Rattle.fast_lines.specs.Hex.{IsHexOrBlank};
-ghost use Rattle.fast_command.specs.Showing.{IsShown, IsRefusal, StandsFor, refusal_of, has_begun};
-ghost use Rattle.fast_command.specs.Progress.{HasRoom, IsTaken, Progress, GoesOn, Ended, IsFed, IsBadPlace, IsClosedAt, changed};
+ghost use Rattle.fast_text.specs.device.Fronts.{set_of};
+ghost use Rattle.fast_text.specs.meaning.Streams.{Reads, Appends};
+ghost use Rattle.fast_lines.specs.meaning.Hex.{IsHexOrBlank};
+ghost use Rattle.fast_command.specs.meaning.Showing.{IsShown, IsRefusal, StandsFor, refusal_of, has_begun};
+ghost use Rattle.fast_command.specs.device.Progress.{HasRoom, IsTaken, Progress, GoesOn, Ended, IsFed, IsBadPlace, IsClosedAt, changed};
 
 use crate::closing::{write_fault, write_truncated};
 use crate::faults::{RunFault, ShowEnd};

@@ -1,16 +1,16 @@
 //! The decoder: a machine with its template set, its limits, and the count of its bytes.
 
 ghost use Rattle.std.specs.Prelude.{◌≡◌, ◌≢◌, ◌↔◌, ◌⊎◌, ℕ, ◌+◌, ◌-◌, ◌*◌, ◌<◌, ◌≤◌, ◌^◌, List, [], ◌∷◌, length, IfOk, IsOk, IsSome, None, Some, Err};
-ghost use Rattle.fast_template.specs.Flat.{tree_of, nodes_of};
-ghost use Rattle.fast_tree.specs.Sizes.{message_cap, turn_cap, stored_cap};
-ghost use Rattle.fast_dict.specs.EntryTexts.{HasLongInitial};
-ghost use Rattle.fast_stream.specs.Events.{EventData};
-ghost use Rattle.fast_stream.specs.Streams.{End};
-ghost use Rattle.fast_stream.specs.Begins.{Begins};
-ghost use Rattle.fast_stream.specs.Standing.{StandsAfter, standing_at, held};
-ghost use Rattle.fast_decoder.specs.Decoding.{DecoderData, tree, AreBadLimits, IsUncounted, So, turns, stored, standing, answer, Carried};
-ghost use Rattle.fast_decoder.specs.AtHand.{in_hand};
-ghost use Rattle.fast_decoder.specs.Feeding.{IsAtPlace, ConsumesAtMost, all_bytes, Followed};
+ghost use Rattle.fast_template.specs.meaning.Flat.{tree_of, nodes_of};
+ghost use Rattle.fast_tree.specs.meaning.Sizes.{message_cap, turn_cap, stored_cap};
+ghost use Rattle.fast_dict.specs.device.EntryTexts.{HasLongInitial};
+ghost use Rattle.fast_stream.specs.meaning.Events.{EventData};
+ghost use Rattle.fast_stream.specs.meaning.Streams.{End};
+ghost use Rattle.fast_stream.specs.meaning.Begins.{Begins};
+ghost use Rattle.fast_stream.specs.meaning.Standing.{StandsAfter, standing_at, held};
+ghost use Rattle.fast_decoder.specs.meaning.Decoding.{DecoderData, tree, AreBadLimits, IsUncounted, So, turns, stored, standing, answer, Carried};
+ghost use Rattle.fast_decoder.specs.device.AtHand.{in_hand};
+ghost use Rattle.fast_decoder.specs.meaning.Feeding.{IsAtPlace, ConsumesAtMost, all_bytes, Followed};
 
 use crate::in_hand::Due;
 use crate::layout::has_long_initial;
@@ -32,8 +32,8 @@ pub struct Decoder<'t> {
 }
 
 impl<'t> Model for Decoder<'t> {
-    ghost use Rattle.fast_decoder.specs.Positions.{set_of};
-    ghost use Rattle.fast_decoder.specs.Decoding.{DecoderData, IsSound};
+    ghost use Rattle.fast_decoder.specs.device.Positions.{set_of};
+    ghost use Rattle.fast_decoder.specs.meaning.Decoding.{DecoderData, IsSound};
 
     ghost Value = { DecoderData };
 

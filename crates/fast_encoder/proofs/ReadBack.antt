@@ -2,22 +2,22 @@
 use Rattle.std.proofs.Common.{◌≡◌, ℕ, ◌+◌, ◌<◌, ◌≤◌, ◌^◌, List, [], ◌∷◌, ◌++◌, length, refl, ap, sym, subst, ◌∙◌, arith}
 use Rattle.std.specs.Prelude.{Bool, true, ◌&&◌, is_none, Option, Some, None, Result, Ok, Err}
 use Rattle.fast_value.specs.declared.settings.Limits.{Limits}
-use Rattle.fast_value.specs.Limits.{in_mode}
-use Rattle.fast_value.specs.Messages.{MessageData}
-use Rattle.fast_tree.specs.Tree.{Tree}
+use Rattle.fast_value.specs.meaning.Limits.{in_mode}
+use Rattle.fast_value.specs.meaning.Messages.{MessageData}
+use Rattle.fast_tree.specs.meaning.Tree.{Tree}
 use Rattle.fast_stream.specs.declared.faults.Fault.{Fault}
 use Rattle.fast_stream.specs.declared.faults.FaultCode.{FaultCode}
 use Rattle.fast_stream.specs.declared.faults.FaultCode.TheVariants as Why
-use Rattle.fast_stream.specs.Events.{EventData, events}
-use Rattle.fast_stream.specs.Messages.{SpellsMessage}
-use Rattle.fast_stream.specs.Sinks.{Takes}
-use Rattle.fast_stream.specs.Standing.{standing_at}
-use Rattle.fast_stream.specs.Streams.{between, Stream, Chain}
-use Rattle.fast_stream.proofs.Reading.{one_answer, read_back}
-use Rattle.fast_decoder.specs.Decoding.{DecoderData, So, Carries, CarriesAt, Carried, answer, standing, tree as decoded_tree}
-use Rattle.fast_decoder.proofs.Ends.{so-stream}
-use Rattle.fast_encoder.specs.Encoders.{EncoderData, IsEncoded, tree}
-use Rattle.fast_encoder.specs.ReadBack.{AreLevel, IsReadBack}
+use Rattle.fast_stream.specs.meaning.Events.{EventData, events}
+use Rattle.fast_stream.specs.meaning.Messages.{SpellsMessage}
+use Rattle.fast_stream.specs.meaning.Sinks.{Takes}
+use Rattle.fast_stream.specs.meaning.Standing.{standing_at}
+use Rattle.fast_stream.specs.meaning.Streams.{between, Stream, Chain}
+use Rattle.fast_stream.proofs.streams.Reading.{one_answer, read_back}
+use Rattle.fast_decoder.specs.meaning.Decoding.{DecoderData, So, Carries, CarriesAt, Carried, answer, standing, tree as decoded_tree}
+use Rattle.fast_decoder.proofs.streams.Ends.{so-stream}
+use Rattle.fast_encoder.specs.meaning.Encoders.{EncoderData, IsEncoded, tree}
+use Rattle.fast_encoder.specs.meaning.ReadBack.{AreLevel, IsReadBack}
 
 -- lists with the same front
 same_back : {A : Type 0} (u v w : List A) → u ++ v ≡ u ++ w → v ≡ w

@@ -1,5 +1,2 @@
-pub mod Feeding
-pub mod Records
-pub mod Room
-pub mod Sink
-pub mod Waiting
+pub mod meaning
+pub mod device

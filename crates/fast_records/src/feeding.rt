@@ -1,10 +1,10 @@
 //! Bytes go in, records come out.
 
 ghost use Rattle.std.specs.Prelude.{◌≡◌, ℕ, ◌+◌, ◌≤◌, ◌==◌, ◌&&◌, nat_lt, List, length, take, IsSome, Err, Ok};
-ghost use Rattle.fast_stream.specs.Events.{EventData};
-ghost use Rattle.fast_decoder.specs.Decoding.{So, tree, standing, answer};
-ghost use Rattle.fast_records.specs.Waiting.{pending};
-ghost use Rattle.fast_records.specs.Feeding.{Delivers, unfinished, outcome_of};
+ghost use Rattle.fast_stream.specs.meaning.Events.{EventData};
+ghost use Rattle.fast_decoder.specs.meaning.Decoding.{So, tree, standing, answer};
+ghost use Rattle.fast_records.specs.device.Waiting.{pending};
+ghost use Rattle.fast_records.specs.meaning.Feeding.{Delivers, unfinished, outcome_of};
 
 use crate::records::Record;
 use crate::sink::RecordSink;

@@ -5,21 +5,21 @@ use Rattle.fast_value.specs.declared.kinds.Kind.{Kind}
 use Rattle.fast_value.specs.declared.kinds.Kind.TheVariants.{UInt32, Int32, UInt64, Int64, Decimal, Ascii, Unicode, Bytes}
 use Rattle.fast_value.specs.declared.codes.Code.{Code}
 use Rattle.fast_value.specs.declared.codes.Code.TheVariants.{D2, D4}
-use Rattle.fast_value.specs.Kinds.{ScalarData, Family, integers, decimals, texts, family, integer_of, value_of_integer, same_kind}
+use Rattle.fast_value.specs.meaning.Kinds.{ScalarData, Family, integers, decimals, texts, family, integer_of, value_of_integer, same_kind}
 use Rattle.fast_tree.specs.declared.operators.Operator.{Operator}
 use Rattle.fast_tree.specs.declared.operators.Operator.TheVariants as Op
-use Rattle.fast_tree.specs.Tree.{FieldData}
-use Rattle.fast_dict.specs.Dictionary.{Dictionary, PreviousData, undefined, empty, assigned, previous_at, write_at}
-use Rattle.fast_dict.specs.Operators.{Outcome, delta_base, integer_step, ranged, range_of, checked, checked_in, null, value, gives, gives_none, decide, decide_by, nothing, fixed, ◌>>=◌, keeps, from_initial, unsent, next_value}
+use Rattle.fast_tree.specs.meaning.Tree.{FieldData}
+use Rattle.fast_dict.specs.meaning.Dictionary.{Dictionary, PreviousData, undefined, empty, assigned, previous_at, write_at}
+use Rattle.fast_dict.specs.meaning.Operators.{Outcome, delta_base, integer_step, ranged, range_of, checked, checked_in, null, value, gives, gives_none, decide, decide_by, nothing, fixed, ◌>>=◌, keeps, from_initial, unsent, next_value}
 use Rattle.fast_units.specs.declared.source.Source.{Source}
 use Rattle.fast_units.specs.declared.source.Source.TheVariants as From
-use Rattle.fast_tree.specs.Entries.{keeps_value}
-use Rattle.fast_dict.specs.Stores.{Terms}
-use Rattle.fast_units.specs.Settling.{Serves, value_in, value_at, IsSettled}
-use Rattle.fast_value.specs.Limits.{Bounds}
-use Rattle.fast_stream.specs.Grammar.{of_result}
-use Rattle.fast_stream.specs.Fields.{not_sent, field_by, field_term}
-use Rattle.fast_units.specs.Deciding.{needs_bytes, number_data, source_of, base_integer, IsDecided}
+use Rattle.fast_tree.specs.meaning.Entries.{keeps_value}
+use Rattle.fast_dict.specs.meaning.Stores.{Terms}
+use Rattle.fast_units.specs.device.Settling.{Serves, value_in, value_at, IsSettled}
+use Rattle.fast_value.specs.meaning.Limits.{Bounds}
+use Rattle.fast_stream.specs.meaning.Grammar.{of_result}
+use Rattle.fast_stream.specs.meaning.Fields.{not_sent, field_by, field_term}
+use Rattle.fast_units.specs.device.Deciding.{needs_bytes, number_data, source_of, base_integer, IsDecided}
 use Rattle.fast_units.specs.declared.fields.Number.{Number}
 use Rattle.fast_units.specs.declared.fields.Number.TheVariants as As
 

@@ -1,18 +1,18 @@
 -- Units of fields, from the functions that take them to the machine that calls these.
 use Rattle.std.proofs.Common.{refl, sym, ◌∙◌, subst}
 use Rattle.std.specs.Prelude.{◌≡◌, ℕ, ◌<◌, List, [], ◌++◌, length}
-use Rattle.fast_wire.specs.Entities.{HaveNoStop}
-use Rattle.fast_value.specs.Kinds.{decimals, texts, family}
+use Rattle.fast_wire.specs.meaning.Entities.{HaveNoStop}
+use Rattle.fast_value.specs.meaning.Kinds.{decimals, texts, family}
 use Rattle.fast_value.specs.declared.settings.Limits.{Limits}
-use Rattle.fast_value.specs.Limits.{Bounds, bounds}
-use Rattle.fast_tree.specs.Tree.{FieldData}
-use Rattle.fast_dict.specs.Dictionary.{Dictionary, PreviousData, previous_at}
-use Rattle.fast_dict.specs.Operators.{Outcome}
-use Rattle.fast_stream.specs.Readers.{Reader}
-use Rattle.fast_units.specs.Settling.{IsLastUnit}
-use Rattle.fast_units.specs.Stages.{IsFieldUnit}
-use Rattle.fast_units.specs.UnitFronts.{IsEntityKept, IsNextStage, IsNextOf, settled}
-use Rattle.fast_units.specs.TextDecisions.{HasBytes}
+use Rattle.fast_value.specs.meaning.Limits.{Bounds, bounds}
+use Rattle.fast_tree.specs.meaning.Tree.{FieldData}
+use Rattle.fast_dict.specs.meaning.Dictionary.{Dictionary, PreviousData, previous_at}
+use Rattle.fast_dict.specs.meaning.Operators.{Outcome}
+use Rattle.fast_stream.specs.device.Readers.{Reader}
+use Rattle.fast_units.specs.device.Settling.{IsLastUnit}
+use Rattle.fast_units.specs.device.Stages.{IsFieldUnit}
+use Rattle.fast_units.specs.device.UnitFronts.{IsEntityKept, IsNextStage, IsNextOf, settled}
+use Rattle.fast_units.specs.device.TextDecisions.{HasBytes}
 use Rattle.fast_units.specs.declared.source.Source.{Source}
 use Rattle.fast_units.specs.declared.stages.Stage.{Stage}
 use Rattle.fast_units.specs.declared.stages.Stage.TheVariants.{Mantissa, MantissaDelta, Vector, Part, PartVector}

@@ -8,21 +8,21 @@ use Rattle.fast_value.specs.declared.kinds.Kind.{Kind}
 use Rattle.fast_value.specs.declared.kinds.Kind.TheVariants.{Ascii, Unicode, Bytes, UInt32, Int32, UInt64, Int64, Decimal}
 use Rattle.fast_value.specs.declared.codes.Code.{Code}
 use Rattle.fast_value.specs.declared.codes.Code.TheVariants.{R2, D4, D7}
-use Rattle.fast_value.specs.Kinds.{ScalarData, U, I, Dec, AsciiText, UnicodeText, ByteVector, texts, family, text_of, value_of_text, same_kind}
+use Rattle.fast_value.specs.meaning.Kinds.{ScalarData, U, I, Dec, AsciiText, UnicodeText, ByteVector, texts, family, text_of, value_of_text, same_kind}
 use Rattle.fast_tree.specs.declared.operators.Operator.{Operator}
 use Rattle.fast_tree.specs.declared.operators.Operator.TheVariants.{None as no_operator, Constant, Default, Copy, Increment, Delta, Tail}
-use Rattle.fast_tree.specs.Tree.{FieldData}
-use Rattle.fast_tree.specs.Entries.{keeps_value}
-use Rattle.fast_dict.specs.Answers.{kept_text}
-use Rattle.fast_dict.specs.Dictionary.{Dictionary, PreviousData, undefined, empty, assigned, previous_at, write_at}
-use Rattle.fast_dict.specs.Held.{text_size}
-use Rattle.fast_dict.specs.Operators.{◌>>=◌, Outcome, gives, keeps, gives_none, checked_in, checked, checked_text, null, decide, decide_by, start_value, zero_in, delta_base, tail_base, with_tail, Kept, append_to, prepend_to, kept_of, kept_length, subtraction_step}
-use Rattle.fast_dict.specs.Stores.{Terms, IsStorable}
-use Rattle.fast_dict.specs.Slots.{slots_dictionary, slots_terms, slots_texts_fit}
+use Rattle.fast_tree.specs.meaning.Tree.{FieldData}
+use Rattle.fast_tree.specs.meaning.Entries.{keeps_value}
+use Rattle.fast_dict.specs.meaning.Answers.{kept_text}
+use Rattle.fast_dict.specs.meaning.Dictionary.{Dictionary, PreviousData, undefined, empty, assigned, previous_at, write_at}
+use Rattle.fast_dict.specs.device.Held.{text_size}
+use Rattle.fast_dict.specs.meaning.Operators.{◌>>=◌, Outcome, gives, keeps, gives_none, checked_in, checked, checked_text, null, decide, decide_by, start_value, zero_in, delta_base, tail_base, with_tail, Kept, append_to, prepend_to, kept_of, kept_length, subtraction_step}
+use Rattle.fast_dict.specs.meaning.Stores.{Terms, IsStorable}
+use Rattle.fast_dict.specs.meaning.Slots.{slots_dictionary, slots_terms, slots_texts_fit}
 use Rattle.fast_dict.specs.declared.slots.Slots.{Slots}
-use Rattle.fast_stream.specs.Fields.{sent_text}
-use Rattle.fast_units.specs.Settling.{HasRoomFor, Serves, value_in, value_at}
-use Rattle.fast_units.specs.TextDecisions.{is_emptied, IsTextDecided}
+use Rattle.fast_stream.specs.meaning.Fields.{sent_text}
+use Rattle.fast_units.specs.device.Settling.{HasRoomFor, Serves, value_in, value_at}
+use Rattle.fast_units.specs.device.TextDecisions.{is_emptied, IsTextDecided}
 use Rattle.fast_units.specs.declared.source.Source.{Source}
 use Rattle.fast_units.specs.declared.source.Source.TheVariants as From
 

@@ -2,28 +2,28 @@
 use Rattle.std.proofs.Common.{refl, sym, ap, ◌∙◌, subst, arith, inl, inr}
 use Rattle.std.specs.Prelude.{◌≡◌, ◌≢◌, ◌⊎◌, ℕ, ◌-◌, ◌<◌, ◌≤◌, Bool, true, false, nat_le, if◌then◌else◌, List, [], ◌++◌, length, take, ℤ, pos, Option, Some, Result, Ok, Err}
 use Rattle.std.proofs.lemmas.Bool.Decides.{leb_tells}
-use Rattle.fast_wire.specs.Integers.{unsigned_range, signed_range}
+use Rattle.fast_wire.specs.meaning.Integers.{unsigned_range, signed_range}
 use Rattle.fast_value.specs.declared.codes.Code.{Code}
 use Rattle.fast_value.specs.declared.codes.Code.TheVariants.{D2, D7, L1}
 use Rattle.fast_value.specs.declared.kinds.Kind.{Kind}
 use Rattle.fast_value.specs.declared.kinds.Kind.TheVariants.{UInt32, Int32, UInt64, Int64, Decimal, Ascii, Unicode, Bytes}
 use Rattle.fast_value.specs.declared.settings.Limits.{Limits}
-use Rattle.fast_value.specs.Kinds.{texts, family}
-use Rattle.fast_value.specs.Limits.{Bounds}
+use Rattle.fast_value.specs.meaning.Kinds.{texts, family}
+use Rattle.fast_value.specs.meaning.Limits.{Bounds}
 use Rattle.fast_tree.specs.declared.operators.Operator.{Operator}
 use Rattle.fast_tree.specs.declared.operators.Operator.TheVariants as Op
-use Rattle.fast_tree.specs.Tree.{FieldData}
-use Rattle.fast_dict.specs.Dictionary.{Dictionary, PreviousData}
-use Rattle.fast_dict.specs.Operators.{Outcome, null, decide, decide_by, gives_none, Kept, kept_length, subtraction_step, text_step}
-use Rattle.fast_stream.specs.Readers.{Reader, Done, Stop}
-use Rattle.fast_stream.specs.Machine.{behind_size as size_stage, behind_part_size as part_stage, stage_term}
-use Rattle.fast_stream.specs.Grammar.{Grammar, give, fault, integer, ascii_text, raw, ◌>>=◌, of_result}
-use Rattle.fast_stream.specs.GrammarReaders.{reader_of}
-use Rattle.fast_stream.specs.Fields.{text, sized, sent_text, item_in, part_change, text_change, change_in, sent, field_by, field_term}
-use Rattle.fast_units.specs.Taking.{Turns}
-use Rattle.fast_units.specs.Settling.{IsSettled, GivesField, IsLastUnit}
-use Rattle.fast_units.specs.Stages.{term_behind, IsFieldUnit}
-use Rattle.fast_units.specs.TextDecisions.{IsTextDecided, IsStepped, behind_size, behind_part_size, answered, settled}
+use Rattle.fast_tree.specs.meaning.Tree.{FieldData}
+use Rattle.fast_dict.specs.meaning.Dictionary.{Dictionary, PreviousData}
+use Rattle.fast_dict.specs.meaning.Operators.{Outcome, null, decide, decide_by, gives_none, Kept, kept_length, subtraction_step, text_step}
+use Rattle.fast_stream.specs.device.Readers.{Reader, Done, Stop}
+use Rattle.fast_stream.specs.device.Machine.{behind_size as size_stage, behind_part_size as part_stage, stage_term}
+use Rattle.fast_stream.specs.meaning.Grammar.{Grammar, give, fault, integer, ascii_text, raw, ◌>>=◌, of_result}
+use Rattle.fast_stream.specs.device.GrammarReaders.{reader_of}
+use Rattle.fast_stream.specs.meaning.Fields.{text, sized, sent_text, item_in, part_change, text_change, change_in, sent, field_by, field_term}
+use Rattle.fast_units.specs.device.Taking.{Turns}
+use Rattle.fast_units.specs.device.Settling.{IsSettled, GivesField, IsLastUnit}
+use Rattle.fast_units.specs.device.Stages.{term_behind, IsFieldUnit}
+use Rattle.fast_units.specs.device.TextDecisions.{IsTextDecided, IsStepped, behind_size, behind_part_size, answered, settled}
 use Rattle.fast_units.specs.declared.progress.Progress.{Progress}
 use Rattle.fast_units.specs.declared.progress.Progress.TheVariants.{Whole}
 use Rattle.fast_units.specs.declared.source.Source.{Source}

@@ -1,21 +1,21 @@
 //! Fields and their entries: where values stand, and what a field leaves of which nothing is sent.
 
 ghost use Rattle.std.specs.Prelude.{◌≡◌, ◌≢◌, IfSome, ℕ, ◌<◌, ◌≤◌, ◌^◌, true, false, List, length, Some, None, Ok, option_map, pos, neg_ℤ, ◌≤ℤ◌};
-ghost use Rattle.fast_value.specs.Kinds.{integer_of, value_of_integer, value_of_text, ScalarData};
-ghost use Rattle.fast_value.specs.Values.{scalar_data};
-ghost use Rattle.fast_value.specs.Limits.{Bounds};
-ghost use Rattle.fast_tree.specs.Nodes.{field_data};
-ghost use Rattle.fast_tree.specs.Tree.{FieldData};
-ghost use Rattle.fast_dict.specs.Entry.{with_text};
-ghost use Rattle.fast_dict.specs.Dictionary.{Dictionary, PreviousData, assigned, empty, previous_at, write_at};
-ghost use Rattle.fast_dict.specs.Operators.{incremented, decide, nothing, unsent, from_initial, range_of};
-ghost use Rattle.fast_dict.specs.Previous.{previous_data};
-ghost use Rattle.fast_dict.specs.Slots.{slots_dictionary, slots_terms};
-ghost use Rattle.fast_dict.specs.Stores.{IsStorable};
-ghost use Rattle.fast_stream.specs.Fields.{field_term};
-ghost use Rattle.fast_stream.specs.Grammar.{of_result};
-ghost use Rattle.fast_units.specs.Settling.{Serves, HasRoomFor, value_at};
-ghost use Rattle.fast_units.specs.Deciding.{needs_bytes, number_data, source_of, IsDecided};
+ghost use Rattle.fast_value.specs.meaning.Kinds.{integer_of, value_of_integer, value_of_text, ScalarData};
+ghost use Rattle.fast_value.specs.meaning.Values.{scalar_data};
+ghost use Rattle.fast_value.specs.meaning.Limits.{Bounds};
+ghost use Rattle.fast_tree.specs.device.Nodes.{field_data};
+ghost use Rattle.fast_tree.specs.meaning.Tree.{FieldData};
+ghost use Rattle.fast_dict.specs.device.Entry.{with_text};
+ghost use Rattle.fast_dict.specs.meaning.Dictionary.{Dictionary, PreviousData, assigned, empty, previous_at, write_at};
+ghost use Rattle.fast_dict.specs.meaning.Operators.{incremented, decide, nothing, unsent, from_initial, range_of};
+ghost use Rattle.fast_dict.specs.meaning.Previous.{previous_data};
+ghost use Rattle.fast_dict.specs.meaning.Slots.{slots_dictionary, slots_terms};
+ghost use Rattle.fast_dict.specs.meaning.Stores.{IsStorable};
+ghost use Rattle.fast_stream.specs.meaning.Fields.{field_term};
+ghost use Rattle.fast_stream.specs.meaning.Grammar.{of_result};
+ghost use Rattle.fast_units.specs.device.Settling.{Serves, HasRoomFor, value_at};
+ghost use Rattle.fast_units.specs.device.Deciding.{needs_bytes, number_data, source_of, IsDecided};
 
 use crate::source::Source;
 use fast_dict::operators::initial_value;

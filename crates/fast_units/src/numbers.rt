@@ -1,20 +1,20 @@
 //! Fields of numbers: what their units give, and what they leave in the dictionary.
 
 ghost use Rattle.std.specs.Prelude.{false, Some, IfSome, ◌≡◌, ◌≢◌, ℕ, ◌<◌, ◌≤◌, ◌^◌, ◌++◌, true, List, [], length, ℤ, pos, neg_ℤ, ◌≤ℤ◌, Ok};
-ghost use Rattle.fast_wire.specs.Entities.{HaveNoStop};
-ghost use Rattle.fast_wire.specs.Integers.{unsigned_up_to};
-ghost use Rattle.fast_value.specs.Kinds.{U, Dec, value_of_integer, integers, decimals, texts, family, signed_range};
-ghost use Rattle.fast_value.specs.Limits.{Bounds, bounds};
-ghost use Rattle.fast_tree.specs.Nodes.{field_data};
-ghost use Rattle.fast_dict.specs.Dictionary.{previous_at};
-ghost use Rattle.fast_dict.specs.Operators.{decide, integer_step, mantissa_step, range_of};
-ghost use Rattle.fast_dict.specs.Slots.{slots_dictionary, slots_terms};
-ghost use Rattle.fast_stream.specs.Fields.{field_term};
-ghost use Rattle.fast_stream.specs.GrammarReaders.{reader_of};
-ghost use Rattle.fast_units.specs.Settling.{Serves, IsLastUnit};
-ghost use Rattle.fast_units.specs.Stages.{term_behind, IsStageOf, IsFieldUnit};
-ghost use Rattle.fast_units.specs.NextUnits.{range_data};
-ghost use Rattle.fast_units.specs.Deciding.{number_data, sent_number, base_integer, progress_of, IsDecided};
+ghost use Rattle.fast_wire.specs.meaning.Entities.{HaveNoStop};
+ghost use Rattle.fast_wire.specs.meaning.Integers.{unsigned_up_to};
+ghost use Rattle.fast_value.specs.meaning.Kinds.{U, Dec, value_of_integer, integers, decimals, texts, family, signed_range};
+ghost use Rattle.fast_value.specs.meaning.Limits.{Bounds, bounds};
+ghost use Rattle.fast_tree.specs.device.Nodes.{field_data};
+ghost use Rattle.fast_dict.specs.meaning.Dictionary.{previous_at};
+ghost use Rattle.fast_dict.specs.meaning.Operators.{decide, integer_step, mantissa_step, range_of};
+ghost use Rattle.fast_dict.specs.meaning.Slots.{slots_dictionary, slots_terms};
+ghost use Rattle.fast_stream.specs.meaning.Fields.{field_term};
+ghost use Rattle.fast_stream.specs.device.GrammarReaders.{reader_of};
+ghost use Rattle.fast_units.specs.device.Settling.{Serves, IsLastUnit};
+ghost use Rattle.fast_units.specs.device.Stages.{term_behind, IsStageOf, IsFieldUnit};
+ghost use Rattle.fast_units.specs.device.NextUnits.{range_data};
+ghost use Rattle.fast_units.specs.device.Deciding.{number_data, sent_number, base_integer, progress_of, IsDecided};
 
 use crate::fields::{Number, assign_empty, keep, own_number, previous};
 use crate::progress::Progress;

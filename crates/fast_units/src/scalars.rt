@@ -1,20 +1,20 @@
 //! The units of fields that are neither lengths nor parts of decimals, by which unit is in hand.
 
 ghost use Rattle.std.specs.Prelude.{◌≡◌, ◌≢◌, ◌<◌, ◌≤◌, true, ℕ, List, [], ◌++◌, length};
-ghost use Rattle.fast_wire.specs.Entities.{HaveNoStop};
-ghost use Rattle.fast_value.specs.Kinds.{family, integers};
-ghost use Rattle.fast_value.specs.Limits.{bounds};
-ghost use Rattle.fast_tree.specs.Nodes.{field_data};
-ghost use Rattle.fast_dict.specs.Dictionary.{previous_at};
-ghost use Rattle.fast_dict.specs.Operators.{range_of};
-ghost use Rattle.fast_dict.specs.Slots.{slots_dictionary, slots_terms};
-ghost use Rattle.fast_stream.specs.Fields.{field_term};
-ghost use Rattle.fast_stream.specs.GrammarReaders.{reader_of};
-ghost use Rattle.fast_units.specs.Settling.{Serves};
-ghost use Rattle.fast_units.specs.Stages.{term_behind, IsStageOf, IsFieldUnit};
-ghost use Rattle.fast_stream.specs.Units.{ascii_text};
-ghost use Rattle.fast_stream.specs.Phrases.{cut};
-ghost use Rattle.fast_units.specs.UnitFronts.{IsAsciiFirst, IsNumberStage, IsBytesStage, IsEntityKept, IsNextOf, settled, SettlesOnly};
+ghost use Rattle.fast_wire.specs.meaning.Entities.{HaveNoStop};
+ghost use Rattle.fast_value.specs.meaning.Kinds.{family, integers};
+ghost use Rattle.fast_value.specs.meaning.Limits.{bounds};
+ghost use Rattle.fast_tree.specs.device.Nodes.{field_data};
+ghost use Rattle.fast_dict.specs.meaning.Dictionary.{previous_at};
+ghost use Rattle.fast_dict.specs.meaning.Operators.{range_of};
+ghost use Rattle.fast_dict.specs.meaning.Slots.{slots_dictionary, slots_terms};
+ghost use Rattle.fast_stream.specs.meaning.Fields.{field_term};
+ghost use Rattle.fast_stream.specs.device.GrammarReaders.{reader_of};
+ghost use Rattle.fast_units.specs.device.Settling.{Serves};
+ghost use Rattle.fast_units.specs.device.Stages.{term_behind, IsStageOf, IsFieldUnit};
+ghost use Rattle.fast_stream.specs.meaning.Units.{ascii_text};
+ghost use Rattle.fast_stream.specs.meaning.Phrases.{cut};
+ghost use Rattle.fast_units.specs.device.UnitFronts.{IsAsciiFirst, IsNumberStage, IsBytesStage, IsEntityKept, IsNextOf, settled, SettlesOnly};
 
 use crate::numbers::{take_exponent, take_integer, take_mantissa, take_mantissa_delta};
 use crate::progress::Progress;

@@ -4,20 +4,20 @@
 //! `None` stands for all else, faults included: nothing has changed then, and the general way finds out.
 
 ghost use Rattle.std.specs.Prelude.{◌≡◌, ◌≢◌, ◌<◌, true, ℕ, List, [], length, ℤ, pos, Option, Some, Ok, IfSome, IfNone};
-ghost use Rattle.fast_wire.specs.Fronts.{IsFirstInt};
-ghost use Rattle.fast_wire.specs.Integers.{unsigned_up_to, signed_between, delta_range};
-ghost use Rattle.fast_wire.specs.Words.{IsShortEntity};
+ghost use Rattle.fast_wire.specs.device.Fronts.{IsFirstInt};
+ghost use Rattle.fast_wire.specs.meaning.Integers.{unsigned_up_to, signed_between, delta_range};
+ghost use Rattle.fast_wire.specs.device.Words.{IsShortEntity};
 ghost use Rattle.fast_wire.specs.declared.fronts.First.TheVariants.{Whole};
-ghost use Rattle.fast_value.specs.Kinds.{U, I, family, integers, value_of_integer};
-ghost use Rattle.fast_value.specs.Limits.{Bounds};
-ghost use Rattle.fast_tree.specs.Nodes.{field_data};
-ghost use Rattle.fast_dict.specs.Dictionary.{assigned, previous_at, write_at};
-ghost use Rattle.fast_dict.specs.Operators.{decide, integer_step, range_of};
-ghost use Rattle.fast_dict.specs.Slots.{slots_dictionary, slots_terms};
-ghost use Rattle.fast_stream.specs.Fields.{field_term, sent_integer};
-ghost use Rattle.fast_stream.specs.GrammarReaders.{reader_of};
-ghost use Rattle.fast_units.specs.Settling.{Serves, IsLastUnit};
-ghost use Rattle.fast_units.specs.Deciding.{number_data, sent_number, source_of, IsDecided};
+ghost use Rattle.fast_value.specs.meaning.Kinds.{U, I, family, integers, value_of_integer};
+ghost use Rattle.fast_value.specs.meaning.Limits.{Bounds};
+ghost use Rattle.fast_tree.specs.device.Nodes.{field_data};
+ghost use Rattle.fast_dict.specs.meaning.Dictionary.{assigned, previous_at, write_at};
+ghost use Rattle.fast_dict.specs.meaning.Operators.{decide, integer_step, range_of};
+ghost use Rattle.fast_dict.specs.meaning.Slots.{slots_dictionary, slots_terms};
+ghost use Rattle.fast_stream.specs.meaning.Fields.{field_term, sent_integer};
+ghost use Rattle.fast_stream.specs.device.GrammarReaders.{reader_of};
+ghost use Rattle.fast_units.specs.device.Settling.{Serves, IsLastUnit};
+ghost use Rattle.fast_units.specs.device.Deciding.{number_data, sent_number, source_of, IsDecided};
 
 use crate::fields::{Number, assign_empty, number_under};
 use crate::progress::Progress;

@@ -4,17 +4,17 @@
 //! is lent.
 
 ghost use Rattle.std.specs.Prelude.{◌≡◌, ◌≢◌, ◌+◌, ◌-◌, ◌<◌, ◌≤◌, ◌++◌, ℕ, List, [], length, take, true, false, Ok, Err, Some, MatchResult};
-ghost use Rattle.fast_value.specs.Kinds.{ScalarData, texts, family, text_of, value_of_text};
+ghost use Rattle.fast_value.specs.meaning.Kinds.{ScalarData, texts, family, text_of, value_of_text};
 ghost use Rattle.fast_value.specs.declared.kinds.Kind.{Kind};
-ghost use Rattle.fast_tree.specs.Nodes.{field_data};
-ghost use Rattle.fast_tree.specs.Entries.{keeps_value};
-ghost use Rattle.fast_dict.specs.Answers.{kept_answer, kept_data, kept_text};
-ghost use Rattle.fast_dict.specs.Dictionary.{previous_at};
-ghost use Rattle.fast_dict.specs.Operators.{Kept as KeptData, null, decide, tail_base, with_tail, subtraction_step, kept_length, joined as joined_text, text_step};
-ghost use Rattle.fast_dict.specs.Slots.{slots_dictionary, slots_terms};
-ghost use Rattle.fast_stream.specs.Fields.{sent_text};
-ghost use Rattle.fast_units.specs.Settling.{Serves, value_at};
-ghost use Rattle.fast_units.specs.TextDecisions.{is_emptied, IsTextDecided};
+ghost use Rattle.fast_tree.specs.device.Nodes.{field_data};
+ghost use Rattle.fast_tree.specs.meaning.Entries.{keeps_value};
+ghost use Rattle.fast_dict.specs.meaning.Answers.{kept_answer, kept_data, kept_text};
+ghost use Rattle.fast_dict.specs.meaning.Dictionary.{previous_at};
+ghost use Rattle.fast_dict.specs.meaning.Operators.{Kept as KeptData, null, decide, tail_base, with_tail, subtraction_step, kept_length, joined as joined_text, text_step};
+ghost use Rattle.fast_dict.specs.meaning.Slots.{slots_dictionary, slots_terms};
+ghost use Rattle.fast_stream.specs.meaning.Fields.{sent_text};
+ghost use Rattle.fast_units.specs.device.Settling.{Serves, value_at};
+ghost use Rattle.fast_units.specs.device.TextDecisions.{is_emptied, IsTextDecided};
 
 use crate::fields::{assign, assign_empty, previous};
 use crate::scratch::Scratch;

@@ -4,21 +4,21 @@
 //! Of a unit that a piece cuts the bytes are in hand, in the entity or in the scratch, and nothing else changes.
 
 ghost use Rattle.std.specs.Prelude.{◌≡◌, ◌≢◌, ◌-◌, ◌<◌, ◌≤◌, ◌++◌, ℕ, ℤ, List, [], length, false, Ok, Some, pos, IfOk};
-ghost use Rattle.fast_wire.specs.Entities.{HaveNoStop};
-ghost use Rattle.fast_wire.specs.Integers.{IsWithin, unsigned_range, signed_range};
-ghost use Rattle.fast_value.specs.Kinds.{texts, family};
-ghost use Rattle.fast_value.specs.Limits.{bounds};
-ghost use Rattle.fast_tree.specs.Nodes.{field_data};
-ghost use Rattle.fast_dict.specs.Dictionary.{previous_at};
-ghost use Rattle.fast_dict.specs.Operators.{Kept as KeptData, subtraction_step, kept_length};
-ghost use Rattle.fast_dict.specs.Slots.{slots_dictionary, slots_terms};
-ghost use Rattle.fast_stream.specs.Phrases.{cut};
-ghost use Rattle.fast_stream.specs.Fields.{text_change};
-ghost use Rattle.fast_stream.specs.Units.{ascii_text as ascii_phrase};
-ghost use Rattle.fast_stream.specs.GrammarReaders.{reader_of};
-ghost use Rattle.fast_units.specs.Settling.{Serves, IsLastUnit};
-ghost use Rattle.fast_units.specs.Stages.{IsStageOf, IsFieldUnit};
-ghost use Rattle.fast_units.specs.TextDecisions.{IsStepped, first_reader, reader_behind, behind_size, behind_part_size, answered, settled, HasBytes};
+ghost use Rattle.fast_wire.specs.meaning.Entities.{HaveNoStop};
+ghost use Rattle.fast_wire.specs.meaning.Integers.{IsWithin, unsigned_range, signed_range};
+ghost use Rattle.fast_value.specs.meaning.Kinds.{texts, family};
+ghost use Rattle.fast_value.specs.meaning.Limits.{bounds};
+ghost use Rattle.fast_tree.specs.device.Nodes.{field_data};
+ghost use Rattle.fast_dict.specs.meaning.Dictionary.{previous_at};
+ghost use Rattle.fast_dict.specs.meaning.Operators.{Kept as KeptData, subtraction_step, kept_length};
+ghost use Rattle.fast_dict.specs.meaning.Slots.{slots_dictionary, slots_terms};
+ghost use Rattle.fast_stream.specs.meaning.Phrases.{cut};
+ghost use Rattle.fast_stream.specs.meaning.Fields.{text_change};
+ghost use Rattle.fast_stream.specs.meaning.Units.{ascii_text as ascii_phrase};
+ghost use Rattle.fast_stream.specs.device.GrammarReaders.{reader_of};
+ghost use Rattle.fast_units.specs.device.Settling.{Serves, IsLastUnit};
+ghost use Rattle.fast_units.specs.device.Stages.{IsStageOf, IsFieldUnit};
+ghost use Rattle.fast_units.specs.device.TextDecisions.{IsStepped, first_reader, reader_behind, behind_size, behind_part_size, answered, settled, HasBytes};
 
 use crate::progress::Progress;
 use crate::scratch::Scratch;

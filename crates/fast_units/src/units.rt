@@ -2,15 +2,15 @@
 //! else changes before it is whole.
 
 ghost use Rattle.std.specs.Prelude.{◌≡◌, ℕ, ◌<◌, ◌≤◌, Bool, true, false, List, [], ◌∷◌, ◌++◌, length, ℤ, Option, Some, pos, option_map, IfSome, IfNone, IfOk, IfErr};
-ghost use Rattle.fast_wire.specs.Entities.{HaveNoStop, IsEntity};
-ghost use Rattle.fast_wire.specs.Integers.{Range, unsigned_up_to, SpellsInt};
-ghost use Rattle.fast_wire.specs.Fronts.{IsFirstInt, IsWrongInt};
-ghost use Rattle.fast_stream.specs.Phrases.{cut};
-ghost use Rattle.fast_stream.specs.Units.{WrongInt, BeginsWithZero, ascii_text as ascii_phrase};
-ghost use Rattle.fast_stream.specs.Grammar.{give, integer, ascii_text, raw};
-ghost use Rattle.fast_stream.specs.GrammarReaders.{reader_of};
-ghost use Rattle.fast_units.specs.Taking.{IsUnit};
-ghost use Rattle.fast_units.specs.NextUnits.{range_data, first_mapped, IsRefusedInt, IsGathered, IsNextInteger, text_or_null, BeginsWithCharacter, IsNextText, IsNextRun};
+ghost use Rattle.fast_wire.specs.meaning.Entities.{HaveNoStop, IsEntity};
+ghost use Rattle.fast_wire.specs.meaning.Integers.{Range, unsigned_up_to, SpellsInt};
+ghost use Rattle.fast_wire.specs.device.Fronts.{IsFirstInt, IsWrongInt};
+ghost use Rattle.fast_stream.specs.meaning.Phrases.{cut};
+ghost use Rattle.fast_stream.specs.meaning.Units.{WrongInt, BeginsWithZero, ascii_text as ascii_phrase};
+ghost use Rattle.fast_stream.specs.meaning.Grammar.{give, integer, ascii_text, raw};
+ghost use Rattle.fast_stream.specs.device.GrammarReaders.{reader_of};
+ghost use Rattle.fast_units.specs.device.Taking.{IsUnit};
+ghost use Rattle.fast_units.specs.device.NextUnits.{range_data, first_mapped, IsRefusedInt, IsGathered, IsNextInteger, text_or_null, BeginsWithCharacter, IsNextText, IsNextRun};
 
 use crate::progress::Progress;
 use crate::scratch::Scratch;

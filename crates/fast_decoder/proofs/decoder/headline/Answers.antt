@@ -1,5 +1,5 @@
-use Rattle.fast_decoder.proofs.Bounds.{so-bounded, so-events}
-use Rattle.fast_decoder.proofs.Ends.{so-stream}
+use Rattle.fast_decoder.proofs.streams.Bounds.{so-bounded, so-events}
+use Rattle.fast_decoder.proofs.streams.Ends.{so-stream}
 use Rattle.fast_decoder.proofs.decoder.headline.Goals as goal
 
 pub returns : goal.returns

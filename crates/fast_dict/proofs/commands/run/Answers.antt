@@ -2,7 +2,7 @@
 use Rattle.std.proofs.Common.{◌∙◌}
 use Rattle.fast_value.specs.declared.kinds.Kind.TheVariants.{UInt32}
 use Rattle.fast_value.specs.declared.values.Scalar.TheVariants.{U}
-use Rattle.fast_dict.specs.Commands.{command_data}
+use Rattle.fast_dict.specs.meaning.Commands.{command_data}
 use Rattle.fast_dict.specs.declared.commands.StoreCommand.TheVariants.{Set}
 use Rattle.fast_dict.proofs.Changes.{after_more, length-after_more, at_ok, runnable_at}
 use Rattle.fast_dict.proofs.commands.run.Goals as goal

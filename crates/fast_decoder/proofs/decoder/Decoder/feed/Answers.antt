@@ -4,13 +4,13 @@ use Rattle.std.proofs.lemmas.List.{take_all}
 use Rattle.fast_stream.specs.declared.faults.FaultCode.{FaultCode}
 use Rattle.fast_stream.specs.declared.faults.FaultCode.TheVariants as Why
 use Rattle.fast_decoder.specs.declared.machine.Machine.{Machine}
-use Rattle.fast_decoder.specs.Handing.{Took, Fed, stood}
-use Rattle.fast_decoder.specs.Positions.{set_of, tree_in, meaning, IsSupplied, IsReady}
-use Rattle.fast_decoder.specs.TurnsLeft.{IsWithinMessage}
-use Rattle.fast_decoder.specs.Decoding.{DecoderData, tree, So, IsRefused, CarriesAt}
-use Rattle.fast_decoder.proofs.Carrying.{meaning-turns, supplied-turns, bytes_of, fed_data, carry_ok, carry_stopped, carry_failed}
-use Rattle.fast_decoder.proofs.Following.{carries_follow, fault_follows, failed_follows}
-use Rattle.fast_decoder.proofs.Paying.{feed_paid, all_within, feed_turns, sound_on}
+use Rattle.fast_decoder.specs.device.Handing.{Took, Fed, stood}
+use Rattle.fast_decoder.specs.device.Positions.{set_of, tree_in, meaning, IsSupplied, IsReady}
+use Rattle.fast_decoder.specs.device.TurnsLeft.{IsWithinMessage}
+use Rattle.fast_decoder.specs.meaning.Decoding.{DecoderData, tree, So, IsRefused, CarriesAt}
+use Rattle.fast_decoder.proofs.streams.Carrying.{meaning-turns, supplied-turns, bytes_of, fed_data, carry_ok, carry_stopped, carry_failed}
+use Rattle.fast_decoder.proofs.streams.Following.{carries_follow, fault_follows, failed_follows}
+use Rattle.fast_decoder.proofs.steps.Paying.{feed_paid, all_within, feed_turns, sound_on}
 use Rattle.fast_decoder.proofs.decoder.Decoder.feed.Goals as goal
 
 pub returns-in-Some-clause-carried : goal.returns-in-Some-clause-carried

@@ -1,9 +1,9 @@
 use Rattle.std.proofs.Common.{refl}
 use Rattle.std.specs.Prelude.{None}
-use Rattle.fast_decoder.specs.Positions.{set_of, IsSupplied, IsFresh}
-use Rattle.fast_decoder.specs.Decoding.{DecoderData}
-use Rattle.fast_decoder.proofs.Bounds.{stored-bound}
-use Rattle.fast_decoder.proofs.Starts.{sound_fresh, so_fresh}
+use Rattle.fast_decoder.specs.device.Positions.{set_of, IsSupplied, IsFresh}
+use Rattle.fast_decoder.specs.meaning.Decoding.{DecoderData}
+use Rattle.fast_decoder.proofs.streams.Bounds.{stored-bound}
+use Rattle.fast_decoder.proofs.streams.Starts.{sound_fresh, so_fresh}
 use Rattle.fast_decoder.proofs.decoder.Decoder.reset.Goals as goal
 
 -- the decoder that was reset

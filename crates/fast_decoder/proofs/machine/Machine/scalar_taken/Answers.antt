@@ -1,12 +1,12 @@
 use Rattle.std.proofs.Common.{subst}
-use Rattle.fast_tree.specs.Nodes.{field_data}
-use Rattle.fast_decoder.specs.Scalars.{IsScalarUnit, CanProgress}
-use Rattle.fast_decoder.specs.Positions.{set_of, meaning}
+use Rattle.fast_tree.specs.device.Nodes.{field_data}
+use Rattle.fast_decoder.specs.device.Scalars.{IsScalarUnit, CanProgress}
+use Rattle.fast_decoder.specs.device.Positions.{set_of, meaning}
 use Rattle.fast_stream.specs.declared.faults.FaultCode.TheVariants as Why
 use Rattle.fast_units.specs.declared.stages.Step.{Step}
 use Rattle.fast_units.specs.declared.progress.Progress.{Progress}
-use Rattle.fast_decoder.proofs.Quick.{cut_to, wrong_to}
-use Rattle.fast_decoder.proofs.ScalarMachines.{scalar_whole, scalar_wrong, scalar_cut}
+use Rattle.fast_decoder.proofs.machines.Quick.{cut_to, wrong_to}
+use Rattle.fast_decoder.proofs.machines.ScalarMachines.{scalar_whole, scalar_wrong, scalar_cut}
 use Rattle.fast_decoder.proofs.machine.Machine.scalar_taken.Goals as goal
 
 pub returns-in-Cut-clause-taken : goal.returns-in-Cut-clause-taken

@@ -1,20 +1,20 @@
 use Rattle.std.proofs.Common.{refl, sym, subst}
 use Rattle.std.specs.Prelude.{Ok}
-use Rattle.fast_value.specs.Limits.{bounds}
-use Rattle.fast_tree.specs.Nodes.{field_data}
-use Rattle.fast_dict.specs.Slots.{slots_dictionary}
-use Rattle.fast_stream.specs.GrammarReaders.{reader_of}
-use Rattle.fast_stream.specs.Readers.{Reader}
-use Rattle.fast_dict.specs.Dictionary.{Dictionary}
-use Rattle.fast_units.specs.Settling.{value_at}
-use Rattle.fast_decoder.specs.Passing.{value_then}
-use Rattle.fast_decoder.specs.Scalars.{CanStep, step_then}
-use Rattle.fast_decoder.specs.Positions.{set_of, meaning, IsTurn}
+use Rattle.fast_value.specs.meaning.Limits.{bounds}
+use Rattle.fast_tree.specs.device.Nodes.{field_data}
+use Rattle.fast_dict.specs.meaning.Slots.{slots_dictionary}
+use Rattle.fast_stream.specs.device.GrammarReaders.{reader_of}
+use Rattle.fast_stream.specs.device.Readers.{Reader}
+use Rattle.fast_dict.specs.meaning.Dictionary.{Dictionary}
+use Rattle.fast_units.specs.device.Settling.{value_at}
+use Rattle.fast_decoder.specs.device.Passing.{value_then}
+use Rattle.fast_decoder.specs.device.Scalars.{CanStep, step_then}
+use Rattle.fast_decoder.specs.device.Positions.{set_of, meaning, IsTurn}
 use Rattle.fast_decoder.specs.declared.machine.Turn.TheVariants as Turn
 use Rattle.fast_units.specs.declared.stages.Step.{Step}
-use Rattle.fast_decoder.proofs.FieldTurns.{entry_here, turn_moved}
-use Rattle.fast_decoder.proofs.ScalarSteps.{stage_waits_on}
-use Rattle.fast_decoder.proofs.TurnCounts.{finished}
+use Rattle.fast_decoder.proofs.steps.FieldTurns.{entry_here, turn_moved}
+use Rattle.fast_decoder.proofs.machines.ScalarSteps.{stage_waits_on}
+use Rattle.fast_decoder.proofs.steps.TurnCounts.{finished}
 use Rattle.fast_decoder.proofs.machine.Machine.step_on.Goals as goal
 
 pub finish-requires-clause-entry : goal.finish-requires-clause-entry

@@ -3,12 +3,12 @@ use Rattle.std.specs.Prelude.{false, is_err, Result, Ok}
 use Rattle.fast_stream.specs.declared.faults.FaultCode.{FaultCode}
 use Rattle.fast_decoder.specs.declared.machine.Turn.{Turn}
 use Rattle.fast_decoder.specs.declared.machine.Turn.TheVariants.{Waits}
-use Rattle.fast_decoder.specs.Positions.{set_of, tree_in, meaning, GoesOn}
-use Rattle.fast_decoder.specs.Handing.{stood}
-use Rattle.fast_decoder.specs.TurnsLeft.{HasTurnsBehind, turns_begun_at}
-use Rattle.fast_decoder.proofs.Feeding.{fed_unit, fed_on, on_ok, within_piece}
-use Rattle.fast_decoder.proofs.TurnCounts.{still_spent, after_unit, all_paid, spent_paid}
-use Rattle.fast_decoder.proofs.Quick.{IsUnitTo, unit_as, taken_on, taken_waits}
+use Rattle.fast_decoder.specs.device.Positions.{set_of, tree_in, meaning, GoesOn}
+use Rattle.fast_decoder.specs.device.Handing.{stood}
+use Rattle.fast_decoder.specs.device.TurnsLeft.{HasTurnsBehind, turns_begun_at}
+use Rattle.fast_decoder.proofs.streams.Feeding.{fed_unit, fed_on, on_ok, within_piece}
+use Rattle.fast_decoder.proofs.steps.TurnCounts.{still_spent, after_unit, all_paid, spent_paid}
+use Rattle.fast_decoder.proofs.machines.Quick.{IsUnitTo, unit_as, taken_on, taken_waits}
 use Rattle.fast_decoder.proofs.machine.Machine.take_all.Goals.{in-Some+else-waits, in-None}
 use Rattle.fast_decoder.proofs.machine.Machine.take_all.Goals as goal
 

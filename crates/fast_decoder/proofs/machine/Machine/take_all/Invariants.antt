@@ -1,8 +1,8 @@
 use Rattle.std.proofs.Common.{◌≡◌, length, take, ◌-◌, ◌≤◌}
-use Rattle.fast_decoder.specs.Positions.{set_of, tree_in, meaning, IsReady}
-use Rattle.fast_decoder.specs.Handing.{Took, stood}
-use Rattle.fast_decoder.specs.TurnsLeft.{Way, most_by, HasTurnsWaiting}
-use Rattle.fast_decoder.proofs.TurnCounts.{IsSpent}
+use Rattle.fast_decoder.specs.device.Positions.{set_of, tree_in, meaning, IsReady}
+use Rattle.fast_decoder.specs.device.Handing.{Took, stood}
+use Rattle.fast_decoder.specs.device.TurnsLeft.{Way, most_by, HasTurnsWaiting}
+use Rattle.fast_decoder.proofs.steps.TurnCounts.{IsSpent}
 use Rattle.fast_decoder.proofs.machine.Machine.take_all.Given as goal
 
 -- the units so far were taken
