@@ -17,7 +17,7 @@ ghost use Rattle.fast_stream.specs.meaning.Grammar.{of_result};
 ghost use Rattle.fast_units.specs.device.Settling.{Serves, HasRoomFor, value_at};
 ghost use Rattle.fast_units.specs.device.Deciding.{needs_bytes, number_data, source_of, IsDecided};
 
-use crate::source::Source;
+use crate::source::ValueSource;
 use fast_dict::operators::initial_value;
 use fast_dict::operators::integers::{integer_of, integer_value};
 use fast_dict::operators::unsent::next_integer;
@@ -69,26 +69,26 @@ impl Number {
 
     /// Where the number stands: at hand.
     #[inline]
-    pub fn source(self) -> Source
+    pub fn source(self) -> ValueSource
         ensures { (f : FieldData) (d : Dictionary) (scratch piece : List ℕ)
             → value_at result f d scratch piece ≡ Some (number_data self) }
     {
         match self {
-            Number::Unsigned(number) => Source::Unsigned(number),
-            Number::Signed(number) => Source::Signed(number),
-            Number::Decimal { exponent, mantissa } => Source::Decimal { exponent, mantissa },
+            Number::Unsigned(number) => ValueSource::Unsigned(number),
+            Number::Signed(number) => ValueSource::Signed(number),
+            Number::Decimal { exponent, mantissa } => ValueSource::Decimal { exponent, mantissa },
         }
     }
 }
 
 /// Where a number stands that is at hand, or NULL.
 #[inline(always)]
-pub fn source_of(item: Option<Number>) -> Source
+pub fn source_of(item: Option<Number>) -> ValueSource
     ensures { result ≡ source_of item }
 {
     match item {
         Some(number) => number.source(),
-        None => Source::Absent,
+        None => ValueSource::Absent,
     }
 }
 
@@ -160,7 +160,7 @@ pub fn assign_empty(slots: &mut Slots, field: &FieldInstruction)
 
 /// Keeps a number at the field's entry, if it has one, and says where it stands.
 #[inline]
-pub fn keep(slots: &mut Slots, field: &FieldInstruction, number: Number) -> Source
+pub fn keep(slots: &mut Slots, field: &FieldInstruction, number: Number) -> ValueSource
     requires within { (e : ℕ) → (field_data field.now).entry ≡ Some e → e < length (slots_dictionary slots.old) }
     ensures value { (d : Dictionary) (scratch piece : List ℕ)
         → value_at result (field_data field.now) d scratch piece ≡ Some (number_data number) }
@@ -237,7 +237,7 @@ fn is_text_under(kind: Kind, entry: Entry) -> bool
 /// D4 if the previous value is of another type; of a mandatory field D5 if there is neither a previous nor an initial value,
 /// and D6 if the previous value is empty.
 #[inline(always)]
-pub fn unsent(slots: &mut Slots, field: &FieldInstruction, bit: bool) -> Result<Source, Code>
+pub fn unsent(slots: &mut Slots, field: &FieldInstruction, bit: bool) -> Result<ValueSource, Code>
     requires serves { Serves (length (slots_dictionary slots.old)) (slots_terms slots.old) (field_data field.now) }
     requires no_bytes { needs_bytes field.now.operator bit ≡ false }
     ensures decided { IsDecided
@@ -247,9 +247,9 @@ pub fn unsent(slots: &mut Slots, field: &FieldInstruction, bit: bool) -> Result<
     ensures terms { slots_terms slots.new ≡ slots_terms slots.old }
 {
     match field.operator {
-        Operator::Constant if bit => Ok(Source::Initial),
-        Operator::Constant => Ok(Source::Absent),
-        Operator::Default => Ok(Source::Initial),
+        Operator::Constant if bit => Ok(ValueSource::Initial),
+        Operator::Constant => Ok(ValueSource::Absent),
+        Operator::Default => Ok(ValueSource::Initial),
         Operator::Copy => copied(slots, field),
         Operator::Tail => copied(slots, field),
         Operator::Increment => incremented(slots, field),
@@ -259,7 +259,7 @@ pub fn unsent(slots: &mut Slots, field: &FieldInstruction, bit: bool) -> Result<
 
 /// Copy and tail: the previous value. Under an undefined entry the initial value, which the entry then holds.
 #[inline(always)]
-fn copied(slots: &mut Slots, field: &FieldInstruction) -> Result<Source, Code>
+fn copied(slots: &mut Slots, field: &FieldInstruction) -> Result<ValueSource, Code>
     requires serves { Serves (length (slots_dictionary slots.old)) (slots_terms slots.old) (field_data field.now) }
     requires operator { field.now.operator ≢ Operator.Increment }
     ensures decided { IsDecided
@@ -271,10 +271,10 @@ fn copied(slots: &mut Slots, field: &FieldInstruction) -> Result<Source, Code>
         return Ok(number.source());
     }
     if has_own_text(slots, field) {
-        return Ok(Source::Entry);
+        return Ok(ValueSource::Entry);
     }
     match previous(slots, field) {
-        Previous::Assigned(kind, _) if kind == field.kind => Ok(Source::Entry),
+        Previous::Assigned(kind, _) if kind == field.kind => Ok(ValueSource::Entry),
         Previous::Assigned(..) => Err(Code::D4),
         Previous::Undefined => initial(slots, field),
         Previous::Empty => absent(slots, field, Code::D6),
@@ -284,7 +284,7 @@ fn copied(slots: &mut Slots, field: &FieldInstruction) -> Result<Source, Code>
 /// Increment: one more than the previous value, and behind the greatest of the type the least. Under an undefined entry
 /// the initial value. The entry then holds the value.
 #[inline(always)]
-fn incremented(slots: &mut Slots, field: &FieldInstruction) -> Result<Source, Code>
+fn incremented(slots: &mut Slots, field: &FieldInstruction) -> Result<ValueSource, Code>
     requires serves { Serves (length (slots_dictionary slots.old)) (slots_terms slots.old) (field_data field.now) }
     requires operator { field.now.operator ≡ Operator.Increment }
     ensures decided { IsDecided
@@ -317,7 +317,7 @@ fn next_number(kind: Kind, value: Scalar<'_>) -> Number
 }
 
 /// The initial value under an undefined entry, which then holds it; without one absent.
-fn initial(slots: &mut Slots, field: &FieldInstruction) -> Result<Source, Code>
+fn initial(slots: &mut Slots, field: &FieldInstruction) -> Result<ValueSource, Code>
     requires serves { Serves (length (slots_dictionary slots.old)) (slots_terms slots.old) (field_data field.now) }
     ensures decided { IsDecided (from_initial field.now.kind field.now.optional Code.D5 (field_data field.now).initial)
         (field_data field.now) (slots_dictionary slots.old) (slots_dictionary slots.new) result }
@@ -326,14 +326,14 @@ fn initial(slots: &mut Slots, field: &FieldInstruction) -> Result<Source, Code>
     match initial_value(field) {
         Some(value) => {
             assign(slots, field, value);
-            Ok(Source::Initial)
+            Ok(ValueSource::Initial)
         }
         None => absent(slots, field, Code::D5),
     }
 }
 
 /// Absent, if the field may be; the entry is then empty.
-fn absent(slots: &mut Slots, field: &FieldInstruction, fault: Code) -> Result<Source, Code>
+fn absent(slots: &mut Slots, field: &FieldInstruction, fault: Code) -> Result<ValueSource, Code>
     requires within { (e : ℕ) → (field_data field.now).entry ≡ Some e → e < length (slots_dictionary slots.old) }
     ensures decided { IsDecided (from_initial field.now.kind field.now.optional fault None)
         (field_data field.now) (slots_dictionary slots.old) (slots_dictionary slots.new) result }
@@ -341,7 +341,7 @@ fn absent(slots: &mut Slots, field: &FieldInstruction, fault: Code) -> Result<So
 {
     if field.optional {
         assign_empty(slots, field);
-        Ok(Source::Absent)
+        Ok(ValueSource::Absent)
     } else {
         Err(fault)
     }
@@ -354,24 +354,24 @@ pub fn value_at<'x>(
     field: &'x FieldInstruction,
     scratch: &'x [u8],
     piece: &'x [u8],
-    source: Source,
+    source: ValueSource,
 ) -> Option<Scalar<'x>>
     requires within { (e : ℕ) → (field_data field.now).entry ≡ Some e → e < length (slots_dictionary slots.now) }
     ensures { option_map scalar_data result
         ≡ value_at source (field_data field.now) (slots_dictionary slots.now) scratch.now piece.now }
 {
     match source {
-        Source::Absent => None,
-        Source::Unsigned(number) => Some(Scalar::U(number)),
-        Source::Signed(number) => Some(Scalar::I(number)),
-        Source::Decimal { exponent, mantissa } => Some(Scalar::Dec { exponent, mantissa }),
-        Source::Entry => match previous(slots, field) {
+        ValueSource::Absent => None,
+        ValueSource::Unsigned(number) => Some(Scalar::U(number)),
+        ValueSource::Signed(number) => Some(Scalar::I(number)),
+        ValueSource::Decimal { exponent, mantissa } => Some(Scalar::Dec { exponent, mantissa }),
+        ValueSource::Entry => match previous(slots, field) {
             Previous::Assigned(_, value) => Some(value),
             Previous::Undefined | Previous::Empty => None,
         },
-        Source::Initial => initial_value(field),
-        Source::Scratch => Some(text_value(field.kind, scratch)),
-        Source::Piece => Some(text_value(field.kind, piece)),
+        ValueSource::Initial => initial_value(field),
+        ValueSource::Scratch => Some(text_value(field.kind, scratch)),
+        ValueSource::Piece => Some(text_value(field.kind, piece)),
     }
 }
 

@@ -18,8 +18,8 @@ ghost use Rattle.fast_units.specs.device.Deciding.{number_data, sent_number, bas
 
 use crate::fields::{Number, assign_empty, keep, own_number, previous};
 use crate::progress::Progress;
-use crate::source::Source;
-use crate::stages::{Stage, Step};
+use crate::source::ValueSource;
+use crate::stages::{FieldStep, Stage};
 use crate::units::{IntegerRange, next_integer, next_unsigned};
 use fast_dict::Slots;
 use fast_dict::operators::decimals::{exponent_delta, mantissa_of};
@@ -58,7 +58,7 @@ fn range_on_wire(kind: Kind) -> IntegerRange
 /// A number that is sent, or NULL, without an operator and under default, copy and increment: copy and increment keep it at the
 /// field's entry, the others have none.
 #[inline(always)]
-fn received(slots: &mut Slots, field: &FieldInstruction, item: Option<Number>) -> Source
+fn received(slots: &mut Slots, field: &FieldInstruction, item: Option<Number>) -> ValueSource
     requires serves { Serves (length (slots_dictionary slots.old)) (slots_terms slots.old) (field_data field.now) }
     requires numbers { family field.now.kind ≢ texts }
     requires no_delta { field.now.operator ≢ Operator.Delta }
@@ -73,7 +73,7 @@ fn received(slots: &mut Slots, field: &FieldInstruction, item: Option<Number>) -
         Some(number) => keep(slots, field, number),
         None => {
             assign_empty(slots, field);
-            Source::Absent
+            ValueSource::Absent
         }
     }
 }
@@ -93,7 +93,11 @@ fn base_integer(slots: &Slots, field: &FieldInstruction) -> Result<i128, Code>
 
 /// An integer behind its delta, which the entry then holds.
 #[inline(always)]
-fn change_integer(slots: &mut Slots, field: &FieldInstruction, delta: i128) -> Result<Source, Code>
+fn change_integer(
+    slots: &mut Slots,
+    field: &FieldInstruction,
+    delta: i128,
+) -> Result<ValueSource, Code>
     requires serves { Serves (length (slots_dictionary slots.old)) (slots_terms slots.old) (field_data field.now) }
     ensures decided { IsDecided
         (integer_step (field_data field.now) (previous_at (field_data field.now).entry (slots_dictionary slots.old))
@@ -114,7 +118,7 @@ fn change_mantissa(
     field: &FieldInstruction,
     exponent: i32,
     delta: i128,
-) -> Result<Source, Code>
+) -> Result<ValueSource, Code>
     requires serves { Serves (length (slots_dictionary slots.old)) (slots_terms slots.old) (field_data field.now) }
     ensures decided { IsDecided
         (mantissa_step (field_data field.now) (previous_at (field_data field.now).entry (slots_dictionary slots.old))
@@ -153,7 +157,7 @@ fn exponent(exponent: i128) -> i32
 
 /// What is decided behind so many bytes.
 #[inline(always)]
-fn settled(answer: Result<Source, Code>, bytes: usize) -> Progress<Source>
+fn settled(answer: Result<ValueSource, Code>, bytes: usize) -> Progress<ValueSource>
     ensures { result ≡ progress_of answer bytes }
 {
     match answer {
@@ -172,7 +176,7 @@ pub fn take_integer(
     field: &FieldInstruction,
     rest: &[u8],
     strict: bool,
-) -> Progress<Source>
+) -> Progress<ValueSource>
     requires open { HaveNoStop pending.old }
     requires short { length pending.old < 10 }
     requires serves { Serves (length (slots_dictionary slots.old)) (slots_terms slots.old) (field_data field.now) }
@@ -184,7 +188,7 @@ pub fn take_integer(
         true))
         (field_data field.now) pending.old rest.now (slots_dictionary slots.old) (slots_dictionary slots.new) scratch
         result }
-    ensures whole { (s : Source) (n : ℕ) → result ≡ Progress.Whole s n → pending.new ≡ [] }
+    ensures whole { (s : ValueSource) (n : ℕ) → result ≡ Progress.Whole s n → pending.new ≡ [] }
     ensures cut { result ≡ Progress.Cut
         → (pending.new ≡ pending.old ++ rest.now) × HaveNoStop pending.new × (length pending.new < 10) }
     ensures terms { slots_terms slots.new ≡ slots_terms slots.old }
@@ -203,7 +207,7 @@ fn take_integer_item(
     field: &FieldInstruction,
     rest: &[u8],
     strict: bool,
-) -> Progress<Source>
+) -> Progress<ValueSource>
     requires open { HaveNoStop pending.old }
     requires short { length pending.old < 10 }
     requires serves { Serves (length (slots_dictionary slots.old)) (slots_terms slots.old) (field_data field.now) }
@@ -216,7 +220,7 @@ fn take_integer_item(
         true))
         (field_data field.now) pending.old rest.now (slots_dictionary slots.old) (slots_dictionary slots.new) scratch
         result }
-    ensures whole { (s : Source) (n : ℕ) → result ≡ Progress.Whole s n → pending.new ≡ [] }
+    ensures whole { (s : ValueSource) (n : ℕ) → result ≡ Progress.Whole s n → pending.new ≡ [] }
     ensures cut { result ≡ Progress.Cut
         → (pending.new ≡ pending.old ++ rest.now) × HaveNoStop pending.new × (length pending.new < 10) }
     ensures terms { slots_terms slots.new ≡ slots_terms slots.old }
@@ -261,7 +265,7 @@ fn take_unsigned(
     rest: &[u8],
     strict: bool,
     top: u64,
-) -> Progress<Source>
+) -> Progress<ValueSource>
     requires open { HaveNoStop pending.old }
     requires short { length pending.old < 10 }
     requires serves { Serves (length (slots_dictionary slots.old)) (slots_terms slots.old) (field_data field.now) }
@@ -277,7 +281,7 @@ fn take_unsigned(
         true))
         (field_data field.now) pending.old rest.now (slots_dictionary slots.old) (slots_dictionary slots.new) scratch
         result }
-    ensures whole { (s : Source) (n : ℕ) → result ≡ Progress.Whole s n → pending.new ≡ [] }
+    ensures whole { (s : ValueSource) (n : ℕ) → result ≡ Progress.Whole s n → pending.new ≡ [] }
     ensures cut { result ≡ Progress.Cut
         → (pending.new ≡ pending.old ++ rest.now) × HaveNoStop pending.new × (length pending.new < 10) }
     ensures terms { slots_terms slots.new ≡ slots_terms slots.old }
@@ -300,7 +304,7 @@ fn take_integer_delta(
     field: &FieldInstruction,
     rest: &[u8],
     strict: bool,
-) -> Progress<Source>
+) -> Progress<ValueSource>
     requires open { HaveNoStop pending.old }
     requires short { length pending.old < 10 }
     requires serves { Serves (length (slots_dictionary slots.old)) (slots_terms slots.old) (field_data field.now) }
@@ -312,14 +316,14 @@ fn take_integer_delta(
         true))
         (field_data field.now) pending.old rest.now (slots_dictionary slots.old) (slots_dictionary slots.new) scratch
         result }
-    ensures whole { (s : Source) (n : ℕ) → result ≡ Progress.Whole s n → pending.new ≡ [] }
+    ensures whole { (s : ValueSource) (n : ℕ) → result ≡ Progress.Whole s n → pending.new ≡ [] }
     ensures cut { result ≡ Progress.Cut
         → (pending.new ≡ pending.old ++ rest.now) × HaveNoStop pending.new × (length pending.new < 10) }
     ensures terms { slots_terms slots.new ≡ slots_terms slots.old }
 {
     match next_integer(pending, rest, strict, DELTA, field.optional, Code::D2) {
         Progress::Whole(Some(delta), bytes) => settled(change_integer(slots, field, delta), bytes),
-        Progress::Whole(None, bytes) => Progress::Whole(Source::Absent, bytes),
+        Progress::Whole(None, bytes) => Progress::Whole(ValueSource::Absent, bytes),
         Progress::Wrong(code, bytes) => Progress::Wrong(code, bytes),
         Progress::Cut => Progress::Cut,
     }
@@ -334,7 +338,7 @@ pub fn take_exponent(
     field: &FieldInstruction,
     rest: &[u8],
     limits: Limits,
-) -> Progress<Step>
+) -> Progress<FieldStep>
     requires open { HaveNoStop pending.old }
     requires short { length pending.old < 10 }
     requires serves { Serves (length (slots_dictionary slots.old)) (slots_terms slots.old) (field_data field.now) }
@@ -346,7 +350,7 @@ pub fn take_exponent(
         (previous_at (field_data field.now).entry (slots_dictionary slots.old)) true))
         (field_data field.now) pending.old rest.now (slots_dictionary slots.old) (slots_dictionary slots.new) scratch
         result }
-    ensures whole { (s : Step) (n : ℕ) → result ≡ Progress.Whole s n → pending.new ≡ [] }
+    ensures whole { (s : FieldStep) (n : ℕ) → result ≡ Progress.Whole s n → pending.new ≡ [] }
     ensures cut { result ≡ Progress.Cut
         → (pending.new ≡ pending.old ++ rest.now) × HaveNoStop pending.new × (length pending.new < 10) }
     ensures terms { slots_terms slots.new ≡ slots_terms slots.old }
@@ -364,7 +368,7 @@ fn take_exponent_item(
     field: &FieldInstruction,
     rest: &[u8],
     limits: Limits,
-) -> Progress<Step>
+) -> Progress<FieldStep>
     requires open { HaveNoStop pending.old }
     requires short { length pending.old < 10 }
     requires serves { Serves (length (slots_dictionary slots.old)) (slots_terms slots.old) (field_data field.now) }
@@ -377,7 +381,7 @@ fn take_exponent_item(
         (previous_at (field_data field.now).entry (slots_dictionary slots.old)) true))
         (field_data field.now) pending.old rest.now (slots_dictionary slots.old) (slots_dictionary slots.new) scratch
         result }
-    ensures whole { (s : Step) (n : ℕ) → result ≡ Progress.Whole s n → pending.new ≡ [] }
+    ensures whole { (s : FieldStep) (n : ℕ) → result ≡ Progress.Whole s n → pending.new ≡ [] }
     ensures cut { result ≡ Progress.Cut
         → (pending.new ≡ pending.old ++ rest.now) × HaveNoStop pending.new × (length pending.new < 10) }
     ensures terms { slots_terms slots.new ≡ slots_terms slots.old }
@@ -392,10 +396,10 @@ fn take_exponent_item(
         Code::R1,
     ) {
         Progress::Whole(Some(integer), bytes) => {
-            Progress::Whole(Step::Next(Stage::Mantissa(exponent(integer))), bytes)
+            Progress::Whole(FieldStep::Next(Stage::Mantissa(exponent(integer))), bytes)
         }
         Progress::Whole(None, bytes) => {
-            Progress::Whole(Step::Settled(received(slots, field, None)), bytes)
+            Progress::Whole(FieldStep::Settled(received(slots, field, None)), bytes)
         }
         Progress::Wrong(code, bytes) => Progress::Wrong(code, bytes),
         Progress::Cut => Progress::Cut,
@@ -409,7 +413,7 @@ fn take_exponent_delta(
     field: &FieldInstruction,
     rest: &[u8],
     limits: Limits,
-) -> Progress<Step>
+) -> Progress<FieldStep>
     requires open { HaveNoStop pending.old }
     requires short { length pending.old < 10 }
     requires serves { Serves (length (slots_dictionary slots.old)) (slots_terms slots.old) (field_data field.now) }
@@ -421,7 +425,7 @@ fn take_exponent_delta(
         (previous_at (field_data field.now).entry (slots_dictionary slots.old)) true))
         (field_data field.now) pending.old rest.now (slots_dictionary slots.old) (slots_dictionary slots.new) scratch
         result }
-    ensures whole { (s : Step) (n : ℕ) → result ≡ Progress.Whole s n → pending.new ≡ [] }
+    ensures whole { (s : FieldStep) (n : ℕ) → result ≡ Progress.Whole s n → pending.new ≡ [] }
     ensures cut { result ≡ Progress.Cut
         → (pending.new ≡ pending.old ++ rest.now) × HaveNoStop pending.new × (length pending.new < 10) }
     ensures terms { slots_terms slots.new ≡ slots_terms slots.old }
@@ -436,11 +440,17 @@ fn take_exponent_delta(
     ) {
         Progress::Whole(Some(delta), bytes) => {
             match exponent_delta(field, previous(slots, field), delta) {
-                Ok(exponent) => Progress::Whole(Step::Next(Stage::MantissaDelta(exponent)), bytes),
+                Ok(exponent) => Progress::Whole(
+                    FieldStep::Next(Stage::MantissaDelta(exponent)),
+                    bytes,
+                ),
                 Err(code) => Progress::Wrong(code, bytes),
             }
         }
-        Progress::Whole(None, bytes) => Progress::Whole(Step::Settled(Source::Absent), bytes),
+        Progress::Whole(None, bytes) => Progress::Whole(
+            FieldStep::Settled(ValueSource::Absent),
+            bytes,
+        ),
         Progress::Wrong(code, bytes) => Progress::Wrong(code, bytes),
         Progress::Cut => Progress::Cut,
     }
@@ -454,7 +464,7 @@ pub fn take_mantissa(
     exponent: i32,
     rest: &[u8],
     limits: Limits,
-) -> Progress<Source>
+) -> Progress<ValueSource>
     requires open { HaveNoStop pending.old }
     requires short { length pending.old < 10 }
     requires serves { Serves (length (slots_dictionary slots.old)) (slots_terms slots.old) (field_data field.now) }
@@ -466,7 +476,7 @@ pub fn take_mantissa(
         (previous_at (field_data field.now).entry (slots_dictionary slots.old)) (Stage.Mantissa exponent)))
         (field_data field.now) pending.old rest.now (slots_dictionary slots.old) (slots_dictionary slots.new) scratch
         result }
-    ensures whole { (s : Source) (n : ℕ) → result ≡ Progress.Whole s n → pending.new ≡ [] }
+    ensures whole { (s : ValueSource) (n : ℕ) → result ≡ Progress.Whole s n → pending.new ≡ [] }
     ensures cut { result ≡ Progress.Cut
         → (pending.new ≡ pending.old ++ rest.now) × HaveNoStop pending.new × (length pending.new < 10) }
     ensures terms { slots_terms slots.new ≡ slots_terms slots.old }
@@ -490,7 +500,7 @@ pub fn take_mantissa_delta(
     exponent: i32,
     rest: &[u8],
     limits: Limits,
-) -> Progress<Source>
+) -> Progress<ValueSource>
     requires open { HaveNoStop pending.old }
     requires short { length pending.old < 10 }
     requires serves { Serves (length (slots_dictionary slots.old)) (slots_terms slots.old) (field_data field.now) }
@@ -502,7 +512,7 @@ pub fn take_mantissa_delta(
         (previous_at (field_data field.now).entry (slots_dictionary slots.old)) (Stage.MantissaDelta exponent)))
         (field_data field.now) pending.old rest.now (slots_dictionary slots.old) (slots_dictionary slots.new) scratch
         result }
-    ensures whole { (s : Source) (n : ℕ) → result ≡ Progress.Whole s n → pending.new ≡ [] }
+    ensures whole { (s : ValueSource) (n : ℕ) → result ≡ Progress.Whole s n → pending.new ≡ [] }
     ensures cut { result ≡ Progress.Cut
         → (pending.new ≡ pending.old ++ rest.now) × HaveNoStop pending.new × (length pending.new < 10) }
     ensures terms { slots_terms slots.new ≡ slots_terms slots.old }
@@ -511,7 +521,7 @@ pub fn take_mantissa_delta(
         Progress::Whole(Some(delta), bytes) => {
             settled(change_mantissa(slots, field, exponent, delta), bytes)
         }
-        Progress::Whole(None, bytes) => Progress::Whole(Source::Absent, bytes),
+        Progress::Whole(None, bytes) => Progress::Whole(ValueSource::Absent, bytes),
         Progress::Wrong(code, bytes) => Progress::Wrong(code, bytes),
         Progress::Cut => Progress::Cut,
     }

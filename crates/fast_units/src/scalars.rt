@@ -19,8 +19,8 @@ ghost use Rattle.fast_units.specs.device.UnitFronts.{IsAsciiFirst, IsNumberStage
 use crate::numbers::{take_exponent, take_integer, take_mantissa, take_mantissa_delta};
 use crate::progress::Progress;
 use crate::scratch::Scratch;
-use crate::source::Source;
-use crate::stages::{Stage, Step};
+use crate::source::ValueSource;
+use crate::stages::{FieldStep, Stage};
 use crate::texts::{
     take_part, take_part_size, take_part_vector, take_size, take_subtraction, take_text,
     take_vector,
@@ -38,7 +38,7 @@ pub fn take_only(
     field: &FieldInstruction,
     rest: &[u8],
     limits: Limits,
-) -> Progress<Step>
+) -> Progress<FieldStep>
     requires serves { Serves (length (slots_dictionary slots.old)) (slots_terms slots.old) (field_data field.now) }
     requires open { HaveNoStop pending.old }
     requires short { length pending.old < 10 }
@@ -67,7 +67,7 @@ pub fn take_first(
     field: &FieldInstruction,
     rest: &[u8],
     limits: Limits,
-) -> Progress<Step>
+) -> Progress<FieldStep>
     requires serves { Serves (length (slots_dictionary slots.old)) (slots_terms slots.old) (field_data field.now) }
     requires max_text { (slots_terms slots.old).max_text ≡ limits.max_text }
     requires least { 16 ≤ limits.max_text }
@@ -112,7 +112,7 @@ pub fn take_first_text(
     field: &FieldInstruction,
     rest: &[u8],
     limits: Limits,
-) -> Progress<Step>
+) -> Progress<FieldStep>
     requires serves { Serves (length (slots_dictionary slots.old)) (slots_terms slots.old) (field_data field.now) }
     requires max_text { (slots_terms slots.old).max_text ≡ limits.max_text }
     requires least { 16 ≤ limits.max_text }
@@ -147,7 +147,7 @@ pub fn take_number(
     stage: Stage,
     rest: &[u8],
     limits: Limits,
-) -> Progress<Step>
+) -> Progress<FieldStep>
     requires serves { Serves (length (slots_dictionary slots.old)) (slots_terms slots.old) (field_data field.now) }
     requires max_text { (slots_terms slots.old).max_text ≡ limits.max_text }
     requires least { 16 ≤ limits.max_text }
@@ -198,7 +198,7 @@ pub fn take_bytes(
     stage: Stage,
     rest: &[u8],
     limits: Limits,
-) -> Progress<Step>
+) -> Progress<FieldStep>
     requires serves { Serves (length (slots_dictionary slots.old)) (slots_terms slots.old) (field_data field.now) }
     requires max_text { (slots_terms slots.old).max_text ≡ limits.max_text }
     requires least { 16 ≤ limits.max_text }
@@ -251,11 +251,11 @@ pub fn take_bytes(
 
 /// A unit that was the field's last.
 #[inline(always)]
-fn settled(progress: Progress<Source>) -> Progress<Step>
+fn settled(progress: Progress<ValueSource>) -> Progress<FieldStep>
     ensures { result ≡ settled progress }
 {
     match progress {
-        Progress::Whole(source, bytes) => Progress::Whole(Step::Settled(source), bytes),
+        Progress::Whole(source, bytes) => Progress::Whole(FieldStep::Settled(source), bytes),
         Progress::Wrong(code, bytes) => Progress::Wrong(code, bytes),
         Progress::Cut => Progress::Cut,
     }

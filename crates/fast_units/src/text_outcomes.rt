@@ -18,7 +18,7 @@ ghost use Rattle.fast_units.specs.device.TextDecisions.{is_emptied, IsTextDecide
 
 use crate::fields::{assign, assign_empty, previous};
 use crate::scratch::Scratch;
-use crate::source::Source;
+use crate::source::ValueSource;
 use fast_dict::Slots;
 use fast_dict::operators::texts::text_of;
 use fast_dict::operators::{Kept, checked_text, subtract, tail_base, tail_keeps};
@@ -37,7 +37,7 @@ fn is_emptied(operator: Operator) -> bool
 }
 
 /// NULL was sent: the field is absent.
-pub fn finish_absent(slots: &mut Slots, field: &FieldInstruction) -> Source
+pub fn finish_absent(slots: &mut Slots, field: &FieldInstruction) -> ValueSource
     requires serves { Serves (length (slots_dictionary slots.old)) (slots_terms slots.old) (field_data field.now) }
     requires sent { field.now.operator ≢ Operator.Constant }
     ensures field { (scratch piece : List ℕ)
@@ -49,12 +49,12 @@ pub fn finish_absent(slots: &mut Slots, field: &FieldInstruction) -> Source
     if is_emptied(field.operator) {
         assign_empty(slots, field);
     }
-    Source::Absent
+    ValueSource::Absent
 }
 
 /// The text is the field's value, which its entry then holds.
 #[inline(always)]
-fn keep(slots: &mut Slots, field: &FieldInstruction, text: &[u8]) -> Result<Source, Code>
+fn keep(slots: &mut Slots, field: &FieldInstruction, text: &[u8]) -> Result<ValueSource, Code>
     requires serves { Serves (length (slots_dictionary slots.old)) (slots_terms slots.old) (field_data field.now) }
     requires text { family field.now.kind ≡ texts }
     requires keeps { keeps_value field.now.operator ≡ true }
@@ -65,7 +65,7 @@ fn keep(slots: &mut Slots, field: &FieldInstruction, text: &[u8]) -> Result<Sour
 {
     let value = checked_text(field.kind, text)?;
     assign(slots, field, value);
-    Ok(Source::Entry)
+    Ok(ValueSource::Entry)
 }
 
 /// Joins a tail to what it keeps of its base.
@@ -162,7 +162,7 @@ fn finish_tail(
     joined: &mut Scratch,
     field: &FieldInstruction,
     part: &[u8],
-) -> Result<Source, Code>
+) -> Result<ValueSource, Code>
     requires serves { Serves (length (slots_dictionary slots.old)) (slots_terms slots.old) (field_data field.now) }
     requires text { family field.now.kind ≡ texts }
     requires tail { field.now.operator ≡ Operator.Tail }
@@ -186,8 +186,8 @@ pub fn finish_text(
     joined: &mut Scratch,
     field: &FieldInstruction,
     text: &[u8],
-    place: Source,
-) -> Result<Source, Code>
+    place: ValueSource,
+) -> Result<ValueSource, Code>
     requires serves { Serves (length (slots_dictionary slots.old)) (slots_terms slots.old) (field_data field.now) }
     requires text { family field.now.kind ≡ texts }
     requires sent { field.now.operator ≢ Operator.Constant }
@@ -222,8 +222,8 @@ pub fn finish_ascii(
     joined: &mut Scratch,
     field: &FieldInstruction,
     text: &[u8],
-    place: Source,
-) -> Result<Source, Code>
+    place: ValueSource,
+) -> Result<ValueSource, Code>
     requires serves { Serves (length (slots_dictionary slots.old)) (slots_terms slots.old) (field_data field.now) }
     requires kind { field.now.kind ≡ Kind.Ascii }
     requires sent { field.now.operator ≢ Operator.Constant }
@@ -257,7 +257,7 @@ pub fn finish_part(
     field: &FieldInstruction,
     subtraction: i32,
     part: &[u8],
-) -> Result<Source, Code>
+) -> Result<ValueSource, Code>
     requires serves { Serves (length (slots_dictionary slots.old)) (slots_terms slots.old) (field_data field.now) }
     requires text { family field.now.kind ≡ texts }
     requires delta { field.now.operator ≡ Operator.Delta }

@@ -22,8 +22,8 @@ ghost use Rattle.fast_units.specs.device.TextDecisions.{IsStepped, first_reader,
 
 use crate::progress::Progress;
 use crate::scratch::Scratch;
-use crate::source::Source;
-use crate::stages::{Stage, Step};
+use crate::source::ValueSource;
+use crate::stages::{FieldStep, Stage};
 use crate::text_outcomes::{
     finish_absent, finish_ascii, finish_part, finish_text, kept, part_room,
 };
@@ -50,10 +50,10 @@ fn answered<T>(answer: Result<T, Code>, bytes: usize) -> Progress<T>
 
 /// The last answer of a field as that of a unit.
 #[inline(always)]
-fn settled(answer: Result<Source, Code>) -> Result<Step, Code>
+fn settled(answer: Result<ValueSource, Code>) -> Result<FieldStep, Code>
     ensures { result ≡ settled answer }
 {
-    answer.map(Step::Settled)
+    answer.map(FieldStep::Settled)
 }
 
 /// A size, of which it is known that it is a uInt32.
@@ -82,7 +82,7 @@ pub fn take_text(
     field: &FieldInstruction,
     rest: &[u8],
     limits: Limits,
-) -> Progress<Source>
+) -> Progress<ValueSource>
     requires serves { Serves (length (slots_dictionary slots.old)) (slots_terms slots.old) (field_data field.now) }
     requires max_text { (slots_terms slots.old).max_text ≡ limits.max_text }
     requires least { 16 ≤ limits.max_text }
@@ -106,7 +106,7 @@ pub fn take_text(
         Progress::Whole(true, bytes) => {
             let text = scratch.as_slice();
             answered(
-                finish_ascii(slots, joined, field, text, Source::Scratch),
+                finish_ascii(slots, joined, field, text, ValueSource::Scratch),
                 bytes,
             )
         }
@@ -124,7 +124,7 @@ pub fn take_size(
     field: &FieldInstruction,
     rest: &[u8],
     limits: Limits,
-) -> Progress<Step>
+) -> Progress<FieldStep>
     requires serves { Serves (length (slots_dictionary slots.old)) (slots_terms slots.old) (field_data field.now) }
     requires max_text { (slots_terms slots.old).max_text ≡ limits.max_text }
     requires least { 16 ≤ limits.max_text }
@@ -138,8 +138,8 @@ pub fn take_size(
     ensures unit { IsFieldUnit limits (first_reader limits (field_data field.now) (slots_dictionary slots.old))
         (field_data field.now) pending.old rest.now (slots_dictionary slots.old) (slots_dictionary slots.new)
         [] result }
-    ensures more { (step : Step) (n : ℕ) → result ≡ Progress.Whole step n → HasBytes step }
-    ensures whole { (step : Step) (n : ℕ) → result ≡ Progress.Whole step n → pending.new ≡ [] }
+    ensures more { (step : FieldStep) (n : ℕ) → result ≡ Progress.Whole step n → HasBytes step }
+    ensures whole { (step : FieldStep) (n : ℕ) → result ≡ Progress.Whole step n → pending.new ≡ [] }
     ensures cut { result ≡ Progress.Cut
         → (pending.new ≡ pending.old ++ rest.now) × HaveNoStop pending.new × (length pending.new < 10) }
     ensures terms { slots_terms slots.new ≡ slots_terms slots.old }
@@ -161,7 +161,7 @@ pub fn take_size(
             )
         }
         Progress::Whole(None, bytes) => {
-            Progress::Whole(Step::Settled(finish_absent(slots, field)), bytes)
+            Progress::Whole(FieldStep::Settled(finish_absent(slots, field)), bytes)
         }
         Progress::Wrong(code, bytes) => Progress::Wrong(code, bytes),
         Progress::Cut => Progress::Cut,
@@ -175,7 +175,7 @@ fn vector_next(
     field: &FieldInstruction,
     size: u32,
     limits: Limits,
-) -> Result<Step, Code>
+) -> Result<FieldStep, Code>
     requires serves { Serves (length (slots_dictionary slots.old)) (slots_terms slots.old) (field_data field.now) }
     requires max_text { (slots_terms slots.old).max_text ≡ limits.max_text }
     requires least { 16 ≤ limits.max_text }
@@ -195,9 +195,9 @@ fn vector_next(
 {
     let size = sized(size, limits.max_text)?;
     if size > 0 {
-        return Ok(Step::Next(Stage::Vector(size)));
+        return Ok(FieldStep::Next(Stage::Vector(size)));
     }
-    settled(finish_text(slots, joined, field, &[], Source::Scratch))
+    settled(finish_text(slots, joined, field, &[], ValueSource::Scratch))
 }
 
 /// Takes bytes of a vector that is no delta, behind its size.
@@ -209,7 +209,7 @@ pub fn take_vector(
     size: usize,
     rest: &[u8],
     limits: Limits,
-) -> Progress<Source>
+) -> Progress<ValueSource>
     requires serves { Serves (length (slots_dictionary slots.old)) (slots_terms slots.old) (field_data field.now) }
     requires max_text { (slots_terms slots.old).max_text ≡ limits.max_text }
     requires least { 16 ≤ limits.max_text }
@@ -232,14 +232,14 @@ pub fn take_vector(
         Progress::Whole(Run::Piece, bytes) => {
             let text = &rest[..bytes];
             answered(
-                finish_text(slots, joined, field, text, Source::Piece),
+                finish_text(slots, joined, field, text, ValueSource::Piece),
                 bytes,
             )
         }
         Progress::Whole(Run::Scratch, bytes) => {
             let text = scratch.as_slice();
             answered(
-                finish_text(slots, joined, field, text, Source::Scratch),
+                finish_text(slots, joined, field, text, ValueSource::Scratch),
                 bytes,
             )
         }
@@ -255,7 +255,7 @@ pub fn take_subtraction(
     field: &FieldInstruction,
     rest: &[u8],
     limits: Limits,
-) -> Progress<Step>
+) -> Progress<FieldStep>
     requires serves { Serves (length (slots_dictionary slots.old)) (slots_terms slots.old) (field_data field.now) }
     requires max_text { (slots_terms slots.old).max_text ≡ limits.max_text }
     requires least { 16 ≤ limits.max_text }
@@ -267,8 +267,8 @@ pub fn take_subtraction(
         → IsFieldUnit limits (first_reader limits (field_data field.now) (slots_dictionary slots.old))
         (field_data field.now) pending.old rest.now (slots_dictionary slots.old) (slots_dictionary slots.new) scratch
         result }
-    ensures more { (step : Step) (n : ℕ) → result ≡ Progress.Whole step n → HasBytes step }
-    ensures whole { (step : Step) (n : ℕ) → result ≡ Progress.Whole step n → pending.new ≡ [] }
+    ensures more { (step : FieldStep) (n : ℕ) → result ≡ Progress.Whole step n → HasBytes step }
+    ensures whole { (step : FieldStep) (n : ℕ) → result ≡ Progress.Whole step n → pending.new ≡ [] }
     ensures cut { result ≡ Progress.Cut
         → (pending.new ≡ pending.old ++ rest.now) × HaveNoStop pending.new × (length pending.new < 10) }
     ensures terms { slots_terms slots.new ≡ slots_terms slots.old }
@@ -286,7 +286,7 @@ pub fn take_subtraction(
             answered(part_next(slots, field, length_of(length)), bytes)
         }
         Progress::Whole(None, bytes) => {
-            Progress::Whole(Step::Settled(finish_absent(slots, field)), bytes)
+            Progress::Whole(FieldStep::Settled(finish_absent(slots, field)), bytes)
         }
         Progress::Wrong(code, bytes) => Progress::Wrong(code, bytes),
         Progress::Cut => Progress::Cut,
@@ -294,7 +294,7 @@ pub fn take_subtraction(
 }
 
 /// What follows the subtraction length of a delta.
-fn part_next(slots: &Slots, field: &FieldInstruction, subtraction: i32) -> Result<Step, Code>
+fn part_next(slots: &Slots, field: &FieldInstruction, subtraction: i32) -> Result<FieldStep, Code>
     requires serves { Serves (length (slots_dictionary slots.now)) (slots_terms slots.now) (field_data field.now) }
     requires text { family field.now.kind ≡ texts }
     requires delta { field.now.operator ≡ Operator.Delta }
@@ -306,7 +306,7 @@ fn part_next(slots: &Slots, field: &FieldInstruction, subtraction: i32) -> Resul
     ensures more { IfOk result HasBytes }
 {
     kept(slots, field, subtraction)?;
-    Ok(Step::Next(Stage::Part(subtraction)))
+    Ok(FieldStep::Next(Stage::Part(subtraction)))
 }
 
 /// Takes bytes of the part of an ASCII delta, behind the subtraction length.
@@ -318,7 +318,7 @@ pub fn take_part(
     subtraction: i32,
     rest: &[u8],
     limits: Limits,
-) -> Progress<Source>
+) -> Progress<ValueSource>
     requires serves { Serves (length (slots_dictionary slots.old)) (slots_terms slots.old) (field_data field.now) }
     requires max_text { (slots_terms slots.old).max_text ≡ limits.max_text }
     requires least { 16 ≤ limits.max_text }
@@ -364,7 +364,7 @@ pub fn take_part_size(
     subtraction: i32,
     rest: &[u8],
     limits: Limits,
-) -> Progress<Step>
+) -> Progress<FieldStep>
     requires serves { Serves (length (slots_dictionary slots.old)) (slots_terms slots.old) (field_data field.now) }
     requires max_text { (slots_terms slots.old).max_text ≡ limits.max_text }
     requires least { 16 ≤ limits.max_text }
@@ -378,8 +378,8 @@ pub fn take_part_size(
         → IsFieldUnit limits (reader_behind limits (field_data field.now) (slots_dictionary slots.old)
         (Stage.Part subtraction)) (field_data field.now) pending.old rest.now (slots_dictionary slots.old)
         (slots_dictionary slots.new) scratch result }
-    ensures more { (step : Step) (n : ℕ) → result ≡ Progress.Whole step n → HasBytes step }
-    ensures whole { (step : Step) (n : ℕ) → result ≡ Progress.Whole step n → pending.new ≡ [] }
+    ensures more { (step : FieldStep) (n : ℕ) → result ≡ Progress.Whole step n → HasBytes step }
+    ensures whole { (step : FieldStep) (n : ℕ) → result ≡ Progress.Whole step n → pending.new ≡ [] }
     ensures cut { result ≡ Progress.Cut
         → (pending.new ≡ pending.old ++ rest.now) × HaveNoStop pending.new × (length pending.new < 10) }
     ensures terms { slots_terms slots.new ≡ slots_terms slots.old }
@@ -406,7 +406,7 @@ fn part_vector_next(
     subtraction: i32,
     size: u32,
     limits: Limits,
-) -> Result<Step, Code>
+) -> Result<FieldStep, Code>
     requires serves { Serves (length (slots_dictionary slots.old)) (slots_terms slots.old) (field_data field.now) }
     requires max_text { (slots_terms slots.old).max_text ≡ limits.max_text }
     requires least { 16 ≤ limits.max_text }
@@ -429,7 +429,7 @@ fn part_vector_next(
     let room = part_room(slots, field, subtraction, limits.max_text);
     let size = sized(size, room)?;
     if size > 0 {
-        return Ok(Step::Next(Stage::PartVector(subtraction, size)));
+        return Ok(FieldStep::Next(Stage::PartVector(subtraction, size)));
     }
     settled(finish_part(slots, joined, field, subtraction, &[]))
 }
@@ -444,7 +444,7 @@ pub fn take_part_vector(
     size: usize,
     rest: &[u8],
     limits: Limits,
-) -> Progress<Source>
+) -> Progress<ValueSource>
     requires serves { Serves (length (slots_dictionary slots.old)) (slots_terms slots.old) (field_data field.now) }
     requires max_text { (slots_terms slots.old).max_text ≡ limits.max_text }
     requires least { 16 ≤ limits.max_text }
