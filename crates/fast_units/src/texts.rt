@@ -3,22 +3,21 @@
 //! A unit at a time: an ASCII text, or the size of a vector and then its bytes; before the part of a delta its subtraction length.
 //! Of a unit that a piece cuts the bytes are in hand, in the entity or in the scratch, and nothing else changes.
 
-ghost use Rattle.std.specs.Prelude.{◌≡◌, ◌≢◌, ◌-◌, ◌<◌, ◌≤◌, ◌++◌, ℕ, ℤ, List, [], length, false, Ok, Some, pos, IfOk};
+ghost use Rattle.std.specs.Prelude.{◌≡◌, ◌≢◌, ◌-◌, ◌<◌, ◌≤◌, ◌++◌, ℕ, List, [], length, false, Ok, Some, pos, IfOk};
 ghost use Rattle.fast_wire.specs.meaning.Entities.{HaveNoStop};
 ghost use Rattle.fast_wire.specs.meaning.Integers.{IsWithin, unsigned_range, signed_range};
 ghost use Rattle.fast_value.specs.meaning.Kinds.{texts, family};
 ghost use Rattle.fast_value.specs.meaning.Limits.{bounds};
 ghost use Rattle.fast_tree.specs.device.Nodes.{field_data};
-ghost use Rattle.fast_dict.specs.meaning.Dictionary.{previous_at};
 ghost use Rattle.fast_dict.specs.meaning.Operators.{Kept as KeptData, subtraction_step, kept_length};
 ghost use Rattle.fast_dict.specs.meaning.Slots.{slots_dictionary, slots_terms};
 ghost use Rattle.fast_stream.specs.meaning.Phrases.{cut};
 ghost use Rattle.fast_stream.specs.meaning.Fields.{text_change};
 ghost use Rattle.fast_stream.specs.meaning.Units.{ascii_text as ascii_phrase};
 ghost use Rattle.fast_stream.specs.device.GrammarReaders.{reader_of};
-ghost use Rattle.fast_units.specs.device.Settling.{Serves, IsLastUnit};
-ghost use Rattle.fast_units.specs.device.Stages.{IsStageOf, IsFieldUnit};
+ghost use Rattle.fast_units.specs.device.Stages.{IsStageOf};
 ghost use Rattle.fast_units.specs.device.TextDecisions.{IsStepped, first_reader, reader_behind, behind_size, behind_part_size, answered, settled, HasBytes};
+ghost use Rattle.fast_units.specs.device.Words.{ServesField, previous_of, IsLastUnitOf, IsUnitOf, IsKeptCut};
 
 use crate::progress::Progress;
 use crate::scratch::Scratch;
@@ -83,7 +82,7 @@ pub fn take_text(
     rest: &[u8],
     limits: Limits,
 ) -> Progress<ValueSource>
-    requires serves { Serves (length (slots_dictionary slots.old)) (slots_terms slots.old) (field_data field.now) }
+    requires serves { ServesField slots.old field.now }
     requires max_text { (slots_terms slots.old).max_text ≡ limits.max_text }
     requires least { 16 ≤ limits.max_text }
     requires kind { field.now.kind ≡ Kind.Ascii }
@@ -92,9 +91,8 @@ pub fn take_text(
     requires open { ascii_phrase field.now.optional limits.max_text scratch.old.text [] cut }
     requires scratch { limits.max_text ≤ scratch.old.capacity }
     requires joined { limits.max_text ≤ joined.old.capacity }
-    ensures unit { IsLastUnit (first_reader limits (field_data field.now) (slots_dictionary slots.old))
-        (field_data field.now) scratch.old.text rest.now (slots_dictionary slots.old) (slots_dictionary slots.new)
-        scratch.new.text result }
+    ensures unit { IsLastUnitOf (first_reader limits (field_data field.now) (slots_dictionary slots.old)) field.now
+        scratch.old.text rest.now slots.old slots.new scratch.new.text result }
     ensures cut { result ≡ Progress.Cut
         → (scratch.new.text ≡ scratch.old.text ++ rest.now)
         × ascii_phrase field.now.optional limits.max_text scratch.new.text [] cut }
@@ -125,7 +123,7 @@ pub fn take_size(
     rest: &[u8],
     limits: Limits,
 ) -> Progress<FieldStep>
-    requires serves { Serves (length (slots_dictionary slots.old)) (slots_terms slots.old) (field_data field.now) }
+    requires serves { ServesField slots.old field.now }
     requires max_text { (slots_terms slots.old).max_text ≡ limits.max_text }
     requires least { 16 ≤ limits.max_text }
     requires text { family field.now.kind ≡ texts }
@@ -135,13 +133,11 @@ pub fn take_size(
     requires open { HaveNoStop pending.old }
     requires short { length pending.old < 10 }
     requires joined { limits.max_text ≤ joined.old.capacity }
-    ensures unit { IsFieldUnit limits (first_reader limits (field_data field.now) (slots_dictionary slots.old))
-        (field_data field.now) pending.old rest.now (slots_dictionary slots.old) (slots_dictionary slots.new)
-        [] result }
+    ensures unit { IsUnitOf limits (first_reader limits (field_data field.now) (slots_dictionary slots.old)) field.now
+        pending.old rest.now slots.old slots.new [] result }
     ensures more { (step : FieldStep) (n : ℕ) → result ≡ Progress.Whole step n → HasBytes step }
     ensures whole { (step : FieldStep) (n : ℕ) → result ≡ Progress.Whole step n → pending.new ≡ [] }
-    ensures cut { result ≡ Progress.Cut
-        → (pending.new ≡ pending.old ++ rest.now) × HaveNoStop pending.new × (length pending.new < 10) }
+    ensures cut { IsKeptCut pending.old rest.now pending.new result }
     ensures terms { slots_terms slots.new ≡ slots_terms slots.old }
     ensures joined { joined.new.capacity ≡ joined.old.capacity }
 {
@@ -176,7 +172,7 @@ fn vector_next(
     size: u32,
     limits: Limits,
 ) -> Result<FieldStep, Code>
-    requires serves { Serves (length (slots_dictionary slots.old)) (slots_terms slots.old) (field_data field.now) }
+    requires serves { ServesField slots.old field.now }
     requires max_text { (slots_terms slots.old).max_text ≡ limits.max_text }
     requires least { 16 ≤ limits.max_text }
     requires text { family field.now.kind ≡ texts }
@@ -184,10 +180,8 @@ fn vector_next(
     requires sent { field.now.operator ≢ Operator.Constant }
     requires whole { field.now.operator ≢ Operator.Delta }
     requires joined { limits.max_text ≤ joined.old.capacity }
-    ensures step { (piece : List ℕ)
-        → IsStepped limits (reader_of limits.strict
-        (behind_size (bounds limits) (field_data field.now)
-        (previous_at (field_data field.now).entry (slots_dictionary slots.old)) (Some (pos size))))
+    ensures step { (piece : List ℕ) → IsStepped limits (reader_of limits.strict
+        (behind_size (bounds limits) (field_data field.now) (previous_of slots.old field.now) (Some (pos size))))
         (field_data field.now) (slots_dictionary slots.old) (slots_dictionary slots.new) [] piece result }
     ensures more { IfOk result HasBytes }
     ensures terms { slots_terms slots.new ≡ slots_terms slots.old }
@@ -210,18 +204,16 @@ pub fn take_vector(
     rest: &[u8],
     limits: Limits,
 ) -> Progress<ValueSource>
-    requires serves { Serves (length (slots_dictionary slots.old)) (slots_terms slots.old) (field_data field.now) }
+    requires serves { ServesField slots.old field.now }
     requires max_text { (slots_terms slots.old).max_text ≡ limits.max_text }
     requires least { 16 ≤ limits.max_text }
-    requires stage { IsStageOf (bounds limits) (field_data field.now)
-        (previous_at (field_data field.now).entry (slots_dictionary slots.old)) (Stage.Vector size) }
+    requires stage { IsStageOf (bounds limits) (field_data field.now) (previous_of slots.old field.now)
+        (Stage.Vector size) }
     requires more { length scratch.old.text < size }
     requires scratch { limits.max_text ≤ scratch.old.capacity }
     requires joined { limits.max_text ≤ joined.old.capacity }
-    ensures unit { IsLastUnit
-        (reader_behind limits (field_data field.now) (slots_dictionary slots.old) (Stage.Vector size))
-        (field_data field.now) scratch.old.text rest.now (slots_dictionary slots.old) (slots_dictionary slots.new)
-        scratch.new.text result }
+    ensures unit { IsLastUnitOf (reader_behind limits (field_data field.now) (slots_dictionary slots.old)
+        (Stage.Vector size)) field.now scratch.old.text rest.now slots.old slots.new scratch.new.text result }
     ensures cut { result ≡ Progress.Cut
         → (scratch.new.text ≡ scratch.old.text ++ rest.now) × (length scratch.new.text < size) }
     ensures terms { slots_terms slots.new ≡ slots_terms slots.old }
@@ -256,21 +248,18 @@ pub fn take_subtraction(
     rest: &[u8],
     limits: Limits,
 ) -> Progress<FieldStep>
-    requires serves { Serves (length (slots_dictionary slots.old)) (slots_terms slots.old) (field_data field.now) }
+    requires serves { ServesField slots.old field.now }
     requires max_text { (slots_terms slots.old).max_text ≡ limits.max_text }
     requires least { 16 ≤ limits.max_text }
     requires text { family field.now.kind ≡ texts }
     requires delta { field.now.operator ≡ Operator.Delta }
     requires open { HaveNoStop pending.old }
     requires short { length pending.old < 10 }
-    ensures unit { (scratch : List ℕ)
-        → IsFieldUnit limits (first_reader limits (field_data field.now) (slots_dictionary slots.old))
-        (field_data field.now) pending.old rest.now (slots_dictionary slots.old) (slots_dictionary slots.new) scratch
-        result }
+    ensures unit { (scratch : List ℕ) → IsUnitOf limits (first_reader limits (field_data field.now)
+        (slots_dictionary slots.old)) field.now pending.old rest.now slots.old slots.new scratch result }
     ensures more { (step : FieldStep) (n : ℕ) → result ≡ Progress.Whole step n → HasBytes step }
     ensures whole { (step : FieldStep) (n : ℕ) → result ≡ Progress.Whole step n → pending.new ≡ [] }
-    ensures cut { result ≡ Progress.Cut
-        → (pending.new ≡ pending.old ++ rest.now) × HaveNoStop pending.new × (length pending.new < 10) }
+    ensures cut { IsKeptCut pending.old rest.now pending.new result }
     ensures terms { slots_terms slots.new ≡ slots_terms slots.old }
 {
     let range = IntegerRange::Signed(-2_147_483_648, 2_147_483_647);
@@ -295,14 +284,13 @@ pub fn take_subtraction(
 
 /// What follows the subtraction length of a delta.
 fn part_next(slots: &Slots, field: &FieldInstruction, subtraction: i32) -> Result<FieldStep, Code>
-    requires serves { Serves (length (slots_dictionary slots.now)) (slots_terms slots.now) (field_data field.now) }
+    requires serves { ServesField slots.now field.now }
     requires text { family field.now.kind ≡ texts }
     requires delta { field.now.operator ≡ Operator.Delta }
     ensures step { (limits : Limits) (scratch piece : List ℕ)
-        → IsStepped limits (reader_of limits.strict
-        (text_change (bounds limits) (field_data field.now)
-        (previous_at (field_data field.now).entry (slots_dictionary slots.now)) (Some subtraction)))
-        (field_data field.now) (slots_dictionary slots.now) (slots_dictionary slots.now) scratch piece result }
+        → IsStepped limits (reader_of limits.strict (text_change (bounds limits) (field_data field.now)
+        (previous_of slots.now field.now) (Some subtraction))) (field_data field.now) (slots_dictionary slots.now)
+        (slots_dictionary slots.now) scratch piece result }
     ensures more { IfOk result HasBytes }
 {
     kept(slots, field, subtraction)?;
@@ -319,26 +307,21 @@ pub fn take_part(
     rest: &[u8],
     limits: Limits,
 ) -> Progress<ValueSource>
-    requires serves { Serves (length (slots_dictionary slots.old)) (slots_terms slots.old) (field_data field.now) }
+    requires serves { ServesField slots.old field.now }
     requires max_text { (slots_terms slots.old).max_text ≡ limits.max_text }
     requires least { 16 ≤ limits.max_text }
-    requires stage { IsStageOf (bounds limits) (field_data field.now)
-        (previous_at (field_data field.now).entry (slots_dictionary slots.old)) (Stage.Part subtraction) }
+    requires stage { IsStageOf (bounds limits) (field_data field.now) (previous_of slots.old field.now)
+        (Stage.Part subtraction) }
     requires kind { field.now.kind ≡ Kind.Ascii }
-    requires open { (kept : KeptData)
-        → subtraction_step (field_data field.now)
-        (previous_at (field_data field.now).entry (slots_dictionary slots.old)) subtraction ≡ Ok kept
-        → ascii_phrase false (limits.max_text - kept_length kept) scratch.old.text [] cut }
+    requires open { (kept : KeptData) → subtraction_step (field_data field.now) (previous_of slots.old field.now)
+        subtraction ≡ Ok kept → ascii_phrase false (limits.max_text - kept_length kept) scratch.old.text [] cut }
     requires scratch { limits.max_text ≤ scratch.old.capacity }
     requires joined { limits.max_text ≤ joined.old.capacity }
-    ensures unit { IsLastUnit
-        (reader_behind limits (field_data field.now) (slots_dictionary slots.old) (Stage.Part subtraction))
-        (field_data field.now) scratch.old.text rest.now (slots_dictionary slots.old) (slots_dictionary slots.new)
-        scratch.new.text result }
+    ensures unit { IsLastUnitOf (reader_behind limits (field_data field.now) (slots_dictionary slots.old)
+        (Stage.Part subtraction)) field.now scratch.old.text rest.now slots.old slots.new scratch.new.text result }
     ensures cut { result ≡ Progress.Cut → (scratch.new.text ≡ scratch.old.text ++ rest.now)
-        × ((kept : KeptData) → subtraction_step (field_data field.now)
-        (previous_at (field_data field.now).entry (slots_dictionary slots.old)) subtraction ≡ Ok kept
-        → ascii_phrase false (limits.max_text - kept_length kept) scratch.new.text [] cut) }
+        × ((kept : KeptData) → subtraction_step (field_data field.now) (previous_of slots.old field.now) subtraction
+        ≡ Ok kept → ascii_phrase false (limits.max_text - kept_length kept) scratch.new.text [] cut) }
     ensures terms { slots_terms slots.new ≡ slots_terms slots.old }
     ensures scratch { scratch.new.capacity ≡ scratch.old.capacity }
     ensures joined { joined.new.capacity ≡ joined.old.capacity }
@@ -365,23 +348,21 @@ pub fn take_part_size(
     rest: &[u8],
     limits: Limits,
 ) -> Progress<FieldStep>
-    requires serves { Serves (length (slots_dictionary slots.old)) (slots_terms slots.old) (field_data field.now) }
+    requires serves { ServesField slots.old field.now }
     requires max_text { (slots_terms slots.old).max_text ≡ limits.max_text }
     requires least { 16 ≤ limits.max_text }
-    requires stage { IsStageOf (bounds limits) (field_data field.now)
-        (previous_at (field_data field.now).entry (slots_dictionary slots.old)) (Stage.Part subtraction) }
+    requires stage { IsStageOf (bounds limits) (field_data field.now) (previous_of slots.old field.now)
+        (Stage.Part subtraction) }
     requires kind { field.now.kind ≢ Kind.Ascii }
     requires open { HaveNoStop pending.old }
     requires short { length pending.old < 10 }
     requires joined { limits.max_text ≤ joined.old.capacity }
-    ensures unit { (scratch : List ℕ)
-        → IsFieldUnit limits (reader_behind limits (field_data field.now) (slots_dictionary slots.old)
-        (Stage.Part subtraction)) (field_data field.now) pending.old rest.now (slots_dictionary slots.old)
-        (slots_dictionary slots.new) scratch result }
+    ensures unit { (scratch : List ℕ) → IsUnitOf limits (reader_behind limits (field_data field.now)
+        (slots_dictionary slots.old) (Stage.Part subtraction)) field.now pending.old rest.now slots.old slots.new
+        scratch result }
     ensures more { (step : FieldStep) (n : ℕ) → result ≡ Progress.Whole step n → HasBytes step }
     ensures whole { (step : FieldStep) (n : ℕ) → result ≡ Progress.Whole step n → pending.new ≡ [] }
-    ensures cut { result ≡ Progress.Cut
-        → (pending.new ≡ pending.old ++ rest.now) × HaveNoStop pending.new × (length pending.new < 10) }
+    ensures cut { IsKeptCut pending.old rest.now pending.new result }
     ensures terms { slots_terms slots.new ≡ slots_terms slots.old }
     ensures joined { joined.new.capacity ≡ joined.old.capacity }
 {
@@ -407,21 +388,18 @@ fn part_vector_next(
     size: u32,
     limits: Limits,
 ) -> Result<FieldStep, Code>
-    requires serves { Serves (length (slots_dictionary slots.old)) (slots_terms slots.old) (field_data field.now) }
+    requires serves { ServesField slots.old field.now }
     requires max_text { (slots_terms slots.old).max_text ≡ limits.max_text }
     requires least { 16 ≤ limits.max_text }
-    requires stage { IsStageOf (bounds limits) (field_data field.now)
-        (previous_at (field_data field.now).entry (slots_dictionary slots.old)) (Stage.Part subtraction) }
+    requires stage { IsStageOf (bounds limits) (field_data field.now) (previous_of slots.old field.now)
+        (Stage.Part subtraction) }
     requires kind { field.now.kind ≢ Kind.Ascii }
     requires joined { limits.max_text ≤ joined.old.capacity }
-    ensures step { (kept : KeptData)
-        → subtraction_step (field_data field.now)
-        (previous_at (field_data field.now).entry (slots_dictionary slots.old)) subtraction ≡ Ok kept
-        → (scratch piece : List ℕ)
-        → IsStepped limits (reader_of limits.strict
-        (behind_part_size (bounds limits) (field_data field.now)
-        (previous_at (field_data field.now).entry (slots_dictionary slots.old)) kept (Some (pos size))))
-        (field_data field.now) (slots_dictionary slots.old) (slots_dictionary slots.new) scratch piece result }
+    ensures step { (kept : KeptData) → subtraction_step (field_data field.now) (previous_of slots.old field.now)
+        subtraction ≡ Ok kept → (scratch piece : List ℕ)
+        → IsStepped limits (reader_of limits.strict (behind_part_size (bounds limits) (field_data field.now)
+        (previous_of slots.old field.now) kept (Some (pos size)))) (field_data field.now) (slots_dictionary slots.old)
+        (slots_dictionary slots.new) scratch piece result }
     ensures more { IfOk result HasBytes }
     ensures terms { slots_terms slots.new ≡ slots_terms slots.old }
     ensures joined { joined.new.capacity ≡ joined.old.capacity }
@@ -445,18 +423,17 @@ pub fn take_part_vector(
     rest: &[u8],
     limits: Limits,
 ) -> Progress<ValueSource>
-    requires serves { Serves (length (slots_dictionary slots.old)) (slots_terms slots.old) (field_data field.now) }
+    requires serves { ServesField slots.old field.now }
     requires max_text { (slots_terms slots.old).max_text ≡ limits.max_text }
     requires least { 16 ≤ limits.max_text }
-    requires stage { IsStageOf (bounds limits) (field_data field.now)
-        (previous_at (field_data field.now).entry (slots_dictionary slots.old)) (Stage.PartVector subtraction size) }
+    requires stage { IsStageOf (bounds limits) (field_data field.now) (previous_of slots.old field.now)
+        (Stage.PartVector subtraction size) }
     requires more { length scratch.old.text < size }
     requires scratch { limits.max_text ≤ scratch.old.capacity }
     requires joined { limits.max_text ≤ joined.old.capacity }
-    ensures unit { IsLastUnit
-        (reader_behind limits (field_data field.now) (slots_dictionary slots.old) (Stage.PartVector subtraction size))
-        (field_data field.now) scratch.old.text rest.now (slots_dictionary slots.old) (slots_dictionary slots.new)
-        scratch.new.text result }
+    ensures unit { IsLastUnitOf (reader_behind limits (field_data field.now) (slots_dictionary slots.old)
+        (Stage.PartVector subtraction size)) field.now scratch.old.text rest.now slots.old slots.new scratch.new.text
+        result }
     ensures cut { result ≡ Progress.Cut
         → (scratch.new.text ≡ scratch.old.text ++ rest.now) × (length scratch.new.text < size) }
     ensures terms { slots_terms slots.new ≡ slots_terms slots.old }
