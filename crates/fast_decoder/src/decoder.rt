@@ -37,9 +37,21 @@ impl<'t> Model for Decoder<'t> {
 
     ghost Value = { DecoderData };
 
-    ghost view = { λ d. record { set = set_of d.templates.now; limits = d.limits; machine = d.machine; consumed = d.consumed; fault = d.fault } };
+    ghost view = { λ d. record {
+      set = set_of d.templates.now;
+      limits = d.limits;
+      machine = d.machine;
+      consumed = d.consumed;
+      fault = d.fault;
+    } };
 
-    ghost invariant = { λ d. IsSound (record { set = set_of d.templates.now; limits = d.limits; machine = d.machine; consumed = d.consumed; fault = d.fault }) };
+    ghost invariant = { λ d. IsSound (record {
+      set = set_of d.templates.now;
+      limits = d.limits;
+      machine = d.machine;
+      consumed = d.consumed;
+      fault = d.fault;
+    }) };
 }
 
 impl<'t> Decoder<'t> {
@@ -54,7 +66,8 @@ impl<'t> Decoder<'t> {
         templates: &'t Templates,
         limits: Limits,
     ) -> Result<Decoder<'t>, MakeError>
-        ensures made { IfOk result (λ d. HasRead d [] [] × (tree d ≡ tree_of templates.entry.now) × (d.limits ≡ limits)) }
+        ensures made { IfOk result (λ d. HasRead d [] [] × (tree d ≡ tree_of templates.entry.now)
+            × (d.limits ≡ limits)) }
         ensures bad_limits { (result ≡ Err MakeError.BadLimits) ↔ (AreBadLimits limits) }
         ensures long_initial { (result ≡ Err MakeError.InitialTooLong)
             ↔ (¬ (AreBadLimits limits) × HasLongInitial limits.max_text (nodes_of templates.entry.now)) }
