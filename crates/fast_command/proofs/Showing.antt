@@ -8,7 +8,7 @@ use Rattle.fast_stream.specs.declared.faults.MakeError.TheVariants as Why
 use Rattle.fast_stream.specs.declared.faults.FaultCode.{FaultCode}
 use Rattle.fast_stream.specs.meaning.Events.{EventData}
 use Rattle.fast_stream.specs.meaning.Streams.{between, inside, faulted}
-use Rattle.fast_decoder.specs.meaning.Decoding.{standing}
+use Rattle.fast_decoder.specs.meaning.Decoding.{account}
 use Rattle.fast_lines.specs.meaning.Lines.{lines}
 use Rattle.fast_text.specs.meaning.Streams.{Reads, Appends}
 use Rattle.fast_text.proofs.Writing.{appends_none, appends_both, appends_no_more, reads_none, reads_both, reads_no_more}
@@ -135,7 +135,7 @@ run_ended t l hex R s reads A AtEnd HasFailed ReadsNoMore left_first left_old le
 )
 
 -- the run can count what comes
-pub round_counts : (t : Tree) (l : Limits) (hex : Bool) (s : Show) (reads max n : ℕ) (left_first left_now held holds : Option (List ℕ)) → Round t l hex s reads left_first left_now held holds → reads < max → max ≤ 2 ^ 40 → n ≤ 4096 → (standing s.decoder).consumed + n < 2 ^ 64
+pub round_counts : (t : Tree) (l : Limits) (hex : Bool) (s : Show) (reads max n : ℕ) (left_first left_now held holds : Option (List ℕ)) → Round t l hex s reads left_first left_now held holds → reads < max → max ≤ 2 ^ 40 → n ≤ 4096 → (account s.decoder).consumed + n < 2 ^ 64
 round_counts t l hex s reads max n left_first left_now held holds h more max_small small =
     let p = h.progress in
     let e = counts_all t l s.decoder h.bytes h.events (ends_well t l s.decoder h.bytes h.events p.set p.limits p.so p.good) in

@@ -34,7 +34,7 @@ use fast_dict::operators::integers::integer_of;
 use fast_stream::{Event, FaultCode, Sink};
 use fast_template::{FieldInstruction, Operator, Shape, Templates};
 use fast_units::fields::{Number, needs_bytes, unsent, value_at};
-use fast_units::source::Source;
+use fast_units::source::ValueSource;
 use fast_value::{Code, Kind, Limits, Scalar};
 
 /// Whether a field uses a presence bit.
@@ -55,7 +55,11 @@ pub fn uses_bit(field: &FieldInstruction) -> bool
 ///
 /// Those of [`unsent`].
 #[inline(never)]
-fn unsent_seldom(slots: &mut Slots, field: &FieldInstruction, bit: bool) -> Result<Source, Code>
+fn unsent_seldom(
+    slots: &mut Slots,
+    field: &FieldInstruction,
+    bit: bool,
+) -> Result<ValueSource, Code>
     requires serves { Serves (length (slots_dictionary slots.old)) (slots_terms slots.old) (field_data field.now) }
     requires no_bytes { needs_bytes field.now.operator bit ≡ false }
     ensures decided { IsDecided
@@ -95,7 +99,7 @@ impl<'t> Machine<'t> {
         &mut self,
         node: u32,
         field: &FieldInstruction,
-        source: Source,
+        source: ValueSource,
         piece: &[u8],
         sink: &mut S,
     ) -> Result<Turn, FaultCode>
@@ -124,7 +128,7 @@ impl<'t> Machine<'t> {
         node: u32,
         field: &FieldInstruction,
         has_bit: bool,
-        source: Source,
+        source: ValueSource,
         piece: &[u8],
         sink: &mut S,
     ) -> Result<Turn, FaultCode>
@@ -282,7 +286,11 @@ impl<'t> Machine<'t> {
 
     /// The value of a field, lent.
     #[inline(always)]
-    pub fn value_of<'x>(&'x self, field: &'x FieldInstruction, source: Source) -> Option<Scalar<'x>>
+    pub fn value_of<'x>(
+        &'x self,
+        field: &'x FieldInstruction,
+        source: ValueSource,
+    ) -> Option<Scalar<'x>>
         requires entry { (e : ℕ) → (field_data field.now).entry ≡ Some e
             → e < length (slots_dictionary self.now.slots) }
         ensures { option_map scalar_data result
@@ -293,7 +301,7 @@ impl<'t> Machine<'t> {
 
     /// The integer that is a field's value, if it has one.
     #[inline(always)]
-    pub fn integer_at(&self, field: &FieldInstruction, source: Source) -> Option<i128>
+    pub fn integer_at(&self, field: &FieldInstruction, source: ValueSource) -> Option<i128>
         requires entry { (e : ℕ) → (field_data field.now).entry ≡ Some e
             → e < length (slots_dictionary self.now.slots) }
         ensures { result ≡ option_map integer_of
@@ -364,7 +372,7 @@ impl<'t> Machine<'t> {
         node: u32,
         exponent: &FieldInstruction,
         mantissa: &FieldInstruction,
-        source: Source,
+        source: ValueSource,
         sink: &mut S,
     ) -> Result<Turn, FaultCode>
         requires turn { CanTurn (set_of templates.now) limits self.old }
@@ -443,7 +451,7 @@ impl<'t> Machine<'t> {
         node: u32,
         mantissa: &FieldInstruction,
         exponent: i32,
-        source: Source,
+        source: ValueSource,
         sink: &mut S,
     ) -> Result<Turn, FaultCode>
         requires left { 0 < length self.old.cursor.left }
@@ -577,7 +585,7 @@ impl<'t> Machine<'t> {
         node: u32,
         length: &FieldInstruction,
         body: &'t [u32],
-        source: Source,
+        source: ValueSource,
         sink: &mut S,
     ) -> Result<Turn, FaultCode>
         requires turn { CanTurn (set_of templates.now) limits self.old }

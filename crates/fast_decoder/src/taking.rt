@@ -17,7 +17,7 @@ ghost use Rattle.fast_stream.specs.device.Readers.{Reader};
 ghost use Rattle.fast_dict.specs.device.EntryTexts.{HasLongInitial};
 ghost use Rattle.fast_decoder.specs.declared.machine.Machine.{Machine};
 ghost use Rattle.fast_dict.specs.meaning.Dictionary.{Dictionary, reset};
-ghost use Rattle.fast_decoder.specs.device.Handing.{Hands, Fed, stood};
+ghost use Rattle.fast_decoder.specs.device.Handing.{Hands, Fed, waiting_at};
 ghost use Rattle.fast_decoder.specs.device.Quick.{IsTakenTo};
 ghost use Rattle.fast_units.specs.device.Settling.{Serves, value_at};
 ghost use Rattle.fast_decoder.specs.device.Passing.{state_past, identified_then};
@@ -44,8 +44,8 @@ use fast_units::numbers::take_integer;
 use fast_units::progress::Progress;
 use fast_units::scalars::{take_bytes, take_first, take_first_text, take_number};
 use fast_units::scratch::Scratch;
-use fast_units::source::Source;
-use fast_units::stages::{Stage, Step};
+use fast_units::source::ValueSource;
+use fast_units::stages::{FieldStep, Stage};
 use fast_value::{Code, Kind, Limits, Scalar};
 use fast_wire::{Entity, map_overlong};
 use std::alloc::{AllocError, Global};
@@ -246,7 +246,7 @@ impl<'t> Machine<'t> {
         &mut self,
         templates: &'t Templates,
         limits: Limits,
-        source: Source,
+        source: ValueSource,
         piece: &[u8],
         sink: &mut S,
     ) -> Result<Turn, FaultCode>
@@ -612,7 +612,7 @@ impl<'t> Machine<'t> {
         limits: Limits,
         field: &FieldInstruction,
         rest: &[u8],
-    ) -> Progress<Step>
+    ) -> Progress<FieldStep>
         requires waits { IsOfFieldLater self.old.waiting }
         requires ready { IsReady (set_of templates.now) limits self.old }
         requires serves { Serves (set_of templates.now).entries (slots_terms self.old.slots) (field_data field.now) }
@@ -620,7 +620,7 @@ impl<'t> Machine<'t> {
         ensures unit { IsScalarUnit limits self.old self.new (field_data field.now) rest.now result }
         ensures supplied { IsSupplied (set_of templates.now) limits self.new }
         ensures progress { CanProgress (set_of templates.now) limits self.new (field_data field.now) result }
-        ensures within { (step : Step) (n : ℕ) → result ≡ Progress.Whole step n → n ≤ length rest.now }
+        ensures within { (step : FieldStep) (n : ℕ) → result ≡ Progress.Whole step n → n ≤ length rest.now }
     {
         match self.waiting {
             Waiting::Text => take_first_text(
@@ -661,14 +661,14 @@ impl<'t> Machine<'t> {
         limits: Limits,
         node: u32,
         field: &FieldInstruction,
-        progress: Progress<Step>,
+        progress: Progress<FieldStep>,
         rest: &[u8],
         sink: &mut S,
     ) -> Quick
         requires next { IsAtField (set_of templates.now) self.old.cursor node (field_data field.now) }
         requires serves { Serves (set_of templates.now).entries (slots_terms self.old.slots) (field_data field.now) }
         requires progress { CanProgress (set_of templates.now) limits self.old (field_data field.now) progress }
-        requires within { (step : Step) (n : ℕ) → progress ≡ Progress.Whole step n → n ≤ length rest.now }
+        requires within { (step : FieldStep) (n : ℕ) → progress ≡ Progress.Whole step n → n ≤ length rest.now }
         ensures taken { (m : Machine) → IsReady (set_of templates.now) limits m → IsOfField m.waiting
             → 0 < length rest.now → IsScalarUnit limits m self.old (field_data field.now) rest.now progress
             → IsTakenTo S.takes S.stops (set_of templates.now) limits (meaning (set_of templates.now) limits m) rest.now
@@ -696,7 +696,7 @@ impl<'t> Machine<'t> {
         limits: Limits,
         node: u32,
         field: &FieldInstruction,
-        step: Step,
+        step: FieldStep,
         piece: &[u8],
         sink: &mut S,
     ) -> Result<Turn, FaultCode>
@@ -711,8 +711,8 @@ impl<'t> Machine<'t> {
             → HasTurnsBehind result way (set_of templates.now) limits n self.new }
     {
         match step {
-            Step::Settled(source) => self.finish(node, field, source, piece, sink),
-            Step::Next(stage) => {
+            FieldStep::Settled(source) => self.finish(node, field, source, piece, sink),
+            FieldStep::Next(stage) => {
                 self.wait_behind(field, stage);
                 Ok(Turn::Waits)
             }
@@ -840,8 +840,8 @@ impl<'t> Machine<'t> {
         ensures within { result.bytes ≤ length piece.now }
         ensures all { IsOk result.outcome → result.bytes ≡ length piece.now }
         ensures fed { Fed S.takes S.stops (tree_in (set_of templates.now)) limits
-            (stood (meaning (set_of templates.now) limits self.old)) (take result.bytes piece.now)
-            sink.old result.outcome sink.new (stood (meaning (set_of templates.now) limits self.new)) }
+            (waiting_at (meaning (set_of templates.now) limits self.old)) (take result.bytes piece.now)
+            sink.old result.outcome sink.new (waiting_at (meaning (set_of templates.now) limits self.new)) }
         ensures ready { OnOk result.outcome (IsReady (set_of templates.now) limits self.new) }
         ensures supplied { IsSupplied (set_of templates.now) limits self.new }
         ensures turns { (way : Way) → self.old.turns.count ≡ 0

@@ -30,7 +30,11 @@ impl Model for Ledger {
 
     ghost Value = { LedgerData };
 
-    ghost view = { λ s. record { now = all_now s.entries.items; before = all_before s.epoch s.entries.items; max_text = s.max_text } };
+    ghost view = { λ s. record {
+      now = all_now s.entries.items;
+      before = all_before s.epoch s.entries.items;
+      max_text = s.max_text;
+    } };
 
     ghost invariant = { λ s. record { kept : AreKept s.epoch s.max_text s.entries.items; begun : 1 ≤ s.epoch } };
 }

@@ -8,5 +8,5 @@ pub mod Fields
 pub mod Messages
 pub mod Streams
 pub mod Sinks
-pub mod Standing
+pub mod Account
 pub mod Begins

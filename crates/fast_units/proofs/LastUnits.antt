@@ -26,7 +26,7 @@ use Rattle.fast_units.specs.device.Taking.{Turns, Stays}
 use Rattle.fast_units.specs.device.Settling.{IsLastUnit}
 use Rattle.fast_units.specs.device.Stages.{term_behind}
 use Rattle.fast_units.specs.device.Deciding.{IsDecided, progress_of}
-use Rattle.fast_units.specs.declared.source.Source.{Source}
+use Rattle.fast_units.specs.declared.source.ValueSource.{ValueSource}
 use Rattle.fast_units.specs.declared.stages.Stage.TheVariants.{Mantissa, MantissaDelta}
 use Rattle.fast_stream.proofs.readers.Integers.{judged-ok}
 use Rattle.fast_stream.proofs.streams.Stepping.{integer-entity}
@@ -48,7 +48,7 @@ module _ {X : Type 0} (s : Bool) (g : Grammar X) (k : X → Grammar Outcome) (r 
   unit_decides w x d e t = turns_as here (sym (ap (reader_of s) e)) (term_turns s g k t)
 
   -- The unit is the last one of a field.
-  pub last_unit : (f : FieldData) (front rest : List ℕ) (old new : Dictionary) (scratch : List ℕ) (x : X) (n : ℕ) (d : Result Outcome Code) (answer : Result Source Code)
+  pub last_unit : (f : FieldData) (front rest : List ℕ) (old new : Dictionary) (scratch : List ℕ) (x : X) (n : ℕ) (d : Result Outcome Code) (answer : Result ValueSource Code)
       → k x ≡ of_result d → IsDecided d f old new answer → (0 < n) × (n ≤ length rest) × Turns (reader_of s g) (front ++ take n rest) (Done x)
       → IsLastUnit r f front rest old new scratch (progress_of answer n)
   last_unit f front rest old new scratch x n d (Ok source) e (o, h, settled) (some, within, t) = (

@@ -22,7 +22,7 @@ use Rattle.fast_stream.specs.device.GrammarReaders.{reader_of}
 use Rattle.fast_units.specs.device.Settling.{Serves, IsLastUnit}
 use Rattle.fast_units.specs.device.Deciding.{number_data, sent_number, source_of, IsDecided}
 use Rattle.fast_units.specs.declared.fields.Number.{Number}
-use Rattle.fast_units.specs.declared.source.Source.{Source}
+use Rattle.fast_units.specs.declared.source.ValueSource.{ValueSource}
 use Rattle.fast_units.specs.declared.progress.Progress.TheVariants.{Whole}
 use Rattle.fast_units.proofs.Deciding.{value_decided, null_decided, item_value}
 use Rattle.fast_units.proofs.LastUnits.{behind_integer, integer_here, integer_delta_field, last_unit}
@@ -33,7 +33,7 @@ pub no_texts : (f : FieldData) → family f.kind ≡ integers (range_of f.kind) 
 no_texts f e i = absurd (cc (e, i))
 
 -- An integer, or NULL, that is whole in the piece is the last unit of its field.
-pub item_unit : (k : Kind) (b strict : Bool) (l : Bounds) (f : FieldData) (rest : List ℕ) (old new : Dictionary) (scratch : List ℕ) (x : Option ℤ) (n : ℕ) (sent : Sent) (source : Source)
+pub item_unit : (k : Kind) (b strict : Bool) (l : Bounds) (f : FieldData) (rest : List ℕ) (old new : Dictionary) (scratch : List ℕ) (x : Option ℤ) (n : ℕ) (sent : Sent) (source : ValueSource)
     → k ≡ f.kind → b ≡ f.optional → family f.kind ≡ integers (range_of f.kind) → f.operator ≢ Op.Delta → f.operator ≢ Op.Constant
     → IsFirstInt (λ y. y) strict (range_of k) b (First.Whole x n) rest → sent ≡ sent_integer k x
     → IsDecided (decide f (previous_at f.entry old) true sent) f old new (Ok source)
@@ -50,7 +50,7 @@ item_unit k b strict l f rest old new scratch x n sent source ke be is no_delta 
     (first_whole (λ y. y) strict (range_of f.kind) f.optional D2 [] rest x n refl first)
 
 -- So is a delta, or NULL.
-pub delta_unit : (b strict : Bool) (l : Bounds) (f : FieldData) (rest : List ℕ) (old new : Dictionary) (scratch : List ℕ) (x : Option ℤ) (n : ℕ) (d : Result Outcome Code) (source : Source)
+pub delta_unit : (b strict : Bool) (l : Bounds) (f : FieldData) (rest : List ℕ) (old new : Dictionary) (scratch : List ℕ) (x : Option ℤ) (n : ℕ) (d : Result Outcome Code) (source : ValueSource)
     → b ≡ f.optional → family f.kind ≡ integers (range_of f.kind) → f.operator ≡ Op.Delta
     → IsFirstInt (λ y. y) strict delta_range b (First.Whole x n) rest → integer_change f (previous_at f.entry old) x ≡ of_result d
     → IsDecided d f old new (Ok source)

@@ -23,8 +23,8 @@ use Rattle.fast_dict.specs.declared.slots.Slots.{Slots}
 use Rattle.fast_stream.specs.meaning.Fields.{sent_text}
 use Rattle.fast_units.specs.device.Settling.{HasRoomFor, Serves, value_in, value_at}
 use Rattle.fast_units.specs.device.TextDecisions.{is_emptied, IsTextDecided}
-use Rattle.fast_units.specs.declared.source.Source.{Source}
-use Rattle.fast_units.specs.declared.source.Source.TheVariants as From
+use Rattle.fast_units.specs.declared.source.ValueSource.{ValueSource}
+use Rattle.fast_units.specs.declared.source.ValueSource.TheVariants as From
 
 -- What an entry holds, written back.
 pub write_back : (e : Option ℕ) (d : Dictionary) → d ≡ write_at e (previous_at e d) d
@@ -78,7 +78,7 @@ module _ (f : FieldData) (old new : Dictionary) (scratch piece : List ℕ) where
       by (Some e) i h n = sym (ap (λ (d : Dictionary). value_in (previous_at (Some e) d)) n ∙ ap value_in (written e old (assigned f.kind v) (h e refl)))
 
   -- The text is kept, and stands at a place of its own as well.
-  pub text_kept_too : (place : Source) (text : List ℕ) (v : ScalarData) → checked_text f.kind text ≡ Ok v → value_at place f new scratch piece ≡ Some v → new ≡ write_at f.entry (assigned f.kind v) old
+  pub text_kept_too : (place : ValueSource) (text : List ℕ) (v : ScalarData) → checked_text f.kind text ≡ Ok v → value_at place f new scratch piece ≡ Some v → new ≡ write_at f.entry (assigned f.kind v) old
       → IsTextDecided (kept_text f.kind text) f old new scratch piece (Ok place)
   text_kept_too place text v c h n = (
     record { value = Some v; next = assigned f.kind v },
@@ -87,7 +87,7 @@ module _ (f : FieldData) (old new : Dictionary) (scratch piece : List ℕ) where
   )
 
   -- The text is the value, and the entry is as it was.
-  pub text_given : (place : Source) (text : List ℕ) (v : ScalarData) → checked_text f.kind text ≡ Ok v → v ≡ value_of_text f.kind text → value_at place f new scratch piece ≡ Some (value_of_text f.kind text) → new ≡ old
+  pub text_given : (place : ValueSource) (text : List ℕ) (v : ScalarData) → checked_text f.kind text ≡ Ok v → v ≡ value_of_text f.kind text → value_at place f new scratch piece ≡ Some (value_of_text f.kind text) → new ≡ old
       → IsTextDecided (checked_text f.kind text >>= (λ w. gives w (previous_at f.entry old))) f old new scratch piece (Ok place)
   text_given place text v c s h n = (
     record { value = Some v; next = previous_at f.entry old },
@@ -96,7 +96,7 @@ module _ (f : FieldData) (old new : Dictionary) (scratch piece : List ℕ) where
   )
 
   -- By another name of the decision.
-  pub decided_as : {d e : Result Outcome Code} (r : Result Source Code) → d ≡ e → IsTextDecided e f old new scratch piece r → IsTextDecided d f old new scratch piece r
+  pub decided_as : {d e : Result Outcome Code} (r : Result ValueSource Code) → d ≡ e → IsTextDecided e f old new scratch piece r → IsTextDecided d f old new scratch piece r
   decided_as {d} {e} r i h = subst (λ (x : Result Outcome Code). IsTextDecided x f old new scratch piece r) (sym i) h
 
 -- the text of a text

@@ -7,3 +7,4 @@ pub mod NextUnits
 pub mod UnitFronts
 pub mod Deciding
 pub mod TextDecisions
+pub mod Words

@@ -8,7 +8,7 @@ use Rattle.fast_stream.specs.declared.faults.FaultCode.{FaultCode}
 use Rattle.fast_stream.specs.declared.faults.FaultCode.TheVariants as Why
 use Rattle.fast_stream.specs.meaning.Events.{EventData}
 use Rattle.fast_stream.specs.meaning.Streams.{End, Stream}
-use Rattle.fast_decoder.specs.meaning.Decoding.{DecoderData, So, tree}
+use Rattle.fast_decoder.specs.meaning.Decoding.{DecoderData, HasRead, tree}
 use Rattle.fast_lines.specs.meaning.Lines.{lines}
 use Rattle.fast_text.specs.device.Fronts.{set_of}
 use Rattle.fast_text.specs.meaning.Streams.{Appends, AppendsFront}
@@ -38,7 +38,7 @@ pub record Progress (t : Tree) (l : Limits) (hex : Bool) (s : Show) (text b : Li
   pub names : tree_of (set_of s.fronts).now ≡ t
   pub set : tree s.decoder ≡ t
   pub limits : s.decoder.limits ≡ l
-  pub so : So s.decoder b es
+  pub so : HasRead s.decoder b es
   pub good : s.decoder.fault ≡ None
   pub hex_is : is_some s.unhexer ≡ hex
   pub taken : IsTaken s.unhexer text b
@@ -57,7 +57,7 @@ changed written failed old new = record { held = written old; holds = written ne
 -- The bytes gave these events, whose lines were written, and lead to the decoder.
 pub record Fed (t : Tree) (b : List ℕ) (es : List EventData) (bytes : List ℕ) (d : DecoderData) (w : Change) : Type 0 where
   pub more : List EventData
-  pub so : So d (b ++ bytes) (es ++ more)
+  pub so : HasRead d (b ++ bytes) (es ++ more)
   pub written : Appends w.held w.holds (lines t more)
   pub as_before : w.has_failed ≡ w.had_failed
 

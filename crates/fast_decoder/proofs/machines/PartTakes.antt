@@ -31,8 +31,8 @@ use Rattle.fast_decoder.specs.device.Passing.{state_past}
 use Rattle.fast_decoder.specs.device.Positions.{Set, tree_in, body_in, frames_in, state_in, bit_of, mantissa_then, meaning_at, meaning, turning, IsSupplied, IsReady, IsAtParts, IsAtSequence, IsTurn, CanTurn, CanTake, BeginsWithInteger, GoesOnWithMantissa}
 use Rattle.fast_stream.specs.declared.faults.FaultCode.{FaultCode}
 use Rattle.fast_stream.specs.declared.faults.FaultCode.TheVariants as Why
-use Rattle.fast_units.specs.declared.source.Source.{Source}
-use Rattle.fast_units.specs.declared.source.Source.TheVariants as From
+use Rattle.fast_units.specs.declared.source.ValueSource.{ValueSource}
+use Rattle.fast_units.specs.declared.source.ValueSource.TheVariants as From
 use Rattle.fast_units.specs.declared.progress.Progress.TheVariants.{Whole, Wrong}
 use Rattle.fast_decoder.specs.declared.machine.Machine.{Machine}
 use Rattle.fast_decoder.specs.declared.machine.Waiting.{Waiting}
@@ -48,7 +48,7 @@ use Rattle.fast_decoder.proofs.machines.ScalarMachines.{still_supplied}
 
 -- What sees of a value only its integer sees no bytes of a text.
 by_source : {X : Type 0} (g : Option ScalarData → X) → ((kind : Kind) (piece : List ℕ) → g (Some (value_of_text kind piece)) ≡ g (Some (value_of_text kind [])))
-    → (source : Source) (f : FieldData) (d : Dictionary) (scratch piece : List ℕ) → g (value_at source f d scratch piece) ≡ g (value_at source f d scratch [])
+    → (source : ValueSource) (f : FieldData) (d : Dictionary) (scratch piece : List ℕ) → g (value_at source f d scratch piece) ≡ g (value_at source f d scratch [])
 by_source g blind From.Absent f d scratch piece = refl
 by_source g blind (From.Unsigned n) f d scratch piece = refl
 by_source g blind (From.Signed n) f d scratch piece = refl
@@ -112,14 +112,14 @@ module _ {S : Type 0} (takes stops : S → EventData → S → Type 0) (set : Se
   taken_as : (s : S) (b : ℕ) (o : Result Unit FaultCode) (s' : S) (to : Reader Dictionary) → IsTaken takes stops (tree_in set) l (after_bytes r m.entity) rest s b o s' to → IsTaken takes stops (tree_in set) l (meaning set l m) rest s b o s' to
   taken_as s b o s' to h = subst (λ (q : Reader Dictionary). IsTaken takes stops (tree_in set) l q rest s b o s' to) (sym is) h
 
-  settled_as : SeesInteger k → (o : Outcome) (source : Source) (new : Dictionary) (scratch piece : List ℕ) → IsSettled o f source (slots_dictionary m.slots) new scratch piece
+  settled_as : SeesInteger k → (o : Outcome) (source : ValueSource) (new : Dictionary) (scratch piece : List ℕ) → IsSettled o f source (slots_dictionary m.slots) new scratch piece
       → k (found f (state_of m) o) ≡ k (value_at source f new scratch [], state_past f new m.counted m.cursor)
   settled_as sees o source new scratch piece h =
       ap k (λ i. (h.value i, record { context = record { dictionary = sym h.dictionary i; counted = m.counted }; bits = (state_past f new m.counted m.cursor).bits }))
       ∙ by_source (λ v. k (v, state_past f new m.counted m.cursor)) (sees (state_past f new m.counted m.cursor)) source f new scratch piece
 
   -- The integer is whole, and a turn is taken of what it decides.
-  pub integer_whole : SeesInteger k → (s : Slots) (scratch : List ℕ) (source : Source) (b : ℕ) → IsLastUnit unit f m.entity rest (slots_dictionary m.slots) (slots_dictionary s) scratch (Whole source b)
+  pub integer_whole : SeesInteger k → (s : Slots) (scratch : List ℕ) (source : ValueSource) (b : ℕ) → IsLastUnit unit f m.entity rest (slots_dictionary m.slots) (slots_dictionary s) scratch (Whole source b)
       → (q : S) (o : Result Turn FaultCode) (q' : S) (a : Machine)
       → IsTurn takes stops set l (reader_of l.strict (k (value_at source f (slots_dictionary s) scratch [], state_past f (slots_dictionary s) m.counted m.cursor))) q o q' a
       → IsTakenTo takes stops set l (meaning set l m) rest q b o q' a
@@ -129,7 +129,7 @@ module _ {S : Type 0} (takes stops : S → EventData → S → Type 0) (set : Se
       subst (λ (p : Reader Dictionary). IsTakenTo takes stops set l p rest q b o q' a) (sym is) (taken_to takes stops set l r m.entity rest b _ q o q' a some within turns turn)
 
   -- The same, where none of its bytes was in hand.
-  pub integer_at_once : m.entity ≡ [] → SeesInteger k → (s : Slots) (scratch : List ℕ) (source : Source) (b : ℕ) → IsLastUnit unit f [] rest (slots_dictionary m.slots) (slots_dictionary s) scratch (Whole source b)
+  pub integer_at_once : m.entity ≡ [] → SeesInteger k → (s : Slots) (scratch : List ℕ) (source : ValueSource) (b : ℕ) → IsLastUnit unit f [] rest (slots_dictionary m.slots) (slots_dictionary s) scratch (Whole source b)
       → (q : S) (o : Result Turn FaultCode) (q' : S) (a : Machine)
       → IsTurn takes stops set l (reader_of l.strict (k (value_at source f (slots_dictionary s) scratch [], state_past f (slots_dictionary s) m.counted m.cursor))) q o q' a
       → IsTakenTo takes stops set l (meaning set l m) rest q b o q' a

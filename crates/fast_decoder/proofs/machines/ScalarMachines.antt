@@ -35,10 +35,10 @@ use Rattle.fast_decoder.specs.device.Positions.{Set, tree_in, body_in, frames_in
 use Rattle.fast_units.specs.declared.scratch.Scratch.{Scratch}
 use Rattle.fast_stream.specs.declared.faults.FaultCode.{FaultCode}
 use Rattle.fast_stream.specs.declared.faults.FaultCode.TheVariants as Why
-use Rattle.fast_units.specs.declared.source.Source.{Source}
+use Rattle.fast_units.specs.declared.source.ValueSource.{ValueSource}
 use Rattle.fast_units.specs.declared.stages.Stage.{Stage}
-use Rattle.fast_units.specs.declared.stages.Step.{Step}
-use Rattle.fast_units.specs.declared.stages.Step.TheVariants.{Settled, Next}
+use Rattle.fast_units.specs.declared.stages.FieldStep.{FieldStep}
+use Rattle.fast_units.specs.declared.stages.FieldStep.TheVariants.{Settled, Next}
 use Rattle.fast_units.specs.declared.progress.Progress.{Progress}
 use Rattle.fast_units.specs.declared.progress.Progress.TheVariants.{Whole, Wrong, Cut}
 use Rattle.fast_decoder.specs.declared.machine.Machine.{Machine}
@@ -123,7 +123,7 @@ module _ (set : Set) (l : Limits) (m : Machine) (f : FieldData) (n : ℕ) where
   unit_here (Mantissa x) of h at = absurd of
 
   -- What is read behind a field that is settled.
-  settled_here : (o : Outcome) (source : Source) (new : Dictionary) (scratch piece : List ℕ) → IsSettled o f source (slots_dictionary m.slots) new scratch piece
+  settled_here : (o : Outcome) (source : ValueSource) (new : Dictionary) (scratch piece : List ℕ) → IsSettled o f source (slots_dictionary m.slots) new scratch piece
       → behind_field set (bounds l) m f n o ≡ value_then set (bounds l) n (value_at source f new scratch piece) f new m.counted m.cursor
   settled_here o source new scratch piece h =
       let behind = resume (bounds l) (frames_in set m.cursor.frames) (body_in set (drop 1 m.cursor.left)) in
@@ -132,7 +132,7 @@ module _ (set : Set) (l : Limits) (m : Machine) (f : FieldData) (n : ℕ) where
 
   module _ (w : Waiting) (of : IsOfField w) (can : CanTake w set l m) (at : IsAtField set m.cursor n f) (s : Slots) (e : Entity) (t j : Scratch) (front rest : List ℕ) where
     -- A unit is whole.
-    pub whole_here : (q : Step) (b : ℕ)
+    pub whole_here : (q : FieldStep) (b : ℕ)
         → IsFieldUnit l (reader_of l.strict (scalar_term w (bounds l) f (previous_at f.entry (slots_dictionary m.slots)))) f front rest (slots_dictionary m.slots) (slots_dictionary s) t.text (Whole q b)
         → (0 < b) × (b ≤ length rest) × Turns (reader_of l.strict (term_at w set (bounds l) m)) (front ++ take b rest) (reader_of l.strict (step_then set l n f (with_units m s e t j) (take b rest) q))
     whole_here (Settled source) b (some, within, h) = (
@@ -154,25 +154,25 @@ module _ (set : Set) (l : Limits) (m : Machine) (f : FieldData) (n : ℕ) where
     wrong_here r same c b h = turns_as (unit_here w of can at) refl (turns_stop (λ o. reader_of l.strict (behind_field set (bounds l) m f n o)) (turns_as (sym same) refl h))
 
 -- Behind a unit that settles its field nothing is next.
-next_of_settled : (l : Bounds) (f : FieldData) (p : PreviousData) (q : Progress Step) → SettlesOnly q → IsNextOf l f p q
+next_of_settled : (l : Bounds) (f : FieldData) (p : PreviousData) (q : Progress FieldStep) → SettlesOnly q → IsNextOf l f p q
 next_of_settled l f p (Whole (Settled source) b) h = tt
 next_of_settled l f p (Whole (Next stage) b) h = absurd h
 next_of_settled l f p (Wrong c b) h = tt
 next_of_settled l f p Cut h = tt
 
 -- No more bytes are taken than there are.
-pub unit_within : (l : Limits) (r : Reader Outcome) (f : FieldData) (front rest : List ℕ) (old new : Dictionary) (scratch : List ℕ) (q : Progress Step) → IsFieldUnit l r f front rest old new scratch q
-    → (x : Step) (b : ℕ) → q ≡ Whole x b → b ≤ length rest
+pub unit_within : (l : Limits) (r : Reader Outcome) (f : FieldData) (front rest : List ℕ) (old new : Dictionary) (scratch : List ℕ) (q : Progress FieldStep) → IsFieldUnit l r f front rest old new scratch q
+    → (x : FieldStep) (b : ℕ) → q ≡ Whole x b → b ≤ length rest
 unit_within l r f front rest old new scratch (Whole (Settled source) k) h x b e = let same : k ≡ b = cc in subst (λ (i : ℕ). i ≤ length rest) same h.1
 unit_within l r f front rest old new scratch (Whole (Next stage) k) h x b e = let same : k ≡ b = cc in subst (λ (i : ℕ). i ≤ length rest) same h.1
 unit_within l r f front rest old new scratch (Wrong c k) h x b e = absurd cc
 unit_within l r f front rest old new scratch Cut h x b e = absurd cc
 
 -- A cut unit has changed nothing.
-cut_same : (l : Limits) (r : Reader Outcome) (f : FieldData) (front rest : List ℕ) (old new : Dictionary) (scratch : List ℕ) (q : Progress Step) → q ≡ Cut → IsFieldUnit l r f front rest old new scratch q → new ≡ old
+cut_same : (l : Limits) (r : Reader Outcome) (f : FieldData) (front rest : List ℕ) (old new : Dictionary) (scratch : List ℕ) (q : Progress FieldStep) → q ≡ Cut → IsFieldUnit l r f front rest old new scratch q → new ≡ old
 cut_same l r f front rest old new scratch q e h = (subst (λ x. IsFieldUnit l r f front rest old new scratch x) e h).1
 
-module _ (set : Set) (l : Limits) (m : Machine) (f : FieldData) (n : ℕ) (rest : List ℕ) (s : Slots) (e : Entity) (t j : Scratch) (ready : IsReady set l m) (at : IsAtField set m.cursor n f) (supplied : IsSupplied set l (with_units m s e t j)) (q : Progress Step) where
+module _ (set : Set) (l : Limits) (m : Machine) (f : FieldData) (n : ℕ) (rest : List ℕ) (s : Slots) (e : Entity) (t j : Scratch) (ready : IsReady set l m) (at : IsAtField set m.cursor n f) (supplied : IsSupplied set l (with_units m s e t j)) (q : Progress FieldStep) where
   -- What bytes of a unit were taken, by the unit.
   scalar_unit : (w : Waiting) → m.waiting ≡ w
       → IsFieldUnit l (reader_of l.strict (scalar_term w (bounds l) f (previous_at f.entry (slots_dictionary m.slots)))) f (front_at w m) rest (slots_dictionary m.slots) (slots_dictionary s) t.text q
@@ -192,8 +192,8 @@ module _ (set : Set) (l : Limits) (m : Machine) (f : FieldData) (n : ℕ) (rest 
   }
 
   -- It can go on.
-  progress_by : (w : Waiting) → IsOfField w → CanTake w set l m → (r : Reader Outcome) (front : List ℕ) (p : Progress Step) → IsFieldUnit l r f front rest (slots_dictionary m.slots) (slots_dictionary s) t.text p
-      → IsNextOf (bounds l) f (previous_at f.entry (slots_dictionary m.slots)) p → ((x : Step) (b : ℕ) → p ≡ Whole x b → e ≡ []) → (p ≡ Cut → IsReady set l (with_units m s e t j)) → CanProgress set l (with_units m s e t j) f p
+  progress_by : (w : Waiting) → IsOfField w → CanTake w set l m → (r : Reader Outcome) (front : List ℕ) (p : Progress FieldStep) → IsFieldUnit l r f front rest (slots_dictionary m.slots) (slots_dictionary s) t.text p
+      → IsNextOf (bounds l) f (previous_at f.entry (slots_dictionary m.slots)) p → ((x : FieldStep) (b : ℕ) → p ≡ Whole x b → e ≡ []) → (p ≡ Cut → IsReady set l (with_units m s e t j)) → CanProgress set l (with_units m s e t j) f p
   progress_by w of can r front (Whole (Settled source) b) h next emptied c = record {
     supplied = supplied;
     placed = (placed_by w set l m of can).0;
@@ -214,13 +214,13 @@ module _ (set : Set) (l : Limits) (m : Machine) (f : FieldData) (n : ℕ) (rest 
   progress_by w of can r front (Wrong c b) h next emptied k = supplied
   progress_by w of can r front Cut h next emptied k = k refl
 
-  emptied_by : (front : List ℕ) (p : Progress Step) → IsEntityKept front rest e p → (x : Step) (b : ℕ) → p ≡ Whole x b → e ≡ []
+  emptied_by : (front : List ℕ) (p : Progress FieldStep) → IsEntityKept front rest e p → (x : FieldStep) (b : ℕ) → p ≡ Whole x b → e ≡ []
   emptied_by front (Whole y k) h x b i = h
   emptied_by front (Wrong c k) h x b i = absurd cc
   emptied_by front Cut h x b i = absurd cc
 
   cut_by : (front : List ℕ) → IsEntityKept front rest e q → q ≡ Cut → (e ≡ front ++ rest) × HaveNoStop e × (length e < 10)
-  cut_by front h i = subst (λ (p : Progress Step). IsEntityKept front rest e p) i h
+  cut_by front h i = subst (λ (p : Progress FieldStep). IsEntityKept front rest e p) i h
 
   can_by : (w : Waiting) → m.waiting ≡ w → CanTake w set l m
   can_by w is = subst (λ (v : Waiting). CanTake v set l m) is ready.takes
@@ -318,7 +318,7 @@ module _ {S : Type 0} (takes stops : S → EventData → S → Type 0) (set : Se
   taken_as s b o s' to h = subst (λ (r : Reader Dictionary). IsTaken takes stops (tree_in set) l r rest s b o s' to) (sym (meaning_of m.waiting set l m of)) h
 
   -- A unit is whole, and a turn is taken of what it decides.
-  pub scalar_whole : (q : Step) (b : ℕ) → IsScalarUnit l m a f rest (Whole q b) → (s : S) (o : Result Turn FaultCode) (s' : S) (to : Machine)
+  pub scalar_whole : (q : FieldStep) (b : ℕ) → IsScalarUnit l m a f rest (Whole q b) → (s : S) (o : Result Turn FaultCode) (s' : S) (to : Machine)
       → IsTurn takes stops set l (reader_of l.strict (step_then set l n f a (take b rest) q)) s o s' to → IsTakenTo takes stops set l (meaning set l m) rest s b o s' to
   scalar_whole q b h s o s' to turn =
       let u = whole_here set l m f n m.waiting of ready.takes (at_before h.same) a.slots a.entity a.text a.joined (front_at m.waiting m) rest q b h.unit in

@@ -27,7 +27,7 @@ use Rattle.fast_decoder.specs.device.Positions.{Set, body_in, frames_in, unit_th
 use Rattle.fast_units.specs.declared.scratch.Scratch.{Scratch}
 use Rattle.fast_units.specs.declared.stages.Stage.{Stage}
 use Rattle.fast_units.specs.declared.stages.Stage.TheVariants.{Mantissa, MantissaDelta, Vector, Part, PartVector}
-use Rattle.fast_units.specs.declared.stages.Step.TheVariants.{Next}
+use Rattle.fast_units.specs.declared.stages.FieldStep.TheVariants.{Next}
 use Rattle.fast_decoder.specs.declared.machine.Machine.{Machine}
 use Rattle.fast_stream.specs.declared.faults.FaultCode.{FaultCode}
 use Rattle.fast_decoder.specs.declared.machine.Turn.{Turn}

@@ -31,7 +31,7 @@ use Rattle.fast_decoder.specs.declared.machine.Turn.{Turn}
 use Rattle.fast_decoder.specs.declared.machine.Turn.TheVariants.{Waits}
 use Rattle.fast_decoder.specs.declared.machine.Waiting.TheVariants as Waiting
 use Rattle.fast_units.specs.declared.progress.Progress.TheVariants.{Whole}
-use Rattle.fast_units.specs.declared.stages.Step.TheVariants.{Settled}
+use Rattle.fast_units.specs.declared.stages.FieldStep.TheVariants.{Settled}
 use Rattle.fast_decoder.specs.declared.turns.Turns.{Turns}
 use Rattle.fast_decoder.proofs.streams.Carrying.{supplied-turns}
 use Rattle.fast_units.proofs.Deciding.{item_value}

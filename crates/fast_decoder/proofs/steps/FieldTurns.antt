@@ -36,7 +36,7 @@ use Rattle.fast_stream.specs.meaning.Messages.{State, Found, field_in, decimal_w
 use Rattle.fast_stream.specs.device.Continuations.{handed_then, mantissa_after_then, instruction_then, body_then}
 use Rattle.fast_stream.specs.device.Frames.{resume}
 use Rattle.fast_units.specs.device.Deciding.{IsDecided}
-use Rattle.fast_units.specs.declared.source.Source.{Source}
+use Rattle.fast_units.specs.declared.source.ValueSource.{ValueSource}
 use Rattle.fast_stream.specs.device.Readers.{Reader, Stop}
 use Rattle.fast_stream.specs.device.Machine.{after_bytes}
 use Rattle.fast_stream.specs.device.GrammarReaders.{reader_of}
@@ -281,7 +281,7 @@ pub sent_here : (f : FieldData) (bit : Bool) (st : State) → bit ≡ bit_of f s
 sent_here f bit st e varies sent = record { varies = varies; as_sent = λ l p. ap (field_term l f p) (sym e) ∙ sent l p }
 
 -- Nothing is sent of a field, and its value stands at a source: what is read behind it.
-pub field_known : {A : Type 0} (s : Bool) (l : Bounds) (f : FieldData) (bit : Bool) (old new : Dictionary) (counted : ℕ) (c : CursorData) (k : Found → Grammar A) (source : Source) (scratch piece : List ℕ)
+pub field_known : {A : Type 0} (s : Bool) (l : Bounds) (f : FieldData) (bit : Bool) (old new : Dictionary) (counted : ℕ) (c : CursorData) (k : Found → Grammar A) (source : ValueSource) (scratch piece : List ℕ)
     → bit ≡ bit_of f (state_in old counted c)
     → field_term l f (previous_at f.entry old) bit ≡ of_result (decide f (previous_at f.entry old) bit nothing)
     → IsDecided (decide f (previous_at f.entry old) bit nothing) f old new (Ok source)

@@ -24,7 +24,7 @@ use Rattle.fast_decoder.specs.declared.machine.Machine.{Machine}
 use Rattle.fast_decoder.specs.declared.machine.Turn.{Turn}
 use Rattle.fast_decoder.specs.declared.machine.Turn.TheVariants.{Silent, Handed, Waits as TurnWaits}
 use Rattle.fast_decoder.specs.declared.machine.Waiting.TheVariants.{Map, SegmentMap, Field}
-use Rattle.fast_units.specs.declared.source.Source.{Source}
+use Rattle.fast_units.specs.declared.source.ValueSource.{ValueSource}
 use Rattle.fast_stream.specs.meaning.Events.{EventData, GroupStart, GroupEnd, SequenceStart, ElementStart, ElementEnd, MessageEnd}
 use Rattle.fast_stream.specs.device.Readers.{Reader, Done, Emit, Stop}
 use Rattle.fast_stream.specs.meaning.Grammar.{Grammar, hand, presence_map, narrow, ◌>>=◌, of_result}
@@ -421,7 +421,7 @@ module _ {S : Type 0} (takes stops : S → EventData → S → Type 0) (set : Se
       (can_turn_slots set l m slots h terms).supplied
 
 -- Nothing is sent of the length, and its value stands at a source.
-pub length_unsent : (set : Set) (l : Limits) (m : Machine) (slots : Slots) (n : ℕ) (f : FieldData) (body : List ℕ) (bit : Bool) (source : Source) → IsAtSequence set m.cursor n f body → bit ≡ bit_of f (state_of m)
+pub length_unsent : (set : Set) (l : Limits) (m : Machine) (slots : Slots) (n : ℕ) (f : FieldData) (body : List ℕ) (bit : Bool) (source : ValueSource) → IsAtSequence set m.cursor n f body → bit ≡ bit_of f (state_of m)
     → field_term (bounds l) f (previous_at f.entry (slots_dictionary m.slots)) bit ≡ of_result (decide f (previous_at f.entry (slots_dictionary m.slots)) bit nothing)
     → IsDecided (decide f (previous_at f.entry (slots_dictionary m.slots)) bit nothing) f (slots_dictionary m.slots) (slots_dictionary slots) (Ok source)
     → turning set l m ≡ length_from set l (record m { slots = slots }) n (value_at source f (slots_dictionary slots) m.text.text []) f body

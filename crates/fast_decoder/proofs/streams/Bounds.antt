@@ -7,14 +7,14 @@ use Rattle.fast_tree.specs.meaning.Sizes.{set_depth, message_cap, stored_cap}
 use Rattle.fast_dict.specs.meaning.Slots.{slots_dictionary, slots_sized, slots_bounded}
 use Rattle.fast_decoder.specs.declared.machine.Machine.{Machine}
 use Rattle.fast_stream.specs.meaning.Events.{EventData}
-use Rattle.fast_stream.specs.meaning.Standing.{held, Standing, standing_at}
+use Rattle.fast_stream.specs.meaning.Account.{held, Account, account_at}
 use Rattle.fast_stream.specs.meaning.Streams.{End}
 use Rattle.fast_stream.specs.meaning.Begins.{Begins}
 use Rattle.fast_decoder.specs.device.Positions.{Set, tree_in, IsSupplied}
-use Rattle.fast_decoder.specs.meaning.Decoding.{DecoderData, tree, So, standing, stored_by, stored}
+use Rattle.fast_decoder.specs.meaning.Decoding.{DecoderData, tree, HasRead, account, stored_by, stored}
 use Rattle.fast_stream.proofs.streams.Bound.{consumed-bound}
 use Rattle.fast_stream.proofs.streams.Caps.{stream_begins, begun_bound}
-use Rattle.fast_decoder.proofs.streams.Ends.{so-stream}
+use Rattle.fast_decoder.proofs.streams.Ends.{read-stream}
 
 sum : (t j b e dep H k max km km2 : ℕ) → t ≡ max → j ≡ max → b + e ≤ km + k → dep ≡ H → km2 ≡ km + 2 * max → t + j + b + e + dep + 146 * (dep + 1) ≤ km2 + k + 147 * (H + 1)
 sum t j b e dep H k max km km2 text joined slots depth product = omega (arith, text, joined, slots, depth, product)
@@ -28,18 +28,18 @@ stored-bound set l m h =
     h.text_room h.joined_room slots h.depth (add-mul set.entries 2 l.max_text)
 
 -- A decoder that bytes led to stores no more than the cap.
-pub so-bounded : (d : DecoderData) (w : List ℕ) (es : List EventData) → So d w es → held (stored d) ≤ stored_cap (tree d) d.limits
-so-bounded d w es so = stored-bound d.set d.limits d.machine so.sound.supplied
+pub read-bounded : (d : DecoderData) (w : List ℕ) (es : List EventData) → HasRead d w es → held (stored d) ≤ stored_cap (tree d) d.limits
+read-bounded d w es so = stored-bound d.set d.limits d.machine so.sound.supplied
 
 -- It has handed over no more events than its cap for each byte consumed.
-pub so-events : (d : DecoderData) (w : List ℕ) (es : List EventData) → So d w es → length es ≤ (standing d).consumed * message_cap (tree d) d.limits
-so-events d w es so =
-    let (e, stream, ends) = so-stream d w es so in
-    subst (λ (s : Standing). length es ≤ s.consumed * message_cap (tree d) d.limits) (sym ends) (consumed-bound (tree d) d.limits w es e stream)
+pub read-events : (d : DecoderData) (w : List ℕ) (es : List EventData) → HasRead d w es → length es ≤ (account d).consumed * message_cap (tree d) d.limits
+read-events d w es so =
+    let (e, stream, ends) = read-stream d w es so in
+    subst (λ (s : Account). length es ≤ s.consumed * message_cap (tree d) d.limits) (sym ends) (consumed-bound (tree d) d.limits w es e stream)
 
 -- Nor more than its cap for each message begun.
-pub so-messages : (d : DecoderData) (w : List ℕ) (es : List EventData) → So d w es → (e : End) × (n : ℕ) × (standing d ≡ standing_at w e) × Begins (tree d) d.limits w e n × (length es ≤ n * message_cap (tree d) d.limits)
-so-messages d w es so =
-    let (e, stream, ends) = so-stream d w es so in
+pub read-messages : (d : DecoderData) (w : List ℕ) (es : List EventData) → HasRead d w es → (e : End) × (n : ℕ) × (account d ≡ account_at w e) × Begins (tree d) d.limits w e n × (length es ≤ n * message_cap (tree d) d.limits)
+read-messages d w es so =
+    let (e, stream, ends) = read-stream d w es so in
     let (n, begins) = stream_begins (tree d) d.limits w es e stream in
     (e, n, ends, begins, begun_bound (tree d) d.limits w es e n stream begins)

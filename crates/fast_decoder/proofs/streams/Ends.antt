@@ -17,12 +17,12 @@ use Rattle.fast_decoder.specs.declared.machine.Waiting.{Waiting}
 use Rattle.fast_decoder.specs.declared.machine.Waiting.TheVariants.{Map, Identifier, SegmentMap, Field, Text, Number, Bytes, Mantissa}
 use Rattle.fast_stream.specs.meaning.Events.{EventData}
 use Rattle.fast_stream.specs.meaning.Streams.{End, between, inside, Stream}
-use Rattle.fast_stream.specs.meaning.Standing.{Standing, standing_at, StandsAfter}
+use Rattle.fast_stream.specs.meaning.Account.{Account, account_at, TellsStream}
 use Rattle.fast_stream.specs.device.Readers.{Reader}
-use Rattle.fast_stream.specs.device.Running.{Stands, reading, end_of}
-use Rattle.fast_decoder.specs.device.Handing.{Waits, stood}
+use Rattle.fast_stream.specs.device.Running.{Position, reading, end_of}
+use Rattle.fast_decoder.specs.device.Handing.{Waits, waiting_at}
 use Rattle.fast_decoder.specs.device.Positions.{Set, map_reader, mapped_reader, meaning, meaning_at, CanTake, IsReady, is_idle_at, is_idle}
-use Rattle.fast_decoder.specs.meaning.Decoding.{DecoderData, tree, IsSoundAt, IsFaultAt, IsAt, So, standing}
+use Rattle.fast_decoder.specs.meaning.Decoding.{DecoderData, tree, IsSoundAt, IsFaultAt, IsAt, HasRead, account}
 use Rattle.fast_decoder.proofs.units.InHand.{open_waits}
 use Rattle.fast_decoder.proofs.units.Takings.{map_reader-some}
 use Rattle.fast_decoder.proofs.units.Waitings.{machine_waits}
@@ -32,10 +32,10 @@ use Rattle.fast_stream.proofs.streams.Reading.{reading-sound}
 abbrev pub end_if : Bool → End
 end_if idle = if idle then between else inside
 
-waits_inside : (r : Reader Dictionary) → Waits r → end_of (stood r) ≡ inside
-waits_inside r (f, e) = ap (λ p. end_of (stood p)) e
+waits_inside : (r : Reader Dictionary) → Waits r → end_of (waiting_at r) ≡ inside
+waits_inside r (f, e) = ap (λ p. end_of (waiting_at p)) e
 
-map_end : (set : Set) (l : Limits) (d : Dictionary) (w : List ℕ) → HaveNoStop w → length w < map_limit → end_of (stood (map_reader set l d w)) ≡ end_if (nat_eq (length w) 0)
+map_end : (set : Set) (l : Limits) (d : Dictionary) (w : List ℕ) → HaveNoStop w → length w < map_limit → end_of (waiting_at (map_reader set l d w)) ≡ end_if (nat_eq (length w) 0)
 map_end set l d [] h short = refl
 map_end set l d (b ∷ w) h short =
     let e = map_reader-some set l d (b ∷ w) (omega arith) in
@@ -43,10 +43,10 @@ map_end set l d (b ∷ w) h short =
     waits_inside (map_reader set l d (b ∷ w)) (subst Waits (sym e) (open_waits L3 map_limit (mapped_reader set l d) (b ∷ w) h short)) ∙ ap end_if (sym some)
 
 module _ (set : Set) (l : Limits) (m : Machine) (later : NameLaterNodes set.nodes) (ready : IsReady set l m) where
-  busy : (w : Waiting) → m.waiting ≡ w → w ≢ Map → end_of (stood (meaning_at w set l m)) ≡ inside
+  busy : (w : Waiting) → m.waiting ≡ w → w ≢ Map → end_of (waiting_at (meaning_at w set l m)) ≡ inside
   busy w e other = waits_inside (meaning_at w set l m) (subst (λ (u : Waiting). Waits (meaning_at u set l m)) e (machine_waits set l m later ready (λ i. other (sym e ∙ i))))
 
-  by_waiting : (w : Waiting) → m.waiting ≡ w → end_of (stood (meaning_at w set l m)) ≡ end_if (is_idle_at w m.cursor.map)
+  by_waiting : (w : Waiting) → m.waiting ≡ w → end_of (waiting_at (meaning_at w set l m)) ≡ end_if (is_idle_at w m.cursor.map)
   by_waiting Map e = let c = subst (λ (u : Waiting). CanTake u set l m) e ready.takes in map_end set l (slots_dictionary m.slots) m.cursor.map c.0 c.1
   by_waiting Identifier e = busy Identifier e (λ i. absurd (cc i))
   by_waiting (SegmentMap width) e = busy (SegmentMap width) e (λ i. absurd (cc i))
@@ -56,32 +56,32 @@ module _ (set : Set) (l : Limits) (m : Machine) (later : NameLaterNodes set.node
   by_waiting (Bytes stage) e = busy (Bytes stage) e (λ i. absurd (cc i))
   by_waiting (Mantissa x) e = busy (Mantissa x) e (λ i. absurd (cc i))
 
-  pub machine_end : end_of (stood (meaning set l m)) ≡ end_if (is_idle m)
+  pub machine_end : end_of (waiting_at (meaning set l m)) ≡ end_if (is_idle m)
   machine_end = by_waiting m.waiting refl
 
-standing_if : (w : List ℕ) (idle : Bool) (n : ℕ) → n ≡ length w → (let s : Standing = record { is_between = idle; fault = None; consumed = n } in s) ≡ standing_at w (end_if idle)
-standing_if w true n e = ap (λ k. let s : Standing = record { is_between = true; fault = None; consumed = k } in s) e
-standing_if w false n e = ap (λ k. let s : Standing = record { is_between = false; fault = None; consumed = k } in s) e
+account_if : (w : List ℕ) (idle : Bool) (n : ℕ) → n ≡ length w → (let s : Account = record { is_between = idle; fault = None; consumed = n } in s) ≡ account_at w (end_if idle)
+account_if w true n e = ap (λ k. let s : Account = record { is_between = true; fault = None; consumed = k } in s) e
+account_if w false n e = ap (λ k. let s : Account = record { is_between = false; fault = None; consumed = k } in s) e
 
-by_code : (c : FaultCode) (place : ℕ) (w : List ℕ) (s : Stands Dictionary) → IsFaultAt c place s → (let t : Standing = record { is_between = false; fault = Some (record { code = c; place = place }); consumed = place } in t) ≡ standing_at w (end_of s)
-by_code (Why.Stream c) place w s h = ap (λ x. standing_at w (end_of x)) (sym h)
+by_code : (c : FaultCode) (place : ℕ) (w : List ℕ) (s : Position Dictionary) → IsFaultAt c place s → (let t : Account = record { is_between = false; fault = Some (record { code = c; place = place }); consumed = place } in t) ≡ account_at w (end_of s)
+by_code (Why.Stream c) place w s h = ap (λ x. account_at w (end_of x)) (sym h)
 by_code Why.L4 place w s h = absurd h
 by_code Why.SinkStopped place w s h = absurd h
 
-by_fault : (o : Option Fault) (d : DecoderData) (w : List ℕ) (s : Stands Dictionary) → NameLaterNodes d.set.nodes → IsSoundAt o d.set d.limits d.machine d.consumed → IsAt o d (length w) s
-    → (let t : Standing = record { is_between = is_none o && is_idle d.machine; fault = o; consumed = d.consumed } in t) ≡ standing_at w (end_of s)
+by_fault : (o : Option Fault) (d : DecoderData) (w : List ℕ) (s : Position Dictionary) → NameLaterNodes d.set.nodes → IsSoundAt o d.set d.limits d.machine d.consumed → IsAt o d (length w) s
+    → (let t : Account = record { is_between = is_none o && is_idle d.machine; fault = o; consumed = d.consumed } in t) ≡ account_at w (end_of s)
 by_fault None d w s later ready at =
-    standing_if w (is_idle d.machine) d.consumed at.1
-    ∙ ap (standing_at w) (sym (machine_end d.set d.limits d.machine later ready)) ∙ ap (λ x. standing_at w (end_of x)) (sym at.0)
+    account_if w (is_idle d.machine) d.consumed at.1
+    ∙ ap (account_at w) (sym (machine_end d.set d.limits d.machine later ready)) ∙ ap (λ x. account_at w (end_of x)) (sym at.0)
 by_fault (Some f) d w s later placed at =
-    ap (λ n. let t : Standing = record { is_between = false; fault = Some f; consumed = n } in t) (sym placed) ∙ by_code f.code f.place w s at
+    ap (λ n. let t : Account = record { is_between = false; fault = Some f; consumed = n } in t) (sym placed) ∙ by_code f.code f.place w s at
 
 -- What leads to a decoder is a stream, whose end it tells.
-pub so-stream : (d : DecoderData) (w : List ℕ) (es : List EventData) → So d w es → StandsAfter (tree d) d.limits w es (standing d)
-so-stream d w es so =
+pub read-stream : (d : DecoderData) (w : List ℕ) (es : List EventData) → HasRead d w es → TellsStream (tree d) d.limits w es (account d)
+read-stream d w es so =
     let read = so.read in (
-      end_of so.stands,
-      subst (λ fs. Stream (tree d) d.limits w fs (end_of so.stands)) (ap (λ (x : List EventData × Stands Dictionary). x.0) read)
-          (subst (λ x. Stream (tree d) d.limits w (reading (tree d) d.limits w).0 (end_of x)) (ap (λ (x : List EventData × Stands Dictionary). x.1) read) (reading-sound (tree d) d.limits w so.bytes)),
-      by_fault d.fault d w so.stands so.sound.later so.sound.at so.at,
+      end_of so.position,
+      subst (λ fs. Stream (tree d) d.limits w fs (end_of so.position)) (ap (λ (x : List EventData × Position Dictionary). x.0) read)
+          (subst (λ x. Stream (tree d) d.limits w (reading (tree d) d.limits w).0 (end_of x)) (ap (λ (x : List EventData × Position Dictionary). x.1) read) (reading-sound (tree d) d.limits w so.bytes)),
+      by_fault d.fault d w so.position so.sound.later so.sound.at so.at,
     )

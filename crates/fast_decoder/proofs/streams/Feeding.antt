@@ -13,8 +13,8 @@ use Rattle.fast_stream.specs.meaning.Events.{EventData}
 use Rattle.fast_stream.specs.meaning.Sinks.{Takes, TakesUpTo}
 use Rattle.fast_stream.specs.device.Readers.{Reader, Done, Emit, Stop, Byte}
 use Rattle.fast_stream.specs.device.Machine.{after_bytes}
-use Rattle.fast_stream.specs.device.Running.{Stands, at_fault, settle, step, run, after_byte, message_begun}
-use Rattle.fast_decoder.specs.device.Handing.{Hands, due, Waits, Quiet, IsTaken, stood, Leads, Took, Failed, Stopped, Fed}
+use Rattle.fast_stream.specs.device.Running.{Position, at_fault, settle, step, run, after_byte, message_begun}
+use Rattle.fast_decoder.specs.device.Handing.{Hands, due, Waits, Quiet, IsTaken, waiting_at, Leads, TookEvents, Failed, Stopped, Fed}
 use Rattle.fast_stream.proofs.streams.Streams.{run-append}
 use Rattle.fast_decoder.proofs.units.Takings.{due-waits, last_of}
 
@@ -25,19 +25,19 @@ settle-events n m (Emit e r) = ap (λ es. e ∷ es) (settle-events n m r)
 settle-events n m (Stop c) = refl
 settle-events n m (Byte f) = refl
 
-settle-stood : (n : ℕ) (r : Reader Dictionary) → Waits r → settle n r ≡ ([], stood r)
-settle-stood n r (f, e) = rw e refl
+settle-waiting : (n : ℕ) (r : Reader Dictionary) → Waits r → settle n r ≡ ([], waiting_at r)
+settle-waiting n r (f, e) = rw e refl
 
 module _ {S : Type 0} (takes stops : S → EventData → S → Type 0) where
   pub hands_settle : (r : Reader Dictionary) (s : S) (u : Unit {0}) (s' : S) (q : Reader Dictionary) → Hands takes stops r s (Ok u) s' q
-      → (es : List EventData) × ((m : ℕ) → settle m r ≡ (es, stood q)) × Takes takes s es s'
+      → (es : List EventData) × ((m : ℕ) → settle m r ≡ (es, waiting_at q)) × Takes takes s es s'
   hands_settle (Done d) s u s' q (o, e, i) = ([], λ m. rw i refl, e)
   hands_settle (Byte f) s u s' q (o, e, i) = ([], λ m. rw i refl, e)
   hands_settle (Stop c) s u s' q (o, e) = absurd (cc o)
   hands_settle (Emit e p) s u s' q (inr (h, o)) = absurd (cc o)
   hands_settle (Emit e p) s u s' q (inl (mid, h, i)) =
       let (es, settled, taken) = hands_settle p mid u s' q i in
-      (e ∷ es, λ m. ap (λ (x : List EventData × Stands Dictionary). (e ∷ x.0, x.1)) (settled m), (mid, h, taken))
+      (e ∷ es, λ m. ap (λ (x : List EventData × Position Dictionary). (e ∷ x.0, x.1)) (settled m), (mid, h, taken))
 
   pub hands_fail : (r : Reader Dictionary) (s : S) (c : Code) (s' : S) (q : Reader Dictionary) → Hands takes stops r s (Err (Why.Stream c)) s' q
       → (es : List EventData) × ((m : ℕ) → settle m r ≡ (es, at_fault c m)) × Takes takes s es s'
@@ -47,7 +47,7 @@ module _ {S : Type 0} (takes stops : S → EventData → S → Type 0) where
   hands_fail (Emit e p) s c s' q (inr (h, o)) = absurd (cc o)
   hands_fail (Emit e p) s c s' q (inl (mid, h, i)) =
       let (es, settled, taken) = hands_fail p mid c s' q i in
-      (e ∷ es, λ m. ap (λ (x : List EventData × Stands Dictionary). (e ∷ x.0, x.1)) (settled m), (mid, h, taken))
+      (e ∷ es, λ m. ap (λ (x : List EventData × Position Dictionary). (e ∷ x.0, x.1)) (settled m), (mid, h, taken))
 
   pub hands_stop : (r : Reader Dictionary) (s s' : S) (q : Reader Dictionary) → Hands takes stops r s (Err Why.SinkStopped) s' q
       → (es : List EventData) × ((m : ℕ) → (settle m r).0 ≡ es) × TakesUpTo takes stops s es s'
@@ -75,28 +75,28 @@ pair {A} {B} {x} {y} e i = ap (λ (a : A). (a, x.1)) e ∙ ap (λ (b : B). (y.0,
 
 module _ (t : Tree) (l : Limits) where
   -- One byte, where a reader stands.
-  stood-step : (n : ℕ) (r : Reader Dictionary) (b : ℕ) → step (message_begun t l) n (stood r) b ≡ settle (suc n) (after_byte (due t l r) b)
+  waiting-step : (n : ℕ) (r : Reader Dictionary) (b : ℕ) → step (message_begun t l) n (waiting_at r) b ≡ settle (suc n) (after_byte (due t l r) b)
   unfolding message_begun
-  stood-step n (Done d) b = refl
-  stood-step n (Emit e r) b = refl
-  stood-step n (Stop c) b = refl
-  stood-step n (Byte f) b = refl
+  waiting-step n (Done d) b = refl
+  waiting-step n (Emit e r) b = refl
+  waiting-step n (Stop c) b = refl
+  waiting-step n (Byte f) b = refl
 
-  run-one : (n : ℕ) (r : Reader Dictionary) (b : ℕ) → run (message_begun t l) n (stood r) (b ∷ []) ≡ settle (suc n) (after_byte (due t l r) b)
+  run-one : (n : ℕ) (r : Reader Dictionary) (b : ℕ) → run (message_begun t l) n (waiting_at r) (b ∷ []) ≡ settle (suc n) (after_byte (due t l r) b)
   run-one n r b =
-      let e = stood-step n r b in
-      ap (λ (x : List EventData × Stands Dictionary). (x.0 ++ [], x.1)) e ∙ ap (λ es. (es, (settle (suc n) (after_byte (due t l r) b)).1)) (append-nil (settle (suc n) (after_byte (due t l r) b)).0)
+      let e = waiting-step n r b in
+      ap (λ (x : List EventData × Position Dictionary). (x.0 ++ [], x.1)) e ∙ ap (λ es. (es, (settle (suc n) (after_byte (due t l r) b)).1)) (append-nil (settle (suc n) (after_byte (due t l r) b)).0)
 
   run-cons : (n : ℕ) (r : Reader Dictionary) (b : ℕ) (w : List ℕ) → Waits (after_byte (due t l r) b)
-      → run (message_begun t l) n (stood r) (b ∷ w) ≡ run (message_begun t l) (suc n) (stood (after_byte (due t l r) b)) w
+      → run (message_begun t l) n (waiting_at r) (b ∷ w) ≡ run (message_begun t l) (suc n) (waiting_at (after_byte (due t l r) b)) w
   run-cons n r b w h =
       let q = after_byte (due t l r) b in
-      let e = stood-step n r b ∙ settle-stood (suc n) q h in
-      ap (λ (x : List EventData × Stands Dictionary). (x.0 ++ (run (message_begun t l) (suc n) x.1 w).0, (run (message_begun t l) (suc n) x.1 w).1)) e
+      let e = waiting-step n r b ∙ settle-waiting (suc n) q h in
+      ap (λ (x : List EventData × Position Dictionary). (x.0 ++ (run (message_begun t l) (suc n) x.1 w).0, (run (message_begun t l) (suc n) x.1 w).1)) e
 
   -- Bytes of which only the last hands something over.
   pub quiet_run : (n : ℕ) (r : Reader Dictionary) (b : ℕ) (w : List ℕ) → Quiet (due t l r) (b ∷ w)
-      → run (message_begun t l) n (stood r) (b ∷ w) ≡ settle (n + length (b ∷ w)) (after_bytes (due t l r) (b ∷ w))
+      → run (message_begun t l) n (waiting_at r) (b ∷ w) ≡ settle (n + length (b ∷ w)) (after_bytes (due t l r) (b ∷ w))
   quiet_run n r b [] h = let one : suc n ≡ n + 1 = omega arith in run-one n r b ∙ ap (λ m. settle m (after_byte (due t l r) b)) one
   quiet_run n r b (c ∷ w) h =
       let q = after_byte (due t l r) b in
@@ -109,16 +109,16 @@ module _ (t : Tree) (l : Limits) where
 
   -- The bytes before the last: nothing is handed over, and there the reader stands.
   pub record QuietBefore (r : Reader Dictionary) (u : List ℕ) (b : ℕ) : Type 0 where
-    pub at : Stands Dictionary
-    pub before : Leads t l (stood r) u [] at
+    pub at : Position Dictionary
+    pub before : Leads t l (waiting_at r) u [] at
     pub last : (n : ℕ) → run (message_begun t l) n at (b ∷ []) ≡ settle (suc n) (after_bytes (due t l r) (u ++ b ∷ []))
 
   pub quiet_before : (r : Reader Dictionary) (u : List ℕ) (b : ℕ) → Quiet (due t l r) (u ++ b ∷ []) → QuietBefore r u b
-  quiet_before r [] b h = record { at = stood r; before = λ n. refl; last = λ n. run-one n r b }
+  quiet_before r [] b h = record { at = waiting_at r; before = λ n. refl; last = λ n. run-one n r b }
   quiet_before r (a ∷ []) b h =
       let q = after_byte (due t l r) a in
       record {
-        at = stood q;
+        at = waiting_at q;
         before = λ n. run-cons n r a [] h.1.0;
         last = λ n. run-one n q b ∙ ap (λ (p : Reader Dictionary). settle (suc n) (after_byte p b)) (due-waits t l q h.1.0);
       }
@@ -134,34 +134,34 @@ module _ (t : Tree) (l : Limits) where
 
   module _ {S : Type 0} (takes stops : S → EventData → S → Type 0) where
     -- nothing is taken of no bytes
-    pub took_none : (from : Stands Dictionary) (s : S) → Took takes t l from [] s s from
+    pub took_none : (from : Position Dictionary) (s : S) → TookEvents takes t l from [] s s from
     took_none from s = record { events = []; leads = λ n. refl; taken = refl }
 
-    run-two : (n : ℕ) (from mid : Stands Dictionary) (u v : List ℕ) (es : List EventData) → Leads t l from u es mid
+    run-two : (n : ℕ) (from mid : Position Dictionary) (u v : List ℕ) (es : List EventData) → Leads t l from u es mid
         → run (message_begun t l) n from (u ++ v) ≡ (es ++ (run (message_begun t l) (n + length u) mid v).0, (run (message_begun t l) (n + length u) mid v).1)
     run-two n from mid u v es h =
         let parts = run-append (message_begun t l) n (n + length u) from u v refl in
         let e : run (message_begun t l) n from u ≡ (es, mid) = h n in
-        pair (parts.0 ∙ ap (λ (x : List EventData × Stands Dictionary). x.0 ++ (run (message_begun t l) (n + length u) x.1 v).0) e) (parts.1 ∙ ap (λ (x : List EventData × Stands Dictionary). (run (message_begun t l) (n + length u) x.1 v).1) e)
+        pair (parts.0 ∙ ap (λ (x : List EventData × Position Dictionary). x.0 ++ (run (message_begun t l) (n + length u) x.1 v).0) e) (parts.1 ∙ ap (λ (x : List EventData × Position Dictionary). (run (message_begun t l) (n + length u) x.1 v).1) e)
 
     -- one run of bytes after the other
-    pub took_both : (from mid to : Stands Dictionary) (u v : List ℕ) (s m s' : S) → Took takes t l from u s m mid → Took takes t l mid v m s' to → Took takes t l from (u ++ v) s s' to
+    pub took_both : (from mid to : Position Dictionary) (u v : List ℕ) (s m s' : S) → TookEvents takes t l from u s m mid → TookEvents takes t l mid v m s' to → TookEvents takes t l from (u ++ v) s s' to
     took_both from mid to u v s m s' a b = record {
       events = a.events ++ b.events;
-      leads = λ n. run-two n from mid u v a.events a.leads ∙ ap (λ (x : List EventData × Stands Dictionary). (a.events ++ x.0, x.1)) (b.leads (n + length u));
+      leads = λ n. run-two n from mid u v a.events a.leads ∙ ap (λ (x : List EventData × Position Dictionary). (a.events ++ x.0, x.1)) (b.leads (n + length u));
       taken = takes_more takes stops s m s' a.events b.events a.taken b.taken;
     }
 
-    failed_both : (from mid : Stands Dictionary) (u v : List ℕ) (s m s' : S) (c : Code) → Took takes t l from u s m mid → Failed takes t l mid v m s' c → Failed takes t l from (u ++ v) s s' c
+    failed_both : (from mid : Position Dictionary) (u v : List ℕ) (s m s' : S) (c : Code) → TookEvents takes t l from u s m mid → Failed takes t l mid v m s' c → Failed takes t l from (u ++ v) s s' c
     failed_both from mid u v s m s' c a b = record {
       events = a.events ++ b.events;
       leads = λ n.
           let sum : n + length u + length v ≡ n + length (u ++ v) = omega (arith, length-append u v) in
-          run-two n from mid u v a.events a.leads ∙ ap (λ (x : List EventData × Stands Dictionary). (a.events ++ x.0, x.1)) (b.leads (n + length u)) ∙ ap (λ k. (a.events ++ b.events, at_fault c k)) sum;
+          run-two n from mid u v a.events a.leads ∙ ap (λ (x : List EventData × Position Dictionary). (a.events ++ x.0, x.1)) (b.leads (n + length u)) ∙ ap (λ k. (a.events ++ b.events, at_fault c k)) sum;
       taken = takes_more takes stops s m s' a.events b.events a.taken b.taken;
     }
 
-    stopped_both : (from mid : Stands Dictionary) (u v : List ℕ) (s m s' : S) → Took takes t l from u s m mid → Stopped takes stops t l mid v m s' → Stopped takes stops t l from (u ++ v) s s'
+    stopped_both : (from mid : Position Dictionary) (u v : List ℕ) (s m s' : S) → TookEvents takes t l from u s m mid → Stopped takes stops t l mid v m s' → Stopped takes stops t l from (u ++ v) s s'
     stopped_both from mid u v s m s' a b = record {
       before = u ++ b.before;
       byte = b.byte;
@@ -175,7 +175,7 @@ module _ (t : Tree) (l : Limits) where
     }
 
     -- Bytes that were fed behind others that were taken.
-    pub fed_both : (from mid to : Stands Dictionary) (u v : List ℕ) (s m s' : S) (r : Result Unit FaultCode) → Took takes t l from u s m mid → Fed takes stops t l mid v m r s' to → Fed takes stops t l from (u ++ v) s r s' to
+    pub fed_both : (from mid to : Position Dictionary) (u v : List ℕ) (s m s' : S) (r : Result Unit FaultCode) → TookEvents takes t l from u s m mid → Fed takes stops t l mid v m r s' to → Fed takes stops t l from (u ++ v) s r s' to
     fed_both from mid to u v s m s' (Ok x) a b = took_both from mid to u v s m s' a b
     fed_both from mid to u v s m s' (Err (Why.Stream c)) a b = failed_both from mid u v s m s' c a b
     fed_both from mid to u v s m s' (Err Why.SinkStopped) a b = stopped_both from mid u v s m s' a b
@@ -183,7 +183,7 @@ module _ (t : Tree) (l : Limits) where
 
     -- what is known of bytes of which only the last hands something over
     quiet_fed : (r : Reader Dictionary) (b : ℕ) (w : List ℕ) (s : S) (o : Result Unit FaultCode) (s' : S) (q : Reader Dictionary) → Quiet (due t l r) (b ∷ w)
-        → Hands takes stops (after_bytes (due t l r) (b ∷ w)) s o s' q → Fed takes stops t l (stood r) (b ∷ w) s o s' (stood q)
+        → Hands takes stops (after_bytes (due t l r) (b ∷ w)) s o s' q → Fed takes stops t l (waiting_at r) (b ∷ w) s o s' (waiting_at q)
     quiet_fed r b w s (Ok u) s' q h i =
         let (es, settled, taken) = hands_settle takes stops (after_bytes (due t l r) (b ∷ w)) s u s' q i in
         record { events = es; leads = λ n. quiet_run n r b w h ∙ settled (n + length (b ∷ w)); taken = taken }
@@ -202,28 +202,28 @@ module _ (t : Tree) (l : Limits) where
           at = k.at;
           took = record { events = []; leads = k.before; taken = refl };
           given = es;
-          gives = λ n. ap (λ (x : List EventData × Stands Dictionary). x.0) (k.last n) ∙ ap (λ (x : List ℕ). (settle (suc n) (after_bytes (due t l r) x)).0) (sym e) ∙ settled (suc n);
+          gives = λ n. ap (λ (x : List EventData × Position Dictionary). x.0) (k.last n) ∙ ap (λ (x : List ℕ). (settle (suc n) (after_bytes (due t l r) x)).0) (sym e) ∙ settled (suc n);
           stopped = stopped;
         }
     quiet_fed r b w s (Err Why.L4) s' q h i = hands_no_count takes stops (after_bytes (due t l r) (b ∷ w)) s s' q i
 
     by_list : (r : Reader Dictionary) (w : List ℕ) (s : S) (o : Result Unit FaultCode) (s' : S) (q : Reader Dictionary) → 0 < length w → Quiet (due t l r) w
-        → Hands takes stops (after_bytes (due t l r) w) s o s' q → Fed takes stops t l (stood r) w s o s' (stood q)
+        → Hands takes stops (after_bytes (due t l r) w) s o s' q → Fed takes stops t l (waiting_at r) w s o s' (waiting_at q)
     by_list r [] s o s' q some h i = absurd (omega (arith, some))
     by_list r (b ∷ w) s o s' q some h i = quiet_fed r b w s o s' q h i
 
     -- A unit that was taken, behind bytes that were taken before it.
-    pub fed_unit : (from : Stands Dictionary) (piece : List ℕ) (k n : ℕ) (r : Reader Dictionary) (s m s' : S) (o : Result Unit FaultCode) (q : Reader Dictionary) → k ≤ length piece
-        → Took takes t l from (take k piece) s m (stood r) → IsTaken takes stops t l r (take (length piece - k) (drop k piece)) m n o s' q → Fed takes stops t l from (take (k + n) piece) s o s' (stood q)
+    pub fed_unit : (from : Position Dictionary) (piece : List ℕ) (k n : ℕ) (r : Reader Dictionary) (s m s' : S) (o : Result Unit FaultCode) (q : Reader Dictionary) → k ≤ length piece
+        → TookEvents takes t l from (take k piece) s m (waiting_at r) → IsTaken takes stops t l r (take (length piece - k) (drop k piece)) m n o s' q → Fed takes stops t l from (take (k + n) piece) s o s' (waiting_at q)
     fed_unit from piece k n r s m s' o q inside a behind =
         let b : IsTaken takes stops t l r (drop k piece) m n o s' q = subst (λ (w : List ℕ). IsTaken takes stops t l r w m n o s' q) (take_rest piece k) behind in
         let len : length (take n (drop k piece)) ≡ n = length-take-le n (drop k piece) b.within in
         let some : 0 < length (take n (drop k piece)) = let h = b.some in omega arith in
-        subst (λ (w : List ℕ). Fed takes stops t l from w s o s' (stood q)) (sym (take-add k n piece))
-        (fed_both from (stood r) (stood q) (take k piece) (take n (drop k piece)) s m s' o a (by_list r (take n (drop k piece)) m o s' q some b.quiet b.hands))
+        subst (λ (w : List ℕ). Fed takes stops t l from w s o s' (waiting_at q)) (sym (take-add k n piece))
+        (fed_both from (waiting_at r) (waiting_at q) (take k piece) (take n (drop k piece)) s m s' o a (by_list r (take n (drop k piece)) m o s' q some b.quiet b.hands))
 
     -- where the machine goes on
-    pub fed_on : (from : Stands Dictionary) (w : List ℕ) (s : S) (r : Result Unit FaultCode) (s' : S) (to : Stands Dictionary) → is_err r ≡ false → Fed takes stops t l from w s r s' to → Took takes t l from w s s' to
+    pub fed_on : (from : Position Dictionary) (w : List ℕ) (s : S) (r : Result Unit FaultCode) (s' : S) (to : Position Dictionary) → is_err r ≡ false → Fed takes stops t l from w s r s' to → TookEvents takes t l from w s s' to
     fed_on from w s (Ok u) s' to e h = h
     fed_on from w s (Err c) s' to e h = absurd (cc e)
 

@@ -14,37 +14,37 @@ use Rattle.fast_stream.specs.declared.faults.FaultCode.TheVariants as Why
 use Rattle.fast_stream.specs.meaning.Events.{EventData}
 use Rattle.fast_stream.specs.meaning.Sinks.{Takes}
 use Rattle.fast_stream.specs.meaning.Streams.{End, between, inside, faulted, Stream}
-use Rattle.fast_stream.specs.meaning.Standing.{Standing, standing_at, StandsAfter, held}
-use Rattle.fast_decoder.specs.meaning.Decoding.{DecoderData, tree, IsFaultAt, IsAt, So, standing, stored, answer, Carries, SinkEnds, IsRefused, CarriesAt}
+use Rattle.fast_stream.specs.meaning.Account.{Account, account_at, TellsStream, held}
+use Rattle.fast_decoder.specs.meaning.Decoding.{DecoderData, tree, IsFaultAt, IsAt, HasRead, account, stored, answer, Carries, SinkEnds, IsRefused, CarriesAt}
 use Rattle.fast_decoder.specs.meaning.Feeding.{ConsumesAtMost, all_bytes, Follows, StopsShort, Overflows, FollowedAt, Followed}
 use Rattle.fast_stream.proofs.streams.Bound.{stream-bound}
 use Rattle.fast_stream.proofs.streams.Reading.{faults-stay}
-use Rattle.fast_decoder.proofs.streams.Bounds.{so-events}
-use Rattle.fast_decoder.proofs.streams.Ends.{so-stream}
+use Rattle.fast_decoder.proofs.streams.Bounds.{read-events}
+use Rattle.fast_decoder.proofs.streams.Ends.{read-stream}
 
 fewer : (a b c n : ℕ) → a ≡ b + c → a ≤ n → b ≤ n
 fewer a b c n e h = omega arith
 
 module _ (t : Tree) (l : Limits) where
   -- Bytes behind a fault change nothing.
-  stays_at : (e : End) (w v : List ℕ) (es : List EventData) (d : DecoderData) (f : Fault) → d.fault ≡ Some f → Stream t l w es e → standing d ≡ standing_at w e → StandsAfter t l (w ++ v) es (standing d)
-  stays_at between w v es d f some stream at = let no : Some f ≡ None = sym some ∙ ap (λ (s : Standing). s.fault) at in absurd (cc no)
-  stays_at inside w v es d f some stream at = let no : Some f ≡ None = sym some ∙ ap (λ (s : Standing). s.fault) at in absurd (cc no)
+  stays_at : (e : End) (w v : List ℕ) (es : List EventData) (d : DecoderData) (f : Fault) → d.fault ≡ Some f → Stream t l w es e → account d ≡ account_at w e → TellsStream t l (w ++ v) es (account d)
+  stays_at between w v es d f some stream at = let no : Some f ≡ None = sym some ∙ ap (λ (s : Account). s.fault) at in absurd (cc no)
+  stays_at inside w v es d f some stream at = let no : Some f ≡ None = sym some ∙ ap (λ (s : Account). s.fault) at in absurd (cc no)
   stays_at (faulted c place) w v es d f some stream at = (faulted c place, faults-stay t l w v es c place stream, at)
 
-  stays : (w v : List ℕ) (es : List EventData) (d : DecoderData) (f : Fault) → d.fault ≡ Some f → StandsAfter t l w es (standing d) → StandsAfter t l (w ++ v) es (standing d)
+  stays : (w v : List ℕ) (es : List EventData) (d : DecoderData) (f : Fault) → d.fault ≡ Some f → TellsStream t l w es (account d) → TellsStream t l (w ++ v) es (account d)
   stays w v es d f some (e, stream, at) = stays_at e w v es d f some stream at
 
   -- the same stream, its bytes and events told in other parts
   stream_as : (w w' : List ℕ) (es es' : List EventData) (e : End) → w ≡ w' → es ≡ es' → Stream t l w es e → Stream t l w' es' e
   stream_as w w' es es' e i j h = subst (λ v. Stream t l v es' e) i (subst (λ fs. Stream t l w fs e) j h)
 
-  stands_as : (w w' : List ℕ) (es es' : List EventData) (s : Standing) → w ≡ w' → es ≡ es' → StandsAfter t l w es s → StandsAfter t l w' es' s
-  stands_as w w' es es' s i j h = subst (λ v. StandsAfter t l v es' s) i (subst (λ fs. StandsAfter t l w fs s) j h)
+  tells_as : (w w' : List ℕ) (es es' : List EventData) (s : Account) → w ≡ w' → es ≡ es' → TellsStream t l w es s → TellsStream t l w' es' s
+  tells_as w w' es es' s i j h = subst (λ v. TellsStream t l v es' s) i (subst (λ fs. TellsStream t l w fs s) j h)
 
 -- a decoder without a fault has consumed all that led to it
-all_consumed : (d : DecoderData) (w : List ℕ) (es : List EventData) → So d w es → d.fault ≡ None → d.consumed ≡ length w
-all_consumed d w es so none = (subst (λ (f : Option Fault). IsAt f d (length w) so.stands) none so.at).1
+all_consumed : (d : DecoderData) (w : List ℕ) (es : List EventData) → HasRead d w es → d.fault ≡ None → d.consumed ≡ length w
+all_consumed d w es so none = (subst (λ (f : Option Fault). IsAt f d (length w) so.position) none so.at).1
 
 module _ {S : Type 0} (takes stops : S → EventData → S → Type 0) where
   both_taken : (s mid s' : S) (es fs : List EventData) → Takes takes s es mid → Takes takes mid fs s' → Takes takes s (es ++ fs) s'
@@ -58,13 +58,13 @@ module _ {S : Type 0} (takes stops : S → EventData → S → Type 0) where
       record {
         given = h.more;
         took = h.took;
-        stream = subst (λ (x : Limits). StandsAfter t x (w ++ fed) all (standing new)) same_limits (subst (λ (x : Tree). StandsAfter x new.limits (w ++ fed) all (standing new)) same_tree (so-stream new (w ++ fed) all h.so));
-        few = subst (λ (x : Limits). length all ≤ new.consumed * message_cap t x) same_limits (subst (λ (x : Tree). length all ≤ new.consumed * message_cap x new.limits) same_tree (so-events new (w ++ fed) all h.so));
+        stream = subst (λ (x : Limits). TellsStream t x (w ++ fed) all (account new)) same_limits (subst (λ (x : Tree). TellsStream x new.limits (w ++ fed) all (account new)) same_tree (read-stream new (w ++ fed) all h.so));
+        few = subst (λ (x : Limits). length all ≤ new.consumed * message_cap t x) same_limits (subst (λ (x : Tree). length all ≤ new.consumed * message_cap x new.limits) same_tree (read-events new (w ++ fed) all h.so));
         so = λ none. h.so;
       }
 
   -- The sink stopped.
-  stop_follows : (old new : DecoderData) (w : List ℕ) (es : List EventData) (piece : List ℕ) (s : S) (place : ℕ) (s' : S) → So old w es → old.fault ≡ None → new.consumed ≡ place
+  stop_follows : (old new : DecoderData) (w : List ℕ) (es : List EventData) (piece : List ℕ) (s : S) (place : ℕ) (s' : S) → HasRead old w es → old.fault ≡ None → new.consumed ≡ place
       → SinkEnds takes stops old w es piece s place s' → StopsShort takes stops (tree old) old.limits w es piece s place new s'
   stop_follows old new w es piece s place s' so none at h =
       let n = h.bytes in
@@ -103,11 +103,11 @@ module _ {S : Type 0} (takes stops : S → EventData → S → Type 0) where
       }
 
   -- The bytes were more than can be counted.
-  refused_follows : (old new : DecoderData) (w : List ℕ) (es : List EventData) (piece : List ℕ) (s : S) (place : ℕ) (s' : S) → So old w es → old.fault ≡ None → new.consumed ≡ place
+  refused_follows : (old new : DecoderData) (w : List ℕ) (es : List EventData) (piece : List ℕ) (s : S) (place : ℕ) (s' : S) → HasRead old w es → old.fault ≡ None → new.consumed ≡ place
       → IsRefused old piece s place s' → Overflows takes (tree old) old.limits w es piece s place new s'
   refused_follows old new w es piece s place s' so none at h =
       let long : old.consumed ≡ length w = all_consumed old w es so none in
-      let (e, stream, ends) = so-stream old w es so in
+      let (e, stream, ends) = read-stream old w es so in
       let bytes : w ≡ w ++ [] = sym (append-nil w) in
       let events : es ≡ es ++ [] = sym (append-nil es) in
       let here : old.consumed ≡ new.consumed = sym (at ∙ h.place_is) in
@@ -121,27 +121,27 @@ module _ {S : Type 0} (takes stops : S → EventData → S → Type 0) where
         end_before = e;
         until = stream_as (tree old) old.limits w (w ++ []) es (es ++ []) e bytes events stream;
         took = h.same;
-        few = subst (λ (fs : List EventData). length fs ≤ new.consumed * message_cap (tree old) old.limits) events (subst (λ k. length es ≤ k * message_cap (tree old) old.limits) here (so-events old w es so));
+        few = subst (λ (fs : List EventData). length fs ≤ new.consumed * message_cap (tree old) old.limits) events (subst (λ k. length es ≤ k * message_cap (tree old) old.limits) here (read-events old w es so));
       }
 
   -- A call of a decoder without a fault ended at one.
-  pub fault_follows : (old new : DecoderData) (c : FaultCode) (w : List ℕ) (es : List EventData) (piece : List ℕ) (s : S) (place : ℕ) (s' : S) → So old w es → old.fault ≡ None → new.consumed ≡ place → tree new ≡ tree old → new.limits ≡ old.limits
+  pub fault_follows : (old new : DecoderData) (c : FaultCode) (w : List ℕ) (es : List EventData) (piece : List ℕ) (s : S) (place : ℕ) (s' : S) → HasRead old w es → old.fault ≡ None → new.consumed ≡ place → tree new ≡ tree old → new.limits ≡ old.limits
       → CarriesAt takes stops old w es piece s c place new s' → FollowedAt takes stops (tree old) old.limits w es piece s c place new s'
   fault_follows old new (Why.Stream c) w es piece s place s' so none at same_tree same_limits h = carries_follow (tree old) old.limits new w es piece s s' same_tree same_limits h
   fault_follows old new Why.L4 w es piece s place s' so none at same_tree same_limits h = refused_follows old new w es piece s place s' so none at h
   fault_follows old new Why.SinkStopped w es piece s place s' so none at same_tree same_limits h = stop_follows old new w es piece s place s' so none at h
 
   -- A call of a decoder that has stopped: it stopped at a fault of the stream.
-  failed_at : (old new : DecoderData) (c : FaultCode) (w : List ℕ) (es : List EventData) (piece : List ℕ) (s : S) (place : ℕ) (s' : S) → (so : So old w es) → IsFaultAt c place so.stands → tree new ≡ tree old → new.limits ≡ old.limits
+  failed_at : (old new : DecoderData) (c : FaultCode) (w : List ℕ) (es : List EventData) (piece : List ℕ) (s : S) (place : ℕ) (s' : S) → (so : HasRead old w es) → IsFaultAt c place so.position → tree new ≡ tree old → new.limits ≡ old.limits
       → CarriesAt takes stops old w es piece s c place new s' → FollowedAt takes stops (tree old) old.limits w es piece s c place new s'
   failed_at old new (Why.Stream c) w es piece s place s' so at same_tree same_limits h = carries_follow (tree old) old.limits new w es piece s s' same_tree same_limits h
   failed_at old new Why.L4 w es piece s place s' so at same_tree same_limits h = absurd at
   failed_at old new Why.SinkStopped w es piece s place s' so at same_tree same_limits h = absurd at
 
-  pub failed_follows : (old new : DecoderData) (f : Fault) (w : List ℕ) (es : List EventData) (piece : List ℕ) (s s' : S) → So old w es → old.fault ≡ Some f → tree new ≡ tree old → new.limits ≡ old.limits
+  pub failed_follows : (old new : DecoderData) (f : Fault) (w : List ℕ) (es : List EventData) (piece : List ℕ) (s s' : S) → HasRead old w es → old.fault ≡ Some f → tree new ≡ tree old → new.limits ≡ old.limits
       → CarriesAt takes stops old w es piece s f.code f.place new s' → FollowedAt takes stops (tree old) old.limits w es piece s f.code f.place new s'
   failed_follows old new f w es piece s s' so some same_tree same_limits h =
-      failed_at old new f.code w es piece s f.place s' so (subst (λ (g : Option Fault). IsAt g old (length w) so.stands) some so.at) same_tree same_limits h
+      failed_at old new f.code w es piece s f.place s' so (subst (λ (g : Option Fault). IsAt g old (length w) so.position) some so.at) same_tree same_limits h
 
   module _ (t : Tree) (l : Limits) (w front piece rest : List ℕ) (es more : List EventData) (s mid : S) (new : DecoderData) (s' : S) where
     bytes_as : (v u : List ℕ) → w ++ front ++ v ++ u ≡ w ++ (front ++ v ++ u)
@@ -153,7 +153,7 @@ module _ {S : Type 0} (takes stops : S → EventData → S → Type 0) where
     behind (Why.Stream c) place some took h = record {
       given = more ++ h.given;
       took = both_taken s mid s' more h.given took h.took;
-      stream = stands_as t l (w ++ front ++ piece ++ rest) (w ++ (front ++ piece ++ rest)) (es ++ more ++ h.given) (es ++ (more ++ h.given)) (standing new) (bytes_as piece rest) (append_assoc es more h.given)
+      stream = tells_as t l (w ++ front ++ piece ++ rest) (w ++ (front ++ piece ++ rest)) (es ++ more ++ h.given) (es ++ (more ++ h.given)) (account new) (bytes_as piece rest) (append_assoc es more h.given)
           (stays t l (w ++ front ++ piece) rest (es ++ more ++ h.given) new (record { code = Why.Stream c; place = place }) some h.stream);
       few = subst (λ (fs : List EventData). length fs ≤ new.consumed * message_cap t l) (append_assoc es more h.given) h.few;
       so = λ none. let no : (let f : Fault = record { code = Why.Stream c; place = place } in Some f) ≡ None = sym some ∙ none in absurd (cc no);
@@ -198,7 +198,7 @@ module _ {S : Type 0} (takes stops : S → EventData → S → Type 0) where
   pub carries_both : (w front piece : List ℕ) (es : List EventData) (s mid : S) (d new : DecoderData) (s' : S) → (a : Carries takes w es front s d mid) → Carries takes (w ++ front) (es ++ a.more) piece mid new s' → Carries takes w es (front ++ piece) s new s'
   carries_both w front piece es s mid d new s' a b = record {
     more = a.more ++ b.more;
-    so = subst (λ (fs : List EventData). So new (w ++ (front ++ piece)) fs) (append_assoc es a.more b.more) (subst (λ (v : List ℕ). So new v (es ++ a.more ++ b.more)) (append_assoc w front piece) b.so);
+    so = subst (λ (fs : List EventData). HasRead new (w ++ (front ++ piece)) fs) (append_assoc es a.more b.more) (subst (λ (v : List ℕ). HasRead new v (es ++ a.more ++ b.more)) (append_assoc w front piece) b.so);
     took = both_taken s mid s' a.more b.more a.took b.took;
   }
 
@@ -210,7 +210,7 @@ pub record SoFar {S : Type 0} (takes : S → EventData → S → Type 0) (old : 
   pub same_limits : d.limits ≡ old.limits
   pub bounded : held (stored d) ≤ stored_cap (tree d) d.limits
   pub consumed : ConsumesAtMost (length fed) old d
-  pub carried : (w : List ℕ) (es : List EventData) → So old w es → Carries takes w es fed s d m
+  pub carried : (w : List ℕ) (es : List EventData) → HasRead old w es → Carries takes w es fed s d m
 
 told_fault : (o : Option Fault) (f : Fault) → Err f ≡ answer o → o ≡ Some f
 told_fault None f e = absurd (cc e)
@@ -234,16 +234,16 @@ consumed_within old d new front piece rest whole e a b =
 
 module _ {S : Type 0} (takes stops : S → EventData → S → Type 0) where
   -- before the first byte is fed
-  pub carries_none : (old : DecoderData) (s : S) (w : List ℕ) (es : List EventData) → So old w es → Carries takes w es [] s old s
+  pub carries_none : (old : DecoderData) (s : S) (w : List ℕ) (es : List EventData) → HasRead old w es → Carries takes w es [] s old s
   carries_none old s w es so = record {
     more = [];
-    so = subst (λ (fs : List EventData). So old (w ++ []) fs) (sym (append-nil es)) (subst (λ (v : List ℕ). So old v es) (sym (append-nil w)) so);
+    so = subst (λ (fs : List EventData). HasRead old (w ++ []) fs) (sym (append-nil es)) (subst (λ (v : List ℕ). HasRead old v es) (sym (append-nil w)) so);
     took = refl;
   }
 
   -- One more piece was fed without a fault.
   pub so_far_on : (old d new : DecoderData) (front piece : List ℕ) (s mid s' : S) (u : Unit {0}) → SoFar takes old front s d mid → Ok u ≡ answer new.fault → (tree new ≡ tree d) × (new.limits ≡ d.limits)
-      → held (stored new) ≤ stored_cap (tree new) new.limits → ConsumesAtMost (length piece) d new → ((w : List ℕ) (es : List EventData) → So d w es → Carries takes w es piece mid new s') → SoFar takes old (front ++ piece) s new s'
+      → held (stored new) ≤ stored_cap (tree new) new.limits → ConsumesAtMost (length piece) d new → ((w : List ℕ) (es : List EventData) → HasRead d w es → Carries takes w es piece mid new s') → SoFar takes old (front ++ piece) s new s'
   so_far_on old d new front piece s mid s' u h told same bounded consumed carried = record {
     running = h.running;
     none = told_none new.fault u told;
@@ -255,15 +255,15 @@ module _ {S : Type 0} (takes stops : S → EventData → S → Type 0) where
   }
 
   -- All pieces were fed without a fault.
-  pub so_far_follows : (old d : DecoderData) (front whole : List ℕ) (s mid : S) → SoFar takes old front s d mid → front ≡ whole → (w : List ℕ) (es : List EventData) → So old w es → Follows takes (tree old) old.limits w es whole s d mid
+  pub so_far_follows : (old d : DecoderData) (front whole : List ℕ) (s mid : S) → SoFar takes old front s d mid → front ≡ whole → (w : List ℕ) (es : List EventData) → HasRead old w es → Follows takes (tree old) old.limits w es whole s d mid
   so_far_follows old d front whole s mid h e w es so =
       subst (λ (v : List ℕ). Follows takes (tree old) old.limits w es v s d mid) e (carries_follow takes stops (tree old) old.limits d w es front s mid h.same_tree h.same_limits (h.carried w es so))
 
   -- One more piece was fed, and ended at a fault.
   pub ended_follows : (old d new : DecoderData) (front piece rest whole : List ℕ) (s mid s' : S) (f : Fault) (r : Result Unit Fault) → front ++ piece ++ rest ≡ whole → r ≡ Err f → Err f ≡ answer new.fault
-      → tree d ≡ tree old → d.limits ≡ old.limits → ((w : List ℕ) (es : List EventData) → So old w es → Carries takes w es front s d mid)
-      → ((w : List ℕ) (es : List EventData) → So d w es → FollowedAt takes stops (tree d) d.limits w es piece mid f.code f.place new s')
-      → (w : List ℕ) (es : List EventData) → So old w es → Followed takes stops (tree old) old.limits w es whole s r new s'
+      → tree d ≡ tree old → d.limits ≡ old.limits → ((w : List ℕ) (es : List EventData) → HasRead old w es → Carries takes w es front s d mid)
+      → ((w : List ℕ) (es : List EventData) → HasRead d w es → FollowedAt takes stops (tree d) d.limits w es piece mid f.code f.place new s')
+      → (w : List ℕ) (es : List EventData) → HasRead old w es → Followed takes stops (tree old) old.limits w es whole s r new s'
   ended_follows old d new front piece rest whole s mid s' f r e is told same_tree same_limits carried followed w es so =
       let a = carried w es so in
       let last = followed (w ++ front) (es ++ a.more) a.so in

@@ -13,9 +13,9 @@ use Rattle.fast_decoder.specs.declared.machine.Waiting.{Waiting}
 use Rattle.fast_cursor.specs.device.Cursors.{CursorData, at_rest}
 use Rattle.fast_stream.specs.device.Readers.{Done}
 use Rattle.fast_stream.specs.device.Running.{at_start}
-use Rattle.fast_decoder.specs.device.Handing.{stood}
+use Rattle.fast_decoder.specs.device.Handing.{waiting_at}
 use Rattle.fast_decoder.specs.device.Positions.{Set, meaning, meaning_at, map_reader, CanTake, IsSupplied, IsReady, IsFresh}
-use Rattle.fast_decoder.specs.meaning.Decoding.{DecoderData, IsSoundAt, IsPaidAt, IsSound, IsAt, So}
+use Rattle.fast_decoder.specs.meaning.Decoding.{DecoderData, IsSoundAt, IsPaidAt, IsSound, IsAt, HasRead}
 use Rattle.fast_decoder.proofs.steps.TurnCounts.{fresh_turns}
 
 none_open : (m : List ℕ) → m ≡ [] → HaveNoStop m
@@ -51,11 +51,11 @@ sound_fresh d later supplied f none = record {
   paid = subst (λ o. IsPaidAt o d.set d.limits d.machine) (sym none) (fresh_turns d.set d.limits d.machine f);
 }
 
-pub so_fresh : (d : DecoderData) → NameLaterNodes d.set.nodes → IsSupplied d.set d.limits d.machine → IsFresh d.set d.machine → d.consumed ≡ 0 → d.fault ≡ None → So d [] []
-so_fresh d later supplied f zero none = record {
+pub read_fresh : (d : DecoderData) → NameLaterNodes d.set.nodes → IsSupplied d.set d.limits d.machine → IsFresh d.set d.machine → d.consumed ≡ 0 → d.fault ≡ None → HasRead d [] []
+read_fresh d later supplied f zero none = record {
   sound = sound_fresh d later supplied f none;
   bytes = All-nil (λ b. b < 256);
-  stands = at_start (fresh d.set.entries);
+  position = at_start (fresh d.set.entries);
   read = refl;
-  at = subst (λ o. IsAt o d 0 (at_start (fresh d.set.entries))) (sym none) (ap stood (sym (fresh_meaning d.set d.limits d.machine f)), zero);
+  at = subst (λ o. IsAt o d 0 (at_start (fresh d.set.entries))) (sym none) (ap waiting_at (sym (fresh_meaning d.set d.limits d.machine f)), zero);
 }

@@ -14,7 +14,7 @@ use Rattle.fast_stream.specs.device.GrammarReaders.{reader_of}
 use Rattle.fast_stream.specs.device.Continuations.{message_then}
 use Rattle.fast_stream.specs.device.Machine.{after_bytes}
 pub use Rattle.fast_units.specs.device.Taking.{Waits, Quiet}
-use Rattle.fast_stream.specs.device.Running.{Stands, at_start, amid, at_fault, after_byte, run, message_begun}
+use Rattle.fast_stream.specs.device.Running.{Position, at_start, amid, at_fault, after_byte, run, message_begun}
 
 -- The sink takes, one after the other, the events that the reader hands over before it waits or ends, and this is what is
 -- left of the reader; or the reader stops at its fault; or the sink stops at one of the events.
@@ -39,43 +39,43 @@ pub record IsTaken {S : Type 0} (takes stops : S → EventData → S → Type 0)
   pub hands : Hands takes stops (after_bytes (due t l from) (take n rest)) s r s' to
 
 -- where a reader stands that waits or ends
-abbrev pub stood : Reader Dictionary → Stands Dictionary
-stood (Done d) = at_start d
-stood (Emit e r) = amid (after_byte (Emit e r))
-stood (Stop c) = amid (after_byte (Stop c))
-stood (Byte f) = amid f
+abbrev pub waiting_at : Reader Dictionary → Position Dictionary
+waiting_at (Done d) = at_start d
+waiting_at (Emit e r) = amid (after_byte (Emit e r))
+waiting_at (Stop c) = amid (after_byte (Stop c))
+waiting_at (Byte f) = amid f
 
 -- Wherever they begin, the bytes lead from here to there, with these events.
-abbrev pub Leads : Tree → Limits → Stands Dictionary → List ℕ → List EventData → Stands Dictionary → Type 0
+abbrev pub Leads : Tree → Limits → Position Dictionary → List ℕ → List EventData → Position Dictionary → Type 0
 Leads t l from w es to = (n : ℕ) → run (message_begun t l) n from w ≡ (es, to)
 
 -- The sink took the events of the bytes.
-pub record Took {S : Type 0} (takes : S → EventData → S → Type 0) (t : Tree) (l : Limits) (from : Stands Dictionary) (w : List ℕ) (s s' : S) (to : Stands Dictionary) : Type 0 where
+pub record TookEvents {S : Type 0} (takes : S → EventData → S → Type 0) (t : Tree) (l : Limits) (from : Position Dictionary) (w : List ℕ) (s s' : S) (to : Position Dictionary) : Type 0 where
   pub events : List EventData
   pub leads : Leads t l from w events to
   pub taken : Takes takes s events s'
 
 -- The sink took the events of the bytes up to the fault, which the last of them decides.
-pub record Failed {S : Type 0} (takes : S → EventData → S → Type 0) (t : Tree) (l : Limits) (from : Stands Dictionary) (w : List ℕ) (s s' : S) (c : Code) : Type 0 where
+pub record Failed {S : Type 0} (takes : S → EventData → S → Type 0) (t : Tree) (l : Limits) (from : Position Dictionary) (w : List ℕ) (s s' : S) (c : Code) : Type 0 where
   pub events : List EventData
   pub leads : (n : ℕ) → run (message_begun t l) n from w ≡ (events, at_fault c (n + length w))
   pub taken : Takes takes s events s'
 
 -- The sink took the events of all bytes but the last, and stopped at one that the last byte gives.
-pub record Stopped {S : Type 0} (takes stops : S → EventData → S → Type 0) (t : Tree) (l : Limits) (from : Stands Dictionary) (w : List ℕ) (s s' : S) : Type 0 where
+pub record Stopped {S : Type 0} (takes stops : S → EventData → S → Type 0) (t : Tree) (l : Limits) (from : Position Dictionary) (w : List ℕ) (s s' : S) : Type 0 where
   pub before : List ℕ
   pub byte : ℕ
   pub bytes : w ≡ before ++ byte ∷ []
   pub mid : S
-  pub at : Stands Dictionary
-  pub took : Took takes t l from before s mid at
+  pub at : Position Dictionary
+  pub took : TookEvents takes t l from before s mid at
   pub given : List EventData
   pub gives : (n : ℕ) → (run (message_begun t l) n at (byte ∷ [])).0 ≡ given
   pub stopped : TakesUpTo takes stops mid given s'
 
 -- what was done with these bytes, by how it ended
-abbrev pub Fed : {S : Type 0} → (S → EventData → S → Type 0) → (S → EventData → S → Type 0) → Tree → Limits → Stands Dictionary → List ℕ → S → Result Unit FaultCode → S → Stands Dictionary → Type 0
-Fed takes stops t l from w s (Ok u) s' to = Took takes t l from w s s' to
+abbrev pub Fed : {S : Type 0} → (S → EventData → S → Type 0) → (S → EventData → S → Type 0) → Tree → Limits → Position Dictionary → List ℕ → S → Result Unit FaultCode → S → Position Dictionary → Type 0
+Fed takes stops t l from w s (Ok u) s' to = TookEvents takes t l from w s s' to
 Fed takes stops t l from w s (Err (Why.Stream c)) s' to = Failed takes t l from w s s' c
 Fed takes stops t l from w s (Err Why.SinkStopped) s' to = Stopped takes stops t l from w s s'
 Fed takes stops t l from w s (Err Why.L4) s' to = ⊥

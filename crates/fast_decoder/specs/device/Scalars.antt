@@ -14,8 +14,8 @@ use Rattle.fast_units.specs.device.Stages.{term_behind, IsStageOf, IsFieldUnit}
 use Rattle.fast_units.specs.device.UnitFronts.{IsSent, IsNextStage}
 use Rattle.fast_decoder.specs.device.Passing.{value_then}
 use Rattle.fast_decoder.specs.device.Positions.{Set, body_in, frames_in, state_in, bit_of, unit_then, front_at, CanTurn, IsSupplied, IsReady}
-use Rattle.fast_units.specs.declared.stages.Step.{Step}
-use Rattle.fast_units.specs.declared.stages.Step.TheVariants.{Settled, Next}
+use Rattle.fast_units.specs.declared.stages.FieldStep.{FieldStep}
+use Rattle.fast_units.specs.declared.stages.FieldStep.TheVariants.{Settled, Next}
 use Rattle.fast_units.specs.declared.progress.Progress.{Progress}
 use Rattle.fast_units.specs.declared.progress.Progress.TheVariants.{Whole, Wrong, Cut}
 use Rattle.fast_decoder.specs.declared.machine.Machine.{Machine}
@@ -51,24 +51,24 @@ scalar_term (Bytes stage) l f p = term_behind l f p stage
 scalar_term waiting l f p = field_term l f p true
 
 -- Bytes of the unit in hand were taken, which led from the one machine to the other: all of them are in hand, where it is cut.
-pub record IsScalarUnit (l : Limits) (before after : Machine) (f : FieldData) (rest : List ℕ) (progress : Progress Step) : Type 0 where
+pub record IsScalarUnit (l : Limits) (before after : Machine) (f : FieldData) (rest : List ℕ) (progress : Progress FieldStep) : Type 0 where
   pub unit : IsFieldUnit l (reader_of l.strict (scalar_term before.waiting (bounds l) f (previous_at f.entry (slots_dictionary before.slots)))) f (front_at before.waiting before) rest
       (slots_dictionary before.slots) (slots_dictionary after.slots) after.text.text progress
   pub cut : progress ≡ Cut → front_at after.waiting after ≡ front_at before.waiting before ++ rest
   pub same : after ≡ record before { slots = after.slots; entity = after.entity; text = after.text; joined = after.joined }
 
 -- The machine can go on behind the bytes of a unit.
-abbrev pub CanStep : Set → Limits → Machine → FieldData → Step → Type 0
+abbrev pub CanStep : Set → Limits → Machine → FieldData → FieldStep → Type 0
 CanStep set l m f (Settled source) = CanTurn set l m
 CanStep set l m f (Next stage) = CanTurn set l m × IsSent f (bit_of f (state_in (slots_dictionary m.slots) m.counted m.cursor)) × IsStageOf (bounds l) f (previous_at f.entry (slots_dictionary m.slots)) stage
     × IsNextStage (bounds l) f (previous_at f.entry (slots_dictionary m.slots)) stage
 
-abbrev pub CanProgress : Set → Limits → Machine → FieldData → Progress Step → Type 0
+abbrev pub CanProgress : Set → Limits → Machine → FieldData → Progress FieldStep → Type 0
 CanProgress set l m f (Whole step n) = CanStep set l m f step
 CanProgress set l m f (Wrong c n) = IsSupplied set l m
 CanProgress set l m f Cut = IsReady set l m
 
 -- What is still to be read once a unit of the next instruction, a field, is whole.
-abbrev pub step_then : Set → Limits → ℕ → FieldData → Machine → List ℕ → Step → Grammar Dictionary
+abbrev pub step_then : Set → Limits → ℕ → FieldData → Machine → List ℕ → FieldStep → Grammar Dictionary
 step_then set l n f m piece (Settled source) = value_then set (bounds l) n (value_at source f (slots_dictionary m.slots) m.text.text piece) f (slots_dictionary m.slots) m.counted m.cursor
 step_then set l n f m piece (Next stage) = unit_then (bounds l) (frames_in set m.cursor.frames) (body_in set m.cursor.left) (state_in (slots_dictionary m.slots) m.counted m.cursor) stage

@@ -12,11 +12,11 @@ use Rattle.fast_decoder.specs.declared.machine.Machine.{Machine}
 use Rattle.fast_stream.specs.meaning.Events.{EventData}
 use Rattle.fast_stream.specs.meaning.Sinks.{Takes, TakesUpTo}
 use Rattle.fast_stream.specs.meaning.Streams.{End, Stream}
-use Rattle.fast_stream.specs.meaning.Standing.{Stored, Standing}
+use Rattle.fast_stream.specs.meaning.Account.{Stored, Account}
 use Rattle.fast_stream.specs.device.Readers.{AreBytes}
-use Rattle.fast_stream.specs.device.Running.{Stands, at_fault, reading}
+use Rattle.fast_stream.specs.device.Running.{Position, at_fault, reading}
 use Rattle.fast_decoder.specs.device.Positions.{Set, tree_in, meaning, IsSupplied, IsReady, is_idle}
-use Rattle.fast_decoder.specs.device.Handing.{stood}
+use Rattle.fast_decoder.specs.device.Handing.{waiting_at}
 use Rattle.fast_decoder.specs.device.TurnsLeft.{IsWithinMessage}
 
 -- A decoder: its template set and limits, its machine, the bytes that it has consumed, and its fault.
@@ -49,23 +49,23 @@ pub record IsSound (d : DecoderData) : Type 0 where
   pub paid : IsPaidAt d.fault d.set d.limits d.machine
 
 -- A fault of the stream stands at its place. The other faults are no place in a stream.
-abbrev pub IsFaultAt : FaultCode → ℕ → Stands Dictionary → Type 0
+abbrev pub IsFaultAt : FaultCode → ℕ → Position Dictionary → Type 0
 IsFaultAt (Why.Stream c) place s = s ≡ at_fault c place
 IsFaultAt Why.L4 place s = ⊥
 IsFaultAt Why.SinkStopped place s = ⊥
 
 -- where a decoder stands, behind so many bytes
-abbrev pub IsAt : Option Fault → DecoderData → ℕ → Stands Dictionary → Type 0
-IsAt None d n s = (s ≡ stood (meaning d.set d.limits d.machine)) × (d.consumed ≡ n)
+abbrev pub IsAt : Option Fault → DecoderData → ℕ → Position Dictionary → Type 0
+IsAt None d n s = (s ≡ waiting_at (meaning d.set d.limits d.machine)) × (d.consumed ≡ n)
 IsAt (Some f) d n s = IsFaultAt f.code f.place s
 
 -- These bytes, which gave these events, lead to the decoder.
-pub record So (d : DecoderData) (w : List ℕ) (es : List EventData) : Type 0 where
+pub record HasRead (d : DecoderData) (w : List ℕ) (es : List EventData) : Type 0 where
   pub sound : IsSound d
   pub bytes : AreBytes w
-  pub stands : Stands Dictionary
-  pub read : reading (tree d) d.limits w ≡ (es, stands)
-  pub at : IsAt d.fault d (length w) stands
+  pub position : Position Dictionary
+  pub read : reading (tree d) d.limits w ≡ (es, position)
+  pub at : IsAt d.fault d (length w) position
 
 -- the limit on texts is too small or too great
 abbrev pub AreBadLimits : Limits → Type 0
@@ -92,8 +92,8 @@ abbrev pub stored : DecoderData → Stored
 stored d = stored_by d.machine
 
 -- what a decoder says of itself
-abbrev pub standing : DecoderData → Standing
-standing d = record { is_between = is_none d.fault && is_idle d.machine; fault = d.fault; consumed = d.consumed }
+abbrev pub account : DecoderData → Account
+account d = record { is_between = is_none d.fault && is_idle d.machine; fault = d.fault; consumed = d.consumed }
 
 -- the answer of a decoder with this fault, or none
 abbrev pub answer : Option Fault → Result Unit Fault
@@ -103,7 +103,7 @@ answer (Some f) = Err f
 -- The piece gives these events, all of which the sink takes, and leads to the decoder.
 pub record Carries {S : Type 0} (takes : S → EventData → S → Type 0) (w : List ℕ) (es : List EventData) (piece : List ℕ) (s : S) (new : DecoderData) (s' : S) : Type 0 where
   pub more : List EventData
-  pub so : So new (w ++ piece) (es ++ more)
+  pub so : HasRead new (w ++ piece) (es ++ more)
   pub took : Takes takes s more s'
 
 -- The sink takes all events of the stream up to one that the byte before the place gives, and stops at this one.

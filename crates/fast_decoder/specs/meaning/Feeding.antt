@@ -10,8 +10,8 @@ use Rattle.fast_stream.specs.declared.faults.FaultCode.TheVariants as Why
 use Rattle.fast_stream.specs.meaning.Events.{EventData}
 use Rattle.fast_stream.specs.meaning.Sinks.{Takes}
 use Rattle.fast_stream.specs.meaning.Streams.{End, Stream}
-use Rattle.fast_stream.specs.meaning.Standing.{StandsAfter}
-use Rattle.fast_decoder.specs.meaning.Decoding.{DecoderData, So, standing}
+use Rattle.fast_stream.specs.meaning.Account.{TellsStream}
+use Rattle.fast_decoder.specs.meaning.Decoding.{DecoderData, HasRead, account}
 
 -- At a fault the bytes consumed are those up to its place.
 abbrev pub IsAtPlace : DecoderData → Type 0
@@ -31,9 +31,9 @@ all_bytes pieces = flat_map (λ (p : Bor (List ℕ)). p.now) pieces
 pub record Follows {S : Type 0} (takes : S → EventData → S → Type 0) (t : Tree) (l : Limits) (w : List ℕ) (es : List EventData) (fed : List ℕ) (s : S) (new : DecoderData) (s' : S) : Type 0 where
   pub given : List EventData
   pub took : Takes takes s given s'
-  pub stream : StandsAfter t l (w ++ fed) (es ++ given) (standing new)
+  pub stream : TellsStream t l (w ++ fed) (es ++ given) (account new)
   pub few : length (es ++ given) ≤ new.consumed * message_cap t l
-  pub so : new.fault ≡ None → So new (w ++ fed) (es ++ given)
+  pub so : new.fault ≡ None → HasRead new (w ++ fed) (es ++ given)
 
 -- The sink took the stream's events up to one that the byte before the place gives, and stopped at this one.
 pub record StopsShort {S : Type 0} (takes stops : S → EventData → S → Type 0) (t : Tree) (l : Limits) (w : List ℕ) (es : List EventData) (fed : List ℕ) (s : S) (place : ℕ) (new : DecoderData) (s' : S) : Type 0 where

@@ -6,7 +6,7 @@ use Rattle.fast_stream.specs.declared.faults.Fault.{Fault}
 use Rattle.fast_stream.specs.meaning.Events.{EventData, events}
 use Rattle.fast_stream.specs.meaning.Sinks.{Takes}
 use Rattle.fast_stream.specs.meaning.Streams.{Chain}
-use Rattle.fast_decoder.specs.meaning.Decoding.{DecoderData, So, standing, tree as decoded_tree}
+use Rattle.fast_decoder.specs.meaning.Decoding.{DecoderData, HasRead, account, tree as decoded_tree}
 use Rattle.fast_encoder.specs.meaning.Encoders.{EncoderData, tree}
 
 -- The two are of the same set and limits, whatever the decoder's mode, and stand between messages at the same dictionary: these bytes, which
@@ -14,8 +14,8 @@ use Rattle.fast_encoder.specs.meaning.Encoders.{EncoderData, tree}
 pub record AreLevel (e : EncoderData) (d : DecoderData) (w : List ℕ) (es : List EventData) : Type 0 where
   pub same_tree : decoded_tree d ≡ tree e
   pub same_limits : in_mode true d.limits ≡ in_mode true e.limits
-  pub so : So d w es
-  pub is_between : (standing d).is_between ≡ true
+  pub so : HasRead d w es
+  pub is_between : (account d).is_between ≡ true
   pub chain : Chain (decoded_tree d) d.limits w es e.dictionary
 
 -- a sink that takes every event

@@ -16,7 +16,7 @@ use Rattle.fast_stream.specs.meaning.Phrases.{Reached, whole, cut, wrong}
 use Rattle.fast_stream.specs.meaning.Grammar.{Grammar, give, fault, hand, integer, ascii_text, raw, presence_map, narrow}
 use Rattle.fast_stream.specs.meaning.Messages.{begin, State, Found, body_term, template_of, reset_if, message_of, message_behind, message_term, message, SpellsMessage}
 use Rattle.fast_stream.specs.meaning.Streams.{End, between, inside, faulted, SpellsAll, Chain, Stream}
-use Rattle.fast_stream.specs.meaning.Standing.{standing_at}
+use Rattle.fast_stream.specs.meaning.Account.{account_at}
 use Rattle.fast_stream.proofs.terms.MessageEvents.{named}
 use Rattle.fast_stream.proofs.streams.Reading.{reads-first}
 use Rattle.fast_stream.proofs.terms.Costs.{Paid, paid-phrase, Costs, costs-more, costs-bind, costs-hand, costs-result, costs-field, counted_in, product-body, sum-body}
@@ -150,7 +150,7 @@ module _ (t : Tree) (l : Limits) where
       (le_trans (open-bound u v fs gs d (wrong c) h i (fails-at-a-byte d v gs c i)) (mul-le-mul_right M (rw (length-append (u ++ v) rest) (omega arith))))
 
   -- no more than that for each byte consumed: behind a fault no byte is
-  pub consumed-bound : (w : List ℕ) (es : List EventData) (e : End) → Stream t l w es e → length es ≤ (standing_at w e).consumed * message_cap t l
+  pub consumed-bound : (w : List ℕ) (es : List EventData) (e : End) → Stream t l w es e → length es ≤ (account_at w e).consumed * message_cap t l
   unfolding Stream
   consumed-bound w es between (d, h) = chain-bound w es d h
   consumed-bound w es inside (u, v, fs, gs, d, h, i, j, k, e) = rw (k, e) (open-bound u v fs gs d cut h i j)

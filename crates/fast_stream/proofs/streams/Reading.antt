@@ -12,7 +12,7 @@ use Rattle.fast_stream.specs.meaning.Events.{EventData, events}
 use Rattle.fast_stream.specs.meaning.Phrases.{whole}
 use Rattle.fast_stream.specs.meaning.Messages.{message_term, message, SpellsMessage}
 use Rattle.fast_stream.specs.meaning.Streams.{End, between, faulted, Chain, Stream}
-use Rattle.fast_stream.specs.meaning.Standing.{StandsAfter, standing_at}
+use Rattle.fast_stream.specs.meaning.Account.{TellsStream, account_at}
 use Rattle.fast_stream.specs.device.Readers.{Reader, Byte, AreBytes, Reads}
 use Rattle.fast_stream.specs.meaning.Grammar.{give}
 use Rattle.fast_stream.specs.device.GrammarReaders.{presence_map_reader, reader_of}
@@ -71,8 +71,8 @@ pub reading-append : (t : Tree) (l : Limits) (w v : List ℕ)
 reading-append t l w v = run-append (message_begun t l) 0 (length w) (at_start (fresh t.entries)) w v (omega arith)
 
 -- where the bytes of a stream leave a decoder
-pub reading-stands : (t : Tree) (l : Limits) (w : List ℕ) → AreBytes w → StandsAfter t l w (reading t l w).0 (standing_at w (end_of (reading t l w).1))
-reading-stands t l w b = (end_of (reading t l w).1, reading-sound t l w b, refl)
+pub reading-tells : (t : Tree) (l : Limits) (w : List ℕ) → AreBytes w → TellsStream t l w (reading t l w).0 (account_at w (end_of (reading t l w).1))
+reading-tells t l w b = (end_of (reading t l w).1, reading-sound t l w b, refl)
 
 -- Each stream of bytes has an answer.
 pub some_answer : (t : Tree) (l : Limits) (w : List ℕ) → AreBytes w → (es : List EventData) × (e : End) × Stream t l w es e

@@ -20,7 +20,7 @@ use Rattle.fast_stream.specs.device.Readers.{Reader, Done, Stop, Byte, bind}
 use Rattle.fast_stream.specs.device.GrammarReaders.{settles_reader, entity_reader, judged, integer_reader, judged_map, presence_map_reader, raw_reader, characters_reader, after_zero_reader, bare_stop, first_character_reader, ascii_text_reader, reader_of}
 use Rattle.fast_stream.specs.device.Running.{settle, step, amid, after_byte, message_begun}
 use Rattle.fast_stream.specs.device.Frames.{Frame}
-use Rattle.fast_stream.specs.device.Machine.{behind_size, behind_exponent, behind_exponent_delta, behind_kept, behind_part_size, stage_term, Waiting, in_map, in_segment_map, term_of, after_bytes, idle, busy, stands_for, stands}
+use Rattle.fast_stream.specs.device.Machine.{behind_size, behind_exponent, behind_exponent_delta, behind_kept, behind_part_size, stage_term, Waiting, in_map, in_segment_map, term_of, after_bytes, idle, busy, stands_for, position}
 use Rattle.fast_stream.proofs.streams.Frames.{opened}
 use Rattle.fast_stream.proofs.readers.Grammars.{bind-assoc}
 
@@ -30,11 +30,11 @@ after-more r [] b = refl
 after-more r (a ∷ front) b = after-more (after_byte r a) front b
 
 -- A machine between messages, or in a unit, takes a byte: it settles where the byte leaves the unit.
-pub idle-step : (t : Tree) (l : Limits) (d : Dictionary) (n b : ℕ) → step (message_begun t l) n (stands t l (idle d)) b ≡ settle (suc n) (stands_for t l [] (in_map d) (b ∷ []))
+pub idle-step : (t : Tree) (l : Limits) (d : Dictionary) (n b : ℕ) → step (message_begun t l) n (position t l (idle d)) b ≡ settle (suc n) (stands_for t l [] (in_map d) (b ∷ []))
 unfolding message_begun term_of
 idle-step t l d n b = refl
 
-pub busy-step : (t : Tree) (l : Limits) (fs : List Frame) (u : Waiting) (front : List ℕ) (n b : ℕ) → step (message_begun t l) n (stands t l (busy fs u front)) b ≡ settle (suc n) (stands_for t l fs u (front ++ b ∷ []))
+pub busy-step : (t : Tree) (l : Limits) (fs : List Frame) (u : Waiting) (front : List ℕ) (n b : ℕ) → step (message_begun t l) n (position t l (busy fs u front)) b ≡ settle (suc n) (stands_for t l fs u (front ++ b ∷ []))
 busy-step t l fs u front n b = ap (λ r. settle (suc n) r) (sym (after-more (reader_of l.strict (term_of t (bounds l) fs u)) front b))
 
 -- A segment with a map begins in it.

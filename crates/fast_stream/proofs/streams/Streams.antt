@@ -12,7 +12,7 @@ use Rattle.fast_stream.specs.meaning.Phrases.{Reached, whole, cut, wrong}
 use Rattle.fast_stream.specs.meaning.Messages.{message, SpellsMessage}
 use Rattle.fast_stream.specs.meaning.Streams.{End, between, inside, faulted, SpellsAll, Chain, Stream}
 use Rattle.fast_stream.specs.device.Readers.{Reader, Done, Emit, Stop, Byte, bind, Runs, AreBytes, Reads}
-use Rattle.fast_stream.specs.device.Running.{Stands, at_start, at_fault, settle, step, run, end_of}
+use Rattle.fast_stream.specs.device.Running.{Position, at_start, at_fault, settle, step, run, end_of}
 use Rattle.fast_stream.proofs.readers.Binds.{All-front}
 use Rattle.fast_stream.proofs.readers.Fronts.{front, Front}
 
@@ -22,7 +22,7 @@ left r = bind r (λ x. Done x.1)
 
 module _ {D : Type 0} (first : D → ℕ → Reader D) where
   -- Bytes one after the other.
-  pub run-append : (n k : ℕ) (s : Stands D) (w v : List ℕ) → k ≡ n + length w
+  pub run-append : (n k : ℕ) (s : Position D) (w v : List ℕ) → k ≡ n + length w
       → ((run first n s (w ++ v)).0 ≡ (run first n s w).0 ++ (run first k (run first n s w).1 v).0) × ((run first n s (w ++ v)).1 ≡ (run first k (run first n s w).1 v).1)
   run-append n k s [] v e = let f : n ≡ k = omega arith in rw f (refl, refl)
   run-append n k s (b ∷ w) v e =
@@ -30,7 +30,7 @@ module _ {D : Type 0} (first : D → ℕ → Reader D) where
       (ap (λ r. (step first n s b).0 ++ r) h.0 ∙ sym (append_assoc (step first n s b).0 (run first (suc n) (step first n s b).1 w).0 (run first k (run first (suc n) (step first n s b).1 w).1 v).0), h.1)
 
   -- The run from a reader on, of whose result the second half is left.
-  abbrev pub go : {M : Type 0} → ℕ → Reader (M × D) → List ℕ → List EventData × Stands D
+  abbrev pub go : {M : Type 0} → ℕ → Reader (M × D) → List ℕ → List EventData × Position D
   go n r w = ((settle n (left r)).0 ++ (run first n (settle n (left r)).1 w).0, (run first n (settle n (left r)).1 w).1)
 
   pub at-fault : (n m : ℕ) (c : Code) (w : List ℕ) → ((run first n (at_fault c m) w).0 ≡ []) × ((run first n (at_fault c m) w).1 ≡ at_fault c m)
@@ -67,7 +67,7 @@ module _ (t : Tree) (l : Limits) (first : Dictionary → ℕ → Reader (Message
   abbrev pub begun : Dictionary → ℕ → Reader Dictionary
   begun d b = left (first d b)
 
-  abbrev pub start : Stands Dictionary
+  abbrev pub start : Position Dictionary
   start = at_start (fresh t.entries)
 
   run-all : (n k : ℕ) (ms : List MessageData) (d d' : Dictionary) (w v : List ℕ) → k ≡ n + length w → SpellsAll t l d ms w d'

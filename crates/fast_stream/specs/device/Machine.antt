@@ -16,7 +16,7 @@ use Rattle.fast_stream.specs.meaning.Messages.{Context, State, Found, found, dec
 use Rattle.fast_stream.specs.device.Readers.{Reader}
 use Rattle.fast_stream.specs.device.GrammarReaders.{reader_of}
 use Rattle.fast_stream.specs.device.Continuations.{handed_then, mantissa_after_then, sequence_from_then, segment_then, body_then, message_behind_then, message_then}
-use Rattle.fast_stream.specs.device.Running.{Stands, at_start, amid, at_fault, after_byte}
+use Rattle.fast_stream.specs.device.Running.{Position, at_start, amid, at_fault, after_byte}
 use Rattle.fast_stream.specs.device.Frames.{Frame, resume}
 
 -- what a field's value is for, and the instructions behind it
@@ -82,7 +82,7 @@ abbrev pub stands_for : Tree → Limits → List Frame → Waiting → List ℕ 
 stands_for t l fs u front = after_bytes (reader_of l.strict (term_of t (bounds l) fs u)) front
 
 -- where a machine stands in the stream
-abbrev pub stands : Tree → Limits → Machine → Stands Dictionary
-stands t l (idle d) = at_start d
-stands t l (busy fs u front) = amid (after_byte (stands_for t l fs u front))
-stands t l (failed c place) = at_fault c place
+abbrev pub position : Tree → Limits → Machine → Position Dictionary
+position t l (idle d) = at_start d
+position t l (busy fs u front) = amid (after_byte (stands_for t l fs u front))
+position t l (failed c place) = at_fault c place

@@ -8,8 +8,8 @@ use Rattle.fast_tree.specs.meaning.Tree.{FieldData}
 use Rattle.fast_dict.specs.meaning.Dictionary.{Dictionary, PreviousData}
 use Rattle.fast_dict.specs.meaning.Operators.{Outcome, ◌>>=◌, Sent, null, value, delta_base}
 use Rattle.fast_units.specs.device.Settling.{IsSettled}
-use Rattle.fast_units.specs.declared.source.Source.{Source}
-use Rattle.fast_units.specs.declared.source.Source.TheVariants as From
+use Rattle.fast_units.specs.declared.source.ValueSource.{ValueSource}
+use Rattle.fast_units.specs.declared.source.ValueSource.TheVariants as From
 use Rattle.fast_units.specs.declared.progress.Progress.{Progress}
 use Rattle.fast_units.specs.declared.progress.Progress.TheVariants.{Whole, Wrong}
 use Rattle.fast_units.specs.declared.fields.Number.{Number}
@@ -34,7 +34,7 @@ sent_number None = null
 sent_number (Some n) = value (number_data n)
 
 -- where a number stands that is at hand, or NULL
-abbrev pub source_of : Option Number → Source
+abbrev pub source_of : Option Number → ValueSource
 source_of None = From.Absent
 source_of (Some (As.Unsigned n)) = From.Unsigned n
 source_of (Some (As.Signed x)) = From.Signed x
@@ -45,11 +45,11 @@ abbrev pub base_integer : FieldData → PreviousData → Result ℤ Code
 base_integer f p = delta_base f p >>= (λ v. Ok (integer_of v))
 
 -- This outcome is decided for the field, and it stands at the source, whatever texts were read; or this fault is decided.
-abbrev pub IsDecided : Result Outcome Code → FieldData → Dictionary → Dictionary → Result Source Code → Type 0
+abbrev pub IsDecided : Result Outcome Code → FieldData → Dictionary → Dictionary → Result ValueSource Code → Type 0
 IsDecided decided f old new (Ok source) = (o : Outcome) × (decided ≡ Ok o) × ((scratch piece : List ℕ) → IsSettled o f source old new scratch piece)
 IsDecided decided f old new (Err c) = decided ≡ Err c
 
 -- what is decided behind so many bytes
-abbrev pub progress_of : Result Source Code → ℕ → Progress Source
+abbrev pub progress_of : Result ValueSource Code → ℕ → Progress ValueSource
 progress_of (Ok source) n = Whole source n
 progress_of (Err c) n = Wrong c n

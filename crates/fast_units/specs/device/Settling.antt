@@ -11,8 +11,8 @@ use Rattle.fast_stream.specs.device.Readers.{Reader, Done, Stop}
 use Rattle.fast_units.specs.device.Taking.{Turns, Stays}
 use Rattle.fast_units.specs.declared.progress.Progress.{Progress}
 use Rattle.fast_units.specs.declared.progress.Progress.TheVariants.{Whole, Wrong, Cut}
-use Rattle.fast_units.specs.declared.source.Source.{Source}
-use Rattle.fast_units.specs.declared.source.Source.TheVariants as From
+use Rattle.fast_units.specs.declared.source.ValueSource.{ValueSource}
+use Rattle.fast_units.specs.declared.source.ValueSource.TheVariants as From
 
 -- The initial value can be put at the entry.
 abbrev pub HasRoomFor : Terms → ℕ → Option ScalarData → Type 0
@@ -35,7 +35,7 @@ value_in empty = None
 value_in (assigned kind v) = Some v
 
 -- What stands at a source, by the field, its dictionary, the scratch, and the bytes that were read last.
-abbrev pub value_at : Source → FieldData → Dictionary → List ℕ → List ℕ → Option ScalarData
+abbrev pub value_at : ValueSource → FieldData → Dictionary → List ℕ → List ℕ → Option ScalarData
 value_at From.Absent f d scratch piece = None
 value_at (From.Unsigned n) f d scratch piece = Some (U n)
 value_at (From.Signed n) f d scratch piece = Some (I n)
@@ -46,18 +46,18 @@ value_at From.Scratch f d scratch piece = Some (value_of_text f.kind scratch)
 value_at From.Piece f d scratch piece = Some (value_of_text f.kind piece)
 
 -- The outcome of the field: its value stands at the source, and of the dictionary its entry alone has changed.
-pub record IsSettled (o : Outcome) (f : FieldData) (source : Source) (old new : Dictionary) (scratch piece : List ℕ) : Type 0 where
+pub record IsSettled (o : Outcome) (f : FieldData) (source : ValueSource) (old new : Dictionary) (scratch piece : List ℕ) : Type 0 where
   pub value : o.value ≡ value_at source f new scratch piece
   pub dictionary : new ≡ write_at f.entry o.next old
 
 -- The reader takes the bytes and gives an outcome of the field, which stands there.
-pub record GivesField (r : Reader Outcome) (w : List ℕ) (f : FieldData) (source : Source) (old new : Dictionary) (scratch piece : List ℕ) : Type 0 where
+pub record GivesField (r : Reader Outcome) (w : List ℕ) (f : FieldData) (source : ValueSource) (old new : Dictionary) (scratch piece : List ℕ) : Type 0 where
   pub outcome : Outcome
   pub turns : Turns r w (Done outcome)
   pub settled : IsSettled outcome f source old new scratch piece
 
 -- What the bytes in hand and those behind them make of the last unit of a field.
-abbrev pub IsLastUnit : Reader Outcome → FieldData → List ℕ → List ℕ → Dictionary → Dictionary → List ℕ → Progress Source → Type 0
+abbrev pub IsLastUnit : Reader Outcome → FieldData → List ℕ → List ℕ → Dictionary → Dictionary → List ℕ → Progress ValueSource → Type 0
 IsLastUnit r f front rest old new scratch (Whole source n) = (0 < n) × (n ≤ length rest) × GivesField r (front ++ take n rest) f source old new scratch (take n rest)
 IsLastUnit r f front rest old new scratch (Wrong c n) = (0 < n) × (n ≤ length rest) × Turns r (front ++ take n rest) (Stop c)
 IsLastUnit r f front rest old new scratch Cut = Stays r (front ++ rest) × (new ≡ old)

@@ -16,8 +16,8 @@ use Rattle.fast_units.specs.device.Taking.{Turns, Stays}
 use Rattle.fast_units.specs.device.Settling.{GivesField}
 use Rattle.fast_units.specs.declared.stages.Stage.{Stage}
 use Rattle.fast_units.specs.declared.stages.Stage.TheVariants.{Mantissa, MantissaDelta, Vector, Part, PartVector}
-use Rattle.fast_units.specs.declared.stages.Step.{Step}
-use Rattle.fast_units.specs.declared.stages.Step.TheVariants.{Settled, Next}
+use Rattle.fast_units.specs.declared.stages.FieldStep.{FieldStep}
+use Rattle.fast_units.specs.declared.stages.FieldStep.TheVariants.{Settled, Next}
 use Rattle.fast_units.specs.declared.progress.Progress.{Progress}
 use Rattle.fast_units.specs.declared.progress.Progress.TheVariants.{Whole, Wrong, Cut}
 
@@ -38,7 +38,7 @@ IsStageOf l f p (Part k) = (family f.kind ≡ texts) × (f.operator ≡ Delta) �
 IsStageOf l f p (PartVector k n) = (family f.kind ≡ texts) × (f.kind ≢ Ascii) × (f.operator ≡ Delta) × ((kept : Kept) × (subtraction_step f p k ≡ Ok kept) × (n ≤ l.max_text - kept_length kept))
 
 -- What the bytes in hand and those behind them make of a unit of a field, by the reader of this unit and what follows it.
-abbrev pub IsFieldUnit : Limits → Reader Outcome → FieldData → List ℕ → List ℕ → Dictionary → Dictionary → List ℕ → Progress Step → Type 0
+abbrev pub IsFieldUnit : Limits → Reader Outcome → FieldData → List ℕ → List ℕ → Dictionary → Dictionary → List ℕ → Progress FieldStep → Type 0
 IsFieldUnit l r f front rest old new scratch (Whole (Settled source) n) = (0 < n) × (n ≤ length rest) × GivesField r (front ++ take n rest) f source old new scratch (take n rest)
 IsFieldUnit l r f front rest old new scratch (Whole (Next stage) n) = (0 < n) × (n ≤ length rest) × (new ≡ old) × IsStageOf (bounds l) f (previous_at f.entry old) stage
     × Turns r (front ++ take n rest) (reader_of l.strict (term_behind (bounds l) f (previous_at f.entry old) stage))

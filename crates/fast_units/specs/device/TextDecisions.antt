@@ -14,11 +14,11 @@ use Rattle.fast_stream.specs.device.Readers.{Reader, Done, Stop}
 use Rattle.fast_stream.specs.device.GrammarReaders.{reader_of}
 use Rattle.fast_units.specs.device.Settling.{IsSettled}
 use Rattle.fast_units.specs.device.Stages.{term_behind, IsStageOf}
-use Rattle.fast_units.specs.declared.source.Source.{Source}
+use Rattle.fast_units.specs.declared.source.ValueSource.{ValueSource}
 use Rattle.fast_units.specs.declared.stages.Stage.{Stage}
 use Rattle.fast_units.specs.declared.stages.Stage.TheVariants.{Vector, PartVector}
-use Rattle.fast_units.specs.declared.stages.Step.{Step}
-use Rattle.fast_units.specs.declared.stages.Step.TheVariants.{Settled, Next}
+use Rattle.fast_units.specs.declared.stages.FieldStep.{FieldStep}
+use Rattle.fast_units.specs.declared.stages.FieldStep.TheVariants.{Settled, Next}
 use Rattle.fast_units.specs.declared.progress.Progress.{Progress}
 use Rattle.fast_units.specs.declared.progress.Progress.TheVariants.{Whole, Wrong}
 
@@ -30,12 +30,12 @@ is_emptied Tail = true
 is_emptied operator = false
 
 -- What the operator decides is settled, or it is a fault.
-abbrev pub IsTextDecided : Result Outcome Code → FieldData → Dictionary → Dictionary → List ℕ → List ℕ → Result Source Code → Type 0
+abbrev pub IsTextDecided : Result Outcome Code → FieldData → Dictionary → Dictionary → List ℕ → List ℕ → Result ValueSource Code → Type 0
 IsTextDecided d f old new scratch piece (Ok source) = (o : Outcome) × (d ≡ Ok o) × IsSettled o f source old new scratch piece
 IsTextDecided d f old new scratch piece (Err c) = d ≡ Err c
 
 -- Behind a unit the field is whole and settled, or another unit follows, or it is a fault.
-abbrev pub IsStepped : Limits → Reader Outcome → FieldData → Dictionary → Dictionary → List ℕ → List ℕ → Result Step Code → Type 0
+abbrev pub IsStepped : Limits → Reader Outcome → FieldData → Dictionary → Dictionary → List ℕ → List ℕ → Result FieldStep Code → Type 0
 IsStepped l r f old new scratch piece (Ok (Settled source)) = (o : Outcome) × (r ≡ Done o) × IsSettled o f source old new scratch piece
 IsStepped l r f old new scratch piece (Ok (Next stage)) = (new ≡ old) × IsStageOf (bounds l) f (previous_at f.entry old) stage
     × (r ≡ reader_of l.strict (term_behind (bounds l) f (previous_at f.entry old) stage))
@@ -61,12 +61,12 @@ answered (Ok x) n = Whole x n
 answered (Err c) n = Wrong c n
 
 -- the last answer of a field as that of a unit
-abbrev pub settled : Result Source Code → Result Step Code
+abbrev pub settled : Result ValueSource Code → Result FieldStep Code
 settled (Ok source) = Ok (Settled source)
 settled (Err c) = Err c
 
 -- A run of bytes that follows has some.
-abbrev pub HasBytes : Step → Type 0
+abbrev pub HasBytes : FieldStep → Type 0
 HasBytes (Next (Vector n)) = 0 < n
 HasBytes (Next (PartVector k n)) = 0 < n
 HasBytes step = Unit {0}

@@ -12,9 +12,9 @@ use Rattle.fast_stream.specs.meaning.Units.{ascii_text}
 use Rattle.fast_stream.specs.meaning.Fields.{field_term}
 use Rattle.fast_units.specs.declared.stages.Stage.{Stage}
 use Rattle.fast_units.specs.declared.stages.Stage.TheVariants.{Mantissa, MantissaDelta, Vector, Part, PartVector}
-use Rattle.fast_units.specs.declared.stages.Step.{Step}
-use Rattle.fast_units.specs.declared.stages.Step.TheVariants.{Settled, Next}
-use Rattle.fast_units.specs.declared.source.Source.{Source}
+use Rattle.fast_units.specs.declared.stages.FieldStep.{FieldStep}
+use Rattle.fast_units.specs.declared.stages.FieldStep.TheVariants.{Settled, Next}
+use Rattle.fast_units.specs.declared.source.ValueSource.{ValueSource}
 use Rattle.fast_units.specs.declared.progress.Progress.{Progress}
 use Rattle.fast_units.specs.declared.progress.Progress.TheVariants.{Whole, Wrong, Cut}
 
@@ -62,17 +62,17 @@ IsEntityKept front rest after (Wrong c n) = Unit {0}
 IsEntityKept front rest after Cut = (after ≡ front ++ rest) × HaveNoStop after × (length after < 10)
 
 -- a stage that comes next begins
-abbrev pub IsNextOf : Bounds → FieldData → PreviousData → Progress Step → Type 0
+abbrev pub IsNextOf : Bounds → FieldData → PreviousData → Progress FieldStep → Type 0
 IsNextOf l f p (Whole (Next stage) n) = IsNextStage l f p stage
 IsNextOf l f p other = Unit {0}
 
 -- a unit that was the field's last
-abbrev pub settled : Progress Source → Progress Step
+abbrev pub settled : Progress ValueSource → Progress FieldStep
 settled (Whole source n) = Whole (Settled source) n
 settled (Wrong c n) = Wrong c n
 settled Cut = Cut
 
 -- No other unit follows.
-abbrev pub SettlesOnly : Progress Step → Type 0
+abbrev pub SettlesOnly : Progress FieldStep → Type 0
 SettlesOnly (Whole (Next stage) n) = ⊥
 SettlesOnly other = Unit {0}

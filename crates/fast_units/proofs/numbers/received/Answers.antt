@@ -1,7 +1,7 @@
 -- Both by the operator.
 use Rattle.std.proofs.Common.{ap}
 use Rattle.std.specs.Prelude.{true, Ok}
-use Rattle.fast_units.specs.declared.source.Source.TheVariants as From
+use Rattle.fast_units.specs.declared.source.ValueSource.TheVariants as From
 use Rattle.fast_tree.specs.device.Nodes.{field_data}
 use Rattle.fast_dict.specs.meaning.Dictionary.{previous_at}
 use Rattle.fast_dict.specs.meaning.Operators.{decide}

@@ -12,7 +12,7 @@ use Rattle.fast_dict.specs.meaning.Slots.{slots_dictionary}
 use Rattle.fast_stream.specs.meaning.Grammar.{give, integer, of_result, ◌>>=◌}
 use Rattle.fast_stream.specs.device.GrammarReaders.{reader_of}
 use Rattle.fast_stream.specs.meaning.Fields.{field_term, decimal_change}
-use Rattle.fast_units.specs.declared.source.Source.TheVariants as From
+use Rattle.fast_units.specs.declared.source.ValueSource.TheVariants as From
 use Rattle.fast_stream.specs.device.Machine.{behind_exponent_delta, stage_term}
 use Rattle.fast_units.proofs.Turning.{turns_as}
 use Rattle.fast_stream.proofs.streams.Stepping.{exponent-delta-turn}

@@ -13,7 +13,7 @@ use Rattle.fast_stream.specs.device.GrammarReaders.{reader_of}
 use Rattle.fast_stream.specs.meaning.Fields.{field_term, integer_change}
 use Rattle.fast_units.specs.device.Settling.{IsLastUnit}
 use Rattle.fast_units.specs.device.Deciding.{IsDecided}
-use Rattle.fast_units.specs.declared.source.Source.TheVariants as From
+use Rattle.fast_units.specs.declared.source.ValueSource.TheVariants as From
 use Rattle.fast_units.proofs.Deciding.{none_decided}
 use Rattle.fast_units.proofs.LastUnits.{integer_delta_field, last_unit, unit_stops, unit_stays, again}
 use Rattle.fast_units.proofs.numbers.take_integer_delta.Goals as goal

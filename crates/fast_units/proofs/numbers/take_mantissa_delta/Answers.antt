@@ -15,7 +15,7 @@ use Rattle.fast_stream.specs.meaning.Fields.{mantissa_change}
 use Rattle.fast_units.specs.device.Stages.{term_behind}
 use Rattle.fast_units.specs.device.Settling.{IsLastUnit}
 use Rattle.fast_units.specs.device.Deciding.{IsDecided}
-use Rattle.fast_units.specs.declared.source.Source.TheVariants as From
+use Rattle.fast_units.specs.declared.source.ValueSource.TheVariants as From
 use Rattle.fast_units.specs.declared.stages.Stage.TheVariants.{MantissaDelta}
 use Rattle.fast_units.proofs.Deciding.{none_decided}
 use Rattle.fast_units.proofs.LastUnits.{mantissa_delta_field, last_unit, unit_stops, unit_stays, again}

@@ -6,7 +6,7 @@ use Rattle.fast_dict.specs.meaning.Dictionary.{previous_at}
 use Rattle.fast_dict.specs.meaning.Operators.{gives_none, integer_step}
 use Rattle.fast_dict.specs.meaning.Slots.{slots_dictionary}
 use Rattle.fast_stream.specs.meaning.Fields.{integer_change}
-use Rattle.fast_units.specs.declared.source.Source.TheVariants as From
+use Rattle.fast_units.specs.declared.source.ValueSource.TheVariants as From
 use Rattle.fast_units.specs.device.Deciding.{source_of, IsDecided}
 use Rattle.fast_units.proofs.Deciding.{none_decided}
 use Rattle.fast_units.proofs.LastUnits.{again}

@@ -13,7 +13,7 @@ use Rattle.fast_stream.specs.meaning.Grammar.{Grammar}
 use Rattle.fast_stream.specs.device.GrammarReaders.{reader_of}
 use Rattle.fast_units.specs.device.Settling.{value_at}
 use Rattle.fast_units.specs.device.Deciding.{source_of}
-use Rattle.fast_units.specs.declared.source.Source.{Source}
+use Rattle.fast_units.specs.declared.source.ValueSource.{ValueSource}
 use Rattle.fast_decoder.specs.device.Passing.{decimal_then}
 use Rattle.fast_stream.specs.meaning.Messages.{Found, decimal_with}
 use Rattle.fast_decoder.specs.device.Positions.{set_of, meaning, CanTurn, IsAtParts, IsTurn}
@@ -77,7 +77,7 @@ returns-clause-taken g c =
     c.args.sink.now turn c.finish_decimal-turn.new.sink b
     (subst (λ (y : ℤ). IsTurn takes stops set l (reader_of l.strict (decimal_then set (bounds l) n y (value_at source f (slots_dictionary slots) m.text.text []) f (slots_dictionary slots) m.counted m.cursor)) c.args.sink.now turn c.finish_decimal-turn.new.sink b)
     (to_z-of_z w32 x c.ranges.exponent)
-    (subst (λ (y : Source). IsTurn takes stops set l (reader_of l.strict (decimal_then set (bounds l) n (to_z w32 (of_z w32 x)) (value_at y f (slots_dictionary slots) m.text.text []) f (slots_dictionary slots) m.counted m.cursor)) c.args.sink.now turn c.finish_decimal-turn.new.sink b)
+    (subst (λ (y : ValueSource). IsTurn takes stops set l (reader_of l.strict (decimal_then set (bounds l) n (to_z w32 (of_z w32 x)) (value_at y f (slots_dictionary slots) m.text.text []) f (slots_dictionary slots) m.counted m.cursor)) c.args.sink.now turn c.finish_decimal-turn.new.sink b)
     c.source_of.ensures moved))
 
 pub returns-clause-turns : goal.returns-clause-turns

@@ -20,18 +20,18 @@ abbrev pub held : Stored → ℕ
 held s = s.scratch + s.texts + s.entries + s.frames + s.maps
 
 -- what a decoder says of itself by its calls
-pub record Standing : Type 0 where
+pub record Account : Type 0 where
   pub is_between : Bool
   pub fault : Option Fault
   pub consumed : ℕ
 
 -- what a decoder says of itself at the end of a stream
-abbrev pub standing_at : List ℕ → End → Standing
-standing_at w between = record { is_between = true; fault = None; consumed = length w }
-standing_at w inside = record { is_between = false; fault = None; consumed = length w }
-standing_at w (faulted c place) = record { is_between = false; fault = Some (record { code = Why.Stream c; place = place }); consumed = place }
+abbrev pub account_at : List ℕ → End → Account
+account_at w between = record { is_between = true; fault = None; consumed = length w }
+account_at w inside = record { is_between = false; fault = None; consumed = length w }
+account_at w (faulted c place) = record { is_between = false; fault = Some (record { code = Why.Stream c; place = place }); consumed = place }
 
 -- The stream that a decoder was led through, and what it says of itself, agree. A decoder's own relation
--- `So decoder w es` must imply this at its standing.
-abbrev pub StandsAfter : Tree → Limits → List ℕ → List EventData → Standing → Type 0
-StandsAfter t l w es standing = (e : End) × Stream t l w es e × (standing ≡ standing_at w e)
+-- `HasRead decoder w es` must imply this of its account.
+abbrev pub TellsStream : Tree → Limits → List ℕ → List EventData → Account → Type 0
+TellsStream t l w es account = (e : End) × Stream t l w es e × (account ≡ account_at w e)
