@@ -1,6 +1,5 @@
 -- Each command is carried out on the dictionary that those before it leave.
-use Rattle.std.proofs.Common.{rules}
-use Rattle.std.proofs.Common.{◌∙◌}
+use Rattle.std.proofs.Common.{rules, ◌∙◌}
 use Rattle.fast_value.specs.declared.kinds.Kind.TheVariants.{UInt32}
 use Rattle.fast_value.specs.declared.values.Scalar.TheVariants.{U}
 use Rattle.fast_dict.specs.meaning.Commands.{command_data}
