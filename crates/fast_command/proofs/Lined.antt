@@ -1,6 +1,8 @@
 -- The lines that a sink has written.
 use Rattle.std.proofs.Common.{◌≡◌, ℕ, ◌+◌, ◌<◌, ◌^◌, Bool, List, [], ◌∷◌, ◌++◌, Option, Result, Ok, Err, refl, ap, sym, ◌∙◌, length, take, drop, arith, append_assoc}
+use Rattle.std.specs.Prelude.{All}
 use Rattle.std.proofs.lemmas.List.{take-append-drop}
+use Rattle.std.proofs.lemmas.List.Elements.{All-nil, All-cons}
 use Rattle.std.proofs.lemmas.Grind.{flat_map-append}
 use Rattle.fast_value.specs.declared.settings.Limits.{Limits}
 use Rattle.fast_tree.specs.meaning.Tree.{Tree}
@@ -12,6 +14,7 @@ use Rattle.fast_stream.specs.meaning.Events.{EventData}
 use Rattle.fast_stream.specs.meaning.Sinks.{Takes}
 use Rattle.fast_decoder.specs.meaning.Decoding.{DecoderData, tree, Carried, CarriesAt, Carries, SinkEnds}
 use Rattle.fast_lines.specs.meaning.Lines.{line_of, lines}
+use Rattle.fast_lines.specs.meaning.Values.{HoldsBytes}
 use Rattle.fast_text.specs.meaning.Streams.{Appends}
 use Rattle.fast_text.specs.declared.line_sink.LineSink.{LineSink}
 use Rattle.fast_text.specs.device.LineSink.{TakesLine, StopsInLine}
@@ -48,12 +51,17 @@ takes_lines written failed t (e ∷ es) s s' names h =
       as_before = rest.as_before ∙ first.as_before;
     }
 
+-- the events that it takes hold bytes
+takes_bytes : {T : Type 0} (written : T → Option (List ℕ)) (failed : T → Bool) (es : List EventData) (s s' : LineSink T) → Takes (TakesLine written failed) s es s' → All HoldsBytes es
+takes_bytes written failed [] s s' h = All-nil HoldsBytes
+takes_bytes written failed (e ∷ es) s s' h = All-cons HoldsBytes e es h.1.holds (takes_bytes written failed es h.0 s' h.2)
+
 -- where all events were taken
 all_taken : {T : Type 0} (written : T → Option (List ℕ)) (failed : T → Bool) (t : Tree) (b : List ℕ) (es : List EventData) (bytes : List ℕ) (s : LineSink T) (d : DecoderData) (s' : LineSink T)
     → tree_of s.templates.now ≡ t → Carries (TakesLine written failed) b es bytes s d s' → Fed t b es bytes d (changed written failed s.target.now s'.target.now) × (s'.target.ghost_name ≡ s.target.ghost_name)
 all_taken written failed t b es bytes s d s' names h =
     let w = takes_lines written failed t h.more s s' names h.took in
-    (record { more = h.more; so = h.so; written = w.added; as_before = w.as_before }, w.same_target)
+    (record { more = h.more; so = h.so; holds = takes_bytes written failed h.more s s' h.took; written = w.added; as_before = w.as_before }, w.same_target)
 
 -- the lines of all events, where the sink stopped in the line of one of them
 cut_lines : (t : Tree) (es earlier front rest : List EventData) (e : EventData) (begun left : List ℕ) → line_of t e ++ 0x0A ∷ [] ≡ begun ++ left

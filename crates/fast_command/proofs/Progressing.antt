@@ -1,6 +1,7 @@
 -- From what the parts of a run do to what it has shown.
 use Rattle.std.proofs.Common.{◌≡◌, ◌⊎◌, ℕ, ◌+◌, ◌*◌, ◌≤◌, Bool, true, false, List, [], ◌∷◌, ◌++◌, Option, Some, None, Result, Ok, Err, refl, ap, sym, ◌∙◌, inl, inr, subst, length, length-append, suc, arith, append_assoc, append-nil}
-use Rattle.std.specs.Prelude.{IsTrue, is_some, if◌then◌else◌}
+use Rattle.std.specs.Prelude.{All, IsTrue, is_some, if◌then◌else◌}
+use Rattle.std.proofs.lemmas.List.Elements.{All-append}
 use Rattle.fast_value.specs.declared.settings.Limits.{Limits}
 use Rattle.fast_value.specs.declared.codes.Code.{Code}
 use Rattle.fast_value.specs.meaning.Initial.{IsHex}
@@ -15,6 +16,7 @@ use Rattle.fast_decoder.specs.meaning.Decoding.{DecoderData, HasRead, tree, acco
 use Rattle.fast_decoder.proofs.streams.Ends.{read-stream}
 use Rattle.fast_lines.specs.meaning.Lines.{lines}
 use Rattle.fast_lines.specs.meaning.Hex.{Unhexed, digits_in, ArePairs}
+use Rattle.fast_lines.specs.meaning.Values.{HoldsBytes}
 use Rattle.fast_text.specs.meaning.Streams.{Appends, AppendsFront}
 use Rattle.fast_text.proofs.Writing.{appends_none, appends_both}
 use Rattle.fast_command.specs.declared.unhexer.Unhexer.{Unhexer}
@@ -167,6 +169,7 @@ goes_on t l hex s s' text b piece bytes es w p fronts same hex_same good taken f
     set = same.0 ∙ p.set;
     limits = same.1 ∙ p.limits;
     so = fed.so;
+    holds = All-append HoldsBytes es fed.more p.holds fed.holds;
     good = good;
     hex_is = hex_same ∙ p.hex_is;
     taken = taken;
@@ -186,7 +189,7 @@ bad_character_ends t l hex s text es w place h bad =
     record {
       out = lines t h.more;
       written = h.written;
-      shown = (h.bytes, es ++ h.more, e.end, record { bytes = rw hexed at.1; stream = e.stream }, e.good, sym (lines-append t es h.more), inl at.2);
+      shown = (h.bytes, es ++ h.more, e.end, record { bytes = rw hexed at.1; stream = e.stream; holds = p.holds }, e.good, sym (lines-append t es h.more), inl at.2);
       told = inr h.as_before;
     }
 
@@ -200,7 +203,7 @@ pub bad_end_ends : (t : Tree) (l : Limits) (hex : Bool) (s : Show) (text b : Lis
 bad_end_ends t l hex s text b es held failed place p bad =
     let e = stream_of t l hex s text b es p in
     let at : StandsFor hex text b (Some place) = rw (← p.hex_is) bad in
-    record { out = []; written = appends_none held; shown = (b, es, e.end, record { bytes = at; stream = e.stream }, e.good, nothing_more (lines t es), inr tt); told = inr refl }
+    record { out = []; written = appends_none held; shown = (b, es, e.end, record { bytes = at; stream = e.stream; holds = p.holds }, e.good, nothing_more (lines t es), inr tt); told = inr refl }
 
 -- a good end
 pub good_ends : (t : Tree) (l : Limits) (hex : Bool) (s : Show) (text b : List ℕ) (es : List EventData) (held : Option (List ℕ)) (failed : Bool) → Progress t l hex s text b es → StandsFor (is_some s.unhexer) text b None → (account s.decoder).is_between ≡ true
@@ -208,7 +211,7 @@ pub good_ends : (t : Tree) (l : Limits) (hex : Bool) (s : Show) (text b : List �
 good_ends t l hex s text b es held failed p bytes told =
     let e = stream_of t l hex s text b es p in
     let at : StandsFor hex text b None = rw (← p.hex_is) bytes in
-    record { out = []; written = appends_none held; shown = (b, es, record { bytes = at; stream = ends_between t l s.decoder b es e told }, nothing_more (lines t es), tt); told = inr refl }
+    record { out = []; written = appends_none held; shown = (b, es, record { bytes = at; stream = ends_between t l s.decoder b es e told; holds = p.holds }, nothing_more (lines t es), tt); told = inr refl }
 
 -- an end inside a message
 pub truncated_ends : (t : Tree) (l : Limits) (hex : Bool) (s : Show) (text b : List ℕ) (es : List EventData) (w : Change) (n : ℕ) → Progress t l hex s text b es → StandsFor (is_some s.unhexer) text b None → (account s.decoder).is_between ≡ false → n ≡ (account s.decoder).consumed
@@ -216,7 +219,7 @@ pub truncated_ends : (t : Tree) (l : Limits) (hex : Bool) (s : Show) (text b : L
 truncated_ends t l hex s text b es w n p bytes told count line stays =
     let e = stream_of t l hex s text b es p in
     let at : StandsFor hex text b None = rw (← p.hex_is) bytes in
-    record { out = truncated_line n; written = line; shown = (b, es, record { bytes = at; stream = ends_inside t l s.decoder b es e told }, count ∙ counts_all t l s.decoder b es e, refl, tt); told = inr stays }
+    record { out = truncated_line n; written = line; shown = (b, es, record { bytes = at; stream = ends_inside t l s.decoder b es e told; holds = p.holds }, count ∙ counts_all t l s.decoder b es e, refl, tt); told = inr stays }
 
 -- an end inside a message, where the writer fails in its line
 pub truncated_fails : (t : Tree) (l : Limits) (hex : Bool) (s : Show) (text b : List ℕ) (es : List EventData) (w : Change) (n : ℕ) → Progress t l hex s text b es → StandsFor (is_some s.unhexer) text b None → (account s.decoder).is_between ≡ false → n ≡ (account s.decoder).consumed
@@ -238,19 +241,19 @@ both w v = record { held = w.held; holds = v.holds; had_failed = w.had_failed; h
 
 -- The line of a fault behind the lines of its events.
 fault_shown : (t : Tree) (l : Limits) (hex : Bool) (text b bytes : List ℕ) (es : List EventData) (d : DecoderData) (w v : Change) (f : Fault) (c : Code) (r : Result ShowEnd RunFault) → tree d ≡ t → d.limits ≡ l → d.fault ≡ Some f → f.code ≡ Why.Stream c
-    → Fed t b es bytes d w → v.held ≡ w.holds → v.had_failed ≡ w.has_failed → (place : Option ℕ) × StandsFor hex text (b ++ bytes) place
+    → All HoldsBytes es → Fed t b es bytes d w → v.held ≡ w.holds → v.had_failed ≡ w.has_failed → (place : Option ℕ) × StandsFor hex text (b ++ bytes) place
     → (r ≡ Ok (Faulted f)) × Appends v.held v.holds (fault_line f.code f.place) × (v.has_failed ≡ v.had_failed) ⊎ (r ≡ Err Write) × AppendsFront v.held v.holds (fault_line f.code f.place) × IsTrue v.has_failed
     → Ended t l hex ⊥ text es (both w v) r
-fault_shown t l hex text b bytes es d w v f c r set limits fault code fed on failed at (inl h) =
+fault_shown t l hex text b bytes es d w v f c r set limits fault code holds fed on failed at (inl h) =
     let stream = ends_at_fault t l d (b ++ bytes) (es ++ fed.more) f c set limits fed.so fault code in
     let ended : Ended t l hex ⊥ text es (both w v) (Ok (Faulted f)) = record {
       out = lines t fed.more ++ fault_line f.code f.place;
       written = appends_both w.held w.holds v.holds (lines t fed.more) (fault_line f.code f.place) fed.written (rw (← on) h.1);
-      shown = (at.0, b ++ bytes, es ++ fed.more, c, record { bytes = at.1; stream = stream }, code, sym (append_assoc (lines t es) (lines t fed.more) (fault_line f.code f.place)) ∙ ap (λ (xs : List ℕ). xs ++ fault_line f.code f.place) (sym (lines-append t es fed.more)));
+      shown = (at.0, b ++ bytes, es ++ fed.more, c, record { bytes = at.1; stream = stream; holds = All-append HoldsBytes es fed.more holds fed.holds }, code, sym (append_assoc (lines t es) (lines t fed.more) (fault_line f.code f.place)) ∙ ap (λ (xs : List ℕ). xs ++ fault_line f.code f.place) (sym (lines-append t es fed.more)));
       told = inr (h.2 ∙ failed ∙ fed.as_before);
     } in
     rw h.0 ended
-fault_shown t l hex text b bytes es d w v f c r set limits fault code fed on failed at (inr h) =
+fault_shown t l hex text b bytes es d w v f c r set limits fault code holds fed on failed at (inr h) =
     let stream = ends_at_fault t l d (b ++ bytes) (es ++ fed.more) f c set limits fed.so fault code in
     let line = h.1 in
     let text_of : fault_line (Why.Stream c) f.place ≡ line.front ++ line.rest = ap (λ (k : FaultCode). fault_line k f.place) (sym code) ∙ line.is in
@@ -283,11 +286,11 @@ cut_shown t l hex text b bytes es w v r cut at h on failed =
 
 -- Where a feed stops at a fault the run ends.
 pub fault_ends : (t : Tree) (l : Limits) (hex : Bool) (text b bytes : List ℕ) (es : List EventData) (d : DecoderData) (w v : Change) (f : Fault) (r : Result ShowEnd RunFault) → tree d ≡ t → d.limits ≡ l → d.fault ≡ Some f
-    → IsFedAt t l b es bytes d w f.code → IsClosedAt f f.code v r → v.held ≡ w.holds → v.had_failed ≡ w.has_failed → (place : Option ℕ) × StandsFor hex text (b ++ bytes) place → Ended t l hex ⊥ text es (both w v) r
-fault_ends t l hex text b bytes es d w v f r set limits fault fed closed on failed at = by_code f.code refl fed closed
+    → All HoldsBytes es → IsFedAt t l b es bytes d w f.code → IsClosedAt f f.code v r → v.held ≡ w.holds → v.had_failed ≡ w.has_failed → (place : Option ℕ) × StandsFor hex text (b ++ bytes) place → Ended t l hex ⊥ text es (both w v) r
+fault_ends t l hex text b bytes es d w v f r set limits fault holds fed closed on failed at = by_code f.code refl fed closed
   where
     by_code : (code : FaultCode) → f.code ≡ code → IsFedAt t l b es bytes d w code → IsClosedAt f code v r → Ended t l hex ⊥ text es (both w v) r
-    by_code (Why.Stream c) code fed closed = fault_shown t l hex text b bytes es d w v f c r set limits fault code fed on failed at closed
+    by_code (Why.Stream c) code fed closed = fault_shown t l hex text b bytes es d w v f c r set limits fault code holds fed on failed at closed
     by_code Why.L4 code fed closed = absurd fed
     by_code Why.SinkStopped code fed closed = cut_shown t l hex text b bytes es w v r fed at closed on failed
 

@@ -92,7 +92,7 @@ read_no_more t l hex R s reads AtEnd HasFailed ReadsNoMore left_first left_old l
     let p = h.progress in
     let e = ends_well t l s.decoder h.bytes h.events p.set p.limits p.so p.good in
     let at = stands_for s.unhexer h.text h.bytes p.taken in
-    (h.text, lines t h.events, reads_no_more left_first left_old left_now h.text h.read kept, h.written, (at.0, h.bytes, h.events, e.end, record { bytes = rw (← p.hex_is) at.1; stream = e.stream }, e.good, refl, why))
+    (h.text, lines t h.events, reads_no_more left_first left_old left_now h.text h.read kept, h.written, (at.0, h.bytes, h.events, e.end, record { bytes = rw (← p.hex_is) at.1; stream = e.stream; holds = p.holds }, e.good, refl, why))
 
 -- where the writer cannot show what it has
 pub not_flushed : (t : Tree) (l : Limits) (hex : Bool) (R : MakeError → Type 0) (s : Show) (reads : ℕ) (AtEnd HasFailed : Type 0) (ReadsNoMore : List ℕ → Type 0) (left_first left_now held holds_old holds : Option (List ℕ)) (h : Round t l hex s reads left_first left_now held holds_old) → Appends holds_old holds [] → HasFailed

@@ -1,3 +1,4 @@
 pub mod Coded
 pub mod Turned
 pub mod ShownAgain
+pub mod ReadAgain

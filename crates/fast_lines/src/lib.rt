@@ -3,6 +3,7 @@
 
 pub mod bytes;
 pub mod forms;
+pub mod holding;
 pub mod laws;
 pub mod numbers;
 pub mod texts;

@@ -18,13 +18,13 @@ ghost use Rattle.fast_template.specs.meaning.Flat.{nodes_of, tree_of};
 ghost use Rattle.fast_stream.specs.meaning.Events.{EventData, events};
 ghost use Rattle.fast_stream.specs.meaning.Streams.{Stream, between};
 ghost use Rattle.fast_lines.specs.meaning.Lines.{lines, written};
-ghost use Rattle.fast_lines.specs.meaning.Values.{IsHeld};
+ghost use Rattle.fast_lines.specs.meaning.Values.{IsHeld, HasBytes, HoldsBytes};
 ghost use Rattle.fast_spelling.specs.meaning.Again.{IsGrantedTree};
 ghost use Rattle.fast_spelling.specs.meaning.Suiting.{SuitsTemplate};
 ghost use Rattle.fast_reading.specs.meaning.Distinct.{HasDistinctBodies};
 ghost use Rattle.fast_reading.specs.meaning.Lined.{IsLined, HasNames, HasDistinctNames};
 ghost use Rattle.fast_reading.specs.declared.faults.TextFault.{TextFault};
-ghost use Rattle.fast_reading.specs.device.Ahead.{IsShown, HasBytes, HoldsBytes};
+ghost use Rattle.fast_reading.specs.device.Ahead.{IsShown};
 ghost use Rattle.fast_reading.specs.meaning.Back.{IsRead, IsReadAs, IsReadAgain};
 ghost use Rattle.fast_reading.specs.meaning.Reading.{closed, Says};
 ghost use Rattle.fast_reading.specs.meaning.Unsaid.{SaysNothing};
@@ -96,7 +96,8 @@ pub fn values_are_shown()
 
 /// The events of messages that suit their templates can be read back, if the elements of byte vectors are bytes.
 pub fn messages_are_shown()
-    // HoldsBytes is what `event_holds_bytes` ensures of each event that a sink is handed; it is so of those of a `Message` too.
+    // HoldsBytes is what `LineSink` ensures of each event that it takes (`holds` of TakesLine), and a sink of any kind has by calling
+    // `event_holds_bytes` of fast_lines; it is so of those of a `Message` too.
     ensures { (t : Tree) (ms : List MessageData) → All (SuitsTemplate t) ms → All HoldsBytes (flat_map (events t) ms)
         → All IsShown (flat_map (events t) ms) }
 {}
@@ -104,9 +105,10 @@ pub fn messages_are_shown()
 /// The lines of a stream of whole messages are read as the messages that its bytes spell, where memory is given, and these are encoded
 /// again, but for ASCII texts with U+0000.
 pub fn shown_lines_are_read()
-    // IsTree is what `Templates::read` ensures of the set, and IsGrantedTree is given by `set_is_granted` of fast_laws; Stream by
-    // `Decoder::feed_all`, `feed` and `push` (`followed`), and IsRead by `read_lines`. HoldsBytes is what `event_holds_bytes` ensures of each
-    // event that a sink is handed.
+    // IsTree is what `Templates::read` ensures of the set, and IsGrantedTree is given by `set_is_granted` of fast_laws. Stream, HoldsBytes of
+    // the events and their lines are what `run_show` ensures at a good end (`shown`), and IsRead what `read_lines` ensures: the law
+    // `shown_is_read` of fast_convert speaks of these contracts alone. Stream is also what `Decoder::feed_all`, `feed` and `push` ensure
+    // (`followed`), and HoldsBytes what a sink of any kind has by calling `event_holds_bytes` of fast_lines.
     ensures { (document : Members) (t : Templates) (l : Limits) (w : List ℕ) (es : List EventData) (text : List ℕ)
         (r : Result (Vec Message Global) TextFault)
         → IsTree document (tree_of t) → IsGrantedTree l (tree_of t) → Stream (tree_of t) l w es between

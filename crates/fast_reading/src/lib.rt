@@ -4,7 +4,6 @@
 pub mod cursors;
 pub mod endings;
 pub mod faults;
-pub mod holding;
 pub mod kinds;
 pub mod laws;
 pub mod messages;

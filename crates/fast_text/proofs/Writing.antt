@@ -8,6 +8,7 @@ use Rattle.std.proofs.lemmas.List.Elements.{All-head, All-tail}
 use Rattle.fast_text.specs.declared.line_writer.LineWriter.{LineWriter}
 use Rattle.fast_text.specs.meaning.Streams.{Reads, Appends, AppendsFront}
 use Rattle.fast_stream.specs.meaning.Events.{EventData}
+use Rattle.fast_lines.specs.meaning.Values.{HoldsBytes}
 use Rattle.fast_text.specs.declared.line_sink.LineSink.{LineSink}
 use Rattle.fast_text.specs.device.LineSink.{whole_line, TakesLine, StopsInLine}
 use Rattle.fast_text.specs.declared.streams.Failed.{Failed}
@@ -237,10 +238,10 @@ ended_short {T} {written} {failed} {s} {t} {u} {r} {text} e fresh h end failing 
 -- a sink's line, which is written
 pub takes_line : {T : Type 0} {written : T → Option (List ℕ)} {failed : T → Bool} {s t u : LineWriter T} {r : Result (Unit {0}) Failed} (old new : LineSink T) (e : EventData)
     → new.templates.now ≡ old.templates.now → new.target.ghost_name ≡ old.target.ghost_name → s.target.now ≡ old.target.now → new.target.now ≡ u.target.now → IsFresh s
-    → Writes written failed s (whole_line old e) t → Finishes written failed t u r → r ≡ Ok tt → TakesLine written failed old e new
-takes_line {T} {written} {failed} {s} {t} {u} {r} old new e set same_target begins ends fresh h end ok =
+    → HoldsBytes e → Writes written failed s (whole_line old e) t → Finishes written failed t u r → r ≡ Ok tt → TakesLine written failed old e new
+takes_line {T} {written} {failed} {s} {t} {u} {r} old new e set same_target begins ends fresh holds h end ok =
     let w = ended_whole fresh h end ok in
-    record { set = set; same_target = same_target; line = rw (← begins, ends) w.0; as_before = rw (← begins, ends) w.1 }
+    record { set = set; same_target = same_target; line = rw (← begins, ends) w.0; holds = holds; as_before = rw (← begins, ends) w.1 }
 
 -- a front of a sink's line
 pub stops_in_line : {T : Type 0} {written : T → Option (List ℕ)} {failed : T → Bool} {s t u : LineWriter T} {r : Result (Unit {0}) Failed} (old new : LineSink T) (e : EventData) (f : Failed)

@@ -13,6 +13,7 @@ use crate::line_writer::LineWriter;
 use crate::name_texts::{node_text, template_text};
 use crate::room::Room;
 use crate::streams::{Failed, Target};
+use fast_lines::holding::event_holds_bytes;
 use fast_stream::{Event, Sink, Stop};
 use fast_template::Templates;
 
@@ -161,6 +162,7 @@ impl<T: Target> Sink for LineSink<'_, T> {
     ghost stops = { StopsInLine T.written T.has_failed };
 
     fn take(&mut self, event: Event<'_>) -> Result<(), Stop> {
+        event_holds_bytes(event);
         let mut line = LineWriter::new(&mut *self.target, &mut self.kept);
         put_event(&mut line, self.templates, self.fronts, self.messages, event);
         match line.finish() {

@@ -1,5 +1,5 @@
 -- How far a run that shows a stream has come.
-use Rattle.std.specs.Prelude.{◌≡◌, ◌⊎◌, ℕ, ◌+◌, ◌<◌, ◌^◌, Bool, IsTrue, List, ◌++◌, length, Option, Some, None, is_some, Result, Ok, Err}
+use Rattle.std.specs.Prelude.{◌≡◌, ◌⊎◌, ℕ, ◌+◌, ◌<◌, ◌^◌, All, Bool, IsTrue, List, ◌++◌, length, Option, Some, None, is_some, Result, Ok, Err}
 use Rattle.fast_value.specs.declared.settings.Limits.{Limits}
 use Rattle.fast_tree.specs.meaning.Tree.{Tree}
 use Rattle.fast_template.specs.meaning.Flat.{tree_of}
@@ -10,6 +10,7 @@ use Rattle.fast_stream.specs.meaning.Events.{EventData}
 use Rattle.fast_stream.specs.meaning.Streams.{End, Stream}
 use Rattle.fast_decoder.specs.meaning.Decoding.{DecoderData, HasRead, tree}
 use Rattle.fast_lines.specs.meaning.Lines.{lines}
+use Rattle.fast_lines.specs.meaning.Values.{HoldsBytes}
 use Rattle.fast_text.specs.device.Fronts.{set_of}
 use Rattle.fast_text.specs.meaning.Streams.{Appends, AppendsFront}
 use Rattle.fast_lines.specs.meaning.Hex.{Unhexed}
@@ -39,6 +40,7 @@ pub record Progress (t : Tree) (l : Limits) (hex : Bool) (s : Show) (text b : Li
   pub set : tree s.decoder ≡ t
   pub limits : s.decoder.limits ≡ l
   pub so : HasRead s.decoder b es
+  pub holds : All HoldsBytes es
   pub good : s.decoder.fault ≡ None
   pub hex_is : is_some s.unhexer ≡ hex
   pub taken : IsTaken s.unhexer text b
@@ -58,6 +60,7 @@ changed written failed old new = record { held = written old; holds = written ne
 pub record Fed (t : Tree) (b : List ℕ) (es : List EventData) (bytes : List ℕ) (d : DecoderData) (w : Change) : Type 0 where
   pub more : List EventData
   pub so : HasRead d (b ++ bytes) (es ++ more)
+  pub holds : All HoldsBytes more
   pub written : Appends w.held w.holds (lines t more)
   pub as_before : w.has_failed ≡ w.had_failed
 

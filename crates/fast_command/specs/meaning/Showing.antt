@@ -1,5 +1,5 @@
 -- What is shown of a stream.
-use Rattle.std.specs.Prelude.{◌≡◌, ◌⊎◌, ℕ, ◌<◌, Bool, true, false, List, [], ◌++◌, length, Option, Some, None, Result, Ok, Err}
+use Rattle.std.specs.Prelude.{◌≡◌, ◌⊎◌, ℕ, ◌<◌, All, Bool, true, false, List, [], ◌++◌, length, Option, Some, None, Result, Ok, Err}
 use Rattle.fast_value.specs.declared.settings.Limits.{Limits}
 use Rattle.fast_value.specs.declared.codes.Code.{Code}
 use Rattle.fast_tree.specs.meaning.Tree.{Tree}
@@ -14,6 +14,7 @@ use Rattle.fast_stream.specs.meaning.Events.{EventData}
 use Rattle.fast_stream.specs.meaning.Streams.{End, between, inside, faulted, Stream}
 use Rattle.fast_lines.specs.meaning.Lines.{lines}
 use Rattle.fast_lines.specs.meaning.Hex.{Unhexed}
+use Rattle.fast_lines.specs.meaning.Values.{HoldsBytes}
 use Rattle.fast_command.specs.declared.faults.ShowEnd.{ShowEnd}
 use Rattle.fast_command.specs.declared.faults.ShowEnd.TheVariants.{Good, Faulted, Truncated}
 use Rattle.fast_command.specs.declared.faults.RunFault.{RunFault}
@@ -31,10 +32,12 @@ IsGoodEnd between = Unit {0}
 IsGoodEnd inside = Unit {0}
 IsGoodEnd (faulted c place) = ⊥
 
--- A stream of the bytes that a text stands for, with its events and its end.
+-- A stream of the bytes that a text stands for, with its events and its end. These were handed over, so that the elements of their vectors
+-- are bytes.
 pub record IsStreamOf (t : Tree) (l : Limits) (hex : Bool) (text : List ℕ) (place : Option ℕ) (b : List ℕ) (es : List EventData) (e : End) : Type 0 where
   pub bytes : StandsFor hex text b place
   pub stream : Stream t l b es e
+  pub holds : All HoldsBytes es
 
 -- Why no decoder is made, for another cause than memory.
 abbrev pub IsRefusal : Templates → Limits → MakeError → Type 0

@@ -1,17 +1,26 @@
--- Lines that are turned into a stream and shown again.
-use Rattle.std.specs.Prelude.{◌≡◌, ◌⊎◌, ℕ, ◌≤◌, Bool, true, false, List, length, Option, Result, Ok, Err, IsTrue}
+-- Lines that are turned into a stream and shown again, and lines that are shown and read again.
+use Rattle.std.specs.Prelude.{◌≡◌, ◌⊎◌, ℕ, ◌≤◌, Bool, true, false, List, length, Option, None, Result, Ok, Err, IsTrue}
 use Rattle.std.specs.Io.KnownBytes.{IsAtEnd}
+use Rattle.std.specs.declared.alloc.Global.{Global}
+use Rattle.std.specs.declared.vec.Vec.{Vec}
+use Rattle.fast_value.specs.declared.messages.Message.{Message}
 use Rattle.fast_value.specs.declared.settings.Limits.{Limits}
 use Rattle.fast_value.specs.meaning.Limits.{in_mode}
 use Rattle.fast_template.specs.declared.sets.Templates.{Templates}
 use Rattle.fast_template.specs.meaning.Flat.{tree_of}
+use Rattle.fast_stream.specs.declared.faults.MakeError.TheVariants.{BadLimits, InitialTooLong}
+use Rattle.fast_stream.specs.meaning.Events.{EventData}
+use Rattle.fast_stream.specs.meaning.Streams.{between}
+use Rattle.fast_decoder.specs.meaning.Decoding.{AreBadLimits}
+use Rattle.fast_reading.specs.declared.faults.TextFault.{TextFault}
+use Rattle.fast_reading.specs.meaning.Back.{IsReadAgain}
 use Rattle.fast_reading.specs.meaning.Reading.{closed}
 use Rattle.fast_text.specs.meaning.Streams.{Appends}
 use Rattle.fast_command.specs.declared.faults.ShowEnd.{ShowEnd}
 use Rattle.fast_command.specs.declared.faults.ShowEnd.TheVariants.{Good, Faulted, Truncated}
 use Rattle.fast_command.specs.declared.faults.RunFault.{RunFault}
 use Rattle.fast_command.specs.declared.faults.RunFault.TheVariants.{Read, Write, BadHex, Templates as Refused, Make, Text, Encode, Memory}
-use Rattle.fast_command.specs.meaning.Showing.{IsShown, IsRefusal}
+use Rattle.fast_command.specs.meaning.Showing.{IsShown, IsRefusal, IsStreamOf}
 use Rattle.fast_convert.specs.meaning.Converting.{IsWhole}
 
 -- What a run of show has written of all the bytes that were written of a text: the lines of the text. The bytes are at no fault, and
@@ -51,3 +60,16 @@ pub record IsBackInDigits (set : Templates) (l : Limits) (left_old left_new held
   pub written : Appends held holds digits
   pub shown : (mode : Bool) (left : Option (List ℕ)) (max_reads : ℕ) (reader_failed writer_failed : Bool) (out : List ℕ)
       → IsRunOfShow set (in_mode mode l) true left max_reads reader_failed writer_failed digits out (Ok Good) → out ≡ closed text
+
+-- What a run of show ensures of its answer by `shown`, `bad_limits` and `long_initial`.
+pub record IsAnswerOfShow (set : Templates) (l : Limits) (hex : Bool) (left : Option (List ℕ)) (max_reads : ℕ) (reader_failed writer_failed : Bool) (text out : List ℕ) (r : Result ShowEnd RunFault) : Type 0 where
+  pub shown : IsRunOfShow set l hex left max_reads reader_failed writer_failed text out r
+  pub bad_limits : AreBadLimits l → r ≡ Err (Make BadLimits)
+  pub long_initial : IsRefusal set l InitialTooLong → r ≡ Err (Make InitialTooLong)
+
+-- The lines that were shown of a text are read as the messages that its bytes spell, and these are encoded again.
+pub record IsShownAndRead (set : Templates) (l : Limits) (hex : Bool) (text : List ℕ) (r : Result (Vec Message Global) TextFault) : Type 0 where
+  pub bytes : List ℕ
+  pub events : List EventData
+  pub of_text : IsStreamOf (tree_of set) l hex text None bytes events between
+  pub read : IsReadAgain (tree_of set) l bytes events r

@@ -16,11 +16,11 @@ use Rattle.fast_dict.specs.meaning.Dictionary.{Dictionary, fresh}
 use Rattle.fast_stream.specs.meaning.Events.{EventData}
 use Rattle.fast_stream.specs.meaning.Streams.{Stream, SpellsAll, between}
 use Rattle.fast_lines.specs.meaning.Lines.{lines}
+use Rattle.fast_lines.specs.meaning.Values.{HoldsBytes}
 use Rattle.fast_spelling.specs.meaning.Again.{IsGrantedTree, IsSound}
 use Rattle.fast_spelling.specs.meaning.Suiting.{SuitsTemplate}
 use Rattle.fast_spelling.proofs.again.MessagesAgain.{sound_fresh, spelled_suits, all_encoded_again}
 use Rattle.fast_reading.specs.declared.faults.TextFault.{TextFault}
-use Rattle.fast_reading.specs.device.Ahead.{HoldsBytes}
 use Rattle.fast_reading.specs.meaning.Back.{IsRead, IsReadAgain}
 use Rattle.fast_reading.specs.meaning.Reading.{closed}
 use Rattle.fast_reading.proofs.names.AllNamed.{all_named}

@@ -14,10 +14,9 @@ use Rattle.fast_value.specs.declared.kinds.Kind.TheVariants.{UInt32, Int32, UInt
 use Rattle.fast_value.specs.declared.settings.Limits.{Limits}
 use Rattle.fast_value.specs.meaning.Kinds.{ScalarData, U, I, Dec, AsciiText, UnicodeText, ByteVector, IsWithin, signed_range, IsOfKind}
 use Rattle.fast_lines.specs.meaning.Lines.{hex_digit, hex_byte, escaped, quoted, written}
-use Rattle.fast_lines.specs.meaning.Values.{IsHeld}
+use Rattle.fast_lines.specs.meaning.Values.{IsHeld, HasBytes}
 use Rattle.fast_lines.proofs.Escapes.{plain_stands}
 use Rattle.fast_lines.proofs.Numerals.{decimal_is_utf8, signed_is_utf8}
-use Rattle.fast_reading.specs.device.Ahead.{HasBytes}
 use Rattle.fast_reading.proofs.names.LinedEvents.{wider, exponent}
 use Rattle.fast_reading.proofs.texts.LineTexts.{are_low, word}
 

@@ -10,7 +10,8 @@ use Rattle.fast_value.specs.meaning.Messages.{ItemData, one, group as group_item
 use Rattle.fast_tree.specs.meaning.Tree.{Instruction, field, parts, group, sequence, Body, end, step, Tree}
 use Rattle.fast_stream.specs.meaning.Events.{EventData, MessageStart, FieldValue, GroupStart, GroupEnd, SequenceStart, ElementStart, ElementEnd, SequenceEnd, MessageEnd, element_events, item_events, body_events, events}
 use Rattle.fast_spelling.specs.meaning.Suiting.{IsRight, AreRight, Suits, SuitsBody, SuitsTemplate}
-use Rattle.fast_reading.specs.device.Ahead.{HoldsBytes, IsShown}
+use Rattle.fast_lines.specs.meaning.Values.{HoldsBytes}
+use Rattle.fast_reading.specs.device.Ahead.{IsShown}
 use Rattle.fast_reading.proofs.values.Shown.{values_are_shown}
 
 -- the event can be read back, if the elements of its vector are bytes

@@ -1,7 +1,7 @@
 -- What is ahead in a text.
-use Rattle.std.specs.Prelude.{All, IsUtf8, ◌≡◌, ◌≢◌, ℕ, ◌+◌, ◌<◌, ◌≤◌, List, [], ◌∷◌, ◌++◌, nat_eq, if◌then◌else◌, Option, Some, None, option_map}
+use Rattle.std.specs.Prelude.{All, IsUtf8, ◌≡◌, ◌≢◌, ℕ, ◌+◌, ◌≤◌, List, [], ◌∷◌, ◌++◌, nat_eq, if◌then◌else◌, Option, Some, None, option_map}
 use Rattle.fast_value.specs.declared.values.Value.{Value}
-use Rattle.fast_value.specs.meaning.Kinds.{ScalarData, ByteVector}
+use Rattle.fast_value.specs.meaning.Kinds.{ScalarData}
 use Rattle.fast_value.specs.meaning.Values.{value_data}
 use Rattle.fast_tree.specs.meaning.Tree.{Tree}
 use Rattle.fast_stream.specs.meaning.Events.{EventData, FieldValue}
@@ -72,16 +72,6 @@ HasNoValue line = ⊥
 abbrev pub IsShown : EventData → Type 0
 IsShown (FieldValue n v) = IsHeld v × IsUtf8 (written v)
 IsShown e = Unit {0}
-
--- the elements of a vector of bytes are bytes, as in each value of the Rust type
-abbrev pub HasBytes : ScalarData → Type 0
-HasBytes (ByteVector v) = All (λ c. c < 256) v
-HasBytes v = Unit {0}
-
--- so of the value of an event
-abbrev pub HoldsBytes : EventData → Type 0
-HoldsBytes (FieldValue n v) = HasBytes v
-HoldsBytes e = Unit {0}
 
 -- The text is not the lines of events whose values can be read back.
 abbrev pub HasNoLines : List ℕ → Type 0

@@ -6,6 +6,7 @@ use Rattle.fast_template.specs.meaning.Flat.{tree_of}
 use Rattle.fast_stream.specs.meaning.Events.{EventData}
 use Rattle.fast_text.specs.declared.line_sink.LineSink.{LineSink}
 use Rattle.fast_lines.specs.meaning.Lines.{line_of}
+use Rattle.fast_lines.specs.meaning.Values.{HoldsBytes}
 use Rattle.fast_text.specs.meaning.Streams.{Appends, AppendsFront}
 
 -- the sink writes to the target, with the names of the set
@@ -18,11 +19,12 @@ pub record IsOver {T : Type 0} (templates : Bor Templates) (target : MutBor T) (
 abbrev pub whole_line : {T : Type 0} → LineSink T → EventData → List ℕ
 whole_line s e = line_of (tree_of s.templates.now) e ++ 0x0A ∷ []
 
--- The line was written to the same target.
+-- The line was written to the same target. The event is one of the Rust type.
 pub record TakesLine {T : Type 0} (written : T → Option (List ℕ)) (failed : T → Bool) (old : LineSink T) (e : EventData) (new : LineSink T) : Type 0 where
   pub set : new.templates.now ≡ old.templates.now
   pub same_target : new.target.ghost_name ≡ old.target.ghost_name
   pub line : Appends (written old.target.now) (written new.target.now) (whole_line old e)
+  pub holds : HoldsBytes e
   pub as_before : failed new.target.now ≡ failed old.target.now
 
 -- A front of the line was written to the same target, which has failed.

@@ -21,4 +21,4 @@ returns-in-Err g c t l hex text b es p =
     let at = stands_for c.bytes_of-bytes.new.unhexer (text ++ c.args.piece.now) (b ++ c.bytes_of-bytes.result.now) taken in
     let same = c.feed.ensures.same_set in
     let fed = fed_at_in (tree_of (set_of c.args.self.now.fronts).now) t c.args.self.now.decoder.limits l b es c.bytes_of-bytes.result.now c.feed.new.decoder _ c.in-Err.fault.code p.names p.limits (c.in-Err.ensures.fed b es (p.set ∙ sym p.names) p.so) in
-    fault_ends t l hex (text ++ c.args.piece.now) b c.bytes_of-bytes.result.now es c.feed.new.decoder _ _ c.in-Err.fault c.close.result (same.0 ∙ p.set) (same.1 ∙ p.limits) (this_fault _ c.in-Err.fault c.in-Err.ensures.answer) fed c.close.ensures refl refl (at.0, rw (c.bytes_of-bytes.ensures.same ∙ p.hex_is) at at.1)
+    fault_ends t l hex (text ++ c.args.piece.now) b c.bytes_of-bytes.result.now es c.feed.new.decoder _ _ c.in-Err.fault c.close.result (same.0 ∙ p.set) (same.1 ∙ p.limits) (this_fault _ c.in-Err.fault c.in-Err.ensures.answer) p.holds fed c.close.ensures refl refl (at.0, rw (c.bytes_of-bytes.ensures.same ∙ p.hex_is) at at.1)

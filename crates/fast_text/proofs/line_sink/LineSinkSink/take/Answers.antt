@@ -5,7 +5,7 @@ use Rattle.fast_text.proofs.line_sink.LineSinkSink.take.Goals as goal
 
 pub returns-in-Ok-clause-takes : goal.returns-in-Ok-clause-takes
 returns-in-Ok-clause-takes g c =
-    takes_line _ _ (event_data c.args.event) refl refl c.new-line.ensures.as_it_is refl c.new-line.ensures.fresh c.put_event.ensures c.finish.ensures c.in-Ok.is
+    takes_line _ _ (event_data c.args.event) refl refl c.new-line.ensures.as_it_is refl c.new-line.ensures.fresh c.event_holds_bytes.ensures c.put_event.ensures c.finish.ensures c.in-Ok.is
 
 pub returns-in-Err-clause-stops : goal.returns-in-Err-clause-stops
 returns-in-Err-clause-stops g c =

@@ -3,12 +3,13 @@
 ghost use Rattle.std.specs.Prelude.{◌<◌, All};
 ghost use Rattle.fast_value.specs.meaning.Values.{scalar_data};
 ghost use Rattle.fast_stream.specs.meaning.Handed.{event_data};
-ghost use Rattle.fast_reading.specs.device.Ahead.{HasBytes, HoldsBytes};
+ghost use Rattle.fast_lines.specs.meaning.Values.{HasBytes, HoldsBytes};
 
 use fast_stream::Event;
 use fast_value::Scalar;
 
 /// The elements of a slice of bytes are below 256.
+#[inline(always)]
 fn elements_are_bytes(bytes: &[u8])
     ensures { All (λ c. c < 256) bytes.now }
 {
@@ -16,6 +17,7 @@ fn elements_are_bytes(bytes: &[u8])
 }
 
 /// So are those of a value.
+#[inline(always)]
 fn value_has_bytes(value: Scalar<'_>)
     ensures { HasBytes (scalar_data value.entry) }
 {
@@ -26,8 +28,9 @@ fn value_has_bytes(value: Scalar<'_>)
     }
 }
 
-/// The elements of a byte vector are bytes in each event that a sink is handed: what the law [`crate::laws::shown_lines_are_read`]
-/// asks of the events of a stream. It does nothing.
+/// The elements of a byte vector are bytes in each event that a sink is handed. It does nothing, and costs nothing: a sink calls it
+/// where its contract says so of the events that it takes.
+#[inline(always)]
 pub fn event_holds_bytes(event: Event<'_>)
     ensures { HoldsBytes (event_data event.entry) }
 {
