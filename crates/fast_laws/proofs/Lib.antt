@@ -1,4 +1,4 @@
 mod terms
 mod messages
-mod nodes
+pub mod nodes
 mod fields
