@@ -9,10 +9,12 @@ use Rattle.fast_tree.specs.meaning.Tree.{Tree}
 use Rattle.fast_stream.specs.declared.faults.Fault.{Fault}
 use Rattle.fast_stream.specs.declared.faults.FaultCode.{FaultCode}
 use Rattle.fast_stream.specs.declared.faults.FaultCode.TheVariants as Why
+use Rattle.fast_stream.specs.device.Running.{Position, at_start}
+use Rattle.fast_dict.specs.meaning.Dictionary.{fresh}
 use Rattle.fast_stream.specs.meaning.Events.{EventData}
 use Rattle.fast_stream.specs.meaning.Streams.{End, between, inside, faulted, Stream}
 use Rattle.fast_stream.specs.meaning.Account.{Account, account_at}
-use Rattle.fast_decoder.specs.meaning.Decoding.{DecoderData, HasRead, tree, account, answer}
+use Rattle.fast_decoder.specs.meaning.Decoding.{DecoderData, IsFaultAt, IsAt, HasRead, tree, account, answer}
 use Rattle.fast_decoder.proofs.streams.Ends.{read-stream}
 use Rattle.fast_lines.specs.meaning.Lines.{lines}
 use Rattle.fast_lines.specs.meaning.Hex.{Unhexed, digits_in, ArePairs}
@@ -98,6 +100,19 @@ ends_at_fault t l d b es f c set limits so fault code =
         let same_code : k ≡ c = let e : Why.Stream k ≡ Why.Stream c = ap (λ (g : Fault). g.code) is ∙ code in cc in
         let same_place : place ≡ f.place = ap (λ (g : Fault). g.place) is in
         rw (← same_code, ← same_place) s
+
+-- no bytes lead to a fault
+pub no_fault_yet : (d : DecoderData) → HasRead d [] [] → d.fault ≡ None
+no_fault_yet d h = by d.fault h.at
+  where
+    at_code : (f : Fault) (code : FaultCode) → IsFaultAt code f.place h.position → Some f ≡ None
+    at_code f (Why.Stream c) e = let start : at_start (fresh (tree d).entries) ≡ h.position = ap (λ z. z.1) h.read in absurd (cc)
+    at_code f Why.L4 e = absurd e
+    at_code f Why.SinkStopped e = absurd e
+
+    by : (o : Option Fault) → IsAt o d 0 h.position → o ≡ None
+    by None at = refl
+    by (Some f) at = at_code f f.code at
 
 -- ---- the bytes that a text stands for
 
