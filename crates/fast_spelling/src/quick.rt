@@ -31,7 +31,7 @@ use fast_value::{Kind, Scalar};
 /// # Errors
 ///
 /// E3; memory was refused. Then the draft is of no use.
-#[tactic(auto, using(crate::proofs::Usual::plain_ruled, crate::proofs::Usual::number_sendable))]
+#[tactic(auto, using(crate::proofs::rules::Usual::plain_ruled, crate::proofs::rules::Usual::number_sendable))]
 #[inline(always)]
 pub fn write_unsigned(
     draft: &mut Draft,
@@ -156,7 +156,7 @@ pub fn write_integer(
 /// # Errors
 ///
 /// E3, R9; memory was refused. Then the draft is of no use.
-#[tactic(auto, using(crate::proofs::Usual::plain_ruled, crate::proofs::Usual::copy_other, crate::proofs::Usual::default_other, crate::proofs::Usual::constant_ruled, crate::proofs::Usual::value_sendable))]
+#[tactic(auto, using(crate::proofs::rules::Usual::plain_ruled, crate::proofs::rules::Usual::copy_other, crate::proofs::rules::Usual::default_other, crate::proofs::rules::Usual::constant_ruled, crate::proofs::rules::Usual::value_sendable))]
 pub fn write_other(
     draft: &mut Draft,
     ledger: &mut Ledger,
