@@ -11,7 +11,6 @@ ghost use Rattle.fast_tree.specs.device.Bodies.{body_among};
 ghost use Rattle.fast_spelling.specs.device.Nodes.{instruction_in};
 ghost use Rattle.fast_spelling.specs.meaning.Suiting.{IsRight, AreRight, Suits, SuitsBody};
 
-use fast_dict::operators::checked_text;
 use fast_template::{Shape, Templates};
 use fast_value::{Item, Kind, Value};
 
