@@ -1,5 +1,7 @@
 //! Streams that are cut behind each of their bytes, for tests.
 
+ghost use Rattle.std.specs.Prelude.{◌<◌};
+
 use crate::decoding::{Answer, answer_of, decoder_of, read_set};
 use crate::sinks::Check;
 use fast_decoder::Decoder;
