@@ -48,7 +48,8 @@ impl Sink for LastPrice<'_> {
     fn take(&mut self, event: Event<'_>) -> Result<(), Stop> {
         if let Event::Field { node, value } = event {
             match value {
-                Scalar::Ascii(text) if node == self.columns.symbol => self.is_ours = text == self.symbol,
+                Scalar::Ascii(text) if node == self.columns.symbol => self.is_ours = text
+                    == self.symbol,
                 Scalar::Dec { exponent, mantissa } if node == self.columns.price && self.is_ours =>
                     self.price = Some(Price { exponent, mantissa }),
                 _ => {}

@@ -39,7 +39,10 @@ fn messages_are_counted(rt: HostRuntime) -> Result<(), Fail> {
 /// The last price of a symbol in the two trades.
 fn price_of(alloc: Global, symbol: &[u8]) -> Result<Option<Price>, Fail> {
     let set = Templates::read(alloc, TEXT)?;
-    let columns = Columns { symbol: 0, price: 1 };
+    let columns = Columns {
+        symbol: 0,
+        price: 1,
+    };
     let price = last_price(alloc, &set, Limits::default(), columns, symbol, TRADES)?;
     Ok(price)
 }
