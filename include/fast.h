@@ -222,7 +222,8 @@ static inline uint32_t fast_open_decoder(fast_set *set, fast_limits limits, fast
 
 // Feeds a piece of the stream, cut anywhere, and writes the records of its events from records[0] on, and their texts from texts[0] on. Where
 // the buffers are full, FAST_MORE: records[0 .. fed.records - 1] are the caller's, who calls again with the piece from piece[fed.taken] on,
-// which may be empty. With 64 records and max_text bytes of texts it always comes forward.
+// which may be empty. With one record and max_text bytes of texts it always comes forward; 4,096 records (96 KiB) are fast. What has no room
+// waits in memory of the library, which is asked for then alone: at most the events of half as many bytes as there are records.
 static inline fast_fed fast_feed(fast_decoder *decoder, const uint8_t *piece, size_t piece_len, fast_record *records,
                                  size_t records_len, uint8_t *texts, size_t texts_len) {
     fast_fed fed = {0, 0, 0, 0, 0, FAST_CLOSED};
