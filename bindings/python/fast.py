@@ -149,16 +149,17 @@ class Set(Held):
 
     def __init__(self, library, text):
         super().__init__(library, library.calls.fast_set_close)
+        self._names = {}
         text = text.encode()
         library.expect(library.calls.fast_set_read(text, len(text), byref(self.at)))
 
-    def _name(self, call, number):
-        room = c.create_string_buffer(64)
-        length = call(self.handle, number, room, len(room))
-        if length > len(room):
-            room = c.create_string_buffer(length)
-            call(self.handle, number, room, length)
-        return room.raw[:length].decode()
+    def _name(self, name, number):
+        if (name, number) not in self._names:
+            call = getattr(self.library.calls, name)
+            room = c.create_string_buffer(call(self.handle, number, c.create_string_buffer(1), 0) or 1)
+            length = call(self.handle, number, room, len(room))
+            self._names[name, number] = room.raw[:length].decode()
+        return self._names[name, number]
 
     @property
     def templates(self):
@@ -169,10 +170,10 @@ class Set(Held):
         return self.library.calls.fast_set_nodes(self.handle)
 
     def template_name(self, number):
-        return self._name(self.library.calls.fast_template_name, number)
+        return self._name("fast_template_name", number)
 
     def node_name(self, number):
-        return self._name(self.library.calls.fast_node_name, number)
+        return self._name("fast_node_name", number)
 
     def decoder(self, **limits):
         return Decoder(self, **limits)
