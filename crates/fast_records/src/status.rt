@@ -5,7 +5,7 @@ ghost use Rattle.fast_records.specs.Status.{status_number, static_number, ended}
 
 use crate::feeding::Outcome;
 use fast_decoder::{FaultCode, MakeError};
-use fast_encoder::EncodeFault;
+use fast_spelling::EncodeFault;
 use fast_template::StaticCode;
 use fast_value::Code;
 use std::fmt;
