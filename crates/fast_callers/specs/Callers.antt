@@ -28,9 +28,15 @@ whole (e ∷ es) = ends e + whole es
 abbrev pub Counts : Counter → EventData → Counter → Type 0
 Counts old e new = new.messages ≡ old.messages + ends e
 
+-- a stream ends without a fault
+abbrev pub HasNoFault : End → Type 0
+HasNoFault between = Unit {0}
+HasNoFault inside = Unit {0}
+HasNoFault (faulted c place) = ⊥
+
 -- The stream has no fault, and so many of its messages are whole.
 abbrev pub HasMessages : Tree → Limits → List ℕ → ℕ → Type 0
-HasMessages t l w n = (es : List EventData) × (e : End) × Stream t l w es e × (n ≡ whole es)
+HasMessages t l w n = (es : List EventData) × (e : End) × Stream t l w es e × HasNoFault e × (n ≡ whole es)
 
 -- what is known of prices: whether the last symbol is the one that is looked for, and its last price
 pub record Known : Type 0 where
@@ -60,7 +66,7 @@ pub record TakesPrice (old : LastPrice) (e : EventData) (new : LastPrice) : Type
 
 -- The stream has no fault, and this is the last price of the symbol, if it has one.
 abbrev pub HasLastPrice : Tree → Limits → Columns → List ℕ → List ℕ → Option Price → Type 0
-HasLastPrice t l c q w p = (es : List EventData) × (e : End) × Stream t l w es e × (p ≡ (learn_all c q (record { is_ours = false; price = None }) es).price)
+HasLastPrice t l c q w p = (es : List EventData) × (e : End) × Stream t l w es e × HasNoFault e × (p ≡ (learn_all c q (record { is_ours = false; price = None }) es).price)
 
 -- whether a stream that has no fault ends inside a message
 abbrev pub IsCut : End → Bool → Type 0

@@ -121,6 +121,19 @@ impl<'a> RecordSink<'a> {
         !self.waiting.is_empty()
     }
 
+    /// Takes an event with a text. Out of line, since one without needs far fewer registers.
+    #[inline(never)]
+    fn take_text(&mut self, event: Event<'_>) -> Result<(), Stop>
+        ensures ok { OnOk result (TakesRecord self.old (event_data event.entry) self.new) }
+        ensures err { OnErr result (RefusesRecord self.old (event_data event.entry) self.new) }
+    {
+        let next = record_of(event, self.used() as u64);
+        if self.put(next, text_of(event)) {
+            return Ok(());
+        }
+        self.wait(event)
+    }
+
     /// Keeps an event that has no room, and lets no later one overtake it.
     #[inline(never)]
     fn wait(&mut self, event: Event<'_>) -> Result<(), Stop>
@@ -141,8 +154,11 @@ impl Sink for RecordSink<'_> {
 
     #[inline(always)]
     fn take(&mut self, event: Event<'_>) -> Result<(), Stop> {
+        if !text_of(event).is_empty() {
+            return self.take_text(event);
+        }
         let next = record_of(event, self.used() as u64);
-        if self.put(next, text_of(event)) {
+        if self.put(next, &[]) {
             return Ok(());
         }
         self.wait(event)

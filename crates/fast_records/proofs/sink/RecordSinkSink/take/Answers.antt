@@ -1,11 +1,13 @@
+use Rattle.std.proofs.Common.{◌≡◌, List, [], sym, ◌∙◌}
 use Rattle.fast_stream.specs.Handed.{event_data}
+use Rattle.fast_records.specs.Records.{event_text}
 use Rattle.fast_records.proofs.Shown.{shows_put, takes_after, refuses_after}
 use Rattle.fast_records.proofs.sink.RecordSinkSink.take.Goals as goal
 
 pub returns-then-put-clause-takes : goal.returns-then-put-clause-takes
 returns-then-put-clause-takes c = record {
   same = c.put.ensures.same;
-  shows = shows_put c.args.self.now c.put.new.self (event_data c.args.event) c.used.result c.record_of-next.result c.text_of.result.now c.used.ensures.place c.record_of-next.ensures c.text_of.ensures c.if-put.ensures.put c.put.ensures.waiting;
+  shows = shows_put c.args.self.now c.put.new.self (event_data c.args.event) c.used.result c.record_of-next.result [] c.used.ensures.place c.record_of-next.ensures ? c.if-put.ensures.put c.put.ensures.waiting;
 }
 
 pub returns-clause-takes : goal.returns-clause-takes
