@@ -1,7 +1,7 @@
 //! Decoders: bytes to records.
 
 ghost use Rattle.std.specs.Prelude.{◌≡◌, ℕ, List, take, Unit};
-ghost use Rattle.fast_stream.specs.Events.{EventData};
+ghost use Rattle.fast_stream.specs.meaning.Events.{EventData};
 
 use crate::sets::SetHandle;
 use crate::{NO_MEMORY, limits_of};

@@ -1,18 +1,18 @@
 -- What a counter has counted, and how a stream ends that it was handed.
 use Rattle.std.proofs.Common.{◌≡◌, ℕ, ◌+◌, Bool, true, false, ◌&&◌, not, List, [], ◌∷◌, ◌++◌, length, refl, sym, ap, ◌∙◌, arith, Option, Some, None, Result, Ok, Err}
 use Rattle.fast_value.specs.declared.settings.Limits.{Limits}
-use Rattle.fast_tree.specs.Tree.{Tree}
+use Rattle.fast_tree.specs.meaning.Tree.{Tree}
 use Rattle.fast_stream.specs.declared.faults.Fault.{Fault}
 use Rattle.fast_stream.specs.declared.faults.FaultCode.{FaultCode}
 use Rattle.fast_stream.specs.declared.faults.FaultCode.TheVariants as Why
-use Rattle.fast_stream.specs.Events.{EventData}
-use Rattle.fast_stream.specs.Sinks.{Takes}
-use Rattle.fast_stream.specs.Streams.{End, between, inside, faulted, Stream}
-use Rattle.fast_stream.specs.Standing.{Standing, standing_at}
-use Rattle.fast_decoder.specs.Decoding.{DecoderData, standing, answer}
-use Rattle.fast_decoder.specs.Feeding.{Follows, Followed}
+use Rattle.fast_stream.specs.meaning.Events.{EventData}
+use Rattle.fast_stream.specs.meaning.Sinks.{Takes}
+use Rattle.fast_stream.specs.meaning.Streams.{End, between, inside, faulted, Stream}
+use Rattle.fast_stream.specs.meaning.Account.{Account, account_at}
+use Rattle.fast_decoder.specs.meaning.Decoding.{DecoderData, account, answer}
+use Rattle.fast_decoder.specs.meaning.Feeding.{Follows, Followed}
 use Rattle.fast_callers.specs.declared.counting.Counter.{Counter}
-use Rattle.fast_callers.specs.Callers.{Counts, ends, whole, HasNoFault, HasMessages, IsCut}
+use Rattle.fast_callers.specs.meaning.Callers.{Counts, ends, whole, HasNoFault, HasMessages, IsCut}
 
 pub counted : (s s' : Counter) (es : List EventData) → Takes Counts s es s' → s'.messages ≡ s.messages + whole es
 counted s s' [] same = rw same (omega (arith))
@@ -24,10 +24,10 @@ fault_none None u h = refl
 fault_none (Some f) u h = absurd (cc h)
 
 -- so its end is at no fault
-pub no_fault : (w : List ℕ) (e : End) (d : DecoderData) → d.fault ≡ None → standing d ≡ standing_at w e → HasNoFault e
+pub no_fault : (w : List ℕ) (e : End) (d : DecoderData) → d.fault ≡ None → account d ≡ account_at w e → HasNoFault e
 no_fault w between d none at = tt
 no_fault w inside d none at = tt
-no_fault w (faulted c place) d none at = let told = ap (λ (s : Standing). s.fault) at in absurd (cc (told, none))
+no_fault w (faulted c place) d none at = let told = ap (λ (s : Account). s.fault) at in absurd (cc (told, none))
 
 -- what a feed says to one who counts from 0
 pub messages_by : (t : Tree) (l : Limits) (w : List ℕ) (s s' : Counter) (u : Unit {0}) (new : DecoderData) → s.messages ≡ 0 → Ok u ≡ answer new.fault → Follows Counts t l [] [] w s new s' → HasMessages t l w s'.messages

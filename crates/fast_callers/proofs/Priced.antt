@@ -1,14 +1,14 @@
 -- What a sink of prices knows.
 use Rattle.std.proofs.Common.{◌≡◌, ℕ, List, [], ◌∷◌, false, ap, refl, ◌∙◌, Option, None, Ok}
 use Rattle.fast_value.specs.declared.settings.Limits.{Limits}
-use Rattle.fast_tree.specs.Tree.{Tree}
-use Rattle.fast_stream.specs.Events.{EventData}
-use Rattle.fast_stream.specs.Sinks.{Takes}
-use Rattle.fast_decoder.specs.Decoding.{DecoderData, answer}
-use Rattle.fast_decoder.specs.Feeding.{Follows}
+use Rattle.fast_tree.specs.meaning.Tree.{Tree}
+use Rattle.fast_stream.specs.meaning.Events.{EventData}
+use Rattle.fast_stream.specs.meaning.Sinks.{Takes}
+use Rattle.fast_decoder.specs.meaning.Decoding.{DecoderData, answer}
+use Rattle.fast_decoder.specs.meaning.Feeding.{Follows}
 use Rattle.fast_callers.specs.declared.prices.Columns.{Columns}
 use Rattle.fast_callers.specs.declared.prices.LastPrice.{LastPrice}
-use Rattle.fast_callers.specs.Callers.{TakesPrice, Known, known_by, learn, learn_all, HasLastPrice}
+use Rattle.fast_callers.specs.meaning.Callers.{TakesPrice, Known, known_by, learn, learn_all, HasLastPrice}
 use Rattle.fast_callers.proofs.Counted.{fault_none, no_fault}
 
 pub priced : (c : Columns) (q : List ℕ) (s s' : LastPrice) (es : List EventData) → s.columns ≡ c → s.symbol.now ≡ q → Takes TakesPrice s es s' → known_by s' ≡ learn_all c q (known_by s) es

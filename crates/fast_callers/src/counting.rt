@@ -1,9 +1,9 @@
 //! How many messages a stream has.
 
 ghost use Rattle.std.specs.Prelude.{IfOk};
-ghost use Rattle.fast_template.specs.Flat.{tree_of};
-ghost use Rattle.fast_decoder.specs.Feeding.{all_bytes};
-ghost use Rattle.fast_callers.specs.Callers.{HasMessages};
+ghost use Rattle.fast_template.specs.meaning.Flat.{tree_of};
+ghost use Rattle.fast_decoder.specs.meaning.Feeding.{all_bytes};
+ghost use Rattle.fast_callers.specs.meaning.Callers.{HasMessages};
 
 use fast_decoder::{Decoder, Event, Fault, MakeError, Sink, Stop};
 use fast_template::Templates;
@@ -29,7 +29,7 @@ pub(crate) struct Counter {
 }
 
 impl Sink for Counter {
-    ghost use Rattle.fast_callers.specs.Callers.{Counts};
+    ghost use Rattle.fast_callers.specs.meaning.Callers.{Counts};
 
     ghost takes = { Counts };
 

@@ -1,8 +1,8 @@
 //! The last price of a symbol.
 
 ghost use Rattle.std.specs.Prelude.{IfOk};
-ghost use Rattle.fast_template.specs.Flat.{tree_of};
-ghost use Rattle.fast_callers.specs.Callers.{HasLastPrice};
+ghost use Rattle.fast_template.specs.meaning.Flat.{tree_of};
+ghost use Rattle.fast_callers.specs.meaning.Callers.{HasLastPrice};
 
 use crate::counting::Refusal;
 use fast_decoder::{Decoder, Event, Sink, Stop};
@@ -39,7 +39,7 @@ struct LastPrice<'a> {
 }
 
 impl Sink for LastPrice<'_> {
-    ghost use Rattle.fast_callers.specs.Callers.{TakesPrice};
+    ghost use Rattle.fast_callers.specs.meaning.Callers.{TakesPrice};
 
     ghost takes = { TakesPrice };
 

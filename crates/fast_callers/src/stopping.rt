@@ -1,8 +1,8 @@
 //! A stream that is read up to its first fault.
 
 ghost use Rattle.std.specs.Prelude.{IfOk};
-ghost use Rattle.fast_template.specs.Flat.{tree_of};
-ghost use Rattle.fast_callers.specs.Callers.{HasStopped};
+ghost use Rattle.fast_template.specs.meaning.Flat.{tree_of};
+ghost use Rattle.fast_callers.specs.meaning.Callers.{HasStopped};
 
 use crate::counting::Counter;
 use fast_decoder::{Decoder, FaultCode, MakeError};

@@ -3,8 +3,8 @@ use Rattle.std.proofs.Common.{◌≡◌, ◌⊎◌, ℕ, ◌+◌, ◌*◌, ◌-�
 use Rattle.std.specs.Prelude.{nat_eq}
 use Rattle.std.proofs.lemmas.Bool.{ne_eqb}
 use Rattle.std.proofs.lemmas.Bool.Decides.{nat_tests}
-use Rattle.fast_value.specs.Initial.{IsHexDigit}
-use Rattle.fast_lines.specs.Hex.{IsBlank}
+use Rattle.fast_value.specs.meaning.Initial.{IsHexDigit}
+use Rattle.fast_lines.specs.meaning.Hex.{IsBlank}
 use Rattle.hex.specs.Hex.{hex_digit_value, decode_pairs, decode_sized}
 
 -- digits from `0` to `9`

@@ -11,7 +11,7 @@ use Rattle.std.specs.List.{list_any}
 use Rattle.clap.specs.declared.builder.arg.Arg.{Arg}
 use Rattle.clap.specs.declared.builder.command.Command.{Command}
 use Rattle.clap.proofs.OnLiterals.{clap_on_literals}
-use Rattle.fast_command.specs.Words.{MakesApp, fastcat_app}
+use Rattle.fast_command.specs.meaning.Words.{MakesApp, fastcat_app}
 
 -- one more argument
 pub makes_rule : (app : App) (r : Rule) (old new : Command) (a : Arg) → MakesApp app old → rule_of a ≡ r → a.global ≡ false → AddsArg old a new → MakesApp (with_rule app r) new

@@ -1,17 +1,17 @@
 -- A last flush that fails, behind a run that had a decoder.
 use Rattle.std.proofs.Common.{◌≡◌, ℕ, List, [], ◌++◌, Bool, true, Option, Some, None, Result, Ok, Err, ap, sym, subst, ◌∙◌, append-nil}
 use Rattle.fast_value.specs.declared.settings.Limits.{Limits}
-use Rattle.fast_tree.specs.Tree.{Tree}
+use Rattle.fast_tree.specs.meaning.Tree.{Tree}
 use Rattle.fast_stream.specs.declared.faults.FaultCode.{FaultCode}
 use Rattle.fast_stream.specs.declared.faults.MakeError.{MakeError}
-use Rattle.fast_stream.specs.Streams.{between, inside, faulted}
-use Rattle.fast_lines.specs.Lines.{lines}
+use Rattle.fast_stream.specs.meaning.Streams.{between, inside, faulted}
+use Rattle.fast_lines.specs.meaning.Lines.{lines}
 use Rattle.fast_command.specs.declared.faults.ShowEnd.{ShowEnd}
 use Rattle.fast_command.specs.declared.faults.ShowEnd.TheVariants.{Good, Faulted, Truncated}
 use Rattle.fast_command.specs.declared.faults.RunFault.{RunFault}
 use Rattle.fast_command.specs.declared.faults.RunFault.TheVariants.{Read, Write, BadHex, Templates as Refused, Make, Text, Encode, Memory}
-use Rattle.fast_command.specs.Closing.{fault_line, truncated_line, closing}
-use Rattle.fast_command.specs.Showing.{IsShown, StandsFor, has_begun}
+use Rattle.fast_command.specs.meaning.Closing.{fault_line, truncated_line, closing}
+use Rattle.fast_command.specs.meaning.Showing.{IsShown, StandsFor, has_begun}
 
 -- what stands for bytes stands for them with nothing behind
 stands_alone : (hex : Bool) (text b : List ℕ) (place : Option ℕ) → StandsFor hex text b place → StandsFor hex text (b ++ []) place

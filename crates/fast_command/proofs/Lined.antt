@@ -3,20 +3,20 @@ use Rattle.std.proofs.Common.{◌≡◌, ℕ, ◌+◌, ◌<◌, ◌^◌, Bool, L
 use Rattle.std.proofs.lemmas.List.{take-append-drop}
 use Rattle.std.proofs.lemmas.Grind.{flat_map-append}
 use Rattle.fast_value.specs.declared.settings.Limits.{Limits}
-use Rattle.fast_tree.specs.Tree.{Tree}
-use Rattle.fast_template.specs.Flat.{tree_of}
+use Rattle.fast_tree.specs.meaning.Tree.{Tree}
+use Rattle.fast_template.specs.meaning.Flat.{tree_of}
 use Rattle.fast_stream.specs.declared.faults.Fault.{Fault}
 use Rattle.fast_stream.specs.declared.faults.FaultCode.{FaultCode}
 use Rattle.fast_stream.specs.declared.faults.FaultCode.TheVariants as Why
-use Rattle.fast_stream.specs.Events.{EventData}
-use Rattle.fast_stream.specs.Sinks.{Takes}
-use Rattle.fast_decoder.specs.Decoding.{DecoderData, tree, Carried, CarriesAt, Carries, SinkEnds}
-use Rattle.fast_lines.specs.Lines.{line_of, lines}
-use Rattle.fast_text.specs.Streams.{Appends}
+use Rattle.fast_stream.specs.meaning.Events.{EventData}
+use Rattle.fast_stream.specs.meaning.Sinks.{Takes}
+use Rattle.fast_decoder.specs.meaning.Decoding.{DecoderData, tree, Carried, CarriesAt, Carries, SinkEnds}
+use Rattle.fast_lines.specs.meaning.Lines.{line_of, lines}
+use Rattle.fast_text.specs.meaning.Streams.{Appends}
 use Rattle.fast_text.specs.declared.line_sink.LineSink.{LineSink}
-use Rattle.fast_text.specs.LineSink.{TakesLine, StopsInLine}
+use Rattle.fast_text.specs.device.LineSink.{TakesLine, StopsInLine}
 use Rattle.fast_text.proofs.Writing.{appends_none, appends_both}
-use Rattle.fast_command.specs.Progress.{changed, Fed, CutShort, IsFed, IsFedAt}
+use Rattle.fast_command.specs.device.Progress.{changed, Fed, CutShort, IsFed, IsFedAt}
 
 -- lines of some events and of more
 pub lines-append : (t : Tree) (es fs : List EventData) → lines t (es ++ fs) ≡ lines t es ++ lines t fs

@@ -3,19 +3,19 @@ use Rattle.std.proofs.Common.{◌≡◌, ◌⊎◌, ℕ, ◌+◌, ◌*◌, ◌�
 use Rattle.std.specs.Prelude.{IsTrue, is_some, if◌then◌else◌}
 use Rattle.fast_value.specs.declared.settings.Limits.{Limits}
 use Rattle.fast_value.specs.declared.codes.Code.{Code}
-use Rattle.fast_value.specs.Initial.{IsHex}
-use Rattle.fast_tree.specs.Tree.{Tree}
+use Rattle.fast_value.specs.meaning.Initial.{IsHex}
+use Rattle.fast_tree.specs.meaning.Tree.{Tree}
 use Rattle.fast_stream.specs.declared.faults.Fault.{Fault}
 use Rattle.fast_stream.specs.declared.faults.FaultCode.{FaultCode}
 use Rattle.fast_stream.specs.declared.faults.FaultCode.TheVariants as Why
-use Rattle.fast_stream.specs.Events.{EventData}
-use Rattle.fast_stream.specs.Streams.{End, between, inside, faulted, Stream}
-use Rattle.fast_stream.specs.Standing.{Standing, standing_at}
-use Rattle.fast_decoder.specs.Decoding.{DecoderData, So, tree, standing, answer}
-use Rattle.fast_decoder.proofs.Ends.{so-stream}
-use Rattle.fast_lines.specs.Lines.{lines}
-use Rattle.fast_lines.specs.Hex.{Unhexed, digits_in, ArePairs}
-use Rattle.fast_text.specs.Streams.{Appends, AppendsFront}
+use Rattle.fast_stream.specs.meaning.Events.{EventData}
+use Rattle.fast_stream.specs.meaning.Streams.{End, between, inside, faulted, Stream}
+use Rattle.fast_stream.specs.meaning.Account.{Account, account_at}
+use Rattle.fast_decoder.specs.meaning.Decoding.{DecoderData, HasRead, tree, account, answer}
+use Rattle.fast_decoder.proofs.streams.Ends.{read-stream}
+use Rattle.fast_lines.specs.meaning.Lines.{lines}
+use Rattle.fast_lines.specs.meaning.Hex.{Unhexed, digits_in, ArePairs}
+use Rattle.fast_text.specs.meaning.Streams.{Appends, AppendsFront}
 use Rattle.fast_text.proofs.Writing.{appends_none, appends_both}
 use Rattle.fast_command.specs.declared.unhexer.Unhexer.{Unhexer}
 use Rattle.fast_command.specs.declared.unhexer.Place.{Place}
@@ -25,10 +25,10 @@ use Rattle.fast_command.specs.declared.faults.ShowEnd.{ShowEnd}
 use Rattle.fast_command.specs.declared.faults.ShowEnd.TheVariants.{Good, Faulted, Truncated}
 use Rattle.fast_command.specs.declared.faults.RunFault.{RunFault}
 use Rattle.fast_command.specs.declared.faults.RunFault.TheVariants.{Write, BadHex}
-use Rattle.fast_command.specs.Closing.{fault_line, truncated_line, closing}
-use Rattle.fast_command.specs.Unhexing.{StandsAt}
-use Rattle.fast_command.specs.Showing.{StandsFor, IsGoodEnd}
-use Rattle.fast_command.specs.Progress.{IsTaken, Progress, Change, Fed, CutShort, IsFedAt, GoesOn, Ended, IsBadPlace, IsClosedAt}
+use Rattle.fast_command.specs.meaning.Closing.{fault_line, truncated_line, closing}
+use Rattle.fast_command.specs.device.Unhexing.{StandsAt}
+use Rattle.fast_command.specs.meaning.Showing.{StandsFor, IsGoodEnd}
+use Rattle.fast_command.specs.device.Progress.{IsTaken, Progress, Change, Fed, CutShort, IsFedAt, GoesOn, Ended, IsBadPlace, IsClosedAt}
 use Rattle.fast_command.proofs.Characters.{is_shown}
 use Rattle.fast_command.proofs.Lined.{lines-append}
 
@@ -39,56 +39,56 @@ pub record EndsWell (t : Tree) (l : Limits) (d : DecoderData) (b : List ℕ) (es
   pub end : End
   pub stream : Stream t l b es end
   pub good : IsGoodEnd end
-  pub tells : standing d ≡ standing_at b end
+  pub tells : account d ≡ account_at b end
 
 -- a decoder without a fault
-pub ends_well : (t : Tree) (l : Limits) (d : DecoderData) (b : List ℕ) (es : List EventData) → tree d ≡ t → d.limits ≡ l → So d b es → d.fault ≡ None → EndsWell t l d b es
+pub ends_well : (t : Tree) (l : Limits) (d : DecoderData) (b : List ℕ) (es : List EventData) → tree d ≡ t → d.limits ≡ l → HasRead d b es → d.fault ≡ None → EndsWell t l d b es
 ends_well t l d b es set limits so good =
-    let s = so-stream d b es so in
+    let s = read-stream d b es so in
     record { end = s.0; stream = rw (← set, ← limits) s.1; good = at s.0 s.2; tells = s.2 }
   where
     apart : (f : Fault) → Some f ≡ None → ⊥
     apart f h = cc
 
-    at : (e : End) → standing d ≡ standing_at b e → IsGoodEnd e
+    at : (e : End) → account d ≡ account_at b e → IsGoodEnd e
     at between h = tt
     at inside h = tt
-    at (faulted c place) h = absurd (apart (record { code = Why.Stream c; place = place }) (sym (ap (λ (s : Standing). s.fault) h) ∙ good))
+    at (faulted c place) h = absurd (apart (record { code = Why.Stream c; place = place }) (sym (ap (λ (s : Account). s.fault) h) ∙ good))
 
 -- between two messages
-pub ends_between : (t : Tree) (l : Limits) (d : DecoderData) (b : List ℕ) (es : List EventData) → EndsWell t l d b es → (standing d).is_between ≡ true → Stream t l b es between
-ends_between t l d b es w told = at w.end w.stream w.good (sym (ap (λ (s : Standing). s.is_between) w.tells) ∙ told)
+pub ends_between : (t : Tree) (l : Limits) (d : DecoderData) (b : List ℕ) (es : List EventData) → EndsWell t l d b es → (account d).is_between ≡ true → Stream t l b es between
+ends_between t l d b es w told = at w.end w.stream w.good (sym (ap (λ (s : Account). s.is_between) w.tells) ∙ told)
   where
-    at : (e : End) → Stream t l b es e → IsGoodEnd e → (standing_at b e).is_between ≡ true → Stream t l b es between
+    at : (e : End) → Stream t l b es e → IsGoodEnd e → (account_at b e).is_between ≡ true → Stream t l b es between
     at between s good h = s
     at inside s good h = absurd (cc)
     at (faulted c place) s good h = absurd good
 
 -- inside a message
-pub ends_inside : (t : Tree) (l : Limits) (d : DecoderData) (b : List ℕ) (es : List EventData) → EndsWell t l d b es → (standing d).is_between ≡ false → Stream t l b es inside
-ends_inside t l d b es w told = at w.end w.stream w.good (sym (ap (λ (s : Standing). s.is_between) w.tells) ∙ told)
+pub ends_inside : (t : Tree) (l : Limits) (d : DecoderData) (b : List ℕ) (es : List EventData) → EndsWell t l d b es → (account d).is_between ≡ false → Stream t l b es inside
+ends_inside t l d b es w told = at w.end w.stream w.good (sym (ap (λ (s : Account). s.is_between) w.tells) ∙ told)
   where
-    at : (e : End) → Stream t l b es e → IsGoodEnd e → (standing_at b e).is_between ≡ false → Stream t l b es inside
+    at : (e : End) → Stream t l b es e → IsGoodEnd e → (account_at b e).is_between ≡ false → Stream t l b es inside
     at between s good h = absurd (cc)
     at inside s good h = s
     at (faulted c place) s good h = absurd good
 
 -- the count of the bytes
-pub counts_all : (t : Tree) (l : Limits) (d : DecoderData) (b : List ℕ) (es : List EventData) → EndsWell t l d b es → (standing d).consumed ≡ length b
-counts_all t l d b es w = ap (λ (s : Standing). s.consumed) w.tells ∙ at w.end w.good
+pub counts_all : (t : Tree) (l : Limits) (d : DecoderData) (b : List ℕ) (es : List EventData) → EndsWell t l d b es → (account d).consumed ≡ length b
+counts_all t l d b es w = ap (λ (s : Account). s.consumed) w.tells ∙ at w.end w.good
   where
-    at : (e : End) → IsGoodEnd e → (standing_at b e).consumed ≡ length b
+    at : (e : End) → IsGoodEnd e → (account_at b e).consumed ≡ length b
     at between good = refl
     at inside good = refl
     at (faulted c place) good = absurd good
 
 -- at a fault of the stream
-pub ends_at_fault : (t : Tree) (l : Limits) (d : DecoderData) (b : List ℕ) (es : List EventData) (f : Fault) (c : Code) → tree d ≡ t → d.limits ≡ l → So d b es → d.fault ≡ Some f → f.code ≡ Why.Stream c → Stream t l b es (faulted c f.place)
+pub ends_at_fault : (t : Tree) (l : Limits) (d : DecoderData) (b : List ℕ) (es : List EventData) (f : Fault) (c : Code) → tree d ≡ t → d.limits ≡ l → HasRead d b es → d.fault ≡ Some f → f.code ≡ Why.Stream c → Stream t l b es (faulted c f.place)
 ends_at_fault t l d b es f c set limits so fault code =
-    let s = so-stream d b es so in
-    rw (← set, ← limits) (at s.0 s.1 (sym (ap (λ (s : Standing). s.fault) s.2) ∙ fault))
+    let s = read-stream d b es so in
+    rw (← set, ← limits) (at s.0 s.1 (sym (ap (λ (s : Account). s.fault) s.2) ∙ fault))
   where
-    at : (e : End) → Stream (tree d) d.limits b es e → (standing_at b e).fault ≡ Some f → Stream (tree d) d.limits b es (faulted c f.place)
+    at : (e : End) → Stream (tree d) d.limits b es e → (account_at b e).fault ≡ Some f → Stream (tree d) d.limits b es (faulted c f.place)
     at between s h = absurd (cc)
     at inside s h = absurd (cc)
     at (faulted k place) s h =
@@ -203,7 +203,7 @@ bad_end_ends t l hex s text b es held failed place p bad =
     record { out = []; written = appends_none held; shown = (b, es, e.end, record { bytes = at; stream = e.stream }, e.good, nothing_more (lines t es), inr tt); told = inr refl }
 
 -- a good end
-pub good_ends : (t : Tree) (l : Limits) (hex : Bool) (s : Show) (text b : List ℕ) (es : List EventData) (held : Option (List ℕ)) (failed : Bool) → Progress t l hex s text b es → StandsFor (is_some s.unhexer) text b None → (standing s.decoder).is_between ≡ true
+pub good_ends : (t : Tree) (l : Limits) (hex : Bool) (s : Show) (text b : List ℕ) (es : List EventData) (held : Option (List ℕ)) (failed : Bool) → Progress t l hex s text b es → StandsFor (is_some s.unhexer) text b None → (account s.decoder).is_between ≡ true
     → Ended t l hex (Unit {0}) text es (unchanged held failed) (Ok Good)
 good_ends t l hex s text b es held failed p bytes told =
     let e = stream_of t l hex s text b es p in
@@ -211,7 +211,7 @@ good_ends t l hex s text b es held failed p bytes told =
     record { out = []; written = appends_none held; shown = (b, es, record { bytes = at; stream = ends_between t l s.decoder b es e told }, nothing_more (lines t es), tt); told = inr refl }
 
 -- an end inside a message
-pub truncated_ends : (t : Tree) (l : Limits) (hex : Bool) (s : Show) (text b : List ℕ) (es : List EventData) (w : Change) (n : ℕ) → Progress t l hex s text b es → StandsFor (is_some s.unhexer) text b None → (standing s.decoder).is_between ≡ false → n ≡ (standing s.decoder).consumed
+pub truncated_ends : (t : Tree) (l : Limits) (hex : Bool) (s : Show) (text b : List ℕ) (es : List EventData) (w : Change) (n : ℕ) → Progress t l hex s text b es → StandsFor (is_some s.unhexer) text b None → (account s.decoder).is_between ≡ false → n ≡ (account s.decoder).consumed
     → Appends w.held w.holds (truncated_line n) → w.has_failed ≡ w.had_failed → Ended t l hex (Unit {0}) text es w (Ok (Truncated n))
 truncated_ends t l hex s text b es w n p bytes told count line stays =
     let e = stream_of t l hex s text b es p in
@@ -219,7 +219,7 @@ truncated_ends t l hex s text b es w n p bytes told count line stays =
     record { out = truncated_line n; written = line; shown = (b, es, record { bytes = at; stream = ends_inside t l s.decoder b es e told }, count ∙ counts_all t l s.decoder b es e, refl, tt); told = inr stays }
 
 -- an end inside a message, where the writer fails in its line
-pub truncated_fails : (t : Tree) (l : Limits) (hex : Bool) (s : Show) (text b : List ℕ) (es : List EventData) (w : Change) (n : ℕ) → Progress t l hex s text b es → StandsFor (is_some s.unhexer) text b None → (standing s.decoder).is_between ≡ false → n ≡ (standing s.decoder).consumed
+pub truncated_fails : (t : Tree) (l : Limits) (hex : Bool) (s : Show) (text b : List ℕ) (es : List EventData) (w : Change) (n : ℕ) → Progress t l hex s text b es → StandsFor (is_some s.unhexer) text b None → (account s.decoder).is_between ≡ false → n ≡ (account s.decoder).consumed
     → AppendsFront w.held w.holds (truncated_line n) → IsTrue w.has_failed → Ended t l hex (Unit {0}) text es w (Err Write)
 truncated_fails t l hex s text b es w n p bytes told count line failed =
     let e = stream_of t l hex s text b es p in

@@ -5,12 +5,12 @@ use Rattle.toml.specs.Parse.{parse_document}
 use Rattle.fast_notation.specs.declared.codes.StaticCode.{StaticCode}
 use Rattle.fast_notation.specs.declared.codes.StaticCode.TheVariants.{S1, S2, S3, S4, S5, D8, C1, C2, C3, C4, C5, C6, Memory as NoMemory}
 use Rattle.fast_notation.specs.declared.codes.StaticFault.{StaticFault}
-use Rattle.fast_notation.specs.FivePasses.{IsAtFault}
-use Rattle.fast_notation.specs.Firsts.{IsFirstFault}
-use Rattle.fast_text.specs.Streams.{Reads}
-use Rattle.fast_command.specs.Report.{refused_by}
-use Rattle.fast_command.specs.Sets.{IsSetRefused}
-use Rattle.fast_command.specs.Texts.{text_limit}
+use Rattle.fast_notation.specs.meaning.FivePasses.{IsAtFault}
+use Rattle.fast_notation.specs.meaning.Firsts.{IsFirstFault}
+use Rattle.fast_text.specs.meaning.Streams.{Reads}
+use Rattle.fast_command.specs.meaning.Report.{refused_by}
+use Rattle.fast_command.specs.device.Sets.{IsSetRefused}
+use Rattle.fast_command.specs.meaning.Texts.{text_limit}
 
 -- all of a text was read, and it is refused with a code
 pub refused_set : (left_old left_new : Option (List ℕ)) (HasFailed : Type 0) (text : List ℕ) (f : StaticFault) → Reads left_old left_new text → IsAtEnd left_new → length text ≤ text_limit

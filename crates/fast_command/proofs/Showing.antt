@@ -2,15 +2,15 @@
 use Rattle.std.proofs.Common.{◌≡◌, ◌⊎◌, ℕ, ◌+◌, ◌*◌, ◌<◌, ◌≤◌, ◌^◌, Bool, true, false, List, [], ◌++◌, Option, Some, None, Result, Ok, Err, refl, ap, sym, ◌∙◌, inl, inr, length, length-append, arith, append-nil}
 use Rattle.std.specs.Prelude.{IsTrue, OnOk, OnErr, is_err}
 use Rattle.fast_value.specs.declared.settings.Limits.{Limits}
-use Rattle.fast_tree.specs.Tree.{Tree}
+use Rattle.fast_tree.specs.meaning.Tree.{Tree}
 use Rattle.fast_stream.specs.declared.faults.MakeError.{MakeError}
 use Rattle.fast_stream.specs.declared.faults.MakeError.TheVariants as Why
 use Rattle.fast_stream.specs.declared.faults.FaultCode.{FaultCode}
-use Rattle.fast_stream.specs.Events.{EventData}
-use Rattle.fast_stream.specs.Streams.{between, inside, faulted}
-use Rattle.fast_decoder.specs.Decoding.{standing}
-use Rattle.fast_lines.specs.Lines.{lines}
-use Rattle.fast_text.specs.Streams.{Reads, Appends}
+use Rattle.fast_stream.specs.meaning.Events.{EventData}
+use Rattle.fast_stream.specs.meaning.Streams.{between, inside, faulted}
+use Rattle.fast_decoder.specs.meaning.Decoding.{account}
+use Rattle.fast_lines.specs.meaning.Lines.{lines}
+use Rattle.fast_text.specs.meaning.Streams.{Reads, Appends}
 use Rattle.fast_text.proofs.Writing.{appends_none, appends_both, appends_no_more, reads_none, reads_both, reads_no_more}
 use Rattle.fast_command.specs.declared.unhexer.Unhexer.{Unhexer}
 use Rattle.fast_command.specs.declared.show.Show.{Show}
@@ -18,9 +18,9 @@ use Rattle.fast_command.specs.declared.faults.ShowEnd.{ShowEnd}
 use Rattle.fast_command.specs.declared.faults.ShowEnd.TheVariants.{Good, Faulted, Truncated}
 use Rattle.fast_command.specs.declared.faults.RunFault.{RunFault}
 use Rattle.fast_command.specs.declared.faults.RunFault.TheVariants.{Read, Write, BadHex, Templates as Refused, Make, Text, Encode, Memory}
-use Rattle.fast_command.specs.Showing.{IsShown, StandsFor, refusal_of, has_begun}
-use Rattle.fast_command.specs.Closing.{fault_line, truncated_line, closing}
-use Rattle.fast_command.specs.Progress.{HasRoom, IsTaken, Progress, Change, GoesOn, Ended}
+use Rattle.fast_command.specs.meaning.Showing.{IsShown, StandsFor, refusal_of, has_begun}
+use Rattle.fast_command.specs.meaning.Closing.{fault_line, truncated_line, closing}
+use Rattle.fast_command.specs.device.Progress.{HasRoom, IsTaken, Progress, Change, GoesOn, Ended}
 use Rattle.fast_command.proofs.Lined.{lines-append}
 use Rattle.fast_command.proofs.Progressing.{ends_well, counts_all, stands_for, bytes_fewer}
 
@@ -135,7 +135,7 @@ run_ended t l hex R s reads A AtEnd HasFailed ReadsNoMore left_first left_old le
 )
 
 -- the run can count what comes
-pub round_counts : (t : Tree) (l : Limits) (hex : Bool) (s : Show) (reads max n : ℕ) (left_first left_now held holds : Option (List ℕ)) → Round t l hex s reads left_first left_now held holds → reads < max → max ≤ 2 ^ 40 → n ≤ 4096 → (standing s.decoder).consumed + n < 2 ^ 64
+pub round_counts : (t : Tree) (l : Limits) (hex : Bool) (s : Show) (reads max n : ℕ) (left_first left_now held holds : Option (List ℕ)) → Round t l hex s reads left_first left_now held holds → reads < max → max ≤ 2 ^ 40 → n ≤ 4096 → (account s.decoder).consumed + n < 2 ^ 64
 round_counts t l hex s reads max n left_first left_now held holds h more max_small small =
     let p = h.progress in
     let e = counts_all t l s.decoder h.bytes h.events (ends_well t l s.decoder h.bytes h.events p.set p.limits p.so p.good) in

@@ -2,11 +2,11 @@
 use Rattle.std.proofs.Common.{◌≡◌, ℕ, ◌+◌, ◌*◌, Bool, cond, List, [], ◌∷◌, ◌++◌, length, refl, ap, ◌∙◌, inl, inr, append_assoc, append-nil}
 use Rattle.std.specs.Prelude.{All, filter}
 use Rattle.std.proofs.lemmas.List.Elements.{All-append, All-cons, All-nil, filter-append}
-use Rattle.fast_value.specs.Initial.{IsHex, IsHexDigit}
-use Rattle.fast_lines.specs.Hex.{IsBlank, IsHexOrBlank, digits_in}
+use Rattle.fast_value.specs.meaning.Initial.{IsHex, IsHexDigit}
+use Rattle.fast_lines.specs.meaning.Hex.{IsBlank, IsHexOrBlank, digits_in}
 use Rattle.fast_command.specs.declared.unhexer.Place.{Place}
 use Rattle.fast_command.specs.declared.unhexer.Place.TheVariants.{Between, InPair, Bad}
-use Rattle.fast_command.specs.Unhexing.{StandsAt}
+use Rattle.fast_command.specs.device.Unhexing.{StandsAt}
 use Rattle.fast_command.proofs.Characters.{is_shown, blank_dropped, digit_shown}
 
 -- one of the two more

@@ -1,10 +1,2 @@
-pub mod Unhexing
-pub mod Closing
-pub mod Showing
-pub mod Progress
-pub mod Report
-pub mod Checking
-pub mod Texts
-pub mod Plans
-pub mod Words
-pub mod Sets
+pub mod device
+pub mod meaning

@@ -1,10 +1,10 @@
 //! Says how large a template set is.
 
 ghost use Rattle.std.specs.Prelude.{◌≡◌, IsTrue, IfErr, OnOk, OnErr};
-ghost use Rattle.fast_template.specs.Flat.{tree_of};
-ghost use Rattle.fast_text.specs.LineWriter.{Writes};
-ghost use Rattle.fast_text.specs.Streams.{Appends, AppendsFront};
-ghost use Rattle.fast_command.specs.Checking.{number_line, set_lines};
+ghost use Rattle.fast_template.specs.meaning.Flat.{tree_of};
+ghost use Rattle.fast_text.specs.device.LineWriter.{Writes};
+ghost use Rattle.fast_text.specs.meaning.Streams.{Appends, AppendsFront};
+ghost use Rattle.fast_command.specs.meaning.Checking.{number_line, set_lines};
 
 use crate::faults::RunFault;
 use fast_template::Templates;

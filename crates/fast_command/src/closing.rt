@@ -1,8 +1,8 @@
 //! The line that closes what is shown of a stream.
 
 ghost use Rattle.std.specs.Prelude.{◌≡◌, IsTrue, OnOk, OnErr};
-ghost use Rattle.fast_text.specs.Streams.{Appends, AppendsFront};
-ghost use Rattle.fast_command.specs.Closing.{fault_line, truncated_line};
+ghost use Rattle.fast_text.specs.meaning.Streams.{Appends, AppendsFront};
+ghost use Rattle.fast_command.specs.meaning.Closing.{fault_line, truncated_line};
 
 use fast_decoder::Fault;
 use fast_text::{Failed, LineWriter, Room, Target};

@@ -1,7 +1,7 @@
 //! How a run ends.
 
 ghost use Rattle.std.specs.Prelude.{◌≡◌};
-ghost use Rattle.fast_command.specs.Report.{status_of};
+ghost use Rattle.fast_command.specs.meaning.Report.{status_of};
 
 use fast_decoder::{Fault, MakeError};
 use fast_reading::faults::LineFault;
@@ -79,7 +79,7 @@ pub enum RunFault {
 
 impl From<StaticFault> for RunFault {
     ghost use Rattle.std.specs.Prelude.{◌≡◌};
-    ghost use Rattle.fast_command.specs.Report.{refused};
+    ghost use Rattle.fast_command.specs.meaning.Report.{refused};
 
     ghost from_gives = { λ fault answer. answer ≡ refused fault };
 

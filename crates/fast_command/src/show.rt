@@ -1,17 +1,17 @@
 //! Shows a stream as lines.
 
 ghost use Rattle.std.specs.Prelude.{◌≡◌, ◌⊎◌, ◌↔◌, ℕ, ◌+◌, ◌<◌, ◌≤◌, ◌^◌, List, [], ◌++◌, Bool, IsTrue, Err, IfErr, length, is_some, IfOk, IfSome, IfNone, All, MatchOption};
-ghost use Rattle.fast_tree.specs.Tree.{Tree};
-ghost use Rattle.fast_template.specs.Flat.{tree_of};
+ghost use Rattle.fast_tree.specs.meaning.Tree.{Tree};
+ghost use Rattle.fast_template.specs.meaning.Flat.{tree_of};
 ghost use Rattle.fast_value.specs.declared.settings.Limits.{Limits};
-ghost use Rattle.fast_stream.specs.Events.{EventData};
-ghost use Rattle.fast_decoder.specs.Decoding.{So, standing, tree, answer, AreBadLimits};
+ghost use Rattle.fast_stream.specs.meaning.Events.{EventData};
+ghost use Rattle.fast_decoder.specs.meaning.Decoding.{HasRead, account, tree, answer, AreBadLimits};
 ghost use Rattle.std.specs.Io.KnownBytes.{IsAtEnd};
-ghost use Rattle.fast_text.specs.Fronts.{set_of};
-ghost use Rattle.fast_text.specs.Streams.{Reads, Appends};
-ghost use Rattle.fast_lines.specs.Hex.{IsHexOrBlank};
-ghost use Rattle.fast_command.specs.Showing.{IsShown, IsRefusal, StandsFor, refusal_of, has_begun};
-ghost use Rattle.fast_command.specs.Progress.{HasRoom, IsTaken, Progress, GoesOn, Ended, IsFed, IsBadPlace, IsClosedAt, changed};
+ghost use Rattle.fast_text.specs.device.Fronts.{set_of};
+ghost use Rattle.fast_text.specs.meaning.Streams.{Reads, Appends};
+ghost use Rattle.fast_lines.specs.meaning.Hex.{IsHexOrBlank};
+ghost use Rattle.fast_command.specs.meaning.Showing.{IsShown, IsRefusal, StandsFor, refusal_of, has_begun};
+ghost use Rattle.fast_command.specs.device.Progress.{HasRoom, IsTaken, Progress, GoesOn, Ended, IsFed, IsBadPlace, IsClosedAt, changed};
 
 use crate::closing::{write_fault, write_truncated};
 use crate::faults::{RunFault, ShowEnd};
@@ -80,9 +80,9 @@ fn feed<T: Target>(
     bytes: &[u8],
     writer: &mut T,
 ) -> Result<(), Fault>
-    requires { (standing decoder.old).consumed + length bytes.now < 2 ^ 64 }
+    requires { (account decoder.old).consumed + length bytes.now < 2 ^ 64 }
     ensures fed { (b : List ℕ) (es : List EventData) → tree decoder.old ≡ tree_of (set_of fronts.now).now
-        → So decoder.old b es
+        → HasRead decoder.old b es
         → IsFed (tree_of (set_of fronts.now).now) decoder.old.limits b es bytes.now decoder.new
         (changed T.written T.has_failed writer.old writer.new) result }
     ensures answer { result ≡ answer decoder.new.fault }
@@ -145,7 +145,7 @@ impl<'a> Show<'a> {
     /// Takes a piece of the input and writes the lines of what it gives, and answers how the run ends if it ends here.
     fn take<T: Target>(&mut self, piece: &[u8], writer: &mut T) -> Option<Result<ShowEnd, RunFault>>
         requires few { length piece.now ≤ READ_SIZE }
-        requires counted { (standing self.old.decoder).consumed + length piece.now < 2 ^ 64 }
+        requires counted { (account self.old.decoder).consumed + length piece.now < 2 ^ 64 }
         requires room { HasRoom self.old.unhexer (length piece.now) }
         ensures { (t : Tree) (l : Limits) (hex : Bool) (text b : List ℕ) (es : List EventData)
             → Progress t l hex self.old text b es →

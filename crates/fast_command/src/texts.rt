@@ -2,8 +2,8 @@
 
 ghost use Rattle.std.specs.Prelude.{◌≡◌, ◌⊎◌, ◌≤◌, length, Err, IfOk, IfErr, IsTrue};
 ghost use Rattle.std.specs.Io.KnownBytes.{IsAtEnd};
-ghost use Rattle.fast_text.specs.Streams.{Reads};
-ghost use Rattle.fast_command.specs.Texts.{IsUnread};
+ghost use Rattle.fast_text.specs.meaning.Streams.{Reads};
+ghost use Rattle.fast_command.specs.meaning.Texts.{IsUnread};
 
 use crate::faults::RunFault;
 use fast_text::Source;

@@ -3,8 +3,8 @@
 ghost use Rattle.std.specs.Prelude.{◌≡◌, Some, IfOk};
 ghost use Rattle.toml.specs.Data.{Members};
 ghost use Rattle.toml.specs.Parse.{parse_document};
-ghost use Rattle.fast_notation.specs.Checked.{IsTree};
-ghost use Rattle.fast_template.specs.Flat.{tree_of};
+ghost use Rattle.fast_notation.specs.meaning.Checked.{IsTree};
+ghost use Rattle.fast_template.specs.meaning.Flat.{tree_of};
 
 pub use fast_template::VECTORS;
 use fast_template::{StaticFault, Templates};

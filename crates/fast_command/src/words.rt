@@ -7,7 +7,7 @@ ghost use Rattle.clap.specs.Faults.{fault_of};
 ghost use Rattle.clap.specs.Kinds.{FailsBy};
 ghost use Rattle.clap.specs.declared.builder.command.Command.TheViews.{out-Command};
 ghost use Rattle.clap.specs.Matches.{found_of};
-ghost use Rattle.fast_command.specs.Words.{number_rule, flag_rule, templates_rule, input_rule, with_limits, with_options, check_app, show_app, convert_app, fastcat_app, MakesApp, task_named, IsPlanOf, IsNumberAt};
+ghost use Rattle.fast_command.specs.meaning.Words.{number_rule, flag_rule, templates_rule, input_rule, with_limits, with_options, check_app, show_app, convert_app, fastcat_app, MakesApp, task_named, IsPlanOf, IsNumberAt};
 
 use crate::plans::{BUILT_IN, Plan, Task};
 use clap::{Arg, ArgAction, ArgMatches, Command, Error, value_parser};

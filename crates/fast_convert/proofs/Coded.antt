@@ -5,19 +5,19 @@ use Rattle.std.proofs.lemmas.List.{take_more, take-append-drop, map-append, leng
 use Rattle.std.proofs.lemmas.Grind.{flat_map-append}
 use Rattle.fast_value.specs.declared.settings.Limits.{Limits}
 use Rattle.fast_value.specs.declared.messages.Message.{Message}
-use Rattle.fast_value.specs.Messages.{MessageData}
-use Rattle.fast_value.specs.Views.{message_data}
-use Rattle.fast_tree.specs.Tree.{Tree}
-use Rattle.fast_dict.specs.Dictionary.{Dictionary}
+use Rattle.fast_value.specs.meaning.Messages.{MessageData}
+use Rattle.fast_value.specs.meaning.Views.{message_data}
+use Rattle.fast_tree.specs.meaning.Tree.{Tree}
+use Rattle.fast_dict.specs.meaning.Dictionary.{Dictionary}
 use Rattle.fast_spelling.specs.declared.faults.EncodeFault.{EncodeFault}
 use Rattle.fast_spelling.specs.declared.faults.EncodeFault.TheVariants as Fault
-use Rattle.fast_spelling.specs.Refusals.{IsRefused}
-use Rattle.fast_text.specs.Streams.{Appends, AppendsFront}
+use Rattle.fast_spelling.specs.meaning.Refusals.{IsRefused}
+use Rattle.fast_text.specs.meaning.Streams.{Appends, AppendsFront}
 use Rattle.fast_text.proofs.Writing.{appends_both, front_of_second}
 use Rattle.fast_command.specs.declared.faults.RunFault.TheVariants.{Write, Encode, Memory}
-use Rattle.fast_decoder.specs.Positions.{Set, tree_in}
-use Rattle.fast_encoder.specs.Encoders.{EncoderData, IsEncoded, IsToldOf, tree}
-use Rattle.fast_convert.specs.Converting.{form, IsCoded, AreCoded, AreWritten}
+use Rattle.fast_decoder.specs.device.Positions.{Set, tree_in}
+use Rattle.fast_encoder.specs.meaning.Encoders.{EncoderData, IsEncoded, IsToldOf, tree}
+use Rattle.fast_convert.specs.meaning.Converting.{form, IsCoded, AreCoded, AreWritten}
 
 -- So many messages are encoded, and their bytes are written.
 pub record IsSoFar (t : Tree) (l : Limits) (hex : Bool) (d : Dictionary) (ms : List Message) (n : ℕ) (held holds : Option (List ℕ)) (next : Dictionary) : Type 0 where

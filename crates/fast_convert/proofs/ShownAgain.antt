@@ -6,26 +6,26 @@ use Rattle.std.proofs.lemmas.Bool.Decides.{nat_tests}
 use Rattle.std.proofs.lemmas.Grind.{flat_map-append}
 use Rattle.std.proofs.lemmas.List.Elements.{filter-append}
 use Rattle.fast_value.specs.declared.settings.Limits.{Limits}
-use Rattle.fast_value.specs.Initial.{IsHex, IsHexDigit}
-use Rattle.fast_value.specs.Limits.{in_mode}
-use Rattle.fast_value.specs.Messages.{MessageData}
-use Rattle.fast_tree.specs.Tree.{Tree}
+use Rattle.fast_value.specs.meaning.Initial.{IsHex, IsHexDigit}
+use Rattle.fast_value.specs.meaning.Limits.{in_mode}
+use Rattle.fast_value.specs.meaning.Messages.{MessageData}
+use Rattle.fast_tree.specs.meaning.Tree.{Tree}
 use Rattle.fast_template.specs.declared.sets.Templates.{Templates}
-use Rattle.fast_template.specs.Flat.{tree_of}
-use Rattle.fast_dict.specs.Dictionary.{Dictionary, fresh}
-use Rattle.fast_stream.specs.Events.{EventData, events}
-use Rattle.fast_stream.specs.Streams.{End, Stream, Chain, between}
-use Rattle.fast_stream.proofs.Reading.{one_answer, read_back}
-use Rattle.fast_lines.specs.Hex.{digits_in}
-use Rattle.fast_lines.specs.Lines.{hex_digit, hex_byte, lines}
-use Rattle.fast_reading.specs.Reading.{closed}
-use Rattle.fast_text.specs.Streams.{Appends}
+use Rattle.fast_template.specs.meaning.Flat.{tree_of}
+use Rattle.fast_dict.specs.meaning.Dictionary.{Dictionary, fresh}
+use Rattle.fast_stream.specs.meaning.Events.{EventData, events}
+use Rattle.fast_stream.specs.meaning.Streams.{End, Stream, Chain, between}
+use Rattle.fast_stream.proofs.streams.Reading.{one_answer, read_back}
+use Rattle.fast_lines.specs.meaning.Hex.{digits_in}
+use Rattle.fast_lines.specs.meaning.Lines.{hex_digit, hex_byte, lines}
+use Rattle.fast_reading.specs.meaning.Reading.{closed}
+use Rattle.fast_text.specs.meaning.Streams.{Appends}
 use Rattle.fast_command.specs.declared.faults.ShowEnd.{ShowEnd}
 use Rattle.fast_command.specs.declared.faults.ShowEnd.TheVariants.{Good, Faulted, Truncated}
 use Rattle.fast_command.specs.declared.faults.RunFault.{RunFault}
 use Rattle.fast_command.specs.declared.faults.RunFault.TheVariants.{Read, Write, BadHex, Templates as Refused, Make, Text, Encode, Memory}
-use Rattle.fast_convert.specs.Converting.{form, AreCoded, IsConverted}
-use Rattle.fast_convert.specs.ThereAndBack.{IsShownAgain, IsRunOfShow, IsBack, IsBackInDigits}
+use Rattle.fast_convert.specs.meaning.Converting.{form, AreCoded, IsConverted}
+use Rattle.fast_convert.specs.meaning.ThereAndBack.{IsShownAgain, IsRunOfShow, IsBack, IsBackInDigits}
 
 -- messages that are encoded one after the other, behind others
 coded_chain : (t : Tree) (l : Limits) (mode : Bool) (d : Dictionary) (ms : List MessageData) (ws : List (List ℕ)) (next : Dictionary) (w : List ℕ) (es : List EventData) → AreCoded t l d ms ws next

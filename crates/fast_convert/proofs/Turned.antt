@@ -1,18 +1,18 @@
 -- From what is written of messages to what a run has done.
 use Rattle.std.proofs.Common.{◌≡◌, ℕ, Bool, List, [], Option, Result, Ok, Err, inr, append-nil, sym, subst}
 use Rattle.fast_value.specs.declared.settings.Limits.{Limits}
-use Rattle.fast_value.specs.Messages.{MessageData}
-use Rattle.fast_tree.specs.Tree.{Tree}
+use Rattle.fast_value.specs.meaning.Messages.{MessageData}
+use Rattle.fast_tree.specs.meaning.Tree.{Tree}
 use Rattle.fast_template.specs.declared.sets.Templates.{Templates}
-use Rattle.fast_template.specs.Flat.{tree_of}
-use Rattle.fast_dict.specs.Dictionary.{Dictionary, fresh}
-use Rattle.fast_text.specs.Streams.{Appends, AppendsFront}
+use Rattle.fast_template.specs.meaning.Flat.{tree_of}
+use Rattle.fast_dict.specs.meaning.Dictionary.{Dictionary, fresh}
+use Rattle.fast_text.specs.meaning.Streams.{Appends, AppendsFront}
 use Rattle.fast_text.proofs.Writing.{appends_no_more}
 use Rattle.fast_command.specs.declared.faults.RunFault.{RunFault}
 use Rattle.fast_command.specs.declared.faults.RunFault.TheVariants.{Read, Write, BadHex, Templates as Refused, Make, Text, Encode, Memory}
-use Rattle.fast_encoder.specs.Encoders.{EncoderData, tree}
-use Rattle.fast_reading.specs.Reading.{Says}
-use Rattle.fast_convert.specs.Converting.{AreWritten, IsWhole, IsTurned, IsConverted}
+use Rattle.fast_encoder.specs.meaning.Encoders.{EncoderData, tree}
+use Rattle.fast_reading.specs.meaning.Reading.{Says}
+use Rattle.fast_convert.specs.meaning.Converting.{AreWritten, IsWhole, IsTurned, IsConverted}
 
 -- what the target keeps is handed on
 pub handed_on : (t : Tree) (l : Limits) (hex : Bool) (d : Dictionary) (ms : List MessageData) (o mid n : Option (List ℕ)) (F F' : Type 0) (r : Result (Unit {0}) RunFault) → Appends mid n [] → (F → F')

@@ -1,2 +1,1 @@
-pub mod Converting
-pub mod ThereAndBack
+pub mod meaning

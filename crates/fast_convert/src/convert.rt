@@ -2,14 +2,14 @@
 
 ghost use Rattle.std.specs.Prelude.{◌≡◌, ◌⊎◌, map, Err, IsTrue, OnOk, OnErr};
 ghost use Rattle.std.specs.Io.KnownBytes.{IsAtEnd};
-ghost use Rattle.fast_value.specs.Views.{message_data};
-ghost use Rattle.fast_template.specs.Flat.{tree_of};
-ghost use Rattle.fast_dict.specs.Dictionary.{fresh};
-ghost use Rattle.fast_decoder.specs.Decoding.{AreBadLimits};
-ghost use Rattle.fast_encoder.specs.Encoders.{tree};
-ghost use Rattle.fast_text.specs.Streams.{Appends, AppendsFront};
-ghost use Rattle.fast_command.specs.Showing.{IsRefusal};
-ghost use Rattle.fast_convert.specs.Converting.{form, AreWritten, IsConverted};
+ghost use Rattle.fast_value.specs.meaning.Views.{message_data};
+ghost use Rattle.fast_template.specs.meaning.Flat.{tree_of};
+ghost use Rattle.fast_dict.specs.meaning.Dictionary.{fresh};
+ghost use Rattle.fast_decoder.specs.meaning.Decoding.{AreBadLimits};
+ghost use Rattle.fast_encoder.specs.meaning.Encoders.{tree};
+ghost use Rattle.fast_text.specs.meaning.Streams.{Appends, AppendsFront};
+ghost use Rattle.fast_command.specs.meaning.Showing.{IsRefusal};
+ghost use Rattle.fast_convert.specs.meaning.Converting.{form, AreWritten, IsConverted};
 
 use fast_command::show::refusal;
 use fast_command::{RunFault, read_whole};

@@ -3,8 +3,8 @@
 ghost use Rattle.std.specs.Prelude.{ℕ, true, false, List, Bool, IsTrue, Option, Ok};
 ghost use Rattle.fast_value.specs.declared.settings.Limits.{Limits};
 ghost use Rattle.fast_template.specs.declared.sets.Templates.{Templates};
-ghost use Rattle.fast_convert.specs.Converting.{IsConverted};
-ghost use Rattle.fast_convert.specs.ThereAndBack.{IsBack, IsBackInDigits};
+ghost use Rattle.fast_convert.specs.meaning.Converting.{IsConverted};
+ghost use Rattle.fast_convert.specs.meaning.ThereAndBack.{IsBack, IsBackInDigits};
 
 /// What `run_convert` wrote of a text, all of it, `run_show` shows as the lines of that text, under the same limits and in both modes.
 pub fn converted_is_shown_again()

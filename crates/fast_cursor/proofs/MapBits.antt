@@ -1,7 +1,7 @@
 -- The bits of a map, one after the other.
 use Rattle.std.proofs.Common.{refl, arith}
 use Rattle.std.specs.Prelude.{◌≡◌, ℕ, zero, suc, ◌*◌, Bool, List, [], ◌∷◌, length, drop}
-use Rattle.fast_wire.specs.Maps.{bits, later_bits}
+use Rattle.fast_wire.specs.meaning.Maps.{bits, later_bits}
 
 -- seven of each byte
 pub length-bits : (w : List ℕ) → length (bits w) ≡ 7 * length w

@@ -4,7 +4,7 @@ use Rattle.std.specs.Prelude.{◌≡◌, ℕ, ◌+◌, ◌<◌, List, [], ◌∷
 use Rattle.std.proofs.Common.{get_or}
 use Rattle.std.proofs.lemmas.List.{take_more}
 use Rattle.std.proofs.lemmas.List.Elements.{All-push}
-use Rattle.fast_wire.specs.Entities.{HaveNoStop}
+use Rattle.fast_wire.specs.meaning.Entities.{HaveNoStop}
 
 -- The bytes up to the next one of a list.
 pub next_byte : (front rest : List ℕ) (i : ℕ) → i < length rest → (front ++ take i rest) ++ get_or rest i 0 ∷ [] ≡ front ++ take (i + 1) rest

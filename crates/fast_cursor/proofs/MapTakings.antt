@@ -2,12 +2,12 @@
 use Rattle.std.proofs.Common.{refl, sym, ap, subst, ◌∙◌, arith, get_or}
 use Rattle.std.specs.Prelude.{◌≡◌, ℕ, ◌+◌, ◌<◌, ◌≤◌, List, [], ◌∷◌, ◌++◌, length, take}
 use Rattle.std.proofs.lemmas.List.{length-append, length-take-le}
-use Rattle.fast_wire.specs.Entities.{HaveNoStop, IsEntity}
+use Rattle.fast_wire.specs.meaning.Entities.{HaveNoStop, IsEntity}
 use Rattle.fast_cursor.specs.declared.pending.MapFront.{MapFront}
 use Rattle.fast_cursor.specs.declared.pending.MapFront.TheVariants.{Whole, TooLong, Cut}
-use Rattle.fast_cursor.specs.Pending.{IsNextMap}
-use Rattle.fast_cursor.specs.MapTaking.{IsMapTaken}
-use Rattle.fast_cursor.specs.Segments.{map_at}
+use Rattle.fast_cursor.specs.device.Pending.{IsNextMap}
+use Rattle.fast_cursor.specs.device.MapTaking.{IsMapTaken}
+use Rattle.fast_cursor.specs.device.Segments.{map_at}
 use Rattle.fast_cursor.proofs.Segments.{IsFilled}
 
 pub taken-whole : (front cells rest after old now : List ℕ) (len n start : ℕ) → take len cells ≡ front → length front ≡ len → IsFilled old start after now → IsNextMap len cells rest after (Whole n)

@@ -6,11 +6,11 @@ use Rattle.std.proofs.lemmas.Bool.{cases_lt, le-leb}
 use Rattle.std.proofs.lemmas.Nat.{pow-add, pow_pos, mul-mod_first, shl_whole}
 use Rattle.std.proofs.lemmas.Grind.{flat_map-append}
 use Rattle.std.proofs.Math.Nat.{mul-lt-mul_of_pos_right, add-mul, mul_assoc, mod-lt, pow-suc}
-use Rattle.fast_wire.specs.Entities.{number}
-use Rattle.fast_wire.specs.Maps.{map_limit, bits, seven_bits, later_bits}
-use Rattle.fast_wire.proofs.Judging.{power_of_128}
-use Rattle.fast_wire.proofs.Numbers.{number-lt}
-use Rattle.fast_cursor.specs.MapPlaces.{HasTop, IsPlace, used_bits}
+use Rattle.fast_wire.specs.meaning.Entities.{number}
+use Rattle.fast_wire.specs.meaning.Maps.{map_limit, bits, seven_bits, later_bits}
+use Rattle.fast_wire.proofs.numbers.Judging.{power_of_128}
+use Rattle.fast_wire.proofs.numbers.Numbers.{number-lt}
+use Rattle.fast_cursor.specs.device.MapPlaces.{HasTop, IsPlace, used_bits}
 use Rattle.fast_cursor.specs.declared.map_place.MapPlace.{MapPlace}
 use Rattle.fast_cursor.proofs.MapBits.{length-bits, later-drop}
 

@@ -4,13 +4,13 @@ use Rattle.std.specs.Prelude.{◌≡◌, ℕ, zero, suc, ◌+◌, ◌*◌, ◌<�
 use Rattle.std.proofs.lemmas.List.{drop-take, take-take, take_more, take_more_set, length-take, length-take-le, length-drop, length-append, take_at, drop_at, take-append-le, with_items_is}
 use Rattle.std.specs.Vec.{with_items}
 use borrow.Rule.Slice.PartMut.{put_mid, post_of}
-use Rattle.fast_wire.specs.Maps.{map_limit}
-use Rattle.fast_cursor.specs.Cursors.{FrameData, CursorData, entered, left_to}
+use Rattle.fast_wire.specs.meaning.Maps.{map_limit}
+use Rattle.fast_cursor.specs.device.Cursors.{FrameData, CursorData, entered, left_to}
 use Rattle.fast_cursor.specs.declared.cursor.Elements.{Elements}
 use Rattle.fast_cursor.specs.declared.cursor.Frame.{Frame}
 use Rattle.fast_cursor.specs.declared.cursor.Cursor.TheInside.{Inside}
-use Rattle.fast_cursor.specs.MapPlaces.{used_bits, IsPlace}
-use Rattle.fast_cursor.specs.Segments.{map_at, frame_data, frames_on, ArePlaces, elements_data, cursor_data, IsCursor}
+use Rattle.fast_cursor.specs.device.MapPlaces.{used_bits, IsPlace}
+use Rattle.fast_cursor.specs.device.Segments.{map_at, frame_data, frames_on, ArePlaces, elements_data, cursor_data, IsCursor}
 
 -- each frame is there
 pub length-frames : (cells : List ℕ) (start : ℕ) (fs : List Frame) (outer : List FrameData) → length (frames_on cells start fs outer) ≡ length fs + length outer

@@ -1,5 +1,1 @@
-pub mod Cursors
-pub mod MapPlaces
-pub mod Segments
-pub mod MapTaking
-pub mod Pending
+pub mod device

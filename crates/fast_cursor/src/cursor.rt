@@ -1,11 +1,11 @@
 //! Where a decoder is in a message: the open segments, and what is left of each.
 
 ghost use Rattle.std.specs.Prelude.{◌≡◌, ◌↔◌, ◌<◌, true, false, List, [], ◌∷◌, length, drop, IfOk, IsTrue, Some, None, option_map};
-ghost use Rattle.fast_wire.specs.Entities.{HaveNoStop};
-ghost use Rattle.fast_wire.specs.Maps.{map_limit, first_bit, later_bits};
-ghost use Rattle.fast_cursor.specs.Cursors.{CursorData, FrameData, bits_left, at_rest, entered, left_to};
-ghost use Rattle.fast_cursor.specs.Segments.{elements_data, first_node};
-ghost use Rattle.fast_cursor.specs.MapTaking.{IsMapTaken};
+ghost use Rattle.fast_wire.specs.meaning.Entities.{HaveNoStop};
+ghost use Rattle.fast_wire.specs.meaning.Maps.{map_limit, first_bit, later_bits};
+ghost use Rattle.fast_cursor.specs.device.Cursors.{CursorData, FrameData, bits_left, at_rest, entered, left_to};
+ghost use Rattle.fast_cursor.specs.device.Segments.{elements_data, first_node};
+ghost use Rattle.fast_cursor.specs.device.MapTaking.{IsMapTaken};
 
 use crate::map_place::{MapPlace, NO_MAP};
 use crate::pending::{MapFront, next_map};
@@ -47,11 +47,11 @@ pub struct Cursor<'t> {
 }
 
 impl<'t> Model for Cursor<'t> {
-    ghost use Rattle.fast_cursor.specs.Cursors.{CursorData};
+    ghost use Rattle.fast_cursor.specs.device.Cursors.{CursorData};
 
     ghost Value = { CursorData };
 
-    ghost use Rattle.fast_cursor.specs.Segments.{cursor_data, IsCursor};
+    ghost use Rattle.fast_cursor.specs.device.Segments.{cursor_data, IsCursor};
 
     ghost view = { cursor_data };
 

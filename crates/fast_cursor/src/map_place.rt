@@ -1,9 +1,9 @@
 //! Which bit of a presence map is the next one.
 
 ghost use Rattle.std.specs.Prelude.{◌≡◌, ℕ, ◌+◌, ◌*◌, ◌<◌, ◌≤◌, List, [], ◌∷◌, ◌++◌, length, drop, Bool, vec_len};
-ghost use Rattle.fast_wire.specs.Maps.{map_limit, bits, later_bits};
-ghost use Rattle.fast_cursor.specs.MapPlaces.{HasTop, IsCounted, IsPlace, used_bits};
-ghost use Rattle.fast_cursor.specs.Segments.{map_at};
+ghost use Rattle.fast_wire.specs.meaning.Maps.{map_limit, bits, later_bits};
+ghost use Rattle.fast_cursor.specs.device.MapPlaces.{HasTop, IsCounted, IsPlace, used_bits};
+ghost use Rattle.fast_cursor.specs.device.Segments.{map_at};
 
 /// How many bytes of a segment's map have come, and which bit is the next one.
 #[derive(Clone, Copy)]

@@ -1,9 +1,9 @@
 //! Presence maps that a piece may cut.
 
 ghost use Rattle.std.specs.Prelude.{◌≡◌, ◌<◌, length, take};
-ghost use Rattle.fast_wire.specs.Entities.{HaveNoStop};
-ghost use Rattle.fast_wire.specs.Maps.{map_limit};
-ghost use Rattle.fast_cursor.specs.Pending.{IsNextMap};
+ghost use Rattle.fast_wire.specs.meaning.Entities.{HaveNoStop};
+ghost use Rattle.fast_wire.specs.meaning.Maps.{map_limit};
+ghost use Rattle.fast_cursor.specs.device.Pending.{IsNextMap};
 
 use fast_wire::{MapStep, map_push};
 

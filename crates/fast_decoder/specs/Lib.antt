@@ -1,12 +1,2 @@
-pub mod Handing
-pub mod Recorded
-pub mod Positions
-pub mod Quick
-pub mod Moving
-pub mod Passing
-pub mod Scalars
-pub mod TurnsLeft
-pub mod Decoding
-pub mod Serving
-pub mod Feeding
-pub mod AtHand
+pub mod device
+pub mod meaning

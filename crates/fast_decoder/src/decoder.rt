@@ -1,16 +1,16 @@
 //! The decoder: a machine with its template set, its limits, and the count of its bytes.
 
 ghost use Rattle.std.specs.Prelude.{◌≡◌, ◌≢◌, ◌↔◌, ◌⊎◌, ℕ, ◌+◌, ◌-◌, ◌*◌, ◌<◌, ◌≤◌, ◌^◌, List, [], ◌∷◌, length, IfOk, IsOk, IsSome, None, Some, Err};
-ghost use Rattle.fast_template.specs.Flat.{tree_of, nodes_of};
-ghost use Rattle.fast_tree.specs.Sizes.{message_cap, turn_cap, stored_cap};
-ghost use Rattle.fast_dict.specs.EntryTexts.{HasLongInitial};
-ghost use Rattle.fast_stream.specs.Events.{EventData};
-ghost use Rattle.fast_stream.specs.Streams.{End};
-ghost use Rattle.fast_stream.specs.Begins.{Begins};
-ghost use Rattle.fast_stream.specs.Standing.{StandsAfter, standing_at, held};
-ghost use Rattle.fast_decoder.specs.Decoding.{DecoderData, tree, AreBadLimits, IsUncounted, So, turns, stored, standing, answer, Carried};
-ghost use Rattle.fast_decoder.specs.AtHand.{in_hand};
-ghost use Rattle.fast_decoder.specs.Feeding.{IsAtPlace, ConsumesAtMost, all_bytes, Followed};
+ghost use Rattle.fast_template.specs.meaning.Flat.{tree_of, nodes_of};
+ghost use Rattle.fast_tree.specs.meaning.Sizes.{message_cap, turn_cap, stored_cap};
+ghost use Rattle.fast_dict.specs.device.EntryTexts.{HasLongInitial};
+ghost use Rattle.fast_stream.specs.meaning.Events.{EventData};
+ghost use Rattle.fast_stream.specs.meaning.Streams.{End};
+ghost use Rattle.fast_stream.specs.meaning.Begins.{Begins};
+ghost use Rattle.fast_stream.specs.meaning.Account.{TellsStream, account_at, held};
+ghost use Rattle.fast_decoder.specs.meaning.Decoding.{DecoderData, tree, AreBadLimits, IsUncounted, HasRead, turns, stored, account, answer, Carried};
+ghost use Rattle.fast_decoder.specs.device.AtHand.{in_hand};
+ghost use Rattle.fast_decoder.specs.meaning.Feeding.{IsAtPlace, ConsumesAtMost, all_bytes, Followed};
 
 use crate::in_hand::Due;
 use crate::layout::has_long_initial;
@@ -32,14 +32,26 @@ pub struct Decoder<'t> {
 }
 
 impl<'t> Model for Decoder<'t> {
-    ghost use Rattle.fast_decoder.specs.Positions.{set_of};
-    ghost use Rattle.fast_decoder.specs.Decoding.{DecoderData, IsSound};
+    ghost use Rattle.fast_decoder.specs.device.Positions.{set_of};
+    ghost use Rattle.fast_decoder.specs.meaning.Decoding.{DecoderData, IsSound};
 
     ghost Value = { DecoderData };
 
-    ghost view = { λ d. record { set = set_of d.templates.now; limits = d.limits; machine = d.machine; consumed = d.consumed; fault = d.fault } };
+    ghost view = { λ d. record {
+      set = set_of d.templates.now;
+      limits = d.limits;
+      machine = d.machine;
+      consumed = d.consumed;
+      fault = d.fault;
+    } };
 
-    ghost invariant = { λ d. IsSound (record { set = set_of d.templates.now; limits = d.limits; machine = d.machine; consumed = d.consumed; fault = d.fault }) };
+    ghost invariant = { λ d. IsSound (record {
+      set = set_of d.templates.now;
+      limits = d.limits;
+      machine = d.machine;
+      consumed = d.consumed;
+      fault = d.fault;
+    }) };
 }
 
 impl<'t> Decoder<'t> {
@@ -54,7 +66,8 @@ impl<'t> Decoder<'t> {
         templates: &'t Templates,
         limits: Limits,
     ) -> Result<Decoder<'t>, MakeError>
-        ensures made { IfOk result (λ d. So d [] [] × (tree d ≡ tree_of templates.entry.now) × (d.limits ≡ limits)) }
+        ensures made { IfOk result (λ d. HasRead d [] [] × (tree d ≡ tree_of templates.entry.now)
+            × (d.limits ≡ limits)) }
         ensures bad_limits { (result ≡ Err MakeError.BadLimits) ↔ (AreBadLimits limits) }
         ensures long_initial { (result ≡ Err MakeError.InitialTooLong)
             ↔ (¬ (AreBadLimits limits) × HasLongInitial limits.max_text (nodes_of templates.entry.now)) }
@@ -85,12 +98,12 @@ impl<'t> Decoder<'t> {
     /// At a fault the bytes up to its place were consumed, and each further feed answers the same fault, until `reset`.
     pub fn feed<S: Sink>(&mut self, piece: &[u8], sink: &mut S) -> Result<(), Fault>
         // What led to the decoder, and then the piece, leads to it afterwards, and the sink takes what the piece gives.
-        ensures carried { (w : List ℕ) (es : List EventData) → So self.old w es
+        ensures carried { (w : List ℕ) (es : List EventData) → HasRead self.old w es
             → Carried S.takes S.stops self.old w es piece.now sink.old result self.new sink.new }
         ensures answer { result ≡ answer self.new.fault }
         ensures same_set { (tree self.new ≡ tree self.old) × (self.new.limits ≡ self.old.limits) }
         // Once there is a fault it stays: the decoder says of itself what it said before, and the sink hears nothing.
-        ensures stopped { IsSome self.old.fault → (standing self.new ≡ standing self.old) × (sink.new ≡ sink.old) }
+        ensures stopped { IsSome self.old.fault → (account self.new ≡ account self.old) × (sink.new ≡ sink.old) }
         // L4 comes exactly where the bytes can no longer be counted.
         ensures counted { self.old.fault ≡ None
             → (IsUncounted result ↔ (2 ^ 64 ≤ self.old.consumed + length piece.now)) }
@@ -99,7 +112,7 @@ impl<'t> Decoder<'t> {
         ensures at_place { IsAtPlace self.new }
         ensures consumed { ConsumesAtMost (length piece.now) self.old self.new }
         // The same in terms of the stream, with the bound on the events, which holds at L4 and at the sink's stop too.
-        ensures followed { (w : List ℕ) (es : List EventData) → So self.old w es
+        ensures followed { (w : List ℕ) (es : List EventData) → HasRead self.old w es
             → Followed S.takes S.stops (tree self.old) self.old.limits w es piece.now sink.old result self.new
             sink.new }
         // The turns of the call are at most the cap of a message and one for each byte that it consumes.
@@ -137,16 +150,16 @@ impl<'t> Decoder<'t> {
 
     /// A feed of one byte.
     pub fn push<S: Sink>(&mut self, byte: u8, sink: &mut S) -> Result<(), Fault>
-        ensures carried { (w : List ℕ) (es : List EventData) → So self.old w es
+        ensures carried { (w : List ℕ) (es : List EventData) → HasRead self.old w es
             → Carried S.takes S.stops self.old w es (byte ∷ []) sink.old result self.new sink.new }
         ensures answer { result ≡ answer self.new.fault }
         ensures same_set { (tree self.new ≡ tree self.old) × (self.new.limits ≡ self.old.limits) }
-        ensures stopped { IsSome self.old.fault → (standing self.new ≡ standing self.old) × (sink.new ≡ sink.old) }
+        ensures stopped { IsSome self.old.fault → (account self.new ≡ account self.old) × (sink.new ≡ sink.old) }
         ensures counted { self.old.fault ≡ None → (IsUncounted result ↔ (2 ^ 64 ≤ self.old.consumed + 1)) }
         ensures bounded { held (stored self.new) ≤ stored_cap (tree self.new) self.new.limits }
         ensures at_place { IsAtPlace self.new }
         ensures consumed { ConsumesAtMost 1 self.old self.new }
-        ensures followed { (w : List ℕ) (es : List EventData) → So self.old w es
+        ensures followed { (w : List ℕ) (es : List EventData) → HasRead self.old w es
             → Followed S.takes S.stops (tree self.old) self.old.limits w es (byte ∷ []) sink.old result self.new
             sink.new }
         ensures turns { turns self.new
@@ -162,16 +175,16 @@ impl<'t> Decoder<'t> {
     /// are clauses of `feed`, which takes each piece, so they hold behind each piece, and with pieces of one byte behind each byte.
     pub fn feed_all<S: Sink>(&mut self, pieces: &[&[u8]], sink: &mut S) -> Result<(), Fault>
         // Behind bytes that led to the decoder, the pieces are fed as if they were one.
-        ensures followed { (w : List ℕ) (es : List EventData) → So self.old w es
+        ensures followed { (w : List ℕ) (es : List EventData) → HasRead self.old w es
             → Followed S.takes S.stops (tree self.old) self.old.limits w es (all_bytes pieces.now) sink.old result
             self.new sink.new }
         // The same of a decoder that was made or reset: the stream is that of the pieces alone.
-        ensures from_start { So self.old [] []
+        ensures from_start { HasRead self.old [] []
             → Followed S.takes S.stops (tree self.old) self.old.limits [] [] (all_bytes pieces.now) sink.old result
             self.new sink.new }
         ensures answer { result ≡ answer self.new.fault }
         ensures same_set { (tree self.new ≡ tree self.old) × (self.new.limits ≡ self.old.limits) }
-        ensures stopped { IsSome self.old.fault → (standing self.new ≡ standing self.old) × (sink.new ≡ sink.old) }
+        ensures stopped { IsSome self.old.fault → (account self.new ≡ account self.old) × (sink.new ≡ sink.old) }
         ensures bounded { held (stored self.new) ≤ stored_cap (tree self.new) self.new.limits }
         ensures at_place { IsAtPlace self.new }
         ensures consumed { ConsumesAtMost (length (all_bytes pieces.now)) self.old self.new }
@@ -186,7 +199,7 @@ impl<'t> Decoder<'t> {
 
     /// The decoder as it was made: before the first byte, without a fault.
     pub fn reset(&mut self)
-        ensures so { So self.new [] [] }
+        ensures so { HasRead self.new [] [] }
         ensures no_turn { turns self.new ≡ 0 }
         ensures bounded { held (stored self.new) ≤ stored_cap (tree self.new) self.new.limits }
         ensures same_set { (tree self.new ≡ tree self.old) × (self.new.limits ≡ self.old.limits) }
@@ -198,21 +211,21 @@ impl<'t> Decoder<'t> {
 
     /// The number of bytes consumed since the decoder was made or reset.
     pub fn consumed(&self) -> u64
-        ensures { result ≡ (standing self.now).consumed }
+        ensures { result ≡ (account self.now).consumed }
     {
         self.consumed
     }
 
     /// Whether there is no fault, and no message that is begun and not whole.
     pub fn between(&self) -> bool
-        ensures { result ≡ (standing self.now).is_between }
+        ensures { result ≡ (account self.now).is_between }
     {
         self.fault.is_none() && self.machine.is_idle()
     }
 
     /// The fault at which the decoder stopped, if it did.
     pub fn fault(&self) -> Option<Fault>
-        ensures { result ≡ (standing self.now).fault }
+        ensures { result ≡ (account self.now).fault }
     {
         self.fault
     }
@@ -233,22 +246,22 @@ impl<'t> Decoder<'t> {
 
 /// What leads to a decoder is a stream with these events, and the decoder tells how it ends: whether it is between two messages,
 /// its fault, and the number of bytes consumed.
-pub fn so_is_stream()
-    ensures { (d : DecoderData) (w : List ℕ) (es : List EventData) → So d w es
-        → StandsAfter (tree d) d.limits w es (standing d) }
+pub fn read_is_stream()
+    ensures { (d : DecoderData) (w : List ℕ) (es : List EventData) → HasRead d w es
+        → TellsStream (tree d) d.limits w es (account d) }
 {}
 
 /// The events of what leads to a decoder are no more than the cap of a message for each byte consumed.
-pub fn so_bounds_events()
-    ensures { (d : DecoderData) (w : List ℕ) (es : List EventData) → So d w es
-        → length es ≤ (standing d).consumed * message_cap (tree d) d.limits }
+pub fn read_bounds_events()
+    ensures { (d : DecoderData) (w : List ℕ) (es : List EventData) → HasRead d w es
+        → length es ≤ (account d).consumed * message_cap (tree d) d.limits }
 {}
 
 /// They are also no more than the cap of a message for each message of which a byte was read: whole ones, and then perhaps one that is
 /// cut short or wrong.
-pub fn so_bounds_messages()
-    ensures { (d : DecoderData) (w : List ℕ) (es : List EventData) → So d w es
-        → (e : End) × (n : ℕ) × (standing d ≡ standing_at w e)
+pub fn read_bounds_messages()
+    ensures { (d : DecoderData) (w : List ℕ) (es : List EventData) → HasRead d w es
+        → (e : End) × (n : ℕ) × (account d ≡ account_at w e)
         × Begins (tree d) d.limits w e n × (length es ≤ n * message_cap (tree d) d.limits) }
 {}
 
@@ -256,8 +269,8 @@ pub fn so_bounds_messages()
 /// whose end the decoder tells; what it stores is at most the cap of the set; and the events are no more than the cap of a message
 /// for each byte consumed. That a sink takes these events is said of a call: by `Decoder::feed_all`, and by `feed` and `push`.
 pub fn headline()
-    ensures { (d : DecoderData) (w : List ℕ) (es : List EventData) → So d w es
-        → StandsAfter (tree d) d.limits w es (standing d)
+    ensures { (d : DecoderData) (w : List ℕ) (es : List EventData) → HasRead d w es
+        → TellsStream (tree d) d.limits w es (account d)
         × (held (stored d) ≤ stored_cap (tree d) d.limits)
-        × (length es ≤ (standing d).consumed * message_cap (tree d) d.limits) }
+        × (length es ≤ (account d).consumed * message_cap (tree d) d.limits) }
 {}

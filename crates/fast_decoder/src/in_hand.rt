@@ -16,7 +16,7 @@ pub enum Due {
 }
 
 impl Machine<'_> {
-    ghost use Rattle.fast_decoder.specs.AtHand.{stopped_at, awaited};
+    ghost use Rattle.fast_decoder.specs.device.AtHand.{stopped_at, awaited};
 
     /// The instruction that is next, if one is left of the innermost segment.
     pub fn stopped_at(&self) -> Due

@@ -1,17 +1,17 @@
 //! What a decoder works out once, when it is made: the widths of presence maps, and its dictionary.
 
 ghost use Rattle.std.specs.Prelude.{◌≡◌, ◌⊎◌, ◌↔◌, ℕ, ◌<◌, length, slice_index_or, false, Some, IsTrue, IfOk};
-ghost use Rattle.fast_value.specs.Kinds.{family, texts, text_of};
-ghost use Rattle.fast_value.specs.Values.{value_data};
-ghost use Rattle.fast_template.specs.Flat.{tree_of, nodes_of, templates_of, field_data};
-ghost use Rattle.fast_tree.specs.NodeData.{shape_data};
-ghost use Rattle.fast_tree.specs.Usable.{IsUsableShape};
-ghost use Rattle.fast_dict.specs.Dictionary.{fresh};
-ghost use Rattle.fast_dict.specs.Slots.{slots_dictionary, slots_terms};
-ghost use Rattle.fast_dict.specs.Stores.{IsText};
-ghost use Rattle.fast_dict.specs.EntryTexts.{AnyField, IsLongText, HasLongInitial, MayHoldText, HoldsTextAt, NeedsText};
-ghost use Rattle.fast_decoder.specs.Serving.{ServesNodes};
-ghost use Rattle.fast_tree.specs.Bodies.{AreNodeWidths, AreTemplateWidths};
+ghost use Rattle.fast_value.specs.meaning.Kinds.{family, texts, text_of};
+ghost use Rattle.fast_value.specs.meaning.Values.{value_data};
+ghost use Rattle.fast_template.specs.meaning.Flat.{tree_of, nodes_of, templates_of, field_data};
+ghost use Rattle.fast_tree.specs.device.NodeData.{shape_data};
+ghost use Rattle.fast_tree.specs.device.Usable.{IsUsableShape};
+ghost use Rattle.fast_dict.specs.meaning.Dictionary.{fresh};
+ghost use Rattle.fast_dict.specs.meaning.Slots.{slots_dictionary, slots_terms};
+ghost use Rattle.fast_dict.specs.meaning.Stores.{IsText};
+ghost use Rattle.fast_dict.specs.device.EntryTexts.{AnyField, IsLongText, HasLongInitial, MayHoldText, HoldsTextAt, NeedsText};
+ghost use Rattle.fast_decoder.specs.device.Serving.{ServesNodes};
+ghost use Rattle.fast_tree.specs.device.Bodies.{AreNodeWidths, AreTemplateWidths};
 
 use fast_dict::Slots;
 use fast_template::{FieldInstruction, Node, Shape, Templates};

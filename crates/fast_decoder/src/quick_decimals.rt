@@ -1,18 +1,18 @@
 //! Decimals by parts in the quick way: their mantissas.
 
 ghost use Rattle.std.specs.Prelude.{◌≡◌, ◌≢◌, ◌+◌, ℕ, true, List, [], length, Ok, IfSome, IfNone};
-ghost use Rattle.fast_wire.specs.Words.{IsShortEntity};
-ghost use Rattle.fast_value.specs.Limits.{Bounds};
-ghost use Rattle.fast_tree.specs.Nodes.{field_data};
-ghost use Rattle.fast_dict.specs.Dictionary.{previous_at};
-ghost use Rattle.fast_dict.specs.Slots.{slots_dictionary, slots_terms};
-ghost use Rattle.fast_stream.specs.Fields.{field_term};
-ghost use Rattle.fast_stream.specs.GrammarReaders.{reader_of};
-ghost use Rattle.fast_units.specs.Settling.{Serves, IsLastUnit};
-ghost use Rattle.fast_units.specs.Deciding.{source_of};
-ghost use Rattle.fast_decoder.specs.Quick.{IsTakenTo};
-ghost use Rattle.fast_decoder.specs.Positions.{set_of, IsReady, meaning};
-ghost use Rattle.fast_decoder.specs.TurnsLeft.{Way, HasTurns, HasTurnsBehind};
+ghost use Rattle.fast_wire.specs.device.Words.{IsShortEntity};
+ghost use Rattle.fast_value.specs.meaning.Limits.{Bounds};
+ghost use Rattle.fast_tree.specs.device.Nodes.{field_data};
+ghost use Rattle.fast_dict.specs.meaning.Dictionary.{previous_at};
+ghost use Rattle.fast_dict.specs.meaning.Slots.{slots_dictionary, slots_terms};
+ghost use Rattle.fast_stream.specs.meaning.Fields.{field_term};
+ghost use Rattle.fast_stream.specs.device.GrammarReaders.{reader_of};
+ghost use Rattle.fast_units.specs.device.Settling.{Serves, IsLastUnit};
+ghost use Rattle.fast_units.specs.device.Deciding.{source_of};
+ghost use Rattle.fast_decoder.specs.device.Quick.{IsTakenTo};
+ghost use Rattle.fast_decoder.specs.device.Positions.{set_of, IsReady, meaning};
+ghost use Rattle.fast_decoder.specs.device.TurnsLeft.{Way, HasTurns, HasTurnsBehind};
 
 use crate::machine::{Machine, Turn, Waiting};
 use crate::quick_units::Quick;

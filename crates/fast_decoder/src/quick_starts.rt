@@ -2,14 +2,14 @@
 
 ghost use Rattle.std.specs.Prelude.{◌≡◌, ◌≢◌, ◌+◌, ◌<◌, ℕ, length, slice_get, Ok, Some, IfSome, IfNone};
 ghost use Rattle.fast_value.specs.declared.kinds.Kind.{Kind};
-ghost use Rattle.fast_value.specs.Kinds.{U};
-ghost use Rattle.fast_template.specs.Flat.{templates_of};
+ghost use Rattle.fast_value.specs.meaning.Kinds.{U};
+ghost use Rattle.fast_template.specs.meaning.Flat.{templates_of};
 ghost use Rattle.fast_tree.specs.declared.instructions.Template.{Template};
-ghost use Rattle.fast_dict.specs.Dictionary.{assigned, previous_at};
-ghost use Rattle.fast_dict.specs.Slots.{slots_dictionary};
-ghost use Rattle.fast_decoder.specs.Quick.{IsTakenTo};
-ghost use Rattle.fast_decoder.specs.Positions.{set_of, tree_in, IsReady, meaning};
-ghost use Rattle.fast_decoder.specs.TurnsLeft.{Way, HasTurns, HasTurnsInMap, HasTurnsBehind, turns_begun};
+ghost use Rattle.fast_dict.specs.meaning.Dictionary.{assigned, previous_at};
+ghost use Rattle.fast_dict.specs.meaning.Slots.{slots_dictionary};
+ghost use Rattle.fast_decoder.specs.device.Quick.{IsTakenTo};
+ghost use Rattle.fast_decoder.specs.device.Positions.{set_of, tree_in, IsReady, meaning};
+ghost use Rattle.fast_decoder.specs.device.TurnsLeft.{Way, HasTurns, HasTurnsInMap, HasTurnsBehind, turns_begun};
 
 use crate::machine::{Machine, Turn, Waiting};
 use crate::quick_units::Quick;

@@ -2,25 +2,25 @@
 //! else is left to the general way; the quick way has changed nothing then.
 
 ghost use Rattle.std.specs.Prelude.{◌≡◌, ◌≢◌, ◌+◌, ◌<◌, ℕ, ℤ, pos, true, false, List, [], length, slice_get, Ok, Some, IfSome, IfNone};
-ghost use Rattle.fast_wire.specs.Integers.{unsigned_up_to, signed_between};
-ghost use Rattle.fast_value.specs.Kinds.{U, I, family, integers, value_of_integer};
-ghost use Rattle.fast_template.specs.Opcodes.{sending_operator, is_nullable, opcode_sending, IsSentAs};
-ghost use Rattle.fast_tree.specs.Nodes.{field_data};
-ghost use Rattle.fast_tree.specs.Tree.{FieldData, operator_uses_bit, uses_bit};
+ghost use Rattle.fast_wire.specs.meaning.Integers.{unsigned_up_to, signed_between};
+ghost use Rattle.fast_value.specs.meaning.Kinds.{U, I, family, integers, value_of_integer};
+ghost use Rattle.fast_template.specs.device.Opcodes.{sending_operator, is_nullable, opcode_sending, IsSentAs};
+ghost use Rattle.fast_tree.specs.device.Nodes.{field_data};
+ghost use Rattle.fast_tree.specs.meaning.Tree.{FieldData, operator_uses_bit, uses_bit};
 ghost use Rattle.fast_tree.specs.declared.instructions.FieldInstruction.{FieldInstruction};
 ghost use Rattle.fast_tree.specs.declared.instructions.Node.{Node};
-ghost use Rattle.fast_dict.specs.Dictionary.{Dictionary};
-ghost use Rattle.fast_dict.specs.Operators.{range_of};
-ghost use Rattle.fast_dict.specs.Slots.{slots_dictionary};
+ghost use Rattle.fast_dict.specs.meaning.Dictionary.{Dictionary};
+ghost use Rattle.fast_dict.specs.meaning.Operators.{range_of};
+ghost use Rattle.fast_dict.specs.meaning.Slots.{slots_dictionary};
 ghost use Rattle.fast_value.specs.declared.settings.Limits.{Limits};
-ghost use Rattle.fast_stream.specs.Readers.{Reader};
+ghost use Rattle.fast_stream.specs.device.Readers.{Reader};
 ghost use Rattle.fast_decoder.specs.declared.machine.Machine.{Machine};
-ghost use Rattle.fast_decoder.specs.Moving.{Moves};
-ghost use Rattle.fast_cursor.specs.Segments.{first_node};
-ghost use Rattle.fast_units.specs.UnitFronts.{IsSent, IsAsciiFirst};
-ghost use Rattle.fast_decoder.specs.Quick.{IsTakenTo, IsSentItem};
-ghost use Rattle.fast_decoder.specs.Positions.{Set, set_of, tree_in, state_in, bit_of, GoesOn, IsAtField, IsMapWhole, IsPlaced, IsReady, IsSupplied, IsTurn, meaning, turning};
-ghost use Rattle.fast_decoder.specs.TurnsLeft.{Way, HasTurns, HasTurnsBehind, HasTurnsWaiting, turns_begun_at};
+ghost use Rattle.fast_decoder.specs.device.Moving.{Moves};
+ghost use Rattle.fast_cursor.specs.device.Segments.{first_node};
+ghost use Rattle.fast_units.specs.device.UnitFronts.{IsSent, IsAsciiFirst};
+ghost use Rattle.fast_decoder.specs.device.Quick.{IsTakenTo, IsSentItem};
+ghost use Rattle.fast_decoder.specs.device.Positions.{Set, set_of, tree_in, state_in, bit_of, GoesOn, IsAtField, IsMapWhole, IsPlaced, IsReady, IsSupplied, IsTurn, meaning, turning};
+ghost use Rattle.fast_decoder.specs.device.TurnsLeft.{Way, HasTurns, HasTurnsBehind, HasTurnsWaiting, turns_begun_at};
 
 use crate::machine::{Machine, Turn, Waiting};
 use crate::turns::Turns;

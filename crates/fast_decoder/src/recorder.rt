@@ -45,8 +45,8 @@ pub enum Recorded {
 
 impl Recorded {
     ghost use Rattle.std.specs.Prelude.{◌≡◌, IfOk};
-    ghost use Rattle.fast_stream.specs.Handed.{event_data};
-    ghost use Rattle.fast_decoder.specs.Recorded.{recorded_data};
+    ghost use Rattle.fast_stream.specs.meaning.Handed.{event_data};
+    ghost use Rattle.fast_decoder.specs.meaning.Recorded.{recorded_data};
 
     /// The same event in memory of its own.
     pub fn copy_of(alloc: Global, event: Event<'_>) -> Result<Recorded, AllocError>
@@ -78,7 +78,7 @@ pub struct Recorder {
 
 impl Recorder {
     ghost use Rattle.std.specs.Prelude.{◌≡◌, [], map};
-    ghost use Rattle.fast_decoder.specs.Recorded.{recorded, recorded_data};
+    ghost use Rattle.fast_decoder.specs.meaning.Recorded.{recorded, recorded_data};
 
     /// A recorder that has kept nothing.
     pub fn new(alloc: Global) -> Recorder
@@ -100,7 +100,7 @@ impl Recorder {
 
 impl Sink for Recorder {
     ghost use Rattle.std.specs.Prelude.{◌≡◌, [], ◌∷◌, ◌++◌};
-    ghost use Rattle.fast_decoder.specs.Recorded.{recorded};
+    ghost use Rattle.fast_decoder.specs.meaning.Recorded.{recorded};
 
     ghost takes = { λ old event new. recorded new ≡ recorded old ++ event ∷ [] };
 

@@ -1,30 +1,30 @@
 //! What a machine does without a byte: values that the bytes before decide, starts and ends of segments.
 
 ghost use Rattle.std.specs.Prelude.{◌≡◌, ◌≢◌, ◌+◌, ◌<◌, ◌≤◌, ℕ, suc, List, [], true, false, Bool, Ok, drop, length, length as list_length, OnOk, IfOk, MatchResult, slice_index, Some, None, option_map, if◌then◌else◌};
-ghost use Rattle.fast_wire.specs.Maps.{later_bits};
-ghost use Rattle.fast_value.specs.Kinds.{exponent_range, integer_of};
-ghost use Rattle.fast_value.specs.Values.{scalar_data};
-ghost use Rattle.fast_value.specs.Limits.{Bounds, bounds};
-ghost use Rattle.fast_tree.specs.Nodes.{field_data};
-ghost use Rattle.fast_tree.specs.Numbers.{AreBelow};
-ghost use Rattle.fast_tree.specs.Sizes.{body_depth};
-ghost use Rattle.fast_tree.specs.Tree.{FieldData, uses_bit, bits_of};
-ghost use Rattle.fast_dict.specs.Dictionary.{Dictionary, previous_at};
-ghost use Rattle.fast_dict.specs.Operators.{decide, nothing, ranged};
-ghost use Rattle.fast_dict.specs.Slots.{slots_dictionary, slots_terms};
-ghost use Rattle.fast_cursor.specs.Cursors.{bits_left};
-ghost use Rattle.fast_stream.specs.Handed.{event_data};
-ghost use Rattle.fast_stream.specs.GrammarReaders.{reader_of};
-ghost use Rattle.fast_stream.specs.Readers.{Reader};
-ghost use Rattle.fast_decoder.specs.Handing.{Hands};
-ghost use Rattle.fast_stream.specs.Messages.{signed_of, within_limits};
-ghost use Rattle.fast_decoder.specs.Moving.{Moves};
-ghost use Rattle.fast_units.specs.Settling.{Serves, value_at};
-ghost use Rattle.fast_units.specs.Deciding.{needs_bytes, number_data, IsDecided};
-ghost use Rattle.fast_decoder.specs.TurnsLeft.{Way, HasTurns, HasTurnsFrom, HasTurnsBehind, HasTurnsAfter};
-ghost use Rattle.fast_units.specs.UnitFronts.{IsAsciiFirst};
-ghost use Rattle.fast_decoder.specs.Passing.{IsPast, value_then, exponent_then, decimal_then, length_then, elements_from};
-ghost use Rattle.fast_decoder.specs.Positions.{Set, set_of, body_in, frames_in, mantissa_then, IsAtField, IsAtParts, IsAtGroup, IsAtSequence, CanTurn, IsTurn, turning, IsSupplied, IsMapWhole, IsReady, bit_of, state_in, going_on, meaning};
+ghost use Rattle.fast_wire.specs.meaning.Maps.{later_bits};
+ghost use Rattle.fast_value.specs.meaning.Kinds.{exponent_range, integer_of};
+ghost use Rattle.fast_value.specs.meaning.Values.{scalar_data};
+ghost use Rattle.fast_value.specs.meaning.Limits.{Bounds, bounds};
+ghost use Rattle.fast_tree.specs.device.Nodes.{field_data};
+ghost use Rattle.fast_tree.specs.device.Numbers.{AreBelow};
+ghost use Rattle.fast_tree.specs.meaning.Sizes.{body_depth};
+ghost use Rattle.fast_tree.specs.meaning.Tree.{FieldData, uses_bit, bits_of};
+ghost use Rattle.fast_dict.specs.meaning.Dictionary.{Dictionary, previous_at};
+ghost use Rattle.fast_dict.specs.meaning.Operators.{decide, nothing, ranged};
+ghost use Rattle.fast_dict.specs.meaning.Slots.{slots_dictionary, slots_terms};
+ghost use Rattle.fast_cursor.specs.device.Cursors.{bits_left};
+ghost use Rattle.fast_stream.specs.meaning.Handed.{event_data};
+ghost use Rattle.fast_stream.specs.device.GrammarReaders.{reader_of};
+ghost use Rattle.fast_stream.specs.device.Readers.{Reader};
+ghost use Rattle.fast_decoder.specs.device.Handing.{Hands};
+ghost use Rattle.fast_stream.specs.meaning.Messages.{signed_of, within_limits};
+ghost use Rattle.fast_decoder.specs.device.Moving.{Moves};
+ghost use Rattle.fast_units.specs.device.Settling.{Serves, value_at};
+ghost use Rattle.fast_units.specs.device.Deciding.{needs_bytes, number_data, IsDecided};
+ghost use Rattle.fast_decoder.specs.device.TurnsLeft.{Way, HasTurns, HasTurnsFrom, HasTurnsBehind, HasTurnsAfter};
+ghost use Rattle.fast_units.specs.device.UnitFronts.{IsAsciiFirst};
+ghost use Rattle.fast_decoder.specs.device.Passing.{IsPast, value_then, exponent_then, decimal_then, length_then, elements_from};
+ghost use Rattle.fast_decoder.specs.device.Positions.{Set, set_of, body_in, frames_in, mantissa_then, IsAtField, IsAtParts, IsAtGroup, IsAtSequence, CanTurn, IsTurn, turning, IsSupplied, IsMapWhole, IsReady, bit_of, state_in, going_on, meaning};
 
 use crate::machine::{Machine, Turn, Waiting};
 use crate::turns::Turns;
@@ -34,7 +34,7 @@ use fast_dict::operators::integers::integer_of;
 use fast_stream::{Event, FaultCode, Sink};
 use fast_template::{FieldInstruction, Operator, Shape, Templates};
 use fast_units::fields::{Number, needs_bytes, unsent, value_at};
-use fast_units::source::Source;
+use fast_units::source::ValueSource;
 use fast_value::{Code, Kind, Limits, Scalar};
 
 /// Whether a field uses a presence bit.
@@ -55,7 +55,11 @@ pub fn uses_bit(field: &FieldInstruction) -> bool
 ///
 /// Those of [`unsent`].
 #[inline(never)]
-fn unsent_seldom(slots: &mut Slots, field: &FieldInstruction, bit: bool) -> Result<Source, Code>
+fn unsent_seldom(
+    slots: &mut Slots,
+    field: &FieldInstruction,
+    bit: bool,
+) -> Result<ValueSource, Code>
     requires serves { Serves (length (slots_dictionary slots.old)) (slots_terms slots.old) (field_data field.now) }
     requires no_bytes { needs_bytes field.now.operator bit ≡ false }
     ensures decided { IsDecided
@@ -95,7 +99,7 @@ impl<'t> Machine<'t> {
         &mut self,
         node: u32,
         field: &FieldInstruction,
-        source: Source,
+        source: ValueSource,
         piece: &[u8],
         sink: &mut S,
     ) -> Result<Turn, FaultCode>
@@ -124,7 +128,7 @@ impl<'t> Machine<'t> {
         node: u32,
         field: &FieldInstruction,
         has_bit: bool,
-        source: Source,
+        source: ValueSource,
         piece: &[u8],
         sink: &mut S,
     ) -> Result<Turn, FaultCode>
@@ -282,7 +286,11 @@ impl<'t> Machine<'t> {
 
     /// The value of a field, lent.
     #[inline(always)]
-    pub fn value_of<'x>(&'x self, field: &'x FieldInstruction, source: Source) -> Option<Scalar<'x>>
+    pub fn value_of<'x>(
+        &'x self,
+        field: &'x FieldInstruction,
+        source: ValueSource,
+    ) -> Option<Scalar<'x>>
         requires entry { (e : ℕ) → (field_data field.now).entry ≡ Some e
             → e < length (slots_dictionary self.now.slots) }
         ensures { option_map scalar_data result
@@ -293,7 +301,7 @@ impl<'t> Machine<'t> {
 
     /// The integer that is a field's value, if it has one.
     #[inline(always)]
-    pub fn integer_at(&self, field: &FieldInstruction, source: Source) -> Option<i128>
+    pub fn integer_at(&self, field: &FieldInstruction, source: ValueSource) -> Option<i128>
         requires entry { (e : ℕ) → (field_data field.now).entry ≡ Some e
             → e < length (slots_dictionary self.now.slots) }
         ensures { result ≡ option_map integer_of
@@ -364,7 +372,7 @@ impl<'t> Machine<'t> {
         node: u32,
         exponent: &FieldInstruction,
         mantissa: &FieldInstruction,
-        source: Source,
+        source: ValueSource,
         sink: &mut S,
     ) -> Result<Turn, FaultCode>
         requires turn { CanTurn (set_of templates.now) limits self.old }
@@ -443,7 +451,7 @@ impl<'t> Machine<'t> {
         node: u32,
         mantissa: &FieldInstruction,
         exponent: i32,
-        source: Source,
+        source: ValueSource,
         sink: &mut S,
     ) -> Result<Turn, FaultCode>
         requires left { 0 < length self.old.cursor.left }
@@ -577,7 +585,7 @@ impl<'t> Machine<'t> {
         node: u32,
         length: &FieldInstruction,
         body: &'t [u32],
-        source: Source,
+        source: ValueSource,
         sink: &mut S,
     ) -> Result<Turn, FaultCode>
         requires turn { CanTurn (set_of templates.now) limits self.old }

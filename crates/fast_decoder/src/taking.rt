@@ -1,32 +1,32 @@
 //! What a machine does with the bytes of a piece: it takes units, and all that they decide.
 
 ghost use Rattle.std.specs.Prelude.{◌≡◌, ◌≢◌, ◌⊎◌, ◌+◌, ◌*◌, ◌<◌, ◌≤◌, ◌^◌, ◌&&◌, not, nat_le, true, false, ℕ, List, [], length, length as list_length, slice_get, IfSome, IfNone, Err, drop, take, IsTrue, ◌↔◌, IsOk, IfOk, OnOk, Some, None, Ok, slice_index, option_map, nat_abs, if◌then◌else◌};
-ghost use Rattle.fast_wire.specs.Entities.{HaveNoStop, IsEntity};
-ghost use Rattle.fast_wire.specs.Maps.{map_limit, bits, first_bit, bytes_for};
-ghost use Rattle.fast_value.specs.Kinds.{integer_of};
-ghost use Rattle.fast_value.specs.Values.{scalar_data};
-ghost use Rattle.fast_value.specs.Limits.{bounds};
-ghost use Rattle.fast_template.specs.Flat.{field_data, nodes_of, templates_of, template_data, instructions_from};
-ghost use Rattle.fast_tree.specs.Numbers.{AreBelow};
+ghost use Rattle.fast_wire.specs.meaning.Entities.{HaveNoStop, IsEntity};
+ghost use Rattle.fast_wire.specs.meaning.Maps.{map_limit, bits, first_bit, bytes_for};
+ghost use Rattle.fast_value.specs.meaning.Kinds.{integer_of};
+ghost use Rattle.fast_value.specs.meaning.Values.{scalar_data};
+ghost use Rattle.fast_value.specs.meaning.Limits.{bounds};
+ghost use Rattle.fast_template.specs.meaning.Flat.{field_data, nodes_of, templates_of, template_data, instructions_from};
+ghost use Rattle.fast_tree.specs.device.Numbers.{AreBelow};
 ghost use Rattle.fast_tree.specs.declared.instructions.Template.{Template};
 ghost use Rattle.fast_value.specs.declared.settings.Limits.{Limits};
-ghost use Rattle.fast_tree.specs.Tree.{FieldData, bits_of, identifier};
-ghost use Rattle.fast_dict.specs.Slots.{slots_dictionary, slots_terms};
-ghost use Rattle.fast_stream.specs.GrammarReaders.{spare, reader_of};
-ghost use Rattle.fast_stream.specs.Readers.{Reader};
-ghost use Rattle.fast_dict.specs.EntryTexts.{HasLongInitial};
+ghost use Rattle.fast_tree.specs.meaning.Tree.{FieldData, bits_of, identifier};
+ghost use Rattle.fast_dict.specs.meaning.Slots.{slots_dictionary, slots_terms};
+ghost use Rattle.fast_stream.specs.device.GrammarReaders.{spare, reader_of};
+ghost use Rattle.fast_stream.specs.device.Readers.{Reader};
+ghost use Rattle.fast_dict.specs.device.EntryTexts.{HasLongInitial};
 ghost use Rattle.fast_decoder.specs.declared.machine.Machine.{Machine};
-ghost use Rattle.fast_dict.specs.Dictionary.{Dictionary, reset};
-ghost use Rattle.fast_decoder.specs.Handing.{Hands, Fed, stood};
-ghost use Rattle.fast_decoder.specs.Quick.{IsTakenTo};
-ghost use Rattle.fast_units.specs.Settling.{Serves, value_at};
-ghost use Rattle.fast_decoder.specs.Passing.{state_past, identified_then};
-ghost use Rattle.fast_decoder.specs.Scalars.{IsOfField, IsOfFieldLater, IsScalarUnit, CanStep, CanProgress, step_then};
-ghost use Rattle.fast_units.specs.UnitFronts.{IsNumberStage};
-ghost use Rattle.fast_decoder.specs.Moving.{Moves};
-ghost use Rattle.fast_stream.specs.Continuations.{message_of_then};
-ghost use Rattle.fast_decoder.specs.TurnsLeft.{Way, most_by, HasTurns, HasTurnsWaiting, HasTurnsBehind, HasTurnsAfter, turns_begun_at};
-ghost use Rattle.fast_decoder.specs.Positions.{Set, set_of, tree_in, body_in, IsAtField, IsAtParts, IsAtSequence, CanTurn, GoesOn, IsBehindMap, IsSupplied, IsReady, IsTurn, IsFresh, segment_reader, mapped_reader, turning, is_idle, meaning};
+ghost use Rattle.fast_dict.specs.meaning.Dictionary.{Dictionary, reset};
+ghost use Rattle.fast_decoder.specs.device.Handing.{Hands, Fed, waiting_at};
+ghost use Rattle.fast_decoder.specs.device.Quick.{IsTakenTo};
+ghost use Rattle.fast_units.specs.device.Settling.{Serves, value_at};
+ghost use Rattle.fast_decoder.specs.device.Passing.{state_past, identified_then};
+ghost use Rattle.fast_decoder.specs.device.Scalars.{IsOfField, IsOfFieldLater, IsScalarUnit, CanStep, CanProgress, step_then};
+ghost use Rattle.fast_units.specs.device.UnitFronts.{IsNumberStage};
+ghost use Rattle.fast_decoder.specs.device.Moving.{Moves};
+ghost use Rattle.fast_stream.specs.device.Continuations.{message_of_then};
+ghost use Rattle.fast_decoder.specs.device.TurnsLeft.{Way, most_by, HasTurns, HasTurnsWaiting, HasTurnsBehind, HasTurnsAfter, turns_begun_at};
+ghost use Rattle.fast_decoder.specs.device.Positions.{Set, set_of, tree_in, body_in, IsAtField, IsAtParts, IsAtSequence, CanTurn, GoesOn, IsBehindMap, IsSupplied, IsReady, IsTurn, IsFresh, segment_reader, mapped_reader, turning, is_idle, meaning};
 
 use crate::layout::{make_slots, measure};
 use crate::machine::{Machine, Turn, Waiting};
@@ -44,8 +44,8 @@ use fast_units::numbers::take_integer;
 use fast_units::progress::Progress;
 use fast_units::scalars::{take_bytes, take_first, take_first_text, take_number};
 use fast_units::scratch::Scratch;
-use fast_units::source::Source;
-use fast_units::stages::{Stage, Step};
+use fast_units::source::ValueSource;
+use fast_units::stages::{FieldStep, Stage};
 use fast_value::{Code, Kind, Limits, Scalar};
 use fast_wire::{Entity, map_overlong};
 use std::alloc::{AllocError, Global};
@@ -246,7 +246,7 @@ impl<'t> Machine<'t> {
         &mut self,
         templates: &'t Templates,
         limits: Limits,
-        source: Source,
+        source: ValueSource,
         piece: &[u8],
         sink: &mut S,
     ) -> Result<Turn, FaultCode>
@@ -612,7 +612,7 @@ impl<'t> Machine<'t> {
         limits: Limits,
         field: &FieldInstruction,
         rest: &[u8],
-    ) -> Progress<Step>
+    ) -> Progress<FieldStep>
         requires waits { IsOfFieldLater self.old.waiting }
         requires ready { IsReady (set_of templates.now) limits self.old }
         requires serves { Serves (set_of templates.now).entries (slots_terms self.old.slots) (field_data field.now) }
@@ -620,7 +620,7 @@ impl<'t> Machine<'t> {
         ensures unit { IsScalarUnit limits self.old self.new (field_data field.now) rest.now result }
         ensures supplied { IsSupplied (set_of templates.now) limits self.new }
         ensures progress { CanProgress (set_of templates.now) limits self.new (field_data field.now) result }
-        ensures within { (step : Step) (n : ℕ) → result ≡ Progress.Whole step n → n ≤ length rest.now }
+        ensures within { (step : FieldStep) (n : ℕ) → result ≡ Progress.Whole step n → n ≤ length rest.now }
     {
         match self.waiting {
             Waiting::Text => take_first_text(
@@ -661,14 +661,14 @@ impl<'t> Machine<'t> {
         limits: Limits,
         node: u32,
         field: &FieldInstruction,
-        progress: Progress<Step>,
+        progress: Progress<FieldStep>,
         rest: &[u8],
         sink: &mut S,
     ) -> Quick
         requires next { IsAtField (set_of templates.now) self.old.cursor node (field_data field.now) }
         requires serves { Serves (set_of templates.now).entries (slots_terms self.old.slots) (field_data field.now) }
         requires progress { CanProgress (set_of templates.now) limits self.old (field_data field.now) progress }
-        requires within { (step : Step) (n : ℕ) → progress ≡ Progress.Whole step n → n ≤ length rest.now }
+        requires within { (step : FieldStep) (n : ℕ) → progress ≡ Progress.Whole step n → n ≤ length rest.now }
         ensures taken { (m : Machine) → IsReady (set_of templates.now) limits m → IsOfField m.waiting
             → 0 < length rest.now → IsScalarUnit limits m self.old (field_data field.now) rest.now progress
             → IsTakenTo S.takes S.stops (set_of templates.now) limits (meaning (set_of templates.now) limits m) rest.now
@@ -696,7 +696,7 @@ impl<'t> Machine<'t> {
         limits: Limits,
         node: u32,
         field: &FieldInstruction,
-        step: Step,
+        step: FieldStep,
         piece: &[u8],
         sink: &mut S,
     ) -> Result<Turn, FaultCode>
@@ -711,8 +711,8 @@ impl<'t> Machine<'t> {
             → HasTurnsBehind result way (set_of templates.now) limits n self.new }
     {
         match step {
-            Step::Settled(source) => self.finish(node, field, source, piece, sink),
-            Step::Next(stage) => {
+            FieldStep::Settled(source) => self.finish(node, field, source, piece, sink),
+            FieldStep::Next(stage) => {
                 self.wait_behind(field, stage);
                 Ok(Turn::Waits)
             }
@@ -840,8 +840,8 @@ impl<'t> Machine<'t> {
         ensures within { result.bytes ≤ length piece.now }
         ensures all { IsOk result.outcome → result.bytes ≡ length piece.now }
         ensures fed { Fed S.takes S.stops (tree_in (set_of templates.now)) limits
-            (stood (meaning (set_of templates.now) limits self.old)) (take result.bytes piece.now)
-            sink.old result.outcome sink.new (stood (meaning (set_of templates.now) limits self.new)) }
+            (waiting_at (meaning (set_of templates.now) limits self.old)) (take result.bytes piece.now)
+            sink.old result.outcome sink.new (waiting_at (meaning (set_of templates.now) limits self.new)) }
         ensures ready { OnOk result.outcome (IsReady (set_of templates.now) limits self.new) }
         ensures supplied { IsSupplied (set_of templates.now) limits self.new }
         ensures turns { (way : Way) → self.old.turns.count ≡ 0

@@ -165,15 +165,15 @@ impl Sink for Script<'_> {
 
 /// What a decoder says after it was fed.
 #[derive(Clone, Copy, PartialEq)]
-struct Standing {
+struct Account {
     answer: Result<(), Fault>,
     fault: Option<Fault>,
     between: bool,
     consumed: u64,
 }
 
-fn standing_of(decoder: &Decoder<'_>, answer: Result<(), Fault>) -> Standing {
-    Standing {
+fn account_of(decoder: &Decoder<'_>, answer: Result<(), Fault>) -> Account {
+    Account {
         answer,
         fault: decoder.fault(),
         between: decoder.between(),
@@ -182,8 +182,8 @@ fn standing_of(decoder: &Decoder<'_>, answer: Result<(), Fault>) -> Standing {
 }
 
 /// What a decoder says that has stopped with this fault, behind the bytes of its place.
-fn stopped_at(fault: Fault) -> Standing {
-    Standing {
+fn stopped_at(fault: Fault) -> Account {
+    Account {
         answer: Err(fault),
         fault: Some(fault),
         between: false,
@@ -219,7 +219,7 @@ fn feed_pieces<S: Sink>(
     bytes: &[u8],
     size: usize,
     sink: &mut S,
-) -> Standing
+) -> Account
     requires { 0 < size }
 {
     let mut answer = Ok(());
@@ -228,27 +228,22 @@ fn feed_pieces<S: Sink>(
             answer = feed(decoder, piece, sink);
         }
     }
-    standing_of(decoder, answer)
+    account_of(decoder, answer)
 }
 
 /// Pushes the bytes, as far as there is no fault.
-fn push_all<S: Sink>(decoder: &mut Decoder<'_>, bytes: &[u8], sink: &mut S) -> Standing {
+fn push_all<S: Sink>(decoder: &mut Decoder<'_>, bytes: &[u8], sink: &mut S) -> Account {
     let mut answer = Ok(());
     for byte in bytes {
         if answer.is_ok() {
             answer = push(decoder, *byte, sink);
         }
     }
-    standing_of(decoder, answer)
+    account_of(decoder, answer)
 }
 
 /// Feeds the bytes in two pieces, as far as there is no fault.
-fn feed_cut<S: Sink>(
-    decoder: &mut Decoder<'_>,
-    bytes: &[u8],
-    cut: usize,
-    sink: &mut S,
-) -> Standing {
+fn feed_cut<S: Sink>(decoder: &mut Decoder<'_>, bytes: &[u8], cut: usize, sink: &mut S) -> Account {
     let mut answer = Ok(());
     if cut <= bytes.len() {
         let (front, rest) = bytes.split_at(cut);
@@ -258,7 +253,7 @@ fn feed_cut<S: Sink>(
             }
         }
     }
-    standing_of(decoder, answer)
+    account_of(decoder, answer)
 }
 
 /// Whether the row comes of its bytes in pieces of this size, and what is fed behind a fault changes nothing.
@@ -273,7 +268,7 @@ fn is_played_in_pieces(decoder: &mut Decoder<'_>, row: Row<'_>, size: usize) -> 
         return is_played;
     }
     let again = feed(decoder, &[0xC0, 0x81, 0x81], &mut script);
-    is_played && standing_of(decoder, again) == heard && script.is_played()
+    is_played && account_of(decoder, again) == heard && script.is_played()
 }
 
 /// Whether the row comes of its bytes one after the other.

@@ -4,7 +4,7 @@ use Rattle.std.specs.Prelude.{◌⊎◌, ◌≢◌, Option, Some, None, slice_in
 use Rattle.std.proofs.lemmas.Bool.{cases_order}
 use Rattle.std.proofs.lemmas.List.{drop-take, take-append-le, take-take}
 use Rattle.std.proofs.lemmas.Slice.{drop-append-drop}
-use Rattle.fast_dict.specs.Slots.{text_in}
+use Rattle.fast_dict.specs.meaning.Slots.{text_in}
 
 -- a part of a list with a text at p, where that does not meet the text
 pub part_elsewhere : (b t : List ℕ) (p q size : ℕ) → p + length t ≤ length b → (q + size ≤ p) ⊎ (p + length t ≤ q) → take size (drop q (take p b ++ t ++ drop (p + length t) b)) ≡ take size (drop q b)

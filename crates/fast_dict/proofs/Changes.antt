@@ -4,9 +4,9 @@ use Rattle.std.specs.Prelude.{suc, false, Result, Ok, Err, is_err, OnOk, slice_i
 use Rattle.std.proofs.lemmas.List.{take_more, length-replicate}
 use Rattle.std.proofs.lemmas.List.{get_or-map as get_or-map_at}
 use Rattle.std.proofs.Math.ListN.{length-set, length-map, get_or-map}
-use Rattle.fast_dict.specs.Dictionary.{Dictionary, reset, undefined}
-use Rattle.fast_dict.specs.Stores.{Terms}
-use Rattle.fast_dict.specs.Commands.{CommandData, assign, make_empty, reset_others, reset_every, IsRunnable, after, after_all}
+use Rattle.fast_dict.specs.meaning.Dictionary.{Dictionary, reset, undefined}
+use Rattle.fast_dict.specs.meaning.Stores.{Terms}
+use Rattle.fast_dict.specs.meaning.Commands.{CommandData, assign, make_empty, reset_others, reset_every, IsRunnable, after, after_all}
 
 -- a reset keeps the number of entries
 pub length-reset : (d : Dictionary) → length (reset d) ≡ length d

@@ -4,7 +4,7 @@ use Rattle.std.specs.Prelude.{zero, suc, slice_index_or}
 use Rattle.std.proofs.lemmas.Bool.{eq-eqb}
 use Rattle.std.proofs.lemmas.Bool.Decides.{eqb_tells}
 use Rattle.std.proofs.lemmas.List.{drop_all}
-use Rattle.fast_dict.specs.Rule.{common_front}
+use Rattle.fast_dict.specs.meaning.Rule.{common_front}
 
 -- an empty list has no front in common
 front_nil : (xs : List ℕ) → common_front xs [] ≡ 0

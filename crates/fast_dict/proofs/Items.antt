@@ -1,13 +1,13 @@
 -- What cannot be sent.
 use Rattle.std.proofs.Common.{◌≡◌, ℕ, List, subst}
 use Rattle.std.specs.Prelude.{Option, Some, None, Result, Ok, IfNone}
-use Rattle.fast_value.specs.Kinds.{ScalarData, text_of}
+use Rattle.fast_value.specs.meaning.Kinds.{ScalarData, text_of}
 use Rattle.fast_value.specs.declared.codes.Code.{Code}
 use Rattle.fast_tree.specs.declared.operators.Operator.TheVariants.{Tail}
-use Rattle.fast_tree.specs.Tree.{FieldData}
-use Rattle.fast_dict.specs.Dictionary.{PreviousData}
-use Rattle.fast_dict.specs.Operators.{Sent, tail_base}
-use Rattle.fast_dict.specs.Rule.{SentBy, SentFor, IsTail}
+use Rattle.fast_tree.specs.meaning.Tree.{FieldData}
+use Rattle.fast_dict.specs.meaning.Dictionary.{PreviousData}
+use Rattle.fast_dict.specs.meaning.Operators.{Sent, tail_base}
+use Rattle.fast_dict.specs.meaning.Rule.{SentBy, SentFor, IsTail}
 
 -- a tail without a base, or of a shorter value
 pub no_tail : (f : FieldData) (p : PreviousData) (v : ScalarData) (o : Option ScalarData) → f.operator ≡ Tail → o ≡ Some v → ((base : ScalarData) (part : List ℕ) → tail_base f p ≡ Ok base → ¬ (IsTail (text_of base) (text_of v) part)) → (item : Sent) → ¬ (SentFor f p o item)

@@ -3,7 +3,7 @@ use Rattle.std.proofs.Common.{◌≡◌, ℕ, ◌+◌, ◌*◌, ◌<◌, ◌≤�
 use Rattle.std.specs.Prelude.{zero, suc, Bool, true, false, Option, Some, None, is_some, slice_index_or, cond, count_by}
 use Rattle.std.proofs.Math.Seq.{drop-cons}
 use Rattle.std.proofs.lemmas.List.Sums.{sum_by-cons}
-use Rattle.fast_dict.specs.Places.{places_from}
+use Rattle.fast_dict.specs.device.Places.{places_from}
 
 -- a mark that is set takes the next slot
 pub place_more : (size next : ℕ) (marks : List Bool) (i : ℕ) (d : Bool) (items all : List (Option ℕ)) → i < length marks → slice_index_or marks i d ≡ true → items ++ places_from size next (drop i marks) ≡ all → (items ++ Some next ∷ []) ++ places_from size (next + size) (drop (i + 1) marks) ≡ all

@@ -2,13 +2,13 @@
 use Rattle.std.proofs.Common.{◌≡◌, ℕ, ◌-◌, ◌++◌, ◌<◌, ◌≤◌, List, [], ◌∷◌, length, refl, ap, sym, ◌∙◌, arith}
 use Rattle.std.specs.Prelude.{vec_len, IsTrue, take, drop, zero, suc, ◌≢◌, Option, Some, None, slice_index_or, slice_set, replicate}
 use native.Mathlib.Numerals.{sub-one}
-use Rattle.fast_value.specs.Kinds.{ScalarData, U, I, Dec, AsciiText, UnicodeText, ByteVector, text_of}
-use Rattle.fast_dict.specs.Stores.{Terms, IsStorable}
-use Rattle.fast_dict.specs.Dictionary.{PreviousData, undefined, fresh, reset}
+use Rattle.fast_value.specs.meaning.Kinds.{ScalarData, U, I, Dec, AsciiText, UnicodeText, ByteVector, text_of}
+use Rattle.fast_dict.specs.meaning.Stores.{Terms, IsStorable}
+use Rattle.fast_dict.specs.meaning.Dictionary.{PreviousData, undefined, fresh, reset}
 use Rattle.fast_dict.specs.declared.entry.Entry.{Entry}
 use Rattle.fast_dict.specs.declared.entry.Entry.TheVariants.{Undefined}
-use Rattle.fast_dict.specs.Entry.{text_length, with_text}
-use Rattle.fast_dict.specs.Slots.{text_in, entry_data, entries_data, length-entries, slots_dictionary}
+use Rattle.fast_dict.specs.device.Entry.{text_length, with_text}
+use Rattle.fast_dict.specs.meaning.Slots.{text_in, entry_data, entries_data, length-entries, slots_dictionary}
 use Rattle.fast_dict.specs.declared.slots.Slots.{Slots}
 
 -- the block of one store gives each entry what that of the other does

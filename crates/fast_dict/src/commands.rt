@@ -1,9 +1,9 @@
 //! Lists of changes to a dictionary.
 
 ghost use Rattle.std.specs.Prelude.{◌≡◌, ◌<◌, ◌≤◌, ◌↔◌, length, map, take, All, HoldsAt, IsTrue, OnOk, OnErr};
-ghost use Rattle.fast_value.specs.Values.{scalar_data};
-ghost use Rattle.fast_dict.specs.Stores.{IsStorable};
-ghost use Rattle.fast_dict.specs.Commands.{command_data, IsRunnable, after, after_all, SetsText};
+ghost use Rattle.fast_value.specs.meaning.Values.{scalar_data};
+ghost use Rattle.fast_dict.specs.meaning.Stores.{IsStorable};
+ghost use Rattle.fast_dict.specs.meaning.Commands.{command_data, IsRunnable, after, after_all, SetsText};
 
 use crate::store::Store;
 use fast_value::{Kind, Scalar};

@@ -1,10 +1,10 @@
 //! An entry of a block store.
 
 ghost use Rattle.std.specs.Prelude.{◌≡◌, [], length};
-ghost use Rattle.fast_value.specs.Kinds.{text_of, U, I};
-ghost use Rattle.fast_value.specs.Values.{scalar_data};
-ghost use Rattle.fast_dict.specs.Dictionary.{assigned};
-ghost use Rattle.fast_dict.specs.Entry.{text_length, with_text};
+ghost use Rattle.fast_value.specs.meaning.Kinds.{text_of, U, I};
+ghost use Rattle.fast_value.specs.meaning.Values.{scalar_data};
+ghost use Rattle.fast_dict.specs.meaning.Dictionary.{assigned};
+ghost use Rattle.fast_dict.specs.device.Entry.{text_length, with_text};
 
 use fast_value::{Kind, Scalar};
 

@@ -1,10 +1,10 @@
 //! An entry of a dictionary that grows.
 
 ghost use Rattle.std.specs.Prelude.{◌≡◌, IfOk, OnErr};
-ghost use Rattle.fast_value.specs.Values.{scalar_data, value_data};
-ghost use Rattle.fast_dict.specs.Held.{held_data};
-ghost use Rattle.fast_dict.specs.Previous.{previous_data};
-ghost use Rattle.fast_dict.specs.Stores.{IsText};
+ghost use Rattle.fast_value.specs.meaning.Values.{scalar_data, value_data};
+ghost use Rattle.fast_dict.specs.device.Held.{held_data};
+ghost use Rattle.fast_dict.specs.meaning.Previous.{previous_data};
+ghost use Rattle.fast_dict.specs.meaning.Stores.{IsText};
 
 use crate::previous::Previous;
 use fast_value::{Kind, Scalar, Value};

@@ -1,8 +1,8 @@
 //! A dictionary that grows.
 
 ghost use Rattle.std.specs.Prelude.{◌≡◌, ℕ, ◌-◌, ◌<◌, ◌≤◌, ◌++◌, map, take, replicate, length, slice_index_or, vec_len, IfOk};
-ghost use Rattle.fast_dict.specs.Dictionary.{undefined};
-ghost use Rattle.fast_dict.specs.Held.{held_data, text_size};
+ghost use Rattle.fast_dict.specs.meaning.Dictionary.{undefined};
+ghost use Rattle.fast_dict.specs.device.Held.{held_data, text_size};
 ghost use Rattle.fast_dict.specs.declared.held.Held.TheVariants.{Undefined};
 
 use crate::held::{Held, owned};
@@ -22,8 +22,8 @@ pub struct Lists {
 
 impl Lists {
     ghost use Rattle.std.specs.Prelude.{◌≡◌, IfOk};
-    ghost use Rattle.fast_dict.specs.Dictionary.{fresh};
-    ghost use Rattle.fast_dict.specs.Lists.{lists_dictionary, lists_terms};
+    ghost use Rattle.fast_dict.specs.meaning.Dictionary.{fresh};
+    ghost use Rattle.fast_dict.specs.meaning.Lists.{lists_dictionary, lists_terms};
 
     /// A dictionary of so many entries, all undefined, for texts of at most `max_text` bytes.
     ///
@@ -57,7 +57,7 @@ impl Lists {
 }
 
 impl Store for Lists {
-    ghost use Rattle.fast_dict.specs.Lists.{lists_dictionary, lists_terms, lists_units, lists_bounded};
+    ghost use Rattle.fast_dict.specs.meaning.Lists.{lists_dictionary, lists_terms, lists_units, lists_bounded};
 
     ghost dictionary = { lists_dictionary };
 

@@ -10,12 +10,12 @@ pub mod texts;
 pub mod unsent;
 
 ghost use Rattle.std.specs.Prelude.{◌≡◌, option_map};
-ghost use Rattle.fast_value.specs.Kinds.{family};
-ghost use Rattle.fast_value.specs.Values.{scalar_data};
-ghost use Rattle.fast_dict.specs.Operators.{keeps, gives, gives_none, delta_base, start_value, zero_in, of_kind};
-ghost use Rattle.fast_dict.specs.Answers.{outcome_data, scalar_answer};
-ghost use Rattle.fast_dict.specs.Previous.{previous_data};
-ghost use Rattle.fast_tree.specs.Nodes.{field_data};
+ghost use Rattle.fast_value.specs.meaning.Kinds.{family};
+ghost use Rattle.fast_value.specs.meaning.Values.{scalar_data};
+ghost use Rattle.fast_dict.specs.meaning.Operators.{keeps, gives, gives_none, delta_base, start_value, zero_in, of_kind};
+ghost use Rattle.fast_dict.specs.meaning.Answers.{outcome_data, scalar_answer};
+ghost use Rattle.fast_dict.specs.meaning.Previous.{previous_data};
+ghost use Rattle.fast_tree.specs.device.Nodes.{field_data};
 
 use crate::previous::Previous;
 pub use decimals::{exponent_delta, mantissa_delta};

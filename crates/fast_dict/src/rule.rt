@@ -4,12 +4,12 @@ pub mod common;
 pub mod items;
 
 ghost use Rattle.std.specs.Prelude.{◌≡◌, ◌↔◌, Bool, true, IsTrue, IfSome, IfNone, option_map};
-ghost use Rattle.fast_value.specs.Values.{scalar_data};
-ghost use Rattle.fast_tree.specs.Nodes.{field_data};
-ghost use Rattle.fast_dict.specs.Operators.{Sent as SentData};
-ghost use Rattle.fast_dict.specs.Previous.{previous_data};
-ghost use Rattle.fast_dict.specs.Rule.{Rule, GoesUnsent};
-ghost use Rattle.fast_dict.specs.Sending.{sent_data};
+ghost use Rattle.fast_value.specs.meaning.Values.{scalar_data};
+ghost use Rattle.fast_tree.specs.device.Nodes.{field_data};
+ghost use Rattle.fast_dict.specs.meaning.Operators.{Sent as SentData};
+ghost use Rattle.fast_dict.specs.meaning.Previous.{previous_data};
+ghost use Rattle.fast_dict.specs.meaning.Rule.{Rule, GoesUnsent};
+ghost use Rattle.fast_dict.specs.meaning.Sending.{sent_data};
 
 use crate::operators::{Sent, decide};
 use crate::previous::Previous;

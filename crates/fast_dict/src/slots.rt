@@ -1,10 +1,10 @@
 //! A dictionary in memory that is taken at once.
 
 ghost use Rattle.std.specs.Prelude.{◌≡◌, ℕ, ◌+◌, ◌*◌, ◌<◌, ◌≤◌, ◌^◌, ◌-◌, ◌++◌, length, take, drop, count_by, replicate, slice_index_or, vec_len, Some, None, IfOk};
-ghost use Rattle.fast_value.specs.Kinds.{text_of};
-ghost use Rattle.fast_value.specs.Values.{scalar_data};
-ghost use Rattle.fast_dict.specs.Entry.{text_length};
-ghost use Rattle.fast_dict.specs.Places.{places_from};
+ghost use Rattle.fast_value.specs.meaning.Kinds.{text_of};
+ghost use Rattle.fast_value.specs.meaning.Values.{scalar_data};
+ghost use Rattle.fast_dict.specs.device.Entry.{text_length};
+ghost use Rattle.fast_dict.specs.device.Places.{places_from};
 ghost use Rattle.fast_dict.specs.declared.entry.Entry.TheVariants.{Undefined};
 
 use crate::entry::Entry;
@@ -32,10 +32,10 @@ pub struct Slots {
 
 impl Slots {
     ghost use Rattle.std.specs.Prelude.{◌≡◌, ◌≢◌, ℕ, List, [], ◌<◌, ◌≤◌, length, false, slice_index_or, slice_set, vec_len, None, IsTrue, IfOk};
-    ghost use Rattle.fast_dict.specs.Dictionary.{fresh, previous_at, write_at};
-    ghost use Rattle.fast_dict.specs.Entry.{text_length, with_text};
-    ghost use Rattle.fast_dict.specs.Previous.{previous_data};
-    ghost use Rattle.fast_dict.specs.Slots.{slots_dictionary, slots_terms, text_in, entry_data};
+    ghost use Rattle.fast_dict.specs.meaning.Dictionary.{fresh, previous_at, write_at};
+    ghost use Rattle.fast_dict.specs.device.Entry.{text_length, with_text};
+    ghost use Rattle.fast_dict.specs.meaning.Previous.{previous_data};
+    ghost use Rattle.fast_dict.specs.meaning.Slots.{slots_dictionary, slots_terms, text_in, entry_data};
     ghost use Rattle.fast_dict.specs.declared.entry.Entry.TheVariants.{Undefined};
 
     /// A dictionary with all entries undefined: as many as there are marks, each of which says whether its entry takes a
@@ -191,7 +191,7 @@ impl Slots {
 }
 
 impl Store for Slots {
-    ghost use Rattle.fast_dict.specs.Slots.{slots_dictionary, slots_terms, slots_units, slots_bounded};
+    ghost use Rattle.fast_dict.specs.meaning.Slots.{slots_dictionary, slots_terms, slots_units, slots_bounded};
 
     ghost dictionary = { slots_dictionary };
 

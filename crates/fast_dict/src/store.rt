@@ -1,10 +1,10 @@
 //! What a dictionary is to those who read and write it.
 
 ghost use Rattle.std.specs.Prelude.{◌≡◌, ◌<◌, length, IsTrue, OnOk, OnErr};
-ghost use Rattle.fast_value.specs.Values.{scalar_data};
-ghost use Rattle.fast_dict.specs.Dictionary.{assigned, empty, fresh, reset, previous_at, write_at};
-ghost use Rattle.fast_dict.specs.Previous.{previous_data};
-ghost use Rattle.fast_dict.specs.Stores.{IsStorable, IsText};
+ghost use Rattle.fast_value.specs.meaning.Values.{scalar_data};
+ghost use Rattle.fast_dict.specs.meaning.Dictionary.{assigned, empty, fresh, reset, previous_at, write_at};
+ghost use Rattle.fast_dict.specs.meaning.Previous.{previous_data};
+ghost use Rattle.fast_dict.specs.meaning.Stores.{IsStorable, IsText};
 
 use crate::previous::Previous;
 use fast_value::{Kind, Scalar};
@@ -16,8 +16,8 @@ use std::alloc::AllocError;
 /// A method that takes an entry is called with one below [`Store::entries`].
 pub trait Store {
     ghost use Rattle.std.specs.Prelude.{ℕ, ◌+◌, ◌*◌, ◌≤◌, length};
-    ghost use Rattle.fast_dict.specs.Dictionary.{Dictionary};
-    ghost use Rattle.fast_dict.specs.Stores.{Terms};
+    ghost use Rattle.fast_dict.specs.meaning.Dictionary.{Dictionary};
+    ghost use Rattle.fast_dict.specs.meaning.Stores.{Terms};
 
     // what each entry holds
     ghost dictionary: { Self → Dictionary };

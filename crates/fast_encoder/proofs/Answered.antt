@@ -2,21 +2,21 @@
 use Rattle.std.proofs.Common.{◌≡◌, ◌⊎◌, inl, inr, ap, sym, subst, ℕ}
 use Rattle.std.specs.Prelude.{slice_get, Some, Result, Err}
 use Rattle.fast_value.specs.declared.settings.Limits.{Limits}
-use Rattle.fast_value.specs.Messages.{MessageData}
+use Rattle.fast_value.specs.meaning.Messages.{MessageData}
 use Rattle.fast_tree.specs.declared.instructions.Template.{Template}
-use Rattle.fast_tree.specs.Bodies.{body_among}
-use Rattle.fast_tree.specs.Tree.{Tree}
+use Rattle.fast_tree.specs.device.Bodies.{body_among}
+use Rattle.fast_tree.specs.meaning.Tree.{Tree}
 use Rattle.fast_template.specs.declared.sets.Templates.{Templates}
-use Rattle.fast_template.specs.Flat.{nodes_of, templates_of, tree_of}
-use Rattle.fast_dict.specs.Dictionary.{Dictionary}
+use Rattle.fast_template.specs.meaning.Flat.{nodes_of, templates_of, tree_of}
+use Rattle.fast_dict.specs.meaning.Dictionary.{Dictionary}
 use Rattle.fast_spelling.specs.declared.faults.EncodeFault.{EncodeFault}
 use Rattle.fast_spelling.specs.declared.faults.EncodeFault.TheVariants.{E2, E3, E4, R9, Memory}
-use Rattle.fast_spelling.specs.Drafts.{IsTold}
-use Rattle.fast_spelling.specs.Refusals.{RefusesMessage, IsRefused}
-use Rattle.fast_spelling.specs.Suiting.{IsKnown, IsKnownAs, SuitsTemplate, SuitsBody, FitsLimits}
-use Rattle.fast_spelling.proofs.Excluded.{one_refusal}
-use Rattle.fast_spelling.proofs.Late.{message_late}
-use Rattle.fast_spelling.proofs.Whole.{slots_suit, template_suits}
+use Rattle.fast_spelling.specs.device.Drafts.{IsTold}
+use Rattle.fast_spelling.specs.meaning.Refusals.{RefusesMessage, IsRefused}
+use Rattle.fast_spelling.specs.meaning.Suiting.{IsKnown, IsKnownAs, SuitsTemplate, SuitsBody, FitsLimits}
+use Rattle.fast_spelling.proofs.encodings.Excluded.{one_refusal}
+use Rattle.fast_spelling.proofs.encodings.Late.{message_late}
+use Rattle.fast_spelling.proofs.encodings.Whole.{slots_suit, template_suits}
 
 pub known_so : (t : Tree) (m : MessageData) (id : ℕ) → IsKnownAs t m id → IsKnown t m
 known_so t m id (u, at, own) = (u, id, at, own)

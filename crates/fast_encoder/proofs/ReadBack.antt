@@ -2,22 +2,22 @@
 use Rattle.std.proofs.Common.{◌≡◌, ℕ, ◌+◌, ◌<◌, ◌≤◌, ◌^◌, List, [], ◌∷◌, ◌++◌, length, refl, ap, sym, subst, ◌∙◌, arith}
 use Rattle.std.specs.Prelude.{Bool, true, ◌&&◌, is_none, Option, Some, None, Result, Ok, Err}
 use Rattle.fast_value.specs.declared.settings.Limits.{Limits}
-use Rattle.fast_value.specs.Limits.{in_mode}
-use Rattle.fast_value.specs.Messages.{MessageData}
-use Rattle.fast_tree.specs.Tree.{Tree}
+use Rattle.fast_value.specs.meaning.Limits.{in_mode}
+use Rattle.fast_value.specs.meaning.Messages.{MessageData}
+use Rattle.fast_tree.specs.meaning.Tree.{Tree}
 use Rattle.fast_stream.specs.declared.faults.Fault.{Fault}
 use Rattle.fast_stream.specs.declared.faults.FaultCode.{FaultCode}
 use Rattle.fast_stream.specs.declared.faults.FaultCode.TheVariants as Why
-use Rattle.fast_stream.specs.Events.{EventData, events}
-use Rattle.fast_stream.specs.Messages.{SpellsMessage}
-use Rattle.fast_stream.specs.Sinks.{Takes}
-use Rattle.fast_stream.specs.Standing.{standing_at}
-use Rattle.fast_stream.specs.Streams.{between, Stream, Chain}
-use Rattle.fast_stream.proofs.Reading.{one_answer, read_back}
-use Rattle.fast_decoder.specs.Decoding.{DecoderData, So, Carries, CarriesAt, Carried, answer, standing, tree as decoded_tree}
-use Rattle.fast_decoder.proofs.Ends.{so-stream}
-use Rattle.fast_encoder.specs.Encoders.{EncoderData, IsEncoded, tree}
-use Rattle.fast_encoder.specs.ReadBack.{AreLevel, IsReadBack}
+use Rattle.fast_stream.specs.meaning.Events.{EventData, events}
+use Rattle.fast_stream.specs.meaning.Messages.{SpellsMessage}
+use Rattle.fast_stream.specs.meaning.Sinks.{Takes}
+use Rattle.fast_stream.specs.meaning.Account.{account_at}
+use Rattle.fast_stream.specs.meaning.Streams.{between, Stream, Chain}
+use Rattle.fast_stream.proofs.streams.Reading.{one_answer, read_back}
+use Rattle.fast_decoder.specs.meaning.Decoding.{DecoderData, HasRead, Carries, CarriesAt, Carried, answer, account, tree as decoded_tree}
+use Rattle.fast_decoder.proofs.streams.Ends.{read-stream}
+use Rattle.fast_encoder.specs.meaning.Encoders.{EncoderData, IsEncoded, tree}
+use Rattle.fast_encoder.specs.meaning.ReadBack.{AreLevel, IsReadBack}
 
 -- lists with the same front
 same_back : {A : Type 0} (u v w : List A) → u ++ v ≡ u ++ w → v ≡ w
@@ -38,13 +38,13 @@ module _ (e : EncoderData) (d : DecoderData) (m : MessageData) (out : List ℕ) 
   behind = read_back (decoded_tree d) d.limits w written.bytes es m e.dictionary f.dictionary level.chain spelled
 
   -- What was read of the bytes, and where it has led.
-  pub read : (g : DecoderData) (more : List EventData) → decoded_tree g ≡ decoded_tree d → g.limits ≡ d.limits → So g (w ++ written.bytes) (es ++ more) → (more ≡ events (tree e) m) × (standing g ≡ standing_at (w ++ written.bytes) between)
+  pub read : (g : DecoderData) (more : List EventData) → decoded_tree g ≡ decoded_tree d → g.limits ≡ d.limits → HasRead g (w ++ written.bytes) (es ++ more) → (more ≡ events (tree e) m) × (account g ≡ account_at (w ++ written.bytes) between)
   read g more same_tree same_limits so =
-      let (ending, stream, stands) = so-stream g (w ++ written.bytes) (es ++ more) so in
+      let (ending, stream, stands) = read-stream g (w ++ written.bytes) (es ++ more) so in
       let here : Stream (decoded_tree d) d.limits (w ++ written.bytes) (es ++ more) ending
       = subst (λ (t : Tree). Stream t d.limits (w ++ written.bytes) (es ++ more) ending) same_tree (subst (λ (l : Limits). Stream (decoded_tree g) l (w ++ written.bytes) (es ++ more) ending) same_limits stream) in
       let one = one_answer (decoded_tree d) d.limits (w ++ written.bytes) (es ++ more) (es ++ events (decoded_tree d) m) ending between here behind.0 in
-      (same_back es more (events (decoded_tree d) m) one.0 ∙ ap (λ (t : Tree). events t m) level.same_tree, stands ∙ ap (standing_at (w ++ written.bytes)) one.1)
+      (same_back es more (events (decoded_tree d) m) one.0 ∙ ap (λ (t : Tree). events t m) level.same_tree, stands ∙ ap (account_at (w ++ written.bytes)) one.1)
 
 -- The two are level again.
 module _ {S : Type 0} (takes stops : S → EventData → S → Type 0) (e f : EncoderData) (d g : DecoderData) (m : MessageData) (out longer w : List ℕ) (es : List EventData) (s t : S) (level : AreLevel e d w es) (written : IsEncoded e m out f longer)
@@ -62,7 +62,7 @@ module _ {S : Type 0} (takes stops : S → EventData → S → Type 0) (e f : En
         level = record {
           same_tree = same_tree ∙ level.same_tree ∙ sym kept_tree;
           same_limits = ap (in_mode true) same_limits ∙ level.same_limits ∙ ap (in_mode true) (sym kept_limits);
-          so = subst (λ (xs : List EventData). So g (w ++ written.bytes) (es ++ xs)) whole carried.so;
+          so = subst (λ (xs : List EventData). HasRead g (w ++ written.bytes) (es ++ xs)) whole carried.so;
           is_between = ap (λ z. z.is_between) stands;
           chain = subst (λ (z : Tree). Chain (decoded_tree g) g.limits (w ++ written.bytes) (es ++ events z m) f.dictionary) (level.same_tree ∙ sym kept_tree) here;
         };

@@ -1,2 +1,1 @@
-pub mod Encoders
-pub mod ReadBack
+pub mod meaning

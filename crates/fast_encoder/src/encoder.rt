@@ -2,19 +2,19 @@
 
 ghost use Rattle.std.specs.Prelude.{◌≡◌, ◌⊎◌, ◌↔◌, ℕ, length, IfOk, IfErr, OnOk, OnErr, IfSome, IfNone, IsTrue, Err, Some, slice_get};
 ghost use Rattle.std.specs.Bool.{IsFalse};
-ghost use Rattle.fast_value.specs.Views.{message_data, slots_data};
-ghost use Rattle.fast_tree.specs.Bodies.{AreNodeWidths};
+ghost use Rattle.fast_value.specs.meaning.Views.{message_data, slots_data};
+ghost use Rattle.fast_tree.specs.device.Bodies.{AreNodeWidths};
 ghost use Rattle.fast_tree.specs.declared.instructions.Template.{Template};
-ghost use Rattle.fast_template.specs.Flat.{tree_of, nodes_of, templates_of};
-ghost use Rattle.fast_dict.specs.Dictionary.{fresh};
-ghost use Rattle.fast_dict.specs.EntryTexts.{HasLongInitial};
-ghost use Rattle.fast_decoder.specs.Decoding.{AreBadLimits};
-ghost use Rattle.fast_spelling.specs.Drafts.{IsTold};
-ghost use Rattle.fast_spelling.specs.Encoding.{EncodesMessage};
-ghost use Rattle.fast_spelling.specs.Nodes.{IsReady, Keeps};
-ghost use Rattle.fast_spelling.specs.Refusals.{IsRefused};
-ghost use Rattle.fast_spelling.specs.Suiting.{IsKnown, IsKnownAs, SuitsTemplate, FitsLimits};
-ghost use Rattle.fast_encoder.specs.Encoders.{tree, IsEncoded, IsToldOf};
+ghost use Rattle.fast_template.specs.meaning.Flat.{tree_of, nodes_of, templates_of};
+ghost use Rattle.fast_dict.specs.meaning.Dictionary.{fresh};
+ghost use Rattle.fast_dict.specs.device.EntryTexts.{HasLongInitial};
+ghost use Rattle.fast_decoder.specs.meaning.Decoding.{AreBadLimits};
+ghost use Rattle.fast_spelling.specs.device.Drafts.{IsTold};
+ghost use Rattle.fast_spelling.specs.meaning.Encoding.{EncodesMessage};
+ghost use Rattle.fast_spelling.specs.device.Nodes.{IsReady, Keeps};
+ghost use Rattle.fast_spelling.specs.meaning.Refusals.{IsRefused};
+ghost use Rattle.fast_spelling.specs.meaning.Suiting.{IsKnown, IsKnownAs, SuitsTemplate, FitsLimits};
+ghost use Rattle.fast_encoder.specs.meaning.Encoders.{tree, IsEncoded, IsToldOf};
 
 use fast_decoder::MakeError;
 use fast_decoder::layout::{has_long_initial, measure};
@@ -42,8 +42,8 @@ pub struct Encoder<'t> {
 }
 
 impl<'t> Model for Encoder<'t> {
-    ghost use Rattle.fast_decoder.specs.Positions.{set_of};
-    ghost use Rattle.fast_encoder.specs.Encoders.{EncoderData, IsSound};
+    ghost use Rattle.fast_decoder.specs.device.Positions.{set_of};
+    ghost use Rattle.fast_encoder.specs.meaning.Encoders.{EncoderData, IsSound};
 
     ghost Value = { EncoderData };
 

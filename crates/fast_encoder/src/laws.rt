@@ -1,12 +1,12 @@
 //! Laws of the encoder and the decoder together.
 
 ghost use Rattle.std.specs.Prelude.{◌≡◌, ℕ, ◌+◌, ◌<◌, ◌^◌, List, length, Result};
-ghost use Rattle.fast_value.specs.Messages.{MessageData};
+ghost use Rattle.fast_value.specs.meaning.Messages.{MessageData};
 ghost use Rattle.fast_stream.specs.declared.faults.Fault.{Fault};
-ghost use Rattle.fast_stream.specs.Events.{EventData};
-ghost use Rattle.fast_decoder.specs.Decoding.{DecoderData, Carried, answer, tree as decoded_tree};
-ghost use Rattle.fast_encoder.specs.Encoders.{EncoderData, IsEncoded, tree};
-ghost use Rattle.fast_encoder.specs.ReadBack.{AreLevel, IsReadBack, NeverStops};
+ghost use Rattle.fast_stream.specs.meaning.Events.{EventData};
+ghost use Rattle.fast_decoder.specs.meaning.Decoding.{DecoderData, Carried, answer, tree as decoded_tree};
+ghost use Rattle.fast_encoder.specs.meaning.Encoders.{EncoderData, IsEncoded, tree};
+ghost use Rattle.fast_encoder.specs.meaning.ReadBack.{AreLevel, IsReadBack, NeverStops};
 
 use fast_decoder::Sink;
 pub use fast_spelling::laws::{

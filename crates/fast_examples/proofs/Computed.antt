@@ -6,15 +6,15 @@ use Rattle.std.specs.Char.{encode_utf8}
 use Rattle.std.proofs.lemmas.Bool.{leb-true}
 use Rattle.std.proofs.lemmas.List.Elements.{All-cons, All-nil}
 use Rattle.fast_value.specs.declared.settings.Limits.{Limits}
-use Rattle.fast_tree.specs.Tree.{Tree}
-use Rattle.fast_stream.specs.Events.{EventData}
-use Rattle.fast_stream.specs.Streams.{End, Stream}
-use Rattle.fast_stream.specs.Readers.{AreBytes}
-use Rattle.fast_stream.specs.Running.{reading, end_of, message_begun}
-use Rattle.fast_stream.specs.Fields.{field_term}
-use Rattle.fast_stream.specs.Continuations.{message_then, message_of_then, body_then}
-use Rattle.fast_stream.specs.GrammarReaders.{judged, judged_map, integer_reader, presence_map_reader, ascii_text_reader}
-use Rattle.fast_stream.proofs.Reading.{reading-sound}
+use Rattle.fast_tree.specs.meaning.Tree.{Tree}
+use Rattle.fast_stream.specs.meaning.Events.{EventData}
+use Rattle.fast_stream.specs.meaning.Streams.{End, Stream}
+use Rattle.fast_stream.specs.device.Readers.{AreBytes}
+use Rattle.fast_stream.specs.device.Running.{reading, end_of, message_begun}
+use Rattle.fast_stream.specs.meaning.Fields.{field_term}
+use Rattle.fast_stream.specs.device.Continuations.{message_then, message_of_then, body_then}
+use Rattle.fast_stream.specs.device.GrammarReaders.{judged, judged_map, integer_reader, presence_map_reader, ascii_text_reader}
+use Rattle.fast_stream.proofs.streams.Reading.{reading-sound}
 
 -- all are below 256, by computation
 abbrev pub are_small : List ℕ → Bool

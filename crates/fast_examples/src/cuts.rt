@@ -1,6 +1,6 @@
 //! Streams that end before a message does.
 
-ghost use Rattle.fast_examples.specs.Cuts.{CutStreams, CutMaps};
+ghost use Rattle.fast_examples.specs.meaning.Cuts.{CutStreams, CutMaps};
 
 /// Of no byte the stream ends between two messages, and of a part of a message inside one. The message's start is handed over
 /// with its identifier.

@@ -1,6 +1,6 @@
 //! Faults with their places.
 
-ghost use Rattle.fast_examples.specs.Faults.{IdentifierFaults, PreviousValueFaults, IntegerFaults, TextFaults, SubtractionFaults, OverlongInteger, OverlongMaps};
+ghost use Rattle.fast_examples.specs.meaning.Faults.{IdentifierFaults, PreviousValueFaults, IntegerFaults, TextFaults, SubtractionFaults, OverlongInteger, OverlongMaps};
 
 /// `80` copies an identifier where none was sent: at the map, since no byte stands for it. `D5` is an identifier that no template
 /// has, and ten bytes without a stop bit are none. No event is handed over.

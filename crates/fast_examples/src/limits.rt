@@ -1,6 +1,6 @@
 //! What streams may claim, and what a template set can cost.
 
-ghost use Rattle.fast_examples.specs.Limits.{ElementLimit, TotalLimit, TextLimit, MapLimit, Sizes};
+ghost use Rattle.fast_examples.specs.meaning.Limits.{ElementLimit, TotalLimit, TextLimit, MapLimit, Sizes};
 
 /// A length of 4294967295 is refused at its last byte, and nothing of the sequence is handed over; so is one of 1000 where 999
 /// are allowed. The limit on a sequence comes before that on a message.

@@ -1,6 +1,6 @@
 //! Whole messages.
 
-ghost use Rattle.fast_examples.specs.Messages.{OneInteger, CopiedIdentifier, SignedIntegers, NullableIntegers, GreatestInteger, ConstantElements, OneUnicodeText, Decimals, OptionalTexts, NestedMessage};
+ghost use Rattle.fast_examples.specs.meaning.Messages.{OneInteger, CopiedIdentifier, SignedIntegers, NullableIntegers, GreatestInteger, ConstantElements, OneUnicodeText, Decimals, OptionalTexts, NestedMessage};
 
 /// `C0 81 39 45 A3`: a presence map whose first bit says that an identifier follows, template 1, and an integer of three
 /// bytes, 942755.

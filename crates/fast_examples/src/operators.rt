@@ -1,6 +1,6 @@
 //! Field operators and previous values.
 
-ghost use Rattle.fast_examples.specs.Operators.{TextTails, TextDeltas, UnicodeDeltas, OptionalDelta, Increments, OptionalCopy, AbsentDecimalTakesNoMantissaBit, ResetForgets};
+ghost use Rattle.fast_examples.specs.meaning.Operators.{TextTails, TextDeltas, UnicodeDeltas, OptionalDelta, Increments, OptionalCopy, AbsentDecimalTakesNoMantissaBit, ResetForgets};
 
 /// `ABCDE` is sent whole; the tail `XY` replaces its last two characters; and with nothing sent the text is copied.
 pub fn text_tails()

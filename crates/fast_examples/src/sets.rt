@@ -1,8 +1,8 @@
 //! The built-in template set as a text.
 
 ghost use Rattle.std.specs.Prelude.{◌≡◌};
-ghost use Rattle.fast_examples.specs.Spelled.{spelled};
-ghost use Rattle.fast_examples.specs.Vectors.{vectors};
+ghost use Rattle.fast_examples.specs.meaning.Spelled.{spelled};
+ghost use Rattle.fast_examples.specs.meaning.Vectors.{vectors};
 
 /// The set under which the examples are read: the number of its entries; a line for each template with its name, its identifier,
 /// whether it resets, and its nodes; and a line for each node with its number and its name, and of a field, a length, an exponent

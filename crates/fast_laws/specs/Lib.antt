@@ -1,6 +1,1 @@
-pub mod Proper
-pub mod Naming
-pub mod Nesting
-pub mod Counting
-pub mod Raising
-pub mod Items
+pub mod meaning

@@ -5,8 +5,8 @@ use Rattle.std.proofs.lemmas.List.Elements.{All-head, All-tail}
 use Rattle.std.proofs.lemmas.List.{append_cancel_right}
 use Rattle.std.proofs.lemmas.Bool.{cases_eq}
 use Rattle.std.proofs.lemmas.Bool.Decides.{nat_tests}
-use Rattle.fast_lines.specs.Lines.{hex_digit, hex_byte, escaped, quoted}
-use Rattle.fast_lines.specs.Texts.{IsMarked, IsControl, IsPlain}
+use Rattle.fast_lines.specs.meaning.Lines.{hex_digit, hex_byte, escaped, quoted}
+use Rattle.fast_lines.specs.meaning.Texts.{IsMarked, IsControl, IsPlain}
 
 -- what stands for a byte
 abbrev pub Stands : ℕ → List ℕ → Type 0

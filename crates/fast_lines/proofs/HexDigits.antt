@@ -4,10 +4,10 @@ use Rattle.std.specs.Prelude.{flat_map, slice_index, All}
 use Rattle.std.proofs.lemmas.List.Elements.{All-nil, All-cons, All-head, All-tail}
 use Rattle.std.proofs.lemmas.Bool.{cases_lt}
 use Rattle.std.proofs.lemmas.Bool.Decides.{nat_tests}
-use Rattle.fast_value.specs.Initial.{IsHexDigit, IsHex}
-use Rattle.fast_lines.specs.Bytes.{IsNotUpper}
+use Rattle.fast_value.specs.meaning.Initial.{IsHexDigit, IsHex}
+use Rattle.fast_lines.specs.device.Bytes.{IsNotUpper}
 use Rattle.hex.specs.Hex.{encode_with, encode_lower, lower_digits}
-use Rattle.fast_lines.specs.Lines.{hex_digit, hex_byte}
+use Rattle.fast_lines.specs.meaning.Lines.{hex_digit, hex_byte}
 
 -- a digit of the table
 pub digit_of_table : (n : ℕ) → n < 16 → slice_index lower_digits n ≡ hex_digit n

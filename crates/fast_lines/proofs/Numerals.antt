@@ -7,7 +7,7 @@ use Rattle.std.proofs.lemmas.Fmt.{IsAscii-decimal, IsAscii-signed, parse-decimal
 use Rattle.std.proofs.lemmas.Int.{ints}
 use Rattle.std.proofs.lemmas.Str.{IsUtf8-from_ascii}
 use lib.Signed.{mag}
-use Rattle.fast_value.specs.Kinds.{IsWithin, signed_range}
+use Rattle.fast_value.specs.meaning.Kinds.{IsWithin, signed_range}
 
 -- an integer of 64 bits is small
 pub small_from_range : (x : ℤ) → IsWithin (signed_range 63) x → mag x < 2 ^ 63

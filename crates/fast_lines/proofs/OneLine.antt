@@ -8,8 +8,8 @@ use Rattle.std.proofs.lemmas.Bool.{ne_eqb}
 use Rattle.std.proofs.lemmas.List.Elements.{All-head, All-tail}
 use Rattle.fast_lines.specs.declared.forms.Keyword.{Keyword}
 use Rattle.fast_lines.specs.declared.forms.Keyword.TheVariants as Key
-use Rattle.fast_lines.specs.Values.{Lacks}
-use Rattle.fast_lines.specs.Forms.{LineData, message, field, group, group_end, sequence, element, element_end, sequence_end, message_end, text_of_line, IsForm, keyword_of}
+use Rattle.fast_lines.specs.meaning.Values.{Lacks}
+use Rattle.fast_lines.specs.meaning.Forms.{LineData, message, field, group, group_end, sequence, element, element_end, sequence_end, message_end, text_of_line, IsForm, keyword_of}
 use Rattle.fast_lines.proofs.Words.{node_as_words, more_as_words, number_lacks}
 
 -- what stands before the first space, and behind it

@@ -2,9 +2,9 @@
 use Rattle.std.proofs.Common.{◌≡◌, ℕ, ◌/◌, ◌%◌, List, [], ◌∷◌, ◌++◌, codes, decimal, append_assoc, refl, ap, sym, ◌∙◌, inr, ℤ, flat_map, arith}
 use Rattle.std.specs.Fmt.{signed_decimal}
 use Rattle.std.proofs.lemmas.Fmt.{decimal_injective, signed_decimal_injective}
-use Rattle.fast_value.specs.Kinds.{ScalarData, U, I, Dec, AsciiText, UnicodeText, ByteVector, IsWithin, signed_range}
-use Rattle.fast_lines.specs.Lines.{hex_digit, hex_byte, written, quoted}
-use Rattle.fast_lines.specs.Values.{IsHeld}
+use Rattle.fast_value.specs.meaning.Kinds.{ScalarData, U, I, Dec, AsciiText, UnicodeText, ByteVector, IsWithin, signed_range}
+use Rattle.fast_lines.specs.meaning.Lines.{hex_digit, hex_byte, written, quoted}
+use Rattle.fast_lines.specs.meaning.Values.{IsHeld}
 use Rattle.fast_lines.proofs.Numerals.{small_from_range, small_from_narrow}
 use Rattle.fast_lines.proofs.Escapes.{quoted_is_one, same_byte}
 use Rattle.fast_lines.proofs.Splits.{first_split, signed_lacks}

@@ -6,7 +6,7 @@ use Rattle.std.proofs.lemmas.Fmt.{decimal_is_IsNumeral}
 use Rattle.std.proofs.lemmas.Str.Parse.{digit_at}
 use Rattle.std.proofs.lemmas.List.Elements.{All-cons, All-head, All-tail, All-from_get_or}
 use lib.Signed.{mag}
-use Rattle.fast_lines.specs.Values.{Lacks}
+use Rattle.fast_lines.specs.meaning.Values.{Lacks}
 
 -- The first such byte splits a text in one way.
 pub first_split : (x : ℕ) (a b xs ys : List ℕ) → Lacks x a → Lacks x b → a ++ x ∷ xs ≡ b ++ x ∷ ys → (a ≡ b) × (xs ≡ ys)

@@ -3,10 +3,10 @@ use Rattle.std.proofs.Common.{◌≡◌, ◌≢◌, ℕ, ◌<◌, ◌^◌, Bool,
 use Rattle.std.specs.Prelude.{decimal, nat_eq, Option, Some, None, IfNone}
 use Rattle.std.proofs.lemmas.Bool.Decides.{nat_tests}
 use Rattle.std.proofs.lemmas.List.Elements.{All-nil, All-cons}
-use Rattle.fast_lines.specs.Values.{Lacks}
+use Rattle.fast_lines.specs.meaning.Values.{Lacks}
 use Rattle.fast_lines.specs.declared.forms.Keyword.TheVariants as Key
 use Rattle.fast_lines.specs.declared.forms.Line.{Line}
-use Rattle.fast_lines.specs.Forms.{LineData, message, field, group, group_end, sequence, element, element_end, sequence_end, message_end, text_of_line, IsWord, IsForm, keyword_of, IsNoForm}
+use Rattle.fast_lines.specs.meaning.Forms.{LineData, message, field, group, group_end, sequence, element, element_end, sequence_end, message_end, text_of_line, IsWord, IsForm, keyword_of, IsNoForm}
 use Rattle.fast_lines.proofs.Splits.{first_split, no_split, decimal_lacks}
 
 -- a node's number and name, and what stands behind them

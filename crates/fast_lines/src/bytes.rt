@@ -1,8 +1,8 @@
 //! Bytes in lower case hexadecimal digits.
 
 ghost use Rattle.std.specs.Prelude.{◌≡◌, ◌≢◌, ◌↔◌, ℕ, ◌<◌, List, IsTrue, All, IfSome, IfNone, IfOk, flat_map};
-ghost use Rattle.fast_lines.specs.Lines.{hex_byte};
-ghost use Rattle.fast_lines.specs.Bytes.{IsNotUpper};
+ghost use Rattle.fast_lines.specs.meaning.Lines.{hex_byte};
+ghost use Rattle.fast_lines.specs.device.Bytes.{IsNotUpper};
 
 use hex::FromHexError;
 use std::alloc::{AllocError, Global};

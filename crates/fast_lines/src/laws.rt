@@ -1,13 +1,13 @@
 //! Laws of lines. They speak of the definitions alone, over all sets, events and texts.
 
 ghost use Rattle.std.specs.Prelude.{◌≡◌, ℕ, List};
-ghost use Rattle.fast_value.specs.Kinds.{ScalarData};
-ghost use Rattle.fast_tree.specs.AsWritten.{IsName};
-ghost use Rattle.fast_tree.specs.Tree.{Tree};
-ghost use Rattle.fast_stream.specs.Events.{EventData};
-ghost use Rattle.fast_lines.specs.Forms.{LineData, IsWord, IsForm, text_of_line, line_of_event};
-ghost use Rattle.fast_lines.specs.Lines.{line_of, quoted, written};
-ghost use Rattle.fast_lines.specs.Values.{IsHeld};
+ghost use Rattle.fast_value.specs.meaning.Kinds.{ScalarData};
+ghost use Rattle.fast_tree.specs.meaning.AsWritten.{IsName};
+ghost use Rattle.fast_tree.specs.meaning.Tree.{Tree};
+ghost use Rattle.fast_stream.specs.meaning.Events.{EventData};
+ghost use Rattle.fast_lines.specs.meaning.Forms.{LineData, IsWord, IsForm, text_of_line, line_of_event};
+ghost use Rattle.fast_lines.specs.meaning.Lines.{line_of, quoted, written};
+ghost use Rattle.fast_lines.specs.meaning.Values.{IsHeld};
 
 /// The line of an event is of a line's form, but for its names.
 pub fn line_of_event_is_its_line()

@@ -1,8 +1,8 @@
 //! Texts between quotes, as lines have them.
 
 ghost use Rattle.std.specs.Prelude.{◌≡◌, ◌≢◌, ◌↔◌, ℕ, ◌<◌, List, [], ◌∷◌, ◌++◌, IsTrue, All, IfSome, IfNone, IfOk, flat_map};
-ghost use Rattle.fast_lines.specs.Lines.{hex_digit, hex_byte, escaped, quoted};
-ghost use Rattle.fast_lines.specs.Texts.{IsMarked, IsControl, IsPlain};
+ghost use Rattle.fast_lines.specs.meaning.Lines.{hex_digit, hex_byte, escaped, quoted};
+ghost use Rattle.fast_lines.specs.meaning.Texts.{IsMarked, IsControl, IsPlain};
 
 use std::alloc::{AllocError, Global};
 

@@ -2,11 +2,11 @@
 
 ghost use Rattle.std.specs.Prelude.{◌≡◌, ◌≢◌, ◌↔◌, ℕ, ℤ, List, ◌∷◌, ◌++◌, IsTrue, IfSome, IfNone, IfOk};
 ghost use Rattle.std.specs.Fmt.{signed_decimal};
-ghost use Rattle.fast_value.specs.Kinds.{ScalarData, IsWithin, signed_range};
-ghost use Rattle.fast_value.specs.Values.{value_data};
-ghost use Rattle.fast_lines.specs.Lines.{written};
-ghost use Rattle.fast_lines.specs.Numbers.{IsDecimalDigits, IsNumberOf, IsNumberText};
-ghost use Rattle.fast_lines.specs.Values.{IsHeld, Lacks};
+ghost use Rattle.fast_value.specs.meaning.Kinds.{ScalarData, IsWithin, signed_range};
+ghost use Rattle.fast_value.specs.meaning.Values.{value_data};
+ghost use Rattle.fast_lines.specs.meaning.Lines.{written};
+ghost use Rattle.fast_lines.specs.device.Numbers.{IsDecimalDigits, IsNumberOf, IsNumberText};
+ghost use Rattle.fast_lines.specs.meaning.Values.{IsHeld, Lacks};
 
 use crate::bytes::parse_bytes;
 use crate::numbers::{is_digits, is_signed_digits, parse_exponent, parse_signed, parse_unsigned};

@@ -2,19 +2,19 @@
 
 ghost use Rattle.std.specs.Prelude.{ℕ, suc, Bool, false, List, Option, ◌≡◌, ◌<◌, ◌≤◌, ◌*◌, ◌^◌, All, sum_by, ◌++◌, ◌∷◌, [], length, map, option_map, IfOk, OnOk};
 ghost use Rattle.std.specs.HashMap.{get_by_text};
-ghost use Rattle.fast_value.specs.Values.{value_data};
-ghost use Rattle.fast_tree.specs.AsWritten.{Written, group, sequence, reference, no_more, more, length_use};
-ghost use Rattle.fast_notation.specs.Built.{with_shape, data_of, IsReady, AreBuilt};
-ghost use Rattle.fast_notation.specs.Chains.{Fits, nodes_in};
-ghost use Rattle.fast_notation.specs.EntryKeys.{scope_data, use_data};
-ghost use Rattle.fast_notation.specs.ReadSets.{IsChecked, IsSetBuilt};
-ghost use Rattle.fast_tree.specs.NodeData.{a_group, node_data, shape_data, outline};
-ghost use Rattle.fast_tree.specs.Nodes.{field_data};
-ghost use Rattle.fast_tree.specs.Sizes.{nesting_limit, node_limit};
-ghost use Rattle.fast_notation.specs.Uses.{IsInitialOf, IsField};
-ghost use Rattle.fast_notation.specs.Sound.{IsSound};
-ghost use Rattle.fast_notation.specs.WrittenSets.{instruction_data, fields_data, written_data, templates_data};
-ghost use Rattle.fast_notation.specs.Builders.{templates_in, entries_in, IsBuilder, CanBuildAt, IsBuiltAt};
+ghost use Rattle.fast_value.specs.meaning.Values.{value_data};
+ghost use Rattle.fast_tree.specs.meaning.AsWritten.{Written, group, sequence, reference, no_more, more, length_use};
+ghost use Rattle.fast_notation.specs.device.Built.{with_shape, data_of, IsReady, AreBuilt};
+ghost use Rattle.fast_notation.specs.device.Chains.{Fits, nodes_in};
+ghost use Rattle.fast_notation.specs.device.EntryKeys.{scope_data, use_data};
+ghost use Rattle.fast_notation.specs.device.ReadSets.{IsChecked, IsSetBuilt};
+ghost use Rattle.fast_tree.specs.device.NodeData.{a_group, node_data, shape_data, outline};
+ghost use Rattle.fast_tree.specs.device.Nodes.{field_data};
+ghost use Rattle.fast_tree.specs.meaning.Sizes.{nesting_limit, node_limit};
+ghost use Rattle.fast_notation.specs.meaning.Uses.{IsInitialOf, IsField};
+ghost use Rattle.fast_notation.specs.device.Sound.{IsSound};
+ghost use Rattle.fast_notation.specs.device.WrittenSets.{instruction_data, fields_data, written_data, templates_data};
+ghost use Rattle.fast_notation.specs.device.Builders.{templates_in, entries_in, IsBuilder, CanBuildAt, IsBuiltAt};
 
 use crate::codes::StaticCode;
 use crate::entries::{Entries, collect_entries};

@@ -4,17 +4,17 @@
 ghost use Rattle.std.specs.Prelude.{◌≡◌, ◌≢◌, ◌↔◌, ◌<◌, ◌≤◌, ◌^◌, ℕ, suc, List, is_some, length, replicate, take, sum_by, All, AllPairs, Some, None, IsTrue, IfSome, IfOk, IfErr, OnOk};
 ghost use Rattle.std.specs.List.{list_all};
 ghost use Rattle.std.specs.HashMap.{get_by_text};
-ghost use Rattle.fast_tree.specs.AsWritten.{all_uses};
-ghost use Rattle.fast_notation.specs.Chains.{Fits, nodes_in, depth_in};
-ghost use Rattle.fast_notation.specs.Extents.{named_extent, next_extents, known_nodes, AreExtents, IsShallow, IsDeepAt};
-ghost use Rattle.fast_notation.specs.Faults.{IsFaultAt};
-ghost use Rattle.fast_notation.specs.Firsts.{IsFirstInChains};
-ghost use Rattle.fast_tree.specs.Places.{place_of_name};
-ghost use Rattle.fast_notation.specs.Refused.{StandsAt};
-ghost use Rattle.fast_notation.specs.References.{KnowsReferences};
-ghost use Rattle.fast_tree.specs.Sizes.{nesting_limit, node_limit};
-ghost use Rattle.fast_notation.specs.Sound.{IsSound};
-ghost use Rattle.fast_notation.specs.WrittenSets.{templates_data};
+ghost use Rattle.fast_tree.specs.meaning.AsWritten.{all_uses};
+ghost use Rattle.fast_notation.specs.device.Chains.{Fits, nodes_in, depth_in};
+ghost use Rattle.fast_notation.specs.device.Extents.{named_extent, next_extents, known_nodes, AreExtents, IsShallow, IsDeepAt};
+ghost use Rattle.fast_notation.specs.meaning.Faults.{IsFaultAt};
+ghost use Rattle.fast_notation.specs.meaning.Firsts.{IsFirstInChains};
+ghost use Rattle.fast_tree.specs.device.Places.{place_of_name};
+ghost use Rattle.fast_notation.specs.meaning.Refused.{StandsAt};
+ghost use Rattle.fast_notation.specs.device.References.{KnowsReferences};
+ghost use Rattle.fast_tree.specs.meaning.Sizes.{nesting_limit, node_limit};
+ghost use Rattle.fast_notation.specs.device.Sound.{IsSound};
+ghost use Rattle.fast_notation.specs.device.WrittenSets.{templates_data};
 
 use crate::codes::{StaticCode, StaticFault};
 use crate::cycles::first_cyclic;

@@ -3,13 +3,13 @@
 ghost use Rattle.std.specs.Prelude.{◌≡◌, ◌≢◌, ◌<◌, ◌^◌, ℕ, List, nat_eq, is_some, length, take, All, AllPairs, Some, IfSome, IsSome, IfOk, IfErr, OnOk};
 ghost use Rattle.std.specs.List.{list_all};
 ghost use Rattle.std.specs.HashMap.{get, get_by_text};
-ghost use Rattle.fast_tree.specs.AsWritten.{all_uses, references, all_references};
-ghost use Rattle.fast_notation.specs.Faults.{IsFaultAt, fault_of};
-ghost use Rattle.fast_notation.specs.Firsts.{pass_of};
-ghost use Rattle.fast_tree.specs.Places.{place_of_name, place_of_id};
-ghost use Rattle.fast_notation.specs.References.{references_in, KnowsReferences};
-ghost use Rattle.fast_notation.specs.Sound.{IsSound};
-ghost use Rattle.fast_notation.specs.WrittenSets.{instruction_data, templates_data};
+ghost use Rattle.fast_tree.specs.meaning.AsWritten.{all_uses, references, all_references};
+ghost use Rattle.fast_notation.specs.meaning.Faults.{IsFaultAt, fault_of};
+ghost use Rattle.fast_notation.specs.meaning.Firsts.{pass_of};
+ghost use Rattle.fast_tree.specs.device.Places.{place_of_name, place_of_id};
+ghost use Rattle.fast_notation.specs.device.References.{references_in, KnowsReferences};
+ghost use Rattle.fast_notation.specs.device.Sound.{IsSound};
+ghost use Rattle.fast_notation.specs.device.WrittenSets.{instruction_data, templates_data};
 
 use crate::codes::{StaticCode, StaticFault};
 use crate::uses::check_fields;

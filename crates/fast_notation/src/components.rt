@@ -1,7 +1,7 @@
 //! The sets of templates that refer to one another.
 
 ghost use Rattle.std.specs.Prelude.{◌≡◌, ◌<◌, length, vec_len, All};
-ghost use Rattle.fast_notation.specs.Cycles.{AreWithin};
+ghost use Rattle.fast_notation.specs.device.Cycles.{AreWithin};
 
 use std::alloc::{AllocError, Global};
 
@@ -47,7 +47,7 @@ struct Walk<'a> {
 
 impl<'a> Walk<'a> {
     ghost use Rattle.std.specs.Prelude.{◌≡◌, ◌<◌, length, IfOk};
-    ghost use Rattle.fast_notation.specs.Cycles.{AreWithin};
+    ghost use Rattle.fast_notation.specs.device.Cycles.{AreWithin};
 
     fn new(alloc: Global, graph: &'a [Vec<u32>]) -> Result<Walk<'a>, AllocError>
         requires { AreWithin graph.now }

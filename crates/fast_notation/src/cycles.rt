@@ -3,12 +3,12 @@
 ghost use Rattle.std.specs.Prelude.{◌≡◌, ◌<◌, ◌^◌, ◌≢◌, ◌++◌, ℕ, List, true, map, length, All, AllPairs, IsTrue, IfOk, IfSome, OnOk};
 ghost use Rattle.std.specs.List.{filter_map};
 ghost use Rattle.std.specs.HashMap.{get_by_text};
-ghost use Rattle.fast_tree.specs.AsWritten.{references};
-ghost use Rattle.fast_notation.specs.Cycles.{numbers, targets_of, IsReached, IsCyclic, AreWithin, LeadsDown, AreRanked};
-ghost use Rattle.fast_tree.specs.Places.{place_of_name};
-ghost use Rattle.fast_notation.specs.Refused.{StandsAt};
-ghost use Rattle.fast_notation.specs.References.{references_in};
-ghost use Rattle.fast_notation.specs.WrittenSets.{instruction_data, templates_data};
+ghost use Rattle.fast_tree.specs.meaning.AsWritten.{references};
+ghost use Rattle.fast_notation.specs.device.Cycles.{numbers, targets_of, IsReached, IsCyclic, AreWithin, LeadsDown, AreRanked};
+ghost use Rattle.fast_tree.specs.device.Places.{place_of_name};
+ghost use Rattle.fast_notation.specs.meaning.Refused.{StandsAt};
+ghost use Rattle.fast_notation.specs.device.References.{references_in};
+ghost use Rattle.fast_notation.specs.device.WrittenSets.{instruction_data, templates_data};
 
 use crate::codes::StaticCode;
 use crate::components::components_of;

@@ -4,12 +4,12 @@ ghost use Rattle.std.specs.Prelude.{◌≡◌, ◌<◌, ◌^◌, codes, option_m
 ghost use Rattle.toml.specs.Data.{Data, Members, get_member, get_item, as_array};
 ghost use Rattle.toml.specs.Parse.{parse_document};
 ghost use Rattle.toml.specs.View.{view, items_view, array_view, table_view};
-ghost use Rattle.fast_notation.specs.Firsts.{IsFirstUnwritten};
-ghost use Rattle.fast_notation.specs.Notation.{WritesSet};
-ghost use Rattle.fast_notation.specs.Reading.{id_of, dictionary_of, template_of, template_in, all_templates, tables_of, are_tables, are_templates};
-ghost use Rattle.fast_notation.specs.Unwritten.{IsUnwritten};
-ghost use Rattle.fast_notation.specs.WrittenReading.{IsUnread};
-ghost use Rattle.fast_notation.specs.WrittenSets.{written_data, templates_data};
+ghost use Rattle.fast_notation.specs.meaning.Firsts.{IsFirstUnwritten};
+ghost use Rattle.fast_notation.specs.meaning.Notation.{WritesSet};
+ghost use Rattle.fast_notation.specs.device.Reading.{id_of, dictionary_of, template_of, template_in, all_templates, tables_of, are_tables, are_templates};
+ghost use Rattle.fast_notation.specs.device.Unwritten.{IsUnwritten};
+ghost use Rattle.fast_notation.specs.device.WrittenReading.{IsUnread};
+ghost use Rattle.fast_notation.specs.device.WrittenSets.{written_data, templates_data};
 
 use crate::codes::{StaticCode, StaticFault};
 use crate::keys::{Unread, flag_at, has_only, name_at, text_at, value_at};

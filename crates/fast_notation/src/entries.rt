@@ -1,12 +1,12 @@
 //! The dictionary entries of a set, numbered in the order of its text.
 
 ghost use Rattle.std.specs.Prelude.{◌≡◌, ◌⊎◌, ◌++◌, ◌∷◌, [], suc, ◌<◌, ◌≤◌, ◌*◌, ◌^◌, slice_get, length, Contains, Some, IfSome, IfNone, IfOk, OnOk};
-ghost use Rattle.fast_tree.specs.AsWritten.{uses};
-ghost use Rattle.fast_tree.specs.Entries.{IsPlace, IsEntry, EntryNumber, keeps_value, Collects, in_scope, uses_from};
-ghost use Rattle.fast_notation.specs.EntryKeys.{scope_data, use_data, place_data, key_data, entries_of, HasEntry};
-ghost use Rattle.fast_tree.specs.Sizes.{node_limit};
-ghost use Rattle.fast_notation.specs.Sound.{uses_in};
-ghost use Rattle.fast_notation.specs.WrittenSets.{instruction_data, templates_data};
+ghost use Rattle.fast_tree.specs.meaning.AsWritten.{uses};
+ghost use Rattle.fast_tree.specs.meaning.Entries.{IsPlace, IsEntry, EntryNumber, keeps_value, Collects, in_scope, uses_from};
+ghost use Rattle.fast_notation.specs.device.EntryKeys.{scope_data, use_data, place_data, key_data, entries_of, HasEntry};
+ghost use Rattle.fast_tree.specs.meaning.Sizes.{node_limit};
+ghost use Rattle.fast_notation.specs.device.Sound.{uses_in};
+ghost use Rattle.fast_notation.specs.device.WrittenSets.{instruction_data, templates_data};
 
 use crate::scopes::{OperatorUse, TextScope, exponent_use, length_use, mantissa_use, scalar_use};
 use crate::uses::OperatorPart;

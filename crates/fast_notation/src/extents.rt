@@ -2,8 +2,8 @@
 
 ghost use Rattle.std.specs.Prelude.{◌≡◌, map};
 ghost use Rattle.std.specs.HashMap.{get_by_text};
-ghost use Rattle.fast_notation.specs.Extents.{nothing, single, beside, around, named_extent, extent_in, extent_by};
-ghost use Rattle.fast_notation.specs.WrittenSets.{instruction_data, fields_data};
+ghost use Rattle.fast_notation.specs.device.Extents.{nothing, single, beside, around, named_extent, extent_in, extent_by};
+ghost use Rattle.fast_notation.specs.device.WrittenSets.{instruction_data, fields_data};
 
 use crate::written::WrittenInstruction;
 use std::collections::HashMap;

@@ -3,7 +3,7 @@
 ghost use Rattle.std.specs.Prelude.{◌≡◌, map, option_map, Some, None, Err, IfOk, string_bytes};
 ghost use Rattle.toml.specs.Data.{get_member};
 ghost use Rattle.toml.specs.View.{view, items_view, table_view};
-ghost use Rattle.fast_notation.specs.Reading.{is_one_of, has_only, text_of, flag_of, name_of, items_of};
+ghost use Rattle.fast_notation.specs.device.Reading.{is_one_of, has_only, text_of, flag_of, name_of, items_of};
 
 use crate::names::is_name;
 use toml::{Table, Value};

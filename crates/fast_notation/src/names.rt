@@ -1,8 +1,8 @@
 //! Names of templates, fields, keys and dictionaries.
 
-ghost use Rattle.fast_notation.specs.Reading.{is_name};
+ghost use Rattle.fast_notation.specs.device.Reading.{is_name};
 ghost use Rattle.std.specs.Prelude.{◌≡◌, ◌↔◌, IsTrue};
-ghost use Rattle.fast_tree.specs.AsWritten.{IsName, IsNameByte};
+ghost use Rattle.fast_tree.specs.meaning.AsWritten.{IsName, IsNameByte};
 
 /// Whether the byte may stand in a name.
 fn is_name_byte(b: u8) -> bool

@@ -3,10 +3,10 @@
 ghost use Rattle.std.specs.Prelude.{◌≡◌, ℕ, List, nat_eq, IfOk, IfErr};
 ghost use Rattle.std.specs.HashMap.{get, get_by_text};
 ghost use Rattle.toml.specs.Parse.{parse_document};
-ghost use Rattle.fast_notation.specs.Firsts.{IsFirstFault};
-ghost use Rattle.fast_notation.specs.FivePasses.{IsWellWritten, IsAtFault};
-ghost use Rattle.fast_tree.specs.Places.{place_of_name, place_of_id};
-ghost use Rattle.fast_notation.specs.WrittenSets.{templates_data};
+ghost use Rattle.fast_notation.specs.meaning.Firsts.{IsFirstFault};
+ghost use Rattle.fast_notation.specs.meaning.FivePasses.{IsWellWritten, IsAtFault};
+ghost use Rattle.fast_tree.specs.device.Places.{place_of_name, place_of_id};
+ghost use Rattle.fast_notation.specs.device.WrittenSets.{templates_data};
 
 use crate::checks::{check_references, check_uses, index_ids, index_names};
 use crate::codes::StaticFault;

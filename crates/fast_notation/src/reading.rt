@@ -3,9 +3,9 @@
 ghost use Rattle.std.specs.Prelude.{◌≡◌, codes, option_map, Some, None, Err, IfOk, IfErr, string_bytes};
 ghost use Rattle.toml.specs.Data.{get_member};
 ghost use Rattle.toml.specs.View.{view, items_view, table_view};
-ghost use Rattle.fast_notation.specs.Reading.{kind_named, operator_named, operator_of, text_of, name_or_none, dictionary_or_none, is_dictionary, takes, written_of, operator_keys, part_of, own_name_of, length_of, scalar_of, parts_of, group_of, sequence_of, reference_of, field_of, has_part, all_fields, fields_of, declared_of};
-ghost use Rattle.fast_notation.specs.WrittenSets.{operator_data, instruction_data, fields_data};
-ghost use Rattle.fast_tree.specs.AsWritten.{plain};
+ghost use Rattle.fast_notation.specs.device.Reading.{kind_named, operator_named, operator_of, text_of, name_or_none, dictionary_or_none, is_dictionary, takes, written_of, operator_keys, part_of, own_name_of, length_of, scalar_of, parts_of, group_of, sequence_of, reference_of, field_of, has_part, all_fields, fields_of, declared_of};
+ghost use Rattle.fast_notation.specs.device.WrittenSets.{operator_data, instruction_data, fields_data};
+ghost use Rattle.fast_tree.specs.meaning.AsWritten.{plain};
 
 use crate::keys::{Unread, flag_at, has_only, items_at, name_at, text_at, value_at};
 use crate::names::is_name;

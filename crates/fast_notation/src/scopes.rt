@@ -1,9 +1,9 @@
 //! Operators where they are used, and the texts in which they stand.
 
 ghost use Rattle.std.specs.Prelude.{◌≡◌, option_map, string_bytes};
-ghost use Rattle.fast_tree.specs.AsWritten.{scalar_use, exponent_use, mantissa_use, length_use};
-ghost use Rattle.fast_notation.specs.EntryKeys.{use_data};
-ghost use Rattle.fast_notation.specs.WrittenSets.{operator_data};
+ghost use Rattle.fast_tree.specs.meaning.AsWritten.{scalar_use, exponent_use, mantissa_use, length_use};
+ghost use Rattle.fast_notation.specs.device.EntryKeys.{use_data};
+ghost use Rattle.fast_notation.specs.device.WrittenSets.{operator_data};
 
 use crate::uses::OperatorPart;
 use crate::written::WrittenOperator;

@@ -1,11 +1,11 @@
 //! The eighth pass: no segment has more bits than a presence map.
 
 ghost use Rattle.std.specs.Prelude.{◌≡◌, ◌↔◌, ℕ, ◌<◌, ◌≤◌, ◌^◌, length, map, take, slice_get, slice_index_or, All, Some, IsTrue, OnOk, IfErr, List};
-ghost use Rattle.fast_notation.specs.Checked.{IsNarrowInside};
-ghost use Rattle.fast_tree.specs.Nodes.{body_of, instruction_of, instructions_from, no_instruction, template_data};
-ghost use Rattle.fast_tree.specs.Numbers.{AreBelow, NameNodes, NameLaterNodes};
-ghost use Rattle.fast_notation.specs.Segments.{IsNarrowSegment, IsNarrow, IsWide};
-ghost use Rattle.fast_tree.specs.Tree.{Label, Instruction, bits_used, bits_of, TemplateData};
+ghost use Rattle.fast_notation.specs.meaning.Checked.{IsNarrowInside};
+ghost use Rattle.fast_tree.specs.device.Nodes.{body_of, instruction_of, instructions_from, no_instruction, template_data};
+ghost use Rattle.fast_tree.specs.device.Numbers.{AreBelow, NameNodes, NameLaterNodes};
+ghost use Rattle.fast_notation.specs.device.Segments.{IsNarrowSegment, IsNarrow, IsWide};
+ghost use Rattle.fast_tree.specs.meaning.Tree.{Label, Instruction, bits_used, bits_of, TemplateData};
 
 use crate::limits::SEGMENT_LIMIT;
 use fast_tree::{Node, Shape, Template};

@@ -2,12 +2,12 @@
 
 ghost use Rattle.std.specs.Prelude.{◌≡◌, ◌≢◌, ◌↔◌, IsTrue, IfOk, IfErr, OnOk, Err, All, List, [], ℕ, option_map, string_bytes};
 ghost use Rattle.fast_value.specs.declared.kinds.Kind.{Kind};
-ghost use Rattle.fast_value.specs.Kinds.{family, integer_of, exponent_range, IsWithin, ScalarData};
-ghost use Rattle.fast_value.specs.Values.{value_data};
-ghost use Rattle.fast_tree.specs.AsWritten.{uses, length_use};
-ghost use Rattle.fast_notation.specs.Uses.{suits};
-ghost use Rattle.fast_notation.specs.Sound.{bare_use, IsInitialAt, IsSound, IsUnsound, HasFault, uses_in};
-ghost use Rattle.fast_notation.specs.WrittenSets.{operator_data, instruction_data};
+ghost use Rattle.fast_value.specs.meaning.Kinds.{family, integer_of, exponent_range, IsWithin, ScalarData};
+ghost use Rattle.fast_value.specs.meaning.Values.{value_data};
+ghost use Rattle.fast_tree.specs.meaning.AsWritten.{uses, length_use};
+ghost use Rattle.fast_notation.specs.meaning.Uses.{suits};
+ghost use Rattle.fast_notation.specs.device.Sound.{bare_use, IsInitialAt, IsSound, IsUnsound, HasFault, uses_in};
+ghost use Rattle.fast_notation.specs.device.WrittenSets.{operator_data, instruction_data};
 
 use crate::codes::StaticCode;
 use crate::written::{WrittenInstruction, WrittenOperator};

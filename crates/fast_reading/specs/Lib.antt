@@ -1,12 +1,2 @@
-pub mod Ahead
-pub mod Back
-pub mod Cursors
-pub mod Distinct
-pub mod Lined
-pub mod Naming
-pub mod Progress
-pub mod Reading
-pub mod Refusing
-pub mod Runs
-pub mod Codes
-pub mod Unsaid
+pub mod device
+pub mod meaning

@@ -1,10 +1,10 @@
 //! The lines of a text, one after the other.
 
 ghost use Rattle.std.specs.Prelude.{◌≡◌, ◌≢◌, ℕ, ◌≤◌, ◌∷◌, ◌++◌, length, IsUtf8, IsTrue, IsSome, IfSome, IfNone, IfOk, IfErr};
-ghost use Rattle.fast_lines.specs.Forms.{LineData, IsForm, line_data, text_of_line};
-ghost use Rattle.fast_lines.specs.Values.{Lacks};
-ghost use Rattle.fast_reading.specs.Ahead.{IsValueOf, TellsValue, TellsNone, IsAt, IsAtText, IsNextNumber, IsNextText, IsOneLine, OnBadLine, HasNoValue, HasNoLines};
-ghost use Rattle.fast_reading.specs.Reading.{closed};
+ghost use Rattle.fast_lines.specs.meaning.Forms.{LineData, IsForm, line_data, text_of_line};
+ghost use Rattle.fast_lines.specs.meaning.Values.{Lacks};
+ghost use Rattle.fast_reading.specs.device.Ahead.{IsValueOf, TellsValue, TellsNone, IsAt, IsAtText, IsNextNumber, IsNextText, IsOneLine, OnBadLine, HasNoValue, HasNoLines};
+ghost use Rattle.fast_reading.specs.meaning.Reading.{closed};
 
 use crate::faults::{LineFault, TextFault};
 use fast_lines::forms::{Line, parse_line};
@@ -96,8 +96,8 @@ fn value_of(alloc: Global, line: Line<'_>, number: u64) -> Result<Option<Value>,
 
 impl<'a> Cursor<'a> {
     ghost use Rattle.fast_reading.specs.declared.faults.TextFault.TheVariants.{BadLine};
-    ghost use Rattle.fast_reading.specs.Cursors.{ahead, Advances, IsNear};
-    ghost use Rattle.fast_reading.specs.Refusing.{HasNoNext};
+    ghost use Rattle.fast_reading.specs.device.Cursors.{ahead, Advances, IsNear};
+    ghost use Rattle.fast_reading.specs.device.Refusing.{HasNoNext};
 
     /// The start of a text.
     ///

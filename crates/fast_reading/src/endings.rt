@@ -1,8 +1,8 @@
 //! Lines that open and close the parts of a message, but for those that name something.
 
 ghost use Rattle.std.specs.Prelude.{◌≡◌, ◌↔◌, Some, IsTrue, option_map};
-ghost use Rattle.fast_lines.specs.Forms.{line_data, element, sequence_end};
-ghost use Rattle.fast_reading.specs.Naming.{end_line};
+ghost use Rattle.fast_lines.specs.meaning.Forms.{line_data, element, sequence_end};
+ghost use Rattle.fast_reading.specs.device.Naming.{end_line};
 
 use fast_lines::forms::Line;
 

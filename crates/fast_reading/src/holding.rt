@@ -1,9 +1,9 @@
 //! The elements of byte vectors are bytes, whatever events and values they stand in.
 
 ghost use Rattle.std.specs.Prelude.{◌<◌, All};
-ghost use Rattle.fast_value.specs.Values.{scalar_data};
-ghost use Rattle.fast_stream.specs.Handed.{event_data};
-ghost use Rattle.fast_reading.specs.Ahead.{HasBytes, HoldsBytes};
+ghost use Rattle.fast_value.specs.meaning.Values.{scalar_data};
+ghost use Rattle.fast_stream.specs.meaning.Handed.{event_data};
+ghost use Rattle.fast_reading.specs.device.Ahead.{HasBytes, HoldsBytes};
 
 use fast_stream::Event;
 use fast_value::Scalar;

@@ -1,9 +1,9 @@
 //! What is wrong with a line that is not the one that had to stand there.
 
 ghost use Rattle.std.specs.Prelude.{◌↔◌, ◌<◌, length, IsTrue};
-ghost use Rattle.fast_tree.specs.AsWritten.{IsNameByte};
-ghost use Rattle.fast_tree.specs.Numbers.{AreBelow};
-ghost use Rattle.fast_template.specs.Flat.{nodes_of};
+ghost use Rattle.fast_tree.specs.meaning.AsWritten.{IsNameByte};
+ghost use Rattle.fast_tree.specs.device.Numbers.{AreBelow};
+ghost use Rattle.fast_template.specs.meaning.Flat.{nodes_of};
 
 use crate::cursors::Cursor;
 use crate::endings::{Ending, is_ending};

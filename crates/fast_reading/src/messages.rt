@@ -1,23 +1,23 @@
 //! Messages of the lines of their events.
 
 ghost use Rattle.std.specs.Prelude.{◌≡◌, ◌<◌, ◌≤◌, ◌^◌, ◌+◌, ℕ, List, [], ◌∷◌, ◌++◌, length, map, Some, IfOk, IfErr, OnOk, option_map};
-ghost use Rattle.fast_value.specs.Kinds.{U, I, Dec};
-ghost use Rattle.fast_value.specs.Values.{value_data};
-ghost use Rattle.fast_value.specs.Views.{item_data, slots_data, elements_data, message_data};
-ghost use Rattle.fast_tree.specs.Numbers.{AreBelow};
-ghost use Rattle.fast_tree.specs.Bodies.{body_among};
-ghost use Rattle.fast_template.specs.Flat.{nodes_of, tree_of};
-ghost use Rattle.fast_lines.specs.Forms.{line_data, sequence as sequence_line};
-ghost use Rattle.fast_spelling.specs.Nodes.{instruction_in};
-ghost use Rattle.fast_reading.specs.Ahead.{OnBadLine};
-ghost use Rattle.fast_reading.specs.Cursors.{IsNear};
+ghost use Rattle.fast_value.specs.meaning.Kinds.{U, I, Dec};
+ghost use Rattle.fast_value.specs.meaning.Values.{value_data};
+ghost use Rattle.fast_value.specs.meaning.Views.{item_data, slots_data, elements_data, message_data};
+ghost use Rattle.fast_tree.specs.device.Numbers.{AreBelow};
+ghost use Rattle.fast_tree.specs.device.Bodies.{body_among};
+ghost use Rattle.fast_template.specs.meaning.Flat.{nodes_of, tree_of};
+ghost use Rattle.fast_lines.specs.meaning.Forms.{line_data, sequence as sequence_line};
+ghost use Rattle.fast_spelling.specs.device.Nodes.{instruction_in};
+ghost use Rattle.fast_reading.specs.device.Ahead.{OnBadLine};
+ghost use Rattle.fast_reading.specs.device.Cursors.{IsNear};
 ghost use Rattle.fast_reading.specs.declared.faults.LineFault.TheVariants as LineFault;
 ghost use Rattle.fast_reading.specs.declared.faults.TextFault.TheVariants.{BadLine};
-ghost use Rattle.fast_reading.specs.Lined.{IsTold};
-ghost use Rattle.fast_reading.specs.Naming.{IsValue, Names};
-ghost use Rattle.fast_reading.specs.Reading.{Says};
-ghost use Rattle.fast_reading.specs.Runs.{IsBodyRead, IsItemRead, AreRowsRead, IsMessageRead, IsLineOf};
-ghost use Rattle.fast_reading.specs.Unsaid.{HasNoBody, HasNoItem, HasNoRows, HasNoMessage, SaysNothing};
+ghost use Rattle.fast_reading.specs.meaning.Lined.{IsTold};
+ghost use Rattle.fast_reading.specs.device.Naming.{IsValue, Names};
+ghost use Rattle.fast_reading.specs.meaning.Reading.{Says};
+ghost use Rattle.fast_reading.specs.device.Runs.{IsBodyRead, IsItemRead, AreRowsRead, IsMessageRead, IsLineOf};
+ghost use Rattle.fast_reading.specs.meaning.Unsaid.{HasNoBody, HasNoItem, HasNoRows, HasNoMessage, SaysNothing};
 
 use crate::cursors::Cursor;
 use crate::endings::{Ending, is_element, is_ending, is_sequence_end};

@@ -2,11 +2,11 @@
 
 ghost use Rattle.std.specs.Prelude.{◌≡◌, ◌≢◌, ◌↔◌, ◌<◌, ℕ, length, slice_get, Some, IsTrue, IsUtf8, IfSome, IfNone, option_map, string_bytes};
 ghost use Rattle.fast_tree.specs.declared.instructions.Template.{Template};
-ghost use Rattle.fast_template.specs.Flat.{nodes_of, templates_of, tree_of};
-ghost use Rattle.fast_lines.specs.Forms.{line_data};
-ghost use Rattle.fast_lines.specs.Lines.{node_name};
-ghost use Rattle.fast_spelling.specs.Nodes.{instruction_in};
-ghost use Rattle.fast_reading.specs.Naming.{IsValue, IsGroup, IsSequence, Names};
+ghost use Rattle.fast_template.specs.meaning.Flat.{nodes_of, templates_of, tree_of};
+ghost use Rattle.fast_lines.specs.meaning.Forms.{line_data};
+ghost use Rattle.fast_lines.specs.meaning.Lines.{node_name};
+ghost use Rattle.fast_spelling.specs.device.Nodes.{instruction_in};
+ghost use Rattle.fast_reading.specs.device.Naming.{IsValue, IsGroup, IsSequence, Names};
 
 use fast_lines::forms::Line;
 use fast_template::{Shape, Templates};

@@ -1,21 +1,21 @@
 -- What a decoder says of a sink of records, said of lists of events.
 use Rattle.std.proofs.Common.{◌≡◌, ℕ, ◌≤◌, Bool, nat_lt, List, [], ◌∷◌, ◌++◌, length, take, refl, sym, ap, subst, ◌∙◌, append_assoc, append-nil, arith, Result, Ok, Err}
 use Rattle.fast_value.specs.declared.settings.Limits.{Limits}
-use Rattle.fast_tree.specs.Tree.{Tree}
+use Rattle.fast_tree.specs.meaning.Tree.{Tree}
 use Rattle.fast_stream.specs.declared.faults.Fault.{Fault}
 use Rattle.fast_stream.specs.declared.faults.FaultCode.{FaultCode}
 use Rattle.fast_stream.specs.declared.faults.FaultCode.TheVariants as Why
-use Rattle.fast_stream.specs.Events.{EventData}
-use Rattle.fast_stream.specs.Sinks.{Takes}
-use Rattle.fast_decoder.specs.Decoding.{DecoderData, answer}
-use Rattle.fast_decoder.specs.Feeding.{Follows, StopsShort, Overflows, FollowedAt, Followed}
+use Rattle.fast_stream.specs.meaning.Events.{EventData}
+use Rattle.fast_stream.specs.meaning.Sinks.{Takes}
+use Rattle.fast_decoder.specs.meaning.Decoding.{DecoderData, answer}
+use Rattle.fast_decoder.specs.meaning.Feeding.{Follows, StopsShort, Overflows, FollowedAt, Followed}
 use Rattle.fast_records.specs.declared.records.Record.{Record}
 use Rattle.fast_records.specs.declared.feeding.Outcome.{Outcome}
 use Rattle.fast_records.specs.declared.waiting.Waiting.{Waiting}
 use Rattle.fast_records.specs.declared.sink.RecordSink.{RecordSink}
-use Rattle.fast_records.specs.Waiting.{pending}
-use Rattle.fast_records.specs.Sink.{Shows, IsSameSink, TakesRecord, RefusesRecord}
-use Rattle.fast_records.specs.Feeding.{Appends, Stays, Delivers, outcome_of}
+use Rattle.fast_records.specs.device.Waiting.{pending}
+use Rattle.fast_records.specs.device.Sink.{Shows, IsSameSink, TakesRecord, RefusesRecord}
+use Rattle.fast_records.specs.meaning.Feeding.{Appends, Stays, Delivers, outcome_of}
 
 -- a list takes events
 pub list_takes : (es xs : List EventData) → Takes Appends es xs (es ++ xs)

@@ -2,15 +2,15 @@
 use Rattle.std.proofs.Common.{◌≡◌, ℕ, ◌+◌, ◌<◌, List, [], ◌∷◌, ◌++◌, length, map, drop, Some, Bor, refl, sym, ap, ◌∙◌, append_assoc, append-nil, add_assoc, length-append, arith, add-zero}
 use Rattle.std.specs.Slice.{IsItemAt}
 use Rattle.std.proofs.lemmas.List.{flat_map_more}
-use Rattle.fast_stream.specs.Events.{EventData}
+use Rattle.fast_stream.specs.meaning.Events.{EventData}
 use Rattle.fast_decoder.specs.declared.recorder.Recorded.{Recorded}
-use Rattle.fast_decoder.specs.Recorded.{recorded_data}
+use Rattle.fast_decoder.specs.meaning.Recorded.{recorded_data}
 use Rattle.fast_records.specs.declared.records.Record.{Record}
 use Rattle.fast_records.specs.declared.room.Room.{Room}
 use Rattle.fast_records.specs.declared.waiting.Waiting.{Waiting}
-use Rattle.fast_records.specs.Records.{record_of, event_text, records_of, texts_of, AreRecordsOf}
-use Rattle.fast_records.specs.Room.{records_in, texts_in, Adds, IsAsFilled}
-use Rattle.fast_records.specs.Waiting.{pending, Holds, Moves}
+use Rattle.fast_records.specs.meaning.Records.{record_of, event_text, records_of, texts_of, AreRecordsOf}
+use Rattle.fast_records.specs.device.Room.{records_in, texts_in, Adds, IsAsFilled}
+use Rattle.fast_records.specs.device.Waiting.{pending, Holds, Moves}
 
 -- the records of one event more
 pub records_of-append : (p : ℕ) (es : List EventData) (e : EventData) → records_of p (es ++ e ∷ []) ≡ records_of p es ++ record_of (p + length (texts_of es)) e ∷ []

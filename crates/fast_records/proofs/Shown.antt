@@ -1,14 +1,14 @@
 -- What a sink of records shows.
 use Rattle.std.proofs.Common.{◌≡◌, ℕ, ◌+◌, ◌<◌, List, [], ◌∷◌, ◌++◌, length, take, sym, ap, ◌∙◌, append_assoc, append-nil, arith, Result, Ok, Err, OnOk, OnErr}
 use Rattle.fast_stream.specs.declared.events.Stop.{Stop}
-use Rattle.fast_stream.specs.Events.{EventData}
+use Rattle.fast_stream.specs.meaning.Events.{EventData}
 use Rattle.fast_records.specs.declared.records.Record.{Record}
 use Rattle.fast_records.specs.declared.room.Room.{Room}
 use Rattle.fast_records.specs.declared.sink.RecordSink.{RecordSink}
-use Rattle.fast_records.specs.Records.{record_of, event_text}
-use Rattle.fast_records.specs.Room.{records_in, texts_in, Adds, IsUnchanged}
-use Rattle.fast_records.specs.Waiting.{pending, Moves}
-use Rattle.fast_records.specs.Sink.{room_of, Shows, IsSameSink, TakesRecord, RefusesRecord}
+use Rattle.fast_records.specs.meaning.Records.{record_of, event_text}
+use Rattle.fast_records.specs.device.Room.{records_in, texts_in, Adds, IsUnchanged}
+use Rattle.fast_records.specs.device.Waiting.{pending, Moves}
+use Rattle.fast_records.specs.device.Sink.{room_of, Shows, IsSameSink, TakesRecord, RefusesRecord}
 use Rattle.fast_records.specs.declared.waiting.Waiting.{Waiting}
 use Rattle.fast_records.proofs.Moving.{holds_more, holds_same}
 

@@ -1,8 +1,2 @@
-pub mod Feeding
-pub mod Lent
-pub mod Putting
-pub mod Records
-pub mod Room
-pub mod Sink
-pub mod Status
-pub mod Waiting
+pub mod meaning
+pub mod device

@@ -1,10 +1,10 @@
 //! Bytes go in, records come out.
 
 ghost use Rattle.std.specs.Prelude.{◌≡◌, ℕ, ◌+◌, ◌≤◌, ◌==◌, ◌&&◌, nat_lt, List, length, take, IsSome, Err, Ok};
-ghost use Rattle.fast_stream.specs.Events.{EventData};
-ghost use Rattle.fast_decoder.specs.Decoding.{So, tree, standing, answer};
-ghost use Rattle.fast_records.specs.Waiting.{pending};
-ghost use Rattle.fast_records.specs.Feeding.{Delivers, unfinished, outcome_of};
+ghost use Rattle.fast_stream.specs.meaning.Events.{EventData};
+ghost use Rattle.fast_decoder.specs.meaning.Decoding.{HasRead, tree, account, answer};
+ghost use Rattle.fast_records.specs.device.Waiting.{pending};
+ghost use Rattle.fast_records.specs.meaning.Feeding.{Delivers, unfinished, outcome_of};
 
 use crate::records::Record;
 use crate::sink::RecordSink;
@@ -84,19 +84,19 @@ pub fn feed_records(
     records: &mut [Record],
     texts: &mut [u8],
 ) -> Fed
-    ensures delivers { (w : List ℕ) (es : List EventData) → So decoder.old w es
+    ensures delivers { (w : List ℕ) (es : List EventData) → HasRead decoder.old w es
         → Delivers (tree decoder.old) decoder.old.limits w es piece.now (pending waiting.old) decoder.new
         (take result.records records.new)
         (take result.texts texts.new) (pending waiting.new) }
-    ensures room { (w : List ℕ) (es : List EventData) → So decoder.old w es
+    ensures room { (w : List ℕ) (es : List EventData) → HasRead decoder.old w es
         → (result.records ≤ length records.new) × (result.texts ≤ length texts.new) }
-    ensures outcome { (w : List ℕ) (es : List EventData) → So decoder.old w es
+    ensures outcome { (w : List ℕ) (es : List EventData) → HasRead decoder.old w es
         → result.outcome ≡ outcome_of (nat_lt 0 (length (pending waiting.new))) (answer decoder.new.fault)
         (result.taken == length piece.now) (result.taken == 0 && result.records == 0) }
     ensures consumed { decoder.new.consumed ≡ decoder.old.consumed + result.taken }
     ensures taken { result.taken ≤ length piece.now }
     ensures same_set { (tree decoder.new ≡ tree decoder.old) × (decoder.new.limits ≡ decoder.old.limits) }
-    ensures stopped { IsSome decoder.old.fault → standing decoder.new ≡ standing decoder.old }
+    ensures stopped { IsSome decoder.old.fault → account decoder.new ≡ account decoder.old }
 {
     let before = decoder.consumed();
     let mut sink = RecordSink::new(records, texts, waiting);

@@ -1,11 +1,11 @@
 //! Records back to events, whose texts are lent.
 
 ghost use Rattle.std.specs.Prelude.{◌≡◌, [], map, take, drop, IfOk, IfSome};
-ghost use Rattle.fast_value.specs.Kinds.{text_of};
-ghost use Rattle.fast_value.specs.Values.{scalar_data};
-ghost use Rattle.fast_stream.specs.Handed.{event_data};
-ghost use Rattle.fast_records.specs.Records.{event_text};
-ghost use Rattle.fast_records.specs.Lent.{Tells, AreTold};
+ghost use Rattle.fast_value.specs.meaning.Kinds.{text_of};
+ghost use Rattle.fast_value.specs.meaning.Values.{scalar_data};
+ghost use Rattle.fast_stream.specs.meaning.Handed.{event_data};
+ghost use Rattle.fast_records.specs.meaning.Records.{event_text};
+ghost use Rattle.fast_records.specs.meaning.Lent.{Tells, AreTold};
 
 use crate::putting::{PutFault, push};
 use crate::records::{

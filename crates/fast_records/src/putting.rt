@@ -1,17 +1,17 @@
 //! Messages of their events, as records have them.
 
 ghost use Rattle.std.specs.Prelude.{◌≡◌, ◌<◌, ◌++◌, ◌∷◌, [], List, length, map, IsTrue, IfOk, IfSome, OnOk};
-ghost use Rattle.fast_value.specs.Messages.{count};
-ghost use Rattle.fast_value.specs.Values.{scalar_data};
-ghost use Rattle.fast_value.specs.Views.{item_data, slots_data, elements_data, message_data};
-ghost use Rattle.fast_tree.specs.Numbers.{AreBelow};
-ghost use Rattle.fast_tree.specs.Bodies.{body_among};
-ghost use Rattle.fast_template.specs.Flat.{nodes_of, tree_of};
-ghost use Rattle.fast_stream.specs.Events.{EventData, FieldValue, GroupStart, SequenceStart, events};
-ghost use Rattle.fast_stream.specs.Handed.{event_data};
-ghost use Rattle.fast_spelling.specs.Nodes.{instruction_in};
-ghost use Rattle.fast_records.specs.Lent.{AreTold};
-ghost use Rattle.fast_records.specs.Putting.{mark_event, IsBodyPut, IsItemPut, AreRowsPut};
+ghost use Rattle.fast_value.specs.meaning.Messages.{count};
+ghost use Rattle.fast_value.specs.meaning.Values.{scalar_data};
+ghost use Rattle.fast_value.specs.meaning.Views.{item_data, slots_data, elements_data, message_data};
+ghost use Rattle.fast_tree.specs.device.Numbers.{AreBelow};
+ghost use Rattle.fast_tree.specs.device.Bodies.{body_among};
+ghost use Rattle.fast_template.specs.meaning.Flat.{nodes_of, tree_of};
+ghost use Rattle.fast_stream.specs.meaning.Events.{EventData, FieldValue, GroupStart, SequenceStart, events};
+ghost use Rattle.fast_stream.specs.meaning.Handed.{event_data};
+ghost use Rattle.fast_spelling.specs.device.Nodes.{instruction_in};
+ghost use Rattle.fast_records.specs.meaning.Lent.{AreTold};
+ghost use Rattle.fast_records.specs.device.Putting.{mark_event, IsBodyPut, IsItemPut, AreRowsPut};
 
 use crate::lent::events_of;
 use crate::records::Record;

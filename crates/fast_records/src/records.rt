@@ -1,9 +1,9 @@
 //! Records: what stands of an event in a caller's buffer.
 
 ghost use Rattle.std.specs.Prelude.{◌≡◌};
-ghost use Rattle.fast_value.specs.Values.{scalar_data};
-ghost use Rattle.fast_stream.specs.Handed.{event_data};
-ghost use Rattle.fast_records.specs.Records.{mark, text_record, field_record, record_of, event_text};
+ghost use Rattle.fast_value.specs.meaning.Values.{scalar_data};
+ghost use Rattle.fast_stream.specs.meaning.Handed.{event_data};
+ghost use Rattle.fast_records.specs.meaning.Records.{mark, text_record, field_record, record_of, event_text};
 
 use fast_stream::Event;
 use fast_value::Scalar;

@@ -23,7 +23,7 @@ pub(crate) struct Room<'a> {
 impl<'a> Room<'a> {
     ghost use Rattle.std.specs.Prelude.{◌≡◌, ◌+◌, ◌≤◌, ◌<◌, [], ◌++◌, length};
     ghost use Rattle.std.specs.Bool.{OnTrue, OnFalse};
-    ghost use Rattle.fast_records.specs.Room.{records_in, texts_in, IsOver, SameBuffers, Adds, IsAsFilled, IsUnchanged};
+    ghost use Rattle.fast_records.specs.device.Room.{records_in, texts_in, IsOver, SameBuffers, Adds, IsAsFilled, IsUnchanged};
 
     /// Buffers of which nothing is filled.
     pub(crate) fn new(records: &'a mut [Record], texts: &'a mut [u8]) -> Room<'a>

@@ -28,10 +28,10 @@ pub(crate) struct RecordSink<'a> {
 impl<'a> RecordSink<'a> {
     ghost use Rattle.std.specs.Prelude.{◌≡◌, nat_lt, ◌+◌, ◌≤◌, ◌++◌, length, take, OnOk, OnErr};
     ghost use Rattle.std.specs.Bool.{OnTrue, OnFalse};
-    ghost use Rattle.fast_stream.specs.Handed.{event_data};
-    ghost use Rattle.fast_records.specs.Waiting.{pending};
-    ghost use Rattle.fast_records.specs.Room.{Adds, IsUnchanged};
-    ghost use Rattle.fast_records.specs.Sink.{room_of, Shows, IsSameSink, TakesRecord, RefusesRecord};
+    ghost use Rattle.fast_stream.specs.meaning.Handed.{event_data};
+    ghost use Rattle.fast_records.specs.device.Waiting.{pending};
+    ghost use Rattle.fast_records.specs.device.Room.{Adds, IsUnchanged};
+    ghost use Rattle.fast_records.specs.device.Sink.{room_of, Shows, IsSameSink, TakesRecord, RefusesRecord};
 
     /// A sink over empty buffers, into which what waits was handed over as far as it has room.
     pub(crate) fn new(
@@ -146,7 +146,7 @@ impl<'a> RecordSink<'a> {
 }
 
 impl Sink for RecordSink<'_> {
-    ghost use Rattle.fast_records.specs.Sink.{TakesRecord, RefusesRecord};
+    ghost use Rattle.fast_records.specs.device.Sink.{TakesRecord, RefusesRecord};
 
     ghost takes = { TakesRecord };
 

@@ -1,7 +1,7 @@
 //! All that a call from another language can come to, as a number and in words.
 
 ghost use Rattle.std.specs.Prelude.{◌≡◌, IfSome};
-ghost use Rattle.fast_records.specs.Status.{status_number, static_number, ended};
+ghost use Rattle.fast_records.specs.meaning.Status.{status_number, static_number, ended};
 
 use crate::feeding::Outcome;
 use fast_decoder::{FaultCode, MakeError};
@@ -37,7 +37,7 @@ pub enum Status {
 
 impl From<Outcome> for Status {
     ghost use Rattle.std.specs.Prelude.{◌≡◌};
-    ghost use Rattle.fast_records.specs.Status.{ended};
+    ghost use Rattle.fast_records.specs.meaning.Status.{ended};
 
     ghost from_gives = { λ outcome status. status ≡ ended outcome };
 

@@ -1,10 +1,10 @@
 //! Events that wait for room in a caller's buffers.
 
 ghost use Rattle.std.specs.Prelude.{◌≡◌, [], ◌∷◌, ◌++◌, ◌==◌, ◌<◌, length, OnOk, OnErr};
-ghost use Rattle.fast_stream.specs.Handed.{event_data};
-ghost use Rattle.fast_decoder.specs.Recorded.{recorded_data};
-ghost use Rattle.fast_records.specs.Room.{SameBuffers};
-ghost use Rattle.fast_records.specs.Waiting.{pending, Moves};
+ghost use Rattle.fast_stream.specs.meaning.Handed.{event_data};
+ghost use Rattle.fast_decoder.specs.meaning.Recorded.{recorded_data};
+ghost use Rattle.fast_records.specs.device.Room.{SameBuffers};
+ghost use Rattle.fast_records.specs.device.Waiting.{pending, Moves};
 
 use crate::records::{record_of, text_of};
 use crate::room::Room;

@@ -1,15 +1,2 @@
-pub mod Encoding
-pub mod Suiting
-pub mod Refusals
-pub mod Entries
-pub mod Ledgers
-pub mod Drafts
-pub mod Fields
-pub mod Nodes
-pub mod Progress
-pub mod Again
-pub mod Refused
-pub mod Groups
-pub mod Usual
-pub mod Codes
-pub mod Checked
+pub mod meaning
+pub mod device

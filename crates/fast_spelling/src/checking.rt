@@ -2,18 +2,18 @@
 //! again from the front, by `suiting`, `measuring` and `writing`, for the fault that comes first.
 
 ghost use Rattle.std.specs.Prelude.{◌≡◌, ◌+◌, ◌<◌, ◌≤◌, length, Some, OnOk, IfOk, IsTrue, option_map};
-ghost use Rattle.fast_value.specs.Messages.{total};
-ghost use Rattle.fast_value.specs.Views.{item_data, message_data, slots_data};
-ghost use Rattle.fast_template.specs.Flat.{nodes_of, tree_of};
-ghost use Rattle.fast_tree.specs.Numbers.{AreBelow};
-ghost use Rattle.fast_tree.specs.Bodies.{body_among, AreNodeWidths};
-ghost use Rattle.fast_spelling.specs.Checked.{IsAccepted};
-ghost use Rattle.fast_spelling.specs.Encoding.{Encodes, EncodesBody, EncodesMessage};
-ghost use Rattle.fast_spelling.specs.Fields.{Wrote};
-ghost use Rattle.fast_spelling.specs.Nodes.{instruction_in, IsReady, Keeps};
-ghost use Rattle.fast_spelling.specs.Suiting.{IsKnownAs, SuitsTemplate, SuitsBody, FitsLimits, AreWithinLimits, IsRight};
-ghost use Rattle.fast_value.specs.Kinds.{text_of};
-ghost use Rattle.fast_value.specs.Values.{value_data};
+ghost use Rattle.fast_value.specs.meaning.Messages.{total};
+ghost use Rattle.fast_value.specs.meaning.Views.{item_data, message_data, slots_data};
+ghost use Rattle.fast_template.specs.meaning.Flat.{nodes_of, tree_of};
+ghost use Rattle.fast_tree.specs.device.Numbers.{AreBelow};
+ghost use Rattle.fast_tree.specs.device.Bodies.{body_among, AreNodeWidths};
+ghost use Rattle.fast_spelling.specs.device.Checked.{IsAccepted};
+ghost use Rattle.fast_spelling.specs.meaning.Encoding.{Encodes, EncodesBody, EncodesMessage};
+ghost use Rattle.fast_spelling.specs.device.Fields.{Wrote};
+ghost use Rattle.fast_spelling.specs.device.Nodes.{instruction_in, IsReady, Keeps};
+ghost use Rattle.fast_spelling.specs.meaning.Suiting.{IsKnownAs, SuitsTemplate, SuitsBody, FitsLimits, AreWithinLimits, IsRight};
+ghost use Rattle.fast_value.specs.meaning.Kinds.{text_of};
+ghost use Rattle.fast_value.specs.meaning.Values.{value_data};
 
 use crate::draft::Draft;
 use crate::faults::EncodeFault;

@@ -1,11 +1,11 @@
 //! A message in the making.
 
 ghost use Rattle.std.specs.Prelude.{◌≡◌, ◌≤◌, ◌∷◌, ◌++◌, ℕ, List, Bool, [], true, false, if◌then◌else◌, take, drop, vec_len, slice_index_or, IfSome, IfNone, OnOk, IfErr};
-ghost use Rattle.fast_wire.specs.Maps.{bits, IsMap};
+ghost use Rattle.fast_wire.specs.meaning.Maps.{bits, IsMap};
 ghost use Rattle.fast_spelling.specs.declared.faults.EncodeFault.TheVariants.{E3};
-ghost use Rattle.fast_spelling.specs.Drafts.{IsTold, Closes};
-ghost use Rattle.fast_spelling.specs.Encoding.{SameBits};
-ghost use Rattle.fast_spelling.specs.Refusals.{HaveNoMap};
+ghost use Rattle.fast_spelling.specs.device.Drafts.{IsTold, Closes};
+ghost use Rattle.fast_spelling.specs.meaning.Encoding.{SameBits};
+ghost use Rattle.fast_spelling.specs.meaning.Refusals.{HaveNoMap};
 
 use crate::faults::EncodeFault;
 use arrayvec::ArrayVec;

@@ -1,12 +1,12 @@
 //! An entry of the encoder's dictionary: what it holds, and what it held before the message that changes it.
 
 ghost use Rattle.std.specs.Prelude.{◌≡◌, ◌≤◌, ℕ, List, length, IfSome, IsFalse, OnOk};
-ghost use Rattle.fast_value.specs.Kinds.{text_of};
-ghost use Rattle.fast_value.specs.Values.{scalar_data};
-ghost use Rattle.fast_dict.specs.Dictionary.{assigned, empty, undefined};
-ghost use Rattle.fast_dict.specs.Held.{text_size};
-ghost use Rattle.fast_dict.specs.Previous.{previous_data};
-ghost use Rattle.fast_spelling.specs.Entries.{held_data, entry_now, entry_before, IsShort};
+ghost use Rattle.fast_value.specs.meaning.Kinds.{text_of};
+ghost use Rattle.fast_value.specs.meaning.Values.{scalar_data};
+ghost use Rattle.fast_dict.specs.meaning.Dictionary.{assigned, empty, undefined};
+ghost use Rattle.fast_dict.specs.device.Held.{text_size};
+ghost use Rattle.fast_dict.specs.meaning.Previous.{previous_data};
+ghost use Rattle.fast_spelling.specs.meaning.Entries.{held_data, entry_now, entry_before, IsShort};
 
 use fast_dict::Previous;
 use fast_value::{Kind, Scalar};

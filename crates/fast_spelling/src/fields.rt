@@ -2,20 +2,20 @@
 
 ghost use Rattle.std.specs.Prelude.{◌≡◌, ℕ, ◌<◌, ◌≤◌, length, option_map, Some, IfSome, OnOk, IfErr, Ok};
 ghost use Rattle.fast_value.specs.declared.settings.Limits.{Limits};
-ghost use Rattle.fast_value.specs.Kinds.{ScalarData, text_of};
-ghost use Rattle.fast_value.specs.Values.{scalar_data};
-ghost use Rattle.fast_tree.specs.Nodes.{field_data};
-ghost use Rattle.fast_dict.specs.Dictionary.{previous_at, write_at};
-ghost use Rattle.fast_dict.specs.Held.{text_size};
-ghost use Rattle.fast_dict.specs.Operators.{delta_base};
-ghost use Rattle.fast_dict.specs.Previous.{previous_data};
-ghost use Rattle.fast_dict.specs.Rule.{Rule};
-ghost use Rattle.fast_dict.specs.Sending.{sent_data};
-ghost use Rattle.fast_spelling.specs.Encoding.{EncodesField};
-ghost use Rattle.fast_spelling.specs.Drafts.{IsSendable, IsTold};
-ghost use Rattle.fast_spelling.specs.Fields.{IsServed, IsSuited, IsNarrow, Wrote, next_of};
-ghost use Rattle.fast_spelling.specs.Nodes.{Keeps};
-ghost use Rattle.fast_spelling.specs.Refusals.{RefusesField};
+ghost use Rattle.fast_value.specs.meaning.Kinds.{ScalarData, text_of};
+ghost use Rattle.fast_value.specs.meaning.Values.{scalar_data};
+ghost use Rattle.fast_tree.specs.device.Nodes.{field_data};
+ghost use Rattle.fast_dict.specs.meaning.Dictionary.{previous_at, write_at};
+ghost use Rattle.fast_dict.specs.device.Held.{text_size};
+ghost use Rattle.fast_dict.specs.meaning.Operators.{delta_base};
+ghost use Rattle.fast_dict.specs.meaning.Previous.{previous_data};
+ghost use Rattle.fast_dict.specs.meaning.Rule.{Rule};
+ghost use Rattle.fast_dict.specs.meaning.Sending.{sent_data};
+ghost use Rattle.fast_spelling.specs.meaning.Encoding.{EncodesField};
+ghost use Rattle.fast_spelling.specs.device.Drafts.{IsSendable, IsTold};
+ghost use Rattle.fast_spelling.specs.device.Fields.{IsServed, IsSuited, IsNarrow, Wrote, next_of};
+ghost use Rattle.fast_spelling.specs.device.Nodes.{Keeps};
+ghost use Rattle.fast_spelling.specs.meaning.Refusals.{RefusesField};
 
 use crate::draft::Draft;
 use crate::faults::EncodeFault;

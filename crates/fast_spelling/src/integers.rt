@@ -1,10 +1,10 @@
 //! Integers, each by its shortest entity. One of a few bytes is written as it is, any other through an array.
 
 ghost use Rattle.std.specs.Prelude.{◌≡◌, ◌<◌, ◌≤◌, ◌+◌, ◌-◌, ◌*◌, ◌^◌, ◌<ℤ◌, ◌≤ℤ◌, ◌-ℤ◌, neg_ℤ, Some, pos, negsuc, true, false, OnOk};
-ghost use Rattle.fast_wire.specs.Integers.{signed_range, IsWithin, Means};
-ghost use Rattle.fast_wire.specs.Shortest.{IsShortest};
-ghost use Rattle.fast_spelling.specs.Drafts.{Adds};
-ghost use Rattle.fast_spelling.specs.Groups.{IsGroups, IsLeast};
+ghost use Rattle.fast_wire.specs.meaning.Integers.{signed_range, IsWithin, Means};
+ghost use Rattle.fast_wire.specs.device.Shortest.{IsShortest};
+ghost use Rattle.fast_spelling.specs.device.Drafts.{Adds};
+ghost use Rattle.fast_spelling.specs.device.Groups.{IsGroups, IsLeast};
 
 use fast_wire::{write_nullable_signed, write_nullable_unsigned, write_signed, write_unsigned};
 use std::alloc::AllocError;

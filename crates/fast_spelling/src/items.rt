@@ -1,18 +1,18 @@
 //! The bytes of what is sent for a field: each integer by its shortest form.
 
 ghost use Rattle.std.specs.Prelude.{◌≡◌, ℕ, ◌<◌, ◌≤◌, ◌^◌, ◌∷◌, [], List, Bool, true, false, All, length, Some, pos, OnOk, IfErr};
-ghost use Rattle.fast_wire.specs.Integers.{signed_range, IsWithin, SpellsInt};
-ghost use Rattle.fast_wire.specs.Shortest.{IsShortest};
-ghost use Rattle.fast_wire.specs.Texts.{SpellsAscii, SpellsVector};
+ghost use Rattle.fast_wire.specs.meaning.Integers.{signed_range, IsWithin, SpellsInt};
+ghost use Rattle.fast_wire.specs.device.Shortest.{IsShortest};
+ghost use Rattle.fast_wire.specs.meaning.Texts.{SpellsAscii, SpellsVector};
 ghost use Rattle.fast_value.specs.declared.settings.Limits.{Limits};
-ghost use Rattle.fast_value.specs.Kinds.{family, text_of};
-ghost use Rattle.fast_value.specs.Values.{scalar_data};
-ghost use Rattle.fast_tree.specs.Nodes.{field_data};
-ghost use Rattle.fast_dict.specs.Operators.{Sent as SentData};
-ghost use Rattle.fast_dict.specs.Sending.{sent_data};
+ghost use Rattle.fast_value.specs.meaning.Kinds.{family, text_of};
+ghost use Rattle.fast_value.specs.meaning.Values.{scalar_data};
+ghost use Rattle.fast_tree.specs.device.Nodes.{field_data};
+ghost use Rattle.fast_dict.specs.meaning.Operators.{Sent as SentData};
+ghost use Rattle.fast_dict.specs.meaning.Sending.{sent_data};
 ghost use Rattle.fast_spelling.specs.declared.faults.EncodeFault.TheVariants.{R9};
-ghost use Rattle.fast_spelling.specs.Drafts.{Adds, IsTold, IsSendable, IsSendableValue, IsSendablePart, SpellsItem, SpellsValue, SpellsPart};
-ghost use Rattle.fast_spelling.specs.Refusals.{HasZeroInFront};
+ghost use Rattle.fast_spelling.specs.device.Drafts.{Adds, IsTold, IsSendable, IsSendableValue, IsSendablePart, SpellsItem, SpellsValue, SpellsPart};
+ghost use Rattle.fast_spelling.specs.meaning.Refusals.{HasZeroInFront};
 
 use crate::faults::EncodeFault;
 use crate::integers::{write_signed_as, write_unsigned_as};

@@ -3,28 +3,28 @@
 ghost use Rattle.std.specs.Prelude.{◌≡◌, ◌⊎◌, ◌≤◌, All, length, ℕ, List, [], ◌∷◌, Bool, true, Option, slice_get, Some, ◌++◌};
 ghost use Rattle.toml.specs.Data.{Members};
 ghost use Rattle.fast_value.specs.declared.settings.Limits.{Limits};
-ghost use Rattle.fast_value.specs.Kinds.{ScalarData, U};
-ghost use Rattle.fast_value.specs.Limits.{in_mode};
-ghost use Rattle.fast_value.specs.Messages.{Slots, MessageData};
-ghost use Rattle.fast_tree.specs.Sizes.{segment_limit};
+ghost use Rattle.fast_value.specs.meaning.Kinds.{ScalarData, U};
+ghost use Rattle.fast_value.specs.meaning.Limits.{in_mode};
+ghost use Rattle.fast_value.specs.meaning.Messages.{Slots, MessageData};
+ghost use Rattle.fast_tree.specs.meaning.Sizes.{segment_limit};
 ghost use Rattle.fast_tree.specs.declared.operators.Operator.TheVariants.{Delta, Tail};
-ghost use Rattle.fast_tree.specs.Tree.{FieldData, identifier, Body, bits_of, TemplateData, message_bits, Tree, HasDistinctIds};
-ghost use Rattle.fast_notation.specs.Checked.{IsTree};
-ghost use Rattle.fast_dict.specs.Dictionary.{Dictionary, PreviousData, fresh};
-ghost use Rattle.fast_dict.specs.Operators.{Op, Sent};
-ghost use Rattle.fast_stream.specs.Events.{EventData, events};
-ghost use Rattle.fast_stream.specs.Fields.{field_phrase};
-ghost use Rattle.fast_stream.specs.Messages.{SpellsMessage};
-ghost use Rattle.fast_stream.specs.Phrases.{whole};
-ghost use Rattle.fast_stream.specs.Readers.{AreBytes};
-ghost use Rattle.fast_stream.specs.Streams.{Stream, Chain, between, SpellsAll};
+ghost use Rattle.fast_tree.specs.meaning.Tree.{FieldData, identifier, Body, bits_of, TemplateData, message_bits, Tree, HasDistinctIds};
+ghost use Rattle.fast_notation.specs.meaning.Checked.{IsTree};
+ghost use Rattle.fast_dict.specs.meaning.Dictionary.{Dictionary, PreviousData, fresh};
+ghost use Rattle.fast_dict.specs.meaning.Operators.{Op, Sent};
+ghost use Rattle.fast_stream.specs.meaning.Events.{EventData, events};
+ghost use Rattle.fast_stream.specs.meaning.Fields.{field_phrase};
+ghost use Rattle.fast_stream.specs.meaning.Messages.{SpellsMessage};
+ghost use Rattle.fast_stream.specs.meaning.Phrases.{whole};
+ghost use Rattle.fast_stream.specs.device.Readers.{AreBytes};
+ghost use Rattle.fast_stream.specs.meaning.Streams.{Stream, Chain, between, SpellsAll};
 ghost use Rattle.fast_spelling.specs.declared.faults.EncodeFault.{EncodeFault};
 ghost use Rattle.fast_spelling.specs.declared.faults.EncodeFault.TheVariants.{R9};
-ghost use Rattle.fast_spelling.specs.Again.{IsGrantedTree, IsShortTree, IsSound, IsPlainTree, HaveNoZero, EncodesAll};
-ghost use Rattle.fast_spelling.specs.Encoding.{EncodesField, EncodesBody, EncodesMessage, SpellsSent};
-ghost use Rattle.fast_spelling.specs.Refusals.{HaveNoMap, IsRefused};
-ghost use Rattle.fast_spelling.specs.Refused.{IsReadButRefused};
-ghost use Rattle.fast_spelling.specs.Suiting.{IsKnown, SuitsTemplate, FitsLimits};
+ghost use Rattle.fast_spelling.specs.meaning.Again.{IsGrantedTree, IsShortTree, IsSound, IsPlainTree, HaveNoZero, EncodesAll};
+ghost use Rattle.fast_spelling.specs.meaning.Encoding.{EncodesField, EncodesBody, EncodesMessage, SpellsSent};
+ghost use Rattle.fast_spelling.specs.meaning.Refusals.{HaveNoMap, IsRefused};
+ghost use Rattle.fast_spelling.specs.meaning.Refused.{IsReadButRefused};
+ghost use Rattle.fast_spelling.specs.meaning.Suiting.{IsKnown, SuitsTemplate, FitsLimits};
 
 /// The bytes of an item that the operator takes are the field in strict mode.
 pub fn field_spelled()

@@ -1,13 +1,13 @@
 //! The encoder's dictionary: what is changed in a message can be taken back, without memory.
 
 ghost use Rattle.std.specs.Prelude.{◌≡◌, ◌<◌, ◌≤◌, ◌-◌, ◌++◌, ℕ, All, length, take, slice_set, Some, IfOk, IfSome, OnOk};
-ghost use Rattle.fast_value.specs.Kinds.{text_of};
-ghost use Rattle.fast_value.specs.Values.{scalar_data};
-ghost use Rattle.fast_dict.specs.Dictionary.{assigned, empty, undefined, fresh, reset, previous_at, write_at};
-ghost use Rattle.fast_dict.specs.Held.{text_size};
-ghost use Rattle.fast_dict.specs.Previous.{previous_data};
-ghost use Rattle.fast_spelling.specs.Entries.{IsShort};
-ghost use Rattle.fast_spelling.specs.Ledgers.{all_now, all_before, AreKept};
+ghost use Rattle.fast_value.specs.meaning.Kinds.{text_of};
+ghost use Rattle.fast_value.specs.meaning.Values.{scalar_data};
+ghost use Rattle.fast_dict.specs.meaning.Dictionary.{assigned, empty, undefined, fresh, reset, previous_at, write_at};
+ghost use Rattle.fast_dict.specs.device.Held.{text_size};
+ghost use Rattle.fast_dict.specs.meaning.Previous.{previous_data};
+ghost use Rattle.fast_spelling.specs.meaning.Entries.{IsShort};
+ghost use Rattle.fast_spelling.specs.meaning.Ledgers.{all_now, all_before, AreKept};
 
 use crate::entry::Entry;
 use fast_dict::Previous;
@@ -26,11 +26,15 @@ pub struct Ledger {
 
 impl Model for Ledger {
     ghost use Rattle.std.specs.Prelude.{◌≤◌};
-    ghost use Rattle.fast_spelling.specs.Ledgers.{LedgerData, all_now, all_before, AreKept};
+    ghost use Rattle.fast_spelling.specs.meaning.Ledgers.{LedgerData, all_now, all_before, AreKept};
 
     ghost Value = { LedgerData };
 
-    ghost view = { λ s. record { now = all_now s.entries.items; before = all_before s.epoch s.entries.items; max_text = s.max_text } };
+    ghost view = { λ s. record {
+      now = all_now s.entries.items;
+      before = all_before s.epoch s.entries.items;
+      max_text = s.max_text;
+    } };
 
     ghost invariant = { λ s. record { kept : AreKept s.epoch s.max_text s.entries.items; begun : 1 ≤ s.epoch } };
 }

@@ -1,11 +1,11 @@
 //! Whether a message keeps to the limits.
 
 ghost use Rattle.std.specs.Prelude.{◌≡◌, ◌+◌, ◌≤◌, ◌↔◌, IsTrue, IfSome, IfNone, length};
-ghost use Rattle.fast_value.specs.Kinds.{text_of};
-ghost use Rattle.fast_value.specs.Messages.{sequence, item_total, total};
-ghost use Rattle.fast_value.specs.Values.{value_data};
-ghost use Rattle.fast_value.specs.Views.{item_data, slots_data, elements_data};
-ghost use Rattle.fast_spelling.specs.Suiting.{IsWithinLimits, AreWithinLimits, FitsLimits};
+ghost use Rattle.fast_value.specs.meaning.Kinds.{text_of};
+ghost use Rattle.fast_value.specs.meaning.Messages.{sequence, item_total, total};
+ghost use Rattle.fast_value.specs.meaning.Values.{value_data};
+ghost use Rattle.fast_value.specs.meaning.Views.{item_data, slots_data, elements_data};
+ghost use Rattle.fast_spelling.specs.meaning.Suiting.{IsWithinLimits, AreWithinLimits, FitsLimits};
 
 use fast_value::{Item, Limits, Value};
 

@@ -1,20 +1,20 @@
 //! A whole message: its map, its identifier, and its instructions.
 
 ghost use Rattle.std.specs.Prelude.{◌≡◌, ◌<◌, ℕ, List, [], ◌≤◌, ◌^◌, if◌then◌else◌, length, slice_get, Some, OnOk, IfErr};
-ghost use Rattle.fast_value.specs.Views.{message_data, slots_data};
-ghost use Rattle.fast_value.specs.Kinds.{U};
-ghost use Rattle.fast_tree.specs.Tree.{identifier};
-ghost use Rattle.fast_tree.specs.Nodes.{field_data};
-ghost use Rattle.fast_tree.specs.Bodies.{AreNodeWidths};
-ghost use Rattle.fast_template.specs.Flat.{nodes_of, templates_of, tree_of};
-ghost use Rattle.fast_dict.specs.Dictionary.{reset};
+ghost use Rattle.fast_value.specs.meaning.Views.{message_data, slots_data};
+ghost use Rattle.fast_value.specs.meaning.Kinds.{U};
+ghost use Rattle.fast_tree.specs.meaning.Tree.{identifier};
+ghost use Rattle.fast_tree.specs.device.Nodes.{field_data};
+ghost use Rattle.fast_tree.specs.device.Bodies.{AreNodeWidths};
+ghost use Rattle.fast_template.specs.meaning.Flat.{nodes_of, templates_of, tree_of};
+ghost use Rattle.fast_dict.specs.meaning.Dictionary.{reset};
 ghost use Rattle.fast_spelling.specs.declared.faults.EncodeFault.TheVariants.{Memory};
-ghost use Rattle.fast_spelling.specs.Drafts.{IsTold};
-ghost use Rattle.fast_spelling.specs.Encoding.{EncodesField, EncodesMessage};
-ghost use Rattle.fast_spelling.specs.Fields.{Wrote};
-ghost use Rattle.fast_spelling.specs.Nodes.{IsReady, Keeps};
-ghost use Rattle.fast_spelling.specs.Refusals.{RefusesMessage};
-ghost use Rattle.fast_spelling.specs.Suiting.{IsKnownAs, SuitsTemplate, FitsLimits};
+ghost use Rattle.fast_spelling.specs.device.Drafts.{IsTold};
+ghost use Rattle.fast_spelling.specs.meaning.Encoding.{EncodesField, EncodesMessage};
+ghost use Rattle.fast_spelling.specs.device.Fields.{Wrote};
+ghost use Rattle.fast_spelling.specs.device.Nodes.{IsReady, Keeps};
+ghost use Rattle.fast_spelling.specs.meaning.Refusals.{RefusesMessage};
+ghost use Rattle.fast_spelling.specs.meaning.Suiting.{IsKnownAs, SuitsTemplate, FitsLimits};
 
 use crate::draft::Draft;
 use crate::faults::EncodeFault;

@@ -1,19 +1,19 @@
 //! What stands in a message where an instruction has no slots of its own: absence, and a decimal by parts.
 
 ghost use Rattle.std.specs.Prelude.{◌≡◌, ◌<◌, ℕ, length, Some, None, option_map, OnOk, IfErr, IfSome};
-ghost use Rattle.fast_value.specs.Messages.{one};
-ghost use Rattle.fast_value.specs.Values.{value_data};
+ghost use Rattle.fast_value.specs.meaning.Messages.{one};
+ghost use Rattle.fast_value.specs.meaning.Values.{value_data};
 ghost use Rattle.fast_value.specs.declared.settings.Limits.{Limits};
 ghost use Rattle.fast_value.specs.declared.kinds.Kind.TheVariants.{Int32, Int64};
-ghost use Rattle.fast_template.specs.Flat.{nodes_of, tree_of, field_data};
-ghost use Rattle.fast_tree.specs.Usable.{IsUsable};
-ghost use Rattle.fast_dict.specs.EntryTexts.{HasLongInitial, IsLongText};
-ghost use Rattle.fast_spelling.specs.Drafts.{IsTold};
-ghost use Rattle.fast_spelling.specs.Encoding.{Encodes, EncodesDecimal};
-ghost use Rattle.fast_spelling.specs.Fields.{Wrote, IsServed};
-ghost use Rattle.fast_spelling.specs.Nodes.{instruction_in, head_in, IsReady, Keeps};
-ghost use Rattle.fast_spelling.specs.Refusals.{Refuses, RefusesDecimal};
-ghost use Rattle.fast_spelling.specs.Suiting.{Suits, IsRightDecimal};
+ghost use Rattle.fast_template.specs.meaning.Flat.{nodes_of, tree_of, field_data};
+ghost use Rattle.fast_tree.specs.device.Usable.{IsUsable};
+ghost use Rattle.fast_dict.specs.device.EntryTexts.{HasLongInitial, IsLongText};
+ghost use Rattle.fast_spelling.specs.device.Drafts.{IsTold};
+ghost use Rattle.fast_spelling.specs.meaning.Encoding.{Encodes, EncodesDecimal};
+ghost use Rattle.fast_spelling.specs.device.Fields.{Wrote, IsServed};
+ghost use Rattle.fast_spelling.specs.device.Nodes.{instruction_in, head_in, IsReady, Keeps};
+ghost use Rattle.fast_spelling.specs.meaning.Refusals.{Refuses, RefusesDecimal};
+ghost use Rattle.fast_spelling.specs.meaning.Suiting.{Suits, IsRightDecimal};
 
 use crate::draft::Draft;
 use crate::faults::EncodeFault;

@@ -2,18 +2,18 @@
 
 ghost use Rattle.std.specs.Prelude.{◌≡◌, ◌-ℤ◌, ◌↔◌, true, None, Some, IsTrue, IfSome, OnOk, IfErr};
 ghost use Rattle.fast_value.specs.declared.settings.Limits.{Limits};
-ghost use Rattle.fast_value.specs.Kinds.{U, I, Dec, AsciiText, UnicodeText, ByteVector, IsWithin, signed_range, integer_of, value_of_integer};
-ghost use Rattle.fast_value.specs.Values.{scalar_data};
+ghost use Rattle.fast_value.specs.meaning.Kinds.{U, I, Dec, AsciiText, UnicodeText, ByteVector, IsWithin, signed_range, integer_of, value_of_integer};
+ghost use Rattle.fast_value.specs.meaning.Values.{scalar_data};
 ghost use Rattle.fast_value.specs.declared.kinds.Kind.TheVariants.{UInt32, Int32, UInt64, Int64};
-ghost use Rattle.fast_tree.specs.Nodes.{field_data};
-ghost use Rattle.fast_dict.specs.Dictionary.{assigned, empty, previous_at};
-ghost use Rattle.fast_dict.specs.Operators.{incremented, range_of};
-ghost use Rattle.fast_spelling.specs.Encoding.{EncodesField};
-ghost use Rattle.fast_spelling.specs.Drafts.{IsTold};
-ghost use Rattle.fast_spelling.specs.Fields.{IsServed, IsSuited, Wrote};
-ghost use Rattle.fast_spelling.specs.Nodes.{Keeps};
-ghost use Rattle.fast_spelling.specs.Refusals.{RefusesField};
-ghost use Rattle.fast_spelling.specs.Usual.{IsNumber};
+ghost use Rattle.fast_tree.specs.device.Nodes.{field_data};
+ghost use Rattle.fast_dict.specs.meaning.Dictionary.{assigned, empty, previous_at};
+ghost use Rattle.fast_dict.specs.meaning.Operators.{incremented, range_of};
+ghost use Rattle.fast_spelling.specs.meaning.Encoding.{EncodesField};
+ghost use Rattle.fast_spelling.specs.device.Drafts.{IsTold};
+ghost use Rattle.fast_spelling.specs.device.Fields.{IsServed, IsSuited, Wrote};
+ghost use Rattle.fast_spelling.specs.device.Nodes.{Keeps};
+ghost use Rattle.fast_spelling.specs.meaning.Refusals.{RefusesField};
+ghost use Rattle.fast_spelling.specs.device.Usual.{IsNumber};
 
 use crate::draft::Draft;
 use crate::faults::EncodeFault;

@@ -1,15 +1,15 @@
 //! Whether a message suits its template.
 
 ghost use Rattle.std.specs.Prelude.{◌↔◌, ◌<◌, ◌^◌, All, length, IsTrue, IsUtf8, Some, None, option_map};
-ghost use Rattle.fast_value.specs.Kinds.{U, I, Dec};
-ghost use Rattle.fast_value.specs.Messages.{count};
-ghost use Rattle.fast_value.specs.Values.{value_data};
-ghost use Rattle.fast_value.specs.Views.{item_data, slots_data, elements_data};
-ghost use Rattle.fast_template.specs.Flat.{nodes_of};
-ghost use Rattle.fast_tree.specs.Numbers.{AreBelow};
-ghost use Rattle.fast_tree.specs.Bodies.{body_among};
-ghost use Rattle.fast_spelling.specs.Nodes.{instruction_in};
-ghost use Rattle.fast_spelling.specs.Suiting.{IsRight, AreRight, Suits, SuitsBody};
+ghost use Rattle.fast_value.specs.meaning.Kinds.{U, I, Dec};
+ghost use Rattle.fast_value.specs.meaning.Messages.{count};
+ghost use Rattle.fast_value.specs.meaning.Values.{value_data};
+ghost use Rattle.fast_value.specs.meaning.Views.{item_data, slots_data, elements_data};
+ghost use Rattle.fast_template.specs.meaning.Flat.{nodes_of};
+ghost use Rattle.fast_tree.specs.device.Numbers.{AreBelow};
+ghost use Rattle.fast_tree.specs.device.Bodies.{body_among};
+ghost use Rattle.fast_spelling.specs.device.Nodes.{instruction_in};
+ghost use Rattle.fast_spelling.specs.meaning.Suiting.{IsRight, AreRight, Suits, SuitsBody};
 
 use fast_dict::operators::checked_text;
 use fast_template::{Shape, Templates};

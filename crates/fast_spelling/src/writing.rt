@@ -1,16 +1,16 @@
 //! The instructions of a message: slots, groups and sequences.
 
 ghost use Rattle.std.specs.Prelude.{◌≡◌, ◌<◌, ℕ, length, Some, OnOk, IfErr};
-ghost use Rattle.fast_value.specs.Views.{item_data, slots_data};
-ghost use Rattle.fast_template.specs.Flat.{nodes_of};
-ghost use Rattle.fast_tree.specs.Numbers.{AreBelow};
-ghost use Rattle.fast_tree.specs.Bodies.{body_among, AreNodeWidths};
-ghost use Rattle.fast_spelling.specs.Drafts.{IsTold};
-ghost use Rattle.fast_spelling.specs.Encoding.{Encodes, EncodesBody};
-ghost use Rattle.fast_spelling.specs.Fields.{Wrote};
-ghost use Rattle.fast_spelling.specs.Nodes.{instruction_in, IsReady, Keeps};
-ghost use Rattle.fast_spelling.specs.Refusals.{Refuses, RefusesBody};
-ghost use Rattle.fast_spelling.specs.Suiting.{Suits, SuitsBody, IsWithinLimits, AreWithinLimits};
+ghost use Rattle.fast_value.specs.meaning.Views.{item_data, slots_data};
+ghost use Rattle.fast_template.specs.meaning.Flat.{nodes_of};
+ghost use Rattle.fast_tree.specs.device.Numbers.{AreBelow};
+ghost use Rattle.fast_tree.specs.device.Bodies.{body_among, AreNodeWidths};
+ghost use Rattle.fast_spelling.specs.device.Drafts.{IsTold};
+ghost use Rattle.fast_spelling.specs.meaning.Encoding.{Encodes, EncodesBody};
+ghost use Rattle.fast_spelling.specs.device.Fields.{Wrote};
+ghost use Rattle.fast_spelling.specs.device.Nodes.{instruction_in, IsReady, Keeps};
+ghost use Rattle.fast_spelling.specs.meaning.Refusals.{Refuses, RefusesBody};
+ghost use Rattle.fast_spelling.specs.meaning.Suiting.{Suits, SuitsBody, IsWithinLimits, AreWithinLimits};
 
 use crate::draft::Draft;
 use crate::faults::EncodeFault;

@@ -1,7 +1,7 @@
 //! What a decoder hands over, and to whom.
 
 ghost use Rattle.std.specs.Prelude.{OnOk, OnErr};
-ghost use Rattle.fast_stream.specs.Handed.{event_data};
+ghost use Rattle.fast_stream.specs.meaning.Handed.{event_data};
 
 use fast_value::Scalar;
 use std::error::Error;
@@ -60,7 +60,7 @@ impl Error for Stop {}
 
 /// Takes events, one after the other.
 pub trait Sink {
-    ghost use Rattle.fast_stream.specs.Events.{EventData};
+    ghost use Rattle.fast_stream.specs.meaning.Events.{EventData};
 
     // The old sink, an event and the new sink, where the event is taken, and where the sink stops at it.
     ghost takes: { Self → EventData → Self → Type 0 };

@@ -3,19 +3,19 @@
 
 ghost use Rattle.std.specs.Prelude.{true, ◌++◌, ◌≡◌, ◌≤◌, ◌+◌, ◌*◌, ℕ, List, length, map, max, min};
 ghost use Rattle.fast_value.specs.declared.settings.Limits.{Limits};
-ghost use Rattle.fast_value.specs.Limits.{in_mode};
+ghost use Rattle.fast_value.specs.meaning.Limits.{in_mode};
 ghost use Rattle.fast_value.specs.declared.codes.Code.{Code};
-ghost use Rattle.fast_value.specs.Messages.{MessageData};
-ghost use Rattle.fast_tree.specs.Tree.{Tree, Label, FieldData, sequence, Body};
-ghost use Rattle.fast_tree.specs.Sizes.{Weights, event_weights, turn_weights, size, body_size, body_outer, widest, body_widest, greatest, message_cap, turn_cap};
-ghost use Rattle.fast_dict.specs.Dictionary.{Dictionary};
-ghost use Rattle.fast_stream.specs.Events.{EventData, events};
-ghost use Rattle.fast_stream.specs.Phrases.{Reached, whole};
-ghost use Rattle.fast_stream.specs.Messages.{message, SpellsMessage};
-ghost use Rattle.fast_stream.specs.Streams.{Stream, Chain, End, between, faulted};
-ghost use Rattle.fast_stream.specs.Begins.{Begins, joined};
-ghost use Rattle.fast_stream.specs.Readers.{AreBytes};
-ghost use Rattle.fast_stream.specs.Running.{reading, run, message_begun, end_of};
+ghost use Rattle.fast_value.specs.meaning.Messages.{MessageData};
+ghost use Rattle.fast_tree.specs.meaning.Tree.{Tree, Label, FieldData, sequence, Body};
+ghost use Rattle.fast_tree.specs.meaning.Sizes.{Weights, event_weights, turn_weights, size, body_size, body_outer, widest, body_widest, greatest, message_cap, turn_cap};
+ghost use Rattle.fast_dict.specs.meaning.Dictionary.{Dictionary};
+ghost use Rattle.fast_stream.specs.meaning.Events.{EventData, events};
+ghost use Rattle.fast_stream.specs.meaning.Phrases.{Reached, whole};
+ghost use Rattle.fast_stream.specs.meaning.Messages.{message, SpellsMessage};
+ghost use Rattle.fast_stream.specs.meaning.Streams.{Stream, Chain, End, between, faulted};
+ghost use Rattle.fast_stream.specs.meaning.Begins.{Begins, joined};
+ghost use Rattle.fast_stream.specs.device.Readers.{AreBytes};
+ghost use Rattle.fast_stream.specs.device.Running.{reading, run, message_begun, end_of};
 
 /// A stream has at most one answer: the same events, and the same end.
 pub fn one_answer()

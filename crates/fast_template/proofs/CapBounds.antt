@@ -3,10 +3,10 @@ use Rattle.std.proofs.Common.{◌≡◌, ℕ, ◌+◌, ◌*◌, ◌<◌, ◌≤�
 use Rattle.std.proofs.Math.Nat.{le_trans, max-le, mul-le-mul_left}
 use Rattle.fast_tree.specs.declared.instructions.Node.{Node}
 use Rattle.fast_template.specs.declared.sets.Templates.{Templates}
-use Rattle.fast_tree.specs.Tree.{Instruction, field, parts, group, sequence, Body, end, step, TemplateData}
-use Rattle.fast_template.specs.Flat.{tree_of, nodes_of}
-use Rattle.fast_notation.specs.Labels.{labels, body_labels, template_labels, labels_from}
-use Rattle.fast_tree.specs.Sizes.{depth, body_depth, set_depth, greatest, event_weights, outer, body_outer, widest, body_widest, sum_cap}
+use Rattle.fast_tree.specs.meaning.Tree.{Instruction, field, parts, group, sequence, Body, end, step, TemplateData}
+use Rattle.fast_template.specs.meaning.Flat.{tree_of, nodes_of}
+use Rattle.fast_notation.specs.meaning.Labels.{labels, body_labels, template_labels, labels_from}
+use Rattle.fast_tree.specs.meaning.Sizes.{depth, body_depth, set_depth, greatest, event_weights, outer, body_outer, widest, body_widest, sum_cap}
 use Rattle.fast_value.specs.declared.settings.Limits.{Limits}
 
 -- no more levels than nodes

@@ -10,7 +10,7 @@ use Rattle.fast_template.specs.declared.opcodes.Opcode.TheVariants.{UInt32 as ui
 use Rattle.fast_template.specs.declared.opcodes.Sending.{Sending}
 use Rattle.fast_tree.specs.declared.operators.Operator.{Operator}
 use Rattle.fast_tree.specs.declared.operators.Operator.TheVariants.{None as no_operator, Constant, Default, Copy, Increment, Delta, Tail}
-use Rattle.fast_template.specs.Opcodes.{sending_of, sending_operator, is_nullable, kind_opcode, field_opcode, opcode_of, opcode_kind, opcode_sending, IsSentAs}
+use Rattle.fast_template.specs.device.Opcodes.{sending_of, sending_operator, is_nullable, kind_opcode, field_opcode, opcode_of, opcode_kind, opcode_sending, IsSentAs}
 
 some_is : {A : Type 0} {a b : A} → Some a ≡ Some b → a ≡ b
 some_is h = cc

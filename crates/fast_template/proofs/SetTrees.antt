@@ -2,12 +2,12 @@
 use Rattle.std.proofs.Common.{◌≡◌, ℕ, ap, sym, ◌∙◌, length, slice_get, Some}
 use Rattle.std.specs.Prelude.{slice_index_or}
 use Rattle.fast_template.specs.declared.sets.Templates.{Templates}
-use Rattle.fast_tree.specs.Tree.{HasDistinctIds, Instruction, TemplateData}
-use Rattle.fast_template.specs.Flat.{tree_of, templates_of, nodes_of, label_of, instruction_of, instructions_from, template_data}
+use Rattle.fast_tree.specs.meaning.Tree.{HasDistinctIds, Instruction, TemplateData}
+use Rattle.fast_template.specs.meaning.Flat.{tree_of, templates_of, nodes_of, label_of, instruction_of, instructions_from, template_data}
 use Rattle.fast_tree.specs.declared.instructions.Node.{Node}
 use Rattle.fast_tree.specs.declared.instructions.Template.{Template}
-use Rattle.fast_notation.proofs.Lists.{map_get_back}
-use Rattle.fast_notation.proofs.Walks.{instruction_of_node, instruction_of_later}
+use Rattle.fast_notation.proofs.lists.Lists.{map_get_back}
+use Rattle.fast_notation.proofs.nodes.Walks.{instruction_of_node, instruction_of_later}
 
 -- the set's template behind the tree's
 pub template_behind : (s : Templates) (i : ℕ) (u : TemplateData) → slice_get (tree_of s).templates i ≡ Some u → (t : Template) × (slice_get (templates_of s) i ≡ Some t) × (u ≡ template_data (instructions_from 0 (nodes_of s)) t)

@@ -4,13 +4,13 @@ use Rattle.std.specs.Prelude.{Bool, true, false, ◌&&◌, nat_lt, is_some, Opti
 use Rattle.std.proofs.lemmas.Bool.{ltb-true}
 use Rattle.fast_value.specs.declared.kinds.Kind.{Kind}
 use Rattle.fast_value.specs.declared.kinds.Kind.TheVariants.{UInt32, Int32, UInt64, Int64, Decimal, Ascii, Unicode, Bytes}
-use Rattle.fast_value.specs.Kinds.{Family, integers, decimals, texts, family}
+use Rattle.fast_value.specs.meaning.Kinds.{Family, integers, decimals, texts, family}
 use Rattle.fast_tree.specs.declared.operators.Operator.{Operator}
 use Rattle.fast_tree.specs.declared.operators.Operator.TheVariants.{Tail}
-use Rattle.fast_tree.specs.Tree.{FieldData}
-use Rattle.fast_tree.specs.Entries.{keeps_value}
-use Rattle.fast_tree.specs.NodeData.{ShapeData, a_field, a_decimal, a_group, a_sequence}
-use Rattle.fast_tree.specs.Usable.{is_texts, suits_tail, has_place, is_usable, is_uint32, is_int32, is_int64, is_usable_shape, IsUsable, IsUsableShape}
+use Rattle.fast_tree.specs.meaning.Tree.{FieldData}
+use Rattle.fast_tree.specs.meaning.Entries.{keeps_value}
+use Rattle.fast_tree.specs.device.NodeData.{ShapeData, a_field, a_decimal, a_group, a_sequence}
+use Rattle.fast_tree.specs.device.Usable.{is_texts, suits_tail, has_place, is_usable, is_uint32, is_int32, is_int64, is_usable_shape, IsUsable, IsUsableShape}
 
 -- both of two tests
 pub both : (a b : Bool) → (a && b) ≡ true → (a ≡ true) × (b ≡ true)

@@ -1,6 +1,2 @@
-pub mod Saturation
-pub mod Counts
-pub mod TextFields
-pub mod Flat
-pub mod Opcodes
-pub mod Presence
+pub mod device
+pub mod meaning

@@ -1,7 +1,7 @@
 //! What a decoder has to do at a node, as one number.
 
 ghost use Rattle.std.specs.Prelude.{◌≡◌, IfOk};
-ghost use Rattle.fast_template.specs.Opcodes.{sending_of, integer_opcode, opcode_of, opcodes_of};
+ghost use Rattle.fast_template.specs.device.Opcodes.{sending_of, integer_opcode, opcode_of, opcodes_of};
 
 use fast_tree::{Node, Operator, Shape};
 use fast_value::Kind;

@@ -3,13 +3,13 @@
 ghost use Rattle.std.specs.Prelude.{◌≡◌, ◌≢◌, ◌≤◌, ◌<◌, ℕ, length, slice_get, Some, IfSome, IfNone, string_bytes};
 ghost use Rattle.fast_tree.specs.declared.instructions.Template.{Template};
 ghost use Rattle.fast_tree.specs.declared.instructions.Node.{Node};
-ghost use Rattle.fast_template.specs.Flat.{templates_of, nodes_of, tree_of};
-ghost use Rattle.fast_notation.specs.Labels.{template_labels, labels_from};
-ghost use Rattle.fast_tree.specs.Tree.{HasDistinctIds};
-ghost use Rattle.fast_tree.specs.NodeData.{shape_data};
-ghost use Rattle.fast_template.specs.Opcodes.{opcode_of};
-ghost use Rattle.fast_tree.specs.Usable.{IsUsableShape};
-ghost use Rattle.fast_tree.specs.Numbers.{numbers_of, AreBelow, AreBetween};
+ghost use Rattle.fast_template.specs.meaning.Flat.{templates_of, nodes_of, tree_of};
+ghost use Rattle.fast_notation.specs.meaning.Labels.{template_labels, labels_from};
+ghost use Rattle.fast_tree.specs.meaning.Tree.{HasDistinctIds};
+ghost use Rattle.fast_tree.specs.device.NodeData.{shape_data};
+ghost use Rattle.fast_template.specs.device.Opcodes.{opcode_of};
+ghost use Rattle.fast_tree.specs.device.Usable.{IsUsableShape};
+ghost use Rattle.fast_tree.specs.device.Numbers.{numbers_of, AreBelow, AreBetween};
 
 use crate::opcodes::Opcode;
 use crate::sets::Templates;

@@ -3,11 +3,11 @@
 ghost use Rattle.std.specs.Prelude.{◌≡◌, ◌≢◌, Some, IfOk, IfErr};
 ghost use Rattle.toml.specs.Data.{Members};
 ghost use Rattle.toml.specs.Parse.{parse_document};
-ghost use Rattle.fast_notation.specs.Checked.{IsTree};
-ghost use Rattle.fast_notation.specs.Firsts.{IsFirstFault};
-ghost use Rattle.fast_notation.specs.FivePasses.{IsAtFault};
-ghost use Rattle.fast_template.specs.Flat.{tree_of};
-ghost use Rattle.fast_tree.specs.Tree.{Tree};
+ghost use Rattle.fast_notation.specs.meaning.Checked.{IsTree};
+ghost use Rattle.fast_notation.specs.meaning.Firsts.{IsFirstFault};
+ghost use Rattle.fast_notation.specs.meaning.FivePasses.{IsAtFault};
+ghost use Rattle.fast_template.specs.meaning.Flat.{tree_of};
+ghost use Rattle.fast_tree.specs.meaning.Tree.{Tree};
 
 use crate::opcodes::opcodes_of;
 use crate::sets::Templates;

@@ -1,13 +1,13 @@
 //! How many presence bits segments use, and which instructions may be absent. No query takes memory.
 
 ghost use Rattle.std.specs.Prelude.{◌≡◌, ℕ, ◌<◌, ◌≤◌, ◌^◌, ◌-◌, List, length, slice_get, Some};
-ghost use Rattle.fast_tree.specs.Tree.{Label, Instruction, bits_used, bits_of, message_bits};
+ghost use Rattle.fast_tree.specs.meaning.Tree.{Label, Instruction, bits_used, bits_of, message_bits};
 ghost use Rattle.fast_tree.specs.declared.instructions.Node.{Node};
 ghost use Rattle.fast_tree.specs.declared.instructions.Template.{Template};
-ghost use Rattle.fast_tree.specs.Bodies.{body_among};
-ghost use Rattle.fast_tree.specs.Numbers.{AreBelow, numbers_of};
-ghost use Rattle.fast_template.specs.Flat.{nodes_of, templates_of, instruction_of, instructions_from, template_data};
-ghost use Rattle.fast_template.specs.Presence.{may_be_absent};
+ghost use Rattle.fast_tree.specs.device.Bodies.{body_among};
+ghost use Rattle.fast_tree.specs.device.Numbers.{AreBelow, numbers_of};
+ghost use Rattle.fast_template.specs.meaning.Flat.{nodes_of, templates_of, instruction_of, instructions_from, template_data};
+ghost use Rattle.fast_template.specs.device.Presence.{may_be_absent};
 
 use crate::sets::Templates;
 use fast_tree::{Node, Shape};

@@ -1,7 +1,7 @@
 -- The fronts of the nodes so far, and one more.
 use Rattle.std.proofs.Common.{◌≡◌, ◌⊎◌, ℕ, suc, zero, List, [], ◌∷◌, ◌++◌, Some, refl, ap, inl, inr, length, slice_get}
 use Rattle.fast_text.specs.declared.front.Front.{Front}
-use Rattle.fast_text.specs.Front.{IsFront, AreFronts}
+use Rattle.fast_text.specs.device.Front.{IsFront, AreFronts}
 
 -- what stands in a list with one more
 among : (fs : List Front) (f g : Front) (n : ℕ) → slice_get (fs ++ f ∷ []) n ≡ Some g → (slice_get fs n ≡ Some g) ⊎ (length fs ≡ n) × (f ≡ g)

@@ -6,13 +6,13 @@ use Rattle.std.proofs.KnownBytes.{Appends-nil, Appends-trans, Consumes-nil, Cons
 use Rattle.std.proofs.lemmas.Grind.{flat_map-append}
 use Rattle.std.proofs.lemmas.List.Elements.{All-head, All-tail}
 use Rattle.fast_text.specs.declared.line_writer.LineWriter.{LineWriter}
-use Rattle.fast_text.specs.Streams.{Reads, Appends, AppendsFront}
-use Rattle.fast_stream.specs.Events.{EventData}
+use Rattle.fast_text.specs.meaning.Streams.{Reads, Appends, AppendsFront}
+use Rattle.fast_stream.specs.meaning.Events.{EventData}
 use Rattle.fast_text.specs.declared.line_sink.LineSink.{LineSink}
-use Rattle.fast_text.specs.LineSink.{whole_line, TakesLine, StopsInLine}
+use Rattle.fast_text.specs.device.LineSink.{whole_line, TakesLine, StopsInLine}
 use Rattle.fast_text.specs.declared.streams.Failed.{Failed}
-use Rattle.fast_text.specs.Room.{kept_in}
-use Rattle.fast_text.specs.LineWriter.{Point, Puts, Stands, Writes, IsFresh, Finishes, point_of}
+use Rattle.fast_text.specs.device.Room.{kept_in}
+use Rattle.fast_text.specs.device.LineWriter.{Point, Puts, Stands, Writes, IsFresh, Finishes, point_of}
 
 -- no text
 pub appends_none : (old : Option (List ℕ)) → Appends old old []

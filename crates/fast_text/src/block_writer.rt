@@ -1,7 +1,7 @@
 //! A target that hands bytes on in large blocks.
 
 ghost use Rattle.std.specs.Prelude.{◌≡◌, ◌≤◌, ◌+◌, [], ◌++◌, OnOk, OnErr, IsTrue, length, take};
-ghost use Rattle.fast_text.specs.Streams.{Appends};
+ghost use Rattle.fast_text.specs.meaning.Streams.{Appends};
 
 use crate::streams::{Failed, Target};
 
@@ -22,7 +22,7 @@ pub struct BlockWriter<T> {
 }
 
 impl<T: Target> BlockWriter<T> {
-    ghost use Rattle.fast_text.specs.BlockWriter.{kept_of, target_of, with_kept};
+    ghost use Rattle.fast_text.specs.device.BlockWriter.{kept_of, target_of, with_kept};
 
     /// A writer over a target, which keeps nothing yet.
     pub fn new(inner: T) -> BlockWriter<T>
@@ -70,7 +70,7 @@ impl<T: Target> BlockWriter<T> {
 }
 
 impl<T: Target> Target for BlockWriter<T> {
-    ghost use Rattle.fast_text.specs.BlockWriter.{target_of, with_kept};
+    ghost use Rattle.fast_text.specs.device.BlockWriter.{target_of, with_kept};
 
     ghost written = { with_kept T.written };
 

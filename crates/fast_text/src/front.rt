@@ -1,8 +1,8 @@
 //! What stands before the value of a field on its line, made once for each node, and the line of a message's start.
 
 ghost use Rattle.std.specs.Prelude.{◌≡◌, ◌<◌, ◌≤◌, IfOk, length, take};
-ghost use Rattle.fast_template.specs.Flat.{tree_of};
-ghost use Rattle.fast_text.specs.Front.{field_front, message_front, IsFront};
+ghost use Rattle.fast_template.specs.meaning.Flat.{tree_of};
+ghost use Rattle.fast_text.specs.device.Front.{field_front, message_front, IsFront};
 
 use crate::name_texts::{node_text, template_text};
 use fast_template::Templates;

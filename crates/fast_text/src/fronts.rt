@@ -1,8 +1,8 @@
 //! The fronts of all nodes and templates of a template set.
 
 ghost use Rattle.std.specs.Prelude.{◌≡◌, IfOk};
-ghost use Rattle.fast_template.specs.Flat.{tree_of};
-ghost use Rattle.fast_text.specs.Front.{field_front, message_front, AreFronts};
+ghost use Rattle.fast_template.specs.meaning.Flat.{tree_of};
+ghost use Rattle.fast_text.specs.device.Front.{field_front, message_front, AreFronts};
 
 use crate::front::{Front, field_at, message_at};
 use fast_template::Templates;
@@ -41,7 +41,7 @@ fn all_messages(alloc: Global, templates: &Templates) -> Result<Vec<Front>, Allo
 }
 
 impl<'a> Fronts<'a> {
-    ghost use Rattle.fast_text.specs.Fronts.{set_of};
+    ghost use Rattle.fast_text.specs.device.Fronts.{set_of};
 
     /// The fronts of the nodes and templates of a set.
     ///

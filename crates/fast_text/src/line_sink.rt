@@ -1,11 +1,11 @@
 //! A sink that writes a line for each event.
 
 ghost use Rattle.std.specs.Prelude.{◌≡◌, [], ◌∷◌, ◌++◌};
-ghost use Rattle.fast_template.specs.Flat.{tree_of};
-ghost use Rattle.fast_stream.specs.Handed.{event_data};
-ghost use Rattle.fast_lines.specs.Lines.{line_of, node as node_words};
-ghost use Rattle.fast_text.specs.Front.{AreFronts, field_front, message_front};
-ghost use Rattle.fast_text.specs.LineWriter.{Writes};
+ghost use Rattle.fast_template.specs.meaning.Flat.{tree_of};
+ghost use Rattle.fast_stream.specs.meaning.Handed.{event_data};
+ghost use Rattle.fast_lines.specs.meaning.Lines.{line_of, node as node_words};
+ghost use Rattle.fast_text.specs.device.Front.{AreFronts, field_front, message_front};
+ghost use Rattle.fast_text.specs.device.LineWriter.{Writes};
 
 use crate::front::Front;
 use crate::fronts::Fronts;
@@ -123,8 +123,8 @@ fn put_event<T: Target>(
 }
 
 impl<'a, T: Target> LineSink<'a, T> {
-    ghost use Rattle.fast_text.specs.Fronts.{set_of};
-    ghost use Rattle.fast_text.specs.LineSink.{IsOver};
+    ghost use Rattle.fast_text.specs.device.Fronts.{set_of};
+    ghost use Rattle.fast_text.specs.device.LineSink.{IsOver};
 
     /// A sink that writes to a target.
     pub fn new(templates: &'a Templates, target: &'a mut T) -> LineSink<'a, T>
@@ -154,7 +154,7 @@ impl<'a, T: Target> LineSink<'a, T> {
 }
 
 impl<T: Target> Sink for LineSink<'_, T> {
-    ghost use Rattle.fast_text.specs.LineSink.{TakesLine, StopsInLine};
+    ghost use Rattle.fast_text.specs.device.LineSink.{TakesLine, StopsInLine};
 
     ghost takes = { TakesLine T.written T.has_failed };
 

@@ -2,9 +2,9 @@
 
 ghost use Rattle.std.specs.Prelude.{◌≡◌, ◌≤◌, [], ◌∷◌, ◌++◌, false, Ok, IsTrue, All, length, take, codes, decimal, flat_map};
 ghost use Rattle.std.specs.Fmt.{signed_decimal};
-ghost use Rattle.fast_value.specs.Values.{scalar_data};
-ghost use Rattle.fast_lines.specs.Lines.{escaped, quoted, hex_byte, written as value_text};
-ghost use Rattle.fast_text.specs.Room.{kept_in};
+ghost use Rattle.fast_value.specs.meaning.Values.{scalar_data};
+ghost use Rattle.fast_lines.specs.meaning.Lines.{escaped, quoted, hex_byte, written as value_text};
+ghost use Rattle.fast_text.specs.device.Room.{kept_in};
 
 use crate::room::Room;
 use crate::streams::{Failed, Target};
@@ -26,7 +26,7 @@ pub struct LineWriter<'a, T> {
 }
 
 impl<T: Target> fmt::Write for LineWriter<'_, T> {
-    ghost use Rattle.fast_text.specs.LineWriter.{Writes};
+    ghost use Rattle.fast_text.specs.device.LineWriter.{Writes};
 
     ghost write_str_gives = { Writes T.written T.has_failed };
 
@@ -66,7 +66,7 @@ fn plain_len(text: &[u8]) -> usize
 }
 
 impl<'a, T: Target> LineWriter<'a, T> {
-    ghost use Rattle.fast_text.specs.LineWriter.{Begins, Finishes, Writes};
+    ghost use Rattle.fast_text.specs.device.LineWriter.{Begins, Finishes, Writes};
 
     /// A writer that has written nothing. What the room holds is dropped.
     pub fn new(target: &'a mut T, kept: &'a mut Room) -> LineWriter<'a, T>

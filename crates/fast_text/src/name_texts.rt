@@ -1,8 +1,8 @@
 //! The names that a template set has for its nodes and templates.
 
 ghost use Rattle.std.specs.Prelude.{◌≡◌};
-ghost use Rattle.fast_template.specs.Flat.{tree_of};
-ghost use Rattle.fast_lines.specs.Lines.{template_name, node_name};
+ghost use Rattle.fast_template.specs.meaning.Flat.{tree_of};
+ghost use Rattle.fast_lines.specs.meaning.Lines.{template_name, node_name};
 
 use fast_template::Templates;
 

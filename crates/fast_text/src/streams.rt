@@ -2,7 +2,7 @@
 
 ghost use Rattle.std.specs.Prelude.{◌≡◌, ℕ, ◌≤◌, ◌<◌, List, [], ◌++◌, Bool, false, IsTrue, take, length, Option, Some, IfOk, OnOk, OnErr};
 ghost use Rattle.std.specs.Io.KnownBytes.{IsAtEnd};
-ghost use Rattle.fast_text.specs.Streams.{Reads, Appends, AppendsFront};
+ghost use Rattle.fast_text.specs.meaning.Streams.{Reads, Appends, AppendsFront};
 
 use std::error::Error;
 use std::fmt;
@@ -144,7 +144,7 @@ pub struct ToBytes<'a> {
 }
 
 impl<'a> ToBytes<'a> {
-    ghost use Rattle.fast_text.specs.ToBytes.{room_of};
+    ghost use Rattle.fast_text.specs.device.ToBytes.{room_of};
 
     /// A writer that has written nothing.
     pub fn new(cells: &'a mut [u8]) -> ToBytes<'a>
@@ -209,7 +209,7 @@ pub struct Watched<T> {
 }
 
 impl<T> Watched<T> {
-    ghost use Rattle.fast_text.specs.Watched.{inner_of, has_call_failed};
+    ghost use Rattle.fast_text.specs.device.Watched.{inner_of, has_call_failed};
 
     /// The reader or writer, with no call yet.
     pub fn new(inner: T) -> Watched<T>
@@ -231,7 +231,7 @@ impl<T> Watched<T> {
 }
 
 impl<R: Read> Source for Watched<R> {
-    ghost use Rattle.fast_text.specs.Watched.{inner_of};
+    ghost use Rattle.fast_text.specs.device.Watched.{inner_of};
 
     ghost left = { λ s. R.remaining (inner_of s) };
 
@@ -253,7 +253,7 @@ impl<R: Read> Source for Watched<R> {
 }
 
 impl<W: Write> Target for Watched<W> {
-    ghost use Rattle.fast_text.specs.Watched.{inner_of};
+    ghost use Rattle.fast_text.specs.device.Watched.{inner_of};
 
     ghost written = { λ s. W.contents (inner_of s) };
 

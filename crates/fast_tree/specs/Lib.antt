@@ -1,10 +1,2 @@
-pub mod Tree
-pub mod Sizes
-pub mod AsWritten
-pub mod Entries
-pub mod Places
-pub mod Nodes
-pub mod NodeData
-pub mod Numbers
-pub mod Usable
-pub mod Bodies
+pub mod meaning
+pub mod device

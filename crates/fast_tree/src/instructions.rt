@@ -1,8 +1,8 @@
 //! Templates and their instructions, as they are kept.
 
 ghost use Rattle.std.specs.Prelude.{◌≡◌};
-ghost use Rattle.fast_tree.specs.Nodes.{field_data};
-ghost use Rattle.fast_tree.specs.Tree.{uses_bit};
+ghost use Rattle.fast_tree.specs.device.Nodes.{field_data};
+ghost use Rattle.fast_tree.specs.meaning.Tree.{uses_bit};
 
 use crate::operators::Operator;
 use fast_value::{Kind, Value};

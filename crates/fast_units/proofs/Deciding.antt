@@ -5,26 +5,26 @@ use Rattle.fast_value.specs.declared.kinds.Kind.{Kind}
 use Rattle.fast_value.specs.declared.kinds.Kind.TheVariants.{UInt32, Int32, UInt64, Int64, Decimal, Ascii, Unicode, Bytes}
 use Rattle.fast_value.specs.declared.codes.Code.{Code}
 use Rattle.fast_value.specs.declared.codes.Code.TheVariants.{D2, D4}
-use Rattle.fast_value.specs.Kinds.{ScalarData, Family, integers, decimals, texts, family, integer_of, value_of_integer, same_kind}
+use Rattle.fast_value.specs.meaning.Kinds.{ScalarData, Family, integers, decimals, texts, family, integer_of, value_of_integer, same_kind}
 use Rattle.fast_tree.specs.declared.operators.Operator.{Operator}
 use Rattle.fast_tree.specs.declared.operators.Operator.TheVariants as Op
-use Rattle.fast_tree.specs.Tree.{FieldData}
-use Rattle.fast_dict.specs.Dictionary.{Dictionary, PreviousData, undefined, empty, assigned, previous_at, write_at}
-use Rattle.fast_dict.specs.Operators.{Outcome, delta_base, integer_step, ranged, range_of, checked, checked_in, null, value, gives, gives_none, decide, decide_by, nothing, fixed, ◌>>=◌, keeps, from_initial, unsent, next_value}
-use Rattle.fast_units.specs.declared.source.Source.{Source}
-use Rattle.fast_units.specs.declared.source.Source.TheVariants as From
-use Rattle.fast_tree.specs.Entries.{keeps_value}
-use Rattle.fast_dict.specs.Stores.{Terms}
-use Rattle.fast_units.specs.Settling.{Serves, value_in, value_at, IsSettled}
-use Rattle.fast_value.specs.Limits.{Bounds}
-use Rattle.fast_stream.specs.Grammar.{of_result}
-use Rattle.fast_stream.specs.Fields.{not_sent, field_by, field_term}
-use Rattle.fast_units.specs.Deciding.{needs_bytes, number_data, source_of, base_integer, IsDecided}
+use Rattle.fast_tree.specs.meaning.Tree.{FieldData}
+use Rattle.fast_dict.specs.meaning.Dictionary.{Dictionary, PreviousData, undefined, empty, assigned, previous_at, write_at}
+use Rattle.fast_dict.specs.meaning.Operators.{Outcome, delta_base, integer_step, ranged, range_of, checked, checked_in, null, value, gives, gives_none, decide, decide_by, nothing, fixed, ◌>>=◌, keeps, from_initial, unsent, next_value}
+use Rattle.fast_units.specs.declared.source.ValueSource.{ValueSource}
+use Rattle.fast_units.specs.declared.source.ValueSource.TheVariants as From
+use Rattle.fast_tree.specs.meaning.Entries.{keeps_value}
+use Rattle.fast_dict.specs.meaning.Stores.{Terms}
+use Rattle.fast_units.specs.device.Settling.{Serves, value_in, value_at, IsSettled}
+use Rattle.fast_value.specs.meaning.Limits.{Bounds}
+use Rattle.fast_stream.specs.meaning.Grammar.{of_result}
+use Rattle.fast_stream.specs.meaning.Fields.{not_sent, field_by, field_term}
+use Rattle.fast_units.specs.device.Deciding.{needs_bytes, number_data, source_of, base_integer, IsDecided}
 use Rattle.fast_units.specs.declared.fields.Number.{Number}
 use Rattle.fast_units.specs.declared.fields.Number.TheVariants as As
 
 -- by another name of what is decided
-pub decided_as : (f : FieldData) (old new : Dictionary) (a : Result Source Code) {r r' : Result Outcome Code} → r ≡ r' → IsDecided r' f old new a → IsDecided r f old new a
+pub decided_as : (f : FieldData) (old new : Dictionary) (a : Result ValueSource Code) {r r' : Result Outcome Code} → r ≡ r' → IsDecided r' f old new a → IsDecided r f old new a
 decided_as f old new a {r} {r'} e h = subst (λ x. IsDecided x f old new a) (sym e) h
 
 -- A number at hand is the value where it stands, and NULL is none.
@@ -35,10 +35,10 @@ item_value (Some (As.Signed x)) f d scratch piece = refl
 item_value (Some (As.Decimal e m)) f d scratch piece = refl
 
 -- Where a number stands whatever the field, it is at hand.
-pub source_at : (n : Number) (source : Source) → ((f : FieldData) (d : Dictionary) (scratch piece : List ℕ) → value_at source f d scratch piece ≡ Some (number_data n)) → source ≡ source_of (Some n)
+pub source_at : (n : Number) (source : ValueSource) → ((f : FieldData) (d : Dictionary) (scratch piece : List ℕ) → value_at source f d scratch piece ≡ Some (number_data n)) → source ≡ source_of (Some n)
 source_at n source h = by n source (h (record { kind = Ascii; optional = false; operator = Op.None; initial = None; entry = None }) [] [] [])
   where
-    by : (n : Number) (source : Source) → value_at source (record { kind = Ascii; optional = false; operator = Op.None; initial = None; entry = None }) [] [] [] ≡ Some (number_data n) → source ≡ source_of (Some n)
+    by : (n : Number) (source : ValueSource) → value_at source (record { kind = Ascii; optional = false; operator = Op.None; initial = None; entry = None }) [] [] [] ≡ Some (number_data n) → source ≡ source_of (Some n)
     by (As.Unsigned n) (From.Unsigned m) e = cc e
     by (As.Signed x) (From.Signed y) e = cc e
     by (As.Decimal e m) (From.Decimal i j) h = cc h
@@ -84,7 +84,7 @@ module _ (f : FieldData) (old new : Dictionary) where
   initial_decided c v e d = (record { value = Some v; next = assigned f.kind v }, ap (from_initial f.kind f.optional c) e, λ scratch piece. record { value = sym e; dictionary = d })
 
   -- The previous value, of the field's type: what comes next, which the entry then holds.
-  pub next_decided : (kind : Kind) (v : ScalarData) (source : Source) → previous_at f.entry old ≡ assigned kind v → kind ≡ f.kind
+  pub next_decided : (kind : Kind) (v : ScalarData) (source : ValueSource) → previous_at f.entry old ≡ assigned kind v → kind ≡ f.kind
       → new ≡ write_at f.entry (assigned f.kind (next_value f.operator f.kind v)) old
       → ((scratch piece : List ℕ) → Some (next_value f.operator f.kind v) ≡ value_at source f new scratch piece)
       → IsDecided (unsent f (previous_at f.entry old)) f old new (Ok source)
@@ -105,7 +105,7 @@ copy_decided f d kind v o p k =
     (λ scratch piece. ap Some same ∙ ap value_in (sym p))
 
 -- the same where it is a number of the field's own kind, which stands anywhere
-pub own_decided : (f : FieldData) (d : Dictionary) (v : ScalarData) (source : Source) → f.operator ≢ Op.Increment → previous_at f.entry d ≡ assigned f.kind v
+pub own_decided : (f : FieldData) (d : Dictionary) (v : ScalarData) (source : ValueSource) → f.operator ≢ Op.Increment → previous_at f.entry d ≡ assigned f.kind v
     → ((e : Dictionary) (scratch piece : List ℕ) → value_at source f e scratch piece ≡ Some v) → IsDecided (unsent f (previous_at f.entry d)) f d d (Ok source)
 own_decided f d v source o p at =
     let same : next_value f.operator f.kind v ≡ v = next_same f.operator f.kind v o in
@@ -203,7 +203,7 @@ pub unsent_tail : (f : FieldData) (p : PreviousData) (bit : Bool) → f.operator
 unsent_tail f p bit o b = ap (λ x. decide_by x bit f p nothing) o ∙ ap (λ x. decide_by Op.Tail x f p nothing) b
 
 -- A number that is kept: it stands at the entry, and at its source.
-pub keep_decided : (f : FieldData) (old new : Dictionary) (v : ScalarData) (source : Source) → new ≡ write_at f.entry (assigned f.kind v) old
+pub keep_decided : (f : FieldData) (old new : Dictionary) (v : ScalarData) (source : ValueSource) → new ≡ write_at f.entry (assigned f.kind v) old
     → ((d : Dictionary) (scratch piece : List ℕ) → value_at source f d scratch piece ≡ Some v) → IsDecided (keeps f.kind v) f old new (Ok source)
 keep_decided f old new v source d at = (record { value = Some v; next = assigned f.kind v }, refl, λ scratch piece. record { value = sym (at new scratch piece); dictionary = d })
 
@@ -229,7 +229,7 @@ module _ {n : ℕ} {t : Terms} (f : FieldData) (serves : Serves n t f) (numbers 
       none : f.entry ≡ None
       none = no_entry f serves (ap keeps_value e ∙ k)
 
-  pub value_decided : (v : ScalarData) (source : Source) → f.operator ≢ Op.Delta → f.operator ≢ Op.Constant → new ≡ write_at f.entry (assigned f.kind v) old
+  pub value_decided : (v : ScalarData) (source : ValueSource) → f.operator ≢ Op.Delta → f.operator ≢ Op.Constant → new ≡ write_at f.entry (assigned f.kind v) old
       → ((d : Dictionary) (scratch piece : List ℕ) → value_at source f d scratch piece ≡ Some v)
       → IsDecided (decide f (previous_at f.entry old) true (value v)) f old new (Ok source)
   value_decided v source no_delta no_constant d at = by f.operator refl

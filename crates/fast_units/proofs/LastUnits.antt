@@ -5,31 +5,31 @@ use Rattle.std.proofs.Math.Facts.{to_z-of_z}
 use Rattle.std.specs.Int.{Width}
 use Rattle.std.proofs.lemmas.Int.{ints}
 use Rattle.std.specs.Prelude.{◌≡◌, ◌≢◌, ℕ, zero, suc, ◌<◌, ◌≤◌, ◌^◌, Bool, true, false, nat_le, if◌then◌else◌, List, [], ◌∷◌, ◌++◌, length, take, ℤ, pos, neg_ℤ, ◌≤ℤ◌, Option, Some, IfSome, Result, Ok, Err}
-use Rattle.fast_wire.specs.Integers.{Range, IsWithin, delta_range, signed_range, exponent_range}
+use Rattle.fast_wire.specs.meaning.Integers.{Range, IsWithin, delta_range, signed_range, exponent_range}
 use Rattle.fast_value.specs.declared.codes.Code.{Code}
 use Rattle.fast_value.specs.declared.codes.Code.TheVariants.{D2, R1}
 use Rattle.fast_value.specs.declared.kinds.Kind.{Kind}
 use Rattle.fast_value.specs.declared.kinds.Kind.TheVariants.{UInt32, Int32, UInt64, Int64, Decimal, Ascii, Unicode, Bytes}
-use Rattle.fast_value.specs.Kinds.{integers, decimals, family}
-use Rattle.fast_value.specs.Limits.{Bounds}
+use Rattle.fast_value.specs.meaning.Kinds.{integers, decimals, family}
+use Rattle.fast_value.specs.meaning.Limits.{Bounds}
 use Rattle.fast_tree.specs.declared.operators.Operator.{Operator}
 use Rattle.fast_tree.specs.declared.operators.Operator.TheVariants as Op
-use Rattle.fast_tree.specs.Tree.{FieldData}
-use Rattle.fast_dict.specs.Dictionary.{Dictionary, PreviousData}
-use Rattle.fast_dict.specs.Operators.{Outcome, decide, range_in, range_of}
-use Rattle.fast_stream.specs.Readers.{Reader, Done, Stop, bind}
-use Rattle.fast_stream.specs.Machine.{after_bytes, stage_term}
-use Rattle.fast_stream.specs.Grammar.{Grammar, give, integer, ◌>>=◌, of_result}
-use Rattle.fast_stream.specs.GrammarReaders.{settles_reader, entity_reader, judged, reader_of}
-use Rattle.fast_stream.specs.Fields.{sent_integer, sent_decimal, decimal_from, item_in, integer_change, mantissa_change, decimal_change, change_in, sent, field_by, field_term}
-use Rattle.fast_units.specs.Taking.{Turns, Stays}
-use Rattle.fast_units.specs.Settling.{IsLastUnit}
-use Rattle.fast_units.specs.Stages.{term_behind}
-use Rattle.fast_units.specs.Deciding.{IsDecided, progress_of}
-use Rattle.fast_units.specs.declared.source.Source.{Source}
+use Rattle.fast_tree.specs.meaning.Tree.{FieldData}
+use Rattle.fast_dict.specs.meaning.Dictionary.{Dictionary, PreviousData}
+use Rattle.fast_dict.specs.meaning.Operators.{Outcome, decide, range_in, range_of}
+use Rattle.fast_stream.specs.device.Readers.{Reader, Done, Stop, bind}
+use Rattle.fast_stream.specs.device.Machine.{after_bytes, stage_term}
+use Rattle.fast_stream.specs.meaning.Grammar.{Grammar, give, integer, ◌>>=◌, of_result}
+use Rattle.fast_stream.specs.device.GrammarReaders.{settles_reader, entity_reader, judged, reader_of}
+use Rattle.fast_stream.specs.meaning.Fields.{sent_integer, sent_decimal, decimal_from, item_in, integer_change, mantissa_change, decimal_change, change_in, sent, field_by, field_term}
+use Rattle.fast_units.specs.device.Taking.{Turns, Stays}
+use Rattle.fast_units.specs.device.Settling.{IsLastUnit}
+use Rattle.fast_units.specs.device.Stages.{term_behind}
+use Rattle.fast_units.specs.device.Deciding.{IsDecided, progress_of}
+use Rattle.fast_units.specs.declared.source.ValueSource.{ValueSource}
 use Rattle.fast_units.specs.declared.stages.Stage.TheVariants.{Mantissa, MantissaDelta}
-use Rattle.fast_stream.proofs.Integers.{judged-ok}
-use Rattle.fast_stream.proofs.Stepping.{integer-entity}
+use Rattle.fast_stream.proofs.readers.Integers.{judged-ok}
+use Rattle.fast_stream.proofs.streams.Stepping.{integer-entity}
 use Rattle.fast_units.proofs.Turning.{turns_as, stays_as, term_turns, term_stops, term_stays}
 
 -- A unit g in front of what is read behind it.
@@ -48,7 +48,7 @@ module _ {X : Type 0} (s : Bool) (g : Grammar X) (k : X → Grammar Outcome) (r 
   unit_decides w x d e t = turns_as here (sym (ap (reader_of s) e)) (term_turns s g k t)
 
   -- The unit is the last one of a field.
-  pub last_unit : (f : FieldData) (front rest : List ℕ) (old new : Dictionary) (scratch : List ℕ) (x : X) (n : ℕ) (d : Result Outcome Code) (answer : Result Source Code)
+  pub last_unit : (f : FieldData) (front rest : List ℕ) (old new : Dictionary) (scratch : List ℕ) (x : X) (n : ℕ) (d : Result Outcome Code) (answer : Result ValueSource Code)
       → k x ≡ of_result d → IsDecided d f old new answer → (0 < n) × (n ≤ length rest) × Turns (reader_of s g) (front ++ take n rest) (Done x)
       → IsLastUnit r f front rest old new scratch (progress_of answer n)
   last_unit f front rest old new scratch x n d (Ok source) e (o, h, settled) (some, within, t) = (

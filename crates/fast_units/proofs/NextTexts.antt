@@ -4,12 +4,12 @@ use Rattle.std.specs.Prelude.{not, slice_get, ◌==◌, ◌≡◌, ◌≢◌, �
 use Rattle.std.proofs.lemmas.Bool.Decides.{nat_tests}
 use Rattle.std.proofs.lemmas.List.{length-take-le, take-append-drop, take_more, take-take, take_all, get_or-take}
 use Rattle.std.proofs.lemmas.List.Elements.{All-nil, All-append, All-push, All-from_get_or}
-use Rattle.fast_wire.specs.Entities.{HaveNoStop}
-use Rattle.fast_wire.specs.Texts.{SpellsAscii}
+use Rattle.fast_wire.specs.meaning.Entities.{HaveNoStop}
+use Rattle.fast_wire.specs.meaning.Texts.{SpellsAscii}
 use Rattle.fast_value.specs.declared.codes.Code.TheVariants.{L1}
-use Rattle.fast_stream.specs.Phrases.{cut}
-use Rattle.fast_stream.specs.Units.{BeginsWithZero, ascii_text}
-use Rattle.fast_units.specs.NextUnits.{BeginsWithCharacter, IsNextText}
+use Rattle.fast_stream.specs.meaning.Phrases.{cut}
+use Rattle.fast_stream.specs.meaning.Units.{BeginsWithZero, ascii_text}
+use Rattle.fast_units.specs.device.NextUnits.{BeginsWithCharacter, IsNextText}
 use Rattle.fast_units.specs.declared.progress.Progress.{Progress}
 use Rattle.fast_units.specs.declared.progress.Progress.TheVariants.{Whole, Wrong, Cut}
 

@@ -3,24 +3,24 @@ use Rattle.std.proofs.Common.{refl, sym, ap, arith, inl, inr, length-append}
 use Rattle.std.specs.Prelude.{◌≡◌, ℕ, zero, suc, ◌==◌, ◌<◌, Bool, true, false, List, [], ◌∷◌, ◌++◌, length, take, ℤ, pos, IsTrue, Option}
 use Rattle.std.proofs.lemmas.Bool.Decides.{nat_tests}
 use Rattle.std.proofs.lemmas.Int.{ints}
-use Rattle.fast_wire.specs.Entities.{IsEntity, IsOverlong, number}
-use Rattle.fast_wire.specs.Integers.{Range, IsInteger, unsigned_up_to, value}
-use Rattle.fast_wire.specs.Fronts.{IsFirstInt, IsWrongInt}
+use Rattle.fast_wire.specs.meaning.Entities.{IsEntity, IsOverlong, number}
+use Rattle.fast_wire.specs.meaning.Integers.{Range, IsInteger, unsigned_up_to, value}
+use Rattle.fast_wire.specs.device.Fronts.{IsFirstInt, IsWrongInt}
 use Rattle.fast_wire.specs.declared.fronts.First.TheVariants as First
 use Rattle.fast_wire.specs.declared.reads.WireFault.{WireFault}
 use Rattle.fast_wire.specs.declared.reads.WireFault.TheVariants as Wire
 use Rattle.fast_value.specs.declared.codes.Code.{Code}
-use Rattle.fast_stream.specs.Phrases.{whole, wrong, cut}
-use Rattle.fast_stream.specs.Units.{WrongInt}
-use Rattle.fast_stream.specs.Grammar.{give, integer, ascii_text, raw}
-use Rattle.fast_stream.specs.Readers.{Reader, Done, Emit, Stop, Byte, bind, Runs}
-use Rattle.fast_stream.specs.GrammarReaders.{integer_reader, ascii_text_reader, raw_reader, reader_of}
-use Rattle.fast_units.specs.Taking.{Turns, Stays, IsUnit}
-use Rattle.fast_units.specs.NextUnits.{IsRefusedInt, IsNextInteger, IsNextText, text_or_null}
+use Rattle.fast_stream.specs.meaning.Phrases.{whole, wrong, cut}
+use Rattle.fast_stream.specs.meaning.Units.{WrongInt}
+use Rattle.fast_stream.specs.meaning.Grammar.{give, integer, ascii_text, raw}
+use Rattle.fast_stream.specs.device.Readers.{Reader, Done, Emit, Stop, Byte, bind, Runs}
+use Rattle.fast_stream.specs.device.GrammarReaders.{integer_reader, ascii_text_reader, raw_reader, reader_of}
+use Rattle.fast_units.specs.device.Taking.{Turns, Stays, IsUnit}
+use Rattle.fast_units.specs.device.NextUnits.{IsRefusedInt, IsNextInteger, IsNextText, text_or_null}
 use Rattle.fast_units.specs.declared.progress.Progress.{Progress}
 use Rattle.fast_units.specs.declared.progress.Progress.TheVariants.{Whole, Wrong, Cut}
-use Rattle.fast_stream.proofs.Integers.{reads-integer}
-use Rattle.fast_stream.proofs.TextReaders.{reads-raw, reads-ascii}
+use Rattle.fast_stream.proofs.readers.Integers.{reads-integer}
+use Rattle.fast_stream.proofs.readers.TextReaders.{reads-raw, reads-ascii}
 
 -- No byte is taken, and the reader is as it is.
 turns_none : {A : Type 0} (r q : Reader A) (w : List ℕ) → w ≡ [] → r ≡ q → Turns r w q

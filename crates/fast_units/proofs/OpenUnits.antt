@@ -1,33 +1,33 @@
 -- Readers that wait: of the unit that they read some bytes have come, and it is cut.
 use Rattle.std.proofs.Common.{refl, ap}
 use Rattle.std.specs.Prelude.{◌≡◌, ◌≢◌, ℕ, ◌-◌, ◌<◌, Bool, true, false, List, [], length, ℤ, Option, Some}
-use Rattle.fast_wire.specs.Entities.{HaveNoStop}
-use Rattle.fast_wire.specs.Integers.{Range, unsigned_range, signed_range, exponent_range, delta_range}
-use Rattle.fast_wire.specs.Maps.{map_limit}
+use Rattle.fast_wire.specs.meaning.Entities.{HaveNoStop}
+use Rattle.fast_wire.specs.meaning.Integers.{Range, unsigned_range, signed_range, exponent_range, delta_range}
+use Rattle.fast_wire.specs.meaning.Maps.{map_limit}
 use Rattle.fast_value.specs.declared.kinds.Kind.{Kind}
 use Rattle.fast_value.specs.declared.kinds.Kind.TheVariants.{UInt32, Int32, UInt64, Int64, Decimal, Ascii, Unicode, Bytes}
 use Rattle.fast_value.specs.declared.codes.Code.{Code}
 use Rattle.fast_value.specs.declared.codes.Code.TheVariants.{D2, D7, R1}
-use Rattle.fast_value.specs.Kinds.{Family, integers, decimals, texts, family}
-use Rattle.fast_value.specs.Limits.{Bounds}
+use Rattle.fast_value.specs.meaning.Kinds.{Family, integers, decimals, texts, family}
+use Rattle.fast_value.specs.meaning.Limits.{Bounds}
 use Rattle.fast_tree.specs.declared.operators.Operator.{Operator}
 use Rattle.fast_tree.specs.declared.operators.Operator.TheVariants.{None as no_operator, Constant, Default, Copy, Increment, Delta, Tail}
-use Rattle.fast_tree.specs.Tree.{FieldData}
-use Rattle.fast_dict.specs.Dictionary.{PreviousData}
-use Rattle.fast_dict.specs.Operators.{decide, kept_length, subtraction_step}
-use Rattle.fast_stream.specs.Phrases.{cut}
-use Rattle.fast_stream.specs.Units.{ascii_text as ascii_phrase}
-use Rattle.fast_stream.specs.Grammar.{Grammar, give, integer, ascii_text, raw, presence_map, of_result}
-use Rattle.fast_stream.specs.GrammarReaders.{integer_reader, ascii_text_reader, raw_reader, presence_map_reader, reader_of}
-use Rattle.fast_stream.specs.Fields.{text, sized, sent_integer, sent_text, sent_decimal, decimal_from, integer_change, mantissa_change, decimal_change, part_change, text_change, item_in, item, change_in, sent, field_by, field_term}
-use Rattle.fast_stream.specs.Machine.{behind_kept, behind_part_size, stage_term}
-use Rattle.fast_units.specs.Stages.{term_behind, IsStageOf}
-use Rattle.fast_units.specs.UnitFronts.{IsAsciiFirst, IsNumberStage, IsBytesStage}
-use Rattle.fast_units.specs.Taking.{Stays}
+use Rattle.fast_tree.specs.meaning.Tree.{FieldData}
+use Rattle.fast_dict.specs.meaning.Dictionary.{PreviousData}
+use Rattle.fast_dict.specs.meaning.Operators.{decide, kept_length, subtraction_step}
+use Rattle.fast_stream.specs.meaning.Phrases.{cut}
+use Rattle.fast_stream.specs.meaning.Units.{ascii_text as ascii_phrase}
+use Rattle.fast_stream.specs.meaning.Grammar.{Grammar, give, integer, ascii_text, raw, presence_map, of_result}
+use Rattle.fast_stream.specs.device.GrammarReaders.{integer_reader, ascii_text_reader, raw_reader, presence_map_reader, reader_of}
+use Rattle.fast_stream.specs.meaning.Fields.{text, sized, sent_integer, sent_text, sent_decimal, decimal_from, integer_change, mantissa_change, decimal_change, part_change, text_change, item_in, item, change_in, sent, field_by, field_term}
+use Rattle.fast_stream.specs.device.Machine.{behind_kept, behind_part_size, stage_term}
+use Rattle.fast_units.specs.device.Stages.{term_behind, IsStageOf}
+use Rattle.fast_units.specs.device.UnitFronts.{IsAsciiFirst, IsNumberStage, IsBytesStage}
+use Rattle.fast_units.specs.device.Taking.{Stays}
 use Rattle.fast_units.specs.declared.stages.Stage.{Stage}
 use Rattle.fast_units.specs.declared.stages.Stage.TheVariants.{Mantissa, MantissaDelta, Vector, Part, PartVector}
-use Rattle.fast_stream.proofs.Integers.{reads-integer, reads-map}
-use Rattle.fast_stream.proofs.TextReaders.{reads-raw, reads-ascii}
+use Rattle.fast_stream.proofs.readers.Integers.{reads-integer, reads-map}
+use Rattle.fast_stream.proofs.readers.TextReaders.{reads-raw, reads-ascii}
 use Rattle.fast_units.proofs.NextUnits.{runs_cut}
 use Rattle.fast_units.proofs.Turning.{stays_as, term_stays, result_done}
 

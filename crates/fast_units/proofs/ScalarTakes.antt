@@ -1,38 +1,38 @@
 -- Units of fields, from the functions that take them to the machine that calls these.
 use Rattle.std.proofs.Common.{refl, sym, ◌∙◌, subst}
 use Rattle.std.specs.Prelude.{◌≡◌, ℕ, ◌<◌, List, [], ◌++◌, length}
-use Rattle.fast_wire.specs.Entities.{HaveNoStop}
-use Rattle.fast_value.specs.Kinds.{decimals, texts, family}
+use Rattle.fast_wire.specs.meaning.Entities.{HaveNoStop}
+use Rattle.fast_value.specs.meaning.Kinds.{decimals, texts, family}
 use Rattle.fast_value.specs.declared.settings.Limits.{Limits}
-use Rattle.fast_value.specs.Limits.{Bounds, bounds}
-use Rattle.fast_tree.specs.Tree.{FieldData}
-use Rattle.fast_dict.specs.Dictionary.{Dictionary, PreviousData, previous_at}
-use Rattle.fast_dict.specs.Operators.{Outcome}
-use Rattle.fast_stream.specs.Readers.{Reader}
-use Rattle.fast_units.specs.Settling.{IsLastUnit}
-use Rattle.fast_units.specs.Stages.{IsFieldUnit}
-use Rattle.fast_units.specs.UnitFronts.{IsEntityKept, IsNextStage, IsNextOf, settled}
-use Rattle.fast_units.specs.TextDecisions.{HasBytes}
-use Rattle.fast_units.specs.declared.source.Source.{Source}
+use Rattle.fast_value.specs.meaning.Limits.{Bounds, bounds}
+use Rattle.fast_tree.specs.meaning.Tree.{FieldData}
+use Rattle.fast_dict.specs.meaning.Dictionary.{Dictionary, PreviousData, previous_at}
+use Rattle.fast_dict.specs.meaning.Operators.{Outcome}
+use Rattle.fast_stream.specs.device.Readers.{Reader}
+use Rattle.fast_units.specs.device.Settling.{IsLastUnit}
+use Rattle.fast_units.specs.device.Stages.{IsFieldUnit}
+use Rattle.fast_units.specs.device.UnitFronts.{IsEntityKept, IsNextStage, IsNextOf, settled}
+use Rattle.fast_units.specs.device.TextDecisions.{HasBytes}
+use Rattle.fast_units.specs.declared.source.ValueSource.{ValueSource}
 use Rattle.fast_units.specs.declared.stages.Stage.{Stage}
 use Rattle.fast_units.specs.declared.stages.Stage.TheVariants.{Mantissa, MantissaDelta, Vector, Part, PartVector}
-use Rattle.fast_units.specs.declared.stages.Step.{Step}
-use Rattle.fast_units.specs.declared.stages.Step.TheVariants.{Settled, Next}
+use Rattle.fast_units.specs.declared.stages.FieldStep.{FieldStep}
+use Rattle.fast_units.specs.declared.stages.FieldStep.TheVariants.{Settled, Next}
 use Rattle.fast_units.specs.declared.progress.Progress.{Progress}
 use Rattle.fast_units.specs.declared.progress.Progress.TheVariants.{Whole, Wrong, Cut}
 
 module _ (l : Limits) (r : Reader Outcome) (f : FieldData) (front rest : List ℕ) (old new : Dictionary) (scratch : List ℕ) where
-  by_last : (p : Progress Source) → IsLastUnit r f front rest old new scratch p → IsFieldUnit l r f front rest old new scratch (settled p)
+  by_last : (p : Progress ValueSource) → IsLastUnit r f front rest old new scratch p → IsFieldUnit l r f front rest old new scratch (settled p)
   by_last (Whole source n) h = h
   by_last (Wrong c n) h = h
   by_last Cut h = h
 
   -- A unit that was the last one of its field.
-  pub unit_settled : (p : Progress Source) (q : Progress Step) → q ≡ settled p → IsLastUnit r f front rest old new scratch p → IsFieldUnit l r f front rest old new scratch q
+  pub unit_settled : (p : Progress ValueSource) (q : Progress FieldStep) → q ≡ settled p → IsLastUnit r f front rest old new scratch p → IsFieldUnit l r f front rest old new scratch q
   unit_settled p q e h = subst (λ x. IsFieldUnit l r f front rest old new scratch x) (sym e) (by_last p h)
 
   -- Of a decimal no run of bytes is next.
-  pub next_of_decimal : (p : Progress Step) → family f.kind ≡ decimals → IsFieldUnit l r f front rest old new scratch p → IsNextOf (bounds l) f (previous_at f.entry old) p
+  pub next_of_decimal : (p : Progress FieldStep) → family f.kind ≡ decimals → IsFieldUnit l r f front rest old new scratch p → IsNextOf (bounds l) f (previous_at f.entry old) p
   next_of_decimal (Whole (Settled source) n) d h = tt
   next_of_decimal (Whole (Next (Mantissa e)) n) d h = tt
   next_of_decimal (Whole (Next (MantissaDelta e)) n) d h = tt
@@ -50,7 +50,7 @@ stage_by l f p (Part k) h = tt
 stage_by l f p (PartVector k n) h = h
 
 -- A run of bytes that is next has some.
-pub next_of_text : (l : Bounds) (f : FieldData) (p : PreviousData) (q : Progress Step) → ((step : Step) (n : ℕ) → q ≡ Whole step n → HasBytes step) → IsNextOf l f p q
+pub next_of_text : (l : Bounds) (f : FieldData) (p : PreviousData) (q : Progress FieldStep) → ((step : FieldStep) (n : ℕ) → q ≡ Whole step n → HasBytes step) → IsNextOf l f p q
 next_of_text l f p (Whole (Settled source) n) h = tt
 next_of_text l f p (Whole (Next stage) n) h = stage_by l f p stage (h (Next stage) n refl)
 next_of_text l f p (Wrong c n) h = tt

@@ -1,28 +1,28 @@
 -- Fields of integers in the quick way.
 use Rattle.std.proofs.Common.{refl, sym, ap, ◌∙◌, subst, inl, inr}
 use Rattle.std.specs.Prelude.{◌≡◌, ◌≢◌, ◌⊎◌, ℕ, Bool, true, false, List, [], ℤ, Option, Some, None, Result, Ok}
-use Rattle.fast_wire.specs.Fronts.{IsFirstInt}
-use Rattle.fast_wire.specs.Integers.{delta_range}
+use Rattle.fast_wire.specs.device.Fronts.{IsFirstInt}
+use Rattle.fast_wire.specs.meaning.Integers.{delta_range}
 use Rattle.fast_wire.specs.declared.fronts.First.TheVariants as First
 use Rattle.fast_value.specs.declared.codes.Code.{Code}
 use Rattle.fast_value.specs.declared.codes.Code.TheVariants.{D2}
 use Rattle.fast_value.specs.declared.kinds.Kind.{Kind}
-use Rattle.fast_value.specs.Kinds.{family, integers, texts}
-use Rattle.fast_value.specs.Limits.{Bounds}
+use Rattle.fast_value.specs.meaning.Kinds.{family, integers, texts}
+use Rattle.fast_value.specs.meaning.Limits.{Bounds}
 use Rattle.fast_tree.specs.declared.operators.Operator.{Operator}
 use Rattle.fast_tree.specs.declared.operators.Operator.TheVariants as Op
-use Rattle.fast_tree.specs.Entries.{keeps_value}
-use Rattle.fast_tree.specs.Tree.{FieldData}
-use Rattle.fast_dict.specs.Dictionary.{Dictionary, PreviousData, empty, assigned, previous_at, write_at}
-use Rattle.fast_dict.specs.Stores.{Terms}
-use Rattle.fast_dict.specs.Operators.{decide, range_of, Outcome, Sent}
-use Rattle.fast_stream.specs.Fields.{field_term, sent_integer, integer_change}
-use Rattle.fast_stream.specs.Grammar.{give, integer, of_result}
-use Rattle.fast_stream.specs.GrammarReaders.{reader_of}
-use Rattle.fast_units.specs.Settling.{Serves, IsLastUnit}
-use Rattle.fast_units.specs.Deciding.{number_data, sent_number, source_of, IsDecided}
+use Rattle.fast_tree.specs.meaning.Entries.{keeps_value}
+use Rattle.fast_tree.specs.meaning.Tree.{FieldData}
+use Rattle.fast_dict.specs.meaning.Dictionary.{Dictionary, PreviousData, empty, assigned, previous_at, write_at}
+use Rattle.fast_dict.specs.meaning.Stores.{Terms}
+use Rattle.fast_dict.specs.meaning.Operators.{decide, range_of, Outcome, Sent}
+use Rattle.fast_stream.specs.meaning.Fields.{field_term, sent_integer, integer_change}
+use Rattle.fast_stream.specs.meaning.Grammar.{give, integer, of_result}
+use Rattle.fast_stream.specs.device.GrammarReaders.{reader_of}
+use Rattle.fast_units.specs.device.Settling.{Serves, IsLastUnit}
+use Rattle.fast_units.specs.device.Deciding.{number_data, sent_number, source_of, IsDecided}
 use Rattle.fast_units.specs.declared.fields.Number.{Number}
-use Rattle.fast_units.specs.declared.source.Source.{Source}
+use Rattle.fast_units.specs.declared.source.ValueSource.{ValueSource}
 use Rattle.fast_units.specs.declared.progress.Progress.TheVariants.{Whole}
 use Rattle.fast_units.proofs.Deciding.{value_decided, null_decided, item_value}
 use Rattle.fast_units.proofs.LastUnits.{behind_integer, integer_here, integer_delta_field, last_unit}
@@ -33,7 +33,7 @@ pub no_texts : (f : FieldData) → family f.kind ≡ integers (range_of f.kind) 
 no_texts f e i = absurd (cc (e, i))
 
 -- An integer, or NULL, that is whole in the piece is the last unit of its field.
-pub item_unit : (k : Kind) (b strict : Bool) (l : Bounds) (f : FieldData) (rest : List ℕ) (old new : Dictionary) (scratch : List ℕ) (x : Option ℤ) (n : ℕ) (sent : Sent) (source : Source)
+pub item_unit : (k : Kind) (b strict : Bool) (l : Bounds) (f : FieldData) (rest : List ℕ) (old new : Dictionary) (scratch : List ℕ) (x : Option ℤ) (n : ℕ) (sent : Sent) (source : ValueSource)
     → k ≡ f.kind → b ≡ f.optional → family f.kind ≡ integers (range_of f.kind) → f.operator ≢ Op.Delta → f.operator ≢ Op.Constant
     → IsFirstInt (λ y. y) strict (range_of k) b (First.Whole x n) rest → sent ≡ sent_integer k x
     → IsDecided (decide f (previous_at f.entry old) true sent) f old new (Ok source)
@@ -50,7 +50,7 @@ item_unit k b strict l f rest old new scratch x n sent source ke be is no_delta 
     (first_whole (λ y. y) strict (range_of f.kind) f.optional D2 [] rest x n refl first)
 
 -- So is a delta, or NULL.
-pub delta_unit : (b strict : Bool) (l : Bounds) (f : FieldData) (rest : List ℕ) (old new : Dictionary) (scratch : List ℕ) (x : Option ℤ) (n : ℕ) (d : Result Outcome Code) (source : Source)
+pub delta_unit : (b strict : Bool) (l : Bounds) (f : FieldData) (rest : List ℕ) (old new : Dictionary) (scratch : List ℕ) (x : Option ℤ) (n : ℕ) (d : Result Outcome Code) (source : ValueSource)
     → b ≡ f.optional → family f.kind ≡ integers (range_of f.kind) → f.operator ≡ Op.Delta
     → IsFirstInt (λ y. y) strict delta_range b (First.Whole x n) rest → integer_change f (previous_at f.entry old) x ≡ of_result d
     → IsDecided d f old new (Ok source)

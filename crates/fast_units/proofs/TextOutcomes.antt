@@ -8,23 +8,23 @@ use Rattle.fast_value.specs.declared.kinds.Kind.{Kind}
 use Rattle.fast_value.specs.declared.kinds.Kind.TheVariants.{Ascii, Unicode, Bytes, UInt32, Int32, UInt64, Int64, Decimal}
 use Rattle.fast_value.specs.declared.codes.Code.{Code}
 use Rattle.fast_value.specs.declared.codes.Code.TheVariants.{R2, D4, D7}
-use Rattle.fast_value.specs.Kinds.{ScalarData, U, I, Dec, AsciiText, UnicodeText, ByteVector, texts, family, text_of, value_of_text, same_kind}
+use Rattle.fast_value.specs.meaning.Kinds.{ScalarData, U, I, Dec, AsciiText, UnicodeText, ByteVector, texts, family, text_of, value_of_text, same_kind}
 use Rattle.fast_tree.specs.declared.operators.Operator.{Operator}
 use Rattle.fast_tree.specs.declared.operators.Operator.TheVariants.{None as no_operator, Constant, Default, Copy, Increment, Delta, Tail}
-use Rattle.fast_tree.specs.Tree.{FieldData}
-use Rattle.fast_tree.specs.Entries.{keeps_value}
-use Rattle.fast_dict.specs.Answers.{kept_text}
-use Rattle.fast_dict.specs.Dictionary.{Dictionary, PreviousData, undefined, empty, assigned, previous_at, write_at}
-use Rattle.fast_dict.specs.Held.{text_size}
-use Rattle.fast_dict.specs.Operators.{◌>>=◌, Outcome, gives, keeps, gives_none, checked_in, checked, checked_text, null, decide, decide_by, start_value, zero_in, delta_base, tail_base, with_tail, Kept, append_to, prepend_to, kept_of, kept_length, subtraction_step}
-use Rattle.fast_dict.specs.Stores.{Terms, IsStorable}
-use Rattle.fast_dict.specs.Slots.{slots_dictionary, slots_terms, slots_texts_fit}
+use Rattle.fast_tree.specs.meaning.Tree.{FieldData}
+use Rattle.fast_tree.specs.meaning.Entries.{keeps_value}
+use Rattle.fast_dict.specs.meaning.Answers.{kept_text}
+use Rattle.fast_dict.specs.meaning.Dictionary.{Dictionary, PreviousData, undefined, empty, assigned, previous_at, write_at}
+use Rattle.fast_dict.specs.device.Held.{text_size}
+use Rattle.fast_dict.specs.meaning.Operators.{◌>>=◌, Outcome, gives, keeps, gives_none, checked_in, checked, checked_text, null, decide, decide_by, start_value, zero_in, delta_base, tail_base, with_tail, Kept, append_to, prepend_to, kept_of, kept_length, subtraction_step}
+use Rattle.fast_dict.specs.meaning.Stores.{Terms, IsStorable}
+use Rattle.fast_dict.specs.meaning.Slots.{slots_dictionary, slots_terms, slots_texts_fit}
 use Rattle.fast_dict.specs.declared.slots.Slots.{Slots}
-use Rattle.fast_stream.specs.Fields.{sent_text}
-use Rattle.fast_units.specs.Settling.{HasRoomFor, Serves, value_in, value_at}
-use Rattle.fast_units.specs.TextDecisions.{is_emptied, IsTextDecided}
-use Rattle.fast_units.specs.declared.source.Source.{Source}
-use Rattle.fast_units.specs.declared.source.Source.TheVariants as From
+use Rattle.fast_stream.specs.meaning.Fields.{sent_text}
+use Rattle.fast_units.specs.device.Settling.{HasRoomFor, Serves, value_in, value_at}
+use Rattle.fast_units.specs.device.TextDecisions.{is_emptied, IsTextDecided}
+use Rattle.fast_units.specs.declared.source.ValueSource.{ValueSource}
+use Rattle.fast_units.specs.declared.source.ValueSource.TheVariants as From
 
 -- What an entry holds, written back.
 pub write_back : (e : Option ℕ) (d : Dictionary) → d ≡ write_at e (previous_at e d) d
@@ -78,7 +78,7 @@ module _ (f : FieldData) (old new : Dictionary) (scratch piece : List ℕ) where
       by (Some e) i h n = sym (ap (λ (d : Dictionary). value_in (previous_at (Some e) d)) n ∙ ap value_in (written e old (assigned f.kind v) (h e refl)))
 
   -- The text is kept, and stands at a place of its own as well.
-  pub text_kept_too : (place : Source) (text : List ℕ) (v : ScalarData) → checked_text f.kind text ≡ Ok v → value_at place f new scratch piece ≡ Some v → new ≡ write_at f.entry (assigned f.kind v) old
+  pub text_kept_too : (place : ValueSource) (text : List ℕ) (v : ScalarData) → checked_text f.kind text ≡ Ok v → value_at place f new scratch piece ≡ Some v → new ≡ write_at f.entry (assigned f.kind v) old
       → IsTextDecided (kept_text f.kind text) f old new scratch piece (Ok place)
   text_kept_too place text v c h n = (
     record { value = Some v; next = assigned f.kind v },
@@ -87,7 +87,7 @@ module _ (f : FieldData) (old new : Dictionary) (scratch piece : List ℕ) where
   )
 
   -- The text is the value, and the entry is as it was.
-  pub text_given : (place : Source) (text : List ℕ) (v : ScalarData) → checked_text f.kind text ≡ Ok v → v ≡ value_of_text f.kind text → value_at place f new scratch piece ≡ Some (value_of_text f.kind text) → new ≡ old
+  pub text_given : (place : ValueSource) (text : List ℕ) (v : ScalarData) → checked_text f.kind text ≡ Ok v → v ≡ value_of_text f.kind text → value_at place f new scratch piece ≡ Some (value_of_text f.kind text) → new ≡ old
       → IsTextDecided (checked_text f.kind text >>= (λ w. gives w (previous_at f.entry old))) f old new scratch piece (Ok place)
   text_given place text v c s h n = (
     record { value = Some v; next = previous_at f.entry old },
@@ -96,7 +96,7 @@ module _ (f : FieldData) (old new : Dictionary) (scratch piece : List ℕ) where
   )
 
   -- By another name of the decision.
-  pub decided_as : {d e : Result Outcome Code} (r : Result Source Code) → d ≡ e → IsTextDecided e f old new scratch piece r → IsTextDecided d f old new scratch piece r
+  pub decided_as : {d e : Result Outcome Code} (r : Result ValueSource Code) → d ≡ e → IsTextDecided e f old new scratch piece r → IsTextDecided d f old new scratch piece r
   decided_as {d} {e} r i h = subst (λ (x : Result Outcome Code). IsTextDecided x f old new scratch piece r) (sym i) h
 
 -- the text of a text

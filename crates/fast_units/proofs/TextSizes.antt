@@ -4,7 +4,7 @@ use Rattle.std.specs.Prelude.{◌≤ℤ◌}
 use Rattle.std.proofs.lemmas.Int.{ints, to_z-of_z}
 use mir.Syntax.{w32, w128}
 use mir.Val.{SFits, to_z, of_z}
-use Rattle.fast_wire.specs.Integers.{IsWithin, signed_range, unsigned_range}
+use Rattle.fast_wire.specs.meaning.Integers.{IsWithin, signed_range, unsigned_range}
 
 length_fits : (z : ℤ) → IsWithin (signed_range 31) z → SFits w128 z
 length_fits (pos n) h = record { sfits = let k : pos n ≤ℤ pos 2147483647 = h.1 in omega (arith, ints, k) }

@@ -2,34 +2,34 @@
 use Rattle.std.proofs.Common.{refl, sym, ap, ◌∙◌, subst, arith, inl, inr}
 use Rattle.std.specs.Prelude.{◌≡◌, ◌≢◌, ◌⊎◌, ℕ, ◌-◌, ◌<◌, ◌≤◌, Bool, true, false, nat_le, if◌then◌else◌, List, [], ◌++◌, length, take, ℤ, pos, Option, Some, Result, Ok, Err}
 use Rattle.std.proofs.lemmas.Bool.Decides.{leb_tells}
-use Rattle.fast_wire.specs.Integers.{unsigned_range, signed_range}
+use Rattle.fast_wire.specs.meaning.Integers.{unsigned_range, signed_range}
 use Rattle.fast_value.specs.declared.codes.Code.{Code}
 use Rattle.fast_value.specs.declared.codes.Code.TheVariants.{D2, D7, L1}
 use Rattle.fast_value.specs.declared.kinds.Kind.{Kind}
 use Rattle.fast_value.specs.declared.kinds.Kind.TheVariants.{UInt32, Int32, UInt64, Int64, Decimal, Ascii, Unicode, Bytes}
 use Rattle.fast_value.specs.declared.settings.Limits.{Limits}
-use Rattle.fast_value.specs.Kinds.{texts, family}
-use Rattle.fast_value.specs.Limits.{Bounds}
+use Rattle.fast_value.specs.meaning.Kinds.{texts, family}
+use Rattle.fast_value.specs.meaning.Limits.{Bounds}
 use Rattle.fast_tree.specs.declared.operators.Operator.{Operator}
 use Rattle.fast_tree.specs.declared.operators.Operator.TheVariants as Op
-use Rattle.fast_tree.specs.Tree.{FieldData}
-use Rattle.fast_dict.specs.Dictionary.{Dictionary, PreviousData}
-use Rattle.fast_dict.specs.Operators.{Outcome, null, decide, decide_by, gives_none, Kept, kept_length, subtraction_step, text_step}
-use Rattle.fast_stream.specs.Readers.{Reader, Done, Stop}
-use Rattle.fast_stream.specs.Machine.{behind_size as size_stage, behind_part_size as part_stage, stage_term}
-use Rattle.fast_stream.specs.Grammar.{Grammar, give, fault, integer, ascii_text, raw, ◌>>=◌, of_result}
-use Rattle.fast_stream.specs.GrammarReaders.{reader_of}
-use Rattle.fast_stream.specs.Fields.{text, sized, sent_text, item_in, part_change, text_change, change_in, sent, field_by, field_term}
-use Rattle.fast_units.specs.Taking.{Turns}
-use Rattle.fast_units.specs.Settling.{IsSettled, GivesField, IsLastUnit}
-use Rattle.fast_units.specs.Stages.{term_behind, IsFieldUnit}
-use Rattle.fast_units.specs.TextDecisions.{IsTextDecided, IsStepped, behind_size, behind_part_size, answered, settled}
+use Rattle.fast_tree.specs.meaning.Tree.{FieldData}
+use Rattle.fast_dict.specs.meaning.Dictionary.{Dictionary, PreviousData}
+use Rattle.fast_dict.specs.meaning.Operators.{Outcome, null, decide, decide_by, gives_none, Kept, kept_length, subtraction_step, text_step}
+use Rattle.fast_stream.specs.device.Readers.{Reader, Done, Stop}
+use Rattle.fast_stream.specs.device.Machine.{behind_size as size_stage, behind_part_size as part_stage, stage_term}
+use Rattle.fast_stream.specs.meaning.Grammar.{Grammar, give, fault, integer, ascii_text, raw, ◌>>=◌, of_result}
+use Rattle.fast_stream.specs.device.GrammarReaders.{reader_of}
+use Rattle.fast_stream.specs.meaning.Fields.{text, sized, sent_text, item_in, part_change, text_change, change_in, sent, field_by, field_term}
+use Rattle.fast_units.specs.device.Taking.{Turns}
+use Rattle.fast_units.specs.device.Settling.{IsSettled, GivesField, IsLastUnit}
+use Rattle.fast_units.specs.device.Stages.{term_behind, IsFieldUnit}
+use Rattle.fast_units.specs.device.TextDecisions.{IsTextDecided, IsStepped, behind_size, behind_part_size, answered, settled}
 use Rattle.fast_units.specs.declared.progress.Progress.{Progress}
 use Rattle.fast_units.specs.declared.progress.Progress.TheVariants.{Whole}
-use Rattle.fast_units.specs.declared.source.Source.{Source}
+use Rattle.fast_units.specs.declared.source.ValueSource.{ValueSource}
 use Rattle.fast_units.specs.declared.stages.Stage.TheVariants.{Vector, Part, PartVector}
-use Rattle.fast_units.specs.declared.stages.Step.{Step}
-use Rattle.fast_units.specs.declared.stages.Step.TheVariants.{Settled, Next}
+use Rattle.fast_units.specs.declared.stages.FieldStep.{FieldStep}
+use Rattle.fast_units.specs.declared.stages.FieldStep.TheVariants.{Settled, Next}
 use Rattle.fast_units.proofs.Turning.{turns_as, term_turns}
 
 -- A unit g in front of what is read behind it.
@@ -38,31 +38,31 @@ module _ {X : Type 0} (s : Bool) (g : Grammar X) (k : X → Grammar Outcome) (r 
   turned : (q : Reader Outcome) → reader_of s (k x) ≡ q → Turns r (front ++ take n rest) q
   turned q e = turns_as here (sym e) (term_turns s g k unit.2)
 
-  gives : (source : Source) (o : Outcome) → reader_of s (k x) ≡ Done o → IsSettled o f source old new scratch (take n rest) → GivesField r (front ++ take n rest) f source old new scratch (take n rest)
+  gives : (source : ValueSource) (o : Outcome) → reader_of s (k x) ≡ Done o → IsSettled o f source old new scratch (take n rest) → GivesField r (front ++ take n rest) f source old new scratch (take n rest)
   gives source o e h = record { outcome = o; turns = turned (Done o) e; settled = h }
 
-  last_by : (d : Result Outcome Code) (answer : Result Source Code) → k x ≡ of_result d → IsTextDecided d f old new scratch (take n rest) answer → IsLastUnit r f front rest old new scratch (answered answer n)
+  last_by : (d : Result Outcome Code) (answer : Result ValueSource Code) → k x ≡ of_result d → IsTextDecided d f old new scratch (take n rest) answer → IsLastUnit r f front rest old new scratch (answered answer n)
   last_by d (Ok source) e (o, i, h) = (unit.0, unit.1, gives source o (ap (reader_of s) e ∙ ap (λ q. reader_of s (of_result q)) i) h)
   last_by d (Err c) e i = (unit.0, unit.1, turned (Stop c) (ap (reader_of s) e ∙ ap (λ q. reader_of s (of_result q)) i))
 
   -- The unit is the last one of the field.
-  pub text_last : (d : Result Outcome Code) (answer : Result Source Code) (result : Progress Source) → result ≡ answered answer n → k x ≡ of_result d → IsTextDecided d f old new scratch (take n rest) answer
+  pub text_last : (d : Result Outcome Code) (answer : Result ValueSource Code) (result : Progress ValueSource) → result ≡ answered answer n → k x ≡ of_result d → IsTextDecided d f old new scratch (take n rest) answer
       → IsLastUnit r f front rest old new scratch result
   text_last d answer result a e h = subst (λ q. IsLastUnit r f front rest old new scratch q) (sym a) (last_by d answer e h)
 
 -- The same of a unit that another one may follow.
 module _ {X : Type 0} (l : Limits) (g : Grammar X) (k : X → Grammar Outcome) (r : Reader Outcome) (here : r ≡ reader_of l.strict (g >>= k)) (f : FieldData) (front rest : List ℕ) (old new : Dictionary) (scratch : List ℕ) (n : ℕ) (x : X)
     (unit : (0 < n) × (n ≤ length rest) × Turns (reader_of l.strict g) (front ++ take n rest) (Done x)) where
-  next_by : (answer : Result Step Code) → IsStepped l (reader_of l.strict (k x)) f old new scratch (take n rest) answer → IsFieldUnit l r f front rest old new scratch (answered answer n)
+  next_by : (answer : Result FieldStep Code) → IsStepped l (reader_of l.strict (k x)) f old new scratch (take n rest) answer → IsFieldUnit l r f front rest old new scratch (answered answer n)
   next_by (Ok (Settled source)) (o, e, h) = (unit.0, unit.1, gives l.strict g k r here f front rest old new scratch n x unit source o e h)
   next_by (Ok (Next stage)) (same, is_stage, e) = (unit.0, unit.1, same, is_stage, turned l.strict g k r here f front rest old new scratch n x unit _ e)
   next_by (Err c) e = (unit.0, unit.1, turned l.strict g k r here f front rest old new scratch n x unit (Stop c) e)
 
-  pub text_next : (answer : Result Step Code) (result : Progress Step) → result ≡ answered answer n → IsStepped l (reader_of l.strict (k x)) f old new scratch (take n rest) answer
+  pub text_next : (answer : Result FieldStep Code) (result : Progress FieldStep) → result ≡ answered answer n → IsStepped l (reader_of l.strict (k x)) f old new scratch (take n rest) answer
       → IsFieldUnit l r f front rest old new scratch result
   text_next answer result a h = subst (λ q. IsFieldUnit l r f front rest old new scratch q) (sym a) (next_by answer h)
 
-  pub text_settled : (d : Result Outcome Code) (source : Source) → k x ≡ of_result d → IsTextDecided d f old new scratch (take n rest) (Ok source) → IsFieldUnit l r f front rest old new scratch (Whole (Settled source) n)
+  pub text_settled : (d : Result Outcome Code) (source : ValueSource) → k x ≡ of_result d → IsTextDecided d f old new scratch (take n rest) (Ok source) → IsFieldUnit l r f front rest old new scratch (Whole (Settled source) n)
   text_settled d source e (o, i, h) = (unit.0, unit.1, gives l.strict g k r here f front rest old new scratch n x unit source o (ap (reader_of l.strict) e ∙ ap (λ q. reader_of l.strict (of_result q)) i) h)
 
 -- A kind of texts.
@@ -181,7 +181,7 @@ pub one_kept : {r : Result Kept Code} (a b : Kept) → r ≡ Ok a → r ≡ Ok b
 one_kept {r} a b h k = let e : Ok a ≡ Ok b = sym h ∙ k in cc e
 
 -- What is decided with no unit more.
-pub stepped : (l : Limits) (r : Reader Outcome) (f : FieldData) (old new : Dictionary) (scratch piece : List ℕ) (d : Result Outcome Code) (answer : Result Source Code) → r ≡ reader_of l.strict (of_result d)
+pub stepped : (l : Limits) (r : Reader Outcome) (f : FieldData) (old new : Dictionary) (scratch piece : List ℕ) (d : Result Outcome Code) (answer : Result ValueSource Code) → r ≡ reader_of l.strict (of_result d)
     → IsTextDecided d f old new scratch piece answer → IsStepped l r f old new scratch piece (settled answer)
 stepped l r f old new scratch piece d (Ok source) e (o, i, h) = (o, e ∙ ap (λ q. reader_of l.strict (of_result q)) i, h)
 stepped l r f old new scratch piece d (Err c) e i = e ∙ ap (λ q. reader_of l.strict (of_result q)) i

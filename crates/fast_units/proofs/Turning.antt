@@ -2,13 +2,13 @@
 use Rattle.std.proofs.Common.{refl, sym, ap, ◌∙◌, subst}
 use Rattle.std.specs.Prelude.{◌≡◌, ℕ, Bool, List, [], ◌∷◌, ◌++◌, Result, Ok, Err}
 use Rattle.fast_value.specs.declared.codes.Code.{Code}
-use Rattle.fast_stream.specs.Readers.{Reader, Done, Stop, bind}
-use Rattle.fast_stream.specs.Running.{after_byte}
-use Rattle.fast_stream.specs.Machine.{after_bytes}
-use Rattle.fast_stream.specs.Grammar.{Grammar, ◌>>=◌, of_result}
-use Rattle.fast_stream.specs.GrammarReaders.{reader_of}
-use Rattle.fast_units.specs.Taking.{Waits, Quiet, Turns, Stays}
-use Rattle.fast_stream.proofs.Grammars.{reader-then}
+use Rattle.fast_stream.specs.device.Readers.{Reader, Done, Stop, bind}
+use Rattle.fast_stream.specs.device.Running.{after_byte}
+use Rattle.fast_stream.specs.device.Machine.{after_bytes}
+use Rattle.fast_stream.specs.meaning.Grammar.{Grammar, ◌>>=◌, of_result}
+use Rattle.fast_stream.specs.device.GrammarReaders.{reader_of}
+use Rattle.fast_units.specs.device.Taking.{Waits, Quiet, Turns, Stays}
+use Rattle.fast_stream.proofs.readers.Grammars.{reader-then}
 
 -- Bytes in two runs.
 pub after_run : {A : Type 0} (r : Reader A) (u v : List ℕ) → after_bytes r (u ++ v) ≡ after_bytes (after_bytes r u) v

@@ -1,8 +1,1 @@
-pub mod Taking
-pub mod Settling
-pub mod Stages
-pub mod Scratches
-pub mod NextUnits
-pub mod UnitFronts
-pub mod Deciding
-pub mod TextDecisions
+pub mod device

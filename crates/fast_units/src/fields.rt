@@ -1,23 +1,24 @@
 //! Fields and their entries: where values stand, and what a field leaves of which nothing is sent.
 
-ghost use Rattle.std.specs.Prelude.{◌≡◌, ◌≢◌, IfSome, ℕ, ◌<◌, ◌≤◌, ◌^◌, true, false, List, length, Some, None, Ok, option_map, pos, neg_ℤ, ◌≤ℤ◌};
-ghost use Rattle.fast_value.specs.Kinds.{integer_of, value_of_integer, value_of_text, ScalarData};
-ghost use Rattle.fast_value.specs.Values.{scalar_data};
-ghost use Rattle.fast_value.specs.Limits.{Bounds};
-ghost use Rattle.fast_tree.specs.Nodes.{field_data};
-ghost use Rattle.fast_tree.specs.Tree.{FieldData};
-ghost use Rattle.fast_dict.specs.Entry.{with_text};
-ghost use Rattle.fast_dict.specs.Dictionary.{Dictionary, PreviousData, assigned, empty, previous_at, write_at};
-ghost use Rattle.fast_dict.specs.Operators.{incremented, decide, nothing, unsent, from_initial, range_of};
-ghost use Rattle.fast_dict.specs.Previous.{previous_data};
-ghost use Rattle.fast_dict.specs.Slots.{slots_dictionary, slots_terms};
-ghost use Rattle.fast_dict.specs.Stores.{IsStorable};
-ghost use Rattle.fast_stream.specs.Fields.{field_term};
-ghost use Rattle.fast_stream.specs.Grammar.{of_result};
-ghost use Rattle.fast_units.specs.Settling.{Serves, HasRoomFor, value_at};
-ghost use Rattle.fast_units.specs.Deciding.{needs_bytes, number_data, source_of, IsDecided};
+ghost use Rattle.std.specs.Prelude.{◌≡◌, ◌≢◌, IfSome, ℕ, ◌<◌, ◌≤◌, ◌^◌, true, false, List, Some, None, Ok, option_map, pos, neg_ℤ, ◌≤ℤ◌};
+ghost use Rattle.fast_value.specs.meaning.Kinds.{integer_of, value_of_integer, value_of_text};
+ghost use Rattle.fast_value.specs.meaning.Values.{scalar_data};
+ghost use Rattle.fast_value.specs.meaning.Limits.{Bounds};
+ghost use Rattle.fast_tree.specs.device.Nodes.{field_data};
+ghost use Rattle.fast_tree.specs.meaning.Tree.{FieldData};
+ghost use Rattle.fast_dict.specs.device.Entry.{with_text};
+ghost use Rattle.fast_dict.specs.meaning.Dictionary.{Dictionary, PreviousData, assigned, empty, write_at};
+ghost use Rattle.fast_dict.specs.meaning.Operators.{incremented, decide, nothing, unsent, from_initial, range_of};
+ghost use Rattle.fast_dict.specs.meaning.Previous.{previous_data};
+ghost use Rattle.fast_dict.specs.meaning.Slots.{slots_dictionary, slots_terms};
+ghost use Rattle.fast_dict.specs.meaning.Stores.{IsStorable};
+ghost use Rattle.fast_stream.specs.meaning.Fields.{field_term};
+ghost use Rattle.fast_stream.specs.meaning.Grammar.{of_result};
+ghost use Rattle.fast_units.specs.device.Settling.{value_at};
+ghost use Rattle.fast_units.specs.device.Deciding.{needs_bytes, number_data, source_of};
+ghost use Rattle.fast_units.specs.device.Words.{ServesField, HasEntryOf, previous_of, IsDecidedIn};
 
-use crate::source::Source;
+use crate::source::ValueSource;
 use fast_dict::operators::initial_value;
 use fast_dict::operators::integers::{integer_of, integer_value};
 use fast_dict::operators::unsent::next_integer;
@@ -69,26 +70,26 @@ impl Number {
 
     /// Where the number stands: at hand.
     #[inline]
-    pub fn source(self) -> Source
+    pub fn source(self) -> ValueSource
         ensures { (f : FieldData) (d : Dictionary) (scratch piece : List ℕ)
             → value_at result f d scratch piece ≡ Some (number_data self) }
     {
         match self {
-            Number::Unsigned(number) => Source::Unsigned(number),
-            Number::Signed(number) => Source::Signed(number),
-            Number::Decimal { exponent, mantissa } => Source::Decimal { exponent, mantissa },
+            Number::Unsigned(number) => ValueSource::Unsigned(number),
+            Number::Signed(number) => ValueSource::Signed(number),
+            Number::Decimal { exponent, mantissa } => ValueSource::Decimal { exponent, mantissa },
         }
     }
 }
 
 /// Where a number stands that is at hand, or NULL.
 #[inline(always)]
-pub fn source_of(item: Option<Number>) -> Source
+pub fn source_of(item: Option<Number>) -> ValueSource
     ensures { result ≡ source_of item }
 {
     match item {
         Some(number) => number.source(),
-        None => Source::Absent,
+        None => ValueSource::Absent,
     }
 }
 
@@ -120,8 +121,8 @@ fn is_needed(operator: Operator, bit: bool) -> bool
 /// What the field's entry holds. Without an entry it is undefined.
 #[inline(always)]
 pub fn previous<'s>(slots: &'s Slots, field: &FieldInstruction) -> Previous<'s>
-    requires within { (e : ℕ) → (field_data field.now).entry ≡ Some e → e < length (slots_dictionary slots.now) }
-    ensures { previous_data result ≡ previous_at (field_data field.now).entry (slots_dictionary slots.now) }
+    requires within { HasEntryOf slots.now field.now }
+    ensures { previous_data result ≡ previous_of slots.now field.now }
 {
     match field.entry {
         Some(entry) => slots.get(entry as usize),
@@ -132,7 +133,7 @@ pub fn previous<'s>(slots: &'s Slots, field: &FieldInstruction) -> Previous<'s>
 /// Assigns a value to the field's entry, if it has one. It wants no memory.
 #[inline(always)]
 pub fn assign(slots: &mut Slots, field: &FieldInstruction, value: Scalar<'_>)
-    requires within { (e : ℕ) → (field_data field.now).entry ≡ Some e → e < length (slots_dictionary slots.old) }
+    requires within { HasEntryOf slots.old field.now }
     requires room { (e : ℕ) → (field_data field.now).entry ≡ Some e
         → IsStorable (slots_terms slots.old) e (scalar_data value) }
     ensures entry { slots_dictionary slots.new
@@ -148,7 +149,7 @@ pub fn assign(slots: &mut Slots, field: &FieldInstruction, value: Scalar<'_>)
 /// Makes the field's entry empty, if it has one.
 #[inline]
 pub fn assign_empty(slots: &mut Slots, field: &FieldInstruction)
-    requires within { (e : ℕ) → (field_data field.now).entry ≡ Some e → e < length (slots_dictionary slots.old) }
+    requires within { HasEntryOf slots.old field.now }
     ensures entry { slots_dictionary slots.new
         ≡ write_at (field_data field.now).entry empty (slots_dictionary slots.old) }
     ensures terms { slots_terms slots.new ≡ slots_terms slots.old }
@@ -160,8 +161,8 @@ pub fn assign_empty(slots: &mut Slots, field: &FieldInstruction)
 
 /// Keeps a number at the field's entry, if it has one, and says where it stands.
 #[inline]
-pub fn keep(slots: &mut Slots, field: &FieldInstruction, number: Number) -> Source
-    requires within { (e : ℕ) → (field_data field.now).entry ≡ Some e → e < length (slots_dictionary slots.old) }
+pub fn keep(slots: &mut Slots, field: &FieldInstruction, number: Number) -> ValueSource
+    requires within { HasEntryOf slots.old field.now }
     ensures value { (d : Dictionary) (scratch piece : List ℕ)
         → value_at result (field_data field.now) d scratch piece ≡ Some (number_data number) }
     ensures entry { slots_dictionary slots.new
@@ -176,9 +177,8 @@ pub fn keep(slots: &mut Slots, field: &FieldInstruction, number: Number) -> Sour
 /// The number that the field's entry holds, if it is one of the field's own kind.
 #[inline(always)]
 pub fn own_number(slots: &Slots, field: &FieldInstruction) -> Option<Number>
-    requires within { (e : ℕ) → (field_data field.now).entry ≡ Some e → e < length (slots_dictionary slots.now) }
-    ensures { IfSome result (λ n. previous_at (field_data field.now).entry (slots_dictionary slots.now)
-        ≡ assigned field.now.kind (number_data n)) }
+    requires within { HasEntryOf slots.now field.now }
+    ensures { IfSome result (λ n. previous_of slots.now field.now ≡ assigned field.now.kind (number_data n)) }
 {
     match field.entry {
         Some(entry) => number_under(field.kind, slots.held(entry as usize)),
@@ -206,10 +206,9 @@ pub fn number_under(kind: Kind, entry: Entry) -> Option<Number>
 /// Whether the field's entry holds a text of the field's own kind. The text itself is not fetched.
 #[inline(always)]
 fn has_own_text(slots: &Slots, field: &FieldInstruction) -> bool
-    requires within { (e : ℕ) → (field_data field.now).entry ≡ Some e → e < length (slots_dictionary slots.now) }
-    ensures { result ≡ true → (text : List ℕ)
-        × (previous_at (field_data field.now).entry (slots_dictionary slots.now)
-        ≡ assigned field.now.kind (value_of_text field.now.kind text)) }
+    requires within { HasEntryOf slots.now field.now }
+    ensures { result ≡ true → (text : List ℕ) × (previous_of slots.now field.now ≡ assigned field.now.kind
+        (value_of_text field.now.kind text)) }
 {
     match field.entry {
         Some(entry) => is_text_under(field.kind, slots.held(entry as usize)),
@@ -237,19 +236,17 @@ fn is_text_under(kind: Kind, entry: Entry) -> bool
 /// D4 if the previous value is of another type; of a mandatory field D5 if there is neither a previous nor an initial value,
 /// and D6 if the previous value is empty.
 #[inline(always)]
-pub fn unsent(slots: &mut Slots, field: &FieldInstruction, bit: bool) -> Result<Source, Code>
-    requires serves { Serves (length (slots_dictionary slots.old)) (slots_terms slots.old) (field_data field.now) }
+pub fn unsent(slots: &mut Slots, field: &FieldInstruction, bit: bool) -> Result<ValueSource, Code>
+    requires serves { ServesField slots.old field.now }
     requires no_bytes { needs_bytes field.now.operator bit ≡ false }
-    ensures decided { IsDecided
-        (decide (field_data field.now) (previous_at (field_data field.now).entry (slots_dictionary slots.old)) bit
-        nothing)
-        (field_data field.now) (slots_dictionary slots.old) (slots_dictionary slots.new) result }
+    ensures decided { IsDecidedIn (decide (field_data field.now) (previous_of slots.old field.now) bit nothing)
+        field.now slots.old slots.new result }
     ensures terms { slots_terms slots.new ≡ slots_terms slots.old }
 {
     match field.operator {
-        Operator::Constant if bit => Ok(Source::Initial),
-        Operator::Constant => Ok(Source::Absent),
-        Operator::Default => Ok(Source::Initial),
+        Operator::Constant if bit => Ok(ValueSource::Initial),
+        Operator::Constant => Ok(ValueSource::Absent),
+        Operator::Default => Ok(ValueSource::Initial),
         Operator::Copy => copied(slots, field),
         Operator::Tail => copied(slots, field),
         Operator::Increment => incremented(slots, field),
@@ -259,22 +256,21 @@ pub fn unsent(slots: &mut Slots, field: &FieldInstruction, bit: bool) -> Result<
 
 /// Copy and tail: the previous value. Under an undefined entry the initial value, which the entry then holds.
 #[inline(always)]
-fn copied(slots: &mut Slots, field: &FieldInstruction) -> Result<Source, Code>
-    requires serves { Serves (length (slots_dictionary slots.old)) (slots_terms slots.old) (field_data field.now) }
+fn copied(slots: &mut Slots, field: &FieldInstruction) -> Result<ValueSource, Code>
+    requires serves { ServesField slots.old field.now }
     requires operator { field.now.operator ≢ Operator.Increment }
-    ensures decided { IsDecided
-        (unsent (field_data field.now) (previous_at (field_data field.now).entry (slots_dictionary slots.old)))
-        (field_data field.now) (slots_dictionary slots.old) (slots_dictionary slots.new) result }
+    ensures decided { IsDecidedIn (unsent (field_data field.now) (previous_of slots.old field.now)) field.now slots.old
+        slots.new result }
     ensures terms { slots_terms slots.new ≡ slots_terms slots.old }
 {
     if let Some(number) = own_number(slots, field) {
         return Ok(number.source());
     }
     if has_own_text(slots, field) {
-        return Ok(Source::Entry);
+        return Ok(ValueSource::Entry);
     }
     match previous(slots, field) {
-        Previous::Assigned(kind, _) if kind == field.kind => Ok(Source::Entry),
+        Previous::Assigned(kind, _) if kind == field.kind => Ok(ValueSource::Entry),
         Previous::Assigned(..) => Err(Code::D4),
         Previous::Undefined => initial(slots, field),
         Previous::Empty => absent(slots, field, Code::D6),
@@ -284,12 +280,11 @@ fn copied(slots: &mut Slots, field: &FieldInstruction) -> Result<Source, Code>
 /// Increment: one more than the previous value, and behind the greatest of the type the least. Under an undefined entry
 /// the initial value. The entry then holds the value.
 #[inline(always)]
-fn incremented(slots: &mut Slots, field: &FieldInstruction) -> Result<Source, Code>
-    requires serves { Serves (length (slots_dictionary slots.old)) (slots_terms slots.old) (field_data field.now) }
+fn incremented(slots: &mut Slots, field: &FieldInstruction) -> Result<ValueSource, Code>
+    requires serves { ServesField slots.old field.now }
     requires operator { field.now.operator ≡ Operator.Increment }
-    ensures decided { IsDecided
-        (unsent (field_data field.now) (previous_at (field_data field.now).entry (slots_dictionary slots.old)))
-        (field_data field.now) (slots_dictionary slots.old) (slots_dictionary slots.new) result }
+    ensures decided { IsDecidedIn (unsent (field_data field.now) (previous_of slots.old field.now)) field.now slots.old
+        slots.new result }
     ensures terms { slots_terms slots.new ≡ slots_terms slots.old }
 {
     if let Some(number) = own_number(slots, field) {
@@ -317,31 +312,31 @@ fn next_number(kind: Kind, value: Scalar<'_>) -> Number
 }
 
 /// The initial value under an undefined entry, which then holds it; without one absent.
-fn initial(slots: &mut Slots, field: &FieldInstruction) -> Result<Source, Code>
-    requires serves { Serves (length (slots_dictionary slots.old)) (slots_terms slots.old) (field_data field.now) }
-    ensures decided { IsDecided (from_initial field.now.kind field.now.optional Code.D5 (field_data field.now).initial)
-        (field_data field.now) (slots_dictionary slots.old) (slots_dictionary slots.new) result }
+fn initial(slots: &mut Slots, field: &FieldInstruction) -> Result<ValueSource, Code>
+    requires serves { ServesField slots.old field.now }
+    ensures decided { IsDecidedIn (from_initial field.now.kind field.now.optional Code.D5
+        (field_data field.now).initial) field.now slots.old slots.new result }
     ensures terms { slots_terms slots.new ≡ slots_terms slots.old }
 {
     match initial_value(field) {
         Some(value) => {
             assign(slots, field, value);
-            Ok(Source::Initial)
+            Ok(ValueSource::Initial)
         }
         None => absent(slots, field, Code::D5),
     }
 }
 
 /// Absent, if the field may be; the entry is then empty.
-fn absent(slots: &mut Slots, field: &FieldInstruction, fault: Code) -> Result<Source, Code>
-    requires within { (e : ℕ) → (field_data field.now).entry ≡ Some e → e < length (slots_dictionary slots.old) }
-    ensures decided { IsDecided (from_initial field.now.kind field.now.optional fault None)
-        (field_data field.now) (slots_dictionary slots.old) (slots_dictionary slots.new) result }
+fn absent(slots: &mut Slots, field: &FieldInstruction, fault: Code) -> Result<ValueSource, Code>
+    requires within { HasEntryOf slots.old field.now }
+    ensures decided { IsDecidedIn (from_initial field.now.kind field.now.optional fault None) field.now slots.old
+        slots.new result }
     ensures terms { slots_terms slots.new ≡ slots_terms slots.old }
 {
     if field.optional {
         assign_empty(slots, field);
-        Ok(Source::Absent)
+        Ok(ValueSource::Absent)
     } else {
         Err(fault)
     }
@@ -354,24 +349,24 @@ pub fn value_at<'x>(
     field: &'x FieldInstruction,
     scratch: &'x [u8],
     piece: &'x [u8],
-    source: Source,
+    source: ValueSource,
 ) -> Option<Scalar<'x>>
-    requires within { (e : ℕ) → (field_data field.now).entry ≡ Some e → e < length (slots_dictionary slots.now) }
+    requires within { HasEntryOf slots.now field.now }
     ensures { option_map scalar_data result
         ≡ value_at source (field_data field.now) (slots_dictionary slots.now) scratch.now piece.now }
 {
     match source {
-        Source::Absent => None,
-        Source::Unsigned(number) => Some(Scalar::U(number)),
-        Source::Signed(number) => Some(Scalar::I(number)),
-        Source::Decimal { exponent, mantissa } => Some(Scalar::Dec { exponent, mantissa }),
-        Source::Entry => match previous(slots, field) {
+        ValueSource::Absent => None,
+        ValueSource::Unsigned(number) => Some(Scalar::U(number)),
+        ValueSource::Signed(number) => Some(Scalar::I(number)),
+        ValueSource::Decimal { exponent, mantissa } => Some(Scalar::Dec { exponent, mantissa }),
+        ValueSource::Entry => match previous(slots, field) {
             Previous::Assigned(_, value) => Some(value),
             Previous::Undefined | Previous::Empty => None,
         },
-        Source::Initial => initial_value(field),
-        Source::Scratch => Some(text_value(field.kind, scratch)),
-        Source::Piece => Some(text_value(field.kind, piece)),
+        ValueSource::Initial => initial_value(field),
+        ValueSource::Scratch => Some(text_value(field.kind, scratch)),
+        ValueSource::Piece => Some(text_value(field.kind, piece)),
     }
 }
 

@@ -1,25 +1,23 @@
 //! Fields of numbers: what their units give, and what they leave in the dictionary.
 
-ghost use Rattle.std.specs.Prelude.{false, Some, IfSome, ◌≡◌, ◌≢◌, ℕ, ◌<◌, ◌≤◌, ◌^◌, ◌++◌, true, List, [], length, ℤ, pos, neg_ℤ, ◌≤ℤ◌, Ok};
-ghost use Rattle.fast_wire.specs.Entities.{HaveNoStop};
-ghost use Rattle.fast_wire.specs.Integers.{unsigned_up_to};
-ghost use Rattle.fast_value.specs.Kinds.{U, Dec, value_of_integer, integers, decimals, texts, family, signed_range};
-ghost use Rattle.fast_value.specs.Limits.{Bounds, bounds};
-ghost use Rattle.fast_tree.specs.Nodes.{field_data};
-ghost use Rattle.fast_dict.specs.Dictionary.{previous_at};
-ghost use Rattle.fast_dict.specs.Operators.{decide, integer_step, mantissa_step, range_of};
-ghost use Rattle.fast_dict.specs.Slots.{slots_dictionary, slots_terms};
-ghost use Rattle.fast_stream.specs.Fields.{field_term};
-ghost use Rattle.fast_stream.specs.GrammarReaders.{reader_of};
-ghost use Rattle.fast_units.specs.Settling.{Serves, IsLastUnit};
-ghost use Rattle.fast_units.specs.Stages.{term_behind, IsStageOf, IsFieldUnit};
-ghost use Rattle.fast_units.specs.NextUnits.{range_data};
-ghost use Rattle.fast_units.specs.Deciding.{number_data, sent_number, base_integer, progress_of, IsDecided};
+ghost use Rattle.std.specs.Prelude.{false, Some, IfSome, ◌≡◌, ◌≢◌, ℕ, ◌<◌, ◌≤◌, true, List, [], length, ℤ, pos, neg_ℤ, ◌≤ℤ◌, Ok};
+ghost use Rattle.fast_wire.specs.meaning.Entities.{HaveNoStop};
+ghost use Rattle.fast_wire.specs.meaning.Integers.{unsigned_up_to};
+ghost use Rattle.fast_value.specs.meaning.Kinds.{U, Dec, value_of_integer, integers, decimals, texts, family, signed_range};
+ghost use Rattle.fast_value.specs.meaning.Limits.{Bounds, bounds};
+ghost use Rattle.fast_tree.specs.device.Nodes.{field_data};
+ghost use Rattle.fast_dict.specs.meaning.Operators.{decide, integer_step, mantissa_step, range_of};
+ghost use Rattle.fast_dict.specs.meaning.Slots.{slots_terms};
+ghost use Rattle.fast_stream.specs.device.GrammarReaders.{reader_of};
+ghost use Rattle.fast_units.specs.device.Stages.{term_behind, IsStageOf};
+ghost use Rattle.fast_units.specs.device.NextUnits.{range_data};
+ghost use Rattle.fast_units.specs.device.Deciding.{number_data, sent_number, base_integer, progress_of};
+ghost use Rattle.fast_units.specs.device.Words.{ServesField, HasEntryOf, previous_of, sent_reader, IsLastUnitOf, IsUnitOf, IsDecidedIn, IsKeptCut};
 
 use crate::fields::{Number, assign_empty, keep, own_number, previous};
 use crate::progress::Progress;
-use crate::source::Source;
-use crate::stages::{Stage, Step};
+use crate::source::ValueSource;
+use crate::stages::{FieldStep, Stage};
 use crate::units::{IntegerRange, next_integer, next_unsigned};
 use fast_dict::Slots;
 use fast_dict::operators::decimals::{exponent_delta, mantissa_of};
@@ -58,22 +56,20 @@ fn range_on_wire(kind: Kind) -> IntegerRange
 /// A number that is sent, or NULL, without an operator and under default, copy and increment: copy and increment keep it at the
 /// field's entry, the others have none.
 #[inline(always)]
-fn received(slots: &mut Slots, field: &FieldInstruction, item: Option<Number>) -> Source
-    requires serves { Serves (length (slots_dictionary slots.old)) (slots_terms slots.old) (field_data field.now) }
+fn received(slots: &mut Slots, field: &FieldInstruction, item: Option<Number>) -> ValueSource
+    requires serves { ServesField slots.old field.now }
     requires numbers { family field.now.kind ≢ texts }
     requires no_delta { field.now.operator ≢ Operator.Delta }
     requires no_constant { field.now.operator ≢ Operator.Constant }
-    ensures decided { IsDecided
-        (decide (field_data field.now) (previous_at (field_data field.now).entry (slots_dictionary slots.old)) true
-        (sent_number item))
-        (field_data field.now) (slots_dictionary slots.old) (slots_dictionary slots.new) (Ok result) }
+    ensures decided { IsDecidedIn (decide (field_data field.now) (previous_of slots.old field.now) true
+        (sent_number item)) field.now slots.old slots.new (Ok result) }
     ensures terms { slots_terms slots.new ≡ slots_terms slots.old }
 {
     match item {
         Some(number) => keep(slots, field, number),
         None => {
             assign_empty(slots, field);
-            Source::Absent
+            ValueSource::Absent
         }
     }
 }
@@ -81,9 +77,8 @@ fn received(slots: &mut Slots, field: &FieldInstruction, item: Option<Number>) -
 /// The integer that a delta is added to.
 #[inline(always)]
 fn base_integer(slots: &Slots, field: &FieldInstruction) -> Result<i128, Code>
-    requires within { (e : ℕ) → (field_data field.now).entry ≡ Some e → e < length (slots_dictionary slots.now) }
-    ensures { result ≡ base_integer (field_data field.now)
-        (previous_at (field_data field.now).entry (slots_dictionary slots.now)) }
+    requires within { HasEntryOf slots.now field.now }
+    ensures { result ≡ base_integer (field_data field.now) (previous_of slots.now field.now) }
 {
     if let Some(number) = own_number(slots, field) {
         return Ok(integer_of(number.as_scalar()));
@@ -93,12 +88,14 @@ fn base_integer(slots: &Slots, field: &FieldInstruction) -> Result<i128, Code>
 
 /// An integer behind its delta, which the entry then holds.
 #[inline(always)]
-fn change_integer(slots: &mut Slots, field: &FieldInstruction, delta: i128) -> Result<Source, Code>
-    requires serves { Serves (length (slots_dictionary slots.old)) (slots_terms slots.old) (field_data field.now) }
-    ensures decided { IsDecided
-        (integer_step (field_data field.now) (previous_at (field_data field.now).entry (slots_dictionary slots.old))
-        delta)
-        (field_data field.now) (slots_dictionary slots.old) (slots_dictionary slots.new) result }
+fn change_integer(
+    slots: &mut Slots,
+    field: &FieldInstruction,
+    delta: i128,
+) -> Result<ValueSource, Code>
+    requires serves { ServesField slots.old field.now }
+    ensures decided { IsDecidedIn (integer_step (field_data field.now) (previous_of slots.old field.now) delta)
+        field.now slots.old slots.new result }
     ensures terms { slots_terms slots.new ≡ slots_terms slots.old }
 {
     let base = base_integer(slots, field)?;
@@ -114,12 +111,10 @@ fn change_mantissa(
     field: &FieldInstruction,
     exponent: i32,
     delta: i128,
-) -> Result<Source, Code>
-    requires serves { Serves (length (slots_dictionary slots.old)) (slots_terms slots.old) (field_data field.now) }
-    ensures decided { IsDecided
-        (mantissa_step (field_data field.now) (previous_at (field_data field.now).entry (slots_dictionary slots.old))
-        exponent delta)
-        (field_data field.now) (slots_dictionary slots.old) (slots_dictionary slots.new) result }
+) -> Result<ValueSource, Code>
+    requires serves { ServesField slots.old field.now }
+    ensures decided { IsDecidedIn (mantissa_step (field_data field.now) (previous_of slots.old field.now) exponent
+        delta) field.now slots.old slots.new result }
     ensures terms { slots_terms slots.new ≡ slots_terms slots.old }
 {
     let base = mantissa_of(delta_base(field, previous(slots, field))?);
@@ -153,7 +148,7 @@ fn exponent(exponent: i128) -> i32
 
 /// What is decided behind so many bytes.
 #[inline(always)]
-fn settled(answer: Result<Source, Code>, bytes: usize) -> Progress<Source>
+fn settled(answer: Result<ValueSource, Code>, bytes: usize) -> Progress<ValueSource>
     ensures { result ≡ progress_of answer bytes }
 {
     match answer {
@@ -172,21 +167,16 @@ pub fn take_integer(
     field: &FieldInstruction,
     rest: &[u8],
     strict: bool,
-) -> Progress<Source>
+) -> Progress<ValueSource>
     requires open { HaveNoStop pending.old }
     requires short { length pending.old < 10 }
-    requires serves { Serves (length (slots_dictionary slots.old)) (slots_terms slots.old) (field_data field.now) }
+    requires serves { ServesField slots.old field.now }
     requires integers { family field.now.kind ≡ integers (range_of field.now.kind) }
     requires sent { field.now.operator ≢ Operator.Constant }
-    ensures unit { (l : Bounds) (scratch : List ℕ)
-        → IsLastUnit (reader_of strict
-        (field_term l (field_data field.now) (previous_at (field_data field.now).entry (slots_dictionary slots.old))
-        true))
-        (field_data field.now) pending.old rest.now (slots_dictionary slots.old) (slots_dictionary slots.new) scratch
-        result }
-    ensures whole { (s : Source) (n : ℕ) → result ≡ Progress.Whole s n → pending.new ≡ [] }
-    ensures cut { result ≡ Progress.Cut
-        → (pending.new ≡ pending.old ++ rest.now) × HaveNoStop pending.new × (length pending.new < 10) }
+    ensures unit { (l : Bounds) (scratch : List ℕ) → IsLastUnitOf (sent_reader strict l slots.old field.now) field.now
+        pending.old rest.now slots.old slots.new scratch result }
+    ensures whole { (s : ValueSource) (n : ℕ) → result ≡ Progress.Whole s n → pending.new ≡ [] }
+    ensures cut { IsKeptCut pending.old rest.now pending.new result }
     ensures terms { slots_terms slots.new ≡ slots_terms slots.old }
 {
     match field.operator {
@@ -203,22 +193,17 @@ fn take_integer_item(
     field: &FieldInstruction,
     rest: &[u8],
     strict: bool,
-) -> Progress<Source>
+) -> Progress<ValueSource>
     requires open { HaveNoStop pending.old }
     requires short { length pending.old < 10 }
-    requires serves { Serves (length (slots_dictionary slots.old)) (slots_terms slots.old) (field_data field.now) }
+    requires serves { ServesField slots.old field.now }
     requires integers { family field.now.kind ≡ integers (range_of field.now.kind) }
     requires no_delta { field.now.operator ≢ Operator.Delta }
     requires no_constant { field.now.operator ≢ Operator.Constant }
-    ensures unit { (l : Bounds) (scratch : List ℕ)
-        → IsLastUnit (reader_of strict
-        (field_term l (field_data field.now) (previous_at (field_data field.now).entry (slots_dictionary slots.old))
-        true))
-        (field_data field.now) pending.old rest.now (slots_dictionary slots.old) (slots_dictionary slots.new) scratch
-        result }
-    ensures whole { (s : Source) (n : ℕ) → result ≡ Progress.Whole s n → pending.new ≡ [] }
-    ensures cut { result ≡ Progress.Cut
-        → (pending.new ≡ pending.old ++ rest.now) × HaveNoStop pending.new × (length pending.new < 10) }
+    ensures unit { (l : Bounds) (scratch : List ℕ) → IsLastUnitOf (sent_reader strict l slots.old field.now) field.now
+        pending.old rest.now slots.old slots.new scratch result }
+    ensures whole { (s : ValueSource) (n : ℕ) → result ≡ Progress.Whole s n → pending.new ≡ [] }
+    ensures cut { IsKeptCut pending.old rest.now pending.new result }
     ensures terms { slots_terms slots.new ≡ slots_terms slots.old }
 {
     if let Some(top) = mandatory_top(field) {
@@ -261,25 +246,20 @@ fn take_unsigned(
     rest: &[u8],
     strict: bool,
     top: u64,
-) -> Progress<Source>
+) -> Progress<ValueSource>
     requires open { HaveNoStop pending.old }
     requires short { length pending.old < 10 }
-    requires serves { Serves (length (slots_dictionary slots.old)) (slots_terms slots.old) (field_data field.now) }
+    requires serves { ServesField slots.old field.now }
     requires integers { family field.now.kind ≡ integers (range_of field.now.kind) }
     requires no_delta { field.now.operator ≢ Operator.Delta }
     requires no_constant { field.now.operator ≢ Operator.Constant }
     requires mandatory { field.now.optional ≡ false }
     requires range { unsigned_up_to top ≡ range_of field.now.kind }
     requires unsigned { (n : ℕ) → value_of_integer field.now.kind (pos n) ≡ U n }
-    ensures unit { (l : Bounds) (scratch : List ℕ)
-        → IsLastUnit (reader_of strict
-        (field_term l (field_data field.now) (previous_at (field_data field.now).entry (slots_dictionary slots.old))
-        true))
-        (field_data field.now) pending.old rest.now (slots_dictionary slots.old) (slots_dictionary slots.new) scratch
-        result }
-    ensures whole { (s : Source) (n : ℕ) → result ≡ Progress.Whole s n → pending.new ≡ [] }
-    ensures cut { result ≡ Progress.Cut
-        → (pending.new ≡ pending.old ++ rest.now) × HaveNoStop pending.new × (length pending.new < 10) }
+    ensures unit { (l : Bounds) (scratch : List ℕ) → IsLastUnitOf (sent_reader strict l slots.old field.now) field.now
+        pending.old rest.now slots.old slots.new scratch result }
+    ensures whole { (s : ValueSource) (n : ℕ) → result ≡ Progress.Whole s n → pending.new ≡ [] }
+    ensures cut { IsKeptCut pending.old rest.now pending.new result }
     ensures terms { slots_terms slots.new ≡ slots_terms slots.old }
 {
     match next_unsigned(pending, rest, strict, top) {
@@ -300,26 +280,21 @@ fn take_integer_delta(
     field: &FieldInstruction,
     rest: &[u8],
     strict: bool,
-) -> Progress<Source>
+) -> Progress<ValueSource>
     requires open { HaveNoStop pending.old }
     requires short { length pending.old < 10 }
-    requires serves { Serves (length (slots_dictionary slots.old)) (slots_terms slots.old) (field_data field.now) }
+    requires serves { ServesField slots.old field.now }
     requires integers { family field.now.kind ≡ integers (range_of field.now.kind) }
     requires delta { field.now.operator ≡ Operator.Delta }
-    ensures unit { (l : Bounds) (scratch : List ℕ)
-        → IsLastUnit (reader_of strict
-        (field_term l (field_data field.now) (previous_at (field_data field.now).entry (slots_dictionary slots.old))
-        true))
-        (field_data field.now) pending.old rest.now (slots_dictionary slots.old) (slots_dictionary slots.new) scratch
-        result }
-    ensures whole { (s : Source) (n : ℕ) → result ≡ Progress.Whole s n → pending.new ≡ [] }
-    ensures cut { result ≡ Progress.Cut
-        → (pending.new ≡ pending.old ++ rest.now) × HaveNoStop pending.new × (length pending.new < 10) }
+    ensures unit { (l : Bounds) (scratch : List ℕ) → IsLastUnitOf (sent_reader strict l slots.old field.now) field.now
+        pending.old rest.now slots.old slots.new scratch result }
+    ensures whole { (s : ValueSource) (n : ℕ) → result ≡ Progress.Whole s n → pending.new ≡ [] }
+    ensures cut { IsKeptCut pending.old rest.now pending.new result }
     ensures terms { slots_terms slots.new ≡ slots_terms slots.old }
 {
     match next_integer(pending, rest, strict, DELTA, field.optional, Code::D2) {
         Progress::Whole(Some(delta), bytes) => settled(change_integer(slots, field, delta), bytes),
-        Progress::Whole(None, bytes) => Progress::Whole(Source::Absent, bytes),
+        Progress::Whole(None, bytes) => Progress::Whole(ValueSource::Absent, bytes),
         Progress::Wrong(code, bytes) => Progress::Wrong(code, bytes),
         Progress::Cut => Progress::Cut,
     }
@@ -334,21 +309,16 @@ pub fn take_exponent(
     field: &FieldInstruction,
     rest: &[u8],
     limits: Limits,
-) -> Progress<Step>
+) -> Progress<FieldStep>
     requires open { HaveNoStop pending.old }
     requires short { length pending.old < 10 }
-    requires serves { Serves (length (slots_dictionary slots.old)) (slots_terms slots.old) (field_data field.now) }
+    requires serves { ServesField slots.old field.now }
     requires decimals { family field.now.kind ≡ decimals }
     requires sent { field.now.operator ≢ Operator.Constant }
-    ensures unit { (scratch : List ℕ)
-        → IsFieldUnit limits (reader_of limits.strict
-        (field_term (bounds limits) (field_data field.now)
-        (previous_at (field_data field.now).entry (slots_dictionary slots.old)) true))
-        (field_data field.now) pending.old rest.now (slots_dictionary slots.old) (slots_dictionary slots.new) scratch
-        result }
-    ensures whole { (s : Step) (n : ℕ) → result ≡ Progress.Whole s n → pending.new ≡ [] }
-    ensures cut { result ≡ Progress.Cut
-        → (pending.new ≡ pending.old ++ rest.now) × HaveNoStop pending.new × (length pending.new < 10) }
+    ensures unit { (scratch : List ℕ) → IsUnitOf limits (sent_reader limits.strict (bounds limits) slots.old field.now)
+        field.now pending.old rest.now slots.old slots.new scratch result }
+    ensures whole { (s : FieldStep) (n : ℕ) → result ≡ Progress.Whole s n → pending.new ≡ [] }
+    ensures cut { IsKeptCut pending.old rest.now pending.new result }
     ensures terms { slots_terms slots.new ≡ slots_terms slots.old }
 {
     match field.operator {
@@ -364,22 +334,17 @@ fn take_exponent_item(
     field: &FieldInstruction,
     rest: &[u8],
     limits: Limits,
-) -> Progress<Step>
+) -> Progress<FieldStep>
     requires open { HaveNoStop pending.old }
     requires short { length pending.old < 10 }
-    requires serves { Serves (length (slots_dictionary slots.old)) (slots_terms slots.old) (field_data field.now) }
+    requires serves { ServesField slots.old field.now }
     requires decimals { family field.now.kind ≡ decimals }
     requires no_delta { field.now.operator ≢ Operator.Delta }
     requires no_constant { field.now.operator ≢ Operator.Constant }
-    ensures unit { (scratch : List ℕ)
-        → IsFieldUnit limits (reader_of limits.strict
-        (field_term (bounds limits) (field_data field.now)
-        (previous_at (field_data field.now).entry (slots_dictionary slots.old)) true))
-        (field_data field.now) pending.old rest.now (slots_dictionary slots.old) (slots_dictionary slots.new) scratch
-        result }
-    ensures whole { (s : Step) (n : ℕ) → result ≡ Progress.Whole s n → pending.new ≡ [] }
-    ensures cut { result ≡ Progress.Cut
-        → (pending.new ≡ pending.old ++ rest.now) × HaveNoStop pending.new × (length pending.new < 10) }
+    ensures unit { (scratch : List ℕ) → IsUnitOf limits (sent_reader limits.strict (bounds limits) slots.old field.now)
+        field.now pending.old rest.now slots.old slots.new scratch result }
+    ensures whole { (s : FieldStep) (n : ℕ) → result ≡ Progress.Whole s n → pending.new ≡ [] }
+    ensures cut { IsKeptCut pending.old rest.now pending.new result }
     ensures terms { slots_terms slots.new ≡ slots_terms slots.old }
 {
     let range = range_on_wire(field.kind);
@@ -392,10 +357,10 @@ fn take_exponent_item(
         Code::R1,
     ) {
         Progress::Whole(Some(integer), bytes) => {
-            Progress::Whole(Step::Next(Stage::Mantissa(exponent(integer))), bytes)
+            Progress::Whole(FieldStep::Next(Stage::Mantissa(exponent(integer))), bytes)
         }
         Progress::Whole(None, bytes) => {
-            Progress::Whole(Step::Settled(received(slots, field, None)), bytes)
+            Progress::Whole(FieldStep::Settled(received(slots, field, None)), bytes)
         }
         Progress::Wrong(code, bytes) => Progress::Wrong(code, bytes),
         Progress::Cut => Progress::Cut,
@@ -409,21 +374,16 @@ fn take_exponent_delta(
     field: &FieldInstruction,
     rest: &[u8],
     limits: Limits,
-) -> Progress<Step>
+) -> Progress<FieldStep>
     requires open { HaveNoStop pending.old }
     requires short { length pending.old < 10 }
-    requires serves { Serves (length (slots_dictionary slots.old)) (slots_terms slots.old) (field_data field.now) }
+    requires serves { ServesField slots.old field.now }
     requires decimals { family field.now.kind ≡ decimals }
     requires delta { field.now.operator ≡ Operator.Delta }
-    ensures unit { (scratch : List ℕ)
-        → IsFieldUnit limits (reader_of limits.strict
-        (field_term (bounds limits) (field_data field.now)
-        (previous_at (field_data field.now).entry (slots_dictionary slots.old)) true))
-        (field_data field.now) pending.old rest.now (slots_dictionary slots.old) (slots_dictionary slots.new) scratch
-        result }
-    ensures whole { (s : Step) (n : ℕ) → result ≡ Progress.Whole s n → pending.new ≡ [] }
-    ensures cut { result ≡ Progress.Cut
-        → (pending.new ≡ pending.old ++ rest.now) × HaveNoStop pending.new × (length pending.new < 10) }
+    ensures unit { (scratch : List ℕ) → IsUnitOf limits (sent_reader limits.strict (bounds limits) slots.old field.now)
+        field.now pending.old rest.now slots.old slots.new scratch result }
+    ensures whole { (s : FieldStep) (n : ℕ) → result ≡ Progress.Whole s n → pending.new ≡ [] }
+    ensures cut { IsKeptCut pending.old rest.now pending.new result }
     ensures terms { slots_terms slots.new ≡ slots_terms slots.old }
 {
     match next_integer(
@@ -436,11 +396,17 @@ fn take_exponent_delta(
     ) {
         Progress::Whole(Some(delta), bytes) => {
             match exponent_delta(field, previous(slots, field), delta) {
-                Ok(exponent) => Progress::Whole(Step::Next(Stage::MantissaDelta(exponent)), bytes),
+                Ok(exponent) => Progress::Whole(
+                    FieldStep::Next(Stage::MantissaDelta(exponent)),
+                    bytes,
+                ),
                 Err(code) => Progress::Wrong(code, bytes),
             }
         }
-        Progress::Whole(None, bytes) => Progress::Whole(Step::Settled(Source::Absent), bytes),
+        Progress::Whole(None, bytes) => Progress::Whole(
+            FieldStep::Settled(ValueSource::Absent),
+            bytes,
+        ),
         Progress::Wrong(code, bytes) => Progress::Wrong(code, bytes),
         Progress::Cut => Progress::Cut,
     }
@@ -454,21 +420,17 @@ pub fn take_mantissa(
     exponent: i32,
     rest: &[u8],
     limits: Limits,
-) -> Progress<Source>
+) -> Progress<ValueSource>
     requires open { HaveNoStop pending.old }
     requires short { length pending.old < 10 }
-    requires serves { Serves (length (slots_dictionary slots.old)) (slots_terms slots.old) (field_data field.now) }
-    requires stage { IsStageOf (bounds limits) (field_data field.now)
-        (previous_at (field_data field.now).entry (slots_dictionary slots.old)) (Stage.Mantissa exponent) }
-    ensures unit { (scratch : List ℕ)
-        → IsLastUnit (reader_of limits.strict
-        (term_behind (bounds limits) (field_data field.now)
-        (previous_at (field_data field.now).entry (slots_dictionary slots.old)) (Stage.Mantissa exponent)))
-        (field_data field.now) pending.old rest.now (slots_dictionary slots.old) (slots_dictionary slots.new) scratch
-        result }
-    ensures whole { (s : Source) (n : ℕ) → result ≡ Progress.Whole s n → pending.new ≡ [] }
-    ensures cut { result ≡ Progress.Cut
-        → (pending.new ≡ pending.old ++ rest.now) × HaveNoStop pending.new × (length pending.new < 10) }
+    requires serves { ServesField slots.old field.now }
+    requires stage { IsStageOf (bounds limits) (field_data field.now) (previous_of slots.old field.now)
+        (Stage.Mantissa exponent) }
+    ensures unit { (scratch : List ℕ) → IsLastUnitOf (reader_of limits.strict
+        (term_behind (bounds limits) (field_data field.now) (previous_of slots.old field.now)
+        (Stage.Mantissa exponent))) field.now pending.old rest.now slots.old slots.new scratch result }
+    ensures whole { (s : ValueSource) (n : ℕ) → result ≡ Progress.Whole s n → pending.new ≡ [] }
+    ensures cut { IsKeptCut pending.old rest.now pending.new result }
     ensures terms { slots_terms slots.new ≡ slots_terms slots.old }
 {
     match next_integer(pending, rest, limits.strict, MANTISSA, false, Code::R1) {
@@ -490,28 +452,24 @@ pub fn take_mantissa_delta(
     exponent: i32,
     rest: &[u8],
     limits: Limits,
-) -> Progress<Source>
+) -> Progress<ValueSource>
     requires open { HaveNoStop pending.old }
     requires short { length pending.old < 10 }
-    requires serves { Serves (length (slots_dictionary slots.old)) (slots_terms slots.old) (field_data field.now) }
-    requires stage { IsStageOf (bounds limits) (field_data field.now)
-        (previous_at (field_data field.now).entry (slots_dictionary slots.old)) (Stage.MantissaDelta exponent) }
-    ensures unit { (scratch : List ℕ)
-        → IsLastUnit (reader_of limits.strict
-        (term_behind (bounds limits) (field_data field.now)
-        (previous_at (field_data field.now).entry (slots_dictionary slots.old)) (Stage.MantissaDelta exponent)))
-        (field_data field.now) pending.old rest.now (slots_dictionary slots.old) (slots_dictionary slots.new) scratch
-        result }
-    ensures whole { (s : Source) (n : ℕ) → result ≡ Progress.Whole s n → pending.new ≡ [] }
-    ensures cut { result ≡ Progress.Cut
-        → (pending.new ≡ pending.old ++ rest.now) × HaveNoStop pending.new × (length pending.new < 10) }
+    requires serves { ServesField slots.old field.now }
+    requires stage { IsStageOf (bounds limits) (field_data field.now) (previous_of slots.old field.now)
+        (Stage.MantissaDelta exponent) }
+    ensures unit { (scratch : List ℕ) → IsLastUnitOf (reader_of limits.strict
+        (term_behind (bounds limits) (field_data field.now) (previous_of slots.old field.now)
+        (Stage.MantissaDelta exponent))) field.now pending.old rest.now slots.old slots.new scratch result }
+    ensures whole { (s : ValueSource) (n : ℕ) → result ≡ Progress.Whole s n → pending.new ≡ [] }
+    ensures cut { IsKeptCut pending.old rest.now pending.new result }
     ensures terms { slots_terms slots.new ≡ slots_terms slots.old }
 {
     match next_integer(pending, rest, limits.strict, DELTA, false, Code::D2) {
         Progress::Whole(Some(delta), bytes) => {
             settled(change_mantissa(slots, field, exponent, delta), bytes)
         }
-        Progress::Whole(None, bytes) => Progress::Whole(Source::Absent, bytes),
+        Progress::Whole(None, bytes) => Progress::Whole(ValueSource::Absent, bytes),
         Progress::Wrong(code, bytes) => Progress::Wrong(code, bytes),
         Progress::Cut => Progress::Cut,
     }

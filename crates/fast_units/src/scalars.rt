@@ -1,26 +1,24 @@
 //! The units of fields that are neither lengths nor parts of decimals, by which unit is in hand.
 
-ghost use Rattle.std.specs.Prelude.{◌≡◌, ◌≢◌, ◌<◌, ◌≤◌, true, ℕ, List, [], ◌++◌, length};
-ghost use Rattle.fast_wire.specs.Entities.{HaveNoStop};
-ghost use Rattle.fast_value.specs.Kinds.{family, integers};
-ghost use Rattle.fast_value.specs.Limits.{bounds};
-ghost use Rattle.fast_tree.specs.Nodes.{field_data};
-ghost use Rattle.fast_dict.specs.Dictionary.{previous_at};
-ghost use Rattle.fast_dict.specs.Operators.{range_of};
-ghost use Rattle.fast_dict.specs.Slots.{slots_dictionary, slots_terms};
-ghost use Rattle.fast_stream.specs.Fields.{field_term};
-ghost use Rattle.fast_stream.specs.GrammarReaders.{reader_of};
-ghost use Rattle.fast_units.specs.Settling.{Serves};
-ghost use Rattle.fast_units.specs.Stages.{term_behind, IsStageOf, IsFieldUnit};
-ghost use Rattle.fast_stream.specs.Units.{ascii_text};
-ghost use Rattle.fast_stream.specs.Phrases.{cut};
-ghost use Rattle.fast_units.specs.UnitFronts.{IsAsciiFirst, IsNumberStage, IsBytesStage, IsEntityKept, IsNextOf, settled, SettlesOnly};
+ghost use Rattle.std.specs.Prelude.{◌≡◌, ◌≢◌, ◌<◌, ◌≤◌, ℕ, List, [], ◌++◌, length};
+ghost use Rattle.fast_wire.specs.meaning.Entities.{HaveNoStop};
+ghost use Rattle.fast_value.specs.meaning.Kinds.{family, integers};
+ghost use Rattle.fast_value.specs.meaning.Limits.{bounds};
+ghost use Rattle.fast_tree.specs.device.Nodes.{field_data};
+ghost use Rattle.fast_dict.specs.meaning.Operators.{range_of};
+ghost use Rattle.fast_dict.specs.meaning.Slots.{slots_terms};
+ghost use Rattle.fast_stream.specs.device.GrammarReaders.{reader_of};
+ghost use Rattle.fast_units.specs.device.Stages.{term_behind, IsStageOf};
+ghost use Rattle.fast_stream.specs.meaning.Units.{ascii_text};
+ghost use Rattle.fast_stream.specs.meaning.Phrases.{cut};
+ghost use Rattle.fast_units.specs.device.UnitFronts.{IsAsciiFirst, IsNumberStage, IsBytesStage, IsEntityKept, IsNextOf, settled, SettlesOnly};
+ghost use Rattle.fast_units.specs.device.Words.{ServesField, previous_of, sent_reader, IsUnitOf};
 
 use crate::numbers::{take_exponent, take_integer, take_mantissa, take_mantissa_delta};
 use crate::progress::Progress;
 use crate::scratch::Scratch;
-use crate::source::Source;
-use crate::stages::{Stage, Step};
+use crate::source::ValueSource;
+use crate::stages::{FieldStep, Stage};
 use crate::texts::{
     take_part, take_part_size, take_part_vector, take_size, take_subtraction, take_text,
     take_vector,
@@ -38,20 +36,15 @@ pub fn take_only(
     field: &FieldInstruction,
     rest: &[u8],
     limits: Limits,
-) -> Progress<Step>
-    requires serves { Serves (length (slots_dictionary slots.old)) (slots_terms slots.old) (field_data field.now) }
+) -> Progress<FieldStep>
+    requires serves { ServesField slots.old field.now }
     requires open { HaveNoStop pending.old }
     requires short { length pending.old < 10 }
     requires integers { family field.now.kind ≡ integers (range_of field.now.kind) }
     requires varies { field.now.operator ≢ Operator.Constant }
-    ensures unit { (scratch : List ℕ)
-        → IsFieldUnit limits (reader_of limits.strict
-        (field_term (bounds limits) (field_data field.now)
-        (previous_at (field_data field.now).entry (slots_dictionary slots.old)) true))
-        (field_data field.now) pending.old rest.now (slots_dictionary slots.old) (slots_dictionary slots.new) scratch
-        result }
-    ensures next { IsNextOf (bounds limits) (field_data field.now)
-        (previous_at (field_data field.now).entry (slots_dictionary slots.old)) result }
+    ensures unit { (scratch : List ℕ) → IsUnitOf limits (sent_reader limits.strict (bounds limits) slots.old field.now)
+        field.now pending.old rest.now slots.old slots.new scratch result }
+    ensures next { IsNextOf (bounds limits) (field_data field.now) (previous_of slots.old field.now) result }
     ensures pending { IsEntityKept pending.old rest.now pending.new result }
     ensures terms { slots_terms slots.new ≡ slots_terms slots.old }
 {
@@ -67,8 +60,8 @@ pub fn take_first(
     field: &FieldInstruction,
     rest: &[u8],
     limits: Limits,
-) -> Progress<Step>
-    requires serves { Serves (length (slots_dictionary slots.old)) (slots_terms slots.old) (field_data field.now) }
+) -> Progress<FieldStep>
+    requires serves { ServesField slots.old field.now }
     requires max_text { (slots_terms slots.old).max_text ≡ limits.max_text }
     requires least { 16 ≤ limits.max_text }
     requires joined { limits.max_text ≤ joined.old.capacity }
@@ -76,14 +69,9 @@ pub fn take_first(
     requires short { length pending.old < 10 }
     requires number { ¬ (IsAsciiFirst (field_data field.now)) }
     requires varies { field.now.operator ≢ Operator.Constant }
-    ensures unit { IsFieldUnit limits
-        (reader_of limits.strict
-        (field_term (bounds limits) (field_data field.now)
-        (previous_at (field_data field.now).entry (slots_dictionary slots.old)) true))
-        (field_data field.now) pending.old rest.now (slots_dictionary slots.old) (slots_dictionary slots.new)
-        scratch.new.text result }
-    ensures next { IsNextOf (bounds limits) (field_data field.now)
-        (previous_at (field_data field.now).entry (slots_dictionary slots.old)) result }
+    ensures unit { IsUnitOf limits (sent_reader limits.strict (bounds limits) slots.old field.now) field.now pending.old
+        rest.now slots.old slots.new scratch.new.text result }
+    ensures next { IsNextOf (bounds limits) (field_data field.now) (previous_of slots.old field.now) result }
     ensures pending { IsEntityKept pending.old rest.now pending.new result }
     ensures terms { slots_terms slots.new ≡ slots_terms slots.old }
     ensures capacity { (scratch.new.capacity ≡ scratch.old.capacity) × (joined.new.capacity ≡ joined.old.capacity) }
@@ -112,8 +100,8 @@ pub fn take_first_text(
     field: &FieldInstruction,
     rest: &[u8],
     limits: Limits,
-) -> Progress<Step>
-    requires serves { Serves (length (slots_dictionary slots.old)) (slots_terms slots.old) (field_data field.now) }
+) -> Progress<FieldStep>
+    requires serves { ServesField slots.old field.now }
     requires max_text { (slots_terms slots.old).max_text ≡ limits.max_text }
     requires least { 16 ≤ limits.max_text }
     requires room { limits.max_text ≤ scratch.old.capacity }
@@ -121,12 +109,8 @@ pub fn take_first_text(
     requires text { IsAsciiFirst (field_data field.now) }
     requires varies { field.now.operator ≢ Operator.Constant }
     requires open { ascii_text field.now.optional limits.max_text scratch.old.text [] cut }
-    ensures unit { IsFieldUnit limits
-        (reader_of limits.strict
-        (field_term (bounds limits) (field_data field.now)
-        (previous_at (field_data field.now).entry (slots_dictionary slots.old)) true))
-        (field_data field.now) scratch.old.text rest.now (slots_dictionary slots.old) (slots_dictionary slots.new)
-        scratch.new.text result }
+    ensures unit { IsUnitOf limits (sent_reader limits.strict (bounds limits) slots.old field.now) field.now
+        scratch.old.text rest.now slots.old slots.new scratch.new.text result }
     ensures settles { SettlesOnly result }
     ensures kept { result ≡ Progress.Cut
         → (scratch.new.text ≡ scratch.old.text ++ rest.now)
@@ -147,24 +131,19 @@ pub fn take_number(
     stage: Stage,
     rest: &[u8],
     limits: Limits,
-) -> Progress<Step>
-    requires serves { Serves (length (slots_dictionary slots.old)) (slots_terms slots.old) (field_data field.now) }
+) -> Progress<FieldStep>
+    requires serves { ServesField slots.old field.now }
     requires max_text { (slots_terms slots.old).max_text ≡ limits.max_text }
     requires least { 16 ≤ limits.max_text }
     requires joined { limits.max_text ≤ joined.old.capacity }
     requires open { HaveNoStop pending.old }
     requires short { length pending.old < 10 }
-    requires stage { IsStageOf (bounds limits) (field_data field.now)
-        (previous_at (field_data field.now).entry (slots_dictionary slots.old)) stage }
+    requires stage { IsStageOf (bounds limits) (field_data field.now) (previous_of slots.old field.now) stage }
     requires number { IsNumberStage (field_data field.now) stage }
-    ensures unit { (text : List ℕ)
-        → IsFieldUnit limits (reader_of limits.strict
-        (term_behind (bounds limits) (field_data field.now)
-        (previous_at (field_data field.now).entry (slots_dictionary slots.old)) stage))
-        (field_data field.now) pending.old rest.now (slots_dictionary slots.old) (slots_dictionary slots.new) text
-        result }
-    ensures next { IsNextOf (bounds limits) (field_data field.now)
-        (previous_at (field_data field.now).entry (slots_dictionary slots.old)) result }
+    ensures unit { (text : List ℕ) → IsUnitOf limits (reader_of limits.strict
+        (term_behind (bounds limits) (field_data field.now) (previous_of slots.old field.now) stage)) field.now
+        pending.old rest.now slots.old slots.new text result }
+    ensures next { IsNextOf (bounds limits) (field_data field.now) (previous_of slots.old field.now) result }
     ensures pending { IsEntityKept pending.old rest.now pending.new result }
     ensures terms { slots_terms slots.new ≡ slots_terms slots.old }
     ensures capacity { joined.new.capacity ≡ joined.old.capacity }
@@ -198,27 +177,21 @@ pub fn take_bytes(
     stage: Stage,
     rest: &[u8],
     limits: Limits,
-) -> Progress<Step>
-    requires serves { Serves (length (slots_dictionary slots.old)) (slots_terms slots.old) (field_data field.now) }
+) -> Progress<FieldStep>
+    requires serves { ServesField slots.old field.now }
     requires max_text { (slots_terms slots.old).max_text ≡ limits.max_text }
     requires least { 16 ≤ limits.max_text }
     requires room { limits.max_text ≤ scratch.old.capacity }
     requires joined { limits.max_text ≤ joined.old.capacity }
-    requires stage { IsStageOf (bounds limits) (field_data field.now)
-        (previous_at (field_data field.now).entry (slots_dictionary slots.old)) stage }
-    requires bytes { IsBytesStage (bounds limits) (field_data field.now)
-        (previous_at (field_data field.now).entry (slots_dictionary slots.old)) stage scratch.old.text }
-    ensures unit { IsFieldUnit limits
-        (reader_of limits.strict
-        (term_behind (bounds limits) (field_data field.now)
-        (previous_at (field_data field.now).entry (slots_dictionary slots.old)) stage))
-        (field_data field.now) scratch.old.text rest.now (slots_dictionary slots.old) (slots_dictionary slots.new)
-        scratch.new.text result }
+    requires stage { IsStageOf (bounds limits) (field_data field.now) (previous_of slots.old field.now) stage }
+    requires bytes { IsBytesStage (bounds limits) (field_data field.now) (previous_of slots.old field.now) stage
+        scratch.old.text }
+    ensures unit { IsUnitOf limits (reader_of limits.strict
+        (term_behind (bounds limits) (field_data field.now) (previous_of slots.old field.now) stage)) field.now
+        scratch.old.text rest.now slots.old slots.new scratch.new.text result }
     ensures settles { SettlesOnly result }
-    ensures kept { result ≡ Progress.Cut
-        → (scratch.new.text ≡ scratch.old.text ++ rest.now)
-        × IsBytesStage (bounds limits) (field_data field.now)
-        (previous_at (field_data field.now).entry (slots_dictionary slots.old)) stage scratch.new.text }
+    ensures kept { result ≡ Progress.Cut → (scratch.new.text ≡ scratch.old.text ++ rest.now)
+        × IsBytesStage (bounds limits) (field_data field.now) (previous_of slots.old field.now) stage scratch.new.text }
     ensures terms { slots_terms slots.new ≡ slots_terms slots.old }
     ensures capacity { (scratch.new.capacity ≡ scratch.old.capacity) × (joined.new.capacity ≡ joined.old.capacity) }
 {
@@ -251,11 +224,11 @@ pub fn take_bytes(
 
 /// A unit that was the field's last.
 #[inline(always)]
-fn settled(progress: Progress<Source>) -> Progress<Step>
+fn settled(progress: Progress<ValueSource>) -> Progress<FieldStep>
     ensures { result ≡ settled progress }
 {
     match progress {
-        Progress::Whole(source, bytes) => Progress::Whole(Step::Settled(source), bytes),
+        Progress::Whole(source, bytes) => Progress::Whole(FieldStep::Settled(source), bytes),
         Progress::Wrong(code, bytes) => Progress::Wrong(code, bytes),
         Progress::Cut => Progress::Cut,
     }

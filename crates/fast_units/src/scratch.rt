@@ -14,7 +14,7 @@ pub struct Scratch {
 
 impl Model for Scratch {
     ghost use Rattle.std.specs.Prelude.{◌≤◌, take, vec_len};
-    ghost use Rattle.fast_units.specs.Scratches.{Held};
+    ghost use Rattle.fast_units.specs.device.Scratches.{Held};
 
     ghost Value = { Held };
 

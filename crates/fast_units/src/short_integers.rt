@@ -3,21 +3,20 @@
 //!
 //! `None` stands for all else, faults included: nothing has changed then, and the general way finds out.
 
-ghost use Rattle.std.specs.Prelude.{◌≡◌, ◌≢◌, ◌<◌, true, ℕ, List, [], length, ℤ, pos, Option, Some, Ok, IfSome, IfNone};
-ghost use Rattle.fast_wire.specs.Fronts.{IsFirstInt};
-ghost use Rattle.fast_wire.specs.Integers.{unsigned_up_to, signed_between, delta_range};
-ghost use Rattle.fast_wire.specs.Words.{IsShortEntity};
+ghost use Rattle.std.specs.Prelude.{◌≡◌, ◌≢◌, ◌<◌, true, ℕ, List, [], ℤ, pos, Option, Some, Ok, IfSome, IfNone};
+ghost use Rattle.fast_wire.specs.device.Fronts.{IsFirstInt};
+ghost use Rattle.fast_wire.specs.meaning.Integers.{unsigned_up_to, signed_between, delta_range};
+ghost use Rattle.fast_wire.specs.device.Words.{IsShortEntity};
 ghost use Rattle.fast_wire.specs.declared.fronts.First.TheVariants.{Whole};
-ghost use Rattle.fast_value.specs.Kinds.{U, I, family, integers, value_of_integer};
-ghost use Rattle.fast_value.specs.Limits.{Bounds};
-ghost use Rattle.fast_tree.specs.Nodes.{field_data};
-ghost use Rattle.fast_dict.specs.Dictionary.{assigned, previous_at, write_at};
-ghost use Rattle.fast_dict.specs.Operators.{decide, integer_step, range_of};
-ghost use Rattle.fast_dict.specs.Slots.{slots_dictionary, slots_terms};
-ghost use Rattle.fast_stream.specs.Fields.{field_term, sent_integer};
-ghost use Rattle.fast_stream.specs.GrammarReaders.{reader_of};
-ghost use Rattle.fast_units.specs.Settling.{Serves, IsLastUnit};
-ghost use Rattle.fast_units.specs.Deciding.{number_data, sent_number, source_of, IsDecided};
+ghost use Rattle.fast_value.specs.meaning.Kinds.{U, I, family, integers, value_of_integer};
+ghost use Rattle.fast_value.specs.meaning.Limits.{Bounds};
+ghost use Rattle.fast_tree.specs.device.Nodes.{field_data};
+ghost use Rattle.fast_dict.specs.meaning.Dictionary.{assigned, write_at};
+ghost use Rattle.fast_dict.specs.meaning.Operators.{decide, integer_step, range_of};
+ghost use Rattle.fast_dict.specs.meaning.Slots.{slots_dictionary, slots_terms};
+ghost use Rattle.fast_stream.specs.meaning.Fields.{sent_integer};
+ghost use Rattle.fast_units.specs.device.Deciding.{number_data, sent_number, source_of};
+ghost use Rattle.fast_units.specs.device.Words.{ServesField, HasEntryOf, previous_of, sent_reader, IsLastUnitOf, IsDecidedIn};
 
 use crate::fields::{Number, assign_empty, number_under};
 use crate::progress::Progress;
@@ -94,7 +93,7 @@ fn signed_number(
 #[inline(always)]
 fn keep_integer(slots: &mut Slots, field: &FieldInstruction, kind: Kind, number: Number)
     requires kind { kind ≡ field.now.kind }
-    requires within { (e : ℕ) → (field_data field.now).entry ≡ Some e → e < length (slots_dictionary slots.old) }
+    requires within { HasEntryOf slots.old field.now }
     ensures entry { slots_dictionary slots.new
         ≡ write_at (field_data field.now).entry (assigned field.now.kind (number_data number))
         (slots_dictionary slots.old) }
@@ -116,14 +115,12 @@ fn keep_item(
 )
     requires kind { kind ≡ field.now.kind }
     requires operator { operator ≡ field.now.operator }
-    requires serves { Serves (length (slots_dictionary slots.old)) (slots_terms slots.old) (field_data field.now) }
+    requires serves { ServesField slots.old field.now }
     requires integers { family field.now.kind ≡ integers (range_of field.now.kind) }
     requires no_delta { field.now.operator ≢ Operator.Delta }
     requires no_constant { field.now.operator ≢ Operator.Constant }
-    ensures decided { IsDecided
-        (decide (field_data field.now) (previous_at (field_data field.now).entry (slots_dictionary slots.old)) true
-        (sent_number item))
-        (field_data field.now) (slots_dictionary slots.old) (slots_dictionary slots.new) (Ok (source_of item)) }
+    ensures decided { IsDecidedIn (decide (field_data field.now) (previous_of slots.old field.now) true
+        (sent_number item)) field.now slots.old slots.new (Ok (source_of item)) }
     ensures terms { slots_terms slots.new ≡ slots_terms slots.old }
 {
     match operator {
@@ -154,16 +151,12 @@ pub fn unsigned_item(
     requires kind { kind ≡ field.now.kind }
     requires optional { optional ≡ field.now.optional }
     requires operator { operator ≡ field.now.operator }
-    requires serves { Serves (length (slots_dictionary slots.old)) (slots_terms slots.old) (field_data field.now) }
+    requires serves { ServesField slots.old field.now }
     requires integers { family field.now.kind ≡ integers (range_of field.now.kind) }
     requires no_delta { field.now.operator ≢ Operator.Delta }
     requires no_constant { field.now.operator ≢ Operator.Constant }
-    ensures unit { IfSome result
-        (λ r. (l : Bounds) (scratch : List ℕ)
-        → IsLastUnit (reader_of strict
-        (field_term l (field_data field.now) (previous_at (field_data field.now).entry (slots_dictionary slots.old))
-        true))
-        (field_data field.now) [] rest.now (slots_dictionary slots.old) (slots_dictionary slots.new) scratch
+    ensures unit { IfSome result (λ r. (l : Bounds) (scratch : List ℕ)
+        → IsLastUnitOf (sent_reader strict l slots.old field.now) field.now [] rest.now slots.old slots.new scratch
         (Progress.Whole (source_of r) entity.len)) }
     ensures none { IfNone result (slots.new ≡ slots.old) }
     ensures terms { slots_terms slots.new ≡ slots_terms slots.old }
@@ -193,16 +186,12 @@ pub fn signed_item(
     requires kind { kind ≡ field.now.kind }
     requires optional { optional ≡ field.now.optional }
     requires operator { operator ≡ field.now.operator }
-    requires serves { Serves (length (slots_dictionary slots.old)) (slots_terms slots.old) (field_data field.now) }
+    requires serves { ServesField slots.old field.now }
     requires integers { family field.now.kind ≡ integers (range_of field.now.kind) }
     requires no_delta { field.now.operator ≢ Operator.Delta }
     requires no_constant { field.now.operator ≢ Operator.Constant }
-    ensures unit { IfSome result
-        (λ r. (l : Bounds) (scratch : List ℕ)
-        → IsLastUnit (reader_of strict
-        (field_term l (field_data field.now) (previous_at (field_data field.now).entry (slots_dictionary slots.old))
-        true))
-        (field_data field.now) [] rest.now (slots_dictionary slots.old) (slots_dictionary slots.new) scratch
+    ensures unit { IfSome result (λ r. (l : Bounds) (scratch : List ℕ)
+        → IsLastUnitOf (sent_reader strict l slots.old field.now) field.now [] rest.now slots.old slots.new scratch
         (Progress.Whole (source_of r) entity.len)) }
     ensures none { IfNone result (slots.new ≡ slots.old) }
     ensures terms { slots_terms slots.new ≡ slots_terms slots.old }
@@ -234,11 +223,9 @@ fn quick_change(
 #[inline(always)]
 fn changed(slots: &mut Slots, field: &FieldInstruction, kind: Kind, delta: i64) -> Option<Number>
     requires kind { kind ≡ field.now.kind }
-    requires serves { Serves (length (slots_dictionary slots.old)) (slots_terms slots.old) (field_data field.now) }
-    ensures decided { IfSome result
-        (λ n. IsDecided (integer_step (field_data field.now)
-        (previous_at (field_data field.now).entry (slots_dictionary slots.old)) delta)
-        (field_data field.now) (slots_dictionary slots.old) (slots_dictionary slots.new) (Ok (source_of (Some n)))) }
+    requires serves { ServesField slots.old field.now }
+    ensures decided { IfSome result (λ n. IsDecidedIn (integer_step (field_data field.now)
+        (previous_of slots.old field.now) delta) field.now slots.old slots.new (Ok (source_of (Some n)))) }
     ensures none { IfNone result (slots.new ≡ slots.old) }
     ensures terms { slots_terms slots.new ≡ slots_terms slots.old }
 {
@@ -270,15 +257,11 @@ pub fn delta_item(
     requires first { IsShortEntity entity.number entity.len rest.now }
     requires kind { kind ≡ field.now.kind }
     requires optional { optional ≡ field.now.optional }
-    requires serves { Serves (length (slots_dictionary slots.old)) (slots_terms slots.old) (field_data field.now) }
+    requires serves { ServesField slots.old field.now }
     requires integers { family field.now.kind ≡ integers (range_of field.now.kind) }
     requires delta { field.now.operator ≡ Operator.Delta }
-    ensures unit { IfSome result
-        (λ r. (l : Bounds) (scratch : List ℕ)
-        → IsLastUnit (reader_of strict
-        (field_term l (field_data field.now) (previous_at (field_data field.now).entry (slots_dictionary slots.old))
-        true))
-        (field_data field.now) [] rest.now (slots_dictionary slots.old) (slots_dictionary slots.new) scratch
+    ensures unit { IfSome result (λ r. (l : Bounds) (scratch : List ℕ)
+        → IsLastUnitOf (sent_reader strict l slots.old field.now) field.now [] rest.now slots.old slots.new scratch
         (Progress.Whole (source_of r) entity.len)) }
     ensures none { IfNone result (slots.new ≡ slots.old) }
     ensures terms { slots_terms slots.new ≡ slots_terms slots.old }

@@ -2,7 +2,7 @@
 
 /// Where a value stands. A number is at hand; a text is lent from where it was read or is kept.
 #[derive(Clone, Copy)]
-pub enum Source {
+pub enum ValueSource {
     /// There is no value.
     Absent,
     /// An unsigned number.

@@ -1,6 +1,6 @@
 //! Fields that have more than one unit: which unit comes next.
 
-use crate::source::Source;
+use crate::source::ValueSource;
 
 /// The unit of a field that comes next, behind its first one, and what the units before it have said.
 #[derive(Clone, Copy, Debug, PartialEq, Eq)]
@@ -19,9 +19,9 @@ pub enum Stage {
 
 /// What a unit has decided.
 #[derive(Clone, Copy)]
-pub enum Step {
+pub enum FieldStep {
     /// The field is whole, and this is where its value stands.
-    Settled(Source),
+    Settled(ValueSource),
     /// Another unit follows.
     Next(Stage),
 }

@@ -3,22 +3,22 @@
 //! What is joined of two parts is joined in a buffer of its own first: what an entry lends cannot be written back while it
 //! is lent.
 
-ghost use Rattle.std.specs.Prelude.{◌≡◌, ◌≢◌, ◌+◌, ◌-◌, ◌<◌, ◌≤◌, ◌++◌, ℕ, List, [], length, take, true, false, Ok, Err, Some, MatchResult};
-ghost use Rattle.fast_value.specs.Kinds.{ScalarData, texts, family, text_of, value_of_text};
+ghost use Rattle.std.specs.Prelude.{◌≡◌, ◌≢◌, ◌+◌, ◌-◌, ◌<◌, ◌≤◌, ◌++◌, ℕ, List, length, true, Ok, Err, Some, MatchResult};
+ghost use Rattle.fast_value.specs.meaning.Kinds.{ScalarData, texts, family, text_of, value_of_text};
 ghost use Rattle.fast_value.specs.declared.kinds.Kind.{Kind};
-ghost use Rattle.fast_tree.specs.Nodes.{field_data};
-ghost use Rattle.fast_tree.specs.Entries.{keeps_value};
-ghost use Rattle.fast_dict.specs.Answers.{kept_answer, kept_data, kept_text};
-ghost use Rattle.fast_dict.specs.Dictionary.{previous_at};
-ghost use Rattle.fast_dict.specs.Operators.{Kept as KeptData, null, decide, tail_base, with_tail, subtraction_step, kept_length, joined as joined_text, text_step};
-ghost use Rattle.fast_dict.specs.Slots.{slots_dictionary, slots_terms};
-ghost use Rattle.fast_stream.specs.Fields.{sent_text};
-ghost use Rattle.fast_units.specs.Settling.{Serves, value_at};
-ghost use Rattle.fast_units.specs.TextDecisions.{is_emptied, IsTextDecided};
+ghost use Rattle.fast_tree.specs.device.Nodes.{field_data};
+ghost use Rattle.fast_tree.specs.meaning.Entries.{keeps_value};
+ghost use Rattle.fast_dict.specs.meaning.Answers.{kept_answer, kept_data, kept_text};
+ghost use Rattle.fast_dict.specs.meaning.Operators.{Kept as KeptData, null, decide, tail_base, with_tail, subtraction_step, kept_length, joined as joined_text, text_step};
+ghost use Rattle.fast_dict.specs.meaning.Slots.{slots_dictionary, slots_terms};
+ghost use Rattle.fast_stream.specs.meaning.Fields.{sent_text};
+ghost use Rattle.fast_units.specs.device.Settling.{value_at};
+ghost use Rattle.fast_units.specs.device.TextDecisions.{is_emptied, IsTextDecided};
+ghost use Rattle.fast_units.specs.device.Words.{ServesField, previous_of};
 
 use crate::fields::{assign, assign_empty, previous};
 use crate::scratch::Scratch;
-use crate::source::Source;
+use crate::source::ValueSource;
 use fast_dict::Slots;
 use fast_dict::operators::texts::text_of;
 use fast_dict::operators::{Kept, checked_text, subtract, tail_base, tail_keeps};
@@ -37,25 +37,24 @@ fn is_emptied(operator: Operator) -> bool
 }
 
 /// NULL was sent: the field is absent.
-pub fn finish_absent(slots: &mut Slots, field: &FieldInstruction) -> Source
-    requires serves { Serves (length (slots_dictionary slots.old)) (slots_terms slots.old) (field_data field.now) }
+pub fn finish_absent(slots: &mut Slots, field: &FieldInstruction) -> ValueSource
+    requires serves { ServesField slots.old field.now }
     requires sent { field.now.operator ≢ Operator.Constant }
-    ensures field { (scratch piece : List ℕ)
-        → IsTextDecided (decide (field_data field.now)
-        (previous_at (field_data field.now).entry (slots_dictionary slots.old)) true null)
-        (field_data field.now) (slots_dictionary slots.old) (slots_dictionary slots.new) scratch piece (Ok result) }
+    ensures field { (scratch piece : List ℕ) → IsTextDecided
+        (decide (field_data field.now) (previous_of slots.old field.now) true null) (field_data field.now)
+        (slots_dictionary slots.old) (slots_dictionary slots.new) scratch piece (Ok result) }
     ensures terms { slots_terms slots.new ≡ slots_terms slots.old }
 {
     if is_emptied(field.operator) {
         assign_empty(slots, field);
     }
-    Source::Absent
+    ValueSource::Absent
 }
 
 /// The text is the field's value, which its entry then holds.
 #[inline(always)]
-fn keep(slots: &mut Slots, field: &FieldInstruction, text: &[u8]) -> Result<Source, Code>
-    requires serves { Serves (length (slots_dictionary slots.old)) (slots_terms slots.old) (field_data field.now) }
+fn keep(slots: &mut Slots, field: &FieldInstruction, text: &[u8]) -> Result<ValueSource, Code>
+    requires serves { ServesField slots.old field.now }
     requires text { family field.now.kind ≡ texts }
     requires keeps { keeps_value field.now.operator ≡ true }
     requires fits { length text.now ≤ (slots_terms slots.old).max_text }
@@ -65,7 +64,7 @@ fn keep(slots: &mut Slots, field: &FieldInstruction, text: &[u8]) -> Result<Sour
 {
     let value = checked_text(field.kind, text)?;
     assign(slots, field, value);
-    Ok(Source::Entry)
+    Ok(ValueSource::Entry)
 }
 
 /// Joins a tail to what it keeps of its base.
@@ -75,17 +74,15 @@ fn join_tail(
     field: &FieldInstruction,
     part: &[u8],
 ) -> Result<(), Code>
-    requires serves { Serves (length (slots_dictionary slots.now)) (slots_terms slots.now) (field_data field.now) }
+    requires serves { ServesField slots.now field.now }
     requires text { family field.now.kind ≡ texts }
     requires keeps { keeps_value field.now.operator ≡ true }
     requires fits { length part.now ≤ (slots_terms slots.now).max_text }
     requires room { (slots_terms slots.now).max_text ≤ joined.old.capacity }
-    ensures joined { MatchResult result
-        (λ _. (base : ScalarData)
-        × (tail_base (field_data field.now) (previous_at (field_data field.now).entry (slots_dictionary slots.now))
-        ≡ Ok base) × (joined.new.text ≡ with_tail (text_of base) part.now))
-        (λ code. tail_base (field_data field.now)
-        (previous_at (field_data field.now).entry (slots_dictionary slots.now)) ≡ Err code) }
+    ensures joined { MatchResult result (λ _. (base : ScalarData)
+        × (tail_base (field_data field.now) (previous_of slots.now field.now) ≡ Ok base)
+        × (joined.new.text ≡ with_tail (text_of base) part.now))
+        (λ code. tail_base (field_data field.now) (previous_of slots.now field.now) ≡ Err code) }
     ensures fits { result ≡ Ok tt → length joined.new.text ≤ (slots_terms slots.now).max_text }
     ensures capacity { joined.new.capacity ≡ joined.old.capacity }
 {
@@ -102,10 +99,9 @@ pub fn kept<'a>(
     field: &'a FieldInstruction,
     subtraction: i32,
 ) -> Result<Kept<'a>, Code>
-    requires { Serves (length (slots_dictionary slots.now)) (slots_terms slots.now) (field_data field.now) }
-    ensures { kept_answer result
-        ≡ subtraction_step (field_data field.now)
-        (previous_at (field_data field.now).entry (slots_dictionary slots.now)) subtraction }
+    requires { ServesField slots.now field.now }
+    ensures { kept_answer result ≡ subtraction_step (field_data field.now) (previous_of slots.now field.now)
+        subtraction }
 {
     subtract(field, previous(slots, field), i128::from(subtraction))
 }
@@ -129,21 +125,16 @@ fn join_part(
     subtraction: i32,
     part: &[u8],
 ) -> Result<(), Code>
-    requires serves { Serves (length (slots_dictionary slots.now)) (slots_terms slots.now) (field_data field.now) }
+    requires serves { ServesField slots.now field.now }
     requires text { family field.now.kind ≡ texts }
     requires keeps { keeps_value field.now.operator ≡ true }
-    requires fits { (kept : KeptData)
-        → subtraction_step (field_data field.now)
-        (previous_at (field_data field.now).entry (slots_dictionary slots.now)) subtraction ≡ Ok kept
-        → length part.now ≤ (slots_terms slots.now).max_text - kept_length kept }
+    requires fits { (kept : KeptData) → subtraction_step (field_data field.now) (previous_of slots.now field.now)
+        subtraction ≡ Ok kept → length part.now ≤ (slots_terms slots.now).max_text - kept_length kept }
     requires room { (slots_terms slots.now).max_text ≤ joined.old.capacity }
-    ensures joined { MatchResult result
-        (λ _. (kept : KeptData)
-        × (subtraction_step (field_data field.now)
-        (previous_at (field_data field.now).entry (slots_dictionary slots.now)) subtraction ≡ Ok kept)
+    ensures joined { MatchResult result (λ _. (kept : KeptData)
+        × (subtraction_step (field_data field.now) (previous_of slots.now field.now) subtraction ≡ Ok kept)
         × (joined.new.text ≡ joined_text kept part.now))
-        (λ code. subtraction_step (field_data field.now)
-        (previous_at (field_data field.now).entry (slots_dictionary slots.now)) subtraction ≡ Err code) }
+        (λ code. subtraction_step (field_data field.now) (previous_of slots.now field.now) subtraction ≡ Err code) }
     ensures fits { result ≡ Ok tt → length joined.new.text ≤ (slots_terms slots.now).max_text }
     ensures capacity { joined.new.capacity ≡ joined.old.capacity }
 {
@@ -162,17 +153,16 @@ fn finish_tail(
     joined: &mut Scratch,
     field: &FieldInstruction,
     part: &[u8],
-) -> Result<Source, Code>
-    requires serves { Serves (length (slots_dictionary slots.old)) (slots_terms slots.old) (field_data field.now) }
+) -> Result<ValueSource, Code>
+    requires serves { ServesField slots.old field.now }
     requires text { family field.now.kind ≡ texts }
     requires tail { field.now.operator ≡ Operator.Tail }
     requires fits { length part.now ≤ (slots_terms slots.old).max_text }
     requires room { (slots_terms slots.old).max_text ≤ joined.old.capacity }
-    ensures field { (scratch piece : List ℕ)
-        → IsTextDecided (decide (field_data field.now)
-        (previous_at (field_data field.now).entry (slots_dictionary slots.old)) true
-        (sent_text field.now.kind (Some part.now)))
-        (field_data field.now) (slots_dictionary slots.old) (slots_dictionary slots.new) scratch piece result }
+    ensures field { (scratch piece : List ℕ) → IsTextDecided
+        (decide (field_data field.now) (previous_of slots.old field.now) true
+        (sent_text field.now.kind (Some part.now))) (field_data field.now) (slots_dictionary slots.old)
+        (slots_dictionary slots.new) scratch piece result }
     ensures terms { slots_terms slots.new ≡ slots_terms slots.old }
     ensures capacity { joined.new.capacity ≡ joined.old.capacity }
 {
@@ -186,21 +176,19 @@ pub fn finish_text(
     joined: &mut Scratch,
     field: &FieldInstruction,
     text: &[u8],
-    place: Source,
-) -> Result<Source, Code>
-    requires serves { Serves (length (slots_dictionary slots.old)) (slots_terms slots.old) (field_data field.now) }
+    place: ValueSource,
+) -> Result<ValueSource, Code>
+    requires serves { ServesField slots.old field.now }
     requires text { family field.now.kind ≡ texts }
     requires sent { field.now.operator ≢ Operator.Constant }
     requires whole { field.now.operator ≢ Operator.Delta }
     requires fits { length text.now ≤ (slots_terms slots.old).max_text }
     requires room { (slots_terms slots.old).max_text ≤ joined.old.capacity }
-    ensures field { (scratch piece : List ℕ)
-        → value_at place (field_data field.now) (slots_dictionary slots.new) scratch piece
-        ≡ Some (value_of_text field.now.kind text.now)
-        → IsTextDecided (decide (field_data field.now)
-        (previous_at (field_data field.now).entry (slots_dictionary slots.old)) true
-        (sent_text field.now.kind (Some text.now)))
-        (field_data field.now) (slots_dictionary slots.old) (slots_dictionary slots.new) scratch piece result }
+    ensures field { (scratch piece : List ℕ) → value_at place (field_data field.now) (slots_dictionary slots.new)
+        scratch piece ≡ Some (value_of_text field.now.kind text.now)
+        → IsTextDecided (decide (field_data field.now) (previous_of slots.old field.now) true
+        (sent_text field.now.kind (Some text.now))) (field_data field.now) (slots_dictionary slots.old)
+        (slots_dictionary slots.new) scratch piece result }
     ensures terms { slots_terms slots.new ≡ slots_terms slots.old }
     ensures capacity { joined.new.capacity ≡ joined.old.capacity }
 {
@@ -222,21 +210,19 @@ pub fn finish_ascii(
     joined: &mut Scratch,
     field: &FieldInstruction,
     text: &[u8],
-    place: Source,
-) -> Result<Source, Code>
-    requires serves { Serves (length (slots_dictionary slots.old)) (slots_terms slots.old) (field_data field.now) }
+    place: ValueSource,
+) -> Result<ValueSource, Code>
+    requires serves { ServesField slots.old field.now }
     requires kind { field.now.kind ≡ Kind.Ascii }
     requires sent { field.now.operator ≢ Operator.Constant }
     requires whole { field.now.operator ≢ Operator.Delta }
     requires fits { length text.now ≤ (slots_terms slots.old).max_text }
     requires room { (slots_terms slots.old).max_text ≤ joined.old.capacity }
-    ensures field { (scratch piece : List ℕ)
-        → value_at place (field_data field.now) (slots_dictionary slots.new) scratch piece
-        ≡ Some (value_of_text field.now.kind text.now)
-        → IsTextDecided (decide (field_data field.now)
-        (previous_at (field_data field.now).entry (slots_dictionary slots.old)) true
-        (sent_text field.now.kind (Some text.now)))
-        (field_data field.now) (slots_dictionary slots.old) (slots_dictionary slots.new) scratch piece result }
+    ensures field { (scratch piece : List ℕ) → value_at place (field_data field.now) (slots_dictionary slots.new)
+        scratch piece ≡ Some (value_of_text field.now.kind text.now)
+        → IsTextDecided (decide (field_data field.now) (previous_of slots.old field.now) true
+        (sent_text field.now.kind (Some text.now))) (field_data field.now) (slots_dictionary slots.old)
+        (slots_dictionary slots.new) scratch piece result }
     ensures terms { slots_terms slots.new ≡ slots_terms slots.old }
     ensures capacity { joined.new.capacity ≡ joined.old.capacity }
 {
@@ -257,20 +243,17 @@ pub fn finish_part(
     field: &FieldInstruction,
     subtraction: i32,
     part: &[u8],
-) -> Result<Source, Code>
-    requires serves { Serves (length (slots_dictionary slots.old)) (slots_terms slots.old) (field_data field.now) }
+) -> Result<ValueSource, Code>
+    requires serves { ServesField slots.old field.now }
     requires text { family field.now.kind ≡ texts }
     requires delta { field.now.operator ≡ Operator.Delta }
-    requires fits { (kept : KeptData)
-        → subtraction_step (field_data field.now)
-        (previous_at (field_data field.now).entry (slots_dictionary slots.old)) subtraction ≡ Ok kept
-        → length part.now ≤ (slots_terms slots.old).max_text - kept_length kept }
+    requires fits { (kept : KeptData) → subtraction_step (field_data field.now) (previous_of slots.old field.now)
+        subtraction ≡ Ok kept → length part.now ≤ (slots_terms slots.old).max_text - kept_length kept }
     requires room { (slots_terms slots.old).max_text ≤ joined.old.capacity }
-    ensures field { (kept : KeptData)
-        → subtraction_step (field_data field.now)
-        (previous_at (field_data field.now).entry (slots_dictionary slots.old)) subtraction ≡ Ok kept
-        → (scratch piece : List ℕ) → IsTextDecided (text_step (field_data field.now) kept part.now)
-        (field_data field.now) (slots_dictionary slots.old) (slots_dictionary slots.new) scratch piece result }
+    ensures field { (kept : KeptData) → subtraction_step (field_data field.now) (previous_of slots.old field.now)
+        subtraction ≡ Ok kept → (scratch piece : List ℕ)
+        → IsTextDecided (text_step (field_data field.now) kept part.now) (field_data field.now)
+        (slots_dictionary slots.old) (slots_dictionary slots.new) scratch piece result }
     ensures terms { slots_terms slots.new ≡ slots_terms slots.old }
     ensures capacity { joined.new.capacity ≡ joined.old.capacity }
 {
@@ -285,11 +268,9 @@ pub fn part_room(
     subtraction: i32,
     max_text: usize,
 ) -> usize
-    requires { Serves (length (slots_dictionary slots.now)) (slots_terms slots.now) (field_data field.now) }
-    ensures room { (kept : KeptData)
-        → subtraction_step (field_data field.now)
-        (previous_at (field_data field.now).entry (slots_dictionary slots.now)) subtraction ≡ Ok kept
-        → result ≡ max_text - kept_length kept }
+    requires { ServesField slots.now field.now }
+    ensures room { (kept : KeptData) → subtraction_step (field_data field.now) (previous_of slots.now field.now)
+        subtraction ≡ Ok kept → result ≡ max_text - kept_length kept }
     ensures most { result ≤ max_text }
 {
     // the same subtraction did well when its length was read

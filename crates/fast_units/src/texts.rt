@@ -3,27 +3,26 @@
 //! A unit at a time: an ASCII text, or the size of a vector and then its bytes; before the part of a delta its subtraction length.
 //! Of a unit that a piece cuts the bytes are in hand, in the entity or in the scratch, and nothing else changes.
 
-ghost use Rattle.std.specs.Prelude.{◌≡◌, ◌≢◌, ◌-◌, ◌<◌, ◌≤◌, ◌++◌, ℕ, ℤ, List, [], length, false, Ok, Some, pos, IfOk};
-ghost use Rattle.fast_wire.specs.Entities.{HaveNoStop};
-ghost use Rattle.fast_wire.specs.Integers.{IsWithin, unsigned_range, signed_range};
-ghost use Rattle.fast_value.specs.Kinds.{texts, family};
-ghost use Rattle.fast_value.specs.Limits.{bounds};
-ghost use Rattle.fast_tree.specs.Nodes.{field_data};
-ghost use Rattle.fast_dict.specs.Dictionary.{previous_at};
-ghost use Rattle.fast_dict.specs.Operators.{Kept as KeptData, subtraction_step, kept_length};
-ghost use Rattle.fast_dict.specs.Slots.{slots_dictionary, slots_terms};
-ghost use Rattle.fast_stream.specs.Phrases.{cut};
-ghost use Rattle.fast_stream.specs.Fields.{text_change};
-ghost use Rattle.fast_stream.specs.Units.{ascii_text as ascii_phrase};
-ghost use Rattle.fast_stream.specs.GrammarReaders.{reader_of};
-ghost use Rattle.fast_units.specs.Settling.{Serves, IsLastUnit};
-ghost use Rattle.fast_units.specs.Stages.{IsStageOf, IsFieldUnit};
-ghost use Rattle.fast_units.specs.TextDecisions.{IsStepped, first_reader, reader_behind, behind_size, behind_part_size, answered, settled, HasBytes};
+ghost use Rattle.std.specs.Prelude.{◌≡◌, ◌≢◌, ◌-◌, ◌<◌, ◌≤◌, ◌++◌, ℕ, List, [], length, false, Ok, Some, pos, IfOk};
+ghost use Rattle.fast_wire.specs.meaning.Entities.{HaveNoStop};
+ghost use Rattle.fast_wire.specs.meaning.Integers.{IsWithin, unsigned_range, signed_range};
+ghost use Rattle.fast_value.specs.meaning.Kinds.{texts, family};
+ghost use Rattle.fast_value.specs.meaning.Limits.{bounds};
+ghost use Rattle.fast_tree.specs.device.Nodes.{field_data};
+ghost use Rattle.fast_dict.specs.meaning.Operators.{Kept as KeptData, subtraction_step, kept_length};
+ghost use Rattle.fast_dict.specs.meaning.Slots.{slots_dictionary, slots_terms};
+ghost use Rattle.fast_stream.specs.meaning.Phrases.{cut};
+ghost use Rattle.fast_stream.specs.meaning.Fields.{text_change};
+ghost use Rattle.fast_stream.specs.meaning.Units.{ascii_text as ascii_phrase};
+ghost use Rattle.fast_stream.specs.device.GrammarReaders.{reader_of};
+ghost use Rattle.fast_units.specs.device.Stages.{IsStageOf};
+ghost use Rattle.fast_units.specs.device.TextDecisions.{IsStepped, first_reader, reader_behind, behind_size, behind_part_size, answered, settled, HasBytes};
+ghost use Rattle.fast_units.specs.device.Words.{ServesField, previous_of, IsLastUnitOf, IsUnitOf, IsKeptCut};
 
 use crate::progress::Progress;
 use crate::scratch::Scratch;
-use crate::source::Source;
-use crate::stages::{Stage, Step};
+use crate::source::ValueSource;
+use crate::stages::{FieldStep, Stage};
 use crate::text_outcomes::{
     finish_absent, finish_ascii, finish_part, finish_text, kept, part_room,
 };
@@ -50,10 +49,10 @@ fn answered<T>(answer: Result<T, Code>, bytes: usize) -> Progress<T>
 
 /// The last answer of a field as that of a unit.
 #[inline(always)]
-fn settled(answer: Result<Source, Code>) -> Result<Step, Code>
+fn settled(answer: Result<ValueSource, Code>) -> Result<FieldStep, Code>
     ensures { result ≡ settled answer }
 {
-    answer.map(Step::Settled)
+    answer.map(FieldStep::Settled)
 }
 
 /// A size, of which it is known that it is a uInt32.
@@ -82,8 +81,8 @@ pub fn take_text(
     field: &FieldInstruction,
     rest: &[u8],
     limits: Limits,
-) -> Progress<Source>
-    requires serves { Serves (length (slots_dictionary slots.old)) (slots_terms slots.old) (field_data field.now) }
+) -> Progress<ValueSource>
+    requires serves { ServesField slots.old field.now }
     requires max_text { (slots_terms slots.old).max_text ≡ limits.max_text }
     requires least { 16 ≤ limits.max_text }
     requires kind { field.now.kind ≡ Kind.Ascii }
@@ -92,9 +91,8 @@ pub fn take_text(
     requires open { ascii_phrase field.now.optional limits.max_text scratch.old.text [] cut }
     requires scratch { limits.max_text ≤ scratch.old.capacity }
     requires joined { limits.max_text ≤ joined.old.capacity }
-    ensures unit { IsLastUnit (first_reader limits (field_data field.now) (slots_dictionary slots.old))
-        (field_data field.now) scratch.old.text rest.now (slots_dictionary slots.old) (slots_dictionary slots.new)
-        scratch.new.text result }
+    ensures unit { IsLastUnitOf (first_reader limits (field_data field.now) (slots_dictionary slots.old)) field.now
+        scratch.old.text rest.now slots.old slots.new scratch.new.text result }
     ensures cut { result ≡ Progress.Cut
         → (scratch.new.text ≡ scratch.old.text ++ rest.now)
         × ascii_phrase field.now.optional limits.max_text scratch.new.text [] cut }
@@ -106,7 +104,7 @@ pub fn take_text(
         Progress::Whole(true, bytes) => {
             let text = scratch.as_slice();
             answered(
-                finish_ascii(slots, joined, field, text, Source::Scratch),
+                finish_ascii(slots, joined, field, text, ValueSource::Scratch),
                 bytes,
             )
         }
@@ -124,8 +122,8 @@ pub fn take_size(
     field: &FieldInstruction,
     rest: &[u8],
     limits: Limits,
-) -> Progress<Step>
-    requires serves { Serves (length (slots_dictionary slots.old)) (slots_terms slots.old) (field_data field.now) }
+) -> Progress<FieldStep>
+    requires serves { ServesField slots.old field.now }
     requires max_text { (slots_terms slots.old).max_text ≡ limits.max_text }
     requires least { 16 ≤ limits.max_text }
     requires text { family field.now.kind ≡ texts }
@@ -135,13 +133,11 @@ pub fn take_size(
     requires open { HaveNoStop pending.old }
     requires short { length pending.old < 10 }
     requires joined { limits.max_text ≤ joined.old.capacity }
-    ensures unit { IsFieldUnit limits (first_reader limits (field_data field.now) (slots_dictionary slots.old))
-        (field_data field.now) pending.old rest.now (slots_dictionary slots.old) (slots_dictionary slots.new)
-        [] result }
-    ensures more { (step : Step) (n : ℕ) → result ≡ Progress.Whole step n → HasBytes step }
-    ensures whole { (step : Step) (n : ℕ) → result ≡ Progress.Whole step n → pending.new ≡ [] }
-    ensures cut { result ≡ Progress.Cut
-        → (pending.new ≡ pending.old ++ rest.now) × HaveNoStop pending.new × (length pending.new < 10) }
+    ensures unit { IsUnitOf limits (first_reader limits (field_data field.now) (slots_dictionary slots.old)) field.now
+        pending.old rest.now slots.old slots.new [] result }
+    ensures more { (step : FieldStep) (n : ℕ) → result ≡ Progress.Whole step n → HasBytes step }
+    ensures whole { (step : FieldStep) (n : ℕ) → result ≡ Progress.Whole step n → pending.new ≡ [] }
+    ensures cut { IsKeptCut pending.old rest.now pending.new result }
     ensures terms { slots_terms slots.new ≡ slots_terms slots.old }
     ensures joined { joined.new.capacity ≡ joined.old.capacity }
 {
@@ -161,7 +157,7 @@ pub fn take_size(
             )
         }
         Progress::Whole(None, bytes) => {
-            Progress::Whole(Step::Settled(finish_absent(slots, field)), bytes)
+            Progress::Whole(FieldStep::Settled(finish_absent(slots, field)), bytes)
         }
         Progress::Wrong(code, bytes) => Progress::Wrong(code, bytes),
         Progress::Cut => Progress::Cut,
@@ -175,8 +171,8 @@ fn vector_next(
     field: &FieldInstruction,
     size: u32,
     limits: Limits,
-) -> Result<Step, Code>
-    requires serves { Serves (length (slots_dictionary slots.old)) (slots_terms slots.old) (field_data field.now) }
+) -> Result<FieldStep, Code>
+    requires serves { ServesField slots.old field.now }
     requires max_text { (slots_terms slots.old).max_text ≡ limits.max_text }
     requires least { 16 ≤ limits.max_text }
     requires text { family field.now.kind ≡ texts }
@@ -184,10 +180,8 @@ fn vector_next(
     requires sent { field.now.operator ≢ Operator.Constant }
     requires whole { field.now.operator ≢ Operator.Delta }
     requires joined { limits.max_text ≤ joined.old.capacity }
-    ensures step { (piece : List ℕ)
-        → IsStepped limits (reader_of limits.strict
-        (behind_size (bounds limits) (field_data field.now)
-        (previous_at (field_data field.now).entry (slots_dictionary slots.old)) (Some (pos size))))
+    ensures step { (piece : List ℕ) → IsStepped limits (reader_of limits.strict
+        (behind_size (bounds limits) (field_data field.now) (previous_of slots.old field.now) (Some (pos size))))
         (field_data field.now) (slots_dictionary slots.old) (slots_dictionary slots.new) [] piece result }
     ensures more { IfOk result HasBytes }
     ensures terms { slots_terms slots.new ≡ slots_terms slots.old }
@@ -195,9 +189,9 @@ fn vector_next(
 {
     let size = sized(size, limits.max_text)?;
     if size > 0 {
-        return Ok(Step::Next(Stage::Vector(size)));
+        return Ok(FieldStep::Next(Stage::Vector(size)));
     }
-    settled(finish_text(slots, joined, field, &[], Source::Scratch))
+    settled(finish_text(slots, joined, field, &[], ValueSource::Scratch))
 }
 
 /// Takes bytes of a vector that is no delta, behind its size.
@@ -209,19 +203,17 @@ pub fn take_vector(
     size: usize,
     rest: &[u8],
     limits: Limits,
-) -> Progress<Source>
-    requires serves { Serves (length (slots_dictionary slots.old)) (slots_terms slots.old) (field_data field.now) }
+) -> Progress<ValueSource>
+    requires serves { ServesField slots.old field.now }
     requires max_text { (slots_terms slots.old).max_text ≡ limits.max_text }
     requires least { 16 ≤ limits.max_text }
-    requires stage { IsStageOf (bounds limits) (field_data field.now)
-        (previous_at (field_data field.now).entry (slots_dictionary slots.old)) (Stage.Vector size) }
+    requires stage { IsStageOf (bounds limits) (field_data field.now) (previous_of slots.old field.now)
+        (Stage.Vector size) }
     requires more { length scratch.old.text < size }
     requires scratch { limits.max_text ≤ scratch.old.capacity }
     requires joined { limits.max_text ≤ joined.old.capacity }
-    ensures unit { IsLastUnit
-        (reader_behind limits (field_data field.now) (slots_dictionary slots.old) (Stage.Vector size))
-        (field_data field.now) scratch.old.text rest.now (slots_dictionary slots.old) (slots_dictionary slots.new)
-        scratch.new.text result }
+    ensures unit { IsLastUnitOf (reader_behind limits (field_data field.now) (slots_dictionary slots.old)
+        (Stage.Vector size)) field.now scratch.old.text rest.now slots.old slots.new scratch.new.text result }
     ensures cut { result ≡ Progress.Cut
         → (scratch.new.text ≡ scratch.old.text ++ rest.now) × (length scratch.new.text < size) }
     ensures terms { slots_terms slots.new ≡ slots_terms slots.old }
@@ -232,14 +224,14 @@ pub fn take_vector(
         Progress::Whole(Run::Piece, bytes) => {
             let text = &rest[..bytes];
             answered(
-                finish_text(slots, joined, field, text, Source::Piece),
+                finish_text(slots, joined, field, text, ValueSource::Piece),
                 bytes,
             )
         }
         Progress::Whole(Run::Scratch, bytes) => {
             let text = scratch.as_slice();
             answered(
-                finish_text(slots, joined, field, text, Source::Scratch),
+                finish_text(slots, joined, field, text, ValueSource::Scratch),
                 bytes,
             )
         }
@@ -255,22 +247,19 @@ pub fn take_subtraction(
     field: &FieldInstruction,
     rest: &[u8],
     limits: Limits,
-) -> Progress<Step>
-    requires serves { Serves (length (slots_dictionary slots.old)) (slots_terms slots.old) (field_data field.now) }
+) -> Progress<FieldStep>
+    requires serves { ServesField slots.old field.now }
     requires max_text { (slots_terms slots.old).max_text ≡ limits.max_text }
     requires least { 16 ≤ limits.max_text }
     requires text { family field.now.kind ≡ texts }
     requires delta { field.now.operator ≡ Operator.Delta }
     requires open { HaveNoStop pending.old }
     requires short { length pending.old < 10 }
-    ensures unit { (scratch : List ℕ)
-        → IsFieldUnit limits (first_reader limits (field_data field.now) (slots_dictionary slots.old))
-        (field_data field.now) pending.old rest.now (slots_dictionary slots.old) (slots_dictionary slots.new) scratch
-        result }
-    ensures more { (step : Step) (n : ℕ) → result ≡ Progress.Whole step n → HasBytes step }
-    ensures whole { (step : Step) (n : ℕ) → result ≡ Progress.Whole step n → pending.new ≡ [] }
-    ensures cut { result ≡ Progress.Cut
-        → (pending.new ≡ pending.old ++ rest.now) × HaveNoStop pending.new × (length pending.new < 10) }
+    ensures unit { (scratch : List ℕ) → IsUnitOf limits (first_reader limits (field_data field.now)
+        (slots_dictionary slots.old)) field.now pending.old rest.now slots.old slots.new scratch result }
+    ensures more { (step : FieldStep) (n : ℕ) → result ≡ Progress.Whole step n → HasBytes step }
+    ensures whole { (step : FieldStep) (n : ℕ) → result ≡ Progress.Whole step n → pending.new ≡ [] }
+    ensures cut { IsKeptCut pending.old rest.now pending.new result }
     ensures terms { slots_terms slots.new ≡ slots_terms slots.old }
 {
     let range = IntegerRange::Signed(-2_147_483_648, 2_147_483_647);
@@ -286,7 +275,7 @@ pub fn take_subtraction(
             answered(part_next(slots, field, length_of(length)), bytes)
         }
         Progress::Whole(None, bytes) => {
-            Progress::Whole(Step::Settled(finish_absent(slots, field)), bytes)
+            Progress::Whole(FieldStep::Settled(finish_absent(slots, field)), bytes)
         }
         Progress::Wrong(code, bytes) => Progress::Wrong(code, bytes),
         Progress::Cut => Progress::Cut,
@@ -294,19 +283,18 @@ pub fn take_subtraction(
 }
 
 /// What follows the subtraction length of a delta.
-fn part_next(slots: &Slots, field: &FieldInstruction, subtraction: i32) -> Result<Step, Code>
-    requires serves { Serves (length (slots_dictionary slots.now)) (slots_terms slots.now) (field_data field.now) }
+fn part_next(slots: &Slots, field: &FieldInstruction, subtraction: i32) -> Result<FieldStep, Code>
+    requires serves { ServesField slots.now field.now }
     requires text { family field.now.kind ≡ texts }
     requires delta { field.now.operator ≡ Operator.Delta }
     ensures step { (limits : Limits) (scratch piece : List ℕ)
-        → IsStepped limits (reader_of limits.strict
-        (text_change (bounds limits) (field_data field.now)
-        (previous_at (field_data field.now).entry (slots_dictionary slots.now)) (Some subtraction)))
-        (field_data field.now) (slots_dictionary slots.now) (slots_dictionary slots.now) scratch piece result }
+        → IsStepped limits (reader_of limits.strict (text_change (bounds limits) (field_data field.now)
+        (previous_of slots.now field.now) (Some subtraction))) (field_data field.now) (slots_dictionary slots.now)
+        (slots_dictionary slots.now) scratch piece result }
     ensures more { IfOk result HasBytes }
 {
     kept(slots, field, subtraction)?;
-    Ok(Step::Next(Stage::Part(subtraction)))
+    Ok(FieldStep::Next(Stage::Part(subtraction)))
 }
 
 /// Takes bytes of the part of an ASCII delta, behind the subtraction length.
@@ -318,27 +306,22 @@ pub fn take_part(
     subtraction: i32,
     rest: &[u8],
     limits: Limits,
-) -> Progress<Source>
-    requires serves { Serves (length (slots_dictionary slots.old)) (slots_terms slots.old) (field_data field.now) }
+) -> Progress<ValueSource>
+    requires serves { ServesField slots.old field.now }
     requires max_text { (slots_terms slots.old).max_text ≡ limits.max_text }
     requires least { 16 ≤ limits.max_text }
-    requires stage { IsStageOf (bounds limits) (field_data field.now)
-        (previous_at (field_data field.now).entry (slots_dictionary slots.old)) (Stage.Part subtraction) }
+    requires stage { IsStageOf (bounds limits) (field_data field.now) (previous_of slots.old field.now)
+        (Stage.Part subtraction) }
     requires kind { field.now.kind ≡ Kind.Ascii }
-    requires open { (kept : KeptData)
-        → subtraction_step (field_data field.now)
-        (previous_at (field_data field.now).entry (slots_dictionary slots.old)) subtraction ≡ Ok kept
-        → ascii_phrase false (limits.max_text - kept_length kept) scratch.old.text [] cut }
+    requires open { (kept : KeptData) → subtraction_step (field_data field.now) (previous_of slots.old field.now)
+        subtraction ≡ Ok kept → ascii_phrase false (limits.max_text - kept_length kept) scratch.old.text [] cut }
     requires scratch { limits.max_text ≤ scratch.old.capacity }
     requires joined { limits.max_text ≤ joined.old.capacity }
-    ensures unit { IsLastUnit
-        (reader_behind limits (field_data field.now) (slots_dictionary slots.old) (Stage.Part subtraction))
-        (field_data field.now) scratch.old.text rest.now (slots_dictionary slots.old) (slots_dictionary slots.new)
-        scratch.new.text result }
+    ensures unit { IsLastUnitOf (reader_behind limits (field_data field.now) (slots_dictionary slots.old)
+        (Stage.Part subtraction)) field.now scratch.old.text rest.now slots.old slots.new scratch.new.text result }
     ensures cut { result ≡ Progress.Cut → (scratch.new.text ≡ scratch.old.text ++ rest.now)
-        × ((kept : KeptData) → subtraction_step (field_data field.now)
-        (previous_at (field_data field.now).entry (slots_dictionary slots.old)) subtraction ≡ Ok kept
-        → ascii_phrase false (limits.max_text - kept_length kept) scratch.new.text [] cut) }
+        × ((kept : KeptData) → subtraction_step (field_data field.now) (previous_of slots.old field.now) subtraction
+        ≡ Ok kept → ascii_phrase false (limits.max_text - kept_length kept) scratch.new.text [] cut) }
     ensures terms { slots_terms slots.new ≡ slots_terms slots.old }
     ensures scratch { scratch.new.capacity ≡ scratch.old.capacity }
     ensures joined { joined.new.capacity ≡ joined.old.capacity }
@@ -364,24 +347,22 @@ pub fn take_part_size(
     subtraction: i32,
     rest: &[u8],
     limits: Limits,
-) -> Progress<Step>
-    requires serves { Serves (length (slots_dictionary slots.old)) (slots_terms slots.old) (field_data field.now) }
+) -> Progress<FieldStep>
+    requires serves { ServesField slots.old field.now }
     requires max_text { (slots_terms slots.old).max_text ≡ limits.max_text }
     requires least { 16 ≤ limits.max_text }
-    requires stage { IsStageOf (bounds limits) (field_data field.now)
-        (previous_at (field_data field.now).entry (slots_dictionary slots.old)) (Stage.Part subtraction) }
+    requires stage { IsStageOf (bounds limits) (field_data field.now) (previous_of slots.old field.now)
+        (Stage.Part subtraction) }
     requires kind { field.now.kind ≢ Kind.Ascii }
     requires open { HaveNoStop pending.old }
     requires short { length pending.old < 10 }
     requires joined { limits.max_text ≤ joined.old.capacity }
-    ensures unit { (scratch : List ℕ)
-        → IsFieldUnit limits (reader_behind limits (field_data field.now) (slots_dictionary slots.old)
-        (Stage.Part subtraction)) (field_data field.now) pending.old rest.now (slots_dictionary slots.old)
-        (slots_dictionary slots.new) scratch result }
-    ensures more { (step : Step) (n : ℕ) → result ≡ Progress.Whole step n → HasBytes step }
-    ensures whole { (step : Step) (n : ℕ) → result ≡ Progress.Whole step n → pending.new ≡ [] }
-    ensures cut { result ≡ Progress.Cut
-        → (pending.new ≡ pending.old ++ rest.now) × HaveNoStop pending.new × (length pending.new < 10) }
+    ensures unit { (scratch : List ℕ) → IsUnitOf limits (reader_behind limits (field_data field.now)
+        (slots_dictionary slots.old) (Stage.Part subtraction)) field.now pending.old rest.now slots.old slots.new
+        scratch result }
+    ensures more { (step : FieldStep) (n : ℕ) → result ≡ Progress.Whole step n → HasBytes step }
+    ensures whole { (step : FieldStep) (n : ℕ) → result ≡ Progress.Whole step n → pending.new ≡ [] }
+    ensures cut { IsKeptCut pending.old rest.now pending.new result }
     ensures terms { slots_terms slots.new ≡ slots_terms slots.old }
     ensures joined { joined.new.capacity ≡ joined.old.capacity }
 {
@@ -406,22 +387,19 @@ fn part_vector_next(
     subtraction: i32,
     size: u32,
     limits: Limits,
-) -> Result<Step, Code>
-    requires serves { Serves (length (slots_dictionary slots.old)) (slots_terms slots.old) (field_data field.now) }
+) -> Result<FieldStep, Code>
+    requires serves { ServesField slots.old field.now }
     requires max_text { (slots_terms slots.old).max_text ≡ limits.max_text }
     requires least { 16 ≤ limits.max_text }
-    requires stage { IsStageOf (bounds limits) (field_data field.now)
-        (previous_at (field_data field.now).entry (slots_dictionary slots.old)) (Stage.Part subtraction) }
+    requires stage { IsStageOf (bounds limits) (field_data field.now) (previous_of slots.old field.now)
+        (Stage.Part subtraction) }
     requires kind { field.now.kind ≢ Kind.Ascii }
     requires joined { limits.max_text ≤ joined.old.capacity }
-    ensures step { (kept : KeptData)
-        → subtraction_step (field_data field.now)
-        (previous_at (field_data field.now).entry (slots_dictionary slots.old)) subtraction ≡ Ok kept
-        → (scratch piece : List ℕ)
-        → IsStepped limits (reader_of limits.strict
-        (behind_part_size (bounds limits) (field_data field.now)
-        (previous_at (field_data field.now).entry (slots_dictionary slots.old)) kept (Some (pos size))))
-        (field_data field.now) (slots_dictionary slots.old) (slots_dictionary slots.new) scratch piece result }
+    ensures step { (kept : KeptData) → subtraction_step (field_data field.now) (previous_of slots.old field.now)
+        subtraction ≡ Ok kept → (scratch piece : List ℕ)
+        → IsStepped limits (reader_of limits.strict (behind_part_size (bounds limits) (field_data field.now)
+        (previous_of slots.old field.now) kept (Some (pos size)))) (field_data field.now) (slots_dictionary slots.old)
+        (slots_dictionary slots.new) scratch piece result }
     ensures more { IfOk result HasBytes }
     ensures terms { slots_terms slots.new ≡ slots_terms slots.old }
     ensures joined { joined.new.capacity ≡ joined.old.capacity }
@@ -429,7 +407,7 @@ fn part_vector_next(
     let room = part_room(slots, field, subtraction, limits.max_text);
     let size = sized(size, room)?;
     if size > 0 {
-        return Ok(Step::Next(Stage::PartVector(subtraction, size)));
+        return Ok(FieldStep::Next(Stage::PartVector(subtraction, size)));
     }
     settled(finish_part(slots, joined, field, subtraction, &[]))
 }
@@ -444,19 +422,18 @@ pub fn take_part_vector(
     size: usize,
     rest: &[u8],
     limits: Limits,
-) -> Progress<Source>
-    requires serves { Serves (length (slots_dictionary slots.old)) (slots_terms slots.old) (field_data field.now) }
+) -> Progress<ValueSource>
+    requires serves { ServesField slots.old field.now }
     requires max_text { (slots_terms slots.old).max_text ≡ limits.max_text }
     requires least { 16 ≤ limits.max_text }
-    requires stage { IsStageOf (bounds limits) (field_data field.now)
-        (previous_at (field_data field.now).entry (slots_dictionary slots.old)) (Stage.PartVector subtraction size) }
+    requires stage { IsStageOf (bounds limits) (field_data field.now) (previous_of slots.old field.now)
+        (Stage.PartVector subtraction size) }
     requires more { length scratch.old.text < size }
     requires scratch { limits.max_text ≤ scratch.old.capacity }
     requires joined { limits.max_text ≤ joined.old.capacity }
-    ensures unit { IsLastUnit
-        (reader_behind limits (field_data field.now) (slots_dictionary slots.old) (Stage.PartVector subtraction size))
-        (field_data field.now) scratch.old.text rest.now (slots_dictionary slots.old) (slots_dictionary slots.new)
-        scratch.new.text result }
+    ensures unit { IsLastUnitOf (reader_behind limits (field_data field.now) (slots_dictionary slots.old)
+        (Stage.PartVector subtraction size)) field.now scratch.old.text rest.now slots.old slots.new scratch.new.text
+        result }
     ensures cut { result ≡ Progress.Cut
         → (scratch.new.text ≡ scratch.old.text ++ rest.now) × (length scratch.new.text < size) }
     ensures terms { slots_terms slots.new ≡ slots_terms slots.old }

@@ -1,16 +1,17 @@
 //! The units of fields: an integer, an ASCII text, a run of bytes. Of a unit that a piece cuts the bytes are kept, and nothing
 //! else changes before it is whole.
 
-ghost use Rattle.std.specs.Prelude.{◌≡◌, ℕ, ◌<◌, ◌≤◌, Bool, true, false, List, [], ◌∷◌, ◌++◌, length, ℤ, Option, Some, pos, option_map, IfSome, IfNone, IfOk, IfErr};
-ghost use Rattle.fast_wire.specs.Entities.{HaveNoStop, IsEntity};
-ghost use Rattle.fast_wire.specs.Integers.{Range, unsigned_up_to, SpellsInt};
-ghost use Rattle.fast_wire.specs.Fronts.{IsFirstInt, IsWrongInt};
-ghost use Rattle.fast_stream.specs.Phrases.{cut};
-ghost use Rattle.fast_stream.specs.Units.{WrongInt, BeginsWithZero, ascii_text as ascii_phrase};
-ghost use Rattle.fast_stream.specs.Grammar.{give, integer, ascii_text, raw};
-ghost use Rattle.fast_stream.specs.GrammarReaders.{reader_of};
-ghost use Rattle.fast_units.specs.Taking.{IsUnit};
-ghost use Rattle.fast_units.specs.NextUnits.{range_data, first_mapped, IsRefusedInt, IsGathered, IsNextInteger, text_or_null, BeginsWithCharacter, IsNextText, IsNextRun};
+ghost use Rattle.std.specs.Prelude.{◌≡◌, ℕ, ◌<◌, ◌≤◌, Bool, true, false, [], ◌∷◌, ◌++◌, length, ℤ, Option, Some, pos, option_map, IfSome, IfNone, IfOk, IfErr};
+ghost use Rattle.fast_wire.specs.meaning.Entities.{HaveNoStop, IsEntity};
+ghost use Rattle.fast_wire.specs.meaning.Integers.{Range, unsigned_up_to, SpellsInt};
+ghost use Rattle.fast_wire.specs.device.Fronts.{IsFirstInt, IsWrongInt};
+ghost use Rattle.fast_stream.specs.meaning.Phrases.{cut};
+ghost use Rattle.fast_stream.specs.meaning.Units.{WrongInt, BeginsWithZero, ascii_text as ascii_phrase};
+ghost use Rattle.fast_stream.specs.meaning.Grammar.{give, integer, ascii_text, raw};
+ghost use Rattle.fast_stream.specs.device.GrammarReaders.{reader_of};
+ghost use Rattle.fast_units.specs.device.Taking.{IsUnit};
+ghost use Rattle.fast_units.specs.device.NextUnits.{range_data, first_mapped, IsRefusedInt, IsGathered, IsNextInteger, text_or_null, BeginsWithCharacter, IsNextText, IsNextRun};
+ghost use Rattle.fast_units.specs.device.Words.{IsKeptCut};
 
 use crate::progress::Progress;
 use crate::scratch::Scratch;
@@ -46,8 +47,7 @@ pub fn next_integer(
     ensures unit { IsUnit (reader_of strict (integer (range_data range) nullable outside give)) (λ x. x) pending.old
         rest.now result }
     ensures whole { (x : Option ℤ) (n : ℕ) → result ≡ Progress.Whole x n → pending.new ≡ [] }
-    ensures cut { result ≡ Progress.Cut
-        → (pending.new ≡ pending.old ++ rest.now) × HaveNoStop pending.new × (length pending.new < 10) }
+    ensures cut { IsKeptCut pending.old rest.now pending.new result }
 {
     if pending.is_empty() {
         match first_integer(rest, strict, range, nullable) {
@@ -69,8 +69,7 @@ pub fn next_unsigned(pending: &mut Entity, rest: &[u8], strict: bool, top: u64) 
     ensures unit { IsUnit (reader_of strict (integer (unsigned_up_to top) false Code.D2 give)) (λ x. Some (pos x))
         pending.old rest.now result }
     ensures whole { (x n : ℕ) → result ≡ Progress.Whole x n → pending.new ≡ [] }
-    ensures cut { result ≡ Progress.Cut
-        → (pending.new ≡ pending.old ++ rest.now) × HaveNoStop pending.new × (length pending.new < 10) }
+    ensures cut { IsKeptCut pending.old rest.now pending.new result }
 {
     if pending.is_empty() {
         match first_unsigned(rest, strict, top) {

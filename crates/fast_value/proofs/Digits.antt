@@ -5,7 +5,7 @@ use Rattle.std.specs.Char.{IsAsciiDigit}
 use Rattle.std.proofs.Math.Nat.{pow-suc, mul-le-mul_right, pow-le-pow_right}
 use Rattle.std.proofs.lemmas.List.{take_more}
 use Rattle.std.proofs.lemmas.List.Elements.{All-head, All-tail}
-use Rattle.fast_value.specs.Initial.{digits_value}
+use Rattle.fast_value.specs.meaning.Initial.{digits_value}
 
 -- one digit more behind the others
 pub digits_value-push : (ds : List ℕ) (d : ℕ) → digits_value (ds ++ d ∷ []) ≡ digits_value ds * 10 + (d - 0x30)

@@ -6,7 +6,7 @@ use Rattle.hex.specs.Hex.{hex_digit_value, digit_or_error, value_at, pair_value,
 use Rattle.hex.specs.declared.error.FromHexError.{FromHexError}
 use Rattle.hex.proofs.HexLemmas.{decode_of-even, decode_of-odd}
 use Rattle.hex.proofs.Pairs.{cons_byte, decode_pairs-ok_pair}
-use Rattle.fast_value.specs.Initial.{IsHexDigit, IsHex}
+use Rattle.fast_value.specs.meaning.Initial.{IsHexDigit, IsHex}
 
 -- a digit that is read
 read_digit : (c n : ℕ) → hex_digit_value c ≡ Some n → IsHexDigit c n

@@ -10,9 +10,9 @@ use Rattle.fast_value.specs.declared.messages.Item.TheOpen.{One, Group, Sequence
 use Rattle.fast_value.specs.declared.messages.Item.TheVariants as V
 use Rattle.fast_value.specs.declared.messages.Item.TheFolds.{fold-roll-Item}
 use Rattle.fast_value.specs.declared.messages.Item.TheShapes.{former-Item-Group-0-at-1, former-Item-Sequence-0-at-1}
-use Rattle.fast_value.specs.Values.{value_data}
-use Rattle.fast_value.specs.Messages.{ItemData, one, group, sequence, absent, present, element, count}
-use Rattle.fast_value.specs.Views.{item_data, item_step, slots_of, elements_of, slots_data, elements_data}
+use Rattle.fast_value.specs.meaning.Values.{value_data}
+use Rattle.fast_value.specs.meaning.Messages.{ItemData, one, group, sequence, absent, present, element, count}
+use Rattle.fast_value.specs.meaning.Views.{item_data, item_step, slots_of, elements_of, slots_data, elements_data}
 
 slots_mapped : (xs : List (Option Item)) → slots_of (map (former-Item-Group-0-at-1.map Item ItemData item_data) xs) ≡ slots_data xs
 slots_mapped [] = refl

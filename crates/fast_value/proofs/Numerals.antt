@@ -6,10 +6,10 @@ use Rattle.std.proofs.Math.Seq.{get_or-append_seam}
 use Rattle.std.proofs.lemmas.Bool.{cases_order}
 use Rattle.std.proofs.lemmas.List.{take-append-drop, take_at, get_or_append_left}
 use Rattle.std.proofs.lemmas.List.Elements.{All-head}
-use Rattle.fast_wire.specs.Integers.{Range, IsWithin}
-use Rattle.fast_wire.specs.Integers.{signed_range, exponent_range}
-use Rattle.fast_value.specs.Initial.{IsNumeral, IsInteger, IsDecimal, digits_value}
-use Rattle.fast_value.specs.Numerals.{IsSigned}
+use Rattle.fast_wire.specs.meaning.Integers.{Range, IsWithin}
+use Rattle.fast_wire.specs.meaning.Integers.{signed_range, exponent_range}
+use Rattle.fast_value.specs.meaning.Initial.{IsNumeral, IsInteger, IsDecimal, digits_value}
+use Rattle.fast_value.specs.device.Numerals.{IsSigned}
 
 -- digits don't begin with a minus
 digits_no_minus : (ds : List ℕ) → IsNumeral (0x2D ∷ ds) → ⊥

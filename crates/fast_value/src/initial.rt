@@ -1,10 +1,10 @@
 //! Initial values, as they stand in the text of a template set.
 
 ghost use Rattle.std.specs.Prelude.{◌≡◌, ◌≢◌, ◌<◌, ◌^◌, ℤ, pos, List, ℕ, length, slice_index, IfSome, IfNone, IfOk, Err};
-ghost use Rattle.fast_value.specs.Initial.{IsNumeral, IsInteger, digits_value, IsDecimal, IsInitial, IsHex};
-ghost use Rattle.fast_value.specs.Kinds.{ScalarData, U, I, signed_range, exponent_range};
-ghost use Rattle.fast_value.specs.Numerals.{IsSigned, range_between};
-ghost use Rattle.fast_value.specs.Values.{value_data};
+ghost use Rattle.fast_value.specs.meaning.Initial.{IsNumeral, IsInteger, digits_value, IsDecimal, IsInitial, IsHex};
+ghost use Rattle.fast_value.specs.meaning.Kinds.{ScalarData, U, I, signed_range, exponent_range};
+ghost use Rattle.fast_value.specs.device.Numerals.{IsSigned, range_between};
+ghost use Rattle.fast_value.specs.meaning.Values.{value_data};
 
 use crate::kinds::Kind;
 use crate::values::Value;

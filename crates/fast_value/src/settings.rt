@@ -21,7 +21,7 @@ pub struct Limits {
 
 impl Default for Limits {
     ghost use Rattle.std.specs.Prelude.{◌≡◌};
-    ghost use Rattle.fast_value.specs.Limits.{default_limits};
+    ghost use Rattle.fast_value.specs.meaning.Limits.{default_limits};
 
     ghost is_default = { λ limits. limits ≡ default_limits };
 

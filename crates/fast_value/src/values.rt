@@ -48,7 +48,7 @@ pub enum Value {
 
 impl Value {
     ghost use Rattle.std.specs.Prelude.{◌≡◌, IfOk};
-    ghost use Rattle.fast_value.specs.Values.{scalar_data, value_data};
+    ghost use Rattle.fast_value.specs.meaning.Values.{scalar_data, value_data};
 
     /// The same value in memory of its own.
     pub fn copy_of(alloc: Global, scalar: Scalar<'_>) -> Result<Value, AllocError>

@@ -1,7 +1,7 @@
 //! Presence maps in the making.
 
 ghost use Rattle.std.specs.Prelude.{◌≡◌, ℕ, ◌<◌, true, false, replicate, slice_set, slice_index_or};
-ghost use Rattle.fast_wire.specs.Maps.{bits, IsMap};
+ghost use Rattle.fast_wire.specs.meaning.Maps.{bits, IsMap};
 
 use crate::maps::MAP_LIMIT;
 use arrayvec::ArrayVec;
@@ -18,7 +18,7 @@ pub struct MapBuilder {
 
 impl Model for MapBuilder {
     ghost use Rattle.std.specs.Prelude.{List, Bool};
-    ghost use Rattle.fast_wire.specs.Maps.{bits, IsBuilt};
+    ghost use Rattle.fast_wire.specs.meaning.Maps.{bits, IsBuilt};
 
     ghost Value = { List Bool };
 

@@ -1,7 +1,7 @@
 //! The bytes of one entity, as they come.
 
 ghost use Rattle.std.specs.Prelude.{◌≡◌, ◌≢◌, ℕ, ◌<◌, ◌≤◌, ◌↔◌, ◌==◌, List, [], ◌∷◌, ◌++◌, length};
-ghost use Rattle.fast_wire.specs.Entities.{HaveNoStop, IsEntity};
+ghost use Rattle.fast_wire.specs.meaning.Entities.{HaveNoStop, IsEntity};
 
 use arrayvec::ArrayVec;
 use std::marker::Model;

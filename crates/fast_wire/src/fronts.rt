@@ -4,10 +4,10 @@
 //! ends among them, it is taken by one load of eight bytes. All else goes byte by byte, out of line.
 
 ghost use Rattle.std.specs.Prelude.{◌≡◌, ◌<◌, ◌≤◌, true, false, if◌then◌else◌, nat_lt, Option, IfSome, IfNone, Some, pos, option_map, length, take};
-ghost use Rattle.fast_wire.specs.Entities.{HaveNoStop, IsEntity};
-ghost use Rattle.fast_wire.specs.Integers.{unsigned_up_to, signed_between};
-ghost use Rattle.fast_wire.specs.Words.{IsShortEntity};
-ghost use Rattle.fast_wire.specs.Fronts.{IsFirstInt, first_of};
+ghost use Rattle.fast_wire.specs.meaning.Entities.{HaveNoStop, IsEntity};
+ghost use Rattle.fast_wire.specs.meaning.Integers.{unsigned_up_to, signed_between};
+ghost use Rattle.fast_wire.specs.device.Words.{IsShortEntity};
+ghost use Rattle.fast_wire.specs.device.Fronts.{IsFirstInt, first_of};
 
 use crate::reads::{
     WireFault, judge_nullable_signed, judge_nullable_unsigned, judge_signed, judge_unsigned,

@@ -1,8 +1,8 @@
 //! Presence maps, in bytes that the caller keeps.
 
 ghost use Rattle.std.specs.Prelude.{◌≡◌, ℕ, ◌+◌, ◌<◌, ◌≤◌, ◌↔◌, ◌∷◌, ◌++◌, [], false, IsTrue, length, take, slice_set, slice_index_or};
-ghost use Rattle.fast_wire.specs.Entities.{IsEntity};
-ghost use Rattle.fast_wire.specs.Maps.{map_limit, bits, first_bit, HasSpareByte};
+ghost use Rattle.fast_wire.specs.meaning.Entities.{IsEntity};
+ghost use Rattle.fast_wire.specs.meaning.Maps.{map_limit, bits, first_bit, HasSpareByte};
 
 /// What one more byte made of a presence map.
 #[derive(Clone, Copy, Debug, PartialEq, Eq)]

@@ -4,9 +4,9 @@
 //! then tell apart, so nothing here calls out of line.
 
 ghost use Rattle.std.specs.Prelude.{◌≡◌, Some, pos, true, false, option_map, IfSome};
-ghost use Rattle.fast_wire.specs.Integers.{unsigned_up_to, signed_between};
-ghost use Rattle.fast_wire.specs.Fronts.{IsFirstInt};
-ghost use Rattle.fast_wire.specs.Words.{IsShortEntity};
+ghost use Rattle.fast_wire.specs.meaning.Integers.{unsigned_up_to, signed_between};
+ghost use Rattle.fast_wire.specs.device.Fronts.{IsFirstInt};
+ghost use Rattle.fast_wire.specs.device.Words.{IsShortEntity};
 ghost use Rattle.fast_wire.specs.declared.fronts.First.TheVariants.{Whole};
 
 use crate::reads::{judge_nullable_signed, judge_nullable_unsigned, judge_signed, judge_unsigned};

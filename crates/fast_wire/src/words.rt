@@ -1,9 +1,9 @@
 //! Entities of at most eight bytes, taken as one word.
 
 ghost use Rattle.std.specs.Prelude.{◌≡◌, ℕ, ◌<◌, ◌≤◌, true, All, List, IfSome, pos, option_map, length, take};
-ghost use Rattle.fast_wire.specs.Entities.{IsEntity, number, signed};
-ghost use Rattle.fast_wire.specs.Integers.{Means};
-ghost use Rattle.fast_wire.specs.Words.{word_of, IsShortEntity};
+ghost use Rattle.fast_wire.specs.meaning.Entities.{IsEntity, number, signed};
+ghost use Rattle.fast_wire.specs.meaning.Integers.{Means};
+ghost use Rattle.fast_wire.specs.device.Words.{word_of, IsShortEntity};
 
 /// The stop bits of eight bytes.
 const STOP_BITS: u64 = 0x8080_8080_8080_8080;

@@ -2,9 +2,9 @@
 
 ghost use Rattle.std.specs.Prelude.{◌≡◌, ◌<◌, ◌≤◌, ◌+◌, ◌-◌, ◌*◌, ◌^◌, true, false, Some, IfSome, pos, negsuc, option_map, length};
 ghost use Rattle.std.specs.Int.RustNames.{unsigned_abs};
-ghost use Rattle.fast_wire.specs.Entities.{IsEntity, number, signed, IsOverlong};
-ghost use Rattle.fast_wire.specs.Integers.{Means};
-ghost use Rattle.fast_wire.specs.Shortest.{IsShortest};
+ghost use Rattle.fast_wire.specs.meaning.Entities.{IsEntity, number, signed, IsOverlong};
+ghost use Rattle.fast_wire.specs.meaning.Integers.{Means};
+ghost use Rattle.fast_wire.specs.device.Shortest.{IsShortest};
 
 use crate::entities::Entity;
 

@@ -1,7 +1,7 @@
 //! Rows of bytes, worked out by hand.
 
 ghost use Rattle.std.specs.Prelude.{◌≤◌, IfSome, length};
-ghost use Rattle.fast_wire.specs.Entities.{IsEntity};
+ghost use Rattle.fast_wire.specs.meaning.Entities.{IsEntity};
 
 use WireFault::{D2, R6};
 use arrayvec::ArrayVec;

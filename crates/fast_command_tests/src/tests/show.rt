@@ -53,6 +53,11 @@ fn show<S: Source, T: Target>(
     )
 }
 
+/// What a run answered, with no clause that says how `Debug` writes it.
+fn told(alloc: Global, found: &Result<ShowEnd, RunFault>) -> Result<String, AllocError> {
+    format!(in alloc; "{found:?}")
+}
+
 /// A stream has this end, as `Debug` writes it, and these lines. What `show` gives behind them is an end of line.
 fn expect_shown(
     rt: &impl Abort,
@@ -75,7 +80,7 @@ fn expect_shown(
         &mut source,
         &mut target,
     );
-    let found = format!(in alloc; "{found:?}")?;
+    let found = told(alloc, &found)?;
     let shown = target.bytes();
     let has_lines = match shown.strip_suffix(b"\n") {
         Some(shown) => shown == lines.as_bytes(),

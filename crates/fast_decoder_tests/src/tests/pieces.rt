@@ -1,6 +1,6 @@
 //! Streams that are fed as a list of pieces.
 
-use super::{LENIENT, Script, Standing, decoder_of, expect, feed, set_of, standing_of, stopped_at};
+use super::{Account, LENIENT, Script, account_of, decoder_of, expect, feed, set_of, stopped_at};
 use fast_decoder::{Decoder, Fault, FaultCode, Sink};
 use fast_template::VECTORS;
 use fast_value::Code;
@@ -21,9 +21,9 @@ const WRONG: [&[u8]; 3] = [
 ];
 
 /// Feeds the pieces in one call. Without a contract, so that a call is cheap to prove.
-fn feed_all<S: Sink>(decoder: &mut Decoder<'_>, pieces: &[&[u8]], sink: &mut S) -> Standing {
+fn feed_all<S: Sink>(decoder: &mut Decoder<'_>, pieces: &[&[u8]], sink: &mut S) -> Account {
     let answer = decoder.feed_all(pieces, sink);
-    standing_of(decoder, answer)
+    account_of(decoder, answer)
 }
 
 #[test]
@@ -32,7 +32,7 @@ fn pieces_are_fed_as_one(rt: HostRuntime) -> Result<(), Fail> {
     let mut decoder = decoder_of(rt.alloc(), &set, LENIENT)?;
     let mut script = Script::of(EVENTS);
     let answer = feed(&mut decoder, &WHOLE, &mut script);
-    let as_one = standing_of(&decoder, answer);
+    let as_one = account_of(&decoder, answer);
     expect(&rt, as_one.between && script.is_played(), "as one", 7);
     decoder.reset();
     let mut script = Script::of(EVENTS);

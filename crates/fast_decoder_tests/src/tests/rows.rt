@@ -1,6 +1,6 @@
 //! Rows that are read from their lines.
 
-use super::{LENIENT, Script, Standing, stopped_at};
+use super::{Account, LENIENT, Script, stopped_at};
 use fast_decoder::FaultCode;
 use fast_value::{Code, Limits};
 use std::alloc::Global;
@@ -21,7 +21,7 @@ pub struct Row<'t> {
 
 impl Row<'_> {
     /// Whether a decoder that says this behind the bytes is at the end that is due.
-    pub fn is_end(self, heard: Standing) -> bool {
+    pub fn is_end(self, heard: Account) -> bool {
         let mut script = Script::of(self.end);
         let due = match heard.answer {
             Ok(()) => {
@@ -39,8 +39,8 @@ impl Row<'_> {
 }
 
 /// What a decoder says that has taken so many bytes.
-fn fed(between: bool, len: usize) -> Standing {
-    Standing {
+fn fed(between: bool, len: usize) -> Account {
+    Account {
         answer: Ok(()),
         fault: None,
         between,

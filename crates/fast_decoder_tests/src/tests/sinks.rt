@@ -4,8 +4,8 @@ use super::limits::{CONSTANTS, THOUSAND, thousand_events};
 use super::rows::{Columns, row_of};
 use super::worked::{LONG, LONG_EVENTS};
 use super::{
-    LENIENT, STRICT, Script, decoder_of, expect, expect_line, expect_row, feed, feed_pieces, push,
-    set_of, standing_of, stopped_at,
+    LENIENT, STRICT, Script, account_of, decoder_of, expect, expect_line, expect_row, feed,
+    feed_pieces, push, set_of, stopped_at,
 };
 use fast_decoder::{Decoder, Event, Fault, FaultCode, Recorded, Recorder, Sink, Stop};
 use fast_template::{Templates, VECTORS};
@@ -42,7 +42,7 @@ const PLACES: [u64; 16] = [2, 3, 3, 6, 6, 7, 7, 10, 12, 12, 12, 13, 14, 14, 14, 
 
 /// Whether the decoder has stopped with this fault, behind the bytes of its place.
 fn has_stopped(decoder: &Decoder<'_>, answer: Result<(), Fault>, fault: Fault) -> bool {
-    standing_of(decoder, answer) == stopped_at(fault)
+    account_of(decoder, answer) == stopped_at(fault)
 }
 
 /// Whether a decoder that has stopped with this fault stays so, whatever it is fed.
@@ -253,7 +253,7 @@ fn ends_as_it_may(decoder: &mut Decoder<'_>, first: u8, second: u8) -> bool {
             FaultCode::Stream(Code::D2 | Code::D5 | Code::D9 | Code::R6 | Code::R7 | Code::R8)
         ),
     };
-    is_known && heard == standing_of(decoder, heard.answer)
+    is_known && heard == account_of(decoder, heard.answer)
 }
 
 /// A template with a field.

@@ -1,12 +1,12 @@
 //! Decimals under a delta.
 
 ghost use Rattle.std.specs.Prelude.{◌≡◌, ◌^◌, pos, neg_ℤ, ◌≤ℤ◌, ◌<ℤ◌};
-ghost use Rattle.fast_value.specs.Kinds.{Dec, exponent_of, mantissa_of, signed_range};
-ghost use Rattle.fast_value.specs.Values.{scalar_data};
-ghost use Rattle.fast_tree.specs.Nodes.{field_data};
-ghost use Rattle.fast_dict.specs.Answers.{outcome_answer};
-ghost use Rattle.fast_dict.specs.Operators.{exponent_step, mantissa_step};
-ghost use Rattle.fast_dict.specs.Previous.{previous_data};
+ghost use Rattle.fast_value.specs.meaning.Kinds.{Dec, exponent_of, mantissa_of, signed_range};
+ghost use Rattle.fast_value.specs.meaning.Values.{scalar_data};
+ghost use Rattle.fast_tree.specs.device.Nodes.{field_data};
+ghost use Rattle.fast_dict.specs.meaning.Answers.{outcome_answer};
+ghost use Rattle.fast_dict.specs.meaning.Operators.{exponent_step, mantissa_step};
+ghost use Rattle.fast_dict.specs.meaning.Previous.{previous_data};
 
 use super::integers::{range_of, sum_in};
 use super::{Outcome, delta_base};

@@ -1,13 +1,13 @@
 //! The operators as one table.
 
 ghost use Rattle.std.specs.Prelude.{◌≡◌, ◌↔◌, true, false};
-ghost use Rattle.fast_value.specs.Kinds.{family};
-ghost use Rattle.fast_value.specs.Values.{scalar_data};
-ghost use Rattle.fast_tree.specs.Nodes.{field_data};
-ghost use Rattle.fast_dict.specs.Answers.{outcome_answer, scalar_answer};
-ghost use Rattle.fast_dict.specs.Operators.{decide, sent_plain, sent_kept, sent_delta, gives_none, checked_in, unsent};
-ghost use Rattle.fast_dict.specs.Previous.{previous_data};
-ghost use Rattle.fast_dict.specs.Sending.{sent_data, NeedsNoJoin};
+ghost use Rattle.fast_value.specs.meaning.Kinds.{family};
+ghost use Rattle.fast_value.specs.meaning.Values.{scalar_data};
+ghost use Rattle.fast_tree.specs.device.Nodes.{field_data};
+ghost use Rattle.fast_dict.specs.meaning.Answers.{outcome_answer, scalar_answer};
+ghost use Rattle.fast_dict.specs.meaning.Operators.{decide, sent_plain, sent_kept, sent_delta, gives_none, checked_in, unsent};
+ghost use Rattle.fast_dict.specs.meaning.Previous.{previous_data};
+ghost use Rattle.fast_dict.specs.meaning.Sending.{sent_data, NeedsNoJoin};
 
 use super::Outcome;
 use super::decimals::{exponent_delta, mantissa_delta};

@@ -5,12 +5,12 @@
 
 ghost use Rattle.std.specs.Prelude.{◌≡◌, ◌-◌, ◌++◌, ℕ, List, length, ◌≤◌, nat_le, if◌then◌else◌, SomeIff};
 ghost use Rattle.std.specs.Str.{is_utf8};
-ghost use Rattle.fast_value.specs.Kinds.{text_of, value_of_text};
-ghost use Rattle.fast_value.specs.Values.{scalar_data};
-ghost use Rattle.fast_tree.specs.Nodes.{field_data};
-ghost use Rattle.fast_dict.specs.Answers.{outcome_answer, kept_text, scalar_answer, kept_data, kept_answer};
-ghost use Rattle.fast_dict.specs.Operators.{checked_text, kept_of, kept_length, subtraction_step, tail_base, with_tail};
-ghost use Rattle.fast_dict.specs.Previous.{previous_data};
+ghost use Rattle.fast_value.specs.meaning.Kinds.{text_of, value_of_text};
+ghost use Rattle.fast_value.specs.meaning.Values.{scalar_data};
+ghost use Rattle.fast_tree.specs.device.Nodes.{field_data};
+ghost use Rattle.fast_dict.specs.meaning.Answers.{outcome_answer, kept_text, scalar_answer, kept_data, kept_answer};
+ghost use Rattle.fast_dict.specs.meaning.Operators.{checked_text, kept_of, kept_length, subtraction_step, tail_base, with_tail};
+ghost use Rattle.fast_dict.specs.meaning.Previous.{previous_data};
 
 use super::{Outcome, delta_base, of_kind, start_value};
 use crate::previous::Previous;

@@ -1,13 +1,13 @@
 //! Fields of which nothing is sent.
 
 ghost use Rattle.std.specs.Prelude.{◌≡◌, ◌≢◌, Ok};
-ghost use Rattle.fast_value.specs.Kinds.{value_of_integer, integer_of};
-ghost use Rattle.fast_value.specs.Values.{scalar_data};
-ghost use Rattle.fast_tree.specs.Nodes.{field_data};
+ghost use Rattle.fast_value.specs.meaning.Kinds.{value_of_integer, integer_of};
+ghost use Rattle.fast_value.specs.meaning.Values.{scalar_data};
+ghost use Rattle.fast_tree.specs.device.Nodes.{field_data};
 ghost use Rattle.fast_tree.specs.declared.operators.Operator.{Operator};
-ghost use Rattle.fast_dict.specs.Answers.{outcome_data, outcome_answer};
-ghost use Rattle.fast_dict.specs.Operators.{unsent, fixed, from_initial, next_value, incremented, range_of};
-ghost use Rattle.fast_dict.specs.Previous.{previous_data};
+ghost use Rattle.fast_dict.specs.meaning.Answers.{outcome_data, outcome_answer};
+ghost use Rattle.fast_dict.specs.meaning.Operators.{unsent, fixed, from_initial, next_value, incremented, range_of};
+ghost use Rattle.fast_dict.specs.meaning.Previous.{previous_data};
 
 use super::integers::{integer_of, integer_value, range_of};
 use super::{Outcome, initial_value, of_kind};

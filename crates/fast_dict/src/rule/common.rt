@@ -1,8 +1,8 @@
 //! Comparisons of values and texts.
 
 ghost use Rattle.std.specs.Prelude.{◌≡◌, ◌↔◌, ◌≤◌, length, IsTrue, option_map};
-ghost use Rattle.fast_value.specs.Values.{scalar_data};
-ghost use Rattle.fast_dict.specs.Rule.{common_front, common_back};
+ghost use Rattle.fast_value.specs.meaning.Values.{scalar_data};
+ghost use Rattle.fast_dict.specs.meaning.Rule.{common_front, common_back};
 
 use fast_value::Scalar;
 

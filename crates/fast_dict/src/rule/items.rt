@@ -1,13 +1,13 @@
 //! What stands in the stream for a value that is sent.
 
 ghost use Rattle.std.specs.Prelude.{◌≡◌, ◌^◌, ℕ, pos, neg_ℤ, ◌-ℤ◌, ◌≤ℤ◌, ◌<ℤ◌, List, Ok, IfSome, IfNone, option_map};
-ghost use Rattle.fast_value.specs.Kinds.{ScalarData, family, text_of, value_of_text};
-ghost use Rattle.fast_value.specs.Values.{scalar_data};
-ghost use Rattle.fast_tree.specs.Nodes.{field_data};
-ghost use Rattle.fast_dict.specs.Operators.{Sent as SentData, delta_base, tail_base};
-ghost use Rattle.fast_dict.specs.Previous.{previous_data};
-ghost use Rattle.fast_dict.specs.Rule.{SentFor, IsDelta, IsTail, IsTextDelta};
-ghost use Rattle.fast_dict.specs.Sending.{sent_data, text_item};
+ghost use Rattle.fast_value.specs.meaning.Kinds.{ScalarData, family, text_of, value_of_text};
+ghost use Rattle.fast_value.specs.meaning.Values.{scalar_data};
+ghost use Rattle.fast_tree.specs.device.Nodes.{field_data};
+ghost use Rattle.fast_dict.specs.meaning.Operators.{Sent as SentData, delta_base, tail_base};
+ghost use Rattle.fast_dict.specs.meaning.Previous.{previous_data};
+ghost use Rattle.fast_dict.specs.meaning.Rule.{SentFor, IsDelta, IsTail, IsTextDelta};
+ghost use Rattle.fast_dict.specs.meaning.Sending.{sent_data, text_item};
 
 use super::common::{common_back, common_front, is_same_value};
 use crate::operators::decimals::{exponent_of, mantissa_of};

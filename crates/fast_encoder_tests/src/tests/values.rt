@@ -1,6 +1,7 @@
 //! Messages that do not suit their template.
 
 use super::expect_rows;
+use itoa::Buffer;
 use std::alloc::{AllocError, Global};
 use std::test::Fail;
 
@@ -86,8 +87,11 @@ fn add_unsuited(
 ) -> Result<(), AllocError> {
     for (i, shape) in SHAPES.into_iter().enumerate() {
         if i != suits {
-            let step = format!(in alloc; "\nm{template} {shape} /m > E2")?;
-            row.push_str(step.as_str())?;
+            row.push_str("\nm")?;
+            row.push_str(Buffer::new().format(template))?;
+            row.push_str(" ")?;
+            row.push_str(shape)?;
+            row.push_str(" /m > E2")?;
         }
     }
     Ok(())

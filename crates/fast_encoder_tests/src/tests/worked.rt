@@ -2,6 +2,7 @@
 
 use super::expect_rows;
 use fast_template::VECTORS;
+use itoa::Buffer;
 use std::alloc::{AllocError, Global};
 use std::test::Fail;
 
@@ -113,8 +114,9 @@ fn texts(rt: HostRuntime) -> Result<(), Fail> {
 fn wide_text(alloc: Global) -> Result<String, AllocError> {
     let mut text = String::from_str(alloc, "[[template]]\nname = 'Wide'\nid = 1\nfields = [")?;
     for i in 0..300u32 {
-        let field = format!(in alloc; "{{kind='uInt32', name='f{i}', optional=true, op='copy'}},")?;
-        text.push_str(field.as_str())?;
+        text.push_str("{kind='uInt32', name='f")?;
+        text.push_str(Buffer::new().format(i))?;
+        text.push_str("', optional=true, op='copy'},")?;
     }
     text.push_str("]")?;
     Ok(text)

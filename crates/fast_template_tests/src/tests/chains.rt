@@ -1,7 +1,8 @@
 //! References: circles, chains that are too long or too deep, and too many nodes.
 
-use super::expect_fault;
+use super::{expect_fault, put};
 use fast_template::StaticCode;
+use itoa::Buffer;
 use std::alloc::{AllocError, Global};
 use std::test::Fail;
 
@@ -10,13 +11,16 @@ fn references(alloc: Global, words: &[&str]) -> Result<String, AllocError> {
     let mut text = String::new(alloc);
     for word in words {
         for (k, letter) in word.chars().enumerate() {
-            let part = match k {
-                0 => format!(in alloc;
-                    "[[template]]\nname='{letter}'\nfields=[{{kind='uInt32', name='x'}}"
-                )?,
-                _ => format!(in alloc; ", {{kind='ref', name='{letter}'}}")?,
+            let (before, after) = match k {
+                0 => (
+                    "[[template]]\nname='",
+                    "'\nfields=[{kind='uInt32', name='x'}",
+                ),
+                _ => (", {kind='ref', name='", "'}"),
             };
-            text.push_str(part.as_str())?;
+            text.push_str(before)?;
+            text.push(letter)?;
+            text.push_str(after)?;
         }
         text.push_str("]\n")?;
     }
@@ -32,16 +36,17 @@ fn chain(
     times: u32,
     (open, close): (&str, &str),
 ) -> Result<String, AllocError> {
-    let mut text = format!(in alloc;
-        "[[template]]\nname='{letter}0'\nfields=[{open}{{kind='uInt32', name='x'}}{close}]\n"
-    )?;
-    for k in 1..count {
-        let head = format!(in alloc; "[[template]]\nname='{letter}{k}'\nfields=[")?;
-        text.push_str(head.as_str())?;
-        let before = k - 1;
-        let field = format!(in alloc; "{open}{{kind='ref', name='{letter}{before}'}}{close}, ")?;
-        for _ in 0..times {
-            text.push_str(field.as_str())?;
+    let mut text = String::new(alloc);
+    let (mut before, mut own) = (Buffer::new(), Buffer::new());
+    for k in 0..count {
+        put(&mut text, &["[[template]]\nname='", letter, own.format(k), "'\nfields=["])?;
+        if k == 0 {
+            put(&mut text, &[open, "{kind='uInt32', name='x'}", close])?;
+        } else {
+            let before = before.format(k - 1);
+            for _ in 0..times {
+                put(&mut text, &[open, "{kind='ref', name='", letter, before, "'}", close, ", "])?;
+            }
         }
         text.push_str("]\n")?;
     }
@@ -78,9 +83,9 @@ fn cycles_of_references(rt: HostRuntime) -> Result<(), Fail> {
         expect_fault(&rt, rt.alloc(), text.as_str(), want, text.as_str());
     }
     for (open, close) in [GROUPS, SEQUENCES] {
-        let text = format!(in rt.alloc();
-            "[[template]]\nname='A'\nfields=[{open}{open}{{kind='ref', name='A'}}{close}{close}]"
-        )?;
+        let (before, field) = ("[[template]]\nname='A'\nfields=[", "{kind='ref', name='A'}");
+        let mut text = String::new(rt.alloc());
+        put(&mut text, &[before, open, open, field, close, close, "]"])?;
         let want = Some((StaticCode::C3, Some(0)));
         expect_fault(&rt, rt.alloc(), text.as_str(), want, text.as_str());
     }
@@ -130,7 +135,8 @@ fn cycles_before_chains_before_nodes(rt: HostRuntime) -> Result<(), Fail> {
         ("many, long", &many, &long, (StaticCode::C4, Some(82))),
         ("long, many", &long, &many, (StaticCode::C4, Some(65))),
     ] {
-        let text = format!(in rt.alloc(); "{first}{second}")?;
+        let mut text = String::new(rt.alloc());
+        put(&mut text, &[first.as_str(), second.as_str()])?;
         expect_fault(&rt, rt.alloc(), text.as_str(), Some(want), what);
     }
     Ok(())

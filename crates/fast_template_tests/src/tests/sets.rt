@@ -1,8 +1,9 @@
 //! Sets that are read: their numbers, entries and limits.
 
-use super::{Faults, expect_faults, finds, set_of};
+use super::{Faults, expect_faults, finds, put, set_of};
 use fast_template::{FieldInstruction, Operator, Shape, StaticCode, Templates, VECTORS};
 use fast_value::Value;
+use itoa::Buffer;
 use std::alloc::{AllocError, Global};
 use std::test::Fail;
 
@@ -13,19 +14,19 @@ fn spelled(alloc: Global, set: &Templates) -> Result<String, AllocError> {
         let node = set.node(n);
         text.push_str(node.name.as_str())?;
         match &node.shape {
-            Shape::Field(field) => spell(alloc, &mut text, field)?,
+            Shape::Field(field) => spell(&mut text, field)?,
             Shape::Decimal { exponent, mantissa } => {
-                spell(alloc, &mut text, exponent)?;
-                spell(alloc, &mut text, mantissa)?;
+                spell(&mut text, exponent)?;
+                spell(&mut text, mantissa)?;
             }
             Shape::Group { optional, body } => {
                 text.push_str(if *optional { " ?{" } else { " {" })?;
-                spell_numbers(alloc, &mut text, body)?;
+                spell_numbers(&mut text, body)?;
             }
             Shape::Sequence { length, body } => {
-                spell(alloc, &mut text, length)?;
+                spell(&mut text, length)?;
                 text.push_str(" {")?;
-                spell_numbers(alloc, &mut text, body)?;
+                spell_numbers(&mut text, body)?;
             }
         }
         text.push_str("; ")?;
@@ -33,17 +34,17 @@ fn spelled(alloc: Global, set: &Templates) -> Result<String, AllocError> {
     Ok(text)
 }
 
-fn spell(alloc: Global, text: &mut String, field: &FieldInstruction) -> Result<(), AllocError> {
+fn spell(text: &mut String, field: &FieldInstruction) -> Result<(), AllocError> {
     text.push_str(if field.optional { " ?" } else { " " })?;
     match field.entry {
-        Some(entry) => text.push_str(format!(in alloc; "{entry}")?.as_str()),
+        Some(entry) => text.push_str(Buffer::new().format(entry)),
         None => text.push_str("-"),
     }
 }
 
-fn spell_numbers(alloc: Global, text: &mut String, body: &[u32]) -> Result<(), AllocError> {
+fn spell_numbers(text: &mut String, body: &[u32]) -> Result<(), AllocError> {
     for n in body {
-        text.push_str(format!(in alloc; " {n}")?.as_str())?;
+        put(text, &[" ", Buffer::new().format(*n)])?;
     }
     text.push_str(" }")
 }
@@ -122,7 +123,8 @@ const ENTRIES: [(&str, &str); 5] = [
 #[test]
 fn entries_are_those_of_the_text(rt: HostRuntime) -> Result<(), Fail> {
     for (rest, want) in ENTRIES {
-        let text = format!(in rt.alloc(); "[[template]]\nname = 'A'\n{rest}")?;
+        let mut text = String::from_str(rt.alloc(), "[[template]]\nname = 'A'\n")?;
+        text.push_str(rest)?;
         let set = set_of(rt.alloc(), text.as_str())?;
         let spelled = spelled(rt.alloc(), &set)?;
         assert!(rt; spelled.as_str() == want, "{spelled} of {rest}");
@@ -133,8 +135,10 @@ fn entries_are_those_of_the_text(rt: HostRuntime) -> Result<(), Fail> {
 /// A template with so many mandatory fields that copy.
 fn copying(alloc: Global, count: usize) -> Result<String, AllocError> {
     let mut text = String::from_str(alloc, "[[template]]\nname = 'A'\nfields = [")?;
+    let mut number = Buffer::new();
     for n in 0..count {
-        text.push_str(format!(in alloc; "{{kind='uInt32', name='f{n}', op='copy'}},")?.as_str())?;
+        let number = number.format(n);
+        put(&mut text, &["{kind='uInt32', name='f", number, "', op='copy'},"])?;
     }
     text.push_str("]\n")?;
     Ok(text)

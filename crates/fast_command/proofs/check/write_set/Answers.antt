@@ -1,8 +1,8 @@
 use Rattle.std.proofs.Common.{◌≡◌, ◌∙◌, rules, ap, sym, codes, length}
 use Rattle.std.proofs.lemmas.List.{length-map}
-use Rattle.fast_template.specs.Flat.{template_data, instructions_from, templates_of, nodes_of}
+use Rattle.fast_template.specs.meaning.Flat.{template_data, instructions_from, templates_of, nodes_of}
 use Rattle.fast_text.proofs.Writing.{writes_both, writes_same}
-use Rattle.fast_command.specs.Checking.{number_line}
+use Rattle.fast_command.specs.meaning.Checking.{number_line}
 use Rattle.fast_command.proofs.Parts.{is_put}
 use Rattle.fast_command.proofs.SetLines.{labels_count}
 use Rattle.fast_command.proofs.check.write_set.Goals as goal

@@ -1,9 +1,9 @@
 -- A text that is no template set is told as such.
 use Rattle.std.proofs.Common.{◌≡◌, ℕ, List, IsTrue, length, ◌≤◌, refl, rules, sym, subst}
 use Rattle.std.proofs.lemmas.Result.{err_from_is_err_and}
-use Rattle.fast_text.specs.Streams.{Reads}
-use Rattle.fast_command.specs.Sets.{IsSetRefused}
-use Rattle.fast_command.specs.Texts.{text_limit}
+use Rattle.fast_text.specs.meaning.Streams.{Reads}
+use Rattle.fast_command.specs.device.Sets.{IsSetRefused}
+use Rattle.fast_command.specs.meaning.Texts.{text_limit}
 use Rattle.fast_command.proofs.Refused.{refused_set}
 use Rattle.fast_command.proofs.sets.read_templates.Goals as goal
 

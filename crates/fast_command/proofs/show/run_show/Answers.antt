@@ -1,9 +1,9 @@
 use Rattle.std.proofs.Common.{◌≡◌, ◌⊎◌, ℕ, ◌<◌, ◌≤◌, List, [], refl, sym, ap, inl, inr, length, length-take, take, arith, ◌∙◌}
 use Rattle.std.specs.Prelude.{IsTrue}
 use Rattle.std.specs.Io.KnownBytes.{IsAtEnd}
-use Rattle.fast_template.specs.Flat.{tree_of}
+use Rattle.fast_template.specs.meaning.Flat.{tree_of}
 use Rattle.fast_text.proofs.Writing.{appends_none, reads_none}
-use Rattle.fast_command.specs.Showing.{IsRefusal}
+use Rattle.fast_command.specs.meaning.Showing.{IsRefusal}
 use Rattle.fast_command.proofs.Showing.{at_good, round_has_room, told_on, at_error, not_flushed, round_flushed, refusal_shown, read_no_more, no_round, run_ended, round_counts, round_more, ended_there}
 use Rattle.fast_command.proofs.show.run_show.Goals as goal
 

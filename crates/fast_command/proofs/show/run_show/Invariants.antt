@@ -1,5 +1,5 @@
 use Rattle.std.proofs.Common.{◌≡◌}
-use Rattle.fast_template.specs.Flat.{tree_of}
+use Rattle.fast_template.specs.meaning.Flat.{tree_of}
 use Rattle.fast_command.proofs.Showing.{Round}
 use Rattle.fast_command.proofs.show.run_show.Given as goal
 

@@ -1,8 +1,8 @@
 -- What was shown stays so where it is flushed; else the writer's failure is told.
 use Rattle.std.proofs.Common.{◌≡◌, rules, true}
-use Rattle.fast_template.specs.Flat.{tree_of}
+use Rattle.fast_template.specs.meaning.Flat.{tree_of}
 use Rattle.fast_text.proofs.Writing.{appends_no_more}
-use Rattle.fast_command.specs.Showing.{IsRefusal, has_begun}
+use Rattle.fast_command.specs.meaning.Showing.{IsRefusal, has_begun}
 use Rattle.fast_command.proofs.Flushed.{unflushed}
 use Rattle.fast_command.proofs.show.show_all.Goals as goal
 

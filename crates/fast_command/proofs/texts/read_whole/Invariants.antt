@@ -1,5 +1,5 @@
 use Rattle.std.proofs.Common.{◌≡◌, ◌≤◌, length}
-use Rattle.fast_text.specs.Streams.{Reads}
+use Rattle.fast_text.specs.meaning.Streams.{Reads}
 use Rattle.fast_command.proofs.texts.read_whole.Given as goal
 
 abbrev pub invariant-loop-read : goal.invariant-loop-read

@@ -1,6 +1,6 @@
 use Rattle.std.proofs.Common.{codes}
 use Rattle.std.proofs.lemmas.Result.{IfOk-weaker}
-use Rattle.fast_command.specs.Words.{flag_rule}
+use Rattle.fast_command.specs.meaning.Words.{flag_rule}
 use Rattle.fast_command.proofs.Commands.{makes_rule}
 use Rattle.fast_command.proofs.words.with_options.Goals as goal
 

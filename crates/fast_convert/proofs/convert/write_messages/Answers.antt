@@ -1,10 +1,10 @@
 -- Each message is encoded from the dictionary that those before it have left.
 use Rattle.std.proofs.Common.{◌≡◌, ◌∙◌, rules, inr, get_or}
 use Rattle.std.specs.Prelude.{IsTrue}
-use Rattle.fast_text.specs.Streams.{Appends, AppendsFront}
+use Rattle.fast_text.specs.meaning.Streams.{Appends, AppendsFront}
 use Rattle.fast_spelling.specs.declared.faults.EncodeFault.TheVariants as Fault
-use Rattle.fast_encoder.specs.Encoders.{tree}
-use Rattle.fast_convert.specs.Converting.{form}
+use Rattle.fast_encoder.specs.meaning.Encoders.{tree}
+use Rattle.fast_convert.specs.meaning.Converting.{form}
 use Rattle.fast_convert.proofs.Coded.{coded_from, refused_from, so_more, so_cut, so_without, so_refused}
 use Rattle.fast_convert.proofs.convert.write_messages.Goals as goal
 

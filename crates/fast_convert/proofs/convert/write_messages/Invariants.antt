@@ -1,6 +1,6 @@
 -- So many messages are encoded and written.
 use Rattle.std.proofs.Common.{◌≡◌}
-use Rattle.fast_encoder.specs.Encoders.{tree}
+use Rattle.fast_encoder.specs.meaning.Encoders.{tree}
 use Rattle.fast_convert.proofs.Coded.{IsSoFar}
 use Rattle.fast_convert.proofs.convert.write_messages.Given as goal
 

@@ -1,8 +1,8 @@
 use Rattle.std.proofs.Common.{arith, subst, ap, ◌∙◌, ◌-◌, ◌≡◌, ◌*◌, ◌<◌, ◌++◌, [], List, length, take, drop}
 use Rattle.std.specs.Prelude.{min, Bool}
 use Rattle.std.proofs.lemmas.List.{take_all, length-drop}
-use Rattle.fast_wire.specs.Maps.{bits}
-use Rattle.fast_cursor.specs.MapPlaces.{HasTop}
+use Rattle.fast_wire.specs.meaning.Maps.{bits}
+use Rattle.fast_cursor.specs.device.MapPlaces.{HasTop}
 use Rattle.fast_cursor.proofs.MapBits.{length-bits}
 use Rattle.fast_cursor.proofs.MapWords.{top-past, top-from}
 use Rattle.fast_cursor.proofs.map_place.word_at.Goals as goal

@@ -1,7 +1,7 @@
 use Rattle.std.proofs.Common.{arith, refl, ap, ◌∙◌, ◌≡◌, take}
 use Rattle.std.proofs.lemmas.List.{take_all}
-use Rattle.fast_wire.specs.Entities.{number}
-use Rattle.fast_wire.proofs.Numbers.{one_byte_more}
+use Rattle.fast_wire.specs.meaning.Entities.{number}
+use Rattle.fast_wire.proofs.numbers.Numbers.{one_byte_more}
 use Rattle.fast_cursor.proofs.MapWords.{top-word}
 use Rattle.fast_cursor.proofs.map_place.word_of.Goals as goal
 

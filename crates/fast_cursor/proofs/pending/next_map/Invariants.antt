@@ -1,6 +1,6 @@
 use Rattle.std.proofs.Common.{◌<◌, ◌+◌, length, ◌≡◌, ◌++◌, take}
-use Rattle.fast_wire.specs.Entities.{HaveNoStop}
-use Rattle.fast_wire.specs.Maps.{map_limit}
+use Rattle.fast_wire.specs.meaning.Entities.{HaveNoStop}
+use Rattle.fast_wire.specs.meaning.Maps.{map_limit}
 use Rattle.fast_cursor.proofs.pending.next_map.Given as goal
 
 -- the bytes so far stand in the cells, none with a stop bit

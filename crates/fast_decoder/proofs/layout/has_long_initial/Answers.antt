@@ -1,6 +1,6 @@
 use Rattle.std.proofs.Common.{arith, refl}
 use Rattle.std.proofs.lemmas.Option.{slice_get_within}
-use Rattle.fast_template.specs.Flat.{nodes_of}
+use Rattle.fast_template.specs.meaning.Flat.{nodes_of}
 use Rattle.fast_decoder.proofs.layout.has_long_initial.Goals as goal
 
 pub returns-then-has_long_field : goal.returns-then-has_long_field

@@ -1,5 +1,5 @@
-use Rattle.fast_template.specs.Flat.{nodes_of}
-use Rattle.fast_decoder.proofs.EntryTexts.{slots_serve}
+use Rattle.fast_template.specs.meaning.Flat.{nodes_of}
+use Rattle.fast_decoder.proofs.fields.EntryTexts.{slots_serve}
 use Rattle.fast_decoder.proofs.layout.make_slots.Goals as goal
 
 pub returns-clause-serves : goal.returns-clause-serves

@@ -1,10 +1,10 @@
 use Rattle.std.proofs.Common.{◌≡◌, ℕ, ◌<◌, Some, length}
 use Rattle.std.specs.Prelude.{slice_get, slice_index}
 use Rattle.fast_tree.specs.declared.instructions.Node.{Node}
-use Rattle.fast_tree.specs.Tree.{bits_of}
-use Rattle.fast_template.specs.Flat.{nodes_of}
-use Rattle.fast_tree.specs.Numbers.{numbers_of}
-use Rattle.fast_tree.specs.Bodies.{body_among}
+use Rattle.fast_tree.specs.meaning.Tree.{bits_of}
+use Rattle.fast_template.specs.meaning.Flat.{nodes_of}
+use Rattle.fast_tree.specs.device.Numbers.{numbers_of}
+use Rattle.fast_tree.specs.device.Bodies.{body_among}
 use Rattle.fast_decoder.proofs.layout.node_widths.Given as goal
 
 -- the widths of the nodes so far

@@ -1,8 +1,8 @@
 use Rattle.std.proofs.Common.{◌≡◌, ℕ, ◌<◌, Some, length}
 use Rattle.std.specs.Prelude.{slice_get, slice_index}
 use Rattle.fast_tree.specs.declared.instructions.Template.{Template}
-use Rattle.fast_tree.specs.Tree.{message_bits}
-use Rattle.fast_template.specs.Flat.{nodes_of, templates_of, template_data, instructions_from}
+use Rattle.fast_tree.specs.meaning.Tree.{message_bits}
+use Rattle.fast_template.specs.meaning.Flat.{nodes_of, templates_of, template_data, instructions_from}
 use Rattle.fast_decoder.proofs.layout.template_widths.Given as goal
 
 -- the widths of the templates so far

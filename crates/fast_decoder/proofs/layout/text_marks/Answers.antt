@@ -1,8 +1,8 @@
 use Rattle.std.proofs.Common.{◌≡◌, ◌∙◌, ◌++◌, ap, arith, length, take, drop}
 use Rattle.std.specs.Prelude.{slice_index_or, false}
-use Rattle.fast_template.specs.Flat.{nodes_of}
-use Rattle.fast_dict.specs.EntryTexts.{HoldsTextAt}
-use Rattle.fast_decoder.proofs.EntryTexts.{field_more, field_of_all, marked_more, written_back}
+use Rattle.fast_template.specs.meaning.Flat.{nodes_of}
+use Rattle.fast_dict.specs.device.EntryTexts.{HoldsTextAt}
+use Rattle.fast_decoder.proofs.fields.EntryTexts.{field_more, field_of_all, marked_more, written_back}
 use Rattle.fast_decoder.proofs.layout.text_marks.Goals as goal
 
 pub loop-n-preserved : goal.loop-n-preserved

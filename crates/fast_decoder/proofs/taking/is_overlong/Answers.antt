@@ -1,8 +1,8 @@
 use Rattle.std.proofs.Common.{◌∙◌, sym, ap}
 use Rattle.std.specs.Prelude.{◌&&◌}
-use Rattle.fast_stream.specs.GrammarReaders.{spare}
-use Rattle.fast_decoder.proofs.Identifiers.{same_test}
-use Rattle.fast_stream.proofs.Integers.{decides-spare}
+use Rattle.fast_stream.specs.device.GrammarReaders.{spare}
+use Rattle.fast_decoder.proofs.fields.Identifiers.{same_test}
+use Rattle.fast_stream.proofs.readers.Integers.{decides-spare}
 use Rattle.fast_decoder.proofs.taking.is_overlong.Goals as goal
 
 pub returns-then-strict : goal.returns-then-strict

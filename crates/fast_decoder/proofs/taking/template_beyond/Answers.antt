@@ -1,6 +1,6 @@
 use Rattle.std.proofs.Common.{refl, ◌<◌, arith, length}
 use Rattle.std.proofs.lemmas.Option.{slice_get_within}
-use Rattle.fast_template.specs.Flat.{templates_of}
+use Rattle.fast_template.specs.meaning.Flat.{templates_of}
 use Rattle.fast_decoder.proofs.taking.template_beyond.Goals as goal
 
 pub returns-then-has_id-clause-some : goal.returns-then-has_id-clause-some

@@ -1,5 +1,5 @@
 use Rattle.std.proofs.Common.{refl, arith, ◌≡◌}
-use Rattle.fast_decoder.proofs.Answered.{some_as, some_both}
+use Rattle.fast_decoder.proofs.steps.Answered.{some_as, some_both}
 use Rattle.fast_decoder.proofs.taking.template_of.Goals as goal
 
 pub returns-then-has_id-clause-some : goal.returns-then-has_id-clause-some

@@ -3,7 +3,7 @@ use Rattle.std.proofs.Common.{below_more, refl, length, map}
 use Rattle.std.specs.Prelude.{IsTrue, slice_index_or}
 use Rattle.fast_value.specs.declared.kinds.Kind.TheVariants.{UInt32}
 use Rattle.fast_value.specs.declared.values.Scalar.TheVariants.{U}
-use Rattle.fast_dict.specs.Commands.{command_data, IsRunnable}
+use Rattle.fast_dict.specs.meaning.Commands.{command_data, IsRunnable}
 use Rattle.fast_dict.specs.declared.commands.StoreCommand.TheVariants.{Set}
 use Rattle.fast_dict.proofs.Changes.{runnable_here, runnable_at}
 use Rattle.fast_dict.proofs.commands.can_run.Goals as goal

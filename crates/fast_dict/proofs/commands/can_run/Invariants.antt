@@ -1,7 +1,7 @@
 -- The commands so far meet their conditions.
 use Rattle.std.proofs.Common.{ℕ, ◌<◌, map, length}
 use Rattle.std.specs.Prelude.{slice_index_or}
-use Rattle.fast_dict.specs.Commands.{CommandData, command_data, IsRunnable}
+use Rattle.fast_dict.specs.meaning.Commands.{CommandData, command_data, IsRunnable}
 use Rattle.fast_dict.proofs.commands.can_run.Given as goal
 
 abbrev pub invariant-loop-command : goal.invariant-loop-command

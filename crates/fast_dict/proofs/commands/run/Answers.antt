@@ -1,8 +1,8 @@
 -- Each command is carried out on the dictionary that those before it leave.
-use Rattle.std.proofs.Common.{◌∙◌}
+use Rattle.std.proofs.Common.{rules, ◌∙◌}
 use Rattle.fast_value.specs.declared.kinds.Kind.TheVariants.{UInt32}
 use Rattle.fast_value.specs.declared.values.Scalar.TheVariants.{U}
-use Rattle.fast_dict.specs.Commands.{command_data}
+use Rattle.fast_dict.specs.meaning.Commands.{command_data}
 use Rattle.fast_dict.specs.declared.commands.StoreCommand.TheVariants.{Set}
 use Rattle.fast_dict.proofs.Changes.{after_more, length-after_more, at_ok, runnable_at}
 use Rattle.fast_dict.proofs.commands.run.Goals as goal
@@ -18,3 +18,6 @@ loop-count-preserved g c =
       size = length-after_more _ (g.D.Store.dictionary c.args.store.now) (g.D.Store.dictionary c.loop-count.store) (g.D.Store.dictionary c.carry_out.new.store) c.loop-count.invariant.size next;
       same = c.carry_out.ensures.same ∙ c.loop-count.invariant.same;
     }
+
+pub returns-then-is_err-clause-done : goal.returns-then-is_err-clause-done
+returns-then-is_err-clause-done g c = search rules

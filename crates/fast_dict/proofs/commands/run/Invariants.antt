@@ -1,6 +1,6 @@
 -- So many commands have been carried out, and the store takes what it took.
 use Rattle.std.proofs.Common.{◌≡◌, take, map, length}
-use Rattle.fast_dict.specs.Commands.{command_data, after_all}
+use Rattle.fast_dict.specs.meaning.Commands.{command_data, after_all}
 use Rattle.fast_dict.proofs.commands.run.Given as goal
 
 abbrev pub invariant-loop-count : goal.invariant-loop-count

@@ -1,7 +1,7 @@
 -- The places so far stand before those of the marks that are left, whose slots have room behind the next one.
 use Rattle.std.proofs.Common.{◌≡◌, ◌+◌, ◌*◌, ◌++◌, drop, vec_len}
 use Rattle.std.specs.Prelude.{count_by}
-use Rattle.fast_dict.specs.Places.{places_from}
+use Rattle.fast_dict.specs.device.Places.{places_from}
 use Rattle.fast_dict.proofs.slots.places_of.Given as goal
 
 abbrev pub invariant-loop-mark : goal.invariant-loop-mark

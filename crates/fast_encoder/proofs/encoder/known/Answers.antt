@@ -1,10 +1,10 @@
 -- A template is the one of its number in the tree of its set.
 use Rattle.std.proofs.Common.{◌≡◌, sym, ◌∙◌}
 use Rattle.std.specs.Prelude.{Some, None}
-use Rattle.fast_value.specs.Views.{message_data}
-use Rattle.fast_tree.specs.Nodes.{instructions_from, template_data}
-use Rattle.fast_template.specs.Flat.{nodes_of}
-use Rattle.fast_spelling.proofs.Whole.{template_there, identified}
+use Rattle.fast_value.specs.meaning.Views.{message_data}
+use Rattle.fast_tree.specs.device.Nodes.{instructions_from, template_data}
+use Rattle.fast_template.specs.meaning.Flat.{nodes_of}
+use Rattle.fast_spelling.proofs.encodings.Whole.{template_there, identified}
 use Rattle.fast_encoder.proofs.encoder.known.Goals as goal
 
 pub returns-in-Some-clause-known : goal.returns-in-Some-clause-known

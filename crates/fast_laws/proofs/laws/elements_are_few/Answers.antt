@@ -1,5 +1,5 @@
-use Rattle.fast_laws.proofs.Counting.{few, each_few}
-use Rattle.fast_laws.proofs.Streams.{of_messages}
+use Rattle.fast_laws.proofs.messages.Counting.{few, each_few}
+use Rattle.fast_laws.proofs.messages.Streams.{of_messages}
 use Rattle.fast_laws.proofs.laws.elements_are_few.Goals as goal
 
 pub returns-clause-each : goal.returns-clause-each

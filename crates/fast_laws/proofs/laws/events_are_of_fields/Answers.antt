@@ -1,9 +1,9 @@
-use Rattle.fast_laws.proofs.Granting.{set_is_granted}
-use Rattle.fast_laws.proofs.Naming.{all_named}
-use Rattle.fast_laws.proofs.Nesting.{nested}
-use Rattle.fast_laws.proofs.Streams.{of_messages}
+use Rattle.fast_laws.proofs.nodes.Granting.{set_is_granted}
+use Rattle.fast_laws.proofs.nodes.Naming.{all_named}
+use Rattle.fast_laws.proofs.messages.Nesting.{nested}
+use Rattle.fast_laws.proofs.messages.Streams.{of_messages}
 use Rattle.fast_laws.proofs.laws.events_are_of_fields.Goals as goal
-use Rattle.fast_template.specs.Flat.{tree_of}
+use Rattle.fast_template.specs.meaning.Flat.{tree_of}
 
 pub returns-clause-named : goal.returns-clause-named
 returns-clause-named c = λ document t l w es e tree short h. all_named t l es e (of_messages (tree_of t) l w es e (set_is_granted document t l tree short) h)

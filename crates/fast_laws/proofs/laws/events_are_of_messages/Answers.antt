@@ -1,4 +1,4 @@
-use Rattle.fast_laws.proofs.Streams.{of_messages}
+use Rattle.fast_laws.proofs.messages.Streams.{of_messages}
 use Rattle.fast_laws.proofs.laws.events_are_of_messages.Goals as goal
 
 pub returns : goal.returns

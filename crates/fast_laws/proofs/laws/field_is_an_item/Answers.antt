@@ -1,15 +1,15 @@
-use Rattle.fast_laws.proofs.FieldsFound.{found_is_spelled, spelled_is_found}
-use Rattle.fast_laws.proofs.ItemsRead.{item_read_back}
-use Rattle.fast_laws.proofs.ItemsSpelled.{item_spelled}
+use Rattle.fast_laws.proofs.fields.FieldsFound.{found_is_spelled, spelled_is_found}
+use Rattle.fast_laws.proofs.fields.ItemsRead.{item_read_back}
+use Rattle.fast_laws.proofs.fields.ItemsSpelled.{item_spelled}
 use Rattle.fast_laws.proofs.laws.field_is_an_item.Goals as goal
-use Rattle.fast_stream.specs.Fields.{field_phrase}
+use Rattle.fast_stream.specs.meaning.Fields.{field_phrase}
 use Rattle.std.proofs.Common.{sym, subst}
 use Rattle.std.specs.Prelude.{List}
-use Rattle.fast_stream.specs.Events.{EventData}
-use Rattle.fast_stream.specs.Grammar.{phrase_of}
-use Rattle.fast_stream.specs.Messages.{field_in}
-use Rattle.fast_stream.specs.Phrases.{whole}
-use Rattle.fast_value.specs.Limits.{bounds}
+use Rattle.fast_stream.specs.meaning.Events.{EventData}
+use Rattle.fast_stream.specs.meaning.Grammar.{phrase_of}
+use Rattle.fast_stream.specs.meaning.Messages.{field_in}
+use Rattle.fast_stream.specs.meaning.Phrases.{whole}
+use Rattle.fast_value.specs.meaning.Limits.{bounds}
 
 pub returns-clause-item : goal.returns-clause-item
 returns-clause-item c = λ l f p bit v next w. (item_read_back l f p bit w v next, λ (x, s, op). item_spelled l f p bit x v next w s op)

@@ -1,4 +1,4 @@
-use Rattle.fast_laws.proofs.RaisedMessages.{limit_passed, with_more_room, passing_ends}
+use Rattle.fast_laws.proofs.messages.RaisedMessages.{limit_passed, with_more_room, passing_ends}
 use Rattle.fast_laws.proofs.laws.limits_come_where_passed.Goals as goal
 
 pub returns-clause-passed : goal.returns-clause-passed

@@ -1,7 +1,7 @@
 use Rattle.std.proofs.Common.{inl, inr}
 use Rattle.std.specs.Prelude.{All}
 use Rattle.fast_value.proofs.HexTexts.{decoded_is_hex, hex_is_decoded}
-use Rattle.fast_lines.specs.Bytes.{IsNotUpper}
+use Rattle.fast_lines.specs.device.Bytes.{IsNotUpper}
 use Rattle.fast_lines.proofs.HexDigits.{hex_is_written, written_is_hex}
 use Rattle.fast_lines.proofs.bytes.parse_bytes.Goals as goal
 

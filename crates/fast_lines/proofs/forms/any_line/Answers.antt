@@ -1,5 +1,5 @@
 use Rattle.std.proofs.Common.{◌∙◌, sym, subst}
-use Rattle.fast_lines.specs.Forms.{IsNoForm}
+use Rattle.fast_lines.specs.meaning.Forms.{IsNoForm}
 use Rattle.std.proofs.lemmas.Bool.Decides.{Decides-eqb}
 use Rattle.std.proofs.lemmas.Slice.Eq.{slice_eq-Decides}
 use Rattle.fast_lines.proofs.Words.{one_word, no_such_line}

@@ -1,5 +1,5 @@
 use Rattle.std.proofs.Common.{◌≡◌, ◌++◌, length, flat_map}
-use Rattle.fast_lines.specs.Lines.{escaped}
+use Rattle.fast_lines.specs.meaning.Lines.{escaped}
 use Rattle.fast_lines.proofs.texts.unescape.Given as goal
 
 abbrev pub invariant-loop-rest : goal.invariant-loop-rest

@@ -1,9 +1,9 @@
 use Rattle.std.proofs.Common.{map, subst, []}
 use Rattle.std.specs.HashMap.{get_by_text}
-use Rattle.fast_tree.specs.Entries.{Collects, uses_from}
-use Rattle.fast_notation.specs.EntryKeys.{entries_of}
-use Rattle.fast_notation.specs.WrittenSets.{written_data}
-use Rattle.fast_notation.proofs.ReadLaws.{checked_indexed}
+use Rattle.fast_tree.specs.meaning.Entries.{Collects, uses_from}
+use Rattle.fast_notation.specs.device.EntryKeys.{entries_of}
+use Rattle.fast_notation.specs.device.WrittenSets.{written_data}
+use Rattle.fast_notation.proofs.outcomes.ReadLaws.{checked_indexed}
 use Rattle.fast_notation.proofs.building.build_set.Goals as goal
 
 pub build-requires-clause-set : goal.build-requires-clause-set

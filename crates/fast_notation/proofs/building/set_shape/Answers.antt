@@ -1,4 +1,4 @@
-use Rattle.fast_notation.proofs.BuiltLists.{with_shape-set}
+use Rattle.fast_notation.proofs.nodes.BuiltLists.{with_shape-set}
 use Rattle.fast_notation.proofs.building.set_shape.Goals as goal
 
 pub returns : goal.returns

@@ -2,13 +2,13 @@ use Rattle.std.proofs.Common.{◌≡◌, ◌≢◌, sym, ◌<◌, ◌≤◌, ℕ
 use Rattle.std.specs.Prelude.{All, AllPairs, IfSome, sum_by}
 use Rattle.std.proofs.lemmas.Result.{on_ok_weaker, IfErr-weaker, err_from_is_err_and}
 use Rattle.fast_notation.specs.declared.codes.StaticCode.TheVariants.{C3, C4, C6}
-use Rattle.fast_notation.specs.Extents.{known_nodes, AreExtents, IsShallow, IsDeepAt}
-use Rattle.fast_notation.specs.Faults.{IsFaultAt}
-use Rattle.fast_notation.specs.Firsts.{IsFirstInChains}
-use Rattle.fast_notation.specs.Refused.{StandsAt}
-use Rattle.fast_tree.specs.Sizes.{nesting_limit, node_limit}
-use Rattle.fast_notation.specs.WrittenSets.{written_data}
-use Rattle.fast_notation.proofs.ChainFaults.{all_fit, all_shallow, few_nodes, deep_fault, many_fault, cycle_first, deep_first, many_first}
+use Rattle.fast_notation.specs.device.Extents.{known_nodes, AreExtents, IsShallow, IsDeepAt}
+use Rattle.fast_notation.specs.meaning.Faults.{IsFaultAt}
+use Rattle.fast_notation.specs.meaning.Firsts.{IsFirstInChains}
+use Rattle.fast_notation.specs.meaning.Refused.{StandsAt}
+use Rattle.fast_tree.specs.meaning.Sizes.{nesting_limit, node_limit}
+use Rattle.fast_notation.specs.device.WrittenSets.{written_data}
+use Rattle.fast_notation.proofs.references.ChainFaults.{all_fit, all_shallow, few_nodes, deep_fault, many_fault, cycle_first, deep_first, many_first}
 use Rattle.fast_notation.proofs.chains.check_chains.Goals as goal
 
 pub returns-in_err-check_depths-clause-fault : goal.returns-in_err-check_depths-clause-fault

@@ -1,8 +1,8 @@
 use Rattle.std.proofs.Common.{◌<◌, ℕ, map, refl, subst}
 use Rattle.std.specs.Prelude.{IfSome}
 use Rattle.fast_notation.specs.declared.codes.StaticCode.TheVariants.{C3}
-use Rattle.fast_notation.specs.Refused.{StandsAt}
-use Rattle.fast_notation.specs.WrittenSets.{written_data}
+use Rattle.fast_notation.specs.meaning.Refused.{StandsAt}
+use Rattle.fast_notation.specs.device.WrittenSets.{written_data}
 use Rattle.fast_notation.proofs.chains.check_cycles.Goals as goal
 
 pub returns-in-Ok-Some-clause-first : goal.returns-in-Ok-Some-clause-first

@@ -1,7 +1,7 @@
 use Rattle.std.proofs.Common.{None}
 use Rattle.std.proofs.lemmas.List.Elements.{All-more}
-use Rattle.fast_notation.specs.Extents.{IsShallow}
-use Rattle.fast_notation.proofs.Lists.{all_taken}
+use Rattle.fast_notation.specs.device.Extents.{IsShallow}
+use Rattle.fast_notation.proofs.lists.Lists.{all_taken}
 use Rattle.fast_notation.proofs.chains.check_depths.Goals as goal
 
 pub loop-k-preserved : goal.loop-k-preserved

@@ -1,7 +1,7 @@
 use Rattle.std.proofs.Common.{◌≡◌, ◌+◌, suc, take, refl, ap, arith, add-one, sym, None}
 use Rattle.std.specs.Prelude.{sum_by}
 use Rattle.std.proofs.lemmas.List.Sums.{sum_by_more}
-use Rattle.fast_notation.specs.Extents.{known_nodes}
+use Rattle.fast_notation.specs.device.Extents.{known_nodes}
 use Rattle.fast_notation.proofs.chains.check_nodes.Goals as goal
 
 pub returns-then-nodes-room-clause-fault : goal.returns-then-nodes-room-clause-fault

@@ -3,9 +3,9 @@ use Rattle.std.specs.Prelude.{is_some}
 use Rattle.std.specs.List.{list_all}
 use Rattle.std.specs.HashMap.{get_by_text}
 use Rattle.std.proofs.lemmas.List.{length-map}
-use Rattle.fast_notation.specs.Extents.{AreExtents, named_extent, next_extents}
-use Rattle.fast_notation.specs.WrittenSets.{written_data}
-use Rattle.fast_notation.proofs.ChainLaws.{next_round, no_round, rounds_stay}
+use Rattle.fast_notation.specs.device.Extents.{AreExtents, named_extent, next_extents}
+use Rattle.fast_notation.specs.device.WrittenSets.{written_data}
+use Rattle.fast_notation.proofs.references.ChainLaws.{next_round, no_round, rounds_stay}
 use Rattle.fast_notation.proofs.chains.extents_of.Goals as goal
 
 pub loop-round-init : goal.loop-round-init

@@ -1,6 +1,6 @@
 use Rattle.std.proofs.Common.{map}
-use Rattle.fast_notation.specs.Extents.{AreExtents}
-use Rattle.fast_notation.specs.WrittenSets.{written_data}
+use Rattle.fast_notation.specs.device.Extents.{AreExtents}
+use Rattle.fast_notation.specs.device.WrittenSets.{written_data}
 use Rattle.fast_notation.proofs.chains.extents_of.Given as goal
 
 abbrev pub invariant-loop-round : goal.invariant-loop-round

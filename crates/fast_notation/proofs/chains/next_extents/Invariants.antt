@@ -1,7 +1,7 @@
 use Rattle.std.proofs.Common.{◌≡◌, ◌++◌, drop, map}
 use Rattle.std.specs.HashMap.{get_by_text}
-use Rattle.fast_notation.specs.Extents.{named_extent, next_extents}
-use Rattle.fast_notation.specs.WrittenSets.{written_data}
+use Rattle.fast_notation.specs.device.Extents.{named_extent, next_extents}
+use Rattle.fast_notation.specs.device.WrittenSets.{written_data}
 use Rattle.fast_notation.proofs.chains.next_extents.Given as goal
 
 abbrev pub invariant-loop-k : goal.invariant-loop-k

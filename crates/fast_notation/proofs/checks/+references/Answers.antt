@@ -3,9 +3,9 @@ use Rattle.std.specs.Prelude.{is_some}
 use Rattle.std.specs.List.{list_all}
 use Rattle.std.specs.Option.{option_copied}
 use Rattle.std.specs.HashMap.{get_by_text}
-use Rattle.fast_tree.specs.AsWritten.{references}
-use Rattle.fast_notation.specs.WrittenSets.{instruction_data}
-use Rattle.fast_notation.proofs.ReferenceLists.{one_known}
+use Rattle.fast_tree.specs.meaning.AsWritten.{references}
+use Rattle.fast_notation.specs.device.WrittenSets.{instruction_data}
+use Rattle.fast_notation.proofs.lists.ReferenceLists.{one_known}
 use Rattle.fast_notation.proofs.checks.+references.Goals as goal
 
 pub is_known-returns-in-Reference : goal.is_known-returns-in-Reference

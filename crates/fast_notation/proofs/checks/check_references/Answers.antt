@@ -5,12 +5,12 @@ use Rattle.std.specs.HashMap.{get_by_text}
 use Rattle.std.proofs.lemmas.List.{take-map}
 use Rattle.std.proofs.lemmas.List.Elements.{All-more, All-map}
 use Rattle.std.proofs.lemmas.Option.{slice_get_read}
-use Rattle.fast_tree.specs.AsWritten.{DeclaredTemplate, all_references}
-use Rattle.fast_tree.specs.Places.{place_of_name}
-use Rattle.fast_notation.specs.References.{references_in}
-use Rattle.fast_notation.specs.WrittenSets.{written_data}
-use Rattle.fast_notation.proofs.Lists.{all_taken, mapped_get}
-use Rattle.fast_notation.proofs.ReferenceLists.{all_known, unknown_at}
+use Rattle.fast_tree.specs.meaning.AsWritten.{DeclaredTemplate, all_references}
+use Rattle.fast_tree.specs.device.Places.{place_of_name}
+use Rattle.fast_notation.specs.device.References.{references_in}
+use Rattle.fast_notation.specs.device.WrittenSets.{written_data}
+use Rattle.fast_notation.proofs.lists.Lists.{all_taken, mapped_get}
+use Rattle.fast_notation.proofs.lists.ReferenceLists.{all_known, unknown_at}
 use Rattle.fast_notation.proofs.checks.check_references.Goals as goal
 
 pub loop-k-preserved : goal.loop-k-preserved

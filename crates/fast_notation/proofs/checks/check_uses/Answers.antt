@@ -3,11 +3,11 @@ use Rattle.std.specs.Prelude.{All}
 use Rattle.std.proofs.lemmas.List.{take-map}
 use Rattle.std.proofs.lemmas.List.Elements.{All-more, All-map}
 use Rattle.std.proofs.lemmas.Option.{slice_get_read}
-use Rattle.fast_tree.specs.AsWritten.{DeclaredTemplate, all_uses}
-use Rattle.fast_notation.specs.Sound.{IsSound, uses_in, HasFault}
-use Rattle.fast_notation.specs.WrittenSets.{written_data}
-use Rattle.fast_notation.proofs.Lists.{all_taken, mapped_get}
-use Rattle.fast_notation.proofs.SetFaults.{uses_fault, first_uses_fault}
+use Rattle.fast_tree.specs.meaning.AsWritten.{DeclaredTemplate, all_uses}
+use Rattle.fast_notation.specs.device.Sound.{IsSound, uses_in, HasFault}
+use Rattle.fast_notation.specs.device.WrittenSets.{written_data}
+use Rattle.fast_notation.proofs.lists.Lists.{all_taken, mapped_get}
+use Rattle.fast_notation.proofs.outcomes.SetFaults.{uses_fault, first_uses_fault}
 use Rattle.fast_notation.proofs.checks.check_uses.Goals as goal
 
 pub loop-k-preserved : goal.loop-k-preserved

@@ -1,8 +1,8 @@
 use Rattle.std.proofs.Common.{take}
 use Rattle.std.specs.Prelude.{All}
-use Rattle.fast_tree.specs.AsWritten.{all_uses}
-use Rattle.fast_notation.specs.Sound.{IsSound}
-use Rattle.fast_notation.specs.WrittenSets.{written_data}
+use Rattle.fast_tree.specs.meaning.AsWritten.{all_uses}
+use Rattle.fast_notation.specs.device.Sound.{IsSound}
+use Rattle.fast_notation.specs.device.WrittenSets.{written_data}
 use Rattle.fast_notation.proofs.checks.check_uses.Given as goal
 
 abbrev pub invariant-loop-k : goal.invariant-loop-k

@@ -3,10 +3,10 @@ use Rattle.std.specs.Prelude.{AllPairs, nat_eq}
 use Rattle.std.specs.HashMap.{get}
 use Rattle.std.proofs.lemmas.List.{map_more, take_all, take-map, length-map, length-take-le}
 use Rattle.std.proofs.lemmas.Option.{slice_get_read}
-use Rattle.fast_tree.specs.Places.{place_of_id}
-use Rattle.fast_notation.specs.WrittenSets.{written_data}
-use Rattle.fast_notation.proofs.Lists.{mapped_get}
-use Rattle.fast_notation.proofs.PlaceLists.{ids_more, ids_same, ids_apart, id_before, found_value, found_nothing}
+use Rattle.fast_tree.specs.device.Places.{place_of_id}
+use Rattle.fast_notation.specs.device.WrittenSets.{written_data}
+use Rattle.fast_notation.proofs.lists.Lists.{mapped_get}
+use Rattle.fast_notation.proofs.lists.PlaceLists.{ids_more, ids_same, ids_apart, id_before, found_value, found_nothing}
 use Rattle.fast_notation.proofs.checks.index_ids.Goals as goal
 
 pub returns-clause-ids : goal.returns-clause-ids

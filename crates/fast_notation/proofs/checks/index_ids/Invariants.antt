@@ -1,8 +1,8 @@
 use Rattle.std.proofs.Common.{◌≡◌, ◌≢◌, ℕ, Some, take, map}
 use Rattle.std.specs.Prelude.{AllPairs, nat_eq}
 use Rattle.std.specs.HashMap.{get}
-use Rattle.fast_tree.specs.Places.{place_of_id}
-use Rattle.fast_notation.specs.WrittenSets.{written_data}
+use Rattle.fast_tree.specs.device.Places.{place_of_id}
+use Rattle.fast_notation.specs.device.WrittenSets.{written_data}
 use Rattle.fast_notation.proofs.checks.index_ids.Given as goal
 
 abbrev pub invariant-loop-k : goal.invariant-loop-k

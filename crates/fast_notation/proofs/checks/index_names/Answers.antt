@@ -6,10 +6,10 @@ use Rattle.std.specs.Option.{option_copied}
 use Rattle.std.proofs.lemmas.Map.Text.{hash_map_updates_text}
 use Rattle.std.proofs.lemmas.List.{map_more, take_all, take-map, length-map, length-take-le}
 use Rattle.std.proofs.lemmas.Option.{slice_get_read}
-use Rattle.fast_tree.specs.Places.{place_of_name}
-use Rattle.fast_notation.specs.WrittenSets.{written_data}
-use Rattle.fast_notation.proofs.Lists.{mapped_get}
-use Rattle.fast_notation.proofs.PlaceLists.{names_more, names_apart, name_before, found_value, found_nothing}
+use Rattle.fast_tree.specs.device.Places.{place_of_name}
+use Rattle.fast_notation.specs.device.WrittenSets.{written_data}
+use Rattle.fast_notation.proofs.lists.Lists.{mapped_get}
+use Rattle.fast_notation.proofs.lists.PlaceLists.{names_more, names_apart, name_before, found_value, found_nothing}
 use Rattle.fast_notation.proofs.checks.index_names.Goals as goal
 
 pub returns-clause-names : goal.returns-clause-names

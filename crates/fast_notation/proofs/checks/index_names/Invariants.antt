@@ -1,8 +1,8 @@
 use Rattle.std.proofs.Common.{◌≡◌, ◌≢◌, ℕ, List, take, map}
 use Rattle.std.specs.Prelude.{AllPairs}
 use Rattle.std.specs.HashMap.{get_by_text}
-use Rattle.fast_tree.specs.Places.{place_of_name}
-use Rattle.fast_notation.specs.WrittenSets.{written_data}
+use Rattle.fast_tree.specs.device.Places.{place_of_name}
+use Rattle.fast_notation.specs.device.WrittenSets.{written_data}
 use Rattle.fast_notation.proofs.checks.index_names.Given as goal
 
 abbrev pub invariant-loop-k : goal.invariant-loop-k

@@ -1,10 +1,10 @@
 use Rattle.std.proofs.Common.{◌≡◌, ◌++◌, ◌∙◌, sym, ap, string_bytes, append_assoc, append-nil, drop, ◌+◌, Some, None}
 use Rattle.std.specs.List.{filter_map}
 use Rattle.std.specs.HashMap.{get_by_text}
-use Rattle.fast_tree.specs.AsWritten.{references}
-use Rattle.fast_notation.specs.References.{references_in}
-use Rattle.fast_notation.specs.WrittenSets.{instruction_data}
-use Rattle.fast_notation.proofs.Targets.{targets_left, one_target, no_target}
+use Rattle.fast_tree.specs.meaning.AsWritten.{references}
+use Rattle.fast_notation.specs.device.References.{references_in}
+use Rattle.fast_notation.specs.device.WrittenSets.{instruction_data}
+use Rattle.fast_notation.proofs.references.Targets.{targets_left, one_target, no_target}
 use Rattle.fast_notation.proofs.cycles.+targets.Goals as goal
 
 pub add_target-returns-in_ok-push-in-Reference : goal.add_target-returns-in_ok-push-in-Reference

@@ -1,7 +1,7 @@
 use Rattle.std.proofs.Common.{◌≡◌, ◌++◌, drop}
 use Rattle.std.specs.List.{filter_map}
 use Rattle.std.specs.HashMap.{get_by_text}
-use Rattle.fast_notation.specs.References.{references_in}
+use Rattle.fast_notation.specs.device.References.{references_in}
 use Rattle.fast_notation.proofs.cycles.+targets.Given as goal
 
 abbrev pub invariant-add_targets-loop-field : goal.invariant-add_targets-loop-field

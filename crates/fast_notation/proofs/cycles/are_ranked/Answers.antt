@@ -1,8 +1,8 @@
 use Rattle.std.proofs.Common.{length, refl, subst, arith}
 use Rattle.std.specs.Prelude.{All, nat_lt}
 use Rattle.std.proofs.lemmas.Option.{slice_get_read, slice_get_within}
-use Rattle.fast_notation.specs.Cycles.{LeadsDown}
-use Rattle.fast_notation.proofs.CycleRanks.{ranked_more}
+use Rattle.fast_notation.specs.device.Cycles.{LeadsDown}
+use Rattle.fast_notation.proofs.references.CycleRanks.{ranked_more}
 use Rattle.fast_notation.proofs.cycles.are_ranked.Goals as goal
 
 pub loop-k-preserved : goal.loop-k-preserved

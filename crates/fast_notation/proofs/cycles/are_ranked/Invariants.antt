@@ -1,6 +1,6 @@
 use Rattle.std.proofs.Common.{◌≡◌, ◌<◌, ℕ, slice_get, Some}
 use Rattle.std.specs.Prelude.{nat_lt}
-use Rattle.fast_notation.specs.Cycles.{Refers, LeadsDown}
+use Rattle.fast_notation.specs.device.Cycles.{Refers, LeadsDown}
 use Rattle.fast_notation.proofs.cycles.are_ranked.Given as goal
 
 abbrev pub invariant-loop-k : goal.invariant-loop-k

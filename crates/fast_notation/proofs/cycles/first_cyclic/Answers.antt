@@ -1,10 +1,10 @@
 use Rattle.std.proofs.Common.{map, length, refl, sym, ◌∙◌, ap, subst, arith}
 use Rattle.std.specs.HashMap.{get_by_text}
 use Rattle.std.proofs.lemmas.List.{length-map}
-use Rattle.fast_notation.specs.Cycles.{AreWithin, IsCyclic, AreRanked}
-use Rattle.fast_notation.specs.WrittenSets.{written_data}
-use Rattle.fast_notation.proofs.CycleLaws.{all_within, long_as, cycle_at}
-use Rattle.fast_notation.proofs.CycleRanks.{no_earlier_cycle}
+use Rattle.fast_notation.specs.device.Cycles.{AreWithin, IsCyclic, AreRanked}
+use Rattle.fast_notation.specs.device.WrittenSets.{written_data}
+use Rattle.fast_notation.proofs.references.CycleLaws.{all_within, long_as, cycle_at}
+use Rattle.fast_notation.proofs.references.CycleRanks.{no_earlier_cycle}
 use Rattle.fast_notation.proofs.cycles.first_cyclic.Goals as goal
 
 pub components_of-requires : goal.components_of-requires

@@ -2,8 +2,8 @@ use Rattle.std.proofs.Common.{get_or, sym, ◌∙◌, subst, arith, true}
 use Rattle.std.specs.Prelude.{All}
 use Rattle.std.proofs.lemmas.List.{length-set}
 use Rattle.std.proofs.lemmas.List.Elements.{All-push}
-use Rattle.fast_notation.specs.Cycles.{IsReached}
-use Rattle.fast_notation.proofs.CycleLaws.{refers_here, reached_next, cyclic_here}
+use Rattle.fast_notation.specs.device.Cycles.{IsReached}
+use Rattle.fast_notation.proofs.references.CycleLaws.{refers_here, reached_next, cyclic_here}
 use Rattle.fast_notation.proofs.cycles.follow.Goals as goal
 
 pub returns-then-target-start-clause-cyclic : goal.returns-then-target-start-clause-cyclic

@@ -1,6 +1,6 @@
 use Rattle.std.proofs.Common.{◌≡◌, length}
 use Rattle.std.specs.Prelude.{All}
-use Rattle.fast_notation.specs.Cycles.{IsReached}
+use Rattle.fast_notation.specs.device.Cycles.{IsReached}
 use Rattle.fast_notation.proofs.cycles.follow.Given as goal
 
 abbrev pub invariant-loop-target : goal.invariant-loop-target

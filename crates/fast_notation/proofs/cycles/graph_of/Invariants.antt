@@ -1,7 +1,7 @@
 use Rattle.std.proofs.Common.{◌≡◌, ◌++◌, drop, map}
 use Rattle.std.specs.HashMap.{get_by_text}
-use Rattle.fast_notation.specs.Cycles.{numbers, targets_of}
-use Rattle.fast_notation.specs.WrittenSets.{written_data}
+use Rattle.fast_notation.specs.device.Cycles.{numbers, targets_of}
+use Rattle.fast_notation.specs.device.WrittenSets.{written_data}
 use Rattle.fast_notation.proofs.cycles.graph_of.Given as goal
 
 abbrev pub invariant-loop-template : goal.invariant-loop-template

@@ -1,8 +1,8 @@
 use Rattle.std.proofs.Common.{◌≡◌, ◌++◌, ◌∷◌, [], ap, sym, ◌∙◌, subst, Some}
 use Rattle.std.specs.Prelude.{All}
 use Rattle.std.proofs.lemmas.List.Elements.{All-push, All-nil, All-pop}
-use Rattle.fast_notation.specs.Cycles.{IsReached}
-use Rattle.fast_notation.proofs.CycleLaws.{nowhere}
+use Rattle.fast_notation.specs.device.Cycles.{IsReached}
+use Rattle.fast_notation.proofs.references.CycleLaws.{nowhere}
 use Rattle.fast_notation.proofs.cycles.is_cyclic.Goals as goal
 
 pub loop-turn-init : goal.loop-turn-init

@@ -1,6 +1,6 @@
 use Rattle.std.proofs.Common.{◌≡◌, length}
 use Rattle.std.specs.Prelude.{All, vec_len}
-use Rattle.fast_notation.specs.Cycles.{IsReached}
+use Rattle.fast_notation.specs.device.Cycles.{IsReached}
 use Rattle.fast_notation.proofs.cycles.is_cyclic.Given as goal
 
 abbrev pub invariant-loop-turn : goal.invariant-loop-turn

@@ -4,8 +4,8 @@ use Rattle.std.proofs.lemmas.Bool.{false≢true}
 use Rattle.std.proofs.lemmas.Bool.Decides.{nat_tests}
 use Rattle.std.proofs.lemmas.List.Elements.{All-more}
 use Rattle.std.proofs.lemmas.Option.{slice_get_read}
-use Rattle.fast_notation.specs.Cycles.{LeadsDown}
-use Rattle.fast_notation.proofs.Lists.{all_taken}
+use Rattle.fast_notation.specs.device.Cycles.{LeadsDown}
+use Rattle.fast_notation.proofs.lists.Lists.{all_taken}
 use Rattle.fast_notation.proofs.cycles.lead_down.Goals.{then-is_strict, else-is_strict}
 use Rattle.fast_notation.proofs.cycles.lead_down.Goals as goal
 

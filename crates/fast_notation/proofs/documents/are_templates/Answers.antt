@@ -1,5 +1,5 @@
 use Rattle.std.proofs.Common.{sym, ◌∙◌, arith}
-use Rattle.fast_notation.proofs.TemplateLists.{templates_are, no_templates, too_many_templates}
+use Rattle.fast_notation.proofs.lists.TemplateLists.{templates_are, no_templates, too_many_templates}
 use Rattle.fast_notation.proofs.documents.are_templates.Goals as goal
 
 pub returns-then-count-eq0-clause-test : goal.returns-then-count-eq0-clause-test

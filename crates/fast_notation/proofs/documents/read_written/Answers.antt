@@ -2,8 +2,8 @@ use Rattle.std.proofs.Common.{map, sym, ap, ◌∙◌, Some}
 use Rattle.std.proofs.lemmas.Result.{IfOk-weaker, IfErr-weaker}
 use Rattle.toml.specs.Parse.{parse_document}
 use Rattle.toml.specs.View.{items_view, table_view}
-use Rattle.fast_notation.specs.WrittenSets.{written_data}
-use Rattle.fast_notation.proofs.SetLaws.{tables_there, set_written, unwritten_at, written_before, no_tables}
+use Rattle.fast_notation.specs.device.WrittenSets.{written_data}
+use Rattle.fast_notation.proofs.texts.SetLaws.{tables_there, set_written, unwritten_at, written_before, no_tables}
 use Rattle.fast_notation.proofs.documents.read_written.Goals as goal
 
 pub returns-in-Some-clause-written : goal.returns-in-Some-clause-written

@@ -1,7 +1,7 @@
 use Rattle.std.proofs.Common.{◌≢◌, sym, ap, ◌∙◌}
 use Rattle.toml.specs.View.{view, items_view, table_view}
-use Rattle.fast_notation.specs.Reading.{members_count, are_templates}
-use Rattle.fast_notation.proofs.TemplateLists.{members_count-view, tables_found, tables_of_others}
+use Rattle.fast_notation.specs.device.Reading.{members_count, are_templates}
+use Rattle.fast_notation.proofs.lists.TemplateLists.{members_count-view, tables_found, tables_of_others}
 use Rattle.fast_notation.proofs.documents.tables_in.Goals as goal
 
 pub returns-then-len-ne1-clause-tables : goal.returns-then-len-ne1-clause-tables

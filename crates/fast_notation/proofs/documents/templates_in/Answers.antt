@@ -5,10 +5,10 @@ use Rattle.toml.specs.Data.{Data, get_item}
 use Rattle.toml.specs.View.{view, items_view}
 use Rattle.toml.specs.declared.value.Value.{Value}
 use Rattle.toml.proofs.Views.{get_item_within}
-use Rattle.fast_notation.specs.Reading.{template_in, all_templates}
-use Rattle.fast_notation.specs.WrittenSets.{written_data}
+use Rattle.fast_notation.specs.device.Reading.{template_in, all_templates}
+use Rattle.fast_notation.specs.device.WrittenSets.{written_data}
 use Rattle.fast_notation.specs.declared.written.WrittenTemplate.{WrittenTemplate}
-use Rattle.fast_notation.proofs.TemplateLists.{front, front_more, unread_fault, unread_first, read_more}
+use Rattle.fast_notation.proofs.lists.TemplateLists.{front, front_more, unread_fault, unread_first, read_more}
 use Rattle.fast_notation.proofs.documents.templates_in.Goals as goal
 
 pub loop-k-preserved : goal.loop-k-preserved

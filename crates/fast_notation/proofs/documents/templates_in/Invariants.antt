@@ -3,9 +3,9 @@ use Rattle.std.specs.Prelude.{IsSome}
 use Rattle.toml.specs.Data.{Data, get_item}
 use Rattle.toml.specs.View.{items_view}
 use Rattle.toml.specs.declared.value.Value.{Value}
-use Rattle.fast_notation.specs.Reading.{template_in, all_templates}
-use Rattle.fast_notation.specs.WrittenSets.{written_data}
-use Rattle.fast_notation.proofs.TemplateLists.{front}
+use Rattle.fast_notation.specs.device.Reading.{template_in, all_templates}
+use Rattle.fast_notation.specs.device.WrittenSets.{written_data}
+use Rattle.fast_notation.proofs.lists.TemplateLists.{front}
 use Rattle.fast_notation.proofs.documents.templates_in.Given as goal
 
 -- what is not read yet is as it was

@@ -1,10 +1,10 @@
 use Rattle.std.proofs.Common.{length, refl, []}
 use Rattle.std.proofs.lemmas.Option.{slice_get_read}
-use Rattle.fast_tree.specs.Entries.{scope_of, Collects, in_scope}
-use Rattle.fast_notation.specs.EntryKeys.{entries_of}
-use Rattle.fast_notation.specs.Sound.{uses_in}
-use Rattle.fast_notation.specs.WrittenSets.{written_data}
-use Rattle.fast_notation.proofs.EntryLists.{collects_template}
+use Rattle.fast_tree.specs.meaning.Entries.{scope_of, Collects, in_scope}
+use Rattle.fast_notation.specs.device.EntryKeys.{entries_of}
+use Rattle.fast_notation.specs.device.Sound.{uses_in}
+use Rattle.fast_notation.specs.device.WrittenSets.{written_data}
+use Rattle.fast_notation.proofs.lists.EntryLists.{collects_template}
 use Rattle.fast_notation.proofs.entries.collect_entries.Goals as goal
 
 pub loop-k-preserved : goal.loop-k-preserved

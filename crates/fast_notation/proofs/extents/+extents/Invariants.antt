@@ -1,7 +1,7 @@
 use Rattle.std.proofs.Common.{◌≡◌, drop}
 use Rattle.std.specs.HashMap.{get_by_text}
-use Rattle.fast_notation.specs.Extents.{nothing, named_extent, extent_by}
-use Rattle.fast_notation.specs.WrittenSets.{fields_data}
+use Rattle.fast_notation.specs.device.Extents.{nothing, named_extent, extent_by}
+use Rattle.fast_notation.specs.device.WrittenSets.{fields_data}
 use Rattle.fast_notation.proofs.extents.+extents.Given as goal
 
 abbrev pub invariant-extent_of_fields-loop-field : goal.invariant-extent_of_fields-loop-field

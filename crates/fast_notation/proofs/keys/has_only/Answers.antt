@@ -1,8 +1,8 @@
 use Rattle.std.proofs.Common.{◌≡◌, map, sym, ap, ◌∙◌, false, ◌&&◌, string_bytes}
 use Rattle.std.proofs.lemmas.Map.Iter.{rest_more, rest_all}
 use Rattle.std.specs.Map.Iter.{deref}
-use Rattle.fast_notation.specs.Reading.{is_one_of}
-use Rattle.fast_notation.proofs.TableKeys.{only_strings, has_only-strings}
+use Rattle.fast_notation.specs.device.Reading.{is_one_of}
+use Rattle.fast_notation.proofs.texts.TableKeys.{only_strings, has_only-strings}
 use Rattle.fast_notation.proofs.keys.has_only.Goals as goal
 
 pub returns-then-not-is_one_of : goal.returns-then-not-is_one_of

@@ -1,5 +1,5 @@
 use Rattle.std.proofs.Common.{◌≡◌, map, drop}
-use Rattle.fast_notation.specs.Reading.{is_one_of}
+use Rattle.fast_notation.specs.device.Reading.{is_one_of}
 use Rattle.fast_notation.proofs.keys.is_one_of.Given as goal
 
 abbrev pub invariant-loop-known : goal.invariant-loop-known

@@ -1,7 +1,7 @@
 use Rattle.std.proofs.Common.{◌≡◌, refl, false, inl, inr}
 use Rattle.std.proofs.lemmas.Bool.{cases_Bool, false≢true}
-use Rattle.fast_notation.specs.Reading.{is_name}
-use Rattle.fast_notation.proofs.NameTests.{name_passes, passed_name}
+use Rattle.fast_notation.specs.device.Reading.{is_name}
+use Rattle.fast_notation.proofs.texts.NameTests.{name_passes, passed_name}
 use Rattle.fast_notation.proofs.keys.name_at.Goals as goal
 
 pub returns-clause-name : goal.returns-clause-name

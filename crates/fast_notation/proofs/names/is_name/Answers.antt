@@ -1,9 +1,9 @@
 use Rattle.std.proofs.Common.{◌≤◌, length, refl, arith, rules, le-leb}
 use Rattle.std.specs.Prelude.{All}
 use Rattle.std.proofs.lemmas.Bool.Decides.{nat_tests}
-use Rattle.fast_tree.specs.AsWritten.{IsNameByte}
-use Rattle.fast_notation.proofs.Lists.{all_taken}
-use Rattle.fast_notation.proofs.NameTests.{bytes_pass}
+use Rattle.fast_tree.specs.meaning.AsWritten.{IsNameByte}
+use Rattle.fast_notation.proofs.lists.Lists.{all_taken}
+use Rattle.fast_notation.proofs.texts.NameTests.{bytes_pass}
 use Rattle.fast_notation.proofs.names.is_name.Goals as goal
 
 pub returns-then-not-is_empty-clause-test : goal.returns-then-not-is_empty-clause-test

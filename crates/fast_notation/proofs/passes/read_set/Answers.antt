@@ -3,14 +3,14 @@ use Rattle.std.specs.Prelude.{All, AllPairs, IfSome, IsSome}
 use Rattle.std.proofs.lemmas.Result.{err_from_is_err_and}
 use Rattle.toml.specs.Parse.{parse_document}
 use Rattle.fast_notation.specs.declared.codes.StaticCode.TheVariants.{C1, C2, D8}
-use Rattle.fast_tree.specs.AsWritten.{all_uses, all_references}
-use Rattle.fast_notation.specs.Faults.{IsFaultAt}
-use Rattle.fast_notation.specs.Firsts.{pass_of}
-use Rattle.fast_tree.specs.Places.{place_of_name}
-use Rattle.fast_notation.specs.References.{KnowsReferences}
-use Rattle.fast_notation.specs.Sound.{IsSound}
-use Rattle.fast_notation.specs.WrittenSets.{written_data}
-use Rattle.fast_notation.proofs.Firsts.{names_first, ids_first, uses_first, references_first, written_first, unwritten_first}
+use Rattle.fast_tree.specs.meaning.AsWritten.{all_uses, all_references}
+use Rattle.fast_notation.specs.meaning.Faults.{IsFaultAt}
+use Rattle.fast_notation.specs.meaning.Firsts.{pass_of}
+use Rattle.fast_tree.specs.device.Places.{place_of_name}
+use Rattle.fast_notation.specs.device.References.{KnowsReferences}
+use Rattle.fast_notation.specs.device.Sound.{IsSound}
+use Rattle.fast_notation.specs.device.WrittenSets.{written_data}
+use Rattle.fast_notation.proofs.outcomes.Firsts.{names_first, ids_first, uses_first, references_first, written_first, unwritten_first}
 use Rattle.fast_notation.proofs.passes.read_set.Goals as goal
 
 pub returns-clause-set : goal.returns-clause-set

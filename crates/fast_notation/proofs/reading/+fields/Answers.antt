@@ -5,9 +5,9 @@ use Rattle.std.proofs.lemmas.Result.{err_from_is_err_and, IfOk-weaker}
 use Rattle.toml.specs.Data.{depth, items_depth, members_depth, as_table}
 use Rattle.toml.specs.View.{view, items_view, table_view}
 use Rattle.fast_notation.specs.declared.keys.Unread.TheVariants.{Shape}
-use Rattle.fast_notation.specs.Reading.{all_fields}
-use Rattle.fast_notation.specs.WrittenSets.{instruction_data}
-use Rattle.fast_notation.proofs.FieldLists.{fields_of_items, fields_of_none, items_below, item_below, front, front_more, front_stops, front_ends, group_unread, sequence_unread}
+use Rattle.fast_notation.specs.device.Reading.{all_fields}
+use Rattle.fast_notation.specs.device.WrittenSets.{instruction_data}
+use Rattle.fast_notation.proofs.lists.FieldLists.{fields_of_items, fields_of_none, items_below, item_below, front, front_more, front_stops, front_ends, group_unread, sequence_unread}
 use Rattle.fast_notation.proofs.reading.+fields.Goals as goal
 
 pub fields_in-instruction_in-requires : goal.fields_in-instruction_in-requires

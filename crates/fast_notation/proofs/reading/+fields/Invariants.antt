@@ -1,9 +1,9 @@
 use Rattle.std.proofs.Common.{◌≡◌, ◌+◌, ◌*◌, map, drop}
 use Rattle.toml.specs.Data.{depth, items_depth, members_depth}
 use Rattle.toml.specs.View.{view, items_view, table_view}
-use Rattle.fast_notation.specs.Reading.{all_fields}
-use Rattle.fast_notation.specs.WrittenSets.{instruction_data}
-use Rattle.fast_notation.proofs.FieldLists.{front}
+use Rattle.fast_notation.specs.device.Reading.{all_fields}
+use Rattle.fast_notation.specs.device.WrittenSets.{instruction_data}
+use Rattle.fast_notation.proofs.lists.FieldLists.{front}
 use Rattle.fast_notation.proofs.reading.+fields.Given as goal
 
 abbrev pub decreases-fields_in : goal.decreases-fields_in

@@ -1,8 +1,8 @@
 use Rattle.std.proofs.Common.{drop, length}
 use Rattle.std.specs.Prelude.{◌↔◌}
-use Rattle.fast_notation.specs.Checked.{AreNarrowInside}
-use Rattle.fast_tree.specs.Nodes.{body_of, instructions_from}
-use Rattle.fast_notation.proofs.Measures.{left_at_node, left_at_body}
+use Rattle.fast_notation.specs.meaning.Checked.{AreNarrowInside}
+use Rattle.fast_tree.specs.device.Nodes.{body_of, instructions_from}
+use Rattle.fast_notation.proofs.nodes.Measures.{left_at_node, left_at_body}
 use Rattle.fast_notation.proofs.segments.+segments.Given as goal
 
 abbrev pub decreases-is_narrow_segment : goal.decreases-is_narrow_segment

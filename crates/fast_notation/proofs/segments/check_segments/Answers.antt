@@ -4,11 +4,11 @@ use Rattle.std.proofs.lemmas.Bool.{cases_lt, false≢true}
 use Rattle.std.proofs.lemmas.List.{take-map}
 use Rattle.std.proofs.lemmas.List.Elements.{All-more, All-map}
 use Rattle.std.proofs.lemmas.Option.{slice_get_read}
-use Rattle.fast_tree.specs.Nodes.{template_data, instructions_from}
-use Rattle.fast_notation.specs.Segments.{IsNarrow, IsWide}
-use Rattle.fast_tree.specs.Sizes.{segment_limit}
-use Rattle.fast_tree.specs.Tree.{message_bits}
-use Rattle.fast_notation.proofs.Lists.{all_taken, mapped_get}
+use Rattle.fast_tree.specs.device.Nodes.{template_data, instructions_from}
+use Rattle.fast_notation.specs.device.Segments.{IsNarrow, IsWide}
+use Rattle.fast_tree.specs.meaning.Sizes.{segment_limit}
+use Rattle.fast_tree.specs.meaning.Tree.{message_bits}
+use Rattle.fast_notation.proofs.lists.Lists.{all_taken, mapped_get}
 use Rattle.fast_notation.proofs.segments.check_segments.Goals as goal
 
 pub returns-then-not-is_narrow-clause-wide : goal.returns-then-not-is_narrow-clause-wide

@@ -1,9 +1,9 @@
 use Rattle.std.proofs.Common.{◌≡◌, ◌∙◌, ◌+◌, ap, sym, refl, drop, arith}
 use Rattle.std.specs.Prelude.{slice_index, slice_index_or}
 use Rattle.std.proofs.Math.Nat.{add_assoc}
-use Rattle.fast_tree.specs.Nodes.{body_of, instructions_from, label_of, no_instruction}
-use Rattle.fast_tree.specs.Tree.{bits_used, bits_of}
-use Rattle.fast_notation.proofs.Bodies.{instruction_here, next_instruction}
+use Rattle.fast_tree.specs.device.Nodes.{body_of, instructions_from, label_of, no_instruction}
+use Rattle.fast_tree.specs.meaning.Tree.{bits_used, bits_of}
+use Rattle.fast_notation.proofs.nodes.Bodies.{instruction_here, next_instruction}
 use Rattle.fast_notation.proofs.segments.segment_bits.Goals as goal
 
 pub loop-number-preserved : goal.loop-number-preserved

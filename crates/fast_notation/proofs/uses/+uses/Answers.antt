@@ -3,10 +3,10 @@ use Rattle.std.specs.Prelude.{option_map, All}
 use Rattle.std.proofs.lemmas.Result.{IfErr-weaker, err_from_is_err_and, on_ok_weaker}
 use Rattle.fast_value.specs.declared.kinds.Kind.TheVariants.{Int32, Int64}
 use Rattle.fast_notation.specs.declared.uses.OperatorPart.TheVariants.{Whole, Exponent, Mantissa}
-use Rattle.fast_tree.specs.AsWritten.{exponent_use, mantissa_use, length_use, uses}
-use Rattle.fast_notation.specs.WrittenSets.{operator_data, instruction_data}
-use Rattle.fast_notation.specs.Sound.{bare_use, IsSound, HasFault, uses_in}
-use Rattle.fast_notation.proofs.SoundUses.{sound_more, all_sound, fault_at, fault_left, fault_right, fault_named, fault_of_length, sound_length, sound_cons, uses_of_scalar, uses_of_parts, uses_of_group, uses_of_sequence}
+use Rattle.fast_tree.specs.meaning.AsWritten.{exponent_use, mantissa_use, length_use, uses}
+use Rattle.fast_notation.specs.device.WrittenSets.{operator_data, instruction_data}
+use Rattle.fast_notation.specs.device.Sound.{bare_use, IsSound, HasFault, uses_in}
+use Rattle.fast_notation.proofs.texts.SoundUses.{sound_more, all_sound, fault_at, fault_left, fault_right, fault_named, fault_of_length, sound_length, sound_cons, uses_of_scalar, uses_of_parts, uses_of_group, uses_of_sequence}
 use Rattle.fast_notation.proofs.uses.+uses.Goals as goal
 
 pub check_fields-returns-in_err-check_instruction-clause-fault :

@@ -1,7 +1,7 @@
 use Rattle.std.proofs.Common.{string_bytes}
 use Rattle.std.proofs.lemmas.Result.{IfErr-weaker}
-use Rattle.fast_notation.specs.WrittenSets.{operator_data}
-use Rattle.fast_notation.proofs.SoundUses.{unsound_length}
+use Rattle.fast_notation.specs.device.WrittenSets.{operator_data}
+use Rattle.fast_notation.proofs.texts.SoundUses.{unsound_length}
 use Rattle.fast_notation.proofs.uses.check_length.Goals as goal
 
 pub returns-in-Some-clause-fault : goal.returns-in-Some-clause-fault

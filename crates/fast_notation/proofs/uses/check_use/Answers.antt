@@ -1,8 +1,8 @@
 use Rattle.std.proofs.Common.{◌≡◌, sym, ap, Some, string_bytes}
 use Rattle.std.specs.Prelude.{option_map}
-use Rattle.fast_value.specs.Values.{value_data}
-use Rattle.fast_notation.specs.WrittenSets.{operator_data}
-use Rattle.fast_notation.proofs.SoundUses.{sound_with}
+use Rattle.fast_value.specs.meaning.Values.{value_data}
+use Rattle.fast_notation.specs.device.WrittenSets.{operator_data}
+use Rattle.fast_notation.proofs.texts.SoundUses.{sound_with}
 use Rattle.fast_notation.proofs.uses.check_use.Goals as goal
 use Rattle.fast_notation.proofs.uses.check_use.Goals.{in-Ok, in-Err}
 

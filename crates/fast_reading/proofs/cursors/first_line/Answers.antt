@@ -1,7 +1,7 @@
 use Rattle.std.proofs.Common.{◌∙◌, ap}
-use Rattle.fast_reading.specs.Reading.{closed}
-use Rattle.fast_reading.proofs.Closed.{closed_first, closed_last}
-use Rattle.fast_reading.proofs.Utf8Lines.{utf8_parts}
+use Rattle.fast_reading.specs.meaning.Reading.{closed}
+use Rattle.fast_reading.proofs.texts.Closed.{closed_first, closed_last}
+use Rattle.fast_reading.proofs.texts.Utf8Lines.{utf8_parts}
 use Rattle.fast_reading.proofs.cursors.first_line.Goals as goal
 
 pub returns-in-Some-clause-parts : goal.returns-in-Some-clause-parts

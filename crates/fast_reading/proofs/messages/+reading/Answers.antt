@@ -7,25 +7,25 @@ use Rattle.std.proofs.lemmas.List.{length-append}
 use Rattle.std.proofs.lemmas.Result.{err_from_is_err_and}
 use Rattle.fast_value.specs.declared.messages.Item.{Item}
 use Rattle.fast_value.specs.declared.messages.Item.TheVariants as V
-use Rattle.fast_value.specs.Views.{item_data, slots_data, elements_data}
+use Rattle.fast_value.specs.meaning.Views.{item_data, slots_data, elements_data}
 use Rattle.fast_value.proofs.ItemViews.{item_data-Group, item_data-Sequence}
 use Rattle.fast_tree.specs.declared.instructions.Shape.TheVariants.{Field, Decimal, Group, Sequence}
-use Rattle.fast_tree.specs.Bodies.{body_among}
-use Rattle.fast_tree.specs.Nodes.{field_data, label_of}
-use Rattle.fast_template.specs.Flat.{nodes_of, tree_of}
-use Rattle.fast_spelling.specs.Nodes.{instruction_in}
-use Rattle.fast_spelling.proofs.Instructions.{at_shape}
-use Rattle.fast_reading.specs.Naming.{IsValue}
-use Rattle.fast_reading.specs.Progress.{IsReadTo, AreReadTo}
-use Rattle.fast_reading.proofs.Bodies.{read_start, item_at, mandatory_at, body_unended, absent_at, present_at, body_ended, rows_more, rows_done}
-use Rattle.fast_reading.proofs.Named.{holds, numbered}
-use Rattle.fast_reading.proofs.Parts.{group_read, sequence_read}
+use Rattle.fast_tree.specs.device.Bodies.{body_among}
+use Rattle.fast_tree.specs.device.Nodes.{field_data, label_of}
+use Rattle.fast_template.specs.meaning.Flat.{nodes_of, tree_of}
+use Rattle.fast_spelling.specs.device.Nodes.{instruction_in}
+use Rattle.fast_spelling.proofs.encodings.Instructions.{at_shape}
+use Rattle.fast_reading.specs.device.Naming.{IsValue}
+use Rattle.fast_reading.specs.device.Progress.{IsReadTo, AreReadTo}
+use Rattle.fast_reading.proofs.readings.Bodies.{read_start, item_at, mandatory_at, body_unended, absent_at, present_at, body_ended, rows_more, rows_done}
+use Rattle.fast_reading.proofs.names.Named.{holds, numbered}
+use Rattle.fast_reading.proofs.readings.Parts.{group_read, sequence_read}
 use Rattle.fast_reading.specs.declared.endings.Ending.TheVariants as Ends
-use Rattle.fast_reading.specs.Ahead.{OnBadLine}
-use Rattle.fast_reading.specs.Refusing.{HasNoNext}
-use Rattle.fast_reading.specs.Unsaid.{HasNoBody, HasNoItem, HasNoRows}
-use Rattle.fast_reading.proofs.Refused.{on_bad, always, item_next, group_refused, sequence_refused}
-use Rattle.fast_reading.proofs.RefusedBodies.{place_refused, rows_next, rows_surplus, rows_element, rows_misplaced, rows_missing}
+use Rattle.fast_reading.specs.device.Ahead.{OnBadLine}
+use Rattle.fast_reading.specs.device.Refusing.{HasNoNext}
+use Rattle.fast_reading.specs.meaning.Unsaid.{HasNoBody, HasNoItem, HasNoRows}
+use Rattle.fast_reading.proofs.refusals.Refused.{on_bad, always, item_next, group_refused, sequence_refused}
+use Rattle.fast_reading.proofs.refusals.RefusedBodies.{place_refused, rows_next, rows_surplus, rows_element, rows_misplaced, rows_missing}
 use Rattle.fast_reading.proofs.messages.+reading.Goals as goal
 use Rattle.fast_reading.proofs.messages.+reading.Goals.{read_body-then-names+in_ok-item+in_ok-push, read_body-else-names+then-may_be_absent+in_ok-push-2}
 

@@ -1,9 +1,9 @@
 -- What is read of the slots, and of the elements, so far.
 use Rattle.std.proofs.Common.{◌+◌, ◌*◌, ◌≤◌, drop, length}
-use Rattle.fast_tree.specs.Bodies.{body_among}
-use Rattle.fast_template.specs.Flat.{nodes_of, tree_of}
-use Rattle.fast_reading.specs.Cursors.{ahead}
-use Rattle.fast_reading.specs.Progress.{IsReadTo, AreReadTo}
+use Rattle.fast_tree.specs.device.Bodies.{body_among}
+use Rattle.fast_template.specs.meaning.Flat.{nodes_of, tree_of}
+use Rattle.fast_reading.specs.device.Cursors.{ahead}
+use Rattle.fast_reading.specs.device.Progress.{IsReadTo, AreReadTo}
 use Rattle.fast_reading.proofs.messages.+reading.Given as goal
 
 abbrev pub invariant-read_body-loop-i : goal.invariant-read_body-loop-i

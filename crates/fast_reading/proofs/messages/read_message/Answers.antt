@@ -2,19 +2,19 @@ use Rattle.std.proofs.Common.{◌≡◌, ℕ, List, refl, ap, sym, subst, ◌∙
 use Rattle.std.specs.Prelude.{Some, option_map, slice_get, string_bytes}
 use Rattle.std.proofs.lemmas.Option.{slice_get-map, slice_get_within}
 use Rattle.std.proofs.lemmas.Result.{err_from_is_err_and}
-use Rattle.fast_value.specs.Views.{slots_data, message_data}
+use Rattle.fast_value.specs.meaning.Views.{slots_data, message_data}
 use Rattle.fast_tree.specs.declared.instructions.Template.{Template}
-use Rattle.fast_tree.specs.Nodes.{instructions_from, template_data}
-use Rattle.fast_template.specs.Flat.{nodes_of, templates_of, tree_of}
-use Rattle.fast_lines.specs.Forms.{message, line_data}
-use Rattle.fast_reading.proofs.Bodies.{message_read}
+use Rattle.fast_tree.specs.device.Nodes.{instructions_from, template_data}
+use Rattle.fast_template.specs.meaning.Flat.{nodes_of, templates_of, tree_of}
+use Rattle.fast_lines.specs.meaning.Forms.{message, line_data}
+use Rattle.fast_reading.proofs.readings.Bodies.{message_read}
 use Rattle.fast_reading.specs.declared.endings.Ending.TheVariants as Ends
-use Rattle.fast_reading.specs.Ahead.{OnBadLine}
-use Rattle.fast_reading.specs.Refusing.{HasNoNext}
-use Rattle.fast_reading.specs.Unsaid.{HasNoBody, HasNoMessage}
-use Rattle.fast_reading.proofs.Preorder.{distinct_bodies}
-use Rattle.fast_reading.proofs.Refused.{on_bad, always}
-use Rattle.fast_reading.proofs.RefusedMessages.{message_next, no_template, no_slots_due}
+use Rattle.fast_reading.specs.device.Ahead.{OnBadLine}
+use Rattle.fast_reading.specs.device.Refusing.{HasNoNext}
+use Rattle.fast_reading.specs.meaning.Unsaid.{HasNoBody, HasNoMessage}
+use Rattle.fast_reading.proofs.names.Preorder.{distinct_bodies}
+use Rattle.fast_reading.proofs.refusals.Refused.{on_bad, always}
+use Rattle.fast_reading.proofs.refusals.RefusedMessages.{message_next, no_template, no_slots_due}
 use Rattle.fast_reading.proofs.messages.read_message.Goals as goal
 
 pub returns-clause-ok : goal.returns-clause-ok

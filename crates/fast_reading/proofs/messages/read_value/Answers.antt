@@ -3,21 +3,21 @@ use Rattle.std.specs.Prelude.{IsSome, Some}
 use Rattle.std.proofs.lemmas.Result.{err_from_is_err_and}
 use Rattle.std.proofs.lemmas.Str.{IsUtf8-had}
 use Rattle.fast_value.specs.declared.messages.Item.TheVariants as V
-use Rattle.fast_value.specs.Views.{item_data}
+use Rattle.fast_value.specs.meaning.Views.{item_data}
 use Rattle.fast_value.proofs.ItemViews.{item_data-One}
-use Rattle.fast_template.specs.Flat.{nodes_of, tree_of}
-use Rattle.fast_spelling.specs.Nodes.{instruction_in}
-use Rattle.fast_reading.specs.Cursors.{IsNear}
-use Rattle.fast_reading.proofs.Named.{names_some, numbered}
-use Rattle.fast_reading.proofs.Parts.{value_read}
-use Rattle.fast_reading.proofs.Said.{next_near, one_on}
-use Rattle.fast_value.specs.Messages.{ItemData}
-use Rattle.fast_spelling.specs.Suiting.{Suits}
-use Rattle.fast_reading.specs.Ahead.{OnBadLine, HasNoLines}
-use Rattle.fast_reading.specs.Reading.{closed}
-use Rattle.fast_reading.specs.Unsaid.{HasNoItem}
-use Rattle.fast_reading.proofs.NoLines.{next_refused}
-use Rattle.fast_reading.proofs.Refused.{on_bad, always, item_next, unread_value, wrong_value}
+use Rattle.fast_template.specs.meaning.Flat.{nodes_of, tree_of}
+use Rattle.fast_spelling.specs.device.Nodes.{instruction_in}
+use Rattle.fast_reading.specs.device.Cursors.{IsNear}
+use Rattle.fast_reading.proofs.names.Named.{names_some, numbered}
+use Rattle.fast_reading.proofs.readings.Parts.{value_read}
+use Rattle.fast_reading.proofs.readings.Said.{next_near, one_on}
+use Rattle.fast_value.specs.meaning.Messages.{ItemData}
+use Rattle.fast_spelling.specs.meaning.Suiting.{Suits}
+use Rattle.fast_reading.specs.device.Ahead.{OnBadLine, HasNoLines}
+use Rattle.fast_reading.specs.meaning.Reading.{closed}
+use Rattle.fast_reading.specs.meaning.Unsaid.{HasNoItem}
+use Rattle.fast_reading.proofs.refusals.NoLines.{next_refused}
+use Rattle.fast_reading.proofs.refusals.Refused.{on_bad, always, item_next, unread_value, wrong_value}
 use Rattle.fast_reading.proofs.messages.read_value.Goals as goal
 
 pub returns-in_err-next-clause-line : goal.returns-in_err-next-clause-line

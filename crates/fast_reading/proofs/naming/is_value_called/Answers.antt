@@ -2,10 +2,10 @@ use Rattle.std.proofs.Common.{◌≡◌, inl, inr}
 use Rattle.std.proofs.lemmas.Bool.Decides.{Decides-eqb}
 use Rattle.std.proofs.lemmas.Slice.Eq.{slice_eq-Decides}
 use Rattle.fast_tree.specs.declared.instructions.Shape.TheVariants.{Field, Decimal, Group, Sequence}
-use Rattle.fast_template.specs.Flat.{tree_of}
-use Rattle.fast_lines.specs.Lines.{node_name}
-use Rattle.fast_reading.specs.Naming.{IsValue}
-use Rattle.fast_reading.proofs.Named.{fails_there, called_there}
+use Rattle.fast_template.specs.meaning.Flat.{tree_of}
+use Rattle.fast_lines.specs.meaning.Lines.{node_name}
+use Rattle.fast_reading.specs.device.Naming.{IsValue}
+use Rattle.fast_reading.proofs.names.Named.{fails_there, called_there}
 use Rattle.fast_reading.proofs.naming.is_value_called.Goals as goal
 
 pub returns-in-Field : goal.returns-in-Field

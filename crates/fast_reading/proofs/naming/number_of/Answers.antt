@@ -1,7 +1,7 @@
 use Rattle.std.proofs.Common.{◌≡◌, ℕ, List, subst}
 use Rattle.std.specs.Prelude.{IfSome, slice_get, Some, string_bytes}
 use Rattle.fast_tree.specs.declared.instructions.Template.{Template}
-use Rattle.fast_template.specs.Flat.{templates_of}
+use Rattle.fast_template.specs.meaning.Flat.{templates_of}
 use Rattle.fast_reading.proofs.naming.number_of.Goals as goal
 
 pub returns-in-Ok-clause-found : goal.returns-in-Ok-clause-found

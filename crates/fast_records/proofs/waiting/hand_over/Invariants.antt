@@ -1,5 +1,5 @@
-use Rattle.fast_records.specs.Room.{SameBuffers}
-use Rattle.fast_records.specs.Waiting.{Moves}
+use Rattle.fast_records.specs.device.Room.{SameBuffers}
+use Rattle.fast_records.specs.device.Waiting.{Moves}
 use Rattle.fast_records.proofs.waiting.hand_over.Given as goal
 
 abbrev pub invariant-loop : goal.invariant-loop

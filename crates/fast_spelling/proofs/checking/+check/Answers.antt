@@ -2,29 +2,29 @@
 use Rattle.std.proofs.Common.{◌≡◌, ◌<◌, ◌≤◌, ◌+◌, ◌*◌, ℕ, List, inl, inr, length, refl, ap, sym, subst, ◌∙◌, arith}
 use Rattle.std.specs.Prelude.{◌^◌, Option, Some, option_map}
 use Rattle.fast_value.specs.declared.messages.Item.{Item}
-use Rattle.fast_value.specs.Kinds.{ScalarData, U}
-use Rattle.fast_value.specs.Messages.{ItemData, one, group as group_item, sequence as sequence_item, count, rows_total}
-use Rattle.fast_value.specs.Values.{value_data}
-use Rattle.fast_value.specs.Views.{item_data, slots_data, elements_data}
+use Rattle.fast_value.specs.meaning.Kinds.{ScalarData, U}
+use Rattle.fast_value.specs.meaning.Messages.{ItemData, one, group as group_item, sequence as sequence_item, count, rows_total}
+use Rattle.fast_value.specs.meaning.Values.{value_data}
+use Rattle.fast_value.specs.meaning.Views.{item_data, slots_data, elements_data}
 use Rattle.fast_value.proofs.ItemViews.{item_data-One, item_data-Group, item_data-Sequence, count-elements_data}
 use Rattle.fast_tree.specs.declared.instructions.Shape.TheVariants.{Field, Decimal, Group, Sequence}
 use Rattle.fast_tree.specs.declared.instructions.Shape.{Shape}
-use Rattle.fast_tree.specs.Nodes.{label_of}
-use Rattle.fast_tree.specs.Tree.{FieldData}
-use Rattle.fast_tree.specs.Numbers.{numbers_of, AreBetween}
-use Rattle.fast_template.specs.Flat.{nodes_of, tree_of, field_data}
-use Rattle.fast_tree.specs.Bodies.{body_among, instruction_among}
+use Rattle.fast_tree.specs.device.Nodes.{label_of}
+use Rattle.fast_tree.specs.meaning.Tree.{FieldData}
+use Rattle.fast_tree.specs.device.Numbers.{numbers_of, AreBetween}
+use Rattle.fast_template.specs.meaning.Flat.{nodes_of, tree_of, field_data}
+use Rattle.fast_tree.specs.device.Bodies.{body_among, instruction_among}
 use Rattle.std.specs.declared.vec.Vec.{Vec}
 use Rattle.std.specs.declared.alloc.Global.{Global}
-use Rattle.fast_spelling.specs.Nodes.{instruction_in, Keeps}
-use Rattle.fast_spelling.specs.Encoding.{EncodesField, EncodesBody, EncodesSegment, EncodesElements}
-use Rattle.fast_spelling.specs.Fields.{Wrote}
-use Rattle.fast_spelling.specs.Suiting.{SuitsBody}
-use Rattle.fast_spelling.proofs.Instructions.{at_shape, usable_at, short_at, served, encodes_as, field_encodes, decimal_encodes, group_encodes, sequence_encodes}
-use Rattle.fast_spelling.proofs.Depths.{item_depth, option_depth, slots_depth, rows_depth, option_depth_at, row_depth}
-use Rattle.fast_spelling.proofs.Progress.{written_start, more_at, all_written, ready_kept, keeps_on, keeps_all, closed, row_more, rows_start, rows_done, has_width}
-use Rattle.fast_spelling.proofs.Suited.{one_suits, no_slot_suits, no_row_suits, decimal_right}
-use Rattle.fast_spelling.proofs.Checked.{accepted_as, one_fits, one_total, one_row_right, one_row_fits, one_row_total, no_row_fits, no_row_total}
+use Rattle.fast_spelling.specs.device.Nodes.{instruction_in, Keeps}
+use Rattle.fast_spelling.specs.meaning.Encoding.{EncodesField, EncodesBody, EncodesSegment, EncodesElements}
+use Rattle.fast_spelling.specs.device.Fields.{Wrote}
+use Rattle.fast_spelling.specs.meaning.Suiting.{SuitsBody}
+use Rattle.fast_spelling.proofs.encodings.Instructions.{at_shape, usable_at, short_at, served, encodes_as, field_encodes, decimal_encodes, group_encodes, sequence_encodes}
+use Rattle.fast_spelling.proofs.limits.Depths.{item_depth, option_depth, slots_depth, rows_depth, option_depth_at, row_depth}
+use Rattle.fast_spelling.proofs.encodings.Progress.{written_start, more_at, all_written, ready_kept, keeps_on, keeps_all, closed, row_more, rows_start, rows_done, has_width}
+use Rattle.fast_spelling.proofs.limits.Suited.{one_suits, no_slot_suits, no_row_suits, decimal_right}
+use Rattle.fast_spelling.proofs.limits.Checked.{accepted_as, one_fits, one_total, one_row_right, one_row_fits, one_row_total, no_row_fits, no_row_total}
 use Rattle.fast_spelling.proofs.checking.+check.Goals as goal
 
 pub try_body-loop-i-init : goal.try_body-loop-i-init

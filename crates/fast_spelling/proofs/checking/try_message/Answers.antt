@@ -1,15 +1,15 @@
 -- A whole message, by its parts: it suits and fits as they do.
 use Rattle.std.proofs.Common.{ℕ, List, ap, subst, ◌∙◌, ◌≤◌, arith}
-use Rattle.fast_value.specs.Messages.{Slots, total}
-use Rattle.fast_value.specs.Views.{message_data, slots_data}
-use Rattle.fast_tree.specs.Bodies.{body_among}
-use Rattle.fast_template.specs.Flat.{nodes_of, tree_of}
-use Rattle.fast_spelling.specs.Encoding.{EncodesBody}
-use Rattle.fast_spelling.specs.Fields.{Wrote}
-use Rattle.fast_spelling.specs.Suiting.{SuitsBody, SuitsTemplate, FitsLimits}
-use Rattle.fast_spelling.proofs.Spelling.{on_ok}
-use Rattle.fast_spelling.proofs.Checked.{on_any}
-use Rattle.fast_spelling.proofs.Whole.{template_suits, message_made}
+use Rattle.fast_value.specs.meaning.Messages.{Slots, total}
+use Rattle.fast_value.specs.meaning.Views.{message_data, slots_data}
+use Rattle.fast_tree.specs.device.Bodies.{body_among}
+use Rattle.fast_template.specs.meaning.Flat.{nodes_of, tree_of}
+use Rattle.fast_spelling.specs.meaning.Encoding.{EncodesBody}
+use Rattle.fast_spelling.specs.device.Fields.{Wrote}
+use Rattle.fast_spelling.specs.meaning.Suiting.{SuitsBody, SuitsTemplate, FitsLimits}
+use Rattle.fast_spelling.proofs.bytes.Spelling.{on_ok}
+use Rattle.fast_spelling.proofs.limits.Checked.{on_any}
+use Rattle.fast_spelling.proofs.encodings.Whole.{template_suits, message_made}
 use Rattle.fast_spelling.proofs.checking.try_message.Goals as goal
 
 suited : (c : goal.After-finish) → SuitsTemplate (tree_of c.args.templates.now) (message_data c.args.message.now)

@@ -2,8 +2,8 @@
 use Rattle.std.proofs.Common.{◌<◌, ℕ, List, [], ◌∷◌, ap, sym, subst, ◌∙◌, arith}
 use Rattle.std.specs.Prelude.{Bool, false, slice_index_or}
 use Rattle.std.proofs.lemmas.List.{take_all}
-use Rattle.fast_wire.specs.Maps.{bits}
-use Rattle.fast_spelling.proofs.OneByte.{bit_more, clear_more, small_more, stopped_bits, one_byte_map}
+use Rattle.fast_wire.specs.meaning.Maps.{bits}
+use Rattle.fast_spelling.proofs.bytes.OneByte.{bit_more, clear_more, small_more, stopped_bits, one_byte_map}
 use Rattle.fast_spelling.proofs.draft.byte_of.Goals as goal
 use Rattle.fast_spelling.proofs.draft.byte_of.Goals.{then-bit+else-i-ge7, else-bit}
 

@@ -1,7 +1,7 @@
 -- The byte has the bits so far.
 use Rattle.std.proofs.Common.{◌≡◌, ◌<◌, ℕ, ◌∷◌, [], take}
 use Rattle.std.specs.Prelude.{false, slice_index_or}
-use Rattle.fast_wire.specs.Maps.{bits}
+use Rattle.fast_wire.specs.meaning.Maps.{bits}
 use Rattle.fast_spelling.proofs.draft.byte_of.Given as goal
 
 abbrev pub invariant-loop-i : goal.invariant-loop-i

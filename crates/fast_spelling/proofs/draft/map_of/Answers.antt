@@ -1,7 +1,7 @@
 -- No map is longer, and at first no bit is set.
 use Rattle.std.proofs.Common.{List, length, ap, ◌∙◌}
 use Rattle.std.specs.Prelude.{Bool, false, slice_index_or}
-use Rattle.fast_spelling.proofs.Bits.{blank, blank_length, wide}
+use Rattle.fast_spelling.proofs.bytes.Bits.{blank, blank_length, wide}
 use Rattle.fast_spelling.proofs.draft.map_of.Goals as goal
 
 pub loop-i-init : goal.loop-i-init

@@ -2,14 +2,14 @@
 use Rattle.std.proofs.Common.{◌≡◌, ◌++◌, ◌∷◌, [], List, ℕ, ap, sym, subst, ◌∙◌, refl}
 use Rattle.std.specs.Prelude.{Bool, true, false, if◌then◌else◌, option_map}
 use Rattle.std.proofs.lemmas.List.{append-nil}
-use Rattle.fast_value.specs.Values.{scalar_data}
-use Rattle.fast_tree.specs.Tree.{FieldData, uses_bit}
-use Rattle.fast_tree.specs.Nodes.{field_data}
-use Rattle.fast_dict.specs.Dictionary.{previous_at}
-use Rattle.fast_dict.specs.Sending.{sent_data}
+use Rattle.fast_value.specs.meaning.Values.{scalar_data}
+use Rattle.fast_tree.specs.meaning.Tree.{FieldData, uses_bit}
+use Rattle.fast_tree.specs.device.Nodes.{field_data}
+use Rattle.fast_dict.specs.meaning.Dictionary.{previous_at}
+use Rattle.fast_dict.specs.meaning.Sending.{sent_data}
 use Rattle.fast_spelling.specs.declared.draft.Draft.{Draft}
-use Rattle.fast_spelling.specs.Fields.{IsSuited}
-use Rattle.fast_spelling.proofs.FieldsWritten.{field_done}
+use Rattle.fast_spelling.specs.device.Fields.{IsSuited}
+use Rattle.fast_spelling.proofs.rules.FieldsWritten.{field_done}
 use Rattle.fast_spelling.proofs.fields.send.Goals as goal
 use Rattle.fast_spelling.proofs.fields.send.Goals.{then-uses_bit+in_ok-push_bit, else-uses_bit}
 

@@ -1,15 +1,15 @@
 -- The item can be written.
 use Rattle.std.proofs.Common.{subst}
 use Rattle.std.specs.Prelude.{option_map}
-use Rattle.fast_value.specs.Values.{scalar_data}
-use Rattle.fast_tree.specs.Tree.{FieldData}
-use Rattle.fast_tree.specs.Nodes.{field_data}
-use Rattle.fast_dict.specs.Dictionary.{PreviousData}
-use Rattle.fast_dict.specs.Previous.{previous_data}
-use Rattle.fast_dict.specs.Rule.{Rule}
-use Rattle.fast_dict.specs.Sending.{sent_data}
-use Rattle.fast_spelling.proofs.FieldsWritten.{base_short}
-use Rattle.fast_spelling.proofs.Sendable.{rule_sendable}
+use Rattle.fast_value.specs.meaning.Values.{scalar_data}
+use Rattle.fast_tree.specs.meaning.Tree.{FieldData}
+use Rattle.fast_tree.specs.device.Nodes.{field_data}
+use Rattle.fast_dict.specs.meaning.Dictionary.{PreviousData}
+use Rattle.fast_dict.specs.meaning.Previous.{previous_data}
+use Rattle.fast_dict.specs.meaning.Rule.{Rule}
+use Rattle.fast_dict.specs.meaning.Sending.{sent_data}
+use Rattle.fast_spelling.proofs.rules.FieldsWritten.{base_short}
+use Rattle.fast_spelling.proofs.rules.Sendable.{rule_sendable}
 use Rattle.fast_spelling.proofs.fields.write_chosen.Goals as goal
 
 pub send-requires-clause-ruled : goal.send-requires-clause-ruled

@@ -1,14 +1,14 @@
 -- A value is handed on.
 use Rattle.std.proofs.Common.{ap, sym, subst}
 use Rattle.std.specs.Prelude.{Option, option_map}
-use Rattle.fast_value.specs.Kinds.{ScalarData}
-use Rattle.fast_value.specs.Values.{scalar_data}
-use Rattle.fast_tree.specs.Nodes.{field_data}
-use Rattle.fast_spelling.specs.Encoding.{EncodesField}
-use Rattle.fast_spelling.specs.Fields.{Wrote}
-use Rattle.fast_spelling.specs.Refusals.{RefusesField}
-use Rattle.fast_spelling.proofs.Spelling.{on_ok}
-use Rattle.fast_spelling.proofs.Instructions.{told}
+use Rattle.fast_value.specs.meaning.Kinds.{ScalarData}
+use Rattle.fast_value.specs.meaning.Values.{scalar_data}
+use Rattle.fast_tree.specs.device.Nodes.{field_data}
+use Rattle.fast_spelling.specs.meaning.Encoding.{EncodesField}
+use Rattle.fast_spelling.specs.device.Fields.{Wrote}
+use Rattle.fast_spelling.specs.meaning.Refusals.{RefusesField}
+use Rattle.fast_spelling.proofs.bytes.Spelling.{on_ok}
+use Rattle.fast_spelling.proofs.encodings.Instructions.{told}
 use Rattle.fast_spelling.proofs.fields.write_field.Goals as goal
 
 pub returns-in-Some-clause-ok : goal.returns-in-Some-clause-ok

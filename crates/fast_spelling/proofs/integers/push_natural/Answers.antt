@@ -1,6 +1,6 @@
 -- As many groups as twice the number takes.
-use Rattle.fast_spelling.proofs.Groups.{natural_least}
-use Rattle.fast_spelling.proofs.Spelling.{on_ok}
+use Rattle.fast_spelling.proofs.bytes.Groups.{natural_least}
+use Rattle.fast_spelling.proofs.bytes.Spelling.{on_ok}
 use Rattle.fast_spelling.proofs.integers.push_natural.Goals as goal
 
 pub returns : goal.returns

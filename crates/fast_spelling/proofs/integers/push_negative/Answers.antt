@@ -1,8 +1,8 @@
 -- As many groups as twice the complement takes.
 use Rattle.std.proofs.Common.{ℕ, ◌-◌, subst}
-use Rattle.fast_spelling.specs.Groups.{IsGroups}
-use Rattle.fast_spelling.proofs.Groups.{negative_least}
-use Rattle.fast_spelling.proofs.Spelling.{on_ok}
+use Rattle.fast_spelling.specs.device.Groups.{IsGroups}
+use Rattle.fast_spelling.proofs.bytes.Groups.{negative_least}
+use Rattle.fast_spelling.proofs.bytes.Spelling.{on_ok}
 use Rattle.fast_spelling.proofs.integers.push_negative.Goals as goal
 
 pub returns : goal.returns

@@ -1,6 +1,6 @@
 -- The groups, with the stop bit on the last.
 use Rattle.std.proofs.Common.{◌+◌, ◌%◌, [], ◌∷◌}
-use Rattle.fast_spelling.proofs.Groups.{one}
+use Rattle.fast_spelling.proofs.bytes.Groups.{one}
 use Rattle.fast_spelling.proofs.integers.push_one.Goals as goal
 
 pub returns : goal.returns

@@ -1,6 +1,6 @@
 -- The groups, with the stop bit on the last.
 use Rattle.std.proofs.Common.{◌+◌, ◌/◌, ◌%◌, [], ◌∷◌}
-use Rattle.fast_spelling.proofs.Groups.{two}
+use Rattle.fast_spelling.proofs.bytes.Groups.{two}
 use Rattle.fast_spelling.proofs.integers.push_two.Goals as goal
 
 pub returns : goal.returns

@@ -1,7 +1,7 @@
 -- Where NULL may be, 0 stands for it.
 use Rattle.std.proofs.Common.{◌+◌, refl, ap, sym, subst, arith}
 use Rattle.std.specs.Prelude.{Bool, pos, Some}
-use Rattle.fast_wire.specs.Integers.{Means}
+use Rattle.fast_wire.specs.meaning.Integers.{Means}
 use Rattle.fast_spelling.proofs.integers.raised.Goals as goal
 
 pub returns-then-nullable-clause-meaning : goal.returns-then-nullable-clause-meaning

@@ -3,9 +3,9 @@ use Rattle.std.proofs.Common.{◌≡◌, ℤ, sym, subst, ◌∙◌, rules}
 use Rattle.std.specs.Prelude.{true, pos, negsuc, Some}
 use Rattle.std.specs.Int.{w128}
 use Rattle.std.proofs.lemmas.Int.{to_z-of_z}
-use Rattle.fast_wire.specs.Shortest.{IsShortest}
-use Rattle.fast_spelling.proofs.Groups.{signed_means, negative_means}
-use Rattle.fast_spelling.proofs.Spelling.{on_ok, handed}
+use Rattle.fast_wire.specs.device.Shortest.{IsShortest}
+use Rattle.fast_spelling.proofs.bytes.Groups.{signed_means, negative_means}
+use Rattle.fast_spelling.proofs.bytes.Spelling.{on_ok, handed}
 use Rattle.fast_spelling.proofs.integers.write_signed_as.Goals as goal
 
 pub returns-then-number-lt-LEAST_SHORT : goal.returns-then-number-lt-LEAST_SHORT

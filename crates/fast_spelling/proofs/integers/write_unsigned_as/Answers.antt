@@ -1,6 +1,6 @@
 -- As many groups as the number takes.
-use Rattle.fast_spelling.proofs.Groups.{unsigned_means}
-use Rattle.fast_spelling.proofs.Spelling.{on_ok}
+use Rattle.fast_spelling.proofs.bytes.Groups.{unsigned_means}
+use Rattle.fast_spelling.proofs.bytes.Spelling.{on_ok}
 use Rattle.fast_spelling.proofs.integers.write_unsigned_as.Goals as goal
 
 pub returns : goal.returns

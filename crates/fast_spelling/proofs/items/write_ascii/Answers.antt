@@ -1,6 +1,6 @@
 -- The characters, with the stop bit on the last.
 use Rattle.std.proofs.Common.{◌≡◌, ◌≢◌, ◌+◌, ◌-◌, ◌++◌, ◌∷◌, [], suc, List, ℕ, ◌∙◌, ap, append_assoc, arith, length, take, get_or}
-use Rattle.fast_spelling.proofs.Spelling.{ascii_spelled, some_left}
+use Rattle.fast_spelling.proofs.bytes.Spelling.{ascii_spelled, some_left}
 use Rattle.fast_spelling.proofs.items.write_ascii.Goals as goal
 
 pub returns-clause-ok : goal.returns-clause-ok

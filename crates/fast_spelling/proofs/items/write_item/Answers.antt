@@ -1,10 +1,10 @@
 -- Deltas are one or two signed integers, or one and a part of a text.
 use Rattle.std.proofs.Common.{◌++◌, List, ℕ, refl, ◌∙◌, ap, sym, subst, append_assoc, rules, false}
-use Rattle.fast_tree.specs.Nodes.{field_data}
-use Rattle.fast_dict.specs.Sending.{sent_data}
+use Rattle.fast_tree.specs.device.Nodes.{field_data}
+use Rattle.fast_dict.specs.meaning.Sending.{sent_data}
 use Rattle.fast_dict.specs.declared.operators.table.Sent.{Sent}
-use Rattle.fast_spelling.specs.Drafts.{SpellsItem}
-use Rattle.fast_spelling.proofs.Spelling.{on_ok, handed}
+use Rattle.fast_spelling.specs.device.Drafts.{SpellsItem}
+use Rattle.fast_spelling.proofs.bytes.Spelling.{on_ok, handed}
 use Rattle.fast_spelling.proofs.items.write_item.Goals as goal
 
 pub returns-in_ok-write_signed_as-in-IntegerDelta-clause-ok : goal.returns-in_ok-write_signed_as-in-IntegerDelta-clause-ok

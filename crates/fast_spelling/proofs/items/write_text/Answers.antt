@@ -1,6 +1,6 @@
 -- The size, and then the bytes.
 use Rattle.std.proofs.Common.{◌++◌, List, ℕ, ◌∙◌, ap, append_assoc}
-use Rattle.fast_spelling.proofs.Spelling.{sized_spelled, part_short}
+use Rattle.fast_spelling.proofs.bytes.Spelling.{sized_spelled, part_short}
 use Rattle.fast_spelling.proofs.items.write_text.Goals as goal
 
 pub returns-in_ok-extend_from_slice-in_default : goal.returns-in_ok-extend_from_slice-in_default

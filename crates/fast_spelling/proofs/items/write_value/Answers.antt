@@ -3,11 +3,11 @@ use Rattle.std.proofs.Common.{◌++◌, List, ℕ, ℤ, refl, ◌∙◌, ap, sym
 use Rattle.std.specs.Prelude.{true, false, Some}
 use Rattle.std.specs.Int.{w32, w64}
 use Rattle.std.proofs.lemmas.Int.{to_z-of_z}
-use Rattle.fast_wire.specs.Shortest.{IsShortest}
-use Rattle.fast_value.specs.Values.{scalar_data}
+use Rattle.fast_wire.specs.device.Shortest.{IsShortest}
+use Rattle.fast_value.specs.meaning.Values.{scalar_data}
 use Rattle.fast_value.specs.declared.values.Scalar.{Scalar}
-use Rattle.fast_spelling.specs.Drafts.{SpellsValue}
-use Rattle.fast_spelling.proofs.Spelling.{handed}
+use Rattle.fast_spelling.specs.device.Drafts.{SpellsValue}
+use Rattle.fast_spelling.proofs.bytes.Spelling.{handed}
 use Rattle.fast_spelling.proofs.items.write_value.Goals as goal
 
 pub returns-in_ok-write_signed_as-in-I-clause-ok : goal.returns-in_ok-write_signed_as-in-I-clause-ok

@@ -1,4 +1,4 @@
-use Rattle.fast_spelling.proofs.MessagesAgain.{encoded_again}
+use Rattle.fast_spelling.proofs.again.MessagesAgain.{encoded_again}
 use Rattle.fast_spelling.proofs.laws.encoded_again.Goals as goal
 
 pub returns : goal.returns

@@ -1,4 +1,4 @@
-use Rattle.fast_spelling.proofs.MessagesAgain.{encoded_without_zero}
+use Rattle.fast_spelling.proofs.again.MessagesAgain.{encoded_without_zero}
 use Rattle.fast_spelling.proofs.laws.encoded_without_zero.Goals as goal
 
 pub returns : goal.returns

@@ -1,4 +1,4 @@
-use Rattle.fast_spelling.proofs.Mapped.{message_has_map}
+use Rattle.fast_spelling.proofs.bytes.Mapped.{message_has_map}
 use Rattle.fast_spelling.proofs.laws.message_has_map.Goals as goal
 
 pub returns : goal.returns

@@ -1,4 +1,4 @@
-use Rattle.fast_spelling.proofs.MessagesAgain.{spelled_suits}
+use Rattle.fast_spelling.proofs.again.MessagesAgain.{spelled_suits}
 use Rattle.fast_spelling.proofs.laws.spelled_suits.Goals as goal
 
 pub returns : goal.returns

@@ -2,10 +2,10 @@
 use Rattle.std.proofs.Common.{◌∙◌, ap, sym}
 use Rattle.std.proofs.lemmas.List.{map-set}
 use Rattle.std.specs.Prelude.{slice_set}
-use Rattle.fast_spelling.specs.Entries.{entry_now, entry_before}
-use Rattle.fast_spelling.specs.Ledgers.{all_now}
-use Rattle.fast_spelling.proofs.Ledgers.{same_at}
-use Rattle.fast_spelling.proofs.Spelling.{on_ok}
+use Rattle.fast_spelling.specs.meaning.Entries.{entry_now, entry_before}
+use Rattle.fast_spelling.specs.meaning.Ledgers.{all_now}
+use Rattle.fast_spelling.proofs.bytes.Ledgers.{same_at}
+use Rattle.fast_spelling.proofs.bytes.Spelling.{on_ok}
 use Rattle.fast_spelling.proofs.ledger.assign_at.Goals as goal
 
 pub returns-clause-now : goal.returns-clause-now

@@ -2,8 +2,8 @@
 use Rattle.std.proofs.Common.{◌∙◌, sym, subst, arith}
 use Rattle.std.proofs.lemmas.List.{length-set}
 use Rattle.std.proofs.lemmas.List.Elements.{All-set}
-use Rattle.fast_spelling.specs.Entries.{entry_now, IsShort}
-use Rattle.fast_spelling.proofs.Ledgers.{same_at, settled_more}
+use Rattle.fast_spelling.specs.meaning.Entries.{entry_now, IsShort}
+use Rattle.fast_spelling.proofs.bytes.Ledgers.{same_at, settled_more}
 use Rattle.fast_spelling.proofs.ledger.settle_all.Goals as goal
 
 pub loop-i-preserved : goal.loop-i-preserved

@@ -2,8 +2,8 @@
 use Rattle.std.proofs.Common.{◌≡◌, ◌<◌, ℕ, length}
 use Rattle.std.specs.Prelude.{All, slice_index_or}
 use Rattle.fast_spelling.specs.declared.entry.Entry.{Entry}
-use Rattle.fast_spelling.specs.Entries.{IsShort}
-use Rattle.fast_spelling.specs.Ledgers.{all_now}
+use Rattle.fast_spelling.specs.meaning.Entries.{IsShort}
+use Rattle.fast_spelling.specs.meaning.Ledgers.{all_now}
 use Rattle.fast_spelling.proofs.ledger.settle_all.Given as goal
 
 abbrev pub invariant-loop-i : goal.invariant-loop-i

@@ -3,10 +3,10 @@ use Rattle.std.proofs.Common.{◌≡◌, ◌∙◌, ap, sym, subst, length, get_
 use Rattle.std.specs.Prelude.{slice_set}
 use Rattle.std.proofs.lemmas.List.{length-set, length-map, map-set}
 use Rattle.std.proofs.lemmas.List.Elements.{All-set}
-use Rattle.fast_dict.specs.Dictionary.{Dictionary}
-use Rattle.fast_spelling.specs.Entries.{entry_now, entry_before}
-use Rattle.fast_spelling.specs.Ledgers.{all_now, all_before, IsKept}
-use Rattle.fast_spelling.proofs.Ledgers.{same_at, front_more, at_map, unchanged}
+use Rattle.fast_dict.specs.meaning.Dictionary.{Dictionary}
+use Rattle.fast_spelling.specs.meaning.Entries.{entry_now, entry_before}
+use Rattle.fast_spelling.specs.meaning.Ledgers.{all_now, all_before, IsKept}
+use Rattle.fast_spelling.proofs.bytes.Ledgers.{same_at, front_more, at_map, unchanged}
 use Rattle.fast_spelling.proofs.ledger.take_all_back.Goals as goal
 
 pub loop-i-preserved : goal.loop-i-preserved

@@ -1,6 +1,6 @@
 -- The entries so far hold what they held before.
 use Rattle.std.proofs.Common.{◌≡◌, ◌++◌, ℕ, length, take, drop}
-use Rattle.fast_spelling.specs.Ledgers.{all_now, all_before, AreKept}
+use Rattle.fast_spelling.specs.meaning.Ledgers.{all_now, all_before, AreKept}
 use Rattle.fast_spelling.proofs.ledger.take_all_back.Given as goal
 
 abbrev pub invariant-loop-i : goal.invariant-loop-i

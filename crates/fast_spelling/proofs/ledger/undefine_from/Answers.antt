@@ -3,10 +3,10 @@ use Rattle.std.proofs.Common.{◌≡◌, ◌∙◌, ap, sym, subst, length, get_
 use Rattle.std.specs.Prelude.{slice_set}
 use Rattle.std.proofs.lemmas.List.{length-set, length-map, map-set}
 use Rattle.std.proofs.lemmas.List.Elements.{All-set}
-use Rattle.fast_dict.specs.Dictionary.{Dictionary, undefined}
-use Rattle.fast_spelling.specs.Entries.{entry_now, entry_before}
-use Rattle.fast_spelling.specs.Ledgers.{all_now, IsKept}
-use Rattle.fast_spelling.proofs.Ledgers.{same_at, behind_more}
+use Rattle.fast_dict.specs.meaning.Dictionary.{Dictionary, undefined}
+use Rattle.fast_spelling.specs.meaning.Entries.{entry_now, entry_before}
+use Rattle.fast_spelling.specs.meaning.Ledgers.{all_now, IsKept}
+use Rattle.fast_spelling.proofs.bytes.Ledgers.{same_at, behind_more}
 use Rattle.fast_spelling.proofs.ledger.undefine_from.Goals as goal
 
 pub loop-i-preserved : goal.loop-i-preserved

@@ -1,8 +1,8 @@
 -- The entries so far are undefined, but for the first ones.
 use Rattle.std.proofs.Common.{◌≡◌, ◌++◌, ◌-◌, ℕ, length, take, drop}
 use Rattle.std.specs.Prelude.{replicate}
-use Rattle.fast_dict.specs.Dictionary.{undefined}
-use Rattle.fast_spelling.specs.Ledgers.{all_now, all_before, AreKept}
+use Rattle.fast_dict.specs.meaning.Dictionary.{undefined}
+use Rattle.fast_spelling.specs.meaning.Ledgers.{all_now, all_before, AreKept}
 use Rattle.fast_spelling.proofs.ledger.undefine_from.Given as goal
 
 abbrev pub invariant-loop-i : goal.invariant-loop-i

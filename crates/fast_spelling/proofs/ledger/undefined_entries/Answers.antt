@@ -2,8 +2,8 @@
 use Rattle.std.proofs.Common.{◌≡◌, ◌++◌, ◌∷◌, [], sym, subst}
 use Rattle.std.specs.Prelude.{All}
 use Rattle.fast_spelling.specs.declared.entry.Entry.{Entry}
-use Rattle.fast_spelling.specs.Entries.{IsShort}
-use Rattle.fast_spelling.proofs.Ledgers.{all_more, one_more_fresh}
+use Rattle.fast_spelling.specs.meaning.Entries.{IsShort}
+use Rattle.fast_spelling.proofs.bytes.Ledgers.{all_more, one_more_fresh}
 use Rattle.fast_spelling.proofs.ledger.undefined_entries.Goals as goal
 
 pub loop-preserved : goal.loop-preserved

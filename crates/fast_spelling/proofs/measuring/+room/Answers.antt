@@ -2,10 +2,10 @@
 use Rattle.std.proofs.Common.{◌≡◌, ◌+◌, ◌*◌, ◌<◌, ◌≤◌, ap, sym, ◌∙◌, arith, get_or}
 use Rattle.std.specs.Prelude.{Option}
 use Rattle.fast_value.specs.declared.messages.Item.{Item}
-use Rattle.fast_value.specs.Messages.{group as group_item, sequence as sequence_item}
-use Rattle.fast_value.specs.Views.{item_data, slots_data, elements_data}
+use Rattle.fast_value.specs.meaning.Messages.{group as group_item, sequence as sequence_item}
+use Rattle.fast_value.specs.meaning.Views.{item_data, slots_data, elements_data}
 use Rattle.fast_value.proofs.ItemViews.{item_data-Group, item_data-Sequence, count-elements_data}
-use Rattle.fast_spelling.proofs.Depths.{item_depth, slots_depth, rows_depth, slot_depth, row_depth}
+use Rattle.fast_spelling.proofs.limits.Depths.{item_depth, slots_depth, rows_depth, slot_depth, row_depth}
 use Rattle.fast_spelling.proofs.measuring.+room.Goals as goal
 
 pub room_after_item-room_after_slots-requires : goal.room_after_item-room_after_slots-requires

@@ -1,9 +1,9 @@
 -- The slots, and the elements, in front of the rest keep to the limits, and what is left of the room is what they leave of it.
 use Rattle.std.proofs.Common.{◌≡◌, ◌+◌, ◌*◌, ◌≤◌, ◌↔◌, drop}
-use Rattle.fast_value.specs.Messages.{count, total, rows_total}
-use Rattle.fast_value.specs.Views.{item_data, slots_data, elements_data}
-use Rattle.fast_spelling.specs.Suiting.{AreWithinLimits, RowsWithinLimits}
-use Rattle.fast_spelling.proofs.Depths.{item_depth, slots_depth, rows_depth}
+use Rattle.fast_value.specs.meaning.Messages.{count, total, rows_total}
+use Rattle.fast_value.specs.meaning.Views.{item_data, slots_data, elements_data}
+use Rattle.fast_spelling.specs.meaning.Suiting.{AreWithinLimits, RowsWithinLimits}
+use Rattle.fast_spelling.proofs.limits.Depths.{item_depth, slots_depth, rows_depth}
 use Rattle.fast_spelling.proofs.measuring.+room.Given as goal
 
 abbrev pub invariant-room_after_slots-loop-slot : goal.invariant-room_after_slots-loop-slot

@@ -1,14 +1,14 @@
 -- The identifier is a mandatory copy of an integer.
 use Rattle.std.proofs.Common.{ℕ, sym, subst}
 use Rattle.std.specs.Prelude.{Some}
-use Rattle.fast_value.specs.Kinds.{U}
-use Rattle.fast_tree.specs.Tree.{FieldData, identifier}
+use Rattle.fast_value.specs.meaning.Kinds.{U}
+use Rattle.fast_tree.specs.meaning.Tree.{FieldData, identifier}
 use Rattle.fast_spelling.specs.declared.faults.EncodeFault.{EncodeFault}
-use Rattle.fast_spelling.specs.Encoding.{EncodesField}
-use Rattle.fast_spelling.specs.Fields.{Wrote}
-use Rattle.fast_spelling.specs.Refusals.{RefusesField}
-use Rattle.fast_spelling.proofs.Spelling.{on_ok}
-use Rattle.fast_spelling.proofs.Whole.{identifier_goes, only_memory}
+use Rattle.fast_spelling.specs.meaning.Encoding.{EncodesField}
+use Rattle.fast_spelling.specs.device.Fields.{Wrote}
+use Rattle.fast_spelling.specs.meaning.Refusals.{RefusesField}
+use Rattle.fast_spelling.proofs.bytes.Spelling.{on_ok}
+use Rattle.fast_spelling.proofs.encodings.Whole.{identifier_goes, only_memory}
 use Rattle.fast_spelling.proofs.messages.write_identifier.Goals as goal
 
 pub returns-clause-ok : goal.returns-clause-ok

@@ -2,18 +2,18 @@
 use Rattle.std.proofs.Common.{ℕ, List, ap, sym, subst, ◌∙◌}
 use Rattle.std.specs.Prelude.{length}
 use Rattle.std.proofs.lemmas.Result.{err_from_is_err_and}
-use Rattle.fast_value.specs.Messages.{Slots}
-use Rattle.fast_value.specs.Views.{message_data, slots_data}
-use Rattle.fast_tree.specs.Bodies.{body_among}
-use Rattle.fast_template.specs.Flat.{nodes_of, tree_of}
-use Rattle.fast_spelling.specs.Drafts.{IsTold}
-use Rattle.fast_spelling.specs.Encoding.{EncodesBody}
-use Rattle.fast_spelling.specs.Fields.{Wrote}
-use Rattle.fast_spelling.specs.Refusals.{RefusesBody, RefusesMessage}
-use Rattle.fast_spelling.specs.Suiting.{SuitsBody}
-use Rattle.fast_spelling.proofs.Instructions.{told, told_at}
-use Rattle.fast_spelling.proofs.Spelling.{on_ok}
-use Rattle.fast_spelling.proofs.Whole.{slots_suit, body_refused, message_unmapped, message_written}
+use Rattle.fast_value.specs.meaning.Messages.{Slots}
+use Rattle.fast_value.specs.meaning.Views.{message_data, slots_data}
+use Rattle.fast_tree.specs.device.Bodies.{body_among}
+use Rattle.fast_template.specs.meaning.Flat.{nodes_of, tree_of}
+use Rattle.fast_spelling.specs.device.Drafts.{IsTold}
+use Rattle.fast_spelling.specs.meaning.Encoding.{EncodesBody}
+use Rattle.fast_spelling.specs.device.Fields.{Wrote}
+use Rattle.fast_spelling.specs.meaning.Refusals.{RefusesBody, RefusesMessage}
+use Rattle.fast_spelling.specs.meaning.Suiting.{SuitsBody}
+use Rattle.fast_spelling.proofs.encodings.Instructions.{told, told_at}
+use Rattle.fast_spelling.proofs.bytes.Spelling.{on_ok}
+use Rattle.fast_spelling.proofs.encodings.Whole.{slots_suit, body_refused, message_unmapped, message_written}
 use Rattle.fast_spelling.proofs.messages.write_message.Goals as goal
 
 pub write_body-requires-clause-suits : goal.write_body-requires-clause-suits

@@ -1,9 +1,9 @@
 -- Each shape has its head.
 use Rattle.std.proofs.Common.{inl, ap, sym}
 use Rattle.fast_tree.specs.declared.instructions.Shape.TheVariants.{Field, Decimal, Group, Sequence}
-use Rattle.fast_template.specs.Flat.{nodes_of}
-use Rattle.fast_spelling.specs.Nodes.{head_in}
-use Rattle.fast_spelling.proofs.Instructions.{at_shape, short_at}
+use Rattle.fast_template.specs.meaning.Flat.{nodes_of}
+use Rattle.fast_spelling.specs.device.Nodes.{head_in}
+use Rattle.fast_spelling.proofs.encodings.Instructions.{at_shape, short_at}
 use Rattle.fast_spelling.proofs.parts.head_of.Goals as goal
 
 pub returns-in-Field-clause-head : goal.returns-in-Field-clause-head

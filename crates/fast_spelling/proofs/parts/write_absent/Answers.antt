@@ -2,10 +2,10 @@
 use Rattle.std.proofs.Common.{[], ◌∷◌, sym, ◌∙◌}
 use Rattle.std.specs.Prelude.{false}
 use Rattle.std.proofs.lemmas.List.{append-nil}
-use Rattle.fast_template.specs.Flat.{nodes_of, field_data}
-use Rattle.fast_spelling.specs.Nodes.{instruction_in}
-use Rattle.fast_spelling.proofs.Spelling.{on_ok}
-use Rattle.fast_spelling.proofs.Instructions.{served, told, absent_optional, absent_encodes, absent_refuses, absent_group}
+use Rattle.fast_template.specs.meaning.Flat.{nodes_of, field_data}
+use Rattle.fast_spelling.specs.device.Nodes.{instruction_in}
+use Rattle.fast_spelling.proofs.bytes.Spelling.{on_ok}
+use Rattle.fast_spelling.proofs.encodings.Instructions.{served, told, absent_optional, absent_encodes, absent_refuses, absent_group}
 use Rattle.fast_spelling.proofs.parts.write_absent.Goals as goal
 
 pub write_field-requires-clause-served : goal.write_field-requires-clause-served

@@ -6,18 +6,18 @@ use Rattle.std.proofs.lemmas.Int.{to_z-of_z}
 use Rattle.std.proofs.lemmas.Result.{err_from_is_err_and}
 use Rattle.fast_value.specs.declared.values.Value.{Value}
 use Rattle.fast_value.specs.declared.settings.Limits.{Limits}
-use Rattle.fast_value.specs.Kinds.{I}
-use Rattle.fast_value.specs.Values.{value_data}
-use Rattle.fast_value.specs.Messages.{one}
-use Rattle.fast_tree.specs.Tree.{FieldData}
-use Rattle.fast_tree.specs.Nodes.{field_data}
+use Rattle.fast_value.specs.meaning.Kinds.{I}
+use Rattle.fast_value.specs.meaning.Values.{value_data}
+use Rattle.fast_value.specs.meaning.Messages.{one}
+use Rattle.fast_tree.specs.meaning.Tree.{FieldData}
+use Rattle.fast_tree.specs.device.Nodes.{field_data}
 use Rattle.fast_spelling.specs.declared.faults.EncodeFault.{EncodeFault}
-use Rattle.fast_spelling.specs.Drafts.{IsTold}
-use Rattle.fast_spelling.specs.Encoding.{EncodesField, EncodesDecimal}
-use Rattle.fast_spelling.specs.Fields.{Wrote}
-use Rattle.fast_spelling.specs.Refusals.{RefusesField, RefusesDecimal}
-use Rattle.fast_spelling.proofs.Spelling.{on_ok}
-use Rattle.fast_spelling.proofs.Instructions.{told, told_at, wrote_twice}
+use Rattle.fast_spelling.specs.device.Drafts.{IsTold}
+use Rattle.fast_spelling.specs.meaning.Encoding.{EncodesField, EncodesDecimal}
+use Rattle.fast_spelling.specs.device.Fields.{Wrote}
+use Rattle.fast_spelling.specs.meaning.Refusals.{RefusesField, RefusesDecimal}
+use Rattle.fast_spelling.proofs.bytes.Spelling.{on_ok}
+use Rattle.fast_spelling.proofs.encodings.Instructions.{told, told_at, wrote_twice}
 use Rattle.fast_spelling.proofs.parts.write_decimal.Goals as goal
 
 pub returns-in_err-write_field-in-Dec-clause-err : goal.returns-in_err-write_field-in-Dec-clause-err

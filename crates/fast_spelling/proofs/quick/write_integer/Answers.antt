@@ -4,14 +4,14 @@ use Rattle.std.specs.Prelude.{false, true, ◌-ℤ◌, Some}
 use Rattle.std.specs.Int.{w128}
 use Rattle.std.proofs.lemmas.Int.{to_z-of_z}
 use Rattle.std.proofs.lemmas.List.{append-nil}
-use Rattle.fast_value.specs.Kinds.{integer_of}
-use Rattle.fast_value.specs.Values.{scalar_data}
-use Rattle.fast_tree.specs.Nodes.{field_data}
-use Rattle.fast_dict.specs.Dictionary.{assigned, previous_at}
-use Rattle.fast_dict.specs.Operators.{integer_delta}
-use Rattle.fast_dict.specs.Rule.{Rule}
-use Rattle.fast_spelling.specs.Fields.{IsSuited}
-use Rattle.fast_spelling.proofs.Usual.{step_same, delta_ruled, copy_passed, default_passed, constant_ruled}
+use Rattle.fast_value.specs.meaning.Kinds.{integer_of}
+use Rattle.fast_value.specs.meaning.Values.{scalar_data}
+use Rattle.fast_tree.specs.device.Nodes.{field_data}
+use Rattle.fast_dict.specs.meaning.Dictionary.{assigned, previous_at}
+use Rattle.fast_dict.specs.meaning.Operators.{integer_delta}
+use Rattle.fast_dict.specs.meaning.Rule.{Rule}
+use Rattle.fast_spelling.specs.device.Fields.{IsSuited}
+use Rattle.fast_spelling.proofs.rules.Usual.{step_same, delta_ruled, copy_passed, default_passed, constant_ruled}
 use Rattle.fast_spelling.proofs.quick.write_integer.Goals as goal
 
 pub send-requires-in-Some-held_in-clause-ruled : goal.send-requires-in-Some-held_in-clause-ruled

@@ -2,10 +2,10 @@
 use Rattle.std.proofs.Common.{[], ◌∷◌, refl, ap, sym, ◌∙◌}
 use Rattle.std.specs.Prelude.{false, option_map}
 use Rattle.std.proofs.lemmas.List.{append-nil}
-use Rattle.fast_value.specs.Values.{value_data}
-use Rattle.fast_tree.specs.Nodes.{field_data}
-use Rattle.fast_dict.specs.Dictionary.{previous_at}
-use Rattle.fast_spelling.proofs.Usual.{absent_plain, absent_delta, default_absent, copy_absent}
+use Rattle.fast_value.specs.meaning.Values.{value_data}
+use Rattle.fast_tree.specs.device.Nodes.{field_data}
+use Rattle.fast_dict.specs.meaning.Dictionary.{previous_at}
+use Rattle.fast_spelling.proofs.rules.Usual.{absent_plain, absent_delta, default_absent, copy_absent}
 use Rattle.fast_spelling.proofs.quick.write_none.Goals as goal
 
 pub send-requires-clause-ruled : goal.send-requires-clause-ruled

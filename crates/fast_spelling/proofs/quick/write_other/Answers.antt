@@ -2,11 +2,11 @@
 use Rattle.std.proofs.Common.{ℕ, [], ◌∷◌, refl, ap, sym, subst, ◌∙◌}
 use Rattle.std.specs.Prelude.{false, Some}
 use Rattle.std.proofs.lemmas.List.{append-nil}
-use Rattle.fast_value.specs.Values.{scalar_data}
-use Rattle.fast_tree.specs.Nodes.{field_data}
-use Rattle.fast_dict.specs.Dictionary.{assigned, previous_at}
-use Rattle.fast_spelling.specs.Fields.{IsSuited}
-use Rattle.fast_spelling.proofs.Usual.{constant_ruled, copy_passed, default_passed}
+use Rattle.fast_value.specs.meaning.Values.{scalar_data}
+use Rattle.fast_tree.specs.device.Nodes.{field_data}
+use Rattle.fast_dict.specs.meaning.Dictionary.{assigned, previous_at}
+use Rattle.fast_spelling.specs.device.Fields.{IsSuited}
+use Rattle.fast_spelling.proofs.rules.Usual.{constant_ruled, copy_passed, default_passed}
 use Rattle.fast_spelling.proofs.quick.write_other.Goals as goal
 
 pub returns-in_ok-push_bit-in-Some-clause-ok : goal.returns-in_ok-push_bit-in-Some-clause-ok

@@ -3,13 +3,13 @@ use Rattle.std.proofs.Common.{◌≡◌, ℤ, subst, rules, to_z, of_z}
 use Rattle.std.specs.Prelude.{Some}
 use Rattle.std.specs.Int.{w64}
 use Rattle.std.proofs.lemmas.Int.{to_z-of_z}
-use Rattle.fast_value.specs.Kinds.{I}
-use Rattle.fast_tree.specs.Nodes.{field_data}
-use Rattle.fast_spelling.specs.Encoding.{EncodesField}
-use Rattle.fast_spelling.specs.Fields.{Wrote}
-use Rattle.fast_spelling.specs.Refusals.{RefusesField}
-use Rattle.fast_spelling.proofs.Spelling.{on_ok}
-use Rattle.fast_spelling.proofs.Instructions.{told}
+use Rattle.fast_value.specs.meaning.Kinds.{I}
+use Rattle.fast_tree.specs.device.Nodes.{field_data}
+use Rattle.fast_spelling.specs.meaning.Encoding.{EncodesField}
+use Rattle.fast_spelling.specs.device.Fields.{Wrote}
+use Rattle.fast_spelling.specs.meaning.Refusals.{RefusesField}
+use Rattle.fast_spelling.proofs.bytes.Spelling.{on_ok}
+use Rattle.fast_spelling.proofs.encodings.Instructions.{told}
 use Rattle.fast_spelling.proofs.quick.write_signed.Goals as goal
 
 pub returns-clause-ok : goal.returns-clause-ok

@@ -3,19 +3,19 @@ use Rattle.std.proofs.Common.{◌≡◌, ◌<◌, ◌+◌, ◌*◌, ◌≤◌, �
 use Rattle.std.specs.Prelude.{◌^◌, false, Some, option_map}
 use Rattle.std.proofs.lemmas.Bool.{false≢true}
 use Rattle.fast_value.specs.declared.messages.Item.{Item}
-use Rattle.fast_value.specs.Messages.{one, group as group_item, sequence as sequence_item, count}
-use Rattle.fast_value.specs.Values.{value_data}
-use Rattle.fast_value.specs.Views.{item_data, slots_data, elements_data}
+use Rattle.fast_value.specs.meaning.Messages.{one, group as group_item, sequence as sequence_item, count}
+use Rattle.fast_value.specs.meaning.Values.{value_data}
+use Rattle.fast_value.specs.meaning.Views.{item_data, slots_data, elements_data}
 use Rattle.fast_value.proofs.ItemViews.{item_data-One, item_data-Group, item_data-Sequence, count-elements_data}
 use Rattle.fast_tree.specs.declared.instructions.Shape.{Shape}
 use Rattle.fast_tree.specs.declared.instructions.Shape.TheVariants.{Field, Decimal, Group, Sequence}
-use Rattle.fast_tree.specs.Nodes.{field_data}
-use Rattle.fast_tree.specs.Numbers.{numbers_of, AreBetween}
-use Rattle.fast_tree.specs.Bodies.{body_among}
-use Rattle.fast_template.specs.Flat.{nodes_of}
-use Rattle.fast_spelling.specs.Suiting.{AreRight, SuitsBody}
-use Rattle.fast_spelling.proofs.Depths.{item_depth, option_depth, slots_depth, rows_depth, option_depth_at, row_depth}
-use Rattle.fast_spelling.proofs.Suited.{suits_length, slot_suits, slot_fails, no_slot_suits, row_suits, row_fails, no_row_suits, suits_at, fails, decimal_right}
+use Rattle.fast_tree.specs.device.Nodes.{field_data}
+use Rattle.fast_tree.specs.device.Numbers.{numbers_of, AreBetween}
+use Rattle.fast_tree.specs.device.Bodies.{body_among}
+use Rattle.fast_template.specs.meaning.Flat.{nodes_of}
+use Rattle.fast_spelling.specs.meaning.Suiting.{AreRight, SuitsBody}
+use Rattle.fast_spelling.proofs.limits.Depths.{item_depth, option_depth, slots_depth, rows_depth, option_depth_at, row_depth}
+use Rattle.fast_spelling.proofs.limits.Suited.{suits_length, slot_suits, slot_fails, no_slot_suits, row_suits, row_fails, no_row_suits, suits_at, fails, decimal_right}
 use Rattle.fast_spelling.proofs.suiting.+suits.Goals as goal
 
 pub suits_body-returns-then-body-slots : goal.suits_body-returns-then-body-slots

@@ -6,8 +6,8 @@ use Rattle.std.proofs.lemmas.Str.{is_utf8-from_IsUtf8, IsUtf8-from_is_utf8}
 use Rattle.fast_value.specs.declared.codes.Code.{Code}
 use Rattle.fast_value.specs.declared.codes.Code.TheVariants.{R2}
 use Rattle.fast_value.specs.declared.values.Scalar.{Scalar}
-use Rattle.fast_value.specs.Kinds.{UnicodeText}
-use Rattle.fast_dict.specs.Answers.{scalar_answer}
+use Rattle.fast_value.specs.meaning.Kinds.{UnicodeText}
+use Rattle.fast_dict.specs.meaning.Answers.{scalar_answer}
 use Rattle.fast_spelling.proofs.suiting.is_utf8.Goals as goal
 
 answered : (b : Bool) (t : List ℕ) (r : Result Scalar Code) → scalar_answer r ≡ (if b then Ok (UnicodeText t) else Err R2) → is_ok r ≡ b

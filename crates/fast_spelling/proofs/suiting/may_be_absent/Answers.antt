@@ -2,8 +2,8 @@
 use Rattle.std.proofs.Common.{refl}
 use Rattle.std.specs.Prelude.{None}
 use Rattle.fast_tree.specs.declared.instructions.Shape.TheVariants.{Field, Decimal, Group, Sequence}
-use Rattle.fast_template.specs.Flat.{nodes_of}
-use Rattle.fast_spelling.proofs.Suited.{suits_at}
+use Rattle.fast_template.specs.meaning.Flat.{nodes_of}
+use Rattle.fast_spelling.proofs.limits.Suited.{suits_at}
 use Rattle.fast_spelling.proofs.suiting.may_be_absent.Goals as goal
 
 pub returns-in-Field : goal.returns-in-Field

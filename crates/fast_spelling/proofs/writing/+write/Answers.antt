@@ -3,31 +3,31 @@ use Rattle.std.proofs.Common.{◌≡◌, ◌<◌, ◌≤◌, ◌+◌, ◌*◌, �
 use Rattle.std.specs.Prelude.{true, nat_lt, Option, Some, None, slice_index}
 use Rattle.std.proofs.lemmas.Result.{err_from_is_err_and}
 use Rattle.fast_value.specs.declared.messages.Item.{Item}
-use Rattle.fast_value.specs.Kinds.{ScalarData, U, text_of}
-use Rattle.fast_value.specs.Messages.{ItemData, one, group as group_item, sequence as sequence_item, count}
-use Rattle.fast_value.specs.Values.{value_data}
-use Rattle.fast_value.specs.Views.{item_data, slots_data, elements_data}
+use Rattle.fast_value.specs.meaning.Kinds.{ScalarData, U, text_of}
+use Rattle.fast_value.specs.meaning.Messages.{ItemData, one, group as group_item, sequence as sequence_item, count}
+use Rattle.fast_value.specs.meaning.Values.{value_data}
+use Rattle.fast_value.specs.meaning.Views.{item_data, slots_data, elements_data}
 use Rattle.fast_value.proofs.ItemViews.{item_data-One, item_data-Group, item_data-Sequence, count-elements_data}
 use Rattle.fast_tree.specs.declared.instructions.Shape.TheVariants.{Field, Decimal, Group, Sequence}
-use Rattle.fast_tree.specs.Nodes.{label_of}
-use Rattle.fast_template.specs.Flat.{nodes_of, tree_of, field_data}
-use Rattle.fast_tree.specs.Bodies.{body_among, instruction_among}
-use Rattle.fast_spelling.specs.Drafts.{IsTold}
-use Rattle.fast_tree.specs.Tree.{FieldData}
-use Rattle.fast_spelling.specs.Nodes.{instruction_in, Keeps}
-use Rattle.fast_spelling.specs.Refusals.{HaveNoMap, RefusesField, Refuses, RefusesBody}
-use Rattle.fast_spelling.proofs.Instructions.{at_shape, usable_at, short_at, served, told, told_at, suits_as, encodes_as, refuses_as, field_encodes, field_refuses, decimal_encodes, decimal_refuses, group_encodes, group_refuses, sequence_encodes, length_refuses, elements_refuse, IsWithinOption}
-use Rattle.fast_spelling.proofs.Spelling.{on_ok}
-use Rattle.fast_spelling.proofs.Depths.{item_depth, slots_depth, rows_depth, slot_depth, row_depth}
+use Rattle.fast_tree.specs.device.Nodes.{label_of}
+use Rattle.fast_template.specs.meaning.Flat.{nodes_of, tree_of, field_data}
+use Rattle.fast_tree.specs.device.Bodies.{body_among, instruction_among}
+use Rattle.fast_spelling.specs.device.Drafts.{IsTold}
+use Rattle.fast_tree.specs.meaning.Tree.{FieldData}
+use Rattle.fast_spelling.specs.device.Nodes.{instruction_in, Keeps}
+use Rattle.fast_spelling.specs.meaning.Refusals.{HaveNoMap, RefusesField, Refuses, RefusesBody}
+use Rattle.fast_spelling.proofs.encodings.Instructions.{at_shape, usable_at, short_at, served, told, told_at, suits_as, encodes_as, refuses_as, field_encodes, field_refuses, decimal_encodes, decimal_refuses, group_encodes, group_refuses, sequence_encodes, length_refuses, elements_refuse, IsWithinOption}
+use Rattle.fast_spelling.proofs.bytes.Spelling.{on_ok}
+use Rattle.fast_spelling.proofs.limits.Depths.{item_depth, slots_depth, rows_depth, slot_depth, row_depth}
 use Rattle.std.specs.declared.vec.Vec.{Vec}
 use Rattle.std.specs.declared.alloc.Global.{Global}
 use Rattle.fast_spelling.specs.declared.faults.EncodeFault.{EncodeFault}
 use Rattle.fast_spelling.specs.declared.faults.EncodeFault.TheVariants.{E3}
-use Rattle.fast_spelling.specs.Encoding.{EncodesField, EncodesBody, EncodesSegment, EncodesElements}
-use Rattle.fast_spelling.specs.Fields.{Wrote}
+use Rattle.fast_spelling.specs.meaning.Encoding.{EncodesField, EncodesBody, EncodesSegment, EncodesElements}
+use Rattle.fast_spelling.specs.device.Fields.{Wrote}
 use Rattle.fast_tree.specs.declared.instructions.Shape.{Shape}
-use Rattle.fast_tree.specs.Numbers.{numbers_of, AreBetween}
-use Rattle.fast_spelling.proofs.Progress.{written_start, more_at, refused_at, suits_more, fits_more, all_written, ready_kept, keeps_on, keeps_all, on_both, suits_here, fits_here, closed, unclosed, row_more, row_refused, row_right, row_fits, rows_start, rows_done, has_width}
+use Rattle.fast_tree.specs.device.Numbers.{numbers_of, AreBetween}
+use Rattle.fast_spelling.proofs.encodings.Progress.{written_start, more_at, refused_at, suits_more, fits_more, all_written, ready_kept, keeps_on, keeps_all, on_both, suits_here, fits_here, closed, unclosed, row_more, row_refused, row_right, row_fits, rows_start, rows_done, has_width}
 use Rattle.fast_spelling.proofs.writing.+write.Goals as goal
 use Rattle.fast_spelling.proofs.writing.+write.Goals.{write_body-in-None+in_ok-write_absent-in-None, write_body-in-Some+in_ok-write_item-in-Some}
 

@@ -1,4 +1,4 @@
-use Rattle.fast_stream.proofs.Caps.{stream_begins, begun_bound}
+use Rattle.fast_stream.proofs.streams.Caps.{stream_begins, begun_bound}
 use Rattle.fast_stream.proofs.laws.begun_bound.Goals as goal
 
 pub returns-clause-some : goal.returns-clause-some

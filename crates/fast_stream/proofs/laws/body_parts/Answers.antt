@@ -1,4 +1,4 @@
-use Rattle.fast_stream.proofs.Caps.{size_joined, outer_joined, widest_joined}
+use Rattle.fast_stream.proofs.streams.Caps.{size_joined, outer_joined, widest_joined}
 use Rattle.fast_stream.proofs.laws.body_parts.Goals as goal
 
 pub returns-clause-size : goal.returns-clause-size

@@ -1,4 +1,4 @@
-use Rattle.fast_stream.proofs.Caps.{element_size, element_widest}
+use Rattle.fast_stream.proofs.streams.Caps.{element_size, element_widest}
 use Rattle.fast_stream.proofs.laws.element_within.Goals as goal
 
 pub returns-clause-size : goal.returns-clause-size

@@ -1,4 +1,4 @@
-use Rattle.fast_stream.proofs.Bound.{message-bound}
+use Rattle.fast_stream.proofs.streams.Bound.{message-bound}
 use Rattle.fast_stream.proofs.laws.message_bound.Goals as goal
 
 pub returns : goal.returns

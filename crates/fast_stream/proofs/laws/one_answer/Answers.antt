@@ -1,4 +1,4 @@
-use Rattle.fast_stream.proofs.Reading.{one_answer}
+use Rattle.fast_stream.proofs.streams.Reading.{one_answer}
 use Rattle.fast_stream.proofs.laws.one_answer.Goals as goal
 
 pub returns : goal.returns

@@ -1,4 +1,4 @@
-use Rattle.fast_stream.proofs.Reading.{reading-append}
+use Rattle.fast_stream.proofs.streams.Reading.{reading-append}
 use Rattle.fast_stream.proofs.laws.reading_in_pieces.Goals as goal
 
 pub returns : goal.returns

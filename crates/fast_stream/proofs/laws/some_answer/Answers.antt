@@ -1,4 +1,4 @@
-use Rattle.fast_stream.proofs.Reading.{some_answer}
+use Rattle.fast_stream.proofs.streams.Reading.{some_answer}
 use Rattle.fast_stream.proofs.laws.some_answer.Goals as goal
 
 pub returns : goal.returns

@@ -1,4 +1,4 @@
-use Rattle.fast_stream.proofs.Lenient.{spelled-lenient}
+use Rattle.fast_stream.proofs.terms.Lenient.{spelled-lenient}
 use Rattle.fast_stream.proofs.laws.strict_is_lenient.Goals as goal
 
 pub returns : goal.returns

@@ -1,14 +1,14 @@
 use Rattle.std.proofs.Common.{ap, ◌∙◌, ◌+◌, max, drop, sym, length, refl, ◌<◌, subst}
 use Rattle.std.specs.Prelude.{slice_index, slice_index_or}
 use Rattle.std.proofs.Math.Nat.{add_assoc, add-zero, max-zero}
-use Rattle.fast_tree.specs.Sizes.{event_weights, size, body_size, outer, body_outer, widest, body_widest}
-use Rattle.fast_template.specs.Counts.{AreCountsOf, AreCountsOfBody}
-use Rattle.fast_template.specs.Flat.{no_instruction, body_of, instructions_from}
-use Rattle.fast_tree.specs.Numbers.{AreBetween}
-use Rattle.fast_template.specs.Saturation.{in_64_bits}
-use Rattle.fast_notation.proofs.Walks.{body_at_end}
-use Rattle.fast_notation.proofs.Bodies.{instruction_here, next_instruction, names_later}
-use Rattle.fast_notation.proofs.Measures.{left_at_node, left_at_body, smaller_at_node, smaller_at_body, all_below}
+use Rattle.fast_tree.specs.meaning.Sizes.{event_weights, size, body_size, outer, body_outer, widest, body_widest}
+use Rattle.fast_template.specs.device.Counts.{AreCountsOf, AreCountsOfBody}
+use Rattle.fast_template.specs.meaning.Flat.{no_instruction, body_of, instructions_from}
+use Rattle.fast_tree.specs.device.Numbers.{AreBetween}
+use Rattle.fast_template.specs.device.Saturation.{in_64_bits}
+use Rattle.fast_notation.proofs.nodes.Walks.{body_at_end}
+use Rattle.fast_notation.proofs.nodes.Bodies.{instruction_here, next_instruction, names_later}
+use Rattle.fast_notation.proofs.nodes.Measures.{left_at_node, left_at_body, smaller_at_node, smaller_at_body, all_below}
 use Rattle.fast_template.proofs.Saturation.{max_assoc}
 use Rattle.fast_template.proofs.caps.+counts.Goals as goal
 

@@ -1,8 +1,8 @@
 use Rattle.std.proofs.Common.{◌≡◌, ◌+◌, ℕ, drop, length, max}
-use Rattle.fast_template.specs.Counts.{AreCounts}
-use Rattle.fast_template.specs.Flat.{body_of, instructions_from}
-use Rattle.fast_tree.specs.Sizes.{event_weights, body_size, body_outer, body_widest}
-use Rattle.fast_notation.proofs.Measures.{left_at_node, left_at_body}
+use Rattle.fast_template.specs.device.Counts.{AreCounts}
+use Rattle.fast_template.specs.meaning.Flat.{body_of, instructions_from}
+use Rattle.fast_tree.specs.meaning.Sizes.{event_weights, body_size, body_outer, body_widest}
+use Rattle.fast_notation.proofs.nodes.Measures.{left_at_node, left_at_body}
 use Rattle.fast_template.proofs.caps.+counts.Given as goal
 
 abbrev pub decreases-body_counts : goal.decreases-body_counts

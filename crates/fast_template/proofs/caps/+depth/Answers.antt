@@ -1,11 +1,11 @@
 use Rattle.std.proofs.Common.{ap, sym, ◌∙◌, length, refl, min, ◌+◌, ◌<◌, subst}
 use Rattle.std.specs.Prelude.{slice_index}
-use Rattle.fast_template.specs.Saturation.{in_32_bits}
-use Rattle.fast_tree.specs.Sizes.{depth, body_depth}
-use Rattle.fast_template.specs.Flat.{body_of, instructions_from}
-use Rattle.fast_tree.specs.Numbers.{AreBetween}
-use Rattle.fast_notation.proofs.Bodies.{instruction_here, names_later}
-use Rattle.fast_notation.proofs.Measures.{left_at_node, left_at_body, smaller_at_node, smaller_at_body, all_below}
+use Rattle.fast_template.specs.device.Saturation.{in_32_bits}
+use Rattle.fast_tree.specs.meaning.Sizes.{depth, body_depth}
+use Rattle.fast_template.specs.meaning.Flat.{body_of, instructions_from}
+use Rattle.fast_tree.specs.device.Numbers.{AreBetween}
+use Rattle.fast_notation.proofs.nodes.Bodies.{instruction_here, names_later}
+use Rattle.fast_notation.proofs.nodes.Measures.{left_at_node, left_at_body, smaller_at_node, smaller_at_body, all_below}
 use Rattle.fast_template.proofs.Saturation.{stopped_suc}
 use Rattle.fast_template.proofs.caps.+depth.Goals as goal
 

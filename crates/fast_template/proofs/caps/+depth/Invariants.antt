@@ -1,8 +1,8 @@
 use Rattle.std.proofs.Common.{◌≡◌, drop, length, max}
-use Rattle.fast_template.specs.Flat.{body_of, instructions_from}
-use Rattle.fast_template.specs.Saturation.{in_32_bits}
-use Rattle.fast_tree.specs.Sizes.{body_depth}
-use Rattle.fast_notation.proofs.Measures.{left_at_node, left_at_body}
+use Rattle.fast_template.specs.meaning.Flat.{body_of, instructions_from}
+use Rattle.fast_template.specs.device.Saturation.{in_32_bits}
+use Rattle.fast_tree.specs.meaning.Sizes.{body_depth}
+use Rattle.fast_notation.proofs.nodes.Measures.{left_at_node, left_at_body}
 use Rattle.fast_template.proofs.caps.+depth.Given as goal
 
 abbrev pub decreases-body_depth : goal.decreases-body_depth

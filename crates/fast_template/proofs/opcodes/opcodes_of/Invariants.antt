@@ -1,5 +1,5 @@
 use Rattle.std.proofs.Common.{◌≡◌, take}
-use Rattle.fast_template.specs.Opcodes.{opcodes_of}
+use Rattle.fast_template.specs.device.Opcodes.{opcodes_of}
 use Rattle.fast_template.proofs.opcodes.opcodes_of.Given as goal
 
 -- the opcodes of the nodes so far

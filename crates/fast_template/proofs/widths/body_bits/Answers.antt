@@ -1,5 +1,5 @@
 use Rattle.std.proofs.Common.{arith}
-use Rattle.fast_template.specs.Flat.{nodes_of}
+use Rattle.fast_template.specs.meaning.Flat.{nodes_of}
 use Rattle.fast_template.proofs.BodyBits.{bits_more}
 use Rattle.fast_template.proofs.widths.body_bits.Goals as goal
 

@@ -1,8 +1,8 @@
 use Rattle.std.proofs.Common.{◌≡◌, ◌≤◌, ◌+◌, ◌*◌}
 use Rattle.std.specs.Prelude.{drop}
-use Rattle.fast_tree.specs.Tree.{bits_of}
-use Rattle.fast_template.specs.Flat.{nodes_of}
-use Rattle.fast_tree.specs.Bodies.{body_among}
+use Rattle.fast_tree.specs.meaning.Tree.{bits_of}
+use Rattle.fast_template.specs.meaning.Flat.{nodes_of}
+use Rattle.fast_tree.specs.device.Bodies.{body_among}
 use Rattle.fast_template.proofs.widths.body_bits.Given as goal
 
 -- the bits so far, and those of the nodes that are left

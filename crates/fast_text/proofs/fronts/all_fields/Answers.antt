@@ -1,7 +1,7 @@
 use Rattle.std.proofs.Common.{rules, arith, ◌≡◌, ◌+◌, ◌++◌, ◌∷◌, [], length}
 use Rattle.std.proofs.lemmas.Grind.{common_steps}
-use Rattle.fast_template.specs.Flat.{tree_of}
-use Rattle.fast_text.specs.Front.{field_front, IsFront}
+use Rattle.fast_template.specs.meaning.Flat.{tree_of}
+use Rattle.fast_text.specs.device.Front.{field_front, IsFront}
 use Rattle.fast_text.proofs.Fronted.{fronts_more}
 use Rattle.fast_text.proofs.fronts.all_fields.Goals as goal
 

@@ -1,6 +1,6 @@
 use Rattle.std.proofs.Common.{◌≡◌, length}
-use Rattle.fast_template.specs.Flat.{tree_of}
-use Rattle.fast_text.specs.Front.{message_front, AreFronts}
+use Rattle.fast_template.specs.meaning.Flat.{tree_of}
+use Rattle.fast_text.specs.device.Front.{message_front, AreFronts}
 use Rattle.fast_text.proofs.fronts.all_messages.Given as goal
 
 -- the fronts of the templates so far

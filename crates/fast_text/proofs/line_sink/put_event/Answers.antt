@@ -1,8 +1,8 @@
 use Rattle.std.proofs.Common.{◌∷◌, [], ◌∙◌, sym, ap, append_assoc, decimal}
-use Rattle.fast_value.specs.Values.{scalar_data}
-use Rattle.fast_template.specs.Flat.{tree_of}
-use Rattle.fast_lines.specs.Lines.{written as value_text}
-use Rattle.fast_text.specs.Front.{field_front}
+use Rattle.fast_value.specs.meaning.Values.{scalar_data}
+use Rattle.fast_template.specs.meaning.Flat.{tree_of}
+use Rattle.fast_lines.specs.meaning.Lines.{written as value_text}
+use Rattle.fast_text.specs.device.Front.{field_front}
 use Rattle.fast_text.proofs.Writing.{writes_both, writes_same}
 use Rattle.fast_text.proofs.line_sink.put_event.Goals as goal
 

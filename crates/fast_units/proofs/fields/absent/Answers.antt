@@ -1,5 +1,5 @@
-use Rattle.fast_tree.specs.Nodes.{field_data}
-use Rattle.fast_dict.specs.Slots.{slots_dictionary}
+use Rattle.fast_tree.specs.device.Nodes.{field_data}
+use Rattle.fast_dict.specs.meaning.Slots.{slots_dictionary}
 use Rattle.fast_units.proofs.Deciding.{absent_decided}
 use Rattle.fast_units.proofs.fields.absent.Goals as goal
 

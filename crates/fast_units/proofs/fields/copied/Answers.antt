@@ -2,11 +2,11 @@
 use Rattle.std.proofs.Common.{rules, refl, sym}
 use denote.Enum.Bare.{same_true}
 use Rattle.fast_value.specs.contracts.kinds.Kind.{the_type}
-use Rattle.fast_value.specs.Kinds.{value_of_text}
-use Rattle.fast_value.specs.Values.{scalar_data}
-use Rattle.fast_tree.specs.Nodes.{field_data}
-use Rattle.fast_dict.specs.Slots.{slots_dictionary}
-use Rattle.fast_units.specs.Deciding.{number_data}
+use Rattle.fast_value.specs.meaning.Kinds.{value_of_text}
+use Rattle.fast_value.specs.meaning.Values.{scalar_data}
+use Rattle.fast_tree.specs.device.Nodes.{field_data}
+use Rattle.fast_dict.specs.meaning.Slots.{slots_dictionary}
+use Rattle.fast_units.specs.device.Deciding.{number_data}
 use Rattle.fast_units.proofs.Deciding.{copy_decided, own_decided}
 use Rattle.fast_units.proofs.fields.copied.Goals as goal
 

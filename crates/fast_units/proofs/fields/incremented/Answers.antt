@@ -2,13 +2,13 @@
 use Rattle.std.proofs.Common.{◌≡◌, Some, rules, refl, sym, ap, ◌∙◌}
 use denote.Enum.Bare.{same_true}
 use Rattle.fast_value.specs.contracts.kinds.Kind.{the_type}
-use Rattle.fast_value.specs.Kinds.{ScalarData, integer_of, value_of_integer}
-use Rattle.fast_value.specs.Values.{scalar_data}
-use Rattle.fast_tree.specs.Nodes.{field_data}
-use Rattle.fast_dict.specs.Dictionary.{assigned, write_at}
-use Rattle.fast_dict.specs.Operators.{next_value, range_of, incremented}
-use Rattle.fast_dict.specs.Slots.{slots_dictionary}
-use Rattle.fast_units.specs.Deciding.{number_data}
+use Rattle.fast_value.specs.meaning.Kinds.{ScalarData, integer_of, value_of_integer}
+use Rattle.fast_value.specs.meaning.Values.{scalar_data}
+use Rattle.fast_tree.specs.device.Nodes.{field_data}
+use Rattle.fast_dict.specs.meaning.Dictionary.{assigned, write_at}
+use Rattle.fast_dict.specs.meaning.Operators.{next_value, range_of, incremented}
+use Rattle.fast_dict.specs.meaning.Slots.{slots_dictionary}
+use Rattle.fast_units.specs.device.Deciding.{number_data}
 use Rattle.fast_units.proofs.Deciding.{next_decided}
 use Rattle.fast_units.proofs.fields.incremented.Goals as goal
 

@@ -2,9 +2,9 @@
 use Rattle.std.proofs.Common.{◌≡◌, to_z, of_z, FitsSigned, rules, ap, ◌∙◌}
 use Rattle.std.proofs.Math.Facts.{to_z-of_z}
 use Rattle.std.specs.Int.{w128}
-use Rattle.fast_value.specs.Kinds.{integer_of, value_of_integer}
-use Rattle.fast_value.specs.Values.{scalar_data}
-use Rattle.fast_dict.specs.Operators.{range_of, incremented}
+use Rattle.fast_value.specs.meaning.Kinds.{integer_of, value_of_integer}
+use Rattle.fast_value.specs.meaning.Values.{scalar_data}
+use Rattle.fast_dict.specs.meaning.Operators.{range_of, incremented}
 use Rattle.fast_units.proofs.Deciding.{integer_again}
 use Rattle.fast_units.proofs.fields.next_number.Goals as goal
 

@@ -1,5 +1,5 @@
 use Rattle.std.proofs.Common.{sym, ap, ◌∙◌}
-use Rattle.fast_units.specs.Deciding.{source_of}
+use Rattle.fast_units.specs.device.Deciding.{source_of}
 use Rattle.fast_units.proofs.Deciding.{source_at}
 use Rattle.fast_units.proofs.fields.source_of.Goals as goal
 

@@ -1,9 +1,9 @@
 -- Operators that keep no value have no entry.
 use Rattle.std.proofs.Common.{sym, ap, ◌∙◌}
-use Rattle.fast_tree.specs.Nodes.{field_data}
-use Rattle.fast_tree.specs.Entries.{keeps_value}
-use Rattle.fast_dict.specs.Slots.{slots_dictionary}
-use Rattle.fast_units.specs.Deciding.{needs_bytes}
+use Rattle.fast_tree.specs.device.Nodes.{field_data}
+use Rattle.fast_tree.specs.meaning.Entries.{keeps_value}
+use Rattle.fast_dict.specs.meaning.Slots.{slots_dictionary}
+use Rattle.fast_units.specs.device.Deciding.{needs_bytes}
 use Rattle.fast_units.proofs.Deciding.{no_entry, constant_decided, constant_absent, default_decided}
 use Rattle.fast_units.proofs.fields.unsent.Goals as goal
 

@@ -1,11 +1,11 @@
 -- A number of the field's own kind is found at one look.
 use Rattle.std.proofs.Common.{Ok, rules, sym, ap, ◌∙◌, FitsSigned}
 use Rattle.std.specs.Int.{w128}
-use Rattle.fast_value.specs.Kinds.{integer_of}
-use Rattle.fast_tree.specs.Nodes.{field_data}
-use Rattle.fast_dict.specs.Dictionary.{previous_at}
-use Rattle.fast_dict.specs.Slots.{slots_dictionary}
-use Rattle.fast_units.specs.Deciding.{number_data}
+use Rattle.fast_value.specs.meaning.Kinds.{integer_of}
+use Rattle.fast_tree.specs.device.Nodes.{field_data}
+use Rattle.fast_dict.specs.meaning.Dictionary.{previous_at}
+use Rattle.fast_dict.specs.meaning.Slots.{slots_dictionary}
+use Rattle.fast_units.specs.device.Deciding.{number_data}
 use Rattle.fast_units.proofs.Deciding.{base_own}
 use Rattle.fast_units.proofs.LastUnits.{again}
 use Rattle.fast_units.proofs.numbers.base_integer.Goals as goal

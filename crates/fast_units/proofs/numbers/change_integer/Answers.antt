@@ -1,12 +1,12 @@
 -- The sum is kept.
 use Rattle.std.proofs.Common.{◌≡◌, ◌∙◌, ◌+ℤ◌, rules, Ok}
-use Rattle.fast_value.specs.Kinds.{value_of_integer}
+use Rattle.fast_value.specs.meaning.Kinds.{value_of_integer}
 use Rattle.fast_value.specs.declared.codes.Code.TheVariants.{D2}
-use Rattle.fast_tree.specs.Nodes.{field_data}
-use Rattle.fast_dict.specs.Dictionary.{previous_at}
-use Rattle.fast_dict.specs.Operators.{◌>>=◌, keeps, ranged, range_of, integer_step}
-use Rattle.fast_dict.specs.Slots.{slots_dictionary}
-use Rattle.fast_units.specs.Deciding.{base_integer, number_data, IsDecided}
+use Rattle.fast_tree.specs.device.Nodes.{field_data}
+use Rattle.fast_dict.specs.meaning.Dictionary.{previous_at}
+use Rattle.fast_dict.specs.meaning.Operators.{◌>>=◌, keeps, ranged, range_of, integer_step}
+use Rattle.fast_dict.specs.meaning.Slots.{slots_dictionary}
+use Rattle.fast_units.specs.device.Deciding.{base_integer, number_data, IsDecided}
 use Rattle.fast_units.proofs.Deciding.{decided_as, keep_decided, base_stepped}
 use Rattle.fast_units.proofs.numbers.change_integer.Goals as goal
 

@@ -1,12 +1,12 @@
 -- Both by the operator.
 use Rattle.std.proofs.Common.{ap}
 use Rattle.std.specs.Prelude.{true, Ok}
-use Rattle.fast_units.specs.declared.source.Source.TheVariants as From
-use Rattle.fast_tree.specs.Nodes.{field_data}
-use Rattle.fast_dict.specs.Dictionary.{previous_at}
-use Rattle.fast_dict.specs.Operators.{decide}
-use Rattle.fast_dict.specs.Slots.{slots_dictionary}
-use Rattle.fast_units.specs.Deciding.{number_data, sent_number}
+use Rattle.fast_units.specs.declared.source.ValueSource.TheVariants as From
+use Rattle.fast_tree.specs.device.Nodes.{field_data}
+use Rattle.fast_dict.specs.meaning.Dictionary.{previous_at}
+use Rattle.fast_dict.specs.meaning.Operators.{decide}
+use Rattle.fast_dict.specs.meaning.Slots.{slots_dictionary}
+use Rattle.fast_units.specs.device.Deciding.{number_data, sent_number}
 use Rattle.fast_units.proofs.Deciding.{decided_as, value_decided, null_decided}
 use Rattle.fast_units.proofs.numbers.received.Goals as goal
 

@@ -2,20 +2,20 @@
 use Rattle.std.proofs.Common.{◌≡◌, refl, ◌++◌, rules, sym, ap, ◌∙◌, to_z, of_z, FitsSigned, take}
 use Rattle.std.specs.Int.{w32, w128}
 use Rattle.std.specs.Prelude.{true, Ok, Err}
-use Rattle.fast_wire.specs.Integers.{delta_range}
+use Rattle.fast_wire.specs.meaning.Integers.{delta_range}
 use Rattle.fast_value.specs.declared.codes.Code.TheVariants.{D2}
-use Rattle.fast_value.specs.Limits.{bounds}
-use Rattle.fast_tree.specs.Nodes.{field_data}
-use Rattle.fast_dict.specs.Dictionary.{previous_at}
-use Rattle.fast_dict.specs.Operators.{gives_none, exponent_step}
-use Rattle.fast_dict.specs.Slots.{slots_dictionary}
-use Rattle.fast_stream.specs.Grammar.{give, integer, of_result, ◌>>=◌}
-use Rattle.fast_stream.specs.GrammarReaders.{reader_of}
-use Rattle.fast_stream.specs.Fields.{field_term, decimal_change}
-use Rattle.fast_units.specs.declared.source.Source.TheVariants as From
-use Rattle.fast_stream.specs.Machine.{behind_exponent_delta, stage_term}
+use Rattle.fast_value.specs.meaning.Limits.{bounds}
+use Rattle.fast_tree.specs.device.Nodes.{field_data}
+use Rattle.fast_dict.specs.meaning.Dictionary.{previous_at}
+use Rattle.fast_dict.specs.meaning.Operators.{gives_none, exponent_step}
+use Rattle.fast_dict.specs.meaning.Slots.{slots_dictionary}
+use Rattle.fast_stream.specs.meaning.Grammar.{give, integer, of_result, ◌>>=◌}
+use Rattle.fast_stream.specs.device.GrammarReaders.{reader_of}
+use Rattle.fast_stream.specs.meaning.Fields.{field_term, decimal_change}
+use Rattle.fast_units.specs.declared.source.ValueSource.TheVariants as From
+use Rattle.fast_stream.specs.device.Machine.{behind_exponent_delta, stage_term}
 use Rattle.fast_units.proofs.Turning.{turns_as}
-use Rattle.fast_stream.proofs.Stepping.{exponent-delta-turn}
+use Rattle.fast_stream.proofs.streams.Stepping.{exponent-delta-turn}
 use Rattle.fast_units.proofs.Deciding.{none_decided}
 use Rattle.fast_units.proofs.LastUnits.{exponent_delta_field, last_unit, unit_goes, unit_stops, unit_stays, again}
 use Rattle.fast_units.proofs.numbers.take_exponent_delta.Goals as goal

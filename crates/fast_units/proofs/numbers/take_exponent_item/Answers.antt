@@ -2,20 +2,20 @@
 use Rattle.std.proofs.Common.{refl, ◌++◌, ◌≤ℤ◌, rules, sym, ap, ◌∙◌, subst, FitsSigned, neg_ℤ, pos, take}
 use Rattle.std.specs.Int.{w32, w128}
 use Rattle.std.specs.Prelude.{true, Some, Ok}
-use Rattle.fast_wire.specs.Integers.{IsWithin, exponent_range}
+use Rattle.fast_wire.specs.meaning.Integers.{IsWithin, exponent_range}
 use Rattle.fast_value.specs.declared.codes.Code.TheVariants.{R1}
-use Rattle.fast_value.specs.Limits.{bounds}
-use Rattle.fast_tree.specs.Nodes.{field_data}
-use Rattle.fast_dict.specs.Dictionary.{previous_at}
-use Rattle.fast_dict.specs.Operators.{decide, null, range_in}
-use Rattle.fast_dict.specs.Slots.{slots_dictionary}
-use Rattle.fast_stream.specs.Grammar.{give, integer}
-use Rattle.fast_stream.specs.GrammarReaders.{reader_of}
-use Rattle.fast_stream.specs.Fields.{field_term}
-use Rattle.fast_units.specs.NextUnits.{range_data}
-use Rattle.fast_stream.specs.Machine.{behind_exponent, stage_term}
+use Rattle.fast_value.specs.meaning.Limits.{bounds}
+use Rattle.fast_tree.specs.device.Nodes.{field_data}
+use Rattle.fast_dict.specs.meaning.Dictionary.{previous_at}
+use Rattle.fast_dict.specs.meaning.Operators.{decide, null, range_in}
+use Rattle.fast_dict.specs.meaning.Slots.{slots_dictionary}
+use Rattle.fast_stream.specs.meaning.Grammar.{give, integer}
+use Rattle.fast_stream.specs.device.GrammarReaders.{reader_of}
+use Rattle.fast_stream.specs.meaning.Fields.{field_term}
+use Rattle.fast_units.specs.device.NextUnits.{range_data}
+use Rattle.fast_stream.specs.device.Machine.{behind_exponent, stage_term}
 use Rattle.fast_units.proofs.Turning.{turns_as}
-use Rattle.fast_stream.proofs.Stepping.{exponent-turn}
+use Rattle.fast_stream.proofs.streams.Stepping.{exponent-turn}
 use Rattle.fast_units.proofs.LastUnits.{mantissa_next, exponent_here, last_unit, unit_goes, unit_stops, unit_stays, number_within, again}
 use Rattle.fast_units.proofs.numbers.take_exponent_item.Goals as goal
 

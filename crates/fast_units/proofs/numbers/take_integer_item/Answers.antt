@@ -2,18 +2,18 @@
 use Rattle.std.proofs.Common.{refl, None, ◌++◌, ◌≤ℤ◌, rules, sym, ap, ◌∙◌, subst, FitsSigned, neg_ℤ, pos, ◌^◌, take}
 use Rattle.std.specs.Int.{w128}
 use Rattle.std.specs.Prelude.{true, Some, Ok}
-use Rattle.fast_wire.specs.Integers.{IsWithin}
+use Rattle.fast_wire.specs.meaning.Integers.{IsWithin}
 use Rattle.fast_value.specs.declared.codes.Code.TheVariants.{D2}
-use Rattle.fast_value.specs.Kinds.{value_of_integer}
-use Rattle.fast_tree.specs.Nodes.{field_data}
-use Rattle.fast_dict.specs.Dictionary.{previous_at}
-use Rattle.fast_dict.specs.Operators.{decide, value, range_of}
-use Rattle.fast_dict.specs.Slots.{slots_dictionary}
-use Rattle.fast_stream.specs.Grammar.{give, integer, of_result}
-use Rattle.fast_stream.specs.GrammarReaders.{reader_of}
-use Rattle.fast_stream.specs.Fields.{field_term}
-use Rattle.fast_units.specs.NextUnits.{range_data}
-use Rattle.fast_units.specs.Deciding.{sent_number}
+use Rattle.fast_value.specs.meaning.Kinds.{value_of_integer}
+use Rattle.fast_tree.specs.device.Nodes.{field_data}
+use Rattle.fast_dict.specs.meaning.Dictionary.{previous_at}
+use Rattle.fast_dict.specs.meaning.Operators.{decide, value, range_of}
+use Rattle.fast_dict.specs.meaning.Slots.{slots_dictionary}
+use Rattle.fast_stream.specs.meaning.Grammar.{give, integer, of_result}
+use Rattle.fast_stream.specs.device.GrammarReaders.{reader_of}
+use Rattle.fast_stream.specs.meaning.Fields.{field_term}
+use Rattle.fast_units.specs.device.NextUnits.{range_data}
+use Rattle.fast_units.specs.device.Deciding.{sent_number}
 use Rattle.fast_units.proofs.LastUnits.{behind_integer, integer_here, last_unit, unit_stops, unit_stays, number_within, again, kind_low}
 use Rattle.fast_units.proofs.numbers.take_integer_item.Goals as goal
 

@@ -2,18 +2,18 @@
 use Rattle.std.proofs.Common.{refl, ◌++◌, ◌≤ℤ◌, rules, sym, ap, ◌∙◌, subst, to_z, of_z, FitsSigned, take}
 use Rattle.std.specs.Int.{w32, w128}
 use Rattle.std.specs.Prelude.{true, false, Some, Ok}
-use Rattle.fast_wire.specs.Integers.{IsWithin, signed_range}
+use Rattle.fast_wire.specs.meaning.Integers.{IsWithin, signed_range}
 use Rattle.fast_value.specs.declared.codes.Code.TheVariants.{R1}
-use Rattle.fast_value.specs.Kinds.{Dec}
-use Rattle.fast_value.specs.Limits.{bounds}
-use Rattle.fast_tree.specs.Nodes.{field_data}
-use Rattle.fast_dict.specs.Dictionary.{previous_at}
-use Rattle.fast_dict.specs.Operators.{decide, value, null}
-use Rattle.fast_dict.specs.Slots.{slots_dictionary}
-use Rattle.fast_stream.specs.Grammar.{give, integer, of_result}
-use Rattle.fast_stream.specs.GrammarReaders.{reader_of}
-use Rattle.fast_units.specs.Stages.{term_behind}
-use Rattle.fast_units.specs.Deciding.{sent_number}
+use Rattle.fast_value.specs.meaning.Kinds.{Dec}
+use Rattle.fast_value.specs.meaning.Limits.{bounds}
+use Rattle.fast_tree.specs.device.Nodes.{field_data}
+use Rattle.fast_dict.specs.meaning.Dictionary.{previous_at}
+use Rattle.fast_dict.specs.meaning.Operators.{decide, value, null}
+use Rattle.fast_dict.specs.meaning.Slots.{slots_dictionary}
+use Rattle.fast_stream.specs.meaning.Grammar.{give, integer, of_result}
+use Rattle.fast_stream.specs.device.GrammarReaders.{reader_of}
+use Rattle.fast_units.specs.device.Stages.{term_behind}
+use Rattle.fast_units.specs.device.Deciding.{sent_number}
 use Rattle.fast_units.specs.declared.stages.Stage.TheVariants.{Mantissa}
 use Rattle.fast_units.proofs.LastUnits.{behind_mantissa, mantissa_field, last_unit, unit_stops, unit_stays, number_within, again}
 use Rattle.fast_units.proofs.numbers.take_mantissa.Goals as goal

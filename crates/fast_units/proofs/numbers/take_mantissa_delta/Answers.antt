@@ -2,20 +2,20 @@
 use Rattle.std.proofs.Common.{refl, ◌++◌, rules, sym, ap, subst, to_z, of_z, FitsSigned, take}
 use Rattle.std.specs.Int.{w32, w128}
 use Rattle.std.specs.Prelude.{false, Ok}
-use Rattle.fast_wire.specs.Integers.{delta_range}
+use Rattle.fast_wire.specs.meaning.Integers.{delta_range}
 use Rattle.fast_value.specs.declared.codes.Code.TheVariants.{D2}
-use Rattle.fast_value.specs.Limits.{bounds}
-use Rattle.fast_tree.specs.Nodes.{field_data}
-use Rattle.fast_dict.specs.Dictionary.{previous_at}
-use Rattle.fast_dict.specs.Operators.{gives_none, mantissa_step}
-use Rattle.fast_dict.specs.Slots.{slots_dictionary}
-use Rattle.fast_stream.specs.Grammar.{give, integer}
-use Rattle.fast_stream.specs.GrammarReaders.{reader_of}
-use Rattle.fast_stream.specs.Fields.{mantissa_change}
-use Rattle.fast_units.specs.Stages.{term_behind}
-use Rattle.fast_units.specs.Settling.{IsLastUnit}
-use Rattle.fast_units.specs.Deciding.{IsDecided}
-use Rattle.fast_units.specs.declared.source.Source.TheVariants as From
+use Rattle.fast_value.specs.meaning.Limits.{bounds}
+use Rattle.fast_tree.specs.device.Nodes.{field_data}
+use Rattle.fast_dict.specs.meaning.Dictionary.{previous_at}
+use Rattle.fast_dict.specs.meaning.Operators.{gives_none, mantissa_step}
+use Rattle.fast_dict.specs.meaning.Slots.{slots_dictionary}
+use Rattle.fast_stream.specs.meaning.Grammar.{give, integer}
+use Rattle.fast_stream.specs.device.GrammarReaders.{reader_of}
+use Rattle.fast_stream.specs.meaning.Fields.{mantissa_change}
+use Rattle.fast_units.specs.device.Stages.{term_behind}
+use Rattle.fast_units.specs.device.Settling.{IsLastUnit}
+use Rattle.fast_units.specs.device.Deciding.{IsDecided}
+use Rattle.fast_units.specs.declared.source.ValueSource.TheVariants as From
 use Rattle.fast_units.specs.declared.stages.Stage.TheVariants.{MantissaDelta}
 use Rattle.fast_units.proofs.Deciding.{none_decided}
 use Rattle.fast_units.proofs.LastUnits.{mantissa_delta_field, last_unit, unit_stops, unit_stays, again}

@@ -1,16 +1,16 @@
 -- What is decided of the number behind its unit.
 use Rattle.std.proofs.Common.{refl, ◌++◌, ap, take, pos}
 use Rattle.std.specs.Prelude.{true, false, Some, Ok}
-use Rattle.fast_wire.specs.Integers.{unsigned_up_to}
+use Rattle.fast_wire.specs.meaning.Integers.{unsigned_up_to}
 use Rattle.fast_value.specs.declared.codes.Code.TheVariants.{D2}
-use Rattle.fast_tree.specs.Nodes.{field_data}
-use Rattle.fast_dict.specs.Dictionary.{previous_at}
-use Rattle.fast_dict.specs.Operators.{decide, value}
-use Rattle.fast_dict.specs.Slots.{slots_dictionary}
-use Rattle.fast_stream.specs.Grammar.{give, integer, of_result}
-use Rattle.fast_stream.specs.GrammarReaders.{reader_of}
-use Rattle.fast_stream.specs.Fields.{field_term}
-use Rattle.fast_units.specs.Deciding.{sent_number}
+use Rattle.fast_tree.specs.device.Nodes.{field_data}
+use Rattle.fast_dict.specs.meaning.Dictionary.{previous_at}
+use Rattle.fast_dict.specs.meaning.Operators.{decide, value}
+use Rattle.fast_dict.specs.meaning.Slots.{slots_dictionary}
+use Rattle.fast_stream.specs.meaning.Grammar.{give, integer, of_result}
+use Rattle.fast_stream.specs.device.GrammarReaders.{reader_of}
+use Rattle.fast_stream.specs.meaning.Fields.{field_term}
+use Rattle.fast_units.specs.device.Deciding.{sent_number}
 use Rattle.fast_units.specs.declared.fields.Number.TheVariants.{Unsigned}
 use Rattle.fast_units.proofs.LastUnits.{behind_integer, mandatory_here, last_unit, unit_stops, unit_stays}
 use Rattle.fast_units.proofs.numbers.take_unsigned.Goals as goal

@@ -1,12 +1,12 @@
 use Rattle.std.proofs.Common.{rules, sym, ap, subst, true, List, ℕ}
-use Rattle.fast_value.specs.Kinds.{family}
-use Rattle.fast_value.specs.Limits.{bounds}
-use Rattle.fast_tree.specs.Nodes.{field_data}
-use Rattle.fast_dict.specs.Dictionary.{previous_at}
-use Rattle.fast_dict.specs.Slots.{slots_dictionary}
-use Rattle.fast_stream.specs.Fields.{field_term}
-use Rattle.fast_stream.specs.GrammarReaders.{reader_of}
-use Rattle.fast_units.specs.Stages.{IsFieldUnit}
+use Rattle.fast_value.specs.meaning.Kinds.{family}
+use Rattle.fast_value.specs.meaning.Limits.{bounds}
+use Rattle.fast_tree.specs.device.Nodes.{field_data}
+use Rattle.fast_dict.specs.meaning.Dictionary.{previous_at}
+use Rattle.fast_dict.specs.meaning.Slots.{slots_dictionary}
+use Rattle.fast_stream.specs.meaning.Fields.{field_term}
+use Rattle.fast_stream.specs.device.GrammarReaders.{reader_of}
+use Rattle.fast_units.specs.device.Stages.{IsFieldUnit}
 use Rattle.fast_units.proofs.ScalarTakes.{next_of_decimal, next_of_text, kept_entity}
 use Rattle.fast_units.proofs.scalars.take_first.Goals as goal
 

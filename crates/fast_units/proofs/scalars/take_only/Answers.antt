@@ -1,4 +1,4 @@
-use Rattle.fast_value.specs.Limits.{bounds}
+use Rattle.fast_value.specs.meaning.Limits.{bounds}
 use Rattle.fast_units.proofs.ScalarTakes.{unit_settled}
 use Rattle.fast_units.proofs.scalars.take_only.Goals as goal
 

@@ -1,13 +1,13 @@
 use Rattle.std.proofs.Common.{ap, rules, subst, FitsSigned}
 use Rattle.std.specs.Int.{w64}
 use Rattle.std.specs.Prelude.{Some, Ok}
-use Rattle.fast_tree.specs.Nodes.{field_data}
-use Rattle.fast_dict.specs.Dictionary.{previous_at}
-use Rattle.fast_dict.specs.Operators.{gives_none, integer_step}
-use Rattle.fast_dict.specs.Slots.{slots_dictionary}
-use Rattle.fast_stream.specs.Fields.{integer_change}
-use Rattle.fast_units.specs.declared.source.Source.TheVariants as From
-use Rattle.fast_units.specs.Deciding.{source_of, IsDecided}
+use Rattle.fast_tree.specs.device.Nodes.{field_data}
+use Rattle.fast_dict.specs.meaning.Dictionary.{previous_at}
+use Rattle.fast_dict.specs.meaning.Operators.{gives_none, integer_step}
+use Rattle.fast_dict.specs.meaning.Slots.{slots_dictionary}
+use Rattle.fast_stream.specs.meaning.Fields.{integer_change}
+use Rattle.fast_units.specs.declared.source.ValueSource.TheVariants as From
+use Rattle.fast_units.specs.device.Deciding.{source_of, IsDecided}
 use Rattle.fast_units.proofs.Deciding.{none_decided}
 use Rattle.fast_units.proofs.LastUnits.{again}
 use Rattle.fast_units.proofs.ShortIntegers.{delta_unit}

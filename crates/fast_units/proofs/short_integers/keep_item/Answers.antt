@@ -1,11 +1,11 @@
 -- Both by the operator: those that keep no value have no entry.
 use Rattle.std.proofs.Common.{sym, ap, subst}
 use Rattle.std.specs.Prelude.{true, Some, Ok}
-use Rattle.fast_tree.specs.Nodes.{field_data}
-use Rattle.fast_dict.specs.Dictionary.{previous_at, write_at}
-use Rattle.fast_dict.specs.Operators.{decide}
-use Rattle.fast_dict.specs.Slots.{slots_dictionary}
-use Rattle.fast_units.specs.Deciding.{number_data, sent_number, source_of, IsDecided}
+use Rattle.fast_tree.specs.device.Nodes.{field_data}
+use Rattle.fast_dict.specs.meaning.Dictionary.{previous_at, write_at}
+use Rattle.fast_dict.specs.meaning.Operators.{decide}
+use Rattle.fast_dict.specs.meaning.Slots.{slots_dictionary}
+use Rattle.fast_units.specs.device.Deciding.{number_data, sent_number, source_of, IsDecided}
 use Rattle.fast_units.proofs.Deciding.{value_decided, null_decided, no_entry, item_value}
 use Rattle.fast_units.proofs.ShortIntegers.{no_texts, keeps_none, item_decided}
 use Rattle.fast_units.proofs.short_integers.keep_item.Goals as goal

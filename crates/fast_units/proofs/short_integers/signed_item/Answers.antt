@@ -1,6 +1,6 @@
-use Rattle.fast_tree.specs.Nodes.{field_data}
-use Rattle.fast_dict.specs.Slots.{slots_dictionary}
-use Rattle.fast_units.specs.Deciding.{sent_number, source_of}
+use Rattle.fast_tree.specs.device.Nodes.{field_data}
+use Rattle.fast_dict.specs.meaning.Slots.{slots_dictionary}
+use Rattle.fast_units.specs.device.Deciding.{sent_number, source_of}
 use Rattle.fast_units.proofs.ShortIntegers.{item_unit}
 use Rattle.fast_units.proofs.short_integers.signed_item.Goals as goal
 

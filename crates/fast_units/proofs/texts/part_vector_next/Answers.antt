@@ -3,14 +3,14 @@ use Rattle.std.specs.Prelude.{Ok, Err, Some, pos, nat_le, if◌then◌else◌}
 use Rattle.fast_value.specs.declared.codes.Code.TheVariants.{L1}
 use mir.Syntax.{w32}
 use Rattle.std.proofs.lemmas.Int.{to_z-of_z}
-use Rattle.fast_value.specs.Limits.{bounds}
-use Rattle.fast_tree.specs.Nodes.{field_data}
-use Rattle.fast_dict.specs.Dictionary.{previous_at}
-use Rattle.fast_dict.specs.Operators.{kept_length, subtraction_step}
-use Rattle.fast_dict.specs.Slots.{slots_dictionary}
-use Rattle.fast_stream.specs.GrammarReaders.{reader_of}
-use Rattle.fast_units.specs.Stages.{term_behind}
-use Rattle.fast_units.specs.TextDecisions.{IsStepped, behind_part_size}
+use Rattle.fast_value.specs.meaning.Limits.{bounds}
+use Rattle.fast_tree.specs.device.Nodes.{field_data}
+use Rattle.fast_dict.specs.meaning.Dictionary.{previous_at}
+use Rattle.fast_dict.specs.meaning.Operators.{kept_length, subtraction_step}
+use Rattle.fast_dict.specs.meaning.Slots.{slots_dictionary}
+use Rattle.fast_stream.specs.device.GrammarReaders.{reader_of}
+use Rattle.fast_units.specs.device.Stages.{term_behind}
+use Rattle.fast_units.specs.device.TextDecisions.{IsStepped, behind_part_size}
 use Rattle.fast_units.specs.declared.stages.Stage.TheVariants.{PartVector}
 use Rattle.fast_units.proofs.TextUnits.{part_size_fits, part_size_none, part_vector_here, stepped}
 use Rattle.fast_units.proofs.texts.part_vector_next.Goals as goal

@@ -2,18 +2,18 @@ use Rattle.std.proofs.Common.{◌≡◌, ◌∙◌, sym, ap, refl, subst, List, 
 use Rattle.std.specs.Prelude.{Ok, Some, None, Option, true, false}
 use mir.Syntax.{w32}
 use Rattle.std.proofs.lemmas.Int.{to_z-of_z}
-use Rattle.fast_value.specs.Limits.{bounds}
-use Rattle.fast_tree.specs.Nodes.{field_data}
-use Rattle.fast_dict.specs.Dictionary.{previous_at}
-use Rattle.fast_dict.specs.Operators.{null, decide, kept_length, subtraction_step, text_step}
-use Rattle.fast_dict.specs.Slots.{slots_dictionary}
-use Rattle.fast_stream.specs.Phrases.{cut}
-use Rattle.fast_stream.specs.Units.{ascii_text as ascii_phrase}
-use Rattle.fast_stream.specs.Fields.{part_change}
-use Rattle.fast_stream.specs.Grammar.{give, ascii_text, ◌>>=◌}
-use Rattle.fast_stream.specs.GrammarReaders.{reader_of}
-use Rattle.fast_units.specs.NextUnits.{text_or_null}
-use Rattle.fast_units.specs.TextDecisions.{reader_behind}
+use Rattle.fast_value.specs.meaning.Limits.{bounds}
+use Rattle.fast_tree.specs.device.Nodes.{field_data}
+use Rattle.fast_dict.specs.meaning.Dictionary.{previous_at}
+use Rattle.fast_dict.specs.meaning.Operators.{null, decide, kept_length, subtraction_step, text_step}
+use Rattle.fast_dict.specs.meaning.Slots.{slots_dictionary}
+use Rattle.fast_stream.specs.meaning.Phrases.{cut}
+use Rattle.fast_stream.specs.meaning.Units.{ascii_text as ascii_phrase}
+use Rattle.fast_stream.specs.meaning.Fields.{part_change}
+use Rattle.fast_stream.specs.meaning.Grammar.{give, ascii_text, ◌>>=◌}
+use Rattle.fast_stream.specs.device.GrammarReaders.{reader_of}
+use Rattle.fast_units.specs.device.NextUnits.{text_or_null}
+use Rattle.fast_units.specs.device.TextDecisions.{reader_behind}
 use Rattle.fast_units.specs.declared.stages.Stage.TheVariants.{Part}
 use Rattle.fast_units.proofs.LastUnits.{unit_stops, unit_stays}
 use Rattle.fast_units.proofs.TextUnits.{part_field, text_last, delta_null}

@@ -1,21 +1,21 @@
 use Rattle.std.proofs.Common.{◌≡◌, ◌∙◌, sym, ap, refl, subst, ℤ, take, ◌++◌}
 use Rattle.std.specs.Prelude.{Some, Option, false, pos}
 use Rattle.fast_value.specs.declared.codes.Code.TheVariants.{D2}
-use Rattle.fast_wire.specs.Integers.{unsigned_range}
+use Rattle.fast_wire.specs.meaning.Integers.{unsigned_range}
 use mir.Syntax.{w32, w128}
 use mir.Val.{to_z, of_z}
 use Rattle.std.proofs.lemmas.Int.{to_z-of_z}
-use Rattle.fast_value.specs.Limits.{bounds}
-use Rattle.fast_tree.specs.Nodes.{field_data}
-use Rattle.fast_dict.specs.Dictionary.{previous_at}
-use Rattle.fast_dict.specs.Operators.{subtraction_step}
-use Rattle.fast_dict.specs.Slots.{slots_dictionary}
-use Rattle.fast_stream.specs.Grammar.{Grammar, give, integer}
-use Rattle.fast_stream.specs.GrammarReaders.{reader_of}
-use Rattle.fast_units.specs.TextDecisions.{reader_behind, IsStepped, behind_part_size}
+use Rattle.fast_value.specs.meaning.Limits.{bounds}
+use Rattle.fast_tree.specs.device.Nodes.{field_data}
+use Rattle.fast_dict.specs.meaning.Dictionary.{previous_at}
+use Rattle.fast_dict.specs.meaning.Operators.{subtraction_step}
+use Rattle.fast_dict.specs.meaning.Slots.{slots_dictionary}
+use Rattle.fast_stream.specs.meaning.Grammar.{Grammar, give, integer}
+use Rattle.fast_stream.specs.device.GrammarReaders.{reader_of}
+use Rattle.fast_units.specs.device.TextDecisions.{reader_behind, IsStepped, behind_part_size}
 use Rattle.fast_units.specs.declared.stages.Stage.TheVariants.{Part}
 use Rattle.fast_units.proofs.LastUnits.{unit_stops, unit_stays, number_within}
-use Rattle.fast_wire.specs.Integers.{IsWithin}
+use Rattle.fast_wire.specs.meaning.Integers.{IsWithin}
 use Rattle.fast_units.proofs.TextSizes.{size_again}
 use Rattle.fast_units.proofs.TextUnits.{part_size_field, text_next}
 use Rattle.fast_units.proofs.texts.take_part_size.Goals as goal

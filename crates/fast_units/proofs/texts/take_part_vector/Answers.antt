@@ -3,16 +3,16 @@ use Rattle.std.specs.Prelude.{Some}
 use mir.Syntax.{w32}
 use Rattle.std.proofs.lemmas.List.{length-take-le}
 use Rattle.std.proofs.lemmas.Int.{to_z-of_z}
-use Rattle.fast_value.specs.Limits.{bounds}
-use Rattle.fast_tree.specs.Nodes.{field_data}
-use Rattle.fast_dict.specs.Dictionary.{previous_at}
-use Rattle.fast_dict.specs.Operators.{kept_length, subtraction_step, text_step}
-use Rattle.fast_dict.specs.Slots.{slots_dictionary}
-use Rattle.fast_stream.specs.Fields.{part_change}
-use Rattle.fast_stream.specs.Grammar.{Grammar, give, raw}
-use Rattle.fast_stream.specs.GrammarReaders.{reader_of}
-use Rattle.fast_units.specs.NextUnits.{run_at}
-use Rattle.fast_units.specs.TextDecisions.{reader_behind}
+use Rattle.fast_value.specs.meaning.Limits.{bounds}
+use Rattle.fast_tree.specs.device.Nodes.{field_data}
+use Rattle.fast_dict.specs.meaning.Dictionary.{previous_at}
+use Rattle.fast_dict.specs.meaning.Operators.{kept_length, subtraction_step, text_step}
+use Rattle.fast_dict.specs.meaning.Slots.{slots_dictionary}
+use Rattle.fast_stream.specs.meaning.Fields.{part_change}
+use Rattle.fast_stream.specs.meaning.Grammar.{Grammar, give, raw}
+use Rattle.fast_stream.specs.device.GrammarReaders.{reader_of}
+use Rattle.fast_units.specs.device.NextUnits.{run_at}
+use Rattle.fast_units.specs.device.TextDecisions.{reader_behind}
 use Rattle.fast_units.specs.declared.stages.Stage.TheVariants.{PartVector}
 use Rattle.fast_units.specs.declared.units.Run.{Run}
 use Rattle.fast_units.specs.declared.units.Run.TheVariants.{Piece, Scratch}

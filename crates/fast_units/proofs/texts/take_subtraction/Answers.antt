@@ -1,20 +1,20 @@
 use Rattle.std.proofs.Common.{◌≡◌, ◌∙◌, sym, ap, refl, subst, ℤ, take, ◌++◌}
 use Rattle.std.specs.Prelude.{Some, Option, true}
 use Rattle.fast_value.specs.declared.codes.Code.TheVariants.{D7}
-use Rattle.fast_wire.specs.Integers.{signed_range}
+use Rattle.fast_wire.specs.meaning.Integers.{signed_range}
 use mir.Syntax.{w32}
 use mir.Val.{to_z, of_z}
-use Rattle.fast_value.specs.Limits.{bounds}
-use Rattle.fast_tree.specs.Nodes.{field_data}
-use Rattle.fast_dict.specs.Dictionary.{previous_at}
-use Rattle.fast_dict.specs.Operators.{null, decide}
-use Rattle.fast_dict.specs.Slots.{slots_dictionary}
-use Rattle.fast_stream.specs.Fields.{text_change}
-use Rattle.fast_stream.specs.Grammar.{Grammar, give, integer}
-use Rattle.fast_stream.specs.GrammarReaders.{reader_of}
-use Rattle.fast_units.specs.TextDecisions.{first_reader, IsStepped}
+use Rattle.fast_value.specs.meaning.Limits.{bounds}
+use Rattle.fast_tree.specs.device.Nodes.{field_data}
+use Rattle.fast_dict.specs.meaning.Dictionary.{previous_at}
+use Rattle.fast_dict.specs.meaning.Operators.{null, decide}
+use Rattle.fast_dict.specs.meaning.Slots.{slots_dictionary}
+use Rattle.fast_stream.specs.meaning.Fields.{text_change}
+use Rattle.fast_stream.specs.meaning.Grammar.{Grammar, give, integer}
+use Rattle.fast_stream.specs.device.GrammarReaders.{reader_of}
+use Rattle.fast_units.specs.device.TextDecisions.{first_reader, IsStepped}
 use Rattle.fast_units.proofs.LastUnits.{unit_stops, unit_stays, number_within}
-use Rattle.fast_wire.specs.Integers.{IsWithin}
+use Rattle.fast_wire.specs.meaning.Integers.{IsWithin}
 use Rattle.fast_units.proofs.TextSizes.{length_again, length_narrow}
 use Rattle.fast_units.proofs.TextUnits.{delta_null, subtraction_field, text_next, text_settled}
 use Rattle.fast_units.proofs.texts.take_subtraction.Goals as goal

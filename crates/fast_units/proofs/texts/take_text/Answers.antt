@@ -1,16 +1,16 @@
 use Rattle.std.proofs.Common.{◌≡◌, ◌∙◌, sym, ap, refl, List, ℕ, take, ◌++◌}
 use Rattle.std.specs.Prelude.{Ok, Some, None, Option, true}
-use Rattle.fast_value.specs.Limits.{bounds}
-use Rattle.fast_value.specs.Kinds.{value_of_text}
-use Rattle.fast_tree.specs.Nodes.{field_data}
-use Rattle.fast_dict.specs.Dictionary.{previous_at}
-use Rattle.fast_dict.specs.Operators.{decide}
-use Rattle.fast_dict.specs.Slots.{slots_dictionary}
-use Rattle.fast_stream.specs.Fields.{sent_text}
-use Rattle.fast_stream.specs.Grammar.{give, ascii_text}
-use Rattle.fast_stream.specs.GrammarReaders.{reader_of}
-use Rattle.fast_units.specs.NextUnits.{text_or_null}
-use Rattle.fast_units.specs.TextDecisions.{first_reader}
+use Rattle.fast_value.specs.meaning.Limits.{bounds}
+use Rattle.fast_value.specs.meaning.Kinds.{value_of_text}
+use Rattle.fast_tree.specs.device.Nodes.{field_data}
+use Rattle.fast_dict.specs.meaning.Dictionary.{previous_at}
+use Rattle.fast_dict.specs.meaning.Operators.{decide}
+use Rattle.fast_dict.specs.meaning.Slots.{slots_dictionary}
+use Rattle.fast_stream.specs.meaning.Fields.{sent_text}
+use Rattle.fast_stream.specs.meaning.Grammar.{give, ascii_text}
+use Rattle.fast_stream.specs.device.GrammarReaders.{reader_of}
+use Rattle.fast_units.specs.device.NextUnits.{text_or_null}
+use Rattle.fast_units.specs.device.TextDecisions.{first_reader}
 use Rattle.fast_units.proofs.LastUnits.{unit_stops, unit_stays}
 use Rattle.fast_units.proofs.TextUnits.{text_field, text_last, behind_text}
 use Rattle.fast_units.proofs.texts.take_text.Goals as goal

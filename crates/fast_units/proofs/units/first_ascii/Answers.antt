@@ -1,5 +1,5 @@
 use Rattle.std.proofs.Common.{◌≡◌, ◌∙◌, sym, subst, List, ℕ}
-use Rattle.fast_units.specs.NextUnits.{IsNextText}
+use Rattle.fast_units.specs.device.NextUnits.{IsNextText}
 use Rattle.fast_units.proofs.NextTexts.{text_bare, text_nothing}
 use Rattle.fast_units.proofs.units.first_ascii.Goals as goal
 

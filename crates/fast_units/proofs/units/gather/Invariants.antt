@@ -1,5 +1,5 @@
 use Rattle.std.proofs.Common.{◌<◌, length, ◌≡◌, ◌++◌, take}
-use Rattle.fast_wire.specs.Entities.{HaveNoStop}
+use Rattle.fast_wire.specs.meaning.Entities.{HaveNoStop}
 use Rattle.fast_units.proofs.units.gather.Given as goal
 
 -- the bytes so far are in hand, none with a stop bit

@@ -1,5 +1,5 @@
 use Rattle.std.specs.Prelude.{◌≡◌, true}
-use Rattle.fast_units.specs.NextUnits.{IsNextText}
+use Rattle.fast_units.specs.device.NextUnits.{IsNextText}
 use Rattle.fast_units.proofs.NextUnits.{text_unit}
 use Rattle.fast_units.proofs.NextTexts.{zero_nullable, text_short, text_again}
 use Rattle.fast_units.proofs.units.next_ascii.Goals as goal

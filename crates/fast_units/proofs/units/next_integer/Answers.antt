@@ -1,5 +1,5 @@
 use Rattle.std.specs.Prelude.{◌≡◌, []}
-use Rattle.fast_units.specs.NextUnits.{range_data}
+use Rattle.fast_units.specs.device.NextUnits.{range_data}
 use Rattle.fast_units.proofs.NextUnits.{none_in_hand, integer_unit, first_whole, first_wrong, wrong_some}
 use Rattle.fast_units.proofs.units.next_integer.Goals as goal
 

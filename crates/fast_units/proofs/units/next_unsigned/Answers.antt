@@ -1,5 +1,5 @@
 use Rattle.std.specs.Prelude.{◌≡◌, [], Some, pos, false}
-use Rattle.fast_wire.specs.Integers.{unsigned_up_to}
+use Rattle.fast_wire.specs.meaning.Integers.{unsigned_up_to}
 use Rattle.fast_value.specs.declared.codes.Code.TheVariants.{D2}
 use Rattle.fast_units.proofs.NextUnits.{none_in_hand, integer_unit, first_whole, first_wrong, wrong_some}
 use Rattle.fast_units.proofs.units.next_unsigned.Goals as goal

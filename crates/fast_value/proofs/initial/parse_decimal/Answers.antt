@@ -3,8 +3,8 @@ use Rattle.std.proofs.lemmas.List.{take_rest}
 use Rattle.std.proofs.lemmas.Int.{ints, to_z-of_z}
 use mir.Syntax.{w32, w64}
 use mir.Val.{SFits}
-use Rattle.fast_value.specs.Initial.{IsInteger}
-use Rattle.fast_wire.specs.Integers.{exponent_range}
+use Rattle.fast_value.specs.meaning.Initial.{IsInteger}
+use Rattle.fast_wire.specs.meaning.Integers.{exponent_range}
 use Rattle.fast_value.proofs.Numerals.{decimal_without_e, decimal_parts, decimal_of_parts}
 use Rattle.fast_value.proofs.initial.parse_decimal.Goals as goal
 

@@ -3,7 +3,7 @@ use Rattle.std.specs.Prelude.{All}
 use Rattle.std.specs.Char.{IsAsciiDigit}
 use Rattle.std.proofs.lemmas.List.{length-take-le, take_all}
 use Rattle.std.proofs.lemmas.List.Elements.{All-more}
-use Rattle.fast_value.specs.Initial.{digits_value}
+use Rattle.fast_value.specs.meaning.Initial.{digits_value}
 use Rattle.fast_value.proofs.Digits.{digits_value-below, digits_value-more}
 use Rattle.fast_value.proofs.initial.parse_digits.Goals as goal
 

@@ -1,7 +1,7 @@
 use Rattle.std.proofs.Common.{◌≡◌, take}
 use Rattle.std.specs.Prelude.{All}
 use Rattle.std.specs.Char.{IsAsciiDigit}
-use Rattle.fast_value.specs.Initial.{digits_value}
+use Rattle.fast_value.specs.meaning.Initial.{digits_value}
 use Rattle.fast_value.proofs.initial.parse_digits.Given as goal
 
 abbrev pub invariant-loop-digit : goal.invariant-loop-digit

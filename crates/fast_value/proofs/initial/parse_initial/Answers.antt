@@ -1,7 +1,7 @@
 use Rattle.std.proofs.Common.{◌≡◌, ap, ◌∙◌}
-use Rattle.fast_value.specs.Initial.{IsInitial}
+use Rattle.fast_value.specs.meaning.Initial.{IsInitial}
 use Rattle.std.proofs.lemmas.Str.Ascii.{All-from_ascii}
-use Rattle.fast_value.specs.Kinds.{AsciiText}
+use Rattle.fast_value.specs.meaning.Kinds.{AsciiText}
 use Rattle.fast_value.specs.declared.kinds.Kind.TheVariants.{UInt32, Int32, UInt64, Int64, Decimal}
 use Rattle.fast_value.proofs.initial.parse_initial.Goals as goal
 

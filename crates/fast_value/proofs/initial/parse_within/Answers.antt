@@ -1,4 +1,4 @@
-use Rattle.fast_value.specs.Numerals.{range_between}
+use Rattle.fast_value.specs.device.Numerals.{range_between}
 use Rattle.fast_value.proofs.Numerals.{signed_of_integer}
 use Rattle.fast_value.proofs.initial.parse_within.Goals as goal
 

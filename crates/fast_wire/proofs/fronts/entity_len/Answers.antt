@@ -1,5 +1,5 @@
 use Rattle.std.proofs.Common.{arith}
-use Rattle.fast_wire.proofs.Stopping.{unstopped_more, unstopped_front}
+use Rattle.fast_wire.proofs.stop_bits.Stopping.{unstopped_more, unstopped_front}
 use Rattle.fast_wire.proofs.fronts.entity_len.Goals as goal
 
 pub loop-i-preserved : goal.loop-i-preserved

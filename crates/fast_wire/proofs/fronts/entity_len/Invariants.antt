@@ -1,5 +1,5 @@
 use Rattle.std.proofs.Common.{◌≤◌, take}
-use Rattle.fast_wire.specs.Entities.{HaveNoStop}
+use Rattle.fast_wire.specs.meaning.Entities.{HaveNoStop}
 use Rattle.fast_wire.proofs.fronts.entity_len.Given as goal
 
 abbrev pub invariant-loop-i : goal.invariant-loop-i

@@ -1,6 +1,6 @@
 use Rattle.std.specs.Prelude.{Some, false}
-use Rattle.fast_wire.specs.Integers.{signed_between}
-use Rattle.fast_wire.proofs.Endless.{no_end}
+use Rattle.fast_wire.specs.meaning.Integers.{signed_between}
+use Rattle.fast_wire.proofs.stop_bits.Endless.{no_end}
 use Rattle.fast_wire.proofs.fronts.long_signed.Goals as goal
 
 pub returns-in-None : goal.returns-in-None

@@ -1,4 +1,4 @@
-use Rattle.fast_wire.proofs.Spellings.{one_spelling}
+use Rattle.fast_wire.proofs.numbers.Spellings.{one_spelling}
 use Rattle.fast_wire.proofs.laws.one_spelling.Goals as goal
 
 pub returns : goal.returns

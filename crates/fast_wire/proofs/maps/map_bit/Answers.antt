@@ -1,6 +1,6 @@
 use Rattle.std.proofs.Common.{sym, ◌∙◌}
 use Rattle.std.proofs.lemmas.Bool.{le-ltb}
-use Rattle.fast_wire.proofs.Bits.{bit-at, bit-past}
+use Rattle.fast_wire.proofs.map_bits.Bits.{bit-at, bit-past}
 use Rattle.fast_wire.proofs.maps.map_bit.Goals as goal
 
 pub returns-then-byte-map-clause-bit : goal.returns-then-byte-map-clause-bit

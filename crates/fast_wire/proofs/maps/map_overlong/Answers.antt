@@ -1,4 +1,4 @@
-use Rattle.fast_wire.proofs.Spare.{spare_by_mask}
+use Rattle.fast_wire.proofs.map_bits.Spare.{spare_by_mask}
 use Rattle.fast_wire.proofs.maps.map_overlong.Goals as goal
 
 pub returns-then-map-gt1 : goal.returns-then-map-gt1

@@ -1,4 +1,4 @@
-use Rattle.fast_wire.proofs.Overlong.{overlong_by_zero}
+use Rattle.fast_wire.proofs.numbers.Overlong.{overlong_by_zero}
 use Rattle.fast_wire.proofs.reads.is_refused_unsigned.Goals as goal
 
 pub returns-then-w-gt1 : goal.returns-then-w-gt1

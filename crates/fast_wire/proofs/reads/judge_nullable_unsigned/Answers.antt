@@ -1,8 +1,8 @@
 use Rattle.std.proofs.Common.{◌≡◌, suc, true, subst, arith}
 use Rattle.std.specs.Prelude.{pos, option_map}
-use Rattle.fast_wire.specs.Entities.{number}
-use Rattle.fast_wire.specs.Integers.{Means}
-use Rattle.fast_wire.proofs.Judging.{not_so, above_top}
+use Rattle.fast_wire.specs.meaning.Entities.{number}
+use Rattle.fast_wire.specs.meaning.Integers.{Means}
+use Rattle.fast_wire.proofs.numbers.Judging.{not_so, above_top}
 use Rattle.fast_wire.proofs.reads.judge_nullable_unsigned.Goals as goal
 
 pub returns-then-x-from-clause-outside : goal.returns-then-x-from-clause-outside

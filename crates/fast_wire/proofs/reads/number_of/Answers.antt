@@ -1,5 +1,5 @@
 use Rattle.std.proofs.Common.{arith}
-use Rattle.fast_wire.proofs.Numbers.{one_byte_more}
+use Rattle.fast_wire.proofs.numbers.Numbers.{one_byte_more}
 use Rattle.fast_wire.proofs.reads.number_of.Goals as goal
 
 pub loop-byte-preserved : goal.loop-byte-preserved

@@ -1,5 +1,5 @@
 use Rattle.std.proofs.Common.{[], ◌∷◌, refl}
-use Rattle.fast_wire.proofs.Signs.{sign_clear, sign_set}
+use Rattle.fast_wire.proofs.numbers.Signs.{sign_clear, sign_set}
 use Rattle.fast_wire.proofs.reads.sign_byte.Goals as goal
 
 pub returns-then-byte-eq0 : goal.returns-then-byte-eq0

@@ -1,8 +1,8 @@
 use Rattle.std.proofs.Common.{◌*◌, ◌^◌, length, ap, sym, ◌∙◌}
 use Rattle.std.specs.Prelude.{pos, ◌-ℤ◌}
-use Rattle.fast_wire.specs.Entities.{number}
-use Rattle.fast_wire.proofs.Judging.{natural_is, complement_is, power_of_128}
-use Rattle.fast_wire.proofs.Signs.{sign_clear, sign_set, signed_clear, signed_set}
+use Rattle.fast_wire.specs.meaning.Entities.{number}
+use Rattle.fast_wire.proofs.numbers.Judging.{natural_is, complement_is, power_of_128}
+use Rattle.fast_wire.proofs.numbers.Signs.{sign_clear, sign_set, signed_clear, signed_set}
 use Rattle.fast_wire.proofs.reads.signed_of.Goals as goal
 
 pub returns-then-w-ne0 : goal.returns-then-w-ne0

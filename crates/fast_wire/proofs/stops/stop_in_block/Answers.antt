@@ -3,7 +3,7 @@ use Rattle.std.specs.List.{prefix_len}
 use lib.Count.{count_trailing_zeros}
 use lib.Lanes.{chunk}
 use Rattle.std.proofs.lemmas.Simd.{length-chunk, leading_from_mask_l, trailing_mask_l}
-use Rattle.fast_wire.proofs.Blocks.{mask_is, before_stop, at_stop, small_prefix}
+use Rattle.fast_wire.proofs.stop_bits.Blocks.{mask_is, before_stop, at_stop, small_prefix}
 use Rattle.fast_wire.proofs.stops.stop_in_block.Goals as goal
 
 pub returns-then-hits-eq0 : goal.returns-then-hits-eq0

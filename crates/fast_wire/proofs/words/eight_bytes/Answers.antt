@@ -1,4 +1,4 @@
-use Rattle.fast_wire.proofs.ShortEntities.{are_bytes, by_word}
+use Rattle.fast_wire.proofs.stop_bits.ShortEntities.{are_bytes, by_word}
 use Rattle.fast_wire.proofs.words.eight_bytes.Goals as goal
 
 pub returns : goal.returns

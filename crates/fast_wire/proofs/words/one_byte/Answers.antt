@@ -1,6 +1,6 @@
 use Rattle.std.proofs.Common.{◌≤◌, ◌∙◌, ap, subst}
 use Rattle.std.specs.Prelude.{bit_and}
-use Rattle.fast_wire.proofs.ShortEntities.{one_byte}
+use Rattle.fast_wire.proofs.stop_bits.ShortEntities.{one_byte}
 use Rattle.fast_wire.proofs.words.one_byte.Goals as goal
 
 pub returns : goal.returns

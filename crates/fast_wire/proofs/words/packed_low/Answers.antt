@@ -1,4 +1,4 @@
-use Rattle.fast_wire.proofs.Packing.{packed_low_is}
+use Rattle.fast_wire.proofs.numbers.Packing.{packed_low_is}
 use Rattle.fast_wire.proofs.words.packed_low.Goals as goal
 
 pub returns : goal.returns

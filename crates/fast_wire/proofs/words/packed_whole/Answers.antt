@@ -1,4 +1,4 @@
-use Rattle.fast_wire.proofs.Packing.{packed_is}
+use Rattle.fast_wire.proofs.numbers.Packing.{packed_is}
 use Rattle.fast_wire.proofs.words.packed_whole.Goals as goal
 
 pub returns : goal.returns

@@ -1,6 +1,6 @@
 use Rattle.std.proofs.Common.{◌≡◌, ◌+◌, ◌-◌, ◌*◌, suc, length, arith}
-use Rattle.fast_wire.proofs.FirstStop.{entity_is_long}
-use Rattle.fast_wire.proofs.SignExtension.{short_is_signed}
+use Rattle.fast_wire.proofs.stop_bits.FirstStop.{entity_is_long}
+use Rattle.fast_wire.proofs.numbers.SignExtension.{short_is_signed}
 use Rattle.fast_wire.proofs.words.short_signed.Goals as goal
 
 pub returns : goal.returns

@@ -1,7 +1,7 @@
 use Rattle.std.proofs.Common.{◌≡◌, ◌-◌, ◌*◌, ◌/◌, ◌^◌, ap, subst, ◌∙◌, refl, arith, length-append}
 use Rattle.std.proofs.lemmas.Nat.{and_le_r}
-use Rattle.fast_wire.specs.Entities.{number}
-use Rattle.fast_wire.proofs.Writing.{group_more, last_group}
+use Rattle.fast_wire.specs.meaning.Entities.{number}
+use Rattle.fast_wire.proofs.numbers.Writing.{group_more, last_group}
 use Rattle.fast_wire.proofs.writes.entity_of.Goals as goal
 
 pub loop-i-preserved : goal.loop-i-preserved

@@ -1,5 +1,5 @@
 use Rattle.std.proofs.Common.{◌≡◌, ◌+◌, ◌*◌, ◌/◌, ◌^◌, ◌≤◌, length}
-use Rattle.fast_wire.specs.Entities.{HaveNoStop, number}
+use Rattle.fast_wire.specs.meaning.Entities.{HaveNoStop, number}
 use Rattle.fast_wire.proofs.writes.entity_of.Given as goal
 
 abbrev pub invariant-loop-i : goal.invariant-loop-i

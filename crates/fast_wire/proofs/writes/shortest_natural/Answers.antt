@@ -1,5 +1,5 @@
 use Rattle.std.specs.Prelude.{pos}
-use Rattle.fast_wire.proofs.Writing.{full_at, natural_at}
+use Rattle.fast_wire.proofs.numbers.Writing.{full_at, natural_at}
 use Rattle.fast_wire.proofs.writes.shortest_natural.Goals as goal
 
 pub returns-clause-value : goal.returns-clause-value

@@ -1,5 +1,5 @@
 use Rattle.std.specs.Prelude.{negsuc}
-use Rattle.fast_wire.proofs.Writing.{full_at, negative_at}
+use Rattle.fast_wire.proofs.numbers.Writing.{full_at, negative_at}
 use Rattle.fast_wire.proofs.writes.shortest_negative.Goals as goal
 
 pub returns-clause-value : goal.returns-clause-value

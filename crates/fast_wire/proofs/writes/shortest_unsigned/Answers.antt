@@ -1,4 +1,4 @@
-use Rattle.fast_wire.proofs.Writing.{full_unsigned}
+use Rattle.fast_wire.proofs.numbers.Writing.{full_unsigned}
 use Rattle.fast_wire.proofs.writes.shortest_unsigned.Goals as goal
 
 pub returns-clause-shortest : goal.returns-clause-shortest

@@ -1,5 +1,5 @@
 use Rattle.std.proofs.Common.{◌<◌, length}
-use Rattle.fast_wire.specs.Entities.{HaveNoStop}
+use Rattle.fast_wire.specs.meaning.Entities.{HaveNoStop}
 use Rattle.fast_wire_tests.proofs.tests.entity.Given as goal
 
 abbrev pub invariant-loop-byte : goal.invariant-loop-byte

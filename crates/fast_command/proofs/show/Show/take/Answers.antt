@@ -1,6 +1,6 @@
 use Rattle.std.proofs.Common.{◌∙◌, ◌++◌, sym, refl}
-use Rattle.fast_template.specs.Flat.{tree_of}
-use Rattle.fast_text.specs.Fronts.{set_of}
+use Rattle.fast_template.specs.meaning.Flat.{tree_of}
+use Rattle.fast_text.specs.device.Fronts.{set_of}
 use Rattle.fast_command.proofs.Progressing.{goes_on, bad_character_ends, fault_ends, stands_for, no_fault, this_fault, fed_in, fed_at_in}
 use Rattle.fast_command.proofs.show.Show.take.Goals as goal
 

@@ -1,7 +1,7 @@
 use Rattle.std.proofs.Common.{subst, take, ◌*◌, ◌≤◌, ap, ◌∙◌, ◌≡◌, ◌<◌, arith, length, sym, ◌-◌, ◌+◌}
-use Rattle.fast_wire.specs.Maps.{map_limit}
-use Rattle.fast_cursor.specs.Cursors.{CursorData}
-use Rattle.fast_cursor.specs.Segments.{ArePlaces}
+use Rattle.fast_wire.specs.meaning.Maps.{map_limit}
+use Rattle.fast_cursor.specs.device.Cursors.{CursorData}
+use Rattle.fast_cursor.specs.device.Segments.{ArePlaces}
 use Rattle.fast_cursor.proofs.Segments.{length-open, left-is, places-less}
 use Rattle.fast_cursor.proofs.cursor.Cursor.close.Goals as goal
 

@@ -1,7 +1,7 @@
 use Rattle.std.proofs.Common.{sym, ap, ◌∙◌, ◌≡◌, arith, length, eq-eqb}
 use Rattle.std.proofs.lemmas.Bool.Decides.{nat_tests}
 use Rattle.std.proofs.lemmas.List.{nil_from_length}
-use Rattle.fast_cursor.specs.Cursors.{CursorData}
+use Rattle.fast_cursor.specs.device.Cursors.{CursorData}
 use Rattle.fast_cursor.proofs.Segments.{length-open}
 use Rattle.fast_cursor.proofs.cursor.Cursor.is_outermost.Goals as goal
 

@@ -1,8 +1,8 @@
 use Rattle.std.proofs.Common.{◌≡◌, ◌<◌, ◌≤◌, ◌∙◌, [], ◌∷◌, List, ℕ, ap, sym, subst, arith, rules, length, length-set, get_or, set, ◌+◌}
-use Rattle.fast_wire.specs.Maps.{map_limit}
-use Rattle.fast_cursor.specs.Cursors.{CursorData}
-use Rattle.fast_cursor.specs.MapPlaces.{used_bits, IsPlace}
-use Rattle.fast_cursor.specs.Segments.{map_at}
+use Rattle.fast_wire.specs.meaning.Maps.{map_limit}
+use Rattle.fast_cursor.specs.device.Cursors.{CursorData}
+use Rattle.fast_cursor.specs.device.MapPlaces.{used_bits, IsPlace}
+use Rattle.fast_cursor.specs.device.Segments.{map_at}
 use Rattle.fast_cursor.proofs.Segments.{cells-there, only-map, only-places, one-before, one-inner}
 use Rattle.fast_cursor.proofs.MapTakings.{taken-first}
 use Rattle.fast_cursor.proofs.cursor.Cursor.take_byte.Goals as goal

@@ -1,8 +1,8 @@
 use Rattle.std.proofs.Common.{take, drop, Vec, Global, ◌≡◌, ◌∙◌, ◌+◌, ◌-◌, ℕ, ap, sym, subst, arith, length}
 use Rattle.std.specs.Vec.{with_items}
 use borrow.Rule.Slice.PartMut.{put_mid}
-use Rattle.fast_cursor.specs.MapPlaces.{used_bits, IsPlace}
-use Rattle.fast_cursor.specs.MapTaking.{IsMapTaken}
+use Rattle.fast_cursor.specs.device.MapPlaces.{used_bits, IsPlace}
+use Rattle.fast_cursor.specs.device.MapTaking.{IsMapTaken}
 use Rattle.fast_cursor.proofs.Segments.{only-map, only-places, map-lent, map-count, map-back, map-read}
 use Rattle.fast_cursor.proofs.MapTakings.{taken-whole, taken-full, taken-cut}
 use Rattle.fast_cursor.proofs.cursor.Cursor.take_more.Goals as goal

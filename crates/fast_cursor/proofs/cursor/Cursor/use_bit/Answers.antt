@@ -1,8 +1,8 @@
 use Rattle.std.proofs.Common.{ap, ◌∙◌, ℕ, List, ◌-◌, ◌<◌, drop, rules}
-use Rattle.fast_wire.specs.Maps.{bits, later_bits}
-use Rattle.fast_cursor.specs.Cursors.{CursorData, bits_left}
-use Rattle.fast_cursor.specs.MapPlaces.{used_bits}
-use Rattle.fast_cursor.specs.Segments.{map_at}
+use Rattle.fast_wire.specs.meaning.Maps.{bits, later_bits}
+use Rattle.fast_cursor.specs.device.Cursors.{CursorData, bits_left}
+use Rattle.fast_cursor.specs.device.MapPlaces.{used_bits}
+use Rattle.fast_cursor.specs.device.Segments.{map_at}
 use Rattle.fast_cursor.proofs.MapWords.{place-later, place-used}
 use Rattle.fast_cursor.proofs.Segments.{length-map}
 use Rattle.fast_cursor.proofs.cursor.Cursor.use_bit.Goals as goal

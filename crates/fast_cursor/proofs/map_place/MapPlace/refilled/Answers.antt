@@ -1,7 +1,7 @@
 use Rattle.std.proofs.Common.{arith, ap, ◌≡◌, ◌+◌, ◌-◌, ◌*◌, ◌<◌, ◌≤◌, ◌∙◌, length, rules, subst, drop, take}
-use Rattle.fast_wire.specs.Maps.{map_limit, bits}
-use Rattle.fast_cursor.specs.MapPlaces.{HasTop}
-use Rattle.fast_cursor.specs.Segments.{map_at}
+use Rattle.fast_wire.specs.meaning.Maps.{map_limit, bits}
+use Rattle.fast_cursor.specs.device.MapPlaces.{HasTop}
+use Rattle.fast_cursor.specs.device.Segments.{map_at}
 use Rattle.fast_cursor.proofs.Segments.{length-map}
 use Rattle.fast_cursor.proofs.MapWords.{place-whole, next-word}
 use Rattle.fast_cursor.proofs.map_place.MapPlace.refilled.Goals as goal

@@ -4,13 +4,13 @@ use Rattle.std.proofs.lemmas.List.{take_all}
 use Rattle.fast_stream.specs.declared.faults.FaultCode.{FaultCode}
 use Rattle.fast_stream.specs.declared.faults.FaultCode.TheVariants as Why
 use Rattle.fast_decoder.specs.declared.machine.Machine.{Machine}
-use Rattle.fast_decoder.specs.Handing.{Took, Fed, stood}
-use Rattle.fast_decoder.specs.Positions.{set_of, tree_in, meaning, IsSupplied, IsReady}
-use Rattle.fast_decoder.specs.TurnsLeft.{IsWithinMessage}
-use Rattle.fast_decoder.specs.Decoding.{DecoderData, tree, So, IsRefused, CarriesAt}
-use Rattle.fast_decoder.proofs.Carrying.{meaning-turns, supplied-turns, bytes_of, fed_data, carry_ok, carry_stopped, carry_failed}
-use Rattle.fast_decoder.proofs.Following.{carries_follow, fault_follows, failed_follows}
-use Rattle.fast_decoder.proofs.Paying.{feed_paid, all_within, feed_turns, sound_on}
+use Rattle.fast_decoder.specs.device.Handing.{TookEvents, Fed, waiting_at}
+use Rattle.fast_decoder.specs.device.Positions.{set_of, tree_in, meaning, IsSupplied, IsReady}
+use Rattle.fast_decoder.specs.device.TurnsLeft.{IsWithinMessage}
+use Rattle.fast_decoder.specs.meaning.Decoding.{DecoderData, tree, HasRead, IsRefused, CarriesAt}
+use Rattle.fast_decoder.proofs.streams.Carrying.{meaning-turns, supplied-turns, bytes_of, fed_data, carry_ok, carry_stopped, carry_failed}
+use Rattle.fast_decoder.proofs.streams.Following.{carries_follow, fault_follows, failed_follows}
+use Rattle.fast_decoder.proofs.steps.Paying.{feed_paid, all_within, feed_turns, sound_on}
 use Rattle.fast_decoder.proofs.decoder.Decoder.feed.Goals as goal
 
 pub returns-in-Some-clause-carried : goal.returns-in-Some-clause-carried
@@ -19,7 +19,7 @@ returns-in-Some-clause-carried g c = λ w es so.
     let view : inside ≡ c.args.self.now = c.self.view_is in
     let supplied : IsSupplied inside.set inside.limits c.begin_turns.new.self = subst (λ (m : Machine). IsSupplied inside.set inside.limits m) (sym c.begin_turns.ensures.same) (supplied-turns inside.set inside.limits inside.machine c.begin_turns.new.self.turns c.self.invariant.supplied) in
     subst (λ (d : DecoderData). CarriesAt g.S.Sink.takes g.S.Sink.stops d w es c.args.piece.now c.args.sink.now c.in-Some.fault.code c.in-Some.fault.place (record inside { machine = c.begin_turns.new.self }) c.args.sink.now) view
-    (carry_failed g.S.Sink.takes g.S.Sink.stops inside c.begin_turns.new.self c.in-Some.fault w es c.args.piece.now c.args.sink.now c.in-Some.is (bytes_of c.args.piece.now c.type_inv.piece) supplied (subst (λ (d : DecoderData). So d w es) (sym view) so))
+    (carry_failed g.S.Sink.takes g.S.Sink.stops inside c.begin_turns.new.self c.in-Some.fault w es c.args.piece.now c.args.sink.now c.in-Some.is (bytes_of c.args.piece.now c.type_inv.piece) supplied (subst (λ (d : DecoderData). HasRead d w es) (sym view) so))
 
 pub returns-in-Ok-clause-carried : goal.returns-in-Ok-clause-carried
 returns-in-Ok-clause-carried g c = λ w es so.
@@ -30,14 +30,14 @@ returns-in-Ok-clause-carried g c = λ w es so.
     let same : meaning inside.set inside.limits m ≡ meaning inside.set inside.limits inside.machine = ap (meaning inside.set inside.limits) c.begin_turns.ensures.same ∙ meaning-turns inside.machine.waiting inside.set inside.limits inside.machine m.turns in
     let all : c.take_all-taken.result.bytes ≡ length c.args.piece.now = c.take_all-taken.ensures.all (subst (λ (r : Result Unit FaultCode). IsOk r) (sym c.in-Ok.is) refl) in
     let ready : IsReady inside.set inside.limits m' = subst (λ (r : Result Unit FaultCode). OnOk r (IsReady inside.set inside.limits m')) c.in-Ok.is c.take_all-taken.ensures.ready in
-    let fed : Fed g.S.Sink.takes g.S.Sink.stops (tree_in inside.set) inside.limits (stood (meaning inside.set inside.limits m)) (take c.take_all-taken.result.bytes c.args.piece.now) c.args.sink.now (Ok tt) c.take_all-taken.new.sink (stood (meaning inside.set inside.limits m'))
-    = subst (λ (r : Result Unit FaultCode). Fed g.S.Sink.takes g.S.Sink.stops (tree_in inside.set) inside.limits (stood (meaning inside.set inside.limits m)) (take c.take_all-taken.result.bytes c.args.piece.now) c.args.sink.now r c.take_all-taken.new.sink (stood (meaning inside.set inside.limits m'))) c.in-Ok.is c.take_all-taken.ensures.fed in
-    let took : Took g.S.Sink.takes (tree_in inside.set) inside.limits (stood (meaning inside.set inside.limits m)) c.args.piece.now c.args.sink.now c.take_all-taken.new.sink (stood (meaning inside.set inside.limits m'))
-    = subst (λ (v : List ℕ). Took g.S.Sink.takes (tree_in inside.set) inside.limits (stood (meaning inside.set inside.limits m)) v c.args.sink.now c.take_all-taken.new.sink (stood (meaning inside.set inside.limits m'))) (ap (λ n. take n c.args.piece.now) all ∙ take_all (length c.args.piece.now) c.args.piece.now (omega arith)) fed in
+    let fed : Fed g.S.Sink.takes g.S.Sink.stops (tree_in inside.set) inside.limits (waiting_at (meaning inside.set inside.limits m)) (take c.take_all-taken.result.bytes c.args.piece.now) c.args.sink.now (Ok tt) c.take_all-taken.new.sink (waiting_at (meaning inside.set inside.limits m'))
+    = subst (λ (r : Result Unit FaultCode). Fed g.S.Sink.takes g.S.Sink.stops (tree_in inside.set) inside.limits (waiting_at (meaning inside.set inside.limits m)) (take c.take_all-taken.result.bytes c.args.piece.now) c.args.sink.now r c.take_all-taken.new.sink (waiting_at (meaning inside.set inside.limits m'))) c.in-Ok.is c.take_all-taken.ensures.fed in
+    let took : TookEvents g.S.Sink.takes (tree_in inside.set) inside.limits (waiting_at (meaning inside.set inside.limits m)) c.args.piece.now c.args.sink.now c.take_all-taken.new.sink (waiting_at (meaning inside.set inside.limits m'))
+    = subst (λ (v : List ℕ). TookEvents g.S.Sink.takes (tree_in inside.set) inside.limits (waiting_at (meaning inside.set inside.limits m)) v c.args.sink.now c.take_all-taken.new.sink (waiting_at (meaning inside.set inside.limits m'))) (ap (λ n. take n c.args.piece.now) all ∙ take_all (length c.args.piece.now) c.args.piece.now (omega arith)) fed in
     carry_ok g.S.Sink.takes g.S.Sink.stops inside m m' c.take_all-taken.result.bytes c.self.inside.fault w es c.args.piece.now c.args.sink.now c.take_all-taken.new.sink c.in_default.is c.in_default.is all same (bytes_of c.args.piece.now c.type_inv.piece) ready c.take_all-taken.ensures.supplied
     (subst (λ (r : Result Unit FaultCode). OnOk r (IsWithinMessage inside.set inside.limits m')) c.in-Ok.is (all_within inside.set inside.limits c.take_all-taken.result.bytes m' c.take_all-taken.result.outcome
     (feed_paid inside m m' c.take_all-taken.result.bytes c.take_all-taken.result.outcome c.in_default.is c.begin_turns.ensures.same c.begin_turns.ensures.none c.self.invariant c.take_all-taken.ensures.turns))) took
-    (subst (λ (d : DecoderData). So d w es) (sym view) so)
+    (subst (λ (d : DecoderData). HasRead d w es) (sym view) so)
 
 pub returns-in-Err-clause-carried : goal.returns-in-Err-clause-carried
 returns-in-Err-clause-carried g c = λ w es so.
@@ -47,12 +47,12 @@ returns-in-Err-clause-carried g c = λ w es so.
     let m' : Machine = c.take_all-taken.new.self in
     let same : meaning inside.set inside.limits m ≡ meaning inside.set inside.limits inside.machine = ap (meaning inside.set inside.limits) c.begin_turns.ensures.same ∙ meaning-turns inside.machine.waiting inside.set inside.limits inside.machine m.turns in
     let k : ℕ = c.take_all-taken.result.bytes in
-    let fed : Fed g.S.Sink.takes g.S.Sink.stops (tree_in inside.set) inside.limits (stood (meaning inside.set inside.limits m)) (take k c.args.piece.now) c.args.sink.now (Err c.in-Err.code) c.take_all-taken.new.sink (stood (meaning inside.set inside.limits m'))
-    = subst (λ (r : Result Unit FaultCode). Fed g.S.Sink.takes g.S.Sink.stops (tree_in inside.set) inside.limits (stood (meaning inside.set inside.limits m)) (take k c.args.piece.now) c.args.sink.now r c.take_all-taken.new.sink (stood (meaning inside.set inside.limits m'))) c.in-Err.is c.take_all-taken.ensures.fed in
+    let fed : Fed g.S.Sink.takes g.S.Sink.stops (tree_in inside.set) inside.limits (waiting_at (meaning inside.set inside.limits m)) (take k c.args.piece.now) c.args.sink.now (Err c.in-Err.code) c.take_all-taken.new.sink (waiting_at (meaning inside.set inside.limits m'))
+    = subst (λ (r : Result Unit FaultCode). Fed g.S.Sink.takes g.S.Sink.stops (tree_in inside.set) inside.limits (waiting_at (meaning inside.set inside.limits m)) (take k c.args.piece.now) c.args.sink.now r c.take_all-taken.new.sink (waiting_at (meaning inside.set inside.limits m'))) c.in-Err.is c.take_all-taken.ensures.fed in
     let new : DecoderData = fed_data inside m' k (Some (record { code = c.in-Err.code; place = c.self.inside.consumed + k })) in
     subst (λ (d : DecoderData). CarriesAt g.S.Sink.takes g.S.Sink.stops d w es c.args.piece.now c.args.sink.now c.in-Err.code (c.self.inside.consumed + k) new c.take_all-taken.new.sink) view
     (carry_stopped g.S.Sink.takes g.S.Sink.stops inside m m' k c.in-Err.code w es c.args.piece.now c.args.sink.now c.take_all-taken.new.sink c.in_default.is c.take_all-taken.ensures.within same (bytes_of c.args.piece.now c.type_inv.piece) c.take_all-taken.ensures.supplied fed
-    (subst (λ (d : DecoderData). So d w es) (sym view) so))
+    (subst (λ (d : DecoderData). HasRead d w es) (sym view) so))
 
 pub invariant_of-self-in-Ok : goal.invariant_of-self-in-Ok
 invariant_of-self-in-Ok g c =

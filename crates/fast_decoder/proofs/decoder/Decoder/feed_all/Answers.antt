@@ -2,8 +2,8 @@ use Rattle.std.proofs.Common.{◌≡◌, ℕ, ◌+◌, List, [], get_or, take, d
 use Rattle.std.proofs.lemmas.List.{take_all}
 use Rattle.std.proofs.lemmas.Result.{err_from_is_err_and}
 use Rattle.std.specs.Borrow.{Bor}
-use Rattle.fast_decoder.specs.Feeding.{all_bytes}
-use Rattle.fast_decoder.proofs.Following.{SoFar, carries_none, consumed_within, so_far_on, so_far_follows, ended_follows, pieces_more, pieces_split}
+use Rattle.fast_decoder.specs.meaning.Feeding.{all_bytes}
+use Rattle.fast_decoder.proofs.streams.Following.{SoFar, carries_none, consumed_within, so_far_on, so_far_follows, ended_follows, pieces_more, pieces_split}
 use Rattle.fast_decoder.proofs.decoder.Decoder.feed_all.Goals as goal
 
 -- what stands for a piece that is not there

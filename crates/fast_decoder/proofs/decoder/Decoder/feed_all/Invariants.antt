@@ -1,6 +1,6 @@
 use Rattle.std.proofs.Common.{take}
-use Rattle.fast_decoder.specs.Feeding.{all_bytes}
-use Rattle.fast_decoder.proofs.Following.{SoFar}
+use Rattle.fast_decoder.specs.meaning.Feeding.{all_bytes}
+use Rattle.fast_decoder.proofs.streams.Following.{SoFar}
 use Rattle.fast_decoder.proofs.decoder.Decoder.feed_all.Given as goal
 
 abbrev pub invariant-loop-piece : goal.invariant-loop-piece

@@ -1,9 +1,9 @@
 use Rattle.std.proofs.Common.{refl}
 use Rattle.std.specs.Prelude.{None}
-use Rattle.fast_decoder.specs.Positions.{set_of, IsSupplied, IsFresh}
-use Rattle.fast_decoder.specs.Decoding.{DecoderData}
-use Rattle.fast_decoder.proofs.Bounds.{stored-bound}
-use Rattle.fast_decoder.proofs.Starts.{sound_fresh, so_fresh}
+use Rattle.fast_decoder.specs.device.Positions.{set_of, IsSupplied, IsFresh}
+use Rattle.fast_decoder.specs.meaning.Decoding.{DecoderData}
+use Rattle.fast_decoder.proofs.streams.Bounds.{stored-bound}
+use Rattle.fast_decoder.proofs.streams.Starts.{sound_fresh, read_fresh}
 use Rattle.fast_decoder.proofs.decoder.Decoder.reset.Goals as goal
 
 -- the decoder that was reset
@@ -20,7 +20,7 @@ pub invariant_of-self : goal.invariant_of-self
 invariant_of-self c = sound_fresh (made c) c.self.invariant.later (supplied c) (fresh c) refl
 
 pub returns-clause-so : goal.returns-clause-so
-returns-clause-so c = so_fresh (made c) c.self.invariant.later (supplied c) (fresh c) refl refl
+returns-clause-so c = read_fresh (made c) c.self.invariant.later (supplied c) (fresh c) refl refl
 
 pub returns-clause-no_turn : goal.returns-clause-no_turn
 returns-clause-no_turn c = (fresh c).turns

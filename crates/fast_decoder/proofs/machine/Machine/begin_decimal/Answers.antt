@@ -1,13 +1,13 @@
 -- The exponent is waited for, or what is decided for it leads on.
 use Rattle.std.proofs.Common.{◌∙◌}
 use Rattle.std.specs.Prelude.{[]}
-use Rattle.fast_value.specs.Limits.{bounds}
-use Rattle.fast_tree.specs.Nodes.{field_data}
-use Rattle.fast_dict.specs.Dictionary.{previous_at}
-use Rattle.fast_dict.specs.Slots.{slots_dictionary}
-use Rattle.fast_stream.specs.Continuations.{mantissa_after_then}
-use Rattle.fast_decoder.specs.Positions.{set_of, turning}
-use Rattle.fast_decoder.proofs.FieldTurns.{serves_here, serves_known, can_turn_slots, state_of, behind, parts_next, sent_here, field_known, field_wrong, exponent_waits, turn_fault, turn_as}
+use Rattle.fast_value.specs.meaning.Limits.{bounds}
+use Rattle.fast_tree.specs.device.Nodes.{field_data}
+use Rattle.fast_dict.specs.meaning.Dictionary.{previous_at}
+use Rattle.fast_dict.specs.meaning.Slots.{slots_dictionary}
+use Rattle.fast_stream.specs.device.Continuations.{mantissa_after_then}
+use Rattle.fast_decoder.specs.device.Positions.{set_of, turning}
+use Rattle.fast_decoder.proofs.steps.FieldTurns.{serves_here, serves_known, can_turn_slots, state_of, behind, parts_next, sent_here, field_known, field_wrong, exponent_waits, turn_fault, turn_as}
 use Rattle.fast_decoder.proofs.machine.Machine.begin_decimal.Goals as goal
 
 pub returns-then-needs_bytes-clause-turn : goal.returns-then-needs_bytes-clause-turn

@@ -1,9 +1,9 @@
 use Rattle.std.proofs.Common.{◌≡◌, ◌∙◌, ap, sym, subst, slice_index, None}
 use Rattle.std.proofs.lemmas.Result.{err_from_is_err_and}
 use Rattle.fast_decoder.specs.declared.machine.Machine.{Machine}
-use Rattle.fast_cursor.specs.Cursors.{entered}
-use Rattle.fast_decoder.specs.Positions.{set_of, IsAtGroup}
-use Rattle.fast_decoder.proofs.SegmentTurns.{IsGroupBegun, group_there, group_present, group_absent, group_begins, group_halt, width_at}
+use Rattle.fast_cursor.specs.device.Cursors.{entered}
+use Rattle.fast_decoder.specs.device.Positions.{set_of, IsAtGroup}
+use Rattle.fast_decoder.proofs.steps.SegmentTurns.{IsGroupBegun, group_there, group_present, group_absent, group_begins, group_halt, width_at}
 use Rattle.fast_decoder.proofs.machine.Machine.begin_group.Goals.{then-optional+else-not-bit, else-optional}
 use Rattle.fast_decoder.proofs.machine.Machine.begin_group.Goals as goal
 

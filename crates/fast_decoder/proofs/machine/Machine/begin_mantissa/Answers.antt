@@ -2,14 +2,14 @@
 use Rattle.std.proofs.Common.{rules, sym, ap, ◌∙◌, to_z, of_z}
 use Rattle.std.specs.Prelude.{[], ℤ}
 use Rattle.std.specs.Int.{w32}
-use Rattle.fast_value.specs.Limits.{bounds}
-use Rattle.fast_tree.specs.Nodes.{field_data}
-use Rattle.fast_dict.specs.Dictionary.{previous_at}
-use Rattle.fast_dict.specs.Slots.{slots_dictionary}
-use Rattle.fast_stream.specs.Continuations.{handed_then}
-use Rattle.fast_stream.specs.Messages.{decimal_with}
-use Rattle.fast_decoder.specs.Positions.{set_of, meaning}
-use Rattle.fast_decoder.proofs.FieldTurns.{serves_here, entry_known, can_turn_slots, state_of, behind, mantissa_from, mantissa_next, sent_here, field_known, field_wrong, mantissa_waits, turn_fault, turn_moved}
+use Rattle.fast_value.specs.meaning.Limits.{bounds}
+use Rattle.fast_tree.specs.device.Nodes.{field_data}
+use Rattle.fast_dict.specs.meaning.Dictionary.{previous_at}
+use Rattle.fast_dict.specs.meaning.Slots.{slots_dictionary}
+use Rattle.fast_stream.specs.device.Continuations.{handed_then}
+use Rattle.fast_stream.specs.meaning.Messages.{decimal_with}
+use Rattle.fast_decoder.specs.device.Positions.{set_of, meaning}
+use Rattle.fast_decoder.proofs.steps.FieldTurns.{serves_here, entry_known, can_turn_slots, state_of, behind, mantissa_from, mantissa_next, sent_here, field_known, field_wrong, mantissa_waits, turn_fault, turn_moved}
 use Rattle.fast_units.proofs.LastUnits.{again}
 use Rattle.fast_decoder.proofs.machine.Machine.begin_mantissa.Goals as goal
 

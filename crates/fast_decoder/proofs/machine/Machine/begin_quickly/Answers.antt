@@ -1,20 +1,20 @@
 -- A map of one byte, the first event of the message, and the turn behind it.
 use Rattle.std.proofs.Common.{◌≡◌, ◌<◌, ◌≤◌, ap, ◌∙◌, arith, rules, get_or}
 use Rattle.std.proofs.lemmas.Option.{slice_get_within}
-use Rattle.fast_value.specs.Limits.{bounds}
-use Rattle.fast_tree.specs.Tree.{identifier}
-use Rattle.fast_tree.specs.Nodes.{template_data, instructions_from}
-use Rattle.fast_dict.specs.Dictionary.{Dictionary}
-use Rattle.fast_dict.specs.Slots.{slots_dictionary}
-use Rattle.fast_stream.specs.Continuations.{message_of_then}
-use Rattle.fast_stream.specs.GrammarReaders.{reader_of}
-use Rattle.fast_decoder.specs.Passing.{state_past}
-use Rattle.fast_stream.specs.Readers.{Reader, Done}
-use Rattle.fast_decoder.specs.Positions.{set_of, map_reader, meaning, meaning_at}
+use Rattle.fast_value.specs.meaning.Limits.{bounds}
+use Rattle.fast_tree.specs.meaning.Tree.{identifier}
+use Rattle.fast_tree.specs.device.Nodes.{template_data, instructions_from}
+use Rattle.fast_dict.specs.meaning.Dictionary.{Dictionary}
+use Rattle.fast_dict.specs.meaning.Slots.{slots_dictionary}
+use Rattle.fast_stream.specs.device.Continuations.{message_of_then}
+use Rattle.fast_stream.specs.device.GrammarReaders.{reader_of}
+use Rattle.fast_decoder.specs.device.Passing.{state_past}
+use Rattle.fast_stream.specs.device.Readers.{Reader, Done}
+use Rattle.fast_decoder.specs.device.Positions.{set_of, map_reader, meaning, meaning_at}
 use Rattle.fast_decoder.specs.declared.machine.Waiting.{Waiting}
-use Rattle.fast_decoder.proofs.FieldTurns.{entries_here}
-use Rattle.fast_decoder.proofs.Quick.{begun_to}
-use Rattle.fast_decoder.proofs.StartMaps.{first_clear, message_short}
+use Rattle.fast_decoder.proofs.steps.FieldTurns.{entries_here}
+use Rattle.fast_decoder.proofs.machines.Quick.{begun_to}
+use Rattle.fast_decoder.proofs.machines.StartMaps.{first_clear, message_short}
 use Rattle.fast_decoder.proofs.machine.Machine.begin_quickly.Goals as goal
 
 pub latest_again-requires : goal.latest_again-requires

@@ -1,10 +1,10 @@
-use Rattle.fast_value.specs.Limits.{bounds}
-use Rattle.fast_tree.specs.Nodes.{field_data}
-use Rattle.fast_dict.specs.Dictionary.{previous_at}
-use Rattle.fast_dict.specs.Slots.{slots_dictionary}
-use Rattle.fast_decoder.specs.Positions.{set_of, turning}
-use Rattle.fast_decoder.proofs.FieldTurns.{state_of, sent_here, serves_here, turn_as}
-use Rattle.fast_decoder.proofs.SegmentTurns.{length_waits, length_fault, length_unsent}
+use Rattle.fast_value.specs.meaning.Limits.{bounds}
+use Rattle.fast_tree.specs.device.Nodes.{field_data}
+use Rattle.fast_dict.specs.meaning.Dictionary.{previous_at}
+use Rattle.fast_dict.specs.meaning.Slots.{slots_dictionary}
+use Rattle.fast_decoder.specs.device.Positions.{set_of, turning}
+use Rattle.fast_decoder.proofs.steps.FieldTurns.{state_of, sent_here, serves_here, turn_as}
+use Rattle.fast_decoder.proofs.steps.SegmentTurns.{length_waits, length_fault, length_unsent}
 use Rattle.fast_decoder.proofs.machine.Machine.begin_sequence.Goals as goal
 
 pub returns-then-needs_bytes-clause-turn : goal.returns-then-needs_bytes-clause-turn

@@ -1,13 +1,13 @@
 -- The field waits for its first unit, or what is decided for it leads past it.
 use Rattle.std.proofs.Common.{◌∙◌}
-use Rattle.fast_value.specs.Limits.{bounds}
-use Rattle.fast_tree.specs.Nodes.{field_data}
-use Rattle.fast_dict.specs.Dictionary.{previous_at}
-use Rattle.fast_dict.specs.Slots.{slots_dictionary}
+use Rattle.fast_value.specs.meaning.Limits.{bounds}
+use Rattle.fast_tree.specs.device.Nodes.{field_data}
+use Rattle.fast_dict.specs.meaning.Dictionary.{previous_at}
+use Rattle.fast_dict.specs.meaning.Slots.{slots_dictionary}
 use Rattle.std.specs.Prelude.{[]}
-use Rattle.fast_stream.specs.Continuations.{handed_then}
-use Rattle.fast_decoder.specs.Positions.{set_of, turning, meaning}
-use Rattle.fast_decoder.proofs.FieldTurns.{serves_here, entry_known, can_turn_slots, state_of, behind, field_next, sent_here, field_known, field_wrong, field_waits, turn_fault, turn_moved}
+use Rattle.fast_stream.specs.device.Continuations.{handed_then}
+use Rattle.fast_decoder.specs.device.Positions.{set_of, turning, meaning}
+use Rattle.fast_decoder.proofs.steps.FieldTurns.{serves_here, entry_known, can_turn_slots, state_of, behind, field_next, sent_here, field_known, field_wrong, field_waits, turn_fault, turn_moved}
 use Rattle.fast_decoder.proofs.machine.Machine.begin_under.Goals as goal
 
 pub returns-then-needs_bytes-clause-turn : goal.returns-then-needs_bytes-clause-turn

@@ -1,15 +1,15 @@
 use Rattle.std.proofs.Common.{◌≡◌, ap, refl, rules, [], option_map}
 use Rattle.std.proofs.lemmas.Result.{err_from_is_err_and}
-use Rattle.fast_value.specs.Limits.{bounds}
-use Rattle.fast_dict.specs.Slots.{slots_dictionary}
-use Rattle.fast_stream.specs.Events.{GroupEnd, ElementEnd, MessageEnd}
-use Rattle.fast_stream.specs.Readers.{Done}
-use Rattle.fast_stream.specs.GrammarReaders.{reader_of}
-use Rattle.fast_cursor.specs.Segments.{elements_data}
-use Rattle.fast_decoder.specs.Passing.{elements_from}
-use Rattle.fast_decoder.specs.Positions.{set_of, turning}
-use Rattle.fast_decoder.proofs.SegmentTurns.{message_end, closed, turn_halt, turn_one, turn_more, turn_end}
-use Rattle.fast_decoder.proofs.TurnCounts.{group_left, element_left, fault_turns}
+use Rattle.fast_value.specs.meaning.Limits.{bounds}
+use Rattle.fast_dict.specs.meaning.Slots.{slots_dictionary}
+use Rattle.fast_stream.specs.meaning.Events.{GroupEnd, ElementEnd, MessageEnd}
+use Rattle.fast_stream.specs.device.Readers.{Done}
+use Rattle.fast_stream.specs.device.GrammarReaders.{reader_of}
+use Rattle.fast_cursor.specs.device.Segments.{elements_data}
+use Rattle.fast_decoder.specs.device.Passing.{elements_from}
+use Rattle.fast_decoder.specs.device.Positions.{set_of, turning}
+use Rattle.fast_decoder.proofs.steps.SegmentTurns.{message_end, closed, turn_halt, turn_one, turn_more, turn_end}
+use Rattle.fast_decoder.proofs.steps.TurnCounts.{group_left, element_left, fault_turns}
 use Rattle.fast_decoder.proofs.machine.Machine.close.Goals as goal
 
 pub returns-in_err-hand-clause-turn : goal.returns-in_err-hand-clause-turn

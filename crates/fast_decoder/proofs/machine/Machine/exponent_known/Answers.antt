@@ -3,13 +3,13 @@ use Rattle.std.proofs.Common.{rules, sym, ap, ◌∙◌}
 use Rattle.std.specs.Int.{w32, w128}
 use Rattle.std.specs.Prelude.{[]}
 use Rattle.fast_value.specs.declared.codes.Code.TheVariants.{R1}
-use Rattle.fast_value.specs.Kinds.{exponent_range}
-use Rattle.fast_tree.specs.Nodes.{field_data}
-use Rattle.fast_dict.specs.Operators.{ranged}
-use Rattle.fast_dict.specs.Slots.{slots_dictionary}
-use Rattle.fast_units.specs.Settling.{value_at}
-use Rattle.fast_decoder.specs.Positions.{set_of}
-use Rattle.fast_decoder.proofs.FieldTurns.{entry_here, can_turn_used, parts_used, mantissa_from, exponent_there, exponent_absent, turn_as, turn_silent}
+use Rattle.fast_value.specs.meaning.Kinds.{exponent_range}
+use Rattle.fast_tree.specs.device.Nodes.{field_data}
+use Rattle.fast_dict.specs.meaning.Operators.{ranged}
+use Rattle.fast_dict.specs.meaning.Slots.{slots_dictionary}
+use Rattle.fast_units.specs.device.Settling.{value_at}
+use Rattle.fast_decoder.specs.device.Positions.{set_of}
+use Rattle.fast_decoder.proofs.steps.FieldTurns.{entry_here, can_turn_used, parts_used, mantissa_from, exponent_there, exponent_absent, turn_as, turn_silent}
 use Rattle.fast_units.proofs.LastUnits.{again}
 use Rattle.fast_decoder.proofs.machine.Machine.exponent_known.Goals as goal
 

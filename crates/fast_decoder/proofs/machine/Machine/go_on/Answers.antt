@@ -2,11 +2,11 @@ use Rattle.std.proofs.Common.{subst}
 use Rattle.std.specs.Prelude.{Result}
 use Rattle.fast_stream.specs.declared.faults.FaultCode.{FaultCode}
 use Rattle.fast_decoder.specs.declared.machine.Turn.{Turn}
-use Rattle.fast_decoder.specs.Moving.{Moves}
-use Rattle.fast_decoder.specs.Positions.{set_of, turning, meaning}
-use Rattle.fast_decoder.specs.TurnsLeft.{HasTurnsBehind}
-use Rattle.fast_decoder.proofs.Moves.{hands_turned}
-use Rattle.fast_decoder.proofs.Quick.{has_turns_on}
+use Rattle.fast_decoder.specs.device.Moving.{Moves}
+use Rattle.fast_decoder.specs.device.Positions.{set_of, turning, meaning}
+use Rattle.fast_decoder.specs.device.TurnsLeft.{HasTurnsBehind}
+use Rattle.fast_decoder.proofs.steps.Moves.{hands_turned}
+use Rattle.fast_decoder.proofs.machines.Quick.{has_turns_on}
 use Rattle.fast_decoder.proofs.machine.Machine.go_on.Goals as goal
 
 pub returns-in_default : goal.returns-in_default

@@ -2,19 +2,19 @@ use Rattle.std.proofs.Common.{◌≡◌, ◌<◌, ap, ◌∙◌, sym, arith, len
 use Rattle.std.specs.Prelude.{true, false, ◌&&◌, not, nat_le, Option}
 use Rattle.std.proofs.lemmas.Option.{slice_get_within}
 use Rattle.std.proofs.lemmas.Grind.{get_or_default_zero}
-use Rattle.fast_wire.specs.Maps.{bytes_for}
-use Rattle.fast_value.specs.Kinds.{ScalarData}
-use Rattle.fast_value.specs.Limits.{bounds}
+use Rattle.fast_wire.specs.meaning.Maps.{bytes_for}
+use Rattle.fast_value.specs.meaning.Kinds.{ScalarData}
+use Rattle.fast_value.specs.meaning.Limits.{bounds}
 use Rattle.fast_value.specs.declared.codes.Code.TheVariants.{D9, R8}
-use Rattle.fast_tree.specs.Tree.{identifier, message_bits}
-use Rattle.fast_tree.specs.Nodes.{template_data, instructions_from}
-use Rattle.fast_dict.specs.Slots.{slots_dictionary}
-use Rattle.fast_units.specs.Settling.{value_at}
-use Rattle.fast_decoder.specs.Passing.{state_past}
-use Rattle.fast_stream.specs.Continuations.{message_of_then}
-use Rattle.fast_decoder.specs.Positions.{set_of}
-use Rattle.fast_decoder.proofs.FieldTurns.{turn_fault, turn_as}
-use Rattle.fast_decoder.proofs.Identifiers.{id_of, named_none, named_first, behind_unknown, behind_known, narrow-wide, narrow-fits, identifier_served}
+use Rattle.fast_tree.specs.meaning.Tree.{identifier, message_bits}
+use Rattle.fast_tree.specs.device.Nodes.{template_data, instructions_from}
+use Rattle.fast_dict.specs.meaning.Slots.{slots_dictionary}
+use Rattle.fast_units.specs.device.Settling.{value_at}
+use Rattle.fast_decoder.specs.device.Passing.{state_past}
+use Rattle.fast_stream.specs.device.Continuations.{message_of_then}
+use Rattle.fast_decoder.specs.device.Positions.{set_of}
+use Rattle.fast_decoder.proofs.steps.FieldTurns.{turn_fault, turn_as}
+use Rattle.fast_decoder.proofs.fields.Identifiers.{id_of, named_none, named_first, behind_unknown, behind_known, narrow-wide, narrow-fits, identifier_served}
 use Rattle.fast_decoder.proofs.machine.Machine.identified.Goals as goal
 
 pub value_at-value-requires : goal.value_at-value-requires

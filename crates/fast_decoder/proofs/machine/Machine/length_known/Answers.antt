@@ -2,19 +2,19 @@ use Rattle.std.proofs.Common.{◌≡◌, ◌∙◌, ◌+◌, ◌≤◌, ap, subs
 use Rattle.std.specs.Int.{w128}
 use Rattle.std.specs.Prelude.{nat_abs}
 use Rattle.std.proofs.lemmas.Result.{err_from_is_err_and}
-use Rattle.fast_value.specs.Limits.{bounds}
-use Rattle.fast_tree.specs.Nodes.{field_data}
-use Rattle.fast_dict.specs.Slots.{slots_dictionary}
+use Rattle.fast_value.specs.meaning.Limits.{bounds}
+use Rattle.fast_tree.specs.device.Nodes.{field_data}
+use Rattle.fast_dict.specs.meaning.Slots.{slots_dictionary}
 use Rattle.fast_decoder.specs.declared.machine.Machine.{Machine}
-use Rattle.fast_cursor.specs.Cursors.{CursorData}
-use Rattle.fast_stream.specs.Events.{SequenceStart}
-use Rattle.fast_stream.specs.Messages.{within_limits}
-use Rattle.fast_units.specs.Settling.{value_at}
-use Rattle.fast_decoder.specs.Positions.{set_of}
-use Rattle.fast_decoder.proofs.FieldTurns.{entry_here, turn_silent}
+use Rattle.fast_cursor.specs.device.Cursors.{CursorData}
+use Rattle.fast_stream.specs.meaning.Events.{SequenceStart}
+use Rattle.fast_stream.specs.meaning.Messages.{within_limits}
+use Rattle.fast_units.specs.device.Settling.{value_at}
+use Rattle.fast_decoder.specs.device.Positions.{set_of}
+use Rattle.fast_decoder.proofs.steps.FieldTurns.{entry_here, turn_silent}
 use Rattle.fast_units.proofs.LastUnits.{again}
-use Rattle.fast_decoder.proofs.SegmentTurns.{IsBehind, behind_field, counted_still, can_turn_behind, length_from, length_absent, elements_of, length_within, turn_halt, turn_more}
-use Rattle.fast_decoder.proofs.TurnCounts.{length_passed, claim_within}
+use Rattle.fast_decoder.proofs.steps.SegmentTurns.{IsBehind, behind_field, counted_still, can_turn_behind, length_from, length_absent, elements_of, length_within, turn_halt, turn_more}
+use Rattle.fast_decoder.proofs.steps.TurnCounts.{length_passed, claim_within}
 use Rattle.fast_decoder.proofs.machine.Machine.length_known.Goals as goal
 
 pub integer_at-claimed-requires : goal.integer_at-claimed-requires

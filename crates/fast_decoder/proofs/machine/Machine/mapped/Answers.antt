@@ -1,26 +1,26 @@
 use Rattle.std.proofs.Common.{refl, ◌≡◌, ℕ, ap, ◌∙◌, sym, subst}
 use Rattle.std.specs.Prelude.{List, [], true, false, ◌&&◌, Ok, Err}
-use Rattle.fast_wire.specs.Maps.{bits, first_bit}
-use Rattle.fast_value.specs.Limits.{bounds}
+use Rattle.fast_wire.specs.meaning.Maps.{bits, first_bit}
+use Rattle.fast_value.specs.meaning.Limits.{bounds}
 use Rattle.fast_value.specs.declared.codes.Code.TheVariants.{R7}
-use Rattle.fast_tree.specs.Tree.{identifier, FieldData}
-use Rattle.fast_dict.specs.Dictionary.{Dictionary, previous_at}
-use Rattle.fast_dict.specs.Operators.{decide, nothing}
-use Rattle.fast_dict.specs.Slots.{slots_dictionary}
-use Rattle.fast_units.specs.Deciding.{IsDecided}
-use Rattle.fast_stream.specs.GrammarReaders.{spare, reader_of}
-use Rattle.fast_stream.specs.Machine.{after_bytes}
-use Rattle.fast_stream.specs.Messages.{State, begin}
-use Rattle.fast_stream.specs.Continuations.{message_behind_then}
-use Rattle.fast_stream.specs.Readers.{Reader}
-use Rattle.fast_units.specs.Taking.{Waits}
-use Rattle.fast_decoder.specs.Positions.{set_of, tree_in, behind_map, IsSupplied}
+use Rattle.fast_tree.specs.meaning.Tree.{identifier, FieldData}
+use Rattle.fast_dict.specs.meaning.Dictionary.{Dictionary, previous_at}
+use Rattle.fast_dict.specs.meaning.Operators.{decide, nothing}
+use Rattle.fast_dict.specs.meaning.Slots.{slots_dictionary}
+use Rattle.fast_units.specs.device.Deciding.{IsDecided}
+use Rattle.fast_stream.specs.device.GrammarReaders.{spare, reader_of}
+use Rattle.fast_stream.specs.device.Machine.{after_bytes}
+use Rattle.fast_stream.specs.meaning.Messages.{State, begin}
+use Rattle.fast_stream.specs.device.Continuations.{message_behind_then}
+use Rattle.fast_stream.specs.device.Readers.{Reader}
+use Rattle.fast_units.specs.device.Taking.{Waits}
+use Rattle.fast_decoder.specs.device.Positions.{set_of, tree_in, behind_map, IsSupplied}
 use Rattle.fast_decoder.specs.declared.machine.Machine.{Machine}
 use Rattle.fast_decoder.specs.declared.machine.Waiting.TheVariants.{Identifier}
-use Rattle.fast_decoder.proofs.FieldTurns.{supplied_like, ready_at, turn_waits, turn_fault, turn_as}
-use Rattle.fast_decoder.proofs.ScalarMachines.{still_supplied}
-use Rattle.fast_decoder.proofs.SentFields.{field_sent_waits, field_unsent, field_at_fault}
-use Rattle.fast_decoder.proofs.Identifiers.{map_spare, map_judged, unused_bits, identifier_served, identifier_sent, identifier_unsent, decided_unsent, identified_by}
+use Rattle.fast_decoder.proofs.steps.FieldTurns.{supplied_like, ready_at, turn_waits, turn_fault, turn_as}
+use Rattle.fast_decoder.proofs.machines.ScalarMachines.{still_supplied}
+use Rattle.fast_decoder.proofs.fields.SentFields.{field_sent_waits, field_unsent, field_at_fault}
+use Rattle.fast_decoder.proofs.fields.Identifiers.{map_spare, map_judged, unused_bits, identifier_served, identifier_sent, identifier_unsent, decided_unsent, identified_by}
 use Rattle.fast_decoder.proofs.machine.Machine.mapped.Goals as goal
 
 pub returns-then-is_overlong-clause-turn : goal.returns-then-is_overlong-clause-turn

@@ -1,9 +1,9 @@
 use Rattle.std.proofs.Common.{refl, sym, ap, ◌∙◌, arith, length}
 use Rattle.std.proofs.lemmas.List.{length-replicate}
-use Rattle.fast_template.specs.Flat.{tree_of}
-use Rattle.fast_dict.specs.Dictionary.{undefined}
-use Rattle.fast_dict.specs.Slots.{slots_sized}
-use Rattle.fast_cursor.specs.Cursors.{CursorData}
+use Rattle.fast_template.specs.meaning.Flat.{tree_of}
+use Rattle.fast_dict.specs.meaning.Dictionary.{undefined}
+use Rattle.fast_dict.specs.meaning.Slots.{slots_sized}
+use Rattle.fast_cursor.specs.device.Cursors.{CursorData}
 use Rattle.fast_decoder.proofs.machine.Machine.new.Goals as goal
 
 pub returns-clause-supplied : goal.returns-clause-supplied

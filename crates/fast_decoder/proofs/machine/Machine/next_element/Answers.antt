@@ -1,11 +1,11 @@
 use Rattle.std.proofs.Common.{◌<◌, ◌-◌, ap, refl, Some, rules}
-use Rattle.fast_value.specs.Limits.{bounds}
-use Rattle.fast_dict.specs.Slots.{slots_dictionary}
-use Rattle.fast_stream.specs.Events.{ElementStart}
-use Rattle.fast_stream.specs.GrammarReaders.{reader_of}
-use Rattle.fast_decoder.specs.Positions.{set_of, body_in, frames_in, state_in}
-use Rattle.fast_decoder.proofs.SegmentTurns.{element_turn, turn_in}
-use Rattle.fast_decoder.proofs.TurnCounts.{element_opened, segment_turns}
+use Rattle.fast_value.specs.meaning.Limits.{bounds}
+use Rattle.fast_dict.specs.meaning.Slots.{slots_dictionary}
+use Rattle.fast_stream.specs.meaning.Events.{ElementStart}
+use Rattle.fast_stream.specs.device.GrammarReaders.{reader_of}
+use Rattle.fast_decoder.specs.device.Positions.{set_of, body_in, frames_in, state_in}
+use Rattle.fast_decoder.proofs.steps.SegmentTurns.{element_turn, turn_in}
+use Rattle.fast_decoder.proofs.steps.TurnCounts.{element_opened, segment_turns}
 use Rattle.fast_decoder.proofs.machine.Machine.next_element.Goals as goal
 
 pub returns-clause-turn : goal.returns-clause-turn

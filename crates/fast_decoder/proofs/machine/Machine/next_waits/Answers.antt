@@ -1,8 +1,8 @@
 use Rattle.std.proofs.Common.{sym, ◌∙◌, inl, inr}
-use Rattle.fast_dict.specs.Slots.{slots_dictionary}
-use Rattle.fast_decoder.specs.Positions.{state_in}
-use Rattle.fast_decoder.proofs.ScalarNodes.{first_below}
-use Rattle.fast_decoder.proofs.QuickFields.{field_stands}
+use Rattle.fast_dict.specs.meaning.Slots.{slots_dictionary}
+use Rattle.fast_decoder.specs.device.Positions.{state_in}
+use Rattle.fast_decoder.proofs.fields.ScalarNodes.{first_below}
+use Rattle.fast_decoder.proofs.fields.QuickFields.{field_stands}
 use Rattle.fast_decoder.proofs.machine.Machine.next_waits.Goals as goal
 
 pub returns-then-not-has_bit : goal.returns-then-not-has_bit

@@ -1,18 +1,18 @@
 -- A map of one byte, and the turn behind it.
 use Rattle.std.proofs.Common.{refl, sym, subst}
 use Rattle.std.specs.Prelude.{Ok}
-use Rattle.fast_value.specs.Limits.{bounds}
-use Rattle.fast_dict.specs.Dictionary.{Dictionary}
-use Rattle.fast_dict.specs.Slots.{slots_dictionary}
-use Rattle.fast_stream.specs.GrammarReaders.{reader_of}
-use Rattle.fast_stream.specs.Readers.{Reader}
-use Rattle.fast_decoder.specs.Positions.{set_of, segment_behind, meaning_at, turning}
-use Rattle.fast_decoder.specs.Quick.{IsTakenTo}
+use Rattle.fast_value.specs.meaning.Limits.{bounds}
+use Rattle.fast_dict.specs.meaning.Dictionary.{Dictionary}
+use Rattle.fast_dict.specs.meaning.Slots.{slots_dictionary}
+use Rattle.fast_stream.specs.device.GrammarReaders.{reader_of}
+use Rattle.fast_stream.specs.device.Readers.{Reader}
+use Rattle.fast_decoder.specs.device.Positions.{set_of, segment_behind, meaning_at, turning}
+use Rattle.fast_decoder.specs.device.Quick.{IsTakenTo}
 use Rattle.fast_decoder.specs.declared.machine.Machine.{Machine}
 use Rattle.fast_decoder.specs.declared.machine.Turn.TheVariants as Turn
 use Rattle.fast_decoder.specs.declared.machine.Waiting.{Waiting}
-use Rattle.fast_decoder.proofs.Quick.{taken_to}
-use Rattle.fast_decoder.proofs.ShortMaps.{segment_short, segment_turns}
+use Rattle.fast_decoder.proofs.machines.Quick.{taken_to}
+use Rattle.fast_decoder.proofs.machines.ShortMaps.{segment_short, segment_turns}
 use Rattle.fast_decoder.proofs.machine.Machine.open_quickly.Goals as goal
 
 pub returns-clause-taken : goal.returns-clause-taken

@@ -1,7 +1,7 @@
 use Rattle.std.proofs.Common.{refl, sym, ap, ◌∙◌}
-use Rattle.fast_dict.specs.Dictionary.{fresh}
-use Rattle.fast_dict.specs.Slots.{slots_sized}
-use Rattle.fast_cursor.specs.Cursors.{CursorData, at_rest}
+use Rattle.fast_dict.specs.meaning.Dictionary.{fresh}
+use Rattle.fast_dict.specs.meaning.Slots.{slots_sized}
+use Rattle.fast_cursor.specs.device.Cursors.{CursorData, at_rest}
 use Rattle.fast_decoder.proofs.machine.Machine.reset.Goals as goal
 
 pub returns-clause-fresh : goal.returns-clause-fresh

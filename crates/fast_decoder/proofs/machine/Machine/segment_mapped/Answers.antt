@@ -1,15 +1,15 @@
 use Rattle.std.proofs.Common.{refl, ◌≡◌, ℕ, ap, ◌∙◌, sym, length}
 use Rattle.std.specs.Prelude.{List, true, false, ◌&&◌, not, nat_le}
-use Rattle.fast_wire.specs.Maps.{bytes_for}
-use Rattle.fast_value.specs.Limits.{bounds}
+use Rattle.fast_wire.specs.meaning.Maps.{bytes_for}
+use Rattle.fast_value.specs.meaning.Limits.{bounds}
 use Rattle.fast_value.specs.declared.codes.Code.TheVariants.{R7, R8}
-use Rattle.fast_dict.specs.Dictionary.{Dictionary}
-use Rattle.fast_dict.specs.Slots.{slots_dictionary}
-use Rattle.fast_stream.specs.Grammar.{Grammar, narrow}
-use Rattle.fast_stream.specs.GrammarReaders.{spare, reader_of}
-use Rattle.fast_decoder.specs.Positions.{set_of, going_on}
-use Rattle.fast_decoder.proofs.FieldTurns.{turn_fault}
-use Rattle.fast_decoder.proofs.Identifiers.{map_spare, map_judged, narrow-wide, narrow-fits}
+use Rattle.fast_dict.specs.meaning.Dictionary.{Dictionary}
+use Rattle.fast_dict.specs.meaning.Slots.{slots_dictionary}
+use Rattle.fast_stream.specs.meaning.Grammar.{Grammar, narrow}
+use Rattle.fast_stream.specs.device.GrammarReaders.{spare, reader_of}
+use Rattle.fast_decoder.specs.device.Positions.{set_of, going_on}
+use Rattle.fast_decoder.proofs.steps.FieldTurns.{turn_fault}
+use Rattle.fast_decoder.proofs.fields.Identifiers.{map_spare, map_judged, narrow-wide, narrow-fits}
 use Rattle.fast_decoder.proofs.machine.Machine.segment_mapped.Goals as goal
 
 pub returns-then-is_overlong-clause-turn : goal.returns-then-is_overlong-clause-turn

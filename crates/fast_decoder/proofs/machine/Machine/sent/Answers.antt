@@ -1,8 +1,8 @@
 -- The unit that was taken, and the turn behind it.
-use Rattle.fast_value.specs.Limits.{bounds}
-use Rattle.fast_tree.specs.Nodes.{field_data}
-use Rattle.fast_decoder.specs.Positions.{meaning}
-use Rattle.fast_decoder.proofs.SentItems.{item_taken}
+use Rattle.fast_value.specs.meaning.Limits.{bounds}
+use Rattle.fast_tree.specs.device.Nodes.{field_data}
+use Rattle.fast_decoder.specs.device.Positions.{meaning}
+use Rattle.fast_decoder.proofs.machines.SentItems.{item_taken}
 use Rattle.fast_decoder.proofs.machine.Machine.sent.Goals as goal
 
 pub returns-clause-taken : goal.returns-clause-taken

@@ -4,10 +4,10 @@ use Rattle.std.proofs.lemmas.Result.{err_from_is_err_and}
 use Rattle.fast_stream.specs.declared.faults.FaultCode.{FaultCode}
 use Rattle.fast_decoder.specs.declared.machine.Turn.{Turn}
 use Rattle.fast_decoder.specs.declared.machine.Turn.TheVariants.{Handed}
-use Rattle.fast_decoder.specs.Moving.{events_due}
-use Rattle.fast_decoder.specs.Positions.{set_of, IsTurn, turning, meaning}
-use Rattle.fast_decoder.specs.TurnsLeft.{HasTurnsBehind}
-use Rattle.fast_decoder.proofs.Moves.{onward_handed, fewer_due}
+use Rattle.fast_decoder.specs.device.Moving.{events_due}
+use Rattle.fast_decoder.specs.device.Positions.{set_of, IsTurn, turning, meaning}
+use Rattle.fast_decoder.specs.device.TurnsLeft.{HasTurnsBehind}
+use Rattle.fast_decoder.proofs.steps.Moves.{onward_handed, fewer_due}
 use Rattle.fast_decoder.proofs.machine.Machine.settle.Goals as goal
 
 -- the turn handed something over

@@ -1,7 +1,7 @@
 use Rattle.std.proofs.Common.{◌≡◌, ℕ, length}
-use Rattle.fast_decoder.specs.Moving.{events_due, Onward}
-use Rattle.fast_decoder.specs.Positions.{set_of, CanTurn, turning}
-use Rattle.fast_decoder.specs.TurnsLeft.{Way, HasTurns}
+use Rattle.fast_decoder.specs.device.Moving.{events_due, Onward}
+use Rattle.fast_decoder.specs.device.Positions.{set_of, CanTurn, turning}
+use Rattle.fast_decoder.specs.device.TurnsLeft.{Way, HasTurns}
 use Rattle.fast_decoder.proofs.machine.Machine.settle.Given as goal
 
 -- What is handed over from here on is what is due of what was to be read at first.

@@ -3,20 +3,20 @@ use Rattle.std.proofs.Common.{◌≡◌, ap, sym, ◌∙◌, subst}
 use Rattle.std.specs.Prelude.{Some, Ok}
 use Rattle.std.proofs.lemmas.Result.{err_from_is_err_and}
 use Rattle.fast_tree.specs.declared.instructions.Template.{Template}
-use Rattle.fast_tree.specs.Nodes.{template_data, instructions_from}
-use Rattle.fast_tree.specs.Tree.{identifier}
-use Rattle.fast_value.specs.Limits.{bounds}
-use Rattle.fast_dict.specs.Slots.{slots_dictionary}
-use Rattle.fast_cursor.specs.Cursors.{CursorData, bits_left}
-use Rattle.fast_stream.specs.GrammarReaders.{reader_of}
-use Rattle.fast_decoder.specs.Passing.{state_past}
-use Rattle.fast_stream.specs.Continuations.{message_of_then}
-use Rattle.fast_decoder.specs.Positions.{set_of, meaning, turning, IsTurn}
+use Rattle.fast_tree.specs.device.Nodes.{template_data, instructions_from}
+use Rattle.fast_tree.specs.meaning.Tree.{identifier}
+use Rattle.fast_value.specs.meaning.Limits.{bounds}
+use Rattle.fast_dict.specs.meaning.Slots.{slots_dictionary}
+use Rattle.fast_cursor.specs.device.Cursors.{CursorData, bits_left}
+use Rattle.fast_stream.specs.device.GrammarReaders.{reader_of}
+use Rattle.fast_decoder.specs.device.Passing.{state_past}
+use Rattle.fast_stream.specs.device.Continuations.{message_of_then}
+use Rattle.fast_decoder.specs.device.Positions.{set_of, meaning, turning, IsTurn}
 use Rattle.fast_decoder.specs.declared.machine.Turn.TheVariants.{Handed}
-use Rattle.fast_stream.proofs.Frames.{begin_message}
-use Rattle.fast_decoder.proofs.Moves.{moves_halt, moves_one}
-use Rattle.fast_decoder.proofs.Begun.{begun, begun_turns}
-use Rattle.fast_decoder.proofs.TurnCounts.{message_begun}
+use Rattle.fast_stream.proofs.streams.Frames.{begin_message}
+use Rattle.fast_decoder.proofs.steps.Moves.{moves_halt, moves_one}
+use Rattle.fast_decoder.proofs.steps.Begun.{begun, begun_turns}
+use Rattle.fast_decoder.proofs.steps.TurnCounts.{message_begun}
 use Rattle.fast_decoder.proofs.machine.Machine.start_message.Goals as goal
 
 pub returns-in_err-hand-clause-turn : goal.returns-in_err-hand-clause-turn

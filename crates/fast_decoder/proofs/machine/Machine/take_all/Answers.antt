@@ -3,12 +3,12 @@ use Rattle.std.specs.Prelude.{false, is_err, Result, Ok}
 use Rattle.fast_stream.specs.declared.faults.FaultCode.{FaultCode}
 use Rattle.fast_decoder.specs.declared.machine.Turn.{Turn}
 use Rattle.fast_decoder.specs.declared.machine.Turn.TheVariants.{Waits}
-use Rattle.fast_decoder.specs.Positions.{set_of, tree_in, meaning, GoesOn}
-use Rattle.fast_decoder.specs.Handing.{stood}
-use Rattle.fast_decoder.specs.TurnsLeft.{HasTurnsBehind, turns_begun_at}
-use Rattle.fast_decoder.proofs.Feeding.{fed_unit, fed_on, on_ok, within_piece}
-use Rattle.fast_decoder.proofs.TurnCounts.{still_spent, after_unit, all_paid, spent_paid}
-use Rattle.fast_decoder.proofs.Quick.{IsUnitTo, unit_as, taken_on, taken_waits}
+use Rattle.fast_decoder.specs.device.Positions.{set_of, tree_in, meaning, GoesOn}
+use Rattle.fast_decoder.specs.device.Handing.{waiting_at}
+use Rattle.fast_decoder.specs.device.TurnsLeft.{HasTurnsBehind, turns_begun_at}
+use Rattle.fast_decoder.proofs.streams.Feeding.{fed_unit, fed_on, on_ok, within_piece}
+use Rattle.fast_decoder.proofs.steps.TurnCounts.{still_spent, after_unit, all_paid, spent_paid}
+use Rattle.fast_decoder.proofs.machines.Quick.{IsUnitTo, unit_as, taken_on, taken_waits}
 use Rattle.fast_decoder.proofs.machine.Machine.take_all.Goals.{in-Some+else-waits, in-None}
 use Rattle.fast_decoder.proofs.machine.Machine.take_all.Goals as goal
 
@@ -27,7 +27,7 @@ loop-bytes-preserved-then-waits g c =
     record {
       within = within_piece c.args.piece.now c.loop-bytes.bytes q.bytes c.loop-bytes.invariant.within taken.within;
       ready = subst (λ (t : Result Turn FaultCode). GoesOn set l next t) e c.in-Some.ensures.taken.turn.goes_on;
-      took = fed_unit (tree_in set) l takes stops (stood (meaning set l c.args.self.now)) c.args.piece.now c.loop-bytes.bytes q.bytes (meaning set l m) c.args.sink.now c.loop-bytes.sink c.take_quickly.new.sink (Ok tt) (meaning set l next)
+      took = fed_unit (tree_in set) l takes stops (waiting_at (meaning set l c.args.self.now)) c.args.piece.now c.loop-bytes.bytes q.bytes (meaning set l m) c.args.sink.now c.loop-bytes.sink c.take_quickly.new.sink (Ok tt) (meaning set l next)
           c.loop-bytes.invariant.within c.loop-bytes.invariant.took taken;
       turns = λ way none h. still_spent way set l c.loop-bytes.bytes q.bytes m next (Ok tt) refl taken.some
           (c.loop-bytes.invariant.turns way none h) (λ n k. subst (λ (t : Result Turn FaultCode). HasTurnsBehind t way set l (1 + n + turns_begun_at m.waiting m.cursor.map way (tree_in set) l) next) e (c.in-Some.ensures.turns way n k));
@@ -49,7 +49,7 @@ returns-then-is_err-clause-fed g c =
     let on = c.go_on-outcome in
     let to = meaning set l on.new.self in
     let taken = taken_on takes stops set l (meaning set l m) rest c.loop-bytes.sink u.quick.bytes u.quick.turn u.sink u.self on.result on.new.sink to unit.0 on.ensures.hands in
-    fed_unit (tree_in set) l takes stops (stood (meaning set l c.args.self.now)) c.args.piece.now c.loop-bytes.bytes u.quick.bytes (meaning set l m) c.args.sink.now c.loop-bytes.sink on.new.sink on.result to
+    fed_unit (tree_in set) l takes stops (waiting_at (meaning set l c.args.self.now)) c.args.piece.now c.loop-bytes.bytes u.quick.bytes (meaning set l m) c.args.sink.now c.loop-bytes.sink on.new.sink on.result to
     c.loop-bytes.invariant.within c.loop-bytes.invariant.took taken
 
 pub returns-then-is_err-clause-turns : goal.returns-then-is_err-clause-turns
@@ -89,7 +89,7 @@ loop-bytes-preserved g c =
     record {
       within = within_piece c.args.piece.now c.loop-bytes.bytes u.quick.bytes c.loop-bytes.invariant.within taken.within;
       ready = on_ok on.result ok on.ensures.ready;
-      took = fed_on (tree_in set) l takes stops _ _ _ on.result _ _ ok (fed_unit (tree_in set) l takes stops (stood (meaning set l c.args.self.now)) c.args.piece.now c.loop-bytes.bytes u.quick.bytes (meaning set l m) c.args.sink.now c.loop-bytes.sink on.new.sink on.result to
+      took = fed_on (tree_in set) l takes stops _ _ _ on.result _ _ ok (fed_unit (tree_in set) l takes stops (waiting_at (meaning set l c.args.self.now)) c.args.piece.now c.loop-bytes.bytes u.quick.bytes (meaning set l m) c.args.sink.now c.loop-bytes.sink on.new.sink on.result to
           c.loop-bytes.invariant.within c.loop-bytes.invariant.took taken);
       turns = λ way none h. still_spent way set l c.loop-bytes.bytes u.quick.bytes m on.new.self on.result ok taken.some
           (c.loop-bytes.invariant.turns way none h) (λ n k. on.ensures.turns way _ (unit.1 way n k));

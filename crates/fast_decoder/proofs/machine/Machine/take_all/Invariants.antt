@@ -1,8 +1,8 @@
 use Rattle.std.proofs.Common.{◌≡◌, length, take, ◌-◌, ◌≤◌}
-use Rattle.fast_decoder.specs.Positions.{set_of, tree_in, meaning, IsReady}
-use Rattle.fast_decoder.specs.Handing.{Took, stood}
-use Rattle.fast_decoder.specs.TurnsLeft.{Way, most_by, HasTurnsWaiting}
-use Rattle.fast_decoder.proofs.TurnCounts.{IsSpent}
+use Rattle.fast_decoder.specs.device.Positions.{set_of, tree_in, meaning, IsReady}
+use Rattle.fast_decoder.specs.device.Handing.{TookEvents, waiting_at}
+use Rattle.fast_decoder.specs.device.TurnsLeft.{Way, most_by, HasTurnsWaiting}
+use Rattle.fast_decoder.proofs.steps.TurnCounts.{IsSpent}
 use Rattle.fast_decoder.proofs.machine.Machine.take_all.Given as goal
 
 -- the units so far were taken
@@ -10,7 +10,7 @@ abbrev pub invariant-loop-bytes : goal.invariant-loop-bytes
 invariant-loop-bytes g l = record {
   within : l.bytes ≤ length l.piece;
   ready : IsReady (set_of l.templates) l.limits l.self;
-  took : Took g.S.Sink.takes (tree_in (set_of l.templates)) l.limits (stood (meaning (set_of l.templates) l.limits l.fn.self)) (take l.bytes l.piece) l.fn.sink l.sink (stood (meaning (set_of l.templates) l.limits l.self));
+  took : TookEvents g.S.Sink.takes (tree_in (set_of l.templates)) l.limits (waiting_at (meaning (set_of l.templates) l.limits l.fn.self)) (take l.bytes l.piece) l.fn.sink l.sink (waiting_at (meaning (set_of l.templates) l.limits l.self));
   turns : (way : Way) → l.fn.self.turns.count ≡ 0 → HasTurnsWaiting way (set_of l.templates) l.limits (most_by way (tree_in (set_of l.templates)) l.limits) l.fn.self → IsSpent way (set_of l.templates) l.limits l.bytes l.self;
 }
 

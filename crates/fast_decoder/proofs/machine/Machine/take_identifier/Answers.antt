@@ -1,27 +1,27 @@
 use Rattle.std.proofs.Common.{ℕ, ap, ◌∙◌, sym, subst, refl, length, take}
 use Rattle.std.specs.Prelude.{List, [], ◌++◌, true}
 use Rattle.std.proofs.lemmas.List.{length-take-le}
-use Rattle.fast_value.specs.Limits.{bounds}
-use Rattle.fast_tree.specs.Tree.{FieldData}
-use Rattle.fast_dict.specs.Dictionary.{Dictionary, previous_at}
-use Rattle.fast_dict.specs.Slots.{slots_dictionary}
-use Rattle.fast_stream.specs.Fields.{field_term}
-use Rattle.fast_stream.specs.GrammarReaders.{reader_of}
-use Rattle.fast_stream.specs.Machine.{after_bytes}
-use Rattle.fast_stream.specs.Readers.{Reader, Stop}
-use Rattle.fast_units.specs.Settling.{GivesField}
-use Rattle.fast_units.specs.Taking.{Turns, Stays}
-use Rattle.fast_decoder.specs.Quick.{IsTakenTo}
+use Rattle.fast_value.specs.meaning.Limits.{bounds}
+use Rattle.fast_tree.specs.meaning.Tree.{FieldData}
+use Rattle.fast_dict.specs.meaning.Dictionary.{Dictionary, previous_at}
+use Rattle.fast_dict.specs.meaning.Slots.{slots_dictionary}
+use Rattle.fast_stream.specs.meaning.Fields.{field_term}
+use Rattle.fast_stream.specs.device.GrammarReaders.{reader_of}
+use Rattle.fast_stream.specs.device.Machine.{after_bytes}
+use Rattle.fast_stream.specs.device.Readers.{Reader, Stop}
+use Rattle.fast_units.specs.device.Settling.{GivesField}
+use Rattle.fast_units.specs.device.Taking.{Turns, Stays}
+use Rattle.fast_decoder.specs.device.Quick.{IsTakenTo}
 use Rattle.fast_stream.specs.declared.faults.FaultCode.TheVariants as Why
 use Rattle.fast_decoder.specs.declared.machine.Waiting.{Waiting}
 use Rattle.fast_decoder.specs.declared.machine.Machine.{Machine}
-use Rattle.fast_decoder.specs.Positions.{set_of, tree_in, behind_map, meaning, meaning_at, CanTake, IsReady}
-use Rattle.fast_decoder.proofs.FieldTurns.{turn_as}
-use Rattle.fast_decoder.proofs.PartTakes.{part_supplied}
-use Rattle.fast_decoder.proofs.Quick.{taken_to, cut_to, wrong_to}
-use Rattle.fast_decoder.proofs.Takes.{taken_fault, taken_stays}
-use Rattle.fast_decoder.proofs.Takings.{taken_as}
-use Rattle.fast_decoder.proofs.Identifiers.{identifier_served, identified_by, sent_turns, sent_stops, sent_stays}
+use Rattle.fast_decoder.specs.device.Positions.{set_of, tree_in, behind_map, meaning, meaning_at, CanTake, IsReady}
+use Rattle.fast_decoder.proofs.steps.FieldTurns.{turn_as}
+use Rattle.fast_decoder.proofs.machines.PartTakes.{part_supplied}
+use Rattle.fast_decoder.proofs.machines.Quick.{taken_to, cut_to, wrong_to}
+use Rattle.fast_decoder.proofs.units.Takes.{taken_fault, taken_stays}
+use Rattle.fast_decoder.proofs.units.Takings.{taken_as}
+use Rattle.fast_decoder.proofs.fields.Identifiers.{identifier_served, identified_by, sent_turns, sent_stops, sent_stays}
 use Rattle.fast_decoder.proofs.machine.Machine.take_identifier.Goals as goal
 
 pub take_integer-requires-clause-serves : goal.take_integer-requires-clause-serves

@@ -1,9 +1,9 @@
 -- The field that the opcode names.
 use Rattle.std.proofs.Common.{sym, ◌∙◌}
 use Rattle.fast_template.proofs.OpcodeLaws.{uint32_field, int32_field, uint64_field, int64_field}
-use Rattle.fast_decoder.specs.Positions.{set_of}
-use Rattle.fast_decoder.proofs.Quick.{can_take_field}
-use Rattle.fast_decoder.proofs.ScalarNodes.{first_below}
+use Rattle.fast_decoder.specs.device.Positions.{set_of}
+use Rattle.fast_decoder.proofs.machines.Quick.{can_take_field}
+use Rattle.fast_decoder.proofs.fields.ScalarNodes.{first_below}
 use Rattle.fast_decoder.proofs.machine.Machine.take_integer.Goals as goal
 
 pub take_unsigned-requires-clause-within : goal.take_unsigned-requires-clause-within

@@ -1,10 +1,10 @@
 use Rattle.std.proofs.Common.{sym, ◌∙◌, subst}
-use Rattle.fast_tree.specs.Nodes.{field_data}
-use Rattle.fast_decoder.specs.Positions.{set_of}
-use Rattle.fast_decoder.specs.Scalars.{IsOfField}
-use Rattle.fast_decoder.specs.TurnsLeft.{HasTurns}
+use Rattle.fast_tree.specs.device.Nodes.{field_data}
+use Rattle.fast_decoder.specs.device.Positions.{set_of}
+use Rattle.fast_decoder.specs.device.Scalars.{IsOfField}
+use Rattle.fast_decoder.specs.device.TurnsLeft.{HasTurns}
 use Rattle.fast_decoder.specs.declared.machine.Machine.{Machine}
-use Rattle.fast_decoder.proofs.ScalarNodes.{at_field_node, of_later, later_field, not_field, still_at_field}
+use Rattle.fast_decoder.proofs.fields.ScalarNodes.{at_field_node, of_later, later_field, not_field, still_at_field}
 use Rattle.fast_decoder.proofs.machine.Machine.take_later.Goals as goal
 
 pub returns-in_default-shape : goal.returns-in_default-shape

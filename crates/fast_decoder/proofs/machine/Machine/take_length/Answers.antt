@@ -1,13 +1,13 @@
 use Rattle.std.proofs.Common.{refl, []}
-use Rattle.fast_value.specs.Limits.{bounds}
-use Rattle.fast_tree.specs.Nodes.{field_data}
-use Rattle.fast_dict.specs.Slots.{slots_dictionary}
-use Rattle.fast_stream.specs.Continuations.{sequence_from_then, segment_then, body_then}
-use Rattle.fast_decoder.specs.Positions.{set_of, body_in, turning, meaning}
+use Rattle.fast_value.specs.meaning.Limits.{bounds}
+use Rattle.fast_tree.specs.device.Nodes.{field_data}
+use Rattle.fast_dict.specs.meaning.Slots.{slots_dictionary}
+use Rattle.fast_stream.specs.device.Continuations.{sequence_from_then, segment_then, body_then}
+use Rattle.fast_decoder.specs.device.Positions.{set_of, body_in, turning, meaning}
 use Rattle.fast_stream.specs.declared.faults.FaultCode.TheVariants as Why
-use Rattle.fast_decoder.proofs.PartTakes.{integer_whole, integer_wrong, integer_cut, length_sees, length_sent, sequence_next, meaning_first, first_cut, first_ready, part_supplied}
-use Rattle.fast_decoder.proofs.Quick.{cut_to, wrong_to}
-use Rattle.fast_decoder.proofs.FieldTurns.{serves_here, behind}
+use Rattle.fast_decoder.proofs.machines.PartTakes.{integer_whole, integer_wrong, integer_cut, length_sees, length_sent, sequence_next, meaning_first, first_cut, first_ready, part_supplied}
+use Rattle.fast_decoder.proofs.machines.Quick.{cut_to, wrong_to}
+use Rattle.fast_decoder.proofs.steps.FieldTurns.{serves_here, behind}
 use Rattle.fast_decoder.proofs.machine.Machine.take_length.Goals as goal
 
 pub take_integer-requires-clause-serves : goal.take_integer-requires-clause-serves

@@ -2,25 +2,25 @@ use Rattle.std.proofs.Common.{refl, sym, [], ◌∙◌, subst, ℤ}
 use mir.Syntax.{w32}
 use mir.Val.{to_z, of_z}
 use Rattle.std.proofs.lemmas.Int.{to_z-of_z}
-use Rattle.fast_value.specs.Limits.{bounds}
-use Rattle.fast_tree.specs.Nodes.{field_data}
+use Rattle.fast_value.specs.meaning.Limits.{bounds}
+use Rattle.fast_tree.specs.device.Nodes.{field_data}
 use Rattle.fast_tree.specs.declared.instructions.Shape.TheVariants.{Decimal}
-use Rattle.fast_dict.specs.Slots.{slots_dictionary}
-use Rattle.fast_stream.specs.Continuations.{handed_then}
-use Rattle.fast_dict.specs.Dictionary.{Dictionary}
-use Rattle.fast_stream.specs.Grammar.{Grammar}
-use Rattle.fast_stream.specs.GrammarReaders.{reader_of}
-use Rattle.fast_stream.specs.Readers.{Reader}
+use Rattle.fast_dict.specs.meaning.Slots.{slots_dictionary}
+use Rattle.fast_stream.specs.device.Continuations.{handed_then}
+use Rattle.fast_dict.specs.meaning.Dictionary.{Dictionary}
+use Rattle.fast_stream.specs.meaning.Grammar.{Grammar}
+use Rattle.fast_stream.specs.device.GrammarReaders.{reader_of}
+use Rattle.fast_stream.specs.device.Readers.{Reader}
 use Rattle.fast_stream.specs.declared.faults.FaultCode.TheVariants as Why
-use Rattle.fast_units.specs.Settling.{value_at}
-use Rattle.fast_decoder.specs.Passing.{decimal_then}
-use Rattle.fast_stream.specs.Messages.{Found, decimal_with}
-use Rattle.fast_decoder.specs.Positions.{set_of, meaning, CanTake, IsTurn}
+use Rattle.fast_units.specs.device.Settling.{value_at}
+use Rattle.fast_decoder.specs.device.Passing.{decimal_then}
+use Rattle.fast_stream.specs.meaning.Messages.{Found, decimal_with}
+use Rattle.fast_decoder.specs.device.Positions.{set_of, meaning, CanTake, IsTurn}
 use Rattle.fast_decoder.specs.declared.machine.Waiting.{Waiting}
-use Rattle.fast_decoder.proofs.Quick.{cut_to, wrong_to}
-use Rattle.fast_decoder.proofs.FieldTurns.{serves_here, behind, mantissa_from, mantissa_next, serves_known, entry_here, turn_moved}
-use Rattle.fast_decoder.proofs.ScalarNodes.{at_parts_node, mantissa_parts, not_decimal, served_node}
-use Rattle.fast_decoder.proofs.PartTakes.{integer_whole, integer_wrong, integer_cut, mantissa_sees, mantissa_sent, meaning_second, second_cut, second_ready, second_turn, part_supplied}
+use Rattle.fast_decoder.proofs.machines.Quick.{cut_to, wrong_to}
+use Rattle.fast_decoder.proofs.steps.FieldTurns.{serves_here, behind, mantissa_from, mantissa_next, serves_known, entry_here, turn_moved}
+use Rattle.fast_decoder.proofs.fields.ScalarNodes.{at_parts_node, mantissa_parts, not_decimal, served_node}
+use Rattle.fast_decoder.proofs.machines.PartTakes.{integer_whole, integer_wrong, integer_cut, mantissa_sees, mantissa_sent, meaning_second, second_cut, second_ready, second_turn, part_supplied}
 use Rattle.fast_decoder.proofs.machine.Machine.take_mantissa.Goals as goal
 
 pub returns-in_default-shape : goal.returns-in_default-shape

@@ -1,17 +1,17 @@
 use Rattle.std.proofs.Common.{◌≡◌, ℕ, ◌+◌, ◌<◌, ap, ◌∙◌, subst, arith, refl, length, take, length-append}
 use Rattle.std.specs.Prelude.{List, ◌++◌}
 use Rattle.std.proofs.lemmas.List.{length-take-le}
-use Rattle.fast_wire.specs.Maps.{map_limit}
+use Rattle.fast_wire.specs.meaning.Maps.{map_limit}
 use Rattle.fast_value.specs.declared.codes.Code.TheVariants.{L3}
-use Rattle.fast_dict.specs.Slots.{slots_dictionary}
-use Rattle.fast_decoder.specs.Handing.{due}
+use Rattle.fast_dict.specs.meaning.Slots.{slots_dictionary}
+use Rattle.fast_decoder.specs.device.Handing.{due}
 use Rattle.fast_stream.specs.declared.faults.FaultCode.TheVariants as Why
 use Rattle.fast_decoder.specs.declared.machine.Waiting.{Waiting}
 use Rattle.fast_decoder.specs.declared.machine.Machine.{Machine}
-use Rattle.fast_decoder.specs.Positions.{set_of, tree_in, mapped_reader, map_reader, meaning, meaning_at, CanTake, IsTurn}
-use Rattle.fast_decoder.proofs.Takings.{taken_as, taken_cut, taken_full, due-map, map_reader-some}
-use Rattle.fast_decoder.proofs.CutMaps.{map_supplied, map_ready}
-use Rattle.fast_decoder.proofs.Quick.{whole_to, cut_to, wrong_to}
+use Rattle.fast_decoder.specs.device.Positions.{set_of, tree_in, mapped_reader, map_reader, meaning, meaning_at, CanTake, IsTurn}
+use Rattle.fast_decoder.proofs.units.Takings.{taken_as, taken_cut, taken_full, due-map, map_reader-some}
+use Rattle.fast_decoder.proofs.machines.CutMaps.{map_supplied, map_ready}
+use Rattle.fast_decoder.proofs.machines.Quick.{whole_to, cut_to, wrong_to}
 use Rattle.fast_decoder.proofs.machine.Machine.take_map.Goals as goal
 
 pub returns-in-Cut-clause-taken : goal.returns-in-Cut-clause-taken

@@ -1,13 +1,13 @@
 use Rattle.std.proofs.Common.{sym, ◌∙◌, subst}
-use Rattle.fast_tree.specs.Nodes.{field_data}
+use Rattle.fast_tree.specs.device.Nodes.{field_data}
 use Rattle.fast_tree.specs.declared.instructions.Shape.TheVariants.{Field}
-use Rattle.fast_dict.specs.Slots.{slots_dictionary}
-use Rattle.fast_decoder.specs.Scalars.{IsOfField}
-use Rattle.fast_decoder.specs.Positions.{set_of, state_in, CanTake}
+use Rattle.fast_dict.specs.meaning.Slots.{slots_dictionary}
+use Rattle.fast_decoder.specs.device.Scalars.{IsOfField}
+use Rattle.fast_decoder.specs.device.Positions.{set_of, state_in, CanTake}
 use Rattle.fast_decoder.specs.declared.machine.Waiting.{Waiting}
-use Rattle.fast_decoder.proofs.FieldTurns.{serves_here}
-use Rattle.fast_decoder.proofs.ScalarMachines.{still_supplied, first_taken}
-use Rattle.fast_decoder.proofs.ScalarNodes.{at_field_node, at_parts_node, at_sequence_node, no_group, first_below, served_node, first_begins}
+use Rattle.fast_decoder.proofs.steps.FieldTurns.{serves_here}
+use Rattle.fast_decoder.proofs.machines.ScalarMachines.{still_supplied, first_taken}
+use Rattle.fast_decoder.proofs.fields.ScalarNodes.{at_field_node, at_parts_node, at_sequence_node, no_group, first_below, served_node, first_begins}
 use Rattle.fast_decoder.proofs.machine.Machine.take_other.Goals as goal
 
 pub take_first-progress-requires-clause-serves : goal.take_first-progress-requires-clause-serves

@@ -1,8 +1,8 @@
 use Rattle.std.proofs.Common.{refl, []}
-use Rattle.fast_tree.specs.Nodes.{field_data}
-use Rattle.fast_decoder.specs.Positions.{set_of}
-use Rattle.fast_decoder.proofs.FieldTurns.{serves_here}
-use Rattle.fast_decoder.proofs.ScalarMachines.{still_supplied, unit_within, text_taken, number_taken, bytes_taken}
+use Rattle.fast_tree.specs.device.Nodes.{field_data}
+use Rattle.fast_decoder.specs.device.Positions.{set_of}
+use Rattle.fast_decoder.proofs.steps.FieldTurns.{serves_here}
+use Rattle.fast_decoder.proofs.machines.ScalarMachines.{still_supplied, unit_within, text_taken, number_taken, bytes_taken}
 use Rattle.fast_decoder.proofs.machine.Machine.take_scalar.Goals as goal
 
 pub take_first_text-requires-clause-serves : goal.take_first_text-requires-clause-serves

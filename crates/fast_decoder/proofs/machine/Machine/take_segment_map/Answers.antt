@@ -1,25 +1,25 @@
 use Rattle.std.proofs.Common.{◌≡◌, ℕ, ◌+◌, ap, ◌∙◌, subst, arith, refl, length, take, length-append}
 use Rattle.std.specs.Prelude.{List, ◌++◌}
 use Rattle.std.proofs.lemmas.List.{length-take-le}
-use Rattle.fast_wire.specs.Maps.{map_limit}
-use Rattle.fast_value.specs.Limits.{bounds}
+use Rattle.fast_wire.specs.meaning.Maps.{map_limit}
+use Rattle.fast_value.specs.meaning.Limits.{bounds}
 use Rattle.fast_value.specs.declared.codes.Code.TheVariants.{L3}
-use Rattle.fast_dict.specs.Dictionary.{Dictionary}
-use Rattle.fast_dict.specs.Slots.{slots_dictionary}
-use Rattle.fast_stream.specs.GrammarReaders.{reader_of}
-use Rattle.fast_decoder.specs.Handing.{due}
-use Rattle.fast_stream.specs.Machine.{after_bytes}
-use Rattle.fast_stream.specs.Readers.{Reader}
+use Rattle.fast_dict.specs.meaning.Dictionary.{Dictionary}
+use Rattle.fast_dict.specs.meaning.Slots.{slots_dictionary}
+use Rattle.fast_stream.specs.device.GrammarReaders.{reader_of}
+use Rattle.fast_decoder.specs.device.Handing.{due}
+use Rattle.fast_stream.specs.device.Machine.{after_bytes}
+use Rattle.fast_stream.specs.device.Readers.{Reader}
 use Rattle.fast_stream.specs.declared.faults.FaultCode.TheVariants as Why
 use Rattle.fast_decoder.specs.declared.machine.Waiting.{Waiting}
 use Rattle.fast_decoder.specs.declared.machine.Machine.{Machine}
-use Rattle.fast_decoder.specs.Positions.{set_of, tree_in, segment_behind, meaning, meaning_at, CanTake}
-use Rattle.fast_decoder.proofs.InHand.{entity_then}
-use Rattle.fast_decoder.proofs.FieldTurns.{turn_as}
-use Rattle.fast_decoder.proofs.Takings.{taken_as, taken_cut, taken_full, due-entity}
-use Rattle.fast_decoder.proofs.SegmentMaps.{segment_judged, segment-reader, segment_same, segment_of}
-use Rattle.fast_decoder.proofs.CutMaps.{map_supplied, segment_map_ready}
-use Rattle.fast_decoder.proofs.Quick.{whole_to, cut_to, wrong_to}
+use Rattle.fast_decoder.specs.device.Positions.{set_of, tree_in, segment_behind, meaning, meaning_at, CanTake}
+use Rattle.fast_decoder.proofs.units.InHand.{entity_then}
+use Rattle.fast_decoder.proofs.steps.FieldTurns.{turn_as}
+use Rattle.fast_decoder.proofs.units.Takings.{taken_as, taken_cut, taken_full, due-entity}
+use Rattle.fast_decoder.proofs.units.SegmentMaps.{segment_judged, segment-reader, segment_same, segment_of}
+use Rattle.fast_decoder.proofs.machines.CutMaps.{map_supplied, segment_map_ready}
+use Rattle.fast_decoder.proofs.machines.Quick.{whole_to, cut_to, wrong_to}
 use Rattle.fast_decoder.proofs.machine.Machine.take_segment_map.Goals as goal
 
 pub returns-in-Cut-clause-taken : goal.returns-in-Cut-clause-taken

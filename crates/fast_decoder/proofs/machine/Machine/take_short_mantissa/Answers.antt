@@ -3,28 +3,28 @@ use Rattle.std.proofs.Common.{[], sym, ◌∙◌, subst, ℤ, ◌+◌}
 use mir.Syntax.{w32}
 use mir.Val.{to_z, of_z}
 use Rattle.std.proofs.lemmas.Int.{to_z-of_z}
-use Rattle.fast_value.specs.Limits.{bounds}
-use Rattle.fast_tree.specs.Nodes.{field_data}
+use Rattle.fast_value.specs.meaning.Limits.{bounds}
+use Rattle.fast_tree.specs.device.Nodes.{field_data}
 use Rattle.fast_tree.specs.declared.instructions.Shape.TheVariants.{Decimal}
-use Rattle.fast_dict.specs.Dictionary.{Dictionary}
-use Rattle.fast_dict.specs.Slots.{slots_dictionary}
-use Rattle.fast_stream.specs.Continuations.{handed_then}
-use Rattle.fast_stream.specs.Grammar.{Grammar}
-use Rattle.fast_stream.specs.GrammarReaders.{reader_of}
-use Rattle.fast_units.specs.Settling.{value_at}
-use Rattle.fast_units.specs.Deciding.{source_of}
-use Rattle.fast_units.specs.declared.source.Source.{Source}
-use Rattle.fast_decoder.specs.Passing.{decimal_then}
-use Rattle.fast_stream.specs.Messages.{Found, decimal_with}
-use Rattle.fast_decoder.specs.Positions.{set_of, meaning, CanTurn, IsAtParts, IsTurn}
-use Rattle.fast_decoder.proofs.Carrying.{supplied-turns}
-use Rattle.fast_decoder.proofs.FieldTurns.{serves_here, behind, mantissa_from, mantissa_next, serves_known, entry_here}
-use Rattle.fast_decoder.proofs.Heads.{parts_head}
-use Rattle.fast_decoder.proofs.ScalarSteps.{supplied_moved, goes_on_moved}
-use Rattle.fast_decoder.proofs.ScalarNodes.{served_node}
-use Rattle.fast_decoder.proofs.PartTakes.{integer_at_once, mantissa_sees, mantissa_sent, meaning_second, second_turn, part_supplied}
+use Rattle.fast_dict.specs.meaning.Dictionary.{Dictionary}
+use Rattle.fast_dict.specs.meaning.Slots.{slots_dictionary}
+use Rattle.fast_stream.specs.device.Continuations.{handed_then}
+use Rattle.fast_stream.specs.meaning.Grammar.{Grammar}
+use Rattle.fast_stream.specs.device.GrammarReaders.{reader_of}
+use Rattle.fast_units.specs.device.Settling.{value_at}
+use Rattle.fast_units.specs.device.Deciding.{source_of}
+use Rattle.fast_units.specs.declared.source.ValueSource.{ValueSource}
+use Rattle.fast_decoder.specs.device.Passing.{decimal_then}
+use Rattle.fast_stream.specs.meaning.Messages.{Found, decimal_with}
+use Rattle.fast_decoder.specs.device.Positions.{set_of, meaning, CanTurn, IsAtParts, IsTurn}
+use Rattle.fast_decoder.proofs.streams.Carrying.{supplied-turns}
+use Rattle.fast_decoder.proofs.steps.FieldTurns.{serves_here, behind, mantissa_from, mantissa_next, serves_known, entry_here}
+use Rattle.fast_decoder.proofs.fields.Heads.{parts_head}
+use Rattle.fast_decoder.proofs.machines.ScalarSteps.{supplied_moved, goes_on_moved}
+use Rattle.fast_decoder.proofs.fields.ScalarNodes.{served_node}
+use Rattle.fast_decoder.proofs.machines.PartTakes.{integer_at_once, mantissa_sees, mantissa_sent, meaning_second, second_turn, part_supplied}
 use Rattle.fast_units.proofs.NextUnits.{none_in_hand}
-use Rattle.fast_decoder.proofs.TurnCounts.{finished, one_unit}
+use Rattle.fast_decoder.proofs.steps.TurnCounts.{finished, one_unit}
 use Rattle.fast_decoder.proofs.machine.Machine.take_short_mantissa.Goals as goal
 
 pub mantissa_item-requires-clause-serves : goal.mantissa_item-requires-clause-serves
@@ -77,7 +77,7 @@ returns-clause-taken g c =
     c.args.sink.now turn c.finish_decimal-turn.new.sink b
     (subst (λ (y : ℤ). IsTurn takes stops set l (reader_of l.strict (decimal_then set (bounds l) n y (value_at source f (slots_dictionary slots) m.text.text []) f (slots_dictionary slots) m.counted m.cursor)) c.args.sink.now turn c.finish_decimal-turn.new.sink b)
     (to_z-of_z w32 x c.ranges.exponent)
-    (subst (λ (y : Source). IsTurn takes stops set l (reader_of l.strict (decimal_then set (bounds l) n (to_z w32 (of_z w32 x)) (value_at y f (slots_dictionary slots) m.text.text []) f (slots_dictionary slots) m.counted m.cursor)) c.args.sink.now turn c.finish_decimal-turn.new.sink b)
+    (subst (λ (y : ValueSource). IsTurn takes stops set l (reader_of l.strict (decimal_then set (bounds l) n (to_z w32 (of_z w32 x)) (value_at y f (slots_dictionary slots) m.text.text []) f (slots_dictionary slots) m.counted m.cursor)) c.args.sink.now turn c.finish_decimal-turn.new.sink b)
     c.source_of.ensures moved))
 
 pub returns-clause-turns : goal.returns-clause-turns

@@ -1,6 +1,6 @@
 use Rattle.std.proofs.Common.{◌+◌}
-use Rattle.fast_decoder.specs.Positions.{set_of}
-use Rattle.fast_decoder.proofs.TurnCounts.{unit_paid}
+use Rattle.fast_decoder.specs.device.Positions.{set_of}
+use Rattle.fast_decoder.proofs.steps.TurnCounts.{unit_paid}
 use Rattle.fast_decoder.proofs.machine.Machine.take_unit.Goals as goal
 
 pub returns-clause-turns : goal.returns-clause-turns

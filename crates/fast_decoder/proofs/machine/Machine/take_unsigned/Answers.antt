@@ -1,11 +1,11 @@
 -- The field's item, and what follows it.
-use Rattle.fast_value.specs.Limits.{bounds}
-use Rattle.fast_tree.specs.Nodes.{field_data}
+use Rattle.fast_value.specs.meaning.Limits.{bounds}
+use Rattle.fast_tree.specs.device.Nodes.{field_data}
 use Rattle.fast_tree.specs.declared.instructions.Shape.TheVariants.{Field}
-use Rattle.fast_decoder.specs.Positions.{set_of}
-use Rattle.fast_decoder.proofs.FieldTurns.{serves_here}
-use Rattle.fast_decoder.proofs.ScalarNodes.{served_node}
-use Rattle.fast_decoder.proofs.SentItems.{sent_item}
+use Rattle.fast_decoder.specs.device.Positions.{set_of}
+use Rattle.fast_decoder.proofs.steps.FieldTurns.{serves_here}
+use Rattle.fast_decoder.proofs.fields.ScalarNodes.{served_node}
+use Rattle.fast_decoder.proofs.machines.SentItems.{sent_item}
 use Rattle.fast_decoder.proofs.machine.Machine.take_unsigned.Goals as goal
 
 pub delta_item-requires-clause-serves : goal.delta_item-requires-clause-serves

@@ -1,4 +1,4 @@
-use Rattle.fast_decoder.proofs.Heads.{node_within, field_head, parts_head, group_head, sequence_head}
+use Rattle.fast_decoder.proofs.fields.Heads.{node_within, field_head, parts_head, group_head, sequence_head}
 use Rattle.std.proofs.Common.{sym, ◌∙◌}
 use Rattle.fast_decoder.proofs.machine.Machine.turn.Goals as goal
 

@@ -5,11 +5,11 @@ use Rattle.fast_stream.specs.declared.faults.FaultCode.{FaultCode}
 use Rattle.fast_decoder.specs.declared.machine.Turn.{Turn}
 use Rattle.fast_decoder.specs.declared.machine.Machine.{Machine}
 use Rattle.fast_decoder.specs.declared.machine.Waiting.TheVariants as Waiting
-use Rattle.fast_decoder.specs.Moving.{Moves}
-use Rattle.fast_decoder.specs.Positions.{set_of, CanTurn, GoesOn, IsTurn, turning, meaning}
-use Rattle.fast_decoder.proofs.Carrying.{supplied-turns}
-use Rattle.fast_decoder.proofs.FieldTurns.{field_waits}
-use Rattle.fast_decoder.proofs.Quick.{turn_behind, can_turn_on}
+use Rattle.fast_decoder.specs.device.Moving.{Moves}
+use Rattle.fast_decoder.specs.device.Positions.{set_of, CanTurn, GoesOn, IsTurn, turning, meaning}
+use Rattle.fast_decoder.proofs.streams.Carrying.{supplied-turns}
+use Rattle.fast_decoder.proofs.steps.FieldTurns.{field_waits}
+use Rattle.fast_decoder.proofs.machines.Quick.{turn_behind, can_turn_on}
 use Rattle.fast_decoder.proofs.machine.Machine.wait_if.Goals as goal
 
 pub returns-then-next_waits-clause-turn : goal.returns-then-next_waits-clause-turn

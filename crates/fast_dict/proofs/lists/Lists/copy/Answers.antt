@@ -1,6 +1,6 @@
 -- The copies hold the same texts.
 use Rattle.std.proofs.Common.{◌∙◌, ap, map}
-use Rattle.fast_dict.specs.Held.{held_data}
+use Rattle.fast_dict.specs.device.Held.{held_data}
 use Rattle.fast_dict.proofs.Listed.{same_fit}
 use Rattle.fast_dict.proofs.lists.Lists.copy.Goals as goal
 

@@ -2,9 +2,9 @@
 use Rattle.std.proofs.Common.{◌∙◌, ap}
 use Rattle.std.specs.Prelude.{slice_set}
 use Rattle.std.proofs.lemmas.List.{map-set}
-use Rattle.fast_dict.specs.Dictionary.{assigned}
-use Rattle.fast_dict.specs.Held.{held_data}
-use Rattle.fast_dict.specs.Lists.{lists_dictionary}
+use Rattle.fast_dict.specs.meaning.Dictionary.{assigned}
+use Rattle.fast_dict.specs.device.Held.{held_data}
+use Rattle.fast_dict.specs.meaning.Lists.{lists_dictionary}
 use Rattle.fast_dict.proofs.lists.ListsStore.set.Goals as goal
 
 pub returns-clause-ok : goal.returns-clause-ok

@@ -1,6 +1,6 @@
 -- So many are the same from the back, and more where what is left ends alike.
 use Rattle.std.proofs.Common.{◌≡◌, ◌+◌, ◌-◌, ◌≤◌, drop, length, reverse}
-use Rattle.fast_dict.specs.Rule.{common_front, common_back}
+use Rattle.fast_dict.specs.meaning.Rule.{common_front, common_back}
 use Rattle.fast_dict.proofs.rule.common.common_back.Given as goal
 
 abbrev pub invariant-loop-size : goal.invariant-loop-size

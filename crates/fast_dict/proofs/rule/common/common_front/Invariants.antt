@@ -1,6 +1,6 @@
 -- So many are the same, and more where what is left begins alike.
 use Rattle.std.proofs.Common.{◌≡◌, ◌+◌, ◌-◌, ◌≤◌, drop, length}
-use Rattle.fast_dict.specs.Rule.{common_front}
+use Rattle.fast_dict.specs.meaning.Rule.{common_front}
 use Rattle.fast_dict.proofs.rule.common.common_front.Given as goal
 
 abbrev pub invariant-loop-size : goal.invariant-loop-size

@@ -1,6 +1,6 @@
 -- There are as many as the dictionary has.
 use Rattle.std.proofs.Common.{◌∙◌, sym}
-use Rattle.fast_dict.specs.Slots.{length-entries}
+use Rattle.fast_dict.specs.meaning.Slots.{length-entries}
 use Rattle.fast_dict.proofs.slots.SlotsStore.entries.Goals as goal
 
 pub returns : goal.returns

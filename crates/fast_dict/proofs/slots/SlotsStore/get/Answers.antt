@@ -1,6 +1,6 @@
 -- The entry of that number, with its text.
 use Rattle.std.proofs.Common.{◌∙◌, sym}
-use Rattle.fast_dict.specs.Slots.{get-entries}
+use Rattle.fast_dict.specs.meaning.Slots.{get-entries}
 use Rattle.fast_dict.proofs.Slotted.{place_of_entry}
 use Rattle.fast_dict.proofs.slots.SlotsStore.get.Goals as goal
 

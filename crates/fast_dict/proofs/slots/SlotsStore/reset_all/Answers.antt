@@ -1,5 +1,5 @@
 -- All entries are undefined.
-use Rattle.fast_dict.specs.Slots.{length-entries}
+use Rattle.fast_dict.specs.meaning.Slots.{length-entries}
 use Rattle.fast_dict.proofs.Slotted.{fresh-entries}
 use Rattle.fast_dict.proofs.slots.SlotsStore.reset_all.Goals as goal
 

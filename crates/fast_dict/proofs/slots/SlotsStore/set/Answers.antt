@@ -1,9 +1,9 @@
 -- The entry of that number changes alone, and the texts of the others stay.
 use Rattle.std.proofs.Common.{◌≡◌, ◌∙◌, ap, sym}
-use Rattle.fast_value.specs.Values.{scalar_data}
+use Rattle.fast_value.specs.meaning.Values.{scalar_data}
 use Rattle.std.specs.Prelude.{slice_index_or, None}
-use Rattle.fast_dict.specs.Dictionary.{assigned}
-use Rattle.fast_dict.specs.Slots.{slots_terms, entry_data, text_in}
+use Rattle.fast_dict.specs.meaning.Dictionary.{assigned}
+use Rattle.fast_dict.specs.meaning.Slots.{slots_terms, entry_data, text_in}
 use Rattle.fast_dict.proofs.Slotted.{place_of_entry, put-entries, storable}
 use Rattle.fast_dict.proofs.slots.SlotsStore.set.Goals as goal
 

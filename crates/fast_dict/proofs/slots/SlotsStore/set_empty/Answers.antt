@@ -1,6 +1,6 @@
 -- The entry of that number changes alone.
 use Rattle.std.proofs.Common.{refl}
-use Rattle.fast_dict.specs.Dictionary.{empty}
+use Rattle.fast_dict.specs.meaning.Dictionary.{empty}
 use Rattle.fast_dict.specs.declared.entry.Entry.TheVariants.{Empty}
 use Rattle.fast_dict.proofs.Slotted.{place_of_entry, put-entries}
 use Rattle.fast_dict.proofs.slots.SlotsStore.set_empty.Goals as goal

@@ -1,9 +1,9 @@
 -- A message that was written is not refused; else the encoder is as it was, and says which fault comes first.
 use Rattle.std.proofs.Common.{◌≡◌, refl, sym, subst}
-use Rattle.fast_value.specs.Views.{message_data}
-use Rattle.fast_spelling.specs.Refusals.{IsRefused}
-use Rattle.fast_spelling.proofs.Excluded.{refused_is_not_encoded}
-use Rattle.fast_encoder.specs.Encoders.{EncoderData, tree}
+use Rattle.fast_value.specs.meaning.Views.{message_data}
+use Rattle.fast_spelling.specs.meaning.Refusals.{IsRefused}
+use Rattle.fast_spelling.proofs.encodings.Excluded.{refused_is_not_encoded}
+use Rattle.fast_encoder.specs.meaning.Encoders.{EncoderData, tree}
 use Rattle.fast_encoder.proofs.encoder.Encoder.encode.Goals as goal
 
 pub returns-then-try_encode-clause-told : goal.returns-then-try_encode-clause-told

@@ -3,21 +3,21 @@ use Rattle.std.proofs.Common.{◌≡◌, inr, ℕ, List, ◌++◌, ap, sym, subs
 use Rattle.std.specs.Prelude.{Bool, true, false, if◌then◌else◌, Option}
 use Rattle.fast_value.specs.declared.messages.Item.{Item}
 use Rattle.fast_value.specs.declared.settings.Limits.{Limits}
-use Rattle.fast_value.specs.Views.{message_data, slots_data}
-use Rattle.fast_tree.specs.Bodies.{body_among}
+use Rattle.fast_value.specs.meaning.Views.{message_data, slots_data}
+use Rattle.fast_tree.specs.device.Bodies.{body_among}
 use Rattle.fast_template.specs.declared.sets.Templates.{Templates}
-use Rattle.fast_template.specs.Flat.{nodes_of, tree_of}
+use Rattle.fast_template.specs.meaning.Flat.{nodes_of, tree_of}
 use Rattle.fast_template.proofs.SetTrees.{distinct_ids}
-use Rattle.fast_decoder.specs.Positions.{set_of}
+use Rattle.fast_decoder.specs.device.Positions.{set_of}
 use Rattle.fast_spelling.specs.declared.faults.EncodeFault.TheVariants.{E2, E4}
-use Rattle.fast_spelling.specs.Encoding.{EncodesMessage}
-use Rattle.fast_spelling.specs.Ledgers.{LedgerData}
-use Rattle.fast_spelling.specs.Refusals.{IsRefused}
-use Rattle.fast_spelling.specs.Suiting.{SuitsBody, SuitsTemplate, FitsLimits}
-use Rattle.fast_spelling.proofs.Encoded.{encoded_is_spelled}
-use Rattle.fast_spelling.proofs.Excluded.{refused_is_not_encoded}
-use Rattle.fast_spelling.proofs.Whole.{template_suits}
-use Rattle.fast_encoder.specs.Encoders.{EncoderData, IsEncoded, IsToldOf, tree}
+use Rattle.fast_spelling.specs.meaning.Encoding.{EncodesMessage}
+use Rattle.fast_spelling.specs.meaning.Ledgers.{LedgerData}
+use Rattle.fast_spelling.specs.meaning.Refusals.{IsRefused}
+use Rattle.fast_spelling.specs.meaning.Suiting.{SuitsBody, SuitsTemplate, FitsLimits}
+use Rattle.fast_spelling.proofs.encodings.Encoded.{encoded_is_spelled}
+use Rattle.fast_spelling.proofs.encodings.Excluded.{refused_is_not_encoded}
+use Rattle.fast_spelling.proofs.encodings.Whole.{template_suits}
+use Rattle.fast_encoder.specs.meaning.Encoders.{EncoderData, IsEncoded, IsToldOf, tree}
 use Rattle.fast_encoder.proofs.Answered.{known_so, told_alone, late_refused, unsuited, unfit}
 use Rattle.fast_encoder.proofs.encoder.Encoder.encode_in_order.Goals as goal
 

@@ -2,15 +2,15 @@
 use Rattle.std.proofs.Common.{ℕ, List, ◌++◌, ap, subst, ◌∙◌}
 use Rattle.std.specs.Prelude.{Bool, if◌then◌else◌}
 use Rattle.fast_value.specs.declared.settings.Limits.{Limits}
-use Rattle.fast_value.specs.Views.{message_data}
+use Rattle.fast_value.specs.meaning.Views.{message_data}
 use Rattle.fast_template.specs.declared.sets.Templates.{Templates}
-use Rattle.fast_template.specs.Flat.{tree_of}
+use Rattle.fast_template.specs.meaning.Flat.{tree_of}
 use Rattle.fast_template.proofs.SetTrees.{distinct_ids}
-use Rattle.fast_decoder.specs.Positions.{set_of}
-use Rattle.fast_spelling.specs.Encoding.{EncodesMessage}
-use Rattle.fast_spelling.specs.Ledgers.{LedgerData}
-use Rattle.fast_spelling.proofs.Encoded.{encoded_is_spelled}
-use Rattle.fast_encoder.specs.Encoders.{EncoderData, IsEncoded}
+use Rattle.fast_decoder.specs.device.Positions.{set_of}
+use Rattle.fast_spelling.specs.meaning.Encoding.{EncodesMessage}
+use Rattle.fast_spelling.specs.meaning.Ledgers.{LedgerData}
+use Rattle.fast_spelling.proofs.encodings.Encoded.{encoded_is_spelled}
+use Rattle.fast_encoder.specs.meaning.Encoders.{EncoderData, IsEncoded}
 use Rattle.fast_encoder.proofs.encoder.Encoder.try_encode.Goals as goal
 
 -- The encoder as it was, by what is in it.

@@ -3,17 +3,17 @@ use Rattle.std.specs.Prelude.{option_map}
 use Rattle.std.proofs.lemmas.List.{length-map}
 use Rattle.std.proofs.lemmas.Option.{slice_get_within, slice_get_read}
 use Rattle.std.proofs.lemmas.Result.{on_ok_weaker}
-use Rattle.fast_notation.proofs.Lists.{mapped_get}
-use Rattle.fast_tree.specs.AsWritten.{DeclaredTemplate, scalar, by_parts, reference, no_more, more, scalar_use, exponent_use, mantissa_use, length_use}
-use Rattle.fast_notation.specs.Built.{data_of, IsReady, CanBuild, IsBuilt}
-use Rattle.fast_notation.specs.EntryKeys.{scope_data, use_data, entries_of}
-use Rattle.fast_tree.specs.NodeData.{a_group as a_group_data, node_data}
-use Rattle.fast_tree.specs.Nodes.{field_data}
-use Rattle.fast_notation.specs.Uses.{IsField}
-use Rattle.fast_notation.specs.WrittenSets.{operator_data, instruction_data, fields_data, written_data}
-use Rattle.fast_notation.proofs.BuiltLists.{same_items, built_none, built_more, built_field, built_parts, built_group, built_sequence, built_reference}
-use Rattle.fast_notation.proofs.BuildingNeeds.{weight, weight_at, measure, next_smaller, can_build_next, room_for, can_build_group, length_ready, can_build_sequence, scalar_ready, exponent_ready, mantissa_ready, chain_some, can_build_reference, looked_up, some_is}
-use Rattle.fast_notation.proofs.InstructionForms.{scalar_form, parts_form, group_form, sequence_form, from_both}
+use Rattle.fast_notation.proofs.lists.Lists.{mapped_get}
+use Rattle.fast_tree.specs.meaning.AsWritten.{DeclaredTemplate, scalar, by_parts, reference, no_more, more, scalar_use, exponent_use, mantissa_use, length_use}
+use Rattle.fast_notation.specs.device.Built.{data_of, IsReady, CanBuild, IsBuilt}
+use Rattle.fast_notation.specs.device.EntryKeys.{scope_data, use_data, entries_of}
+use Rattle.fast_tree.specs.device.NodeData.{a_group as a_group_data, node_data}
+use Rattle.fast_tree.specs.device.Nodes.{field_data}
+use Rattle.fast_notation.specs.meaning.Uses.{IsField}
+use Rattle.fast_notation.specs.device.WrittenSets.{operator_data, instruction_data, fields_data, written_data}
+use Rattle.fast_notation.proofs.nodes.BuiltLists.{same_items, built_none, built_more, built_field, built_parts, built_group, built_sequence, built_reference}
+use Rattle.fast_notation.proofs.nodes.BuildingNeeds.{weight, weight_at, measure, next_smaller, can_build_next, room_for, can_build_group, length_ready, can_build_sequence, scalar_ready, exponent_ready, mantissa_ready, chain_some, can_build_reference, looked_up, some_is}
+use Rattle.fast_notation.proofs.texts.InstructionForms.{scalar_form, parts_form, group_form, sequence_form, from_both}
 use Rattle.fast_notation.proofs.building.Builder.+building.Goals as goal
 
 pub build_fields-loop-field-init : goal.build_fields-loop-field-init

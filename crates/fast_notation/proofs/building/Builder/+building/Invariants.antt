@@ -1,9 +1,9 @@
 use Rattle.std.proofs.Common.{◌+◌, ◌*◌, map, take}
-use Rattle.fast_tree.specs.AsWritten.{no_more, more}
-use Rattle.fast_notation.specs.Built.{data_of, IsBuilt}
-use Rattle.fast_notation.specs.EntryKeys.{scope_data, entries_of}
-use Rattle.fast_notation.specs.WrittenSets.{instruction_data, fields_data, written_data}
-use Rattle.fast_notation.proofs.BuildingNeeds.{weight, measure}
+use Rattle.fast_tree.specs.meaning.AsWritten.{no_more, more}
+use Rattle.fast_notation.specs.device.Built.{data_of, IsBuilt}
+use Rattle.fast_notation.specs.device.EntryKeys.{scope_data, entries_of}
+use Rattle.fast_notation.specs.device.WrittenSets.{instruction_data, fields_data, written_data}
+use Rattle.fast_notation.proofs.nodes.BuildingNeeds.{weight, measure}
 use Rattle.fast_notation.proofs.building.Builder.+building.Given as goal
 
 abbrev pub decreases-build_fields : goal.decreases-build_fields

@@ -2,17 +2,17 @@ use Rattle.std.proofs.Common.{◌≡◌, ◌+◌, ◌≤◌, ◌∷◌, [], ◌+
 use Rattle.std.proofs.lemmas.List.{map_more, take-map, length-map, length-take-le, map-append}
 use Rattle.std.proofs.lemmas.List.Elements.{All-get_or}
 use Rattle.std.proofs.lemmas.Option.{slice_get_read, slice_get_within, get_or_from_slice_get}
-use Rattle.fast_tree.specs.AsWritten.{DeclaredTemplate}
-use Rattle.fast_notation.specs.Built.{AreBuilt, IsBuilt, data_of}
-use Rattle.fast_notation.specs.Chains.{Fits}
-use Rattle.fast_tree.specs.Entries.{scope_of}
-use Rattle.fast_notation.specs.EntryKeys.{entries_of}
-use Rattle.fast_tree.specs.NodeData.{node_data, outline}
-use Rattle.fast_tree.specs.Sizes.{nesting_limit}
-use Rattle.fast_notation.specs.WrittenSets.{written_data}
-use Rattle.fast_notation.proofs.BuildingNeeds.{can_build_template}
-use Rattle.fast_notation.proofs.BuiltSets.{are_built_more, room_for_template}
-use Rattle.fast_notation.proofs.Lists.{mapped_get}
+use Rattle.fast_tree.specs.meaning.AsWritten.{DeclaredTemplate}
+use Rattle.fast_notation.specs.device.Built.{AreBuilt, IsBuilt, data_of}
+use Rattle.fast_notation.specs.device.Chains.{Fits}
+use Rattle.fast_tree.specs.meaning.Entries.{scope_of}
+use Rattle.fast_notation.specs.device.EntryKeys.{entries_of}
+use Rattle.fast_tree.specs.device.NodeData.{node_data, outline}
+use Rattle.fast_tree.specs.meaning.Sizes.{nesting_limit}
+use Rattle.fast_notation.specs.device.WrittenSets.{written_data}
+use Rattle.fast_notation.proofs.nodes.BuildingNeeds.{can_build_template}
+use Rattle.fast_notation.proofs.nodes.BuiltSets.{are_built_more, room_for_template}
+use Rattle.fast_notation.proofs.lists.Lists.{mapped_get}
 use Rattle.fast_notation.proofs.building.Builder.build.Goals as goal
 
 pub build_fields-requires-clause-can : goal.build_fields-requires-clause-can

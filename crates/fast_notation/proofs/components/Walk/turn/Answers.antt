@@ -1,8 +1,8 @@
 use Rattle.std.proofs.Common.{◌<◌, length, get_or, Some, ap, sym, ◌∙◌, subst}
 use Rattle.std.proofs.lemmas.List.Elements.{All-pop}
 use Rattle.fast_notation.specs.declared.components.Step.{Step}
-use Rattle.fast_notation.specs.Cycles.{numbers}
-use Rattle.fast_notation.proofs.CycleLaws.{refers_here}
+use Rattle.fast_notation.specs.device.Cycles.{numbers}
+use Rattle.fast_notation.proofs.references.CycleLaws.{refers_here}
 use Rattle.fast_notation.proofs.components.Walk.turn.Goals as goal
 
 pub follow-requires-clause-target : goal.follow-requires-clause-target

@@ -1,13 +1,13 @@
 use Rattle.std.proofs.Common.{◌≡◌, ◌∷◌, [], ap, ◌∙◌, string_bytes, subst}
 use Rattle.std.specs.Prelude.{option_map}
 use Rattle.std.proofs.lemmas.Result.{on_ok_weaker}
-use Rattle.fast_tree.specs.AsWritten.{uses, exponent_use, mantissa_use, length_use}
-use Rattle.fast_tree.specs.Entries.{Collects, in_scope}
-use Rattle.fast_notation.specs.EntryKeys.{scope_data, use_data, entries_of}
-use Rattle.fast_notation.specs.Sound.{uses_in}
-use Rattle.fast_notation.specs.WrittenSets.{operator_data, instruction_data}
-use Rattle.fast_notation.proofs.EntryLists.{collects_both, collects_more}
-use Rattle.fast_notation.proofs.SoundUses.{uses_of_parts, uses_of_sequence}
+use Rattle.fast_tree.specs.meaning.AsWritten.{uses, exponent_use, mantissa_use, length_use}
+use Rattle.fast_tree.specs.meaning.Entries.{Collects, in_scope}
+use Rattle.fast_notation.specs.device.EntryKeys.{scope_data, use_data, entries_of}
+use Rattle.fast_notation.specs.device.Sound.{uses_in}
+use Rattle.fast_notation.specs.device.WrittenSets.{operator_data, instruction_data}
+use Rattle.fast_notation.proofs.lists.EntryLists.{collects_both, collects_more}
+use Rattle.fast_notation.proofs.texts.SoundUses.{uses_of_parts, uses_of_sequence}
 use Rattle.fast_notation.proofs.entries.Entries.+entries.Goals as goal
 
 pub add_fields-loop-field-preserved : goal.add_fields-loop-field-preserved

@@ -1,7 +1,7 @@
 use Rattle.std.proofs.Common.{take}
-use Rattle.fast_tree.specs.Entries.{Collects, in_scope}
-use Rattle.fast_notation.specs.EntryKeys.{scope_data, entries_of}
-use Rattle.fast_notation.specs.Sound.{uses_in}
+use Rattle.fast_tree.specs.meaning.Entries.{Collects, in_scope}
+use Rattle.fast_notation.specs.device.EntryKeys.{scope_data, entries_of}
+use Rattle.fast_notation.specs.device.Sound.{uses_in}
 use Rattle.fast_notation.proofs.entries.Entries.+entries.Given as goal
 
 abbrev pub invariant-add_fields-loop-field : goal.invariant-add_fields-loop-field

@@ -1,4 +1,4 @@
-use Rattle.fast_notation.proofs.EntryLists.{added}
+use Rattle.fast_notation.proofs.lists.EntryLists.{added}
 use Rattle.fast_notation.proofs.entries.Entries.add.Goals as goal
 use Rattle.fast_notation.proofs.entries.Entries.add.Goals.{in-Ok, in-Err}
 

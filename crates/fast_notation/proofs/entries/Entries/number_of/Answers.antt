@@ -1,6 +1,6 @@
 use Rattle.std.proofs.Common.{sym, arith}
-use Rattle.fast_notation.specs.EntryKeys.{scope_data, use_data, key_data, entries_of}
-use Rattle.fast_notation.proofs.EntryLists.{is_there}
+use Rattle.fast_notation.specs.device.EntryKeys.{scope_data, use_data, key_data, entries_of}
+use Rattle.fast_notation.proofs.lists.EntryLists.{is_there}
 use Rattle.fast_notation.proofs.entries.Entries.number_of.Goals as goal
 
 pub returns : goal.returns

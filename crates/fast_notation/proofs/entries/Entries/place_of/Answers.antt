@@ -1,4 +1,4 @@
-use Rattle.fast_notation.proofs.EntryLists.{place_found, place_missing}
+use Rattle.fast_notation.proofs.lists.EntryLists.{place_found, place_missing}
 use Rattle.fast_notation.proofs.entries.Entries.place_of.Goals as goal
 
 pub returns-clause-found : goal.returns-clause-found

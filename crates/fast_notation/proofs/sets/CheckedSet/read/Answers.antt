@@ -1,17 +1,17 @@
 use Rattle.std.proofs.Common.{map, subst, sym, ◌∙◌, arith, inr, Some}
-use Rattle.fast_tree.specs.Numbers.{NameLaterNodes}
-use Rattle.fast_notation.specs.WrittenSets.{written_data}
-use Rattle.fast_notation.proofs.BuiltSets.{built_in_preorder, built_names_nodes, built_names_later_nodes, built_distinct_ids, built_few_nodes, built_count}
-use Rattle.fast_notation.proofs.BuiltUsable.{built_usable}
-use Rattle.fast_tree.specs.NodeData.{node_data}
-use Rattle.fast_tree.specs.Usable.{AreUsable}
-use Rattle.fast_notation.proofs.Headings.{same_names, same_ids, built_headings}
+use Rattle.fast_tree.specs.device.Numbers.{NameLaterNodes}
+use Rattle.fast_notation.specs.device.WrittenSets.{written_data}
+use Rattle.fast_notation.proofs.nodes.BuiltSets.{built_in_preorder, built_names_nodes, built_names_later_nodes, built_distinct_ids, built_few_nodes, built_count}
+use Rattle.fast_notation.proofs.nodes.BuiltUsable.{built_usable}
+use Rattle.fast_tree.specs.device.NodeData.{node_data}
+use Rattle.fast_tree.specs.device.Usable.{AreUsable}
+use Rattle.fast_notation.proofs.references.Headings.{same_names, same_ids, built_headings}
 use Rattle.std.proofs.lemmas.Result.{err_from_is_err_and}
 use Rattle.toml.specs.Parse.{parse_document}
 use Rattle.fast_notation.specs.declared.codes.StaticCode.TheVariants.{C5}
-use Rattle.fast_notation.proofs.NoTrees.{no_tree}
-use Rattle.fast_notation.proofs.Firsts.{chains_first, first_width, written_first}
-use Rattle.fast_notation.proofs.ReadLaws.{tree_read, wide_stands}
+use Rattle.fast_notation.proofs.outcomes.NoTrees.{no_tree}
+use Rattle.fast_notation.proofs.outcomes.Firsts.{chains_first, first_width, written_first}
+use Rattle.fast_notation.proofs.outcomes.ReadLaws.{tree_read, wide_stands}
 use Rattle.fast_notation.proofs.sets.CheckedSet.read.Goals as goal
 
 pub check_segments-requires-clause-later : goal.check_segments-requires-clause-later

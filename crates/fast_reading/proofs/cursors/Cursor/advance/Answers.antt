@@ -1,6 +1,6 @@
 use Rattle.std.proofs.lemmas.Str.{IsUtf8-had}
-use Rattle.fast_reading.proofs.NoLines.{all_refused}
-use Rattle.fast_reading.proofs.Said.{all_on, all_near}
+use Rattle.fast_reading.proofs.refusals.NoLines.{all_refused}
+use Rattle.fast_reading.proofs.readings.Said.{all_on, all_near}
 use Rattle.fast_reading.proofs.cursors.Cursor.advance.Goals as goal
 
 pub returns-clause-ok : goal.returns-clause-ok

@@ -1,11 +1,11 @@
 use Rattle.std.proofs.Common.{◌≡◌, ◌≤◌, ◌∷◌, ◌++◌, refl, ap, arith, subst, sym}
 use Rattle.std.proofs.lemmas.Result.{err_from_is_err_and}
-use Rattle.fast_reading.specs.Ahead.{feeds, IsAtText, OnBadLine, HasNoLines}
-use Rattle.fast_reading.specs.Reading.{closed}
-use Rattle.fast_reading.proofs.Feeds.{feeds_line}
-use Rattle.fast_reading.proofs.NoLines.{no_form, bad_value, one_line}
-use Rattle.fast_reading.proofs.Said.{at_text}
-use Rattle.fast_reading.proofs.Told.{told, untold}
+use Rattle.fast_reading.specs.device.Ahead.{feeds, IsAtText, OnBadLine, HasNoLines}
+use Rattle.fast_reading.specs.meaning.Reading.{closed}
+use Rattle.fast_reading.proofs.texts.Feeds.{feeds_line}
+use Rattle.fast_reading.proofs.refusals.NoLines.{no_form, bad_value, one_line}
+use Rattle.fast_reading.proofs.readings.Said.{at_text}
+use Rattle.fast_reading.proofs.values.Told.{told, untold}
 use Rattle.fast_reading.proofs.cursors.Cursor.at.Goals as goal
 
 pub returns-in_default-clause-line : goal.returns-in_default-clause-line

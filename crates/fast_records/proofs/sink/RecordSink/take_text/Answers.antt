@@ -1,4 +1,4 @@
-use Rattle.fast_stream.specs.Handed.{event_data}
+use Rattle.fast_stream.specs.meaning.Handed.{event_data}
 use Rattle.fast_records.proofs.Shown.{shows_put, takes_after, refuses_after}
 use Rattle.fast_records.proofs.sink.RecordSink.take_text.Goals as goal
 

@@ -1,6 +1,6 @@
 use Rattle.std.proofs.Common.{◌≡◌, List, [], sym, ◌∙◌}
-use Rattle.fast_stream.specs.Handed.{event_data}
-use Rattle.fast_records.specs.Records.{event_text}
+use Rattle.fast_stream.specs.meaning.Handed.{event_data}
+use Rattle.fast_records.specs.meaning.Records.{event_text}
 use Rattle.fast_records.proofs.Shown.{shows_put, takes_after, refuses_after}
 use Rattle.fast_records.proofs.sink.RecordSinkSink.take.Goals as goal
 

@@ -2,9 +2,9 @@
 use Rattle.std.proofs.Common.{[], ap, sym, subst, ◌∙◌, drop, List}
 use Rattle.std.specs.Prelude.{Bool, true}
 use Rattle.std.proofs.lemmas.List.{take-append-drop, take_rest}
-use Rattle.fast_spelling.specs.Encoding.{ShortestMap}
+use Rattle.fast_spelling.specs.meaning.Encoding.{ShortestMap}
 use Rattle.fast_spelling.specs.declared.draft.Draft.{Draft}
-use Rattle.fast_spelling.proofs.Bits.{closes_without}
+use Rattle.fast_spelling.proofs.bytes.Bits.{closes_without}
 use Rattle.fast_spelling.proofs.draft.Draft.close.Goals as goal
 use Rattle.fast_spelling.proofs.draft.Draft.close.Goals.{then-has_map+in_ok-put_map, else-has_map}
 

@@ -1,7 +1,7 @@
 -- The bits are those of the draft.
 use Rattle.std.proofs.Common.{[], drop, List, subst}
 use Rattle.std.specs.Prelude.{Bool, true, OnOk}
-use Rattle.fast_spelling.specs.Drafts.{Closes}
+use Rattle.fast_spelling.specs.device.Drafts.{Closes}
 use Rattle.fast_spelling.proofs.draft.Draft.finish.Goals as goal
 
 pub returns : goal.returns

@@ -1,7 +1,7 @@
 -- In the next message nothing was changed yet.
 use Rattle.std.proofs.Common.{◌+◌, ◌∙◌, ap, arith}
-use Rattle.fast_spelling.specs.Ledgers.{LedgerData}
-use Rattle.fast_spelling.proofs.Ledgers.{all_unchanged, settled_kept, settled_before, kept_before}
+use Rattle.fast_spelling.specs.meaning.Ledgers.{LedgerData}
+use Rattle.fast_spelling.proofs.bytes.Ledgers.{all_unchanged, settled_kept, settled_before, kept_before}
 use Rattle.fast_spelling.proofs.ledger.Ledger.commit.Goals as goal
 
 pub invariant_of-self : goal.invariant_of-self

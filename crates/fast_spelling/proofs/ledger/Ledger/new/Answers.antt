@@ -1,6 +1,6 @@
 -- All entries are undefined, and of no message.
 use Rattle.std.proofs.Common.{arith}
-use Rattle.fast_spelling.proofs.Ledgers.{all_unchanged, settled_kept, settled_before}
+use Rattle.fast_spelling.proofs.bytes.Ledgers.{all_unchanged, settled_kept, settled_before}
 use Rattle.fast_spelling.proofs.ledger.Ledger.new.Goals as goal
 
 pub invariant_of-result : goal.invariant_of-result

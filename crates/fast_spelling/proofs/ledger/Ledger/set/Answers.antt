@@ -1,8 +1,8 @@
 -- One entry is changed.
 use Rattle.std.proofs.Common.{ℕ, ◌≤◌, ap, sym, subst, length}
-use Rattle.fast_value.specs.Kinds.{text_of}
-use Rattle.fast_value.specs.Values.{scalar_data}
-use Rattle.fast_spelling.specs.Ledgers.{LedgerData}
+use Rattle.fast_value.specs.meaning.Kinds.{text_of}
+use Rattle.fast_value.specs.meaning.Values.{scalar_data}
+use Rattle.fast_spelling.specs.meaning.Ledgers.{LedgerData}
 use Rattle.fast_spelling.proofs.ledger.Ledger.set.Goals as goal
 
 pub invariant_of-self : goal.invariant_of-self

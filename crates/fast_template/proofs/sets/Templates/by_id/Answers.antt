@@ -1,6 +1,6 @@
 use Rattle.std.proofs.Common.{◌≡◌, ◌∙◌}
-use Rattle.fast_tree.specs.Numbers.{number_of_id}
-use Rattle.fast_notation.proofs.Headings.{id_found, id_first, id_none}
+use Rattle.fast_tree.specs.device.Numbers.{number_of_id}
+use Rattle.fast_notation.proofs.references.Headings.{id_found, id_first, id_none}
 use Rattle.fast_template.proofs.SetTrees.{distinct_ids}
 use Rattle.fast_template.proofs.sets.Templates.by_id.Goals as goal
 

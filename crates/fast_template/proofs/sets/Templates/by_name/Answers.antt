@@ -1,6 +1,6 @@
 use Rattle.std.proofs.Common.{◌≡◌, ◌∙◌}
-use Rattle.fast_tree.specs.Numbers.{number_of_name}
-use Rattle.fast_notation.proofs.Headings.{name_found, name_first, name_none}
+use Rattle.fast_tree.specs.device.Numbers.{number_of_name}
+use Rattle.fast_notation.proofs.references.Headings.{name_found, name_first, name_none}
 use Rattle.fast_template.proofs.sets.Templates.by_name.Goals as goal
 
 pub returns : goal.returns

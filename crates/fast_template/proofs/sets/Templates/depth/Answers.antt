@@ -1,10 +1,10 @@
 use Rattle.std.proofs.Common.{◌≡◌, ◌≤◌, ap, sym, ◌∙◌, refl, subst, length, slice_get, Some, arith}
 use Rattle.std.proofs.Math.Nat.{min-eq_left, le_trans}
 use Rattle.std.proofs.lemmas.Option.{slice_get_read}
-use Rattle.fast_template.specs.Flat.{tree_of, body_of, instructions_from}
-use Rattle.fast_tree.specs.Numbers.{AreBelow}
-use Rattle.fast_template.specs.Saturation.{in_32_bits}
-use Rattle.fast_tree.specs.Sizes.{body_depth, set_depth}
+use Rattle.fast_template.specs.meaning.Flat.{tree_of, body_of, instructions_from}
+use Rattle.fast_tree.specs.device.Numbers.{AreBelow}
+use Rattle.fast_template.specs.device.Saturation.{in_32_bits}
+use Rattle.fast_tree.specs.meaning.Sizes.{body_depth, set_depth}
 use Rattle.fast_template.proofs.CapBounds.{few_levels}
 use Rattle.fast_template.proofs.Greatest.{depth_of, greatest_kept, greatest_whole}
 use Rattle.fast_template.proofs.sets.Templates.depth.Goals as goal

@@ -1,5 +1,5 @@
 use Rattle.std.proofs.Common.{◌≡◌, drop, max}
-use Rattle.fast_template.specs.Saturation.{in_32_bits}
+use Rattle.fast_template.specs.device.Saturation.{in_32_bits}
 use Rattle.fast_template.proofs.Greatest.{greatest_of, depth_of}
 use Rattle.fast_template.proofs.sets.Templates.depth.Given as goal
 

@@ -1,5 +1,5 @@
 use Rattle.std.proofs.Common.{◌≡◌, drop, max}
-use Rattle.fast_template.specs.Saturation.{in_64_bits}
+use Rattle.fast_template.specs.device.Saturation.{in_64_bits}
 use Rattle.fast_template.proofs.Greatest.{greatest_of, product_of, sum_of}
 use Rattle.fast_template.proofs.sets.Templates.message_cap.Given as goal
 

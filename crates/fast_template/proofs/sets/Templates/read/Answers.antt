@@ -1,5 +1,5 @@
 use Rattle.std.proofs.Common.{◌∙◌, ap}
-use Rattle.fast_template.specs.Opcodes.{opcodes_of}
+use Rattle.fast_template.specs.device.Opcodes.{opcodes_of}
 use Rattle.fast_template.proofs.sets.Templates.read.Goals as goal
 
 pub invariant_of-result-clause-nodes_have_opcodes : goal.invariant_of-result-clause-nodes_have_opcodes

@@ -1,5 +1,5 @@
 use Rattle.std.proofs.Common.{refl, sym, ◌∙◌}
-use Rattle.fast_stream.specs.Handed.{event_data}
+use Rattle.fast_stream.specs.meaning.Handed.{event_data}
 use Rattle.fast_text.proofs.Writing.{takes_line, stops_in_line}
 use Rattle.fast_text.proofs.line_sink.LineSinkSink.take.Goals as goal
 

@@ -1,6 +1,6 @@
 use Rattle.std.proofs.Common.{◌≡◌, [], ◌∷◌, flat_map, arith}
 use Rattle.std.proofs.lemmas.Grind.{common_steps}
-use Rattle.fast_lines.specs.Lines.{escaped, hex_byte}
+use Rattle.fast_lines.specs.meaning.Lines.{escaped, hex_byte}
 use Rattle.fast_text.proofs.Writing.{writes_both, writes_same}
 use Rattle.fast_text.proofs.line_writer.LineWriter.put_escaped.Goals as goal
 

@@ -1,6 +1,6 @@
 use Rattle.std.proofs.Common.{rules, arith, ◌++◌, []}
 use Rattle.std.proofs.lemmas.Grind.{common_steps}
-use Rattle.fast_lines.specs.Lines.{hex_byte}
+use Rattle.fast_lines.specs.meaning.Lines.{hex_byte}
 use Rattle.fast_text.proofs.Writing.{writes_none, writes_more, writes_same}
 use Rattle.fast_text.proofs.line_writer.LineWriter.put_hex.Goals as goal
 

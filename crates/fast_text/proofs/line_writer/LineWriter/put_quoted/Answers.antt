@@ -1,6 +1,6 @@
 use Rattle.std.proofs.Common.{arith, ◌≡◌, [], ◌∷◌, ◌++◌, append-nil, sym, flat_map, take}
 use Rattle.std.proofs.lemmas.Grind.{common_steps}
-use Rattle.fast_lines.specs.Lines.{escaped}
+use Rattle.fast_lines.specs.meaning.Lines.{escaped}
 use Rattle.fast_text.proofs.Writing.{writes_both, writes_more, writes_same, plain_text}
 use Rattle.fast_text.proofs.line_writer.LineWriter.put_quoted.Goals as goal
 

@@ -1,5 +1,5 @@
 use Rattle.std.proofs.Common.{◌≡◌, ℕ, List, ◌++◌, length}
-use Rattle.fast_text.specs.Streams.{Appends}
+use Rattle.fast_text.specs.meaning.Streams.{Appends}
 use Rattle.fast_text.proofs.streams.Target.write_all.Given as goal
 
 abbrev pub invariant-loop-rest : goal.invariant-loop-rest

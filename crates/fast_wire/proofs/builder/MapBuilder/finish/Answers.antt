@@ -1,6 +1,6 @@
 use Rattle.std.proofs.Common.{◌≡◌, true, false, get_or, ap, sym, subst, ◌∙◌}
-use Rattle.fast_wire.specs.Maps.{bits, IsMap}
-use Rattle.fast_wire.proofs.Finishing.{finished, pushed, finished_map, finished_bits}
+use Rattle.fast_wire.specs.meaning.Maps.{bits, IsMap}
+use Rattle.fast_wire.proofs.map_bits.Finishing.{finished, pushed, finished_map, finished_bits}
 use Rattle.fast_wire.proofs.builder.MapBuilder.finish.Goals as goal
 
 -- what the loop and the last push leave

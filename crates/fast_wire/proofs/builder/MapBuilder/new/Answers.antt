@@ -1,4 +1,4 @@
-use Rattle.fast_wire.proofs.Building.{built_blank}
+use Rattle.fast_wire.proofs.map_bits.Building.{built_blank}
 use Rattle.fast_wire.proofs.builder.MapBuilder.new.Goals as goal
 
 pub invariant_of-result : goal.invariant_of-result

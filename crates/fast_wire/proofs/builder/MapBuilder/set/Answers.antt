@@ -1,7 +1,7 @@
 use Rattle.std.proofs.Common.{◌%◌, ◌/◌, ◌^◌, ◌<◌, ap, sym, ◌∙◌, subst, length, get_or, set, arith}
 use Rattle.std.specs.Prelude.{true, bit_or}
-use Rattle.fast_wire.specs.Maps.{IsBuilt}
-use Rattle.fast_wire.proofs.Building.{bit_set, some_bit, built_more}
+use Rattle.fast_wire.specs.meaning.Maps.{IsBuilt}
+use Rattle.fast_wire.proofs.map_bits.Building.{bit_set, some_bit, built_more}
 use Rattle.fast_wire.proofs.builder.MapBuilder.set.Goals as goal
 
 pub invariant_of-self : goal.invariant_of-self

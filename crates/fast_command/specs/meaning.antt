@@ -1,0 +1,8 @@
+-- What is meant: the contracts of public functions rest on these definitions.
+pub mod Closing
+pub mod Showing
+pub mod Report
+pub mod Checking
+pub mod Texts
+pub mod Plans
+pub mod Words

@@ -1,0 +1,6 @@
+-- Devices of contracts within the crates and of proofs: invariants, models of state, relations in between.
+pub mod Cursors
+pub mod MapPlaces
+pub mod Segments
+pub mod MapTaking
+pub mod Pending

@@ -1,5 +1,0 @@
-use Rattle.fast_decoder.proofs.Ends.{so-stream}
-use Rattle.fast_decoder.proofs.decoder.so_is_stream.Goals as goal
-
-pub returns : goal.returns
-returns c = so-stream

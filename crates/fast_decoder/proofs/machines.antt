@@ -1,0 +1,9 @@
+-- What the machine's functions do with each kind of unit.
+pub mod CutMaps
+pub mod Quick
+pub mod ShortMaps
+pub mod StartMaps
+pub mod SentItems
+pub mod PartTakes
+pub mod ScalarMachines
+pub mod ScalarSteps

@@ -1,0 +1,10 @@
+-- Devices of contracts within the crates and of proofs: invariants, models of state, relations in between.
+pub mod Handing
+pub mod Positions
+pub mod Quick
+pub mod Moving
+pub mod Passing
+pub mod Scalars
+pub mod TurnsLeft
+pub mod Serving
+pub mod AtHand

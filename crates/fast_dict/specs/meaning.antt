@@ -1,0 +1,11 @@
+-- What is meant: the contracts of public functions rest on these definitions.
+pub mod Dictionary
+pub mod Operators
+pub mod Previous
+pub mod Stores
+pub mod Commands
+pub mod Slots
+pub mod Lists
+pub mod Answers
+pub mod Sending
+pub mod Rule

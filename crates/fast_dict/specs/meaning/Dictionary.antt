@@ -1,0 +1,39 @@
+-- Dictionaries. In the product Previous is the view of the Rust enum of that name.
+use Rattle.std.specs.Prelude.{ℕ, List, [], ◌∷◌, replicate, slice_index_or, slice_set, length, Option, Some, None}
+use Rattle.fast_value.specs.declared.kinds.Kind.{Kind}
+use Rattle.fast_value.specs.meaning.Kinds.{ScalarData}
+
+-- what an entry holds
+-- FAST 1.1: Template Definition, Dictionaries and Previous Values.
+pub data PreviousData : Type 0 where
+  undefined : PreviousData
+  empty : PreviousData
+  assigned : Kind → ScalarData → PreviousData
+
+-- A finite map from the entries to what they hold: the entry's number is the place in the list.
+-- FAST 1.1: Template Definition, Dictionaries and Previous Values.
+abbrev pub Dictionary : Type 0
+Dictionary = List PreviousData
+
+-- all entries undefined
+-- FAST 1.1: Template Definition, Dictionaries and Previous Values.
+abbrev pub fresh : ℕ → Dictionary
+fresh entries = replicate entries undefined
+
+-- all entries but the identifier's undefined
+-- FAST 1.1: Template Definition, Dictionaries and Previous Values.
+abbrev pub reset : Dictionary → Dictionary
+reset [] = []
+reset (identifier ∷ others) = identifier ∷ fresh (length others)
+
+-- What an operator reads and writes. Without an entry there is nothing to read, and nothing is written.
+-- FAST 1.1: Template Definition, Dictionaries and Previous Values.
+abbrev pub previous_at : Option ℕ → Dictionary → PreviousData
+previous_at None d = undefined
+previous_at (Some e) d = slice_index_or d e undefined
+
+-- the dictionary with another previous value at an entry, if there is one
+-- FAST 1.1: Template Definition, Dictionaries and Previous Values.
+abbrev pub write_at : Option ℕ → PreviousData → Dictionary → Dictionary
+write_at None p d = d
+write_at (Some e) p d = slice_set d e p

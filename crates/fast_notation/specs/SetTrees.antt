@@ -1,9 +1,0 @@
--- The tree of a set that was read.
-use Rattle.std.specs.Prelude.{map}
-use Rattle.fast_notation.specs.declared.sets.CheckedSet.{CheckedSet}
-use Rattle.fast_tree.specs.Nodes.{instructions_from, template_data}
-use Rattle.fast_tree.specs.Tree.{Tree}
-
--- the tree that its nodes and templates stand for
-abbrev pub tree_of_set : CheckedSet → Tree
-tree_of_set s = record { templates = map (template_data (instructions_from 0 s.nodes.items)) s.templates.items; entries = s.entries }

@@ -1,0 +1,16 @@
+-- Devices of contracts within the crates and of proofs: invariants, models of state, relations in between.
+pub mod Segments
+pub mod Reading
+pub mod WrittenSets
+pub mod Unwritten
+pub mod WrittenReading
+pub mod Sound
+pub mod References
+pub mod Chains
+pub mod EntryKeys
+pub mod Built
+pub mod Builders
+pub mod ReadSets
+pub mod Extents
+pub mod Cycles
+pub mod Codes

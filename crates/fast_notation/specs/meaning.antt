@@ -1,0 +1,11 @@
+-- What is meant: the contracts of public functions rest on these definitions.
+pub mod Notation
+pub mod Uses
+pub mod InPlace
+pub mod Checked
+pub mod Refused
+pub mod Labels
+pub mod Faults
+pub mod Firsts
+pub mod FivePasses
+pub mod SetTrees

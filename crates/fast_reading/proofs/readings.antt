@@ -1,0 +1,6 @@
+-- Messages that are read of their lines.
+pub mod Back
+pub mod Bodies
+pub mod Parts
+pub mod Said
+pub mod ReadAgain

@@ -1,0 +1,6 @@
+-- What is meant: the contracts of public functions rest on these definitions.
+pub mod Back
+pub mod Distinct
+pub mod Lined
+pub mod Reading
+pub mod Unsaid

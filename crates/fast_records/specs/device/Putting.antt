@@ -1,0 +1,28 @@
+-- Messages and their parts, by the events that say them.
+use Rattle.std.specs.Prelude.{◌≡◌, ℕ, List, [], ◌∷◌, ◌++◌}
+use Rattle.fast_value.specs.meaning.Messages.{ItemData, Slots, Elements, count}
+use Rattle.fast_tree.specs.meaning.Tree.{Instruction, Body}
+use Rattle.fast_stream.specs.meaning.Events.{EventData, GroupEnd, ElementStart, ElementEnd, SequenceEnd, MessageEnd, element_events, item_events, body_events}
+use Rattle.fast_records.specs.declared.putting.Mark.{Mark}
+use Rattle.fast_records.specs.declared.putting.Mark.TheVariants as Is
+
+-- the event of a mark
+abbrev pub mark_event : Mark → EventData
+mark_event Is.ElementStart = ElementStart
+mark_event Is.ElementEnd = ElementEnd
+mark_event Is.SequenceEnd = SequenceEnd
+mark_event Is.GroupEnd = GroupEnd
+mark_event Is.MessageEnd = MessageEnd
+
+-- the first events are those of the slots, and then the mark
+abbrev pub IsBodyPut : Body → Mark → Slots → List EventData → List EventData → Type 0
+IsBodyPut body end vs from to = from ≡ body_events body vs ++ mark_event end ∷ to
+
+-- the first events are those of the item
+abbrev pub IsItemPut : Instruction → ItemData → List EventData → List EventData → Type 0
+IsItemPut i x from to = from ≡ item_events i x ++ to
+
+-- the first events are those of so many elements, and then the end of the sequence
+pub record AreRowsPut (body : Body) (n : ℕ) (rows : Elements) (from to : List EventData) : Type 0 where
+  pub counted : count rows ≡ n
+  pub said : from ≡ element_events (body_events body) rows ++ SequenceEnd ∷ to

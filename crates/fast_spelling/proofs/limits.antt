@@ -1,0 +1,4 @@
+-- Whether a message suits its template and keeps to the limits.
+pub mod Depths
+pub mod Suited
+pub mod Checked

@@ -1,0 +1,5 @@
+-- What is meant: the contracts of public functions rest on these definitions.
+pub mod Tree
+pub mod Sizes
+pub mod AsWritten
+pub mod Entries

@@ -1,0 +1,78 @@
+-- The units of a field that is neither a length nor a part of a decimal: which one is in hand, and what bytes of it have come.
+use Rattle.std.specs.Prelude.{◌≡◌, ◌≢◌, ℕ, ◌-◌, ◌<◌, Bool, true, false, List, [], ◌++◌, length, ℤ, Ok}
+use Rattle.fast_wire.specs.meaning.Entities.{HaveNoStop}
+use Rattle.fast_value.specs.declared.kinds.Kind.TheVariants.{Ascii}
+use Rattle.fast_value.specs.meaning.Limits.{Bounds}
+use Rattle.fast_tree.specs.declared.operators.Operator.TheVariants.{Constant, Delta}
+use Rattle.fast_tree.specs.meaning.Tree.{FieldData}
+use Rattle.fast_dict.specs.meaning.Dictionary.{PreviousData}
+use Rattle.fast_dict.specs.meaning.Operators.{Kept, kept_length, subtraction_step}
+use Rattle.fast_stream.specs.meaning.Phrases.{cut}
+use Rattle.fast_stream.specs.meaning.Units.{ascii_text}
+use Rattle.fast_stream.specs.meaning.Fields.{field_term}
+use Rattle.fast_units.specs.declared.stages.Stage.{Stage}
+use Rattle.fast_units.specs.declared.stages.Stage.TheVariants.{Mantissa, MantissaDelta, Vector, Part, PartVector}
+use Rattle.fast_units.specs.declared.stages.FieldStep.{FieldStep}
+use Rattle.fast_units.specs.declared.stages.FieldStep.TheVariants.{Settled, Next}
+use Rattle.fast_units.specs.declared.source.ValueSource.{ValueSource}
+use Rattle.fast_units.specs.declared.progress.Progress.{Progress}
+use Rattle.fast_units.specs.declared.progress.Progress.TheVariants.{Whole, Wrong, Cut}
+
+-- The field stands in the stream.
+pub record IsSent (f : FieldData) (bit : Bool) : Type 0 where
+  pub varies : f.operator ≢ Constant
+  pub as_sent : (l : Bounds) (p : PreviousData) → field_term l f p bit ≡ field_term l f p true
+
+-- The field begins with an ASCII text.
+abbrev pub IsAsciiFirst : FieldData → Type 0
+IsAsciiFirst f = (f.kind ≡ Ascii) × (f.operator ≢ Delta)
+
+-- The stage reads an integer: so a part's size.
+abbrev pub IsNumberStage : FieldData → Stage → Type 0
+IsNumberStage f (Mantissa e) = Unit {0}
+IsNumberStage f (MantissaDelta e) = Unit {0}
+IsNumberStage f (Vector n) = ⊥
+IsNumberStage f (Part k) = f.kind ≢ Ascii
+IsNumberStage f (PartVector k n) = ⊥
+
+-- These bytes of the part of a text delta have come.
+abbrev pub IsPartFront : Bounds → FieldData → PreviousData → ℤ → List ℕ → Type 0
+IsPartFront l f p k front = (kept : Kept) × (subtraction_step f p k ≡ Ok kept) × ascii_text false (l.max_text - kept_length kept) front [] cut
+
+-- The stage reads a text or a run of bytes, of which these have come.
+abbrev pub IsBytesStage : Bounds → FieldData → PreviousData → Stage → List ℕ → Type 0
+IsBytesStage l f p (Mantissa e) front = ⊥
+IsBytesStage l f p (MantissaDelta e) front = ⊥
+IsBytesStage l f p (Vector n) front = length front < n
+IsBytesStage l f p (Part k) front = (f.kind ≡ Ascii) × IsPartFront l f p k front
+IsBytesStage l f p (PartVector k n) front = length front < n
+
+-- The stage reads a text or a run of bytes, and none of them has come; or it reads an integer.
+abbrev pub IsNextStage : Bounds → FieldData → PreviousData → Stage → Type 0
+IsNextStage l f p (Mantissa e) = Unit {0}
+IsNextStage l f p (MantissaDelta e) = Unit {0}
+IsNextStage l f p (Vector n) = 0 < n
+IsNextStage l f p (Part k) = Unit {0}
+IsNextStage l f p (PartVector k n) = 0 < n
+
+-- what is in hand of an integer: nothing, once it is whole, and all bytes, where it is cut
+abbrev pub IsEntityKept : {T : Type 0} → List ℕ → List ℕ → List ℕ → Progress T → Type 0
+IsEntityKept front rest after (Whole x n) = after ≡ []
+IsEntityKept front rest after (Wrong c n) = Unit {0}
+IsEntityKept front rest after Cut = (after ≡ front ++ rest) × HaveNoStop after × (length after < 10)
+
+-- a stage that comes next begins
+abbrev pub IsNextOf : Bounds → FieldData → PreviousData → Progress FieldStep → Type 0
+IsNextOf l f p (Whole (Next stage) n) = IsNextStage l f p stage
+IsNextOf l f p other = Unit {0}
+
+-- a unit that was the field's last
+abbrev pub settled : Progress ValueSource → Progress FieldStep
+settled (Whole source n) = Whole (Settled source) n
+settled (Wrong c n) = Wrong c n
+settled Cut = Cut
+
+-- No other unit follows.
+abbrev pub SettlesOnly : Progress FieldStep → Type 0
+SettlesOnly (Whole (Next stage) n) = ⊥
+SettlesOnly other = Unit {0}

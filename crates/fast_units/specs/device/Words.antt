@@ -1,0 +1,54 @@
+-- Words for what clauses on fields say again and again: of a dictionary in memory, and of an instruction.
+use Rattle.std.specs.Prelude.{◌≡◌, ℕ, ◌<◌, Bool, true, List, ◌++◌, length, Some, Result}
+use Rattle.fast_wire.specs.meaning.Entities.{HaveNoStop}
+use Rattle.fast_value.specs.declared.codes.Code.{Code}
+use Rattle.fast_value.specs.meaning.Limits.{Bounds}
+use Rattle.fast_value.specs.declared.settings.Limits.{Limits}
+use Rattle.fast_tree.specs.declared.instructions.FieldInstruction.{FieldInstruction}
+use Rattle.fast_tree.specs.device.Nodes.{field_data}
+use Rattle.fast_dict.specs.meaning.Dictionary.{PreviousData, previous_at}
+use Rattle.fast_dict.specs.meaning.Operators.{Outcome}
+use Rattle.fast_dict.specs.declared.slots.Slots.{Slots}
+use Rattle.fast_dict.specs.meaning.Slots.{slots_dictionary, slots_terms}
+use Rattle.fast_stream.specs.meaning.Fields.{field_term}
+use Rattle.fast_stream.specs.device.Readers.{Reader}
+use Rattle.fast_stream.specs.device.GrammarReaders.{reader_of}
+use Rattle.fast_units.specs.device.Settling.{Serves, IsLastUnit}
+use Rattle.fast_units.specs.device.Stages.{IsFieldUnit}
+use Rattle.fast_units.specs.device.Deciding.{IsDecided}
+use Rattle.fast_units.specs.declared.source.ValueSource.{ValueSource}
+use Rattle.fast_units.specs.declared.stages.FieldStep.{FieldStep}
+use Rattle.fast_units.specs.declared.progress.Progress.{Progress}
+use Rattle.fast_units.specs.declared.progress.Progress.TheVariants.{Cut}
+
+-- The dictionary serves the field.
+abbrev pub ServesField : Slots → FieldInstruction → Type 0
+ServesField slots field = Serves (length (slots_dictionary slots)) (slots_terms slots) (field_data field)
+
+-- The field's entry, if it has one, is one of the dictionary.
+abbrev pub HasEntryOf : Slots → FieldInstruction → Type 0
+HasEntryOf slots field = (e : ℕ) → (field_data field).entry ≡ Some e → e < length (slots_dictionary slots)
+
+-- what the field's entry holds
+abbrev pub previous_of : Slots → FieldInstruction → PreviousData
+previous_of slots field = previous_at (field_data field).entry (slots_dictionary slots)
+
+-- what is read of the field where it stands in the stream
+abbrev pub sent_reader : Bool → Bounds → Slots → FieldInstruction → Reader Outcome
+sent_reader strict l slots field = reader_of strict (field_term l (field_data field) (previous_of slots field) true)
+
+-- What the bytes in hand and those behind them make of the field's last unit.
+abbrev pub IsLastUnitOf : Reader Outcome → FieldInstruction → List ℕ → List ℕ → Slots → Slots → List ℕ → Progress ValueSource → Type 0
+IsLastUnitOf r field front rest old new scratch p = IsLastUnit r (field_data field) front rest (slots_dictionary old) (slots_dictionary new) scratch p
+
+-- What they make of a unit of the field.
+abbrev pub IsUnitOf : Limits → Reader Outcome → FieldInstruction → List ℕ → List ℕ → Slots → Slots → List ℕ → Progress FieldStep → Type 0
+IsUnitOf l r field front rest old new scratch p = IsFieldUnit l r (field_data field) front rest (slots_dictionary old) (slots_dictionary new) scratch p
+
+-- This is decided for the field, in its dictionary.
+abbrev pub IsDecidedIn : Result Outcome Code → FieldInstruction → Slots → Slots → Result ValueSource Code → Type 0
+IsDecidedIn decided field old new result = IsDecided decided (field_data field) (slots_dictionary old) (slots_dictionary new) result
+
+-- Where an entity is cut, its bytes are kept: they have no stop, and there is room for one more.
+abbrev pub IsKeptCut : {T : Type 0} → List ℕ → List ℕ → List ℕ → Progress T → Type 0
+IsKeptCut front rest kept p = p ≡ Cut → (kept ≡ front ++ rest) × HaveNoStop kept × (length kept < 10)

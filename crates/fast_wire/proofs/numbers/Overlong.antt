@@ -1,0 +1,114 @@
+-- Which entities are overlong.
+use Rattle.std.proofs.Common.{◌≡◌, ℕ, zero, suc, ◌+◌, ◌*◌, ◌%◌, ◌^◌, ◌<◌, ◌≤◌, List, [], ◌∷◌, refl, ap, sym, ◌∙◌, length, get_or, arith, lit<, eqb, leb}
+use Rattle.std.specs.Prelude.{ℤ, pos, ◌-ℤ◌, ◌↔◌, Bool, true, false, if◌then◌else◌}
+use Rattle.std.proofs.Math.Nat.{one-le-pow, mul-le-mul_right, pow-suc, le_of_mul-le-mul_right}
+use Rattle.std.proofs.lemmas.Int.{ints}
+use Rattle.std.proofs.lemmas.Bool.Decides.{Decides-eqb}
+use Rattle.fast_wire.specs.meaning.Entities.{IsEntity, number, has_sign, signed, IsOverlong}
+use Rattle.fast_wire.proofs.numbers.Signs.{signed_clear, signed_set}
+
+no_factor : (a p : ℕ) → 1 ≤ p → a * p ≡ 0 → a ≡ 0
+no_factor zero p h e = refl
+no_factor (suc a) p h e =
+    let k : 1 * p ≤ suc a * p = mul-le-mul_right p (omega arith) in
+    omega arith
+
+-- the first byte of two or more has no stop bit
+pub first_byte : (w : List ℕ) → IsEntity w → 1 < length w → get_or w 0 0 < 128
+first_byte w ([], last, e, unstopped, stop) l = absurd (omega (arith, ap length e))
+first_byte w (x ∷ front, last, e, unstopped, stop) l = rw e (unstopped 0 0 (omega arith))
+
+overlong_is_long : (value : List ℕ → ℤ) (w : List ℕ) → IsOverlong value w → 1 < length w
+overlong_is_long value w (x, y, r, d, e) = rw d (omega arith)
+
+-- An unsigned integer is overlong where a zero stands in front.
+zero_is_overlong : (w : List ℕ) → 1 < length w → get_or w 0 0 ≡ 0 → IsOverlong (λ v. pos (number v)) w
+zero_is_overlong [] l e = absurd (omega arith)
+zero_is_overlong (x ∷ []) l e = absurd (omega arith)
+zero_is_overlong (x ∷ y ∷ w) l e =
+    let k : (x % 128) * 128 ^ length (y ∷ w) ≡ 0 = rw e (omega arith) in
+    (x, y, w, refl, ap pos (omega arith))
+
+overlong_is_zero : (w : List ℕ) → IsEntity w → IsOverlong (λ v. pos (number v)) w → get_or w 0 0 ≡ 0
+overlong_is_zero w entity (x, y, r, d, e) =
+    let same : pos (number (y ∷ r)) ≡ pos (number (x ∷ y ∷ r)) = e ∙ ap (λ v. pos (number v)) d in
+    let n : number (y ∷ r) ≡ number (x ∷ y ∷ r) = cc in
+    let small : get_or w 0 0 < 128 = first_byte w entity (rw d (omega arith)) in
+    let x_small : x < 128 = rw d at small in
+    let z : x % 128 ≡ 0 = no_factor (x % 128) (128 ^ length (y ∷ r)) (one-le-pow (length (y ∷ r)) 128 (lit< tt)) (omega arith) in
+    rw d (omega arith)
+
+pub overlong_by_zero : (w : List ℕ) → IsEntity w → 1 < length w → (eqb (get_or w 0 0) 0 ≡ true) ↔ IsOverlong (λ v. pos (number v)) w
+overlong_by_zero w entity l = (
+  λ t. zero_is_overlong w l ((Decides-eqb (get_or w 0 0) 0).0 t),
+  λ o. (Decides-eqb (get_or w 0 0) 0).1 (overlong_is_zero w entity o),
+)
+
+-- seven bits like a sign
+abbrev pub sevens_of : Bool → ℕ
+sevens_of sign = if sign then 127 else 0
+
+sevens_small : (s : Bool) → sevens_of s % 128 ≡ sevens_of s
+sevens_small false = refl
+sevens_small true = refl
+
+-- One byte more in front that repeats the sign changes nothing.
+pub sign_repeats : (x : ℕ) (w : List ℕ) (s : Bool) → has_sign w ≡ s → x % 128 ≡ sevens_of s → signed w ≡ signed (x ∷ w)
+sign_repeats x w false h e =
+    let n : number w ≡ number (x ∷ w) = rw e (omega arith) in
+    signed_clear w h ∙ ap pos n ∙ sym (signed_clear (x ∷ w) (ap (λ (n : ℕ). leb 64 n) e))
+sign_repeats x w true h e =
+    let n : number (x ∷ w) ≡ 127 * 128 ^ length w + number w = rw e refl in
+    let p : 128 ^ length (x ∷ w) ≡ 128 ^ length w * 128 = pow-suc 128 (length w) in
+    let k : pos (number w) -ℤ pos (128 ^ length w) ≡ pos (number (x ∷ w)) -ℤ pos (128 ^ length (x ∷ w)) = omega (arith, ints) in
+    signed_set w h ∙ k ∙ sym (signed_set (x ∷ w) (ap (λ (n : ℕ). leb 64 n) e))
+
+same_factor : (a b p : ℕ) → 1 ≤ p → a * p ≡ b * p → a ≡ b
+same_factor a b p h e =
+    let k : a ≤ b = le_of_mul-le-mul_right {k = p} (omega arith) (omega arith) in
+    let l : b ≤ a = le_of_mul-le-mul_right {k = p} (omega arith) (omega arith) in
+    omega arith
+
+-- Nothing else in front leaves the integer the same.
+sign_told : (x : ℕ) (w : List ℕ) (s t : Bool) → x < 128 → has_sign w ≡ s → leb 64 (x % 128) ≡ t → signed w ≡ signed (x ∷ w) → x ≡ (if s then 127 else 0)
+sign_told x w false false l h g e =
+    let p = one-le-pow (length w) 128 (lit< tt) in
+    let k : pos (number w) ≡ pos (number (x ∷ w)) = sym (signed_clear w h) ∙ e ∙ signed_clear (x ∷ w) g in
+    let n : number w ≡ number (x ∷ w) = cc in
+    let z : x % 128 ≡ 0 = no_factor (x % 128) (128 ^ length w) p (omega arith) in
+    omega arith
+sign_told x w false true l h g e =
+    let p : 1 ≤ 128 ^ length w = one-le-pow (length w) 128 (lit< tt) in
+    let k : pos (number w) ≡ pos (number (x ∷ w)) -ℤ pos (128 ^ length (x ∷ w)) = sym (signed_clear w h) ∙ e ∙ signed_set (x ∷ w) g in
+    let q : 128 ^ length (x ∷ w) ≡ 128 ^ length w * 128 = pow-suc 128 (length w) in
+    let m : (x % 128) * 128 ^ length w ≤ 127 * 128 ^ length w = mul-le-mul_right (128 ^ length w) (omega arith) in
+    absurd (omega (arith, ints))
+sign_told x w true false l h g e =
+    let p : 1 ≤ 128 ^ length w = one-le-pow (length w) 128 (lit< tt) in
+    let k : pos (number w) -ℤ pos (128 ^ length w) ≡ pos (number (x ∷ w)) = sym (signed_set w h) ∙ e ∙ signed_clear (x ∷ w) g in
+    absurd (omega (arith, ints))
+sign_told x w true true l h g e =
+    let p : 1 ≤ 128 ^ length w = one-le-pow (length w) 128 (lit< tt) in
+    let k : pos (number w) -ℤ pos (128 ^ length w) ≡ pos (number (x ∷ w)) -ℤ pos (128 ^ length (x ∷ w)) = sym (signed_set w h) ∙ e ∙ signed_set (x ∷ w) g in
+    let q : 128 ^ length (x ∷ w) ≡ 128 ^ length w * 128 = pow-suc 128 (length w) in
+    let m : (x % 128) * 128 ^ length w ≡ 127 * 128 ^ length w = omega (arith, ints) in
+    let z : x % 128 ≡ 127 = same_factor (x % 128) 127 (128 ^ length w) p m in
+    omega arith
+
+sign_is_overlong : (w : List ℕ) → 1 < length w → get_or w 0 0 ≡ (if has_sign (get_or w 1 0 ∷ []) then 127 else 0) → IsOverlong signed w
+sign_is_overlong [] l e = absurd (omega arith)
+sign_is_overlong (x ∷ []) l e = absurd (omega arith)
+sign_is_overlong (x ∷ y ∷ w) l e = (x, y, w, refl, sign_repeats x (y ∷ w) (has_sign (y ∷ w)) refl (ap (λ (n : ℕ). n % 128) e ∙ sevens_small (has_sign (y ∷ w))))
+
+overlong_is_sign : (w : List ℕ) → IsEntity w → IsOverlong signed w → get_or w 0 0 ≡ (if has_sign (get_or w 1 0 ∷ []) then 127 else 0)
+overlong_is_sign w entity (x, y, r, d, e) =
+    let small : get_or w 0 0 < 128 = first_byte w entity (rw d (omega arith)) in
+    let x_small : x < 128 = rw d at small in
+    let k : x ≡ (if has_sign (y ∷ r) then 127 else 0) = sign_told x (y ∷ r) (has_sign (y ∷ r)) (has_sign (x ∷ y ∷ r)) x_small refl refl (e ∙ ap signed d) in
+    rw d k
+
+pub overlong_by_sign : (w : List ℕ) (s : ℕ) → IsEntity w → 1 < length w → s ≡ (if has_sign (get_or w 1 0 ∷ []) then 127 else 0) → (eqb (get_or w 0 0) s ≡ true) ↔ IsOverlong signed w
+overlong_by_sign w s entity l e = (
+  λ t. sign_is_overlong w l ((Decides-eqb (get_or w 0 0) s).0 t ∙ e),
+  λ o. (Decides-eqb (get_or w 0 0) s).1 (overlong_is_sign w entity o ∙ sym e),
+)

@@ -1,0 +1,6 @@
+-- Where an entity ends.
+pub mod Blocks
+pub mod Stopping
+pub mod FirstStop
+pub mod ShortEntities
+pub mod Endless

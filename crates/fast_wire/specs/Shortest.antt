@@ -1,7 +1,0 @@
--- The shortest spelling of an integer.
-use Rattle.std.specs.Prelude.{◌≡◌, ℕ, Bool, true, List, ℤ, Option, IfSome}
-use Rattle.fast_wire.specs.Integers.{Range, IsWithin, SpellsInt}
-
--- The bytes spell the integer in strict mode, whatever the range that it lies in; so they are its shortest spelling.
-abbrev pub IsShortest : Bool → Bool → Option ℤ → List ℕ → Type 0
-IsShortest is_signed nullable x w = (range : Range) → range.is_signed ≡ is_signed → IfSome x (IsWithin range) → SpellsInt true range nullable x w

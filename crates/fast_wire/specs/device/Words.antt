@@ -1,0 +1,15 @@
+-- Entities as words of eight bytes.
+use Rattle.std.specs.Prelude.{◌≡◌, ℕ, ◌+◌, ◌*◌, ◌^◌, ◌≤◌, List, [], ◌∷◌, length, take}
+use Rattle.fast_wire.specs.meaning.Entities.{IsEntity, number}
+
+-- the bytes as the digits of one number to the base 256
+abbrev pub word_of : List ℕ → ℕ
+word_of [] = 0
+word_of (byte ∷ w) = byte * 2 ^ (8 * length w) + word_of w
+
+-- The bytes begin with an entity of this number and this length, at most eight.
+pub record IsShortEntity (sum len : ℕ) (w : List ℕ) : Type 0 where
+  pub whole : len ≤ length w
+  pub short : len ≤ 8
+  pub entity : IsEntity (take len w)
+  pub value : sum ≡ number (take len w)

@@ -1,0 +1,5 @@
+-- What is meant: the contracts of public functions rest on these definitions.
+pub mod Entities
+pub mod Integers
+pub mod Texts
+pub mod Maps
