@@ -8,7 +8,7 @@ mod decoding;
 mod encoding;
 mod sets;
 
-ghost use Rattle.std.specs.Prelude.{◌≡◌};
+ghost use Rattle.std.specs.Prelude.{◌≡◌, length};
 
 use arrayvec::ArrayString;
 use fast_decoder::MakeError;
