@@ -1,3 +1,4 @@
 pub mod Delivering
 pub mod Moving
+pub mod Put
 pub mod Shown
