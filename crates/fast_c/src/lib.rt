@@ -36,8 +36,8 @@ fn limits_of(strict: u32, max_text: u32, max_elements: u32, max_total: u32) -> L
 fn write_front(text: &[u8], out: &mut [u8]) -> usize
     ensures { result ≡ length text.now }
 {
-    let length = text.len().min(out.len());
-    out[..length].copy_from_slice(&text[..length]);
+    let front = text.len().min(out.len());
+    out[..front].copy_from_slice(&text[..front]);
     text.len()
 }
 

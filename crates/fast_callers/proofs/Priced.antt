@@ -23,4 +23,4 @@ pub price_by : (t : Tree) (l : Limits) (c : Columns) (q w : List ℕ) (s s' : La
 price_by t l c q w s s' u new columns symbol none_ours none_yet is h =
     let all = priced c q s s' h.given columns symbol h.took in
     let start : known_by s ≡ record { is_ours = false; price = None } = cc (none_ours, none_yet) in
-    (h.given, h.stream.0, h.stream.1.0, no_fault w h.stream.0 new (fault_none new.fault u is) h.stream.1.1, ap (λ (k : Known). k.price) (all ∙ ap (λ (k : Known). learn_all c q k h.given) start))
+    (h.given, h.stream.0, h.stream.1, no_fault w h.stream.0 new (fault_none new.fault u is) h.stream.2, ap (λ (k : Known). k.price) (all ∙ ap (λ (k : Known). learn_all c q k h.given) start))

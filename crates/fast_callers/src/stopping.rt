@@ -5,7 +5,7 @@ ghost use Rattle.fast_template.specs.meaning.Flat.{tree_of};
 ghost use Rattle.fast_callers.specs.meaning.Callers.{HasStopped};
 
 use crate::counting::Counter;
-use fast_decoder::{Decoder, FaultCode, MakeError};
+use fast_decoder::{Decoder, Fault, MakeError};
 use fast_template::Templates;
 use fast_value::Limits;
 use std::alloc::Global;
@@ -17,10 +17,10 @@ pub struct Stopped {
     pub messages: u64,
     /// How many bytes were read, up to the fault if there is one.
     pub bytes: u64,
-    /// What is wrong, if anything is.
-    pub code: Option<FaultCode>,
-    /// Whether the stream ends inside a message, with no fault.
-    pub is_cut: bool,
+    /// What is wrong, and where, if anything is.
+    pub fault: Option<Fault>,
+    /// Whether there is no fault, and no message that is begun and not whole.
+    pub is_between: bool,
 }
 
 /// Reads a stream up to its first fault, or to its end. A feed handler would tell the fault, reset the decoder, and go on where the next
@@ -39,14 +39,12 @@ pub fn up_to_fault(
 {
     let mut decoder = Decoder::new(alloc, templates, limits)?;
     let mut counter = Counter { messages: 0 };
-    let code = match decoder.feed(stream, &mut counter) {
-        Ok(()) => None,
-        Err(fault) => Some(fault.code),
-    };
+    // the decoder tells the fault below
+    let _ = decoder.feed(stream, &mut counter);
     Ok(Stopped {
         messages: counter.messages,
         bytes: decoder.consumed(),
-        code,
-        is_cut: code.is_none() && !decoder.between(),
+        fault: decoder.fault(),
+        is_between: decoder.between(),
     })
 }

@@ -1,7 +1,7 @@
 //! Each caller once, over two trades.
 
 use fast_callers::{Columns, Price, Stopped, last_price, messages_in, up_to_fault};
-use fast_decoder::FaultCode;
+use fast_decoder::{Fault, FaultCode};
 use fast_template::Templates;
 use fast_value::{Code, Limits};
 use std::alloc::Global;
@@ -65,12 +65,15 @@ fn a_stream_stops_at_its_fault(rt: HostRuntime) -> Result<(), Fail> {
     let due = Stopped {
         messages: 2,
         bytes: 12,
-        code: Some(FaultCode::Stream(Code::D9)),
-        is_cut: false,
+        fault: Some(Fault {
+            code: FaultCode::Stream(Code::D9),
+            place: 12,
+        }),
+        is_between: false,
     };
     assert_eq!(rt; up_to_fault(alloc, &set, Limits::default(), WRONG)?, due);
     let cut = up_to_fault(alloc, &set, Limits::default(), &TRADES[..9])?;
-    assert!(rt; cut.is_cut);
+    assert!(rt; cut.fault.is_none() && !cut.is_between);
     assert_eq!(rt; cut.messages, 1);
     Ok(())
 }

@@ -1,13 +1,15 @@
 -- What the callers say of a stream.
-use Rattle.std.specs.Prelude.{◌≡◌, ℕ, ◌+◌, ◌^◌, ◌≤◌, Bool, true, false, if◌then◌else◌, ◌&&◌, nat_eq, List, [], ◌∷◌, length, Option, Some, None}
+use Rattle.std.specs.Prelude.{◌≡◌, ℕ, ◌+◌, Bool, false, if◌then◌else◌, ◌&&◌, nat_eq, List, [], ◌∷◌, Option, Some, None}
 use Rattle.std.specs.Str.{bytes_eq}
 use Rattle.fast_value.specs.declared.settings.Limits.{Limits}
 use Rattle.fast_value.specs.meaning.Kinds.{ScalarData, Dec, AsciiText}
 use Rattle.fast_tree.specs.meaning.Tree.{Tree}
+use Rattle.fast_stream.specs.declared.faults.Fault.{Fault}
 use Rattle.fast_stream.specs.declared.faults.FaultCode.{FaultCode}
 use Rattle.fast_stream.specs.declared.faults.FaultCode.TheVariants as Why
 use Rattle.fast_stream.specs.meaning.Events.{EventData, FieldValue, MessageEnd}
 use Rattle.fast_stream.specs.meaning.Streams.{End, between, inside, faulted, Stream}
+use Rattle.fast_stream.specs.meaning.Account.{Account, TellsStream}
 use Rattle.fast_callers.specs.declared.counting.Counter.{Counter}
 use Rattle.fast_callers.specs.declared.prices.Price.{Price}
 use Rattle.fast_callers.specs.declared.prices.Columns.{Columns}
@@ -68,19 +70,22 @@ pub record TakesPrice (old : LastPrice) (e : EventData) (new : LastPrice) : Type
 abbrev pub HasLastPrice : Tree → Limits → Columns → List ℕ → List ℕ → Option Price → Type 0
 HasLastPrice t l c q w p = (es : List EventData) × (e : End) × Stream t l w es e × HasNoFault e × (p ≡ (learn_all c q (record { is_ours = false; price = None }) es).price)
 
--- whether a stream that has no fault ends inside a message
-abbrev pub IsCut : End → Bool → Type 0
-IsCut between b = b ≡ false
-IsCut inside b = b ≡ true
-IsCut (faulted c place) b = ⊥
+-- the code is one of a stream's
+abbrev pub IsStreamCode : FaultCode → Type 0
+IsStreamCode (Why.Stream c) = Unit {0}
+IsStreamCode Why.L4 = ⊥
+IsStreamCode Why.SinkStopped = ⊥
 
--- what is so by what is wrong
-abbrev pub StopsAt : Tree → Limits → List ℕ → Stopped → Option FaultCode → Type 0
-StopsAt t l w s None = (es : List EventData) × (e : End) × Stream t l w es e × (s.messages ≡ whole es) × (s.bytes ≡ length w) × IsCut e s.is_cut
-StopsAt t l w s (Some (Why.Stream c)) = (es : List EventData) × Stream t l w es (faulted c s.bytes) × (s.messages ≡ whole es) × (s.is_cut ≡ false)
-StopsAt t l w s (Some Why.L4) = 2 ^ 64 ≤ length w
-StopsAt t l w s (Some Why.SinkStopped) = s.is_cut ≡ false
+-- the fault is none, or one of the stream
+abbrev pub IsOfStream : Option Fault → Type 0
+IsOfStream None = Unit {0}
+IsOfStream (Some f) = IsStreamCode f.code
 
--- How far the stream was read: without a fault to its end, else to the fault, with the messages that are whole up to there.
+-- what is told of where a stream was left
+abbrev pub told : Stopped → Account
+told s = record { is_between = s.is_between; fault = s.fault; consumed = s.bytes }
+
+-- How far the stream was read: to its end or to its first fault, with the messages that are whole up to there. Nothing is said where its
+-- bytes or its messages are more than can be counted.
 abbrev pub HasStopped : Tree → Limits → List ℕ → Stopped → Type 0
-HasStopped t l w s = StopsAt t l w s s.code
+HasStopped t l w s = IsOfStream s.fault → (es : List EventData) × TellsStream t l w es (told s) × (s.messages ≡ whole es)
