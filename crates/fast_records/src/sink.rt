@@ -133,8 +133,8 @@ impl<'a> RecordSink<'a> {
     /// Takes an event whose record and text these are.
     #[inline(always)]
     fn keep(&mut self, next: Record, text: &[u8], event: Event<'_>) -> Result<(), Stop>
-        requires is { next ≡ record_of self.old.used (event_data event.entry) }
-        requires says { text.now ≡ event_text (event_data event.entry) }
+        requires is { next ≡ record_of self.old.used (event_data event) }
+        requires says { text.now ≡ event_text (event_data event) }
         ensures ok { OnOk result (TakesRecord self.old (event_data event.entry) self.new) }
         ensures err { OnErr result (RefusesRecord self.old (event_data event.entry) self.new) }
     {
@@ -153,8 +153,8 @@ impl<'a> RecordSink<'a> {
         value: Scalar<'_>,
         text: &[u8],
     ) -> Result<(), Stop>
-        requires is { (p : ℕ) → text_record kind node p text.now ≡ field_record p node (scalar_data value.entry) }
-        requires says { text.now ≡ text_of (scalar_data value.entry) }
+        requires is { (p : ℕ) → text_record kind node p text.now ≡ field_record p node (scalar_data value) }
+        requires says { text.now ≡ text_of (scalar_data value) }
         ensures ok { OnOk result (TakesRecord self.old (FieldValue node (scalar_data value.entry)) self.new) }
         ensures err { OnErr result (RefusesRecord self.old (FieldValue node (scalar_data value.entry)) self.new) }
     {
