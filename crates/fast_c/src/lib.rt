@@ -5,7 +5,6 @@
 #![tactic(auto)]
 
 mod decoding;
-mod encoding;
 mod sets;
 
 ghost use Rattle.std.specs.Prelude.{◌≡◌, length};

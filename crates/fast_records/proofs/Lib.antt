@@ -1,4 +1,3 @@
 pub mod Delivering
 pub mod Moving
-pub mod Put
 pub mod Shown

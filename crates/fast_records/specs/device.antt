@@ -1,5 +1,4 @@
 -- Devices of contracts within the crates and of proofs: invariants, models of state, relations in between.
-pub mod Putting
 pub mod Room
 pub mod Sink
 pub mod Waiting
