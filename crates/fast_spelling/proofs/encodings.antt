@@ -6,3 +6,4 @@ pub mod Progress
 pub mod Excluded
 pub mod Whole
 pub mod Late
+pub mod Sealed

@@ -2,7 +2,7 @@
 //! again from the front, by `suiting`, `measuring` and `writing`, for the fault that comes first.
 
 ghost use Rattle.std.specs.Prelude.{◌≡◌, ◌+◌, ◌<◌, ◌≤◌, length, Some, OnOk, IfOk, IsTrue, option_map};
-ghost use Rattle.fast_value.specs.meaning.Messages.{total};
+ghost use Rattle.fast_value.specs.meaning.Messages.{one, total};
 ghost use Rattle.fast_value.specs.meaning.Views.{item_data, message_data, slots_data};
 ghost use Rattle.fast_template.specs.meaning.Flat.{nodes_of, tree_of};
 ghost use Rattle.fast_tree.specs.device.Numbers.{AreBelow};
@@ -11,7 +11,7 @@ ghost use Rattle.fast_spelling.specs.device.Checked.{IsAccepted};
 ghost use Rattle.fast_spelling.specs.meaning.Encoding.{Encodes, EncodesBody, EncodesMessage};
 ghost use Rattle.fast_spelling.specs.device.Fields.{Wrote};
 ghost use Rattle.fast_spelling.specs.device.Nodes.{instruction_in, IsReady, Keeps};
-ghost use Rattle.fast_spelling.specs.meaning.Suiting.{IsKnownAs, SuitsTemplate, SuitsBody, FitsLimits, AreWithinLimits, IsRight};
+ghost use Rattle.fast_spelling.specs.meaning.Suiting.{IsKnownAs, Suits, SuitsTemplate, SuitsBody, FitsLimits, AreWithinLimits, IsRight};
 ghost use Rattle.fast_value.specs.meaning.Kinds.{text_of};
 ghost use Rattle.fast_value.specs.meaning.Values.{value_data};
 
@@ -130,6 +130,10 @@ fn try_slot(
     ensures keeps { Keeps ledger.old ledger.new }
 {
     match slot {
+        Some(Item::One(value)) => {
+            try_value(templates, limits, node, value, draft, ledger)?;
+            Ok(room)
+        }
         Some(item) => try_item(templates, limits, widths, node, item, room, draft, ledger),
         None => {
             if !may_be_absent(templates, node) {
@@ -141,9 +145,47 @@ fn try_slot(
     }
 }
 
-/// Writes an item of the instruction of a node.
-#[cycle(check)]
+/// Writes a value of the instruction of a node.
 #[inline(always)]
+fn try_value(
+    templates: &Templates,
+    limits: Limits,
+    node: u32,
+    value: &Value,
+    draft: &mut Draft,
+    ledger: &mut Ledger,
+) -> Result<(), EncodeFault>
+    requires node { node < length (nodes_of templates.now) }
+    requires ready { IsReady templates.now limits ledger.old }
+    ensures suits { OnOk result (Suits (instruction_in (nodes_of templates.now) node) (Some (one (value_data value.now)))) }
+    ensures fits { OnOk result (length (text_of (value_data value.now)) ≤ limits.max_text) }
+    ensures ok { OnOk result
+        (Wrote (Encodes limits (instruction_in (nodes_of templates.now) node) ledger.old.now
+        (Some (one (value_data value.now)))) draft.old draft.new ledger.new.now) }
+    ensures keeps { Keeps ledger.old ledger.new }
+{
+    match &templates.node(node).shape {
+        Shape::Field(field) => {
+            if !may_be(limits, field.kind, value) {
+                return Err(EncodeFault::E2);
+            }
+            write_field(draft, ledger, field, Some(value.as_scalar()))?;
+            Ok(())
+        }
+        Shape::Decimal { exponent, mantissa } => {
+            if !may_be(limits, Kind::Decimal, value) {
+                return Err(EncodeFault::E2);
+            }
+            write_decimal(exponent, mantissa, value, draft, ledger)?;
+            Ok(())
+        }
+        Shape::Group { .. } | Shape::Sequence { .. } => Err(EncodeFault::E2),
+    }
+}
+
+/// Writes a group or a sequence of the instruction of a node.
+#[cycle(check)]
+#[inline(never)]
 fn try_item(
     templates: &Templates,
     limits: Limits,
@@ -165,25 +207,12 @@ fn try_item(
     ensures keeps { Keeps ledger.old ledger.new }
 {
     match (&templates.node(node).shape, item) {
-        (Shape::Field(field), Item::One(value)) => {
-            if !may_be(limits, field.kind, value) {
-                return Err(EncodeFault::E2);
-            }
-            write_field(draft, ledger, field, Some(value.as_scalar()))?;
-            Ok(room)
-        }
-        (Shape::Decimal { exponent, mantissa }, Item::One(value)) => {
-            if !may_be(limits, Kind::Decimal, value) {
-                return Err(EncodeFault::E2);
-            }
-            write_decimal(exponent, mantissa, value, draft, ledger)?;
-            Ok(room)
-        }
         (Shape::Group { optional, body }, Item::Group(slots)) => {
             draft.push_bit_if(*optional, true)?;
-            let mark = draft.mark();
+            let has_map = widths[node as usize] > 0;
+            let mark = draft.open(has_map)?;
             let left = try_body(templates, limits, widths, body, slots, room, draft, ledger)?;
-            draft.close(mark, widths[node as usize] > 0)?;
+            draft.seal(mark, has_map)?;
             Ok(left)
         }
         (Shape::Sequence { length, body }, Item::Sequence(rows)) => {
@@ -191,11 +220,12 @@ fn try_item(
                 return Err(EncodeFault::E4);
             }
             write_field(draft, ledger, length, Some(Scalar::U(rows.len() as u64)))?;
+            let has_map = widths[node as usize] > 0;
             let mut left = room - rows.len() as u32;
             for row in rows {
-                let mark = draft.mark();
+                let mark = draft.open(has_map)?;
                 left = try_body(templates, limits, widths, body, row, left, draft, ledger)?;
-                draft.close(mark, widths[node as usize] > 0)?;
+                draft.seal(mark, has_map)?;
             }
             Ok(left)
         }

@@ -1,6 +1,6 @@
 //! A message in the making.
 
-ghost use Rattle.std.specs.Prelude.{◌≡◌, ◌≤◌, ◌∷◌, ◌++◌, ℕ, List, Bool, [], true, false, if◌then◌else◌, take, drop, vec_len, slice_index_or, IfSome, IfNone, OnOk, IfErr};
+ghost use Rattle.std.specs.Prelude.{◌≡◌, ◌≤◌, ◌∷◌, ◌++◌, ℕ, List, Bool, [], true, false, if◌then◌else◌, take, drop, vec_len, slice_index_or, ◌+◌, ◌<◌, IfSome, IfNone, IfOk, OnOk, IfErr};
 ghost use Rattle.fast_wire.specs.meaning.Maps.{bits, IsMap};
 ghost use Rattle.fast_spelling.specs.declared.faults.EncodeFault.TheVariants.{E3};
 ghost use Rattle.fast_spelling.specs.device.Drafts.{IsTold, Closes};
@@ -76,7 +76,48 @@ impl Draft {
         requires { 1 ≤ vec_len self.old.bytes }
         ensures { OnOk result (Closes true [] (drop 1 self.old.bytes.items) self.old.bits.items self.new.bytes.items) }
     {
-        put_first_map(&mut self.bytes, &self.bits)
+        put_kept_map(&mut self.bytes, 0, &self.bits)
+    }
+
+    /// Begins a segment: a byte is kept for its map, if it has one.
+    ///
+    /// # Errors
+    ///
+    /// Memory was refused.
+    #[inline(always)]
+    pub fn open(&mut self, has_map: bool) -> Result<Mark, AllocError>
+        ensures mark { IfOk result (λ m. (m.bytes ≡ vec_len self.old.bytes) × (m.bits ≡ vec_len self.old.bits)) }
+        ensures bytes { OnOk result
+            (self.new.bytes.items ≡ self.old.bytes.items ++ (if has_map then 0 ∷ [] else [])) }
+        ensures bits { self.new.bits.items ≡ self.old.bits.items }
+    {
+        let mark = self.mark();
+        if has_map {
+            self.bytes.push(0)?;
+        }
+        Ok(mark)
+    }
+
+    /// Ends the segment that was opened at the mark: the map of its bits, if it has one, takes the place of the byte that was kept.
+    ///
+    /// # Errors
+    ///
+    /// E3 if no map has room for the bits; memory was refused.
+    #[inline(always)]
+    pub fn seal(&mut self, mark: Mark, has_map: bool) -> Result<(), EncodeFault>
+        requires bytes { mark.bytes + (if has_map then 1 else 0) ≤ vec_len self.old.bytes }
+        requires bits { mark.bits ≤ vec_len self.old.bits }
+        ensures ok { OnOk result
+            (Closes has_map (take mark.bytes self.old.bytes.items)
+            (drop (mark.bytes + (if has_map then 1 else 0)) self.old.bytes.items)
+            (drop mark.bits self.old.bits.items) self.new.bytes.items) }
+        ensures bits { OnOk result (self.new.bits.items ≡ take mark.bits self.old.bits.items) }
+    {
+        if has_map {
+            put_kept_map(&mut self.bytes, mark.bytes, &self.bits[mark.bits..])?;
+        }
+        self.bits.truncate(mark.bits);
+        Ok(())
     }
 
     /// Appends a presence bit of the innermost segment.
@@ -166,34 +207,36 @@ fn put_map(bytes: &mut Vec<u8>, place: usize, presence: &[bool]) -> Result<(), E
     Ok(())
 }
 
-/// Puts the shortest map of the bits in place of the first byte.
+/// Puts the shortest map of the bits in place of the byte at a place.
 ///
 /// # Errors
 ///
 /// E3 if no map has room for the bits; memory was refused.
 #[inline(always)]
-fn put_first_map(bytes: &mut Vec<u8>, presence: &[bool]) -> Result<(), EncodeFault>
-    requires { 1 ≤ vec_len bytes.old }
-    ensures { OnOk result (Closes true [] (drop 1 bytes.old.items) presence.now bytes.new.items) }
+fn put_kept_map(bytes: &mut Vec<u8>, place: usize, presence: &[bool]) -> Result<(), EncodeFault>
+    requires { place < vec_len bytes.old }
+    ensures { OnOk result
+        (Closes true (take place bytes.old.items) (drop (place + 1) bytes.old.items) presence.now bytes.new.items) }
 {
     match byte_of(presence) {
         Some(byte) => {
-            bytes[0] = byte;
+            bytes[place] = byte;
             Ok(())
         }
-        None => widen_first(bytes, presence),
+        None => widen(bytes, place, presence),
     }
 }
 
 /// The same for a map of several bytes.
 #[cold]
-fn widen_first(bytes: &mut Vec<u8>, presence: &[bool]) -> Result<(), EncodeFault>
-    requires { 1 ≤ vec_len bytes.old }
-    ensures { OnOk result (Closes true [] (drop 1 bytes.old.items) presence.now bytes.new.items) }
+fn widen(bytes: &mut Vec<u8>, place: usize, presence: &[bool]) -> Result<(), EncodeFault>
+    requires { place < vec_len bytes.old }
+    ensures { OnOk result
+        (Closes true (take place bytes.old.items) (drop (place + 1) bytes.old.items) presence.now bytes.new.items) }
 {
-    let _ = bytes.remove(0);
+    let _ = bytes.remove(place);
     match map_of(presence) {
-        Some(map) => Ok(insert(bytes, 0, map.as_slice())?),
+        Some(map) => Ok(insert(bytes, place, map.as_slice())?),
         None => Err(EncodeFault::E3),
     }
 }

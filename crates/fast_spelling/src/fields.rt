@@ -21,7 +21,10 @@ use crate::draft::Draft;
 use crate::faults::EncodeFault;
 use crate::items::write_item;
 use crate::ledger::Ledger;
-use crate::quick::{write_none, write_other, write_signed, write_unsigned};
+use crate::quick::{
+    write_ascii, write_bytes, write_none, write_signed, write_unicode, write_unsigned,
+    write_whole_decimal,
+};
 use fast_dict::operators::delta_base;
 use fast_dict::{Previous, Sent, choose};
 use fast_template::{FieldInstruction, Operator};
@@ -77,9 +80,12 @@ fn write_present(
     match value {
         Scalar::U(number) => write_unsigned(draft, ledger, field, number),
         Scalar::I(number) => write_signed(draft, ledger, field, number),
-        Scalar::Dec { .. } | Scalar::Ascii(_) | Scalar::Unicode(_) | Scalar::Bytes(_) => {
-            write_other(draft, ledger, field, value)
+        Scalar::Dec { exponent, mantissa } => {
+            write_whole_decimal(draft, ledger, field, exponent, mantissa)
         }
+        Scalar::Ascii(text) => write_ascii(draft, ledger, field, text),
+        Scalar::Unicode(text) => write_unicode(draft, ledger, field, text),
+        Scalar::Bytes(text) => write_bytes(draft, ledger, field, text),
     }
 }
 

@@ -137,9 +137,9 @@ fn write_ascii(bytes: &mut Vec<u8>, nullable: bool, text: &[u8]) -> Result<(), E
     if text[0] == 0 {
         return Err(EncodeFault::R9);
     }
-    let last = text.len() - 1;
-    bytes.extend_from_slice(&text[..last])?;
-    bytes.extend_from_slice(&[text[last] + 128])?;
+    bytes.extend_from_slice(text)?;
+    let last = bytes.len() - 1;
+    bytes[last] = text[text.len() - 1] + 128;
     Ok(())
 }
 

@@ -67,8 +67,29 @@ pub fn write_message(
     draft.close(mark, true)
 }
 
-/// Writes the template identifier (FAST 1.1, Transfer Encoding, Template Identifier).
+/// Writes the template identifier (FAST 1.1, Transfer Encoding, Template Identifier). Most often its entry holds it.
+#[inline(always)]
 pub fn write_identifier(
+    templates: &Templates,
+    limits: Limits,
+    id: u32,
+    draft: &mut Draft,
+    ledger: &mut Ledger,
+) -> Result<(), EncodeFault>
+    requires ready { IsReady templates.now limits ledger.old }
+    ensures ok { OnOk result
+        (Wrote (EncodesField limits identifier ledger.old.now (Some (U id))) draft.old draft.new ledger.new.now) }
+    ensures err { IfErr result (λ c. c ≡ Memory) }
+    ensures keeps { Keeps ledger.old ledger.new }
+{
+    match ledger.unsigned_at(0, Kind::UInt32) {
+        Some(Scalar::U(held)) if held == u64::from(id) => Ok(draft.push_bit(false)?),
+        _ => write_new_identifier(templates, limits, id, draft, ledger),
+    }
+}
+
+/// The same where its entry may hold another.
+fn write_new_identifier(
     templates: &Templates,
     limits: Limits,
     id: u32,

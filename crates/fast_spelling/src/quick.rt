@@ -31,7 +31,7 @@ use fast_value::{Kind, Scalar};
 /// # Errors
 ///
 /// E3; memory was refused. Then the draft is of no use.
-#[tactic(auto, using(crate::proofs::Usual::plain_ruled, crate::proofs::Usual::number_sendable))]
+#[tactic(auto, using(crate::proofs::rules::Usual::plain_ruled, crate::proofs::rules::Usual::number_sendable))]
 #[inline(always)]
 pub fn write_unsigned(
     draft: &mut Draft,
@@ -151,13 +151,99 @@ pub fn write_integer(
     }
 }
 
+/// Writes a field that has an ASCII string.
+///
+/// # Errors
+///
+/// E3, R9; memory was refused. Then the draft is of no use.
+pub fn write_ascii(
+    draft: &mut Draft,
+    ledger: &mut Ledger,
+    field: &FieldInstruction,
+    text: &[u8],
+) -> Result<(), EncodeFault>
+    requires served { IsServed ledger.old (field_data field.now) }
+    requires suited { IsSuited ledger.old.max_text (field_data field.now) (Some (AsciiText text.now)) }
+    ensures ok { OnOk result ((l : Limits) → l.max_text ≡ ledger.old.max_text
+        → Wrote (EncodesField l (field_data field.now) ledger.old.now (Some (AsciiText text.now))) draft.old draft.new
+        ledger.new.now) }
+    ensures err { IfErr result
+        (IsTold (RefusesField (field_data field.now) ledger.old.now (Some (AsciiText text.now)))) }
+    ensures keeps { Keeps ledger.old ledger.new }
+{
+    write_other(draft, ledger, field, Scalar::Ascii(text))
+}
+
+/// The same for a Unicode string.
+pub fn write_unicode(
+    draft: &mut Draft,
+    ledger: &mut Ledger,
+    field: &FieldInstruction,
+    text: &[u8],
+) -> Result<(), EncodeFault>
+    requires served { IsServed ledger.old (field_data field.now) }
+    requires suited { IsSuited ledger.old.max_text (field_data field.now) (Some (UnicodeText text.now)) }
+    ensures ok { OnOk result ((l : Limits) → l.max_text ≡ ledger.old.max_text
+        → Wrote (EncodesField l (field_data field.now) ledger.old.now (Some (UnicodeText text.now))) draft.old draft.new
+        ledger.new.now) }
+    ensures err { IfErr result
+        (IsTold (RefusesField (field_data field.now) ledger.old.now (Some (UnicodeText text.now)))) }
+    ensures keeps { Keeps ledger.old ledger.new }
+{
+    write_other(draft, ledger, field, Scalar::Unicode(text))
+}
+
+/// The same for a byte vector.
+pub fn write_bytes(
+    draft: &mut Draft,
+    ledger: &mut Ledger,
+    field: &FieldInstruction,
+    text: &[u8],
+) -> Result<(), EncodeFault>
+    requires served { IsServed ledger.old (field_data field.now) }
+    requires suited { IsSuited ledger.old.max_text (field_data field.now) (Some (ByteVector text.now)) }
+    ensures ok { OnOk result ((l : Limits) → l.max_text ≡ ledger.old.max_text
+        → Wrote (EncodesField l (field_data field.now) ledger.old.now (Some (ByteVector text.now))) draft.old draft.new
+        ledger.new.now) }
+    ensures err { IfErr result
+        (IsTold (RefusesField (field_data field.now) ledger.old.now (Some (ByteVector text.now)))) }
+    ensures keeps { Keeps ledger.old ledger.new }
+{
+    write_other(draft, ledger, field, Scalar::Bytes(text))
+}
+
+/// Writes a field that has a decimal.
+///
+/// # Errors
+///
+/// E3; memory was refused. Then the draft is of no use.
+pub fn write_whole_decimal(
+    draft: &mut Draft,
+    ledger: &mut Ledger,
+    field: &FieldInstruction,
+    exponent: i32,
+    mantissa: i64,
+) -> Result<(), EncodeFault>
+    requires served { IsServed ledger.old (field_data field.now) }
+    requires suited { IsSuited ledger.old.max_text (field_data field.now) (Some (Dec exponent mantissa)) }
+    ensures ok { OnOk result ((l : Limits) → l.max_text ≡ ledger.old.max_text
+        → Wrote (EncodesField l (field_data field.now) ledger.old.now (Some (Dec exponent mantissa))) draft.old
+        draft.new ledger.new.now) }
+    ensures err { IfErr result
+        (IsTold (RefusesField (field_data field.now) ledger.old.now (Some (Dec exponent mantissa)))) }
+    ensures keeps { Keeps ledger.old ledger.new }
+{
+    write_other(draft, ledger, field, Scalar::Dec { exponent, mantissa })
+}
+
 /// Writes a field that has a text or a decimal.
 ///
 /// # Errors
 ///
 /// E3, R9; memory was refused. Then the draft is of no use.
-#[tactic(auto, using(crate::proofs::Usual::plain_ruled, crate::proofs::Usual::copy_other, crate::proofs::Usual::default_other, crate::proofs::Usual::constant_ruled, crate::proofs::Usual::value_sendable))]
-pub fn write_other(
+#[tactic(auto, using(crate::proofs::rules::Usual::plain_ruled, crate::proofs::rules::Usual::copy_other, crate::proofs::rules::Usual::default_other, crate::proofs::rules::Usual::constant_ruled, crate::proofs::rules::Usual::value_sendable))]
+#[inline(always)]
+fn write_other(
     draft: &mut Draft,
     ledger: &mut Ledger,
     field: &FieldInstruction,

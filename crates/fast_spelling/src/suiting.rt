@@ -11,7 +11,6 @@ ghost use Rattle.fast_tree.specs.device.Bodies.{body_among};
 ghost use Rattle.fast_spelling.specs.device.Nodes.{instruction_in};
 ghost use Rattle.fast_spelling.specs.meaning.Suiting.{IsRight, AreRight, Suits, SuitsBody};
 
-use fast_dict::operators::checked_text;
 use fast_template::{Shape, Templates};
 use fast_value::{Item, Kind, Value};
 
@@ -146,12 +145,12 @@ fn is_decimal(kind: Kind, exponent: i32, mantissa: i64) -> bool
 fn is_ascii(text: &[u8]) -> bool
     ensures { IsTrue result ↔ All (λ c. c < 128) text.now }
 {
-    text.iter().all(|character| *character < 128)
+    text.is_ascii()
 }
 
 /// Whether a text is UTF-8.
 fn is_utf8(text: &[u8]) -> bool
     ensures { IsTrue result ↔ IsUtf8 text.now }
 {
-    checked_text(Kind::Unicode, text).is_ok()
+    str::from_utf8(text).is_ok()
 }

@@ -22,9 +22,10 @@ use Rattle.fast_spelling.specs.device.Fields.{Wrote}
 use Rattle.fast_spelling.specs.meaning.Suiting.{SuitsBody}
 use Rattle.fast_spelling.proofs.encodings.Instructions.{at_shape, usable_at, short_at, served, encodes_as, field_encodes, decimal_encodes, group_encodes, sequence_encodes}
 use Rattle.fast_spelling.proofs.limits.Depths.{item_depth, option_depth, slots_depth, rows_depth, option_depth_at, row_depth}
-use Rattle.fast_spelling.proofs.encodings.Progress.{written_start, more_at, all_written, ready_kept, keeps_on, keeps_all, closed, row_more, rows_start, rows_done, has_width}
+use Rattle.fast_spelling.proofs.encodings.Progress.{written_start, more_at, all_written, ready_kept, keeps_on, keeps_all, row_more, rows_start, rows_done, has_width}
 use Rattle.fast_spelling.proofs.limits.Suited.{one_suits, no_slot_suits, no_row_suits, decimal_right}
 use Rattle.fast_spelling.proofs.limits.Checked.{accepted_as, one_fits, one_total, one_row_right, one_row_fits, one_row_total, no_row_fits, no_row_total}
+use Rattle.fast_spelling.proofs.encodings.Sealed.{sealed}
 use Rattle.fast_spelling.proofs.checking.+check.Goals as goal
 
 pub try_body-loop-i-init : goal.try_body-loop-i-init
@@ -72,21 +73,6 @@ try_body-returns-clause-ok t c =
     all_written c.args.limits (nodes_of c.args.templates.now) c.args.body.now c.args.slots.now c.loop-i.i c.args.ledger.now.now c.args.draft.now c.loop-i.ledger.now c.loop-i.draft c.loop-i-test.false
     (no_slot_suits (nodes_of c.args.templates.now) c.args.body.now c.args.slots.now c.loop-i.i past c.loop-i-test.false) c.loop-i.invariant.written
 
-pub try_item-write_field-requires-clause-served : goal.try_item-write_field-requires-clause-served
-try_item-write_field-requires-clause-served t c =
-    served c.args.templates.now c.args.limits c.args.ledger.now (field_data c.in-Field-One.field) c.requires.ready (usable_at (tree_of c.args.templates.now).entries c.node.result.now (Field c.in-Field-One.field) c.in-Field-One.is-0 c.node.ensures.usable)
-    (λ m none long. short_at (nodes_of c.args.templates.now) c.args.node c.node.result.now (Field c.in-Field-One.field) m c.node.ensures.found c.in-Field-One.is-0 none long)
-
-pub try_item-write_decimal-requires-clause-exponent : goal.try_item-write_decimal-requires-clause-exponent
-try_item-write_decimal-requires-clause-exponent t c =
-    served c.args.templates.now c.args.limits c.args.ledger.now (field_data c.in-Decimal-One.exponent) c.requires.ready (usable_at (tree_of c.args.templates.now).entries c.node.result.now (Decimal c.in-Decimal-One.exponent c.in-Decimal-One.mantissa) c.in-Decimal-One.is-0 c.node.ensures.usable).0
-    (λ m none long. short_at (nodes_of c.args.templates.now) c.args.node c.node.result.now (Decimal c.in-Decimal-One.exponent c.in-Decimal-One.mantissa) m c.node.ensures.found c.in-Decimal-One.is-0 none (inl long))
-
-pub try_item-write_decimal-requires-clause-mantissa : goal.try_item-write_decimal-requires-clause-mantissa
-try_item-write_decimal-requires-clause-mantissa t c =
-    served c.args.templates.now c.args.limits c.args.ledger.now (field_data c.in-Decimal-One.mantissa) c.requires.ready (usable_at (tree_of c.args.templates.now).entries c.node.result.now (Decimal c.in-Decimal-One.exponent c.in-Decimal-One.mantissa) c.in-Decimal-One.is-0 c.node.ensures.usable).1
-    (λ m none long. short_at (nodes_of c.args.templates.now) c.args.node c.node.result.now (Decimal c.in-Decimal-One.exponent c.in-Decimal-One.mantissa) m c.node.ensures.found c.in-Decimal-One.is-0 none (inr long))
-
 pub try_item-try_body-requires : goal.try_item-try_body-requires
 try_item-try_body-requires t c =
     let nodes = nodes_of c.args.templates.now in
@@ -96,8 +82,8 @@ try_item-try_body-requires t c =
     let smaller : 3 * slots_depth (slots_data c.deref-in-Group-Group.result.now) + 2 < t = rw c.deref-in-Group-Group.ensures.value (omega (arith, d, deep)) in
     (smaller, (rw c.deref.ensures.value (λ k h. (later k h).1), (c.requires.widths, c.requires.ready)))
 
-pub try_item-write_field-requires-in-Sequence-Sequence-clause-served : goal.try_item-write_field-requires-in-Sequence-Sequence-clause-served
-try_item-write_field-requires-in-Sequence-Sequence-clause-served t c =
+pub try_item-write_field-requires-clause-served : goal.try_item-write_field-requires-clause-served
+try_item-write_field-requires-clause-served t c =
     served c.args.templates.now c.args.limits c.args.ledger.now (field_data c.in-Sequence-Sequence.length) c.requires.ready (usable_at (tree_of c.args.templates.now).entries c.node.result.now (Sequence c.in-Sequence-Sequence.length c.in-Sequence-Sequence.body) c.in-Sequence-Sequence.is-0 c.node.ensures.usable).0
     (λ m none long. short_at (nodes_of c.args.templates.now) c.args.node c.node.result.now (Sequence c.in-Sequence-Sequence.length c.in-Sequence-Sequence.body) m c.node.ensures.found c.in-Sequence-Sequence.is-0 none long)
 
@@ -105,8 +91,8 @@ pub try_item-loop-row-init : goal.try_item-loop-row-init
 try_item-loop-row-init t c =
     let nodes = nodes_of c.args.templates.now in
     let body = body_among nodes c.in-Sequence-Sequence.body.items in
-    let after = c.write_field-in-Sequence-Sequence.new in
-    let kept : Keeps c.args.ledger.now after.ledger = record { before = c.write_field-in-Sequence-Sequence.ensures.before; room = c.write_field-in-Sequence-Sequence.ensures.max_text; count = c.write_field-in-Sequence-Sequence.ensures.length } in
+    let after = c.write_field.new in
+    let kept : Keeps c.args.ledger.now after.ledger = record { before = c.write_field.ensures.before; room = c.write_field.ensures.max_text; count = c.write_field.ensures.length } in
     let all : length c.deref-row-items.result.now ≡ length c.in-Sequence-Sequence.rows.items = ap length c.deref-row-items.ensures.value in
     let tested : c.len-else-len-limits.result ≡ length c.in-Sequence-Sequence.rows.items = c.len-else-len-limits.ensures ∙ c.in-Sequence-Sequence.rows.ok.0 in
     let taken : c.len-in-Sequence-Sequence-2.result ≡ length c.in-Sequence-Sequence.rows.items = c.len-in-Sequence-Sequence-2.ensures ∙ c.in-Sequence-Sequence.rows.ok.0 in
@@ -140,19 +126,20 @@ try_item-loop-row-preserved t c =
     let rs = c.deref-row-items.result.now in
     let k = c.loop-row.row-index in
     let r = c.row-item.result in
-    let after = c.write_field-in-Sequence-Sequence.new in
+    let after = c.write_field.new in
     let has = has_width nodes c.args.widths.now c.args.node v (Sequence c.in-Sequence-Sequence.length c.in-Sequence-Sequence.body) c.requires.widths c.node.ensures.found c.in-Sequence-Sequence.is-0 in
     let wrote = rw (c.deref-in-loop-row.ensures.value, c.deref-in-loop-row-2.ensures.value) at c.in_ok-left-in-Sequence-Sequence.ensures.ok in
     let suits = rw (c.deref-in-loop-row.ensures.value, c.deref-in-loop-row-2.ensures.value) at c.in_ok-left-in-Sequence-Sequence.ensures.suits in
     let fits = rw c.deref-in-loop-row-2.ensures.value at c.in_ok-left-in-Sequence-Sequence.ensures.fits in
-    let m = c.mark-mark-in-loop-row.ensures.bytes ∙ c.loop-row.draft.bytes.ok.0 in
-    let n = c.mark-mark-in-loop-row.ensures.bits ∙ c.loop-row.draft.bits.ok.0 in
-    let z = closed c.args.limits body (slots_data r.items) c.loop-row.ledger.now c.try_body-in-loop-row.new.ledger.now c.loop-row.draft c.try_body-in-loop-row.new.draft c.close-in-loop-row.new.self _ _ _ wrote has m n c.in_ok-close-in-Sequence-Sequence.ensures.ok c.in_ok-close-in-Sequence-Sequence.ensures.bits in
+    let kept = c.in_ok-mark-in-Sequence-Sequence.ensures in
+    let m = kept.mark.0 ∙ c.loop-row.draft.bytes.ok.0 in
+    let n = kept.mark.1 ∙ c.loop-row.draft.bits.ok.0 in
+    let z = sealed c.args.limits body (slots_data r.items) c.loop-row.ledger.now c.try_body-in-loop-row.new.ledger.now c.loop-row.draft c.open-in-loop-row.new.self c.try_body-in-loop-row.new.draft c.seal-in-loop-row.new.self _ _ _ kept.bytes c.open-in-loop-row.ensures.bits wrote has m n c.in_ok-seal-in-Sequence-Sequence.ensures.ok c.in_ok-seal-in-Sequence-Sequence.ensures.bits in
     let own = one_row_total c.args.limits (SuitsBody body) rs k r c.loop-row-test.true c.row-item.is in
     let before = inv.sum in
     let left = fits.1 in
     record {
-      written = row_more c.args.limits body rs k r c.loop-row-test.true c.row-item.is after.ledger.now after.draft c.loop-row.ledger.now c.try_body-in-loop-row.new.ledger.now c.loop-row.draft c.close-in-loop-row.new.self inv.written z;
+      written = row_more c.args.limits body rs k r c.loop-row-test.true c.row-item.is after.ledger.now after.draft c.loop-row.ledger.now c.try_body-in-loop-row.new.ledger.now c.loop-row.draft c.seal-in-loop-row.new.self inv.written z;
       right = λ h. inv.right (one_row_right c.args.limits (SuitsBody body) rs k r c.loop-row-test.true c.row-item.is suits h);
       fits = λ h. inv.fits (one_row_fits c.args.limits (SuitsBody body) rs k r c.loop-row-test.true c.row-item.is fits.0 h);
       sum = omega (arith, own, before, left);
@@ -160,61 +147,8 @@ try_item-loop-row-preserved t c =
       keeps = keeps_on c.args.ledger.now c.loop-row.ledger c.try_body-in-loop-row.new.ledger inv.keeps c.try_body-in-loop-row.ensures.keeps;
     }
 
-pub try_item-returns-in_ok-write_field-in-Field-One-clause-accepted : goal.try_item-returns-in_ok-write_field-in-Field-One-clause-accepted
-try_item-returns-in_ok-write_field-in-Field-One-clause-accepted t c =
-    let nodes = nodes_of c.args.templates.now in
-    let v = c.node.result.now in
-    let at = label_of c.args.node v in
-    let i = instruction_in nodes c.args.node in
-    let j = instruction_among nodes at (Field c.in-Field-One.field) in
-    let y : Option ItemData = Some (one (value_data c.in-Field-One.value)) in
-    let here : i ≡ j = at_shape nodes c.args.node v (Field c.in-Field-One.field) c.node.ensures.found c.node.ensures.body c.in-Field-One.is-0 in
-    let item : Some (item_data c.args.item.now) ≡ y = ap (λ (z : Item). Some (item_data z)) c.in-Field-One.is-1 ∙ ap Some (item_data-One c.in-Field-One.value) in
-    let yes = c.if-not-may_be.ensures refl in
-    accepted_as c.args.limits i j (Some (item_data c.args.item.now)) y c.args.room c.args.room here item (yes.0, (yes.1, omega arith))
-
-pub try_item-returns-in_ok-write_field-in-Field-One-clause-ok : goal.try_item-returns-in_ok-write_field-in-Field-One-clause-ok
-try_item-returns-in_ok-write_field-in-Field-One-clause-ok t c =
-    let nodes = nodes_of c.args.templates.now in
-    let v = c.node.result.now in
-    let at = label_of c.args.node v in
-    let i = instruction_in nodes c.args.node in
-    let j = instruction_among nodes at (Field c.in-Field-One.field) in
-    let y : Option ItemData = Some (one (value_data c.in-Field-One.value)) in
-    let here : i ≡ j = at_shape nodes c.args.node v (Field c.in-Field-One.field) c.node.ensures.found c.node.ensures.body c.in-Field-One.is-0 in
-    let item : Some (item_data c.args.item.now) ≡ y = ap (λ (z : Item). Some (item_data z)) c.in-Field-One.is-1 ∙ ap Some (item_data-One c.in-Field-One.value) in
-    encodes_as c.args.limits i j (Some (item_data c.args.item.now)) y c.args.ledger.now.now c.args.draft.now c.write_field.new.draft c.write_field.new.ledger.now here item
-    (field_encodes c.args.limits at (field_data c.in-Field-One.field) (value_data c.in-Field-One.value) c.args.ledger.now.now c.args.draft.now c.write_field.new.draft c.write_field.new.ledger.now
-    (subst (λ (z : ScalarData). Wrote (EncodesField c.args.limits (field_data c.in-Field-One.field) c.args.ledger.now.now (Some z)) c.args.draft.now c.write_field.new.draft c.write_field.new.ledger.now) c.as_scalar.ensures (c.in_ok-write_field-in-Field-One.ensures.ok c.args.limits c.requires.ready.room)))
-
-pub try_item-returns-in_ok-write_decimal-in-Decimal-One-clause-accepted : goal.try_item-returns-in_ok-write_decimal-in-Decimal-One-clause-accepted
-try_item-returns-in_ok-write_decimal-in-Decimal-One-clause-accepted t c =
-    let nodes = nodes_of c.args.templates.now in
-    let v = c.node.result.now in
-    let at = label_of c.args.node v in
-    let i = instruction_in nodes c.args.node in
-    let j = instruction_among nodes at (Decimal c.in-Decimal-One.exponent c.in-Decimal-One.mantissa) in
-    let y : Option ItemData = Some (one (value_data c.in-Decimal-One.value)) in
-    let here : i ≡ j = at_shape nodes c.args.node v (Decimal c.in-Decimal-One.exponent c.in-Decimal-One.mantissa) c.node.ensures.found c.node.ensures.body c.in-Decimal-One.is-0 in
-    let item : Some (item_data c.args.item.now) ≡ y = ap (λ (z : Item). Some (item_data z)) c.in-Decimal-One.is-1 ∙ ap Some (item_data-One c.in-Decimal-One.value) in
-    let yes = c.if-not-may_be-2.ensures refl in
-    accepted_as c.args.limits i j (Some (item_data c.args.item.now)) y c.args.room c.args.room here item ((decimal_right (field_data c.in-Decimal-One.exponent) (value_data c.in-Decimal-One.value)).0 yes.0, (yes.1, omega arith))
-
-pub try_item-returns-in_ok-write_decimal-in-Decimal-One-clause-ok : goal.try_item-returns-in_ok-write_decimal-in-Decimal-One-clause-ok
-try_item-returns-in_ok-write_decimal-in-Decimal-One-clause-ok t c =
-    let nodes = nodes_of c.args.templates.now in
-    let v = c.node.result.now in
-    let at = label_of c.args.node v in
-    let i = instruction_in nodes c.args.node in
-    let j = instruction_among nodes at (Decimal c.in-Decimal-One.exponent c.in-Decimal-One.mantissa) in
-    let y : Option ItemData = Some (one (value_data c.in-Decimal-One.value)) in
-    let here : i ≡ j = at_shape nodes c.args.node v (Decimal c.in-Decimal-One.exponent c.in-Decimal-One.mantissa) c.node.ensures.found c.node.ensures.body c.in-Decimal-One.is-0 in
-    let item : Some (item_data c.args.item.now) ≡ y = ap (λ (z : Item). Some (item_data z)) c.in-Decimal-One.is-1 ∙ ap Some (item_data-One c.in-Decimal-One.value) in
-    encodes_as c.args.limits i j (Some (item_data c.args.item.now)) y c.args.ledger.now.now c.args.draft.now c.write_decimal.new.draft c.write_decimal.new.ledger.now here item
-    (decimal_encodes c.args.limits at (field_data c.in-Decimal-One.exponent) (field_data c.in-Decimal-One.mantissa) (value_data c.in-Decimal-One.value) c.args.ledger.now.now c.args.draft.now c.write_decimal.new.draft c.write_decimal.new.ledger.now (c.in_ok-write_decimal-in-Decimal-One.ensures.ok c.args.limits c.requires.ready.room))
-
-pub try_item-returns-in_ok-close-in-Group-Group-clause-accepted : goal.try_item-returns-in_ok-close-in-Group-Group-clause-accepted
-try_item-returns-in_ok-close-in-Group-Group-clause-accepted t c =
+pub try_item-returns-in_ok-seal-in-Group-Group-clause-accepted : goal.try_item-returns-in_ok-seal-in-Group-Group-clause-accepted
+try_item-returns-in_ok-seal-in-Group-Group-clause-accepted t c =
     let nodes = nodes_of c.args.templates.now in
     let v = c.node.result.now in
     let at = label_of c.args.node v in
@@ -227,8 +161,8 @@ try_item-returns-in_ok-close-in-Group-Group-clause-accepted t c =
     let fits = rw c.deref-in-Group-Group.ensures.value at c.in_ok-left-in-Group-Group.ensures.fits in
     accepted_as c.args.limits i j (Some (item_data c.args.item.now)) y c.args.room c.in_ok-left-in-Group-Group.left here item (suits, fits)
 
-pub try_item-returns-in_ok-close-in-Group-Group-clause-ok : goal.try_item-returns-in_ok-close-in-Group-Group-clause-ok
-try_item-returns-in_ok-close-in-Group-Group-clause-ok t c =
+pub try_item-returns-in_ok-seal-in-Group-Group-clause-ok : goal.try_item-returns-in_ok-seal-in-Group-Group-clause-ok
+try_item-returns-in_ok-seal-in-Group-Group-clause-ok t c =
     let nodes = nodes_of c.args.templates.now in
     let v = c.node.result.now in
     let at = label_of c.args.node v in
@@ -241,11 +175,12 @@ try_item-returns-in_ok-close-in-Group-Group-clause-ok t c =
     let vs = slots_data c.in-Group-Group.slots.items in
     let has = has_width nodes c.args.widths.now c.args.node v (Group c.in-Group-Group.optional c.in-Group-Group.body) c.requires.widths c.node.ensures.found c.in-Group-Group.is-0 in
     let wrote = rw (c.deref.ensures.value, c.deref-in-Group-Group.ensures.value) at c.in_ok-left-in-Group-Group.ensures.ok in
-    let m = c.mark-mark.ensures.bytes ∙ c.push_bit_if.new.self.bytes.ok.0 in
-    let n = c.mark-mark.ensures.bits ∙ c.push_bit_if.new.self.bits.ok.0 in
-    let z = closed c.args.limits body vs c.args.ledger.now.now c.try_body.new.ledger.now c.push_bit_if.new.self c.try_body.new.draft c.close.new.self _ _ _ wrote has m n c.in_ok-close-in-Group-Group.ensures.ok c.in_ok-close-in-Group-Group.ensures.bits in
-    encodes_as c.args.limits i j (Some (item_data c.args.item.now)) y c.args.ledger.now.now c.args.draft.now c.close.new.self c.try_body.new.ledger.now here item
-    (group_encodes c.args.limits at c.in-Group-Group.optional body vs c.args.ledger.now.now c.args.draft.now c.push_bit_if.new.self c.close.new.self z.bytes c.try_body.new.ledger.now c.in_ok-push_bit_if-in-Group-Group.ensures.bits c.push_bit_if.ensures.bytes z.bits_are z.bytes_are z.says)
+    let kept = c.in_ok-mark-in-Group-Group.ensures in
+    let m = kept.mark.0 ∙ c.push_bit_if.new.self.bytes.ok.0 in
+    let n = kept.mark.1 ∙ c.push_bit_if.new.self.bits.ok.0 in
+    let z = sealed c.args.limits body vs c.args.ledger.now.now c.try_body.new.ledger.now c.push_bit_if.new.self c.open.new.self c.try_body.new.draft c.seal.new.self _ _ _ kept.bytes c.open.ensures.bits wrote has m n c.in_ok-seal-in-Group-Group.ensures.ok c.in_ok-seal-in-Group-Group.ensures.bits in
+    encodes_as c.args.limits i j (Some (item_data c.args.item.now)) y c.args.ledger.now.now c.args.draft.now c.seal.new.self c.try_body.new.ledger.now here item
+    (group_encodes c.args.limits at c.in-Group-Group.optional body vs c.args.ledger.now.now c.args.draft.now c.push_bit_if.new.self c.seal.new.self z.bytes c.try_body.new.ledger.now c.in_ok-push_bit_if-in-Group-Group.ensures.bits c.push_bit_if.ensures.bytes z.bits_are z.bytes_are z.says)
 
 pub try_item-returns-after-loop-row-clause-accepted : goal.try_item-returns-after-loop-row-clause-accepted
 try_item-returns-after-loop-row-clause-accepted t c =
@@ -293,8 +228,8 @@ try_item-returns-after-loop-row-clause-ok t c =
     let f : FieldData = field_data c.in-Sequence-Sequence.length in
     let body = body_among nodes c.in-Sequence-Sequence.body.items in
     let rows = elements_data c.in-Sequence-Sequence.rows.items in
-    let first = subst (λ (z : ℕ). Wrote (EncodesField c.args.limits f c.args.ledger.now.now (Some (U z))) c.args.draft.now c.write_field-in-Sequence-Sequence.new.draft c.write_field-in-Sequence-Sequence.new.ledger.now) long (c.in_ok-write_field-in-Sequence-Sequence.ensures.ok c.args.limits c.requires.ready.room) in
-    let after = c.write_field-in-Sequence-Sequence.new in
+    let first = subst (λ (z : ℕ). Wrote (EncodesField c.args.limits f c.args.ledger.now.now (Some (U z))) c.args.draft.now c.write_field.new.draft c.write_field.new.ledger.now) long (c.in_ok-write_field-in-Sequence-Sequence.ensures.ok c.args.limits c.requires.ready.room) in
+    let after = c.write_field.new in
     let whole = c.deref-row-items.ensures.value in
     let inv = c.loop-row.invariant in
     let z = rows_done c.args.limits body c.deref-row-items.result.now c.loop-row.row-index after.ledger.now after.draft c.loop-row.ledger.now c.loop-row.draft c.loop-row-test.false inv.written in

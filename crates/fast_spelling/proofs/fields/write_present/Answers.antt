@@ -1,9 +1,9 @@
--- A number is handed on.
-use Rattle.std.proofs.Common.{◌≡◌, ap, sym, subst, ◌∙◌, rules, to_z, of_z}
+-- A value is handed on in its parts.
+use Rattle.std.proofs.Common.{◌≡◌, ℤ, ap, sym, subst, ◌∙◌, rules, to_z, of_z}
 use Rattle.std.specs.Prelude.{Some}
-use Rattle.std.specs.Int.{w64}
+use Rattle.std.specs.Int.{w32, w64}
 use Rattle.std.proofs.lemmas.Int.{to_z-of_z}
-use Rattle.fast_value.specs.meaning.Kinds.{ScalarData, I}
+use Rattle.fast_value.specs.meaning.Kinds.{ScalarData, I, Dec}
 use Rattle.fast_value.specs.meaning.Values.{scalar_data}
 use Rattle.fast_tree.specs.device.Nodes.{field_data}
 use Rattle.fast_spelling.specs.meaning.Encoding.{EncodesField}
@@ -28,3 +28,29 @@ returns-in-I-clause-err c = told c.write_signed.result c.write_signed.ensures.er
     let number : to_z w64 (of_z w64 c.in-I.number) ≡ c.in-I.number = to_z-of_z w64 c.in-I.number (search rules) in
     let is : scalar_data c.args.value ≡ I (to_z w64 (of_z w64 c.in-I.number)) = ap scalar_data c.in-I.is ∙ ap I (sym number) in
     subst (λ (v : ScalarData). RefusesField (field_data c.args.field.now) c.args.ledger.now.now (Some v) f) (sym is) h)
+
+pub returns-in-Dec-clause-ok : goal.returns-in-Dec-clause-ok
+returns-in-Dec-clause-ok c = on_ok c.write_whole_decimal.result c.write_whole_decimal.ensures.ok (λ k l same.
+    let e : to_z w32 (of_z w32 c.in-Dec.exponent) ≡ c.in-Dec.exponent = to_z-of_z w32 c.in-Dec.exponent (search rules) in
+    let m : to_z w64 (of_z w64 c.in-Dec.mantissa) ≡ c.in-Dec.mantissa = to_z-of_z w64 c.in-Dec.mantissa (search rules) in
+    let is : scalar_data c.args.value ≡ Dec (to_z w32 (of_z w32 c.in-Dec.exponent)) (to_z w64 (of_z w64 c.in-Dec.mantissa)) = ap scalar_data c.in-Dec.is ∙ ap (λ (z : ℤ). Dec z c.in-Dec.mantissa) (sym e) ∙ ap (Dec (to_z w32 (of_z w32 c.in-Dec.exponent))) (sym m) in
+    subst (λ (v : ScalarData). Wrote (EncodesField l (field_data c.args.field.now) c.args.ledger.now.now (Some v)) c.args.draft.now c.write_whole_decimal.new.draft c.write_whole_decimal.new.ledger.now) (sym is) (k l same))
+
+pub returns-in-Dec-clause-err : goal.returns-in-Dec-clause-err
+returns-in-Dec-clause-err c = told c.write_whole_decimal.result c.write_whole_decimal.ensures.err (λ f h.
+    let e : to_z w32 (of_z w32 c.in-Dec.exponent) ≡ c.in-Dec.exponent = to_z-of_z w32 c.in-Dec.exponent (search rules) in
+    let m : to_z w64 (of_z w64 c.in-Dec.mantissa) ≡ c.in-Dec.mantissa = to_z-of_z w64 c.in-Dec.mantissa (search rules) in
+    let is : scalar_data c.args.value ≡ Dec (to_z w32 (of_z w32 c.in-Dec.exponent)) (to_z w64 (of_z w64 c.in-Dec.mantissa)) = ap scalar_data c.in-Dec.is ∙ ap (λ (z : ℤ). Dec z c.in-Dec.mantissa) (sym e) ∙ ap (Dec (to_z w32 (of_z w32 c.in-Dec.exponent))) (sym m) in
+    subst (λ (v : ScalarData). RefusesField (field_data c.args.field.now) c.args.ledger.now.now (Some v) f) (sym is) h)
+
+pub returns-in-Ascii-clause-ok : goal.returns-in-Ascii-clause-ok
+returns-in-Ascii-clause-ok c = on_ok c.write_ascii.result c.write_ascii.ensures.ok (λ k l same.
+    subst (λ (v : ScalarData). Wrote (EncodesField l (field_data c.args.field.now) c.args.ledger.now.now (Some v)) c.args.draft.now c.write_ascii.new.draft c.write_ascii.new.ledger.now) (sym (ap scalar_data c.in-Ascii.is)) (k l same))
+
+pub returns-in-Unicode-clause-ok : goal.returns-in-Unicode-clause-ok
+returns-in-Unicode-clause-ok c = on_ok c.write_unicode.result c.write_unicode.ensures.ok (λ k l same.
+    subst (λ (v : ScalarData). Wrote (EncodesField l (field_data c.args.field.now) c.args.ledger.now.now (Some v)) c.args.draft.now c.write_unicode.new.draft c.write_unicode.new.ledger.now) (sym (ap scalar_data c.in-Unicode.is)) (k l same))
+
+pub returns-in-Bytes-clause-ok : goal.returns-in-Bytes-clause-ok
+returns-in-Bytes-clause-ok c = on_ok c.write_bytes.result c.write_bytes.ensures.ok (λ k l same.
+    subst (λ (v : ScalarData). Wrote (EncodesField l (field_data c.args.field.now) c.args.ledger.now.now (Some v)) c.args.draft.now c.write_bytes.new.draft c.write_bytes.new.ledger.now) (sym (ap scalar_data c.in-Bytes.is)) (k l same))
