@@ -5,8 +5,10 @@ pub mod feeding;
 pub mod records;
 mod room;
 pub mod sink;
+pub mod status;
 pub mod waiting;
 
 pub use feeding::{Fed, Outcome, feed_records};
 pub use records::Record;
+pub use status::Status;
 pub use waiting::Waiting;

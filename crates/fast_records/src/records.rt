@@ -58,7 +58,7 @@ const MAX_LENGTH: usize = 0xffff_ffff;
 
 /// The record of an event that has no text.
 #[inline(always)]
-fn mark(kind: u32, node: u32, value: u64) -> Record
+pub(crate) fn mark(kind: u32, node: u32, value: u64) -> Record
     ensures { result ≡ mark kind node value }
 {
     Record {
@@ -72,7 +72,7 @@ fn mark(kind: u32, node: u32, value: u64) -> Record
 
 /// The record of a text that begins at a place.
 #[inline(always)]
-fn text_record(kind: u32, node: u32, place: u64, text: &[u8]) -> Record
+pub(crate) fn text_record(kind: u32, node: u32, place: u64, text: &[u8]) -> Record
     ensures { result ≡ text_record kind node place text.now }
 {
     let length = text.len().min(MAX_LENGTH) as u32;

@@ -2,10 +2,15 @@
 
 ghost use Rattle.std.specs.Prelude.{◌≤◌, length};
 
-use crate::records::{Record, record_of, text_of};
+use crate::records::{
+    ASCII, BYTES, DECIMAL, ELEMENT_END, ELEMENT_START, GROUP_END, GROUP_START, MESSAGE_END,
+    MESSAGE_START, Record, SEQUENCE_END, SEQUENCE_START, SIGNED, UNICODE, UNSIGNED, mark,
+    text_record,
+};
 use crate::room::Room;
 use crate::waiting::{Waiting, hand_over};
 use fast_decoder::{Event, Sink, Stop};
+use fast_value::Scalar;
 
 /// A sink that writes records into a caller's buffers, and keeps for the next call what has no room. It stops only on want of memory
 /// for that.
@@ -26,7 +31,11 @@ pub(crate) struct RecordSink<'a> {
 }
 
 impl<'a> RecordSink<'a> {
-    ghost use Rattle.std.specs.Prelude.{◌≡◌, nat_lt, ◌+◌, ◌≤◌, ◌++◌, length, take, OnOk, OnErr};
+    ghost use Rattle.std.specs.Prelude.{◌≡◌, ℕ, nat_lt, ◌+◌, ◌≤◌, ◌++◌, length, take, OnOk, OnErr};
+    ghost use Rattle.fast_value.specs.meaning.Kinds.{text_of};
+    ghost use Rattle.fast_value.specs.meaning.Values.{scalar_data};
+    ghost use Rattle.fast_stream.specs.meaning.Events.{FieldValue};
+    ghost use Rattle.fast_records.specs.meaning.Records.{text_record, field_record, record_of, event_text};
     ghost use Rattle.std.specs.Bool.{OnTrue, OnFalse};
     ghost use Rattle.fast_stream.specs.meaning.Handed.{event_data};
     ghost use Rattle.fast_records.specs.device.Waiting.{pending};
@@ -121,6 +130,61 @@ impl<'a> RecordSink<'a> {
         !self.waiting.is_empty()
     }
 
+    /// Takes an event whose record and text these are.
+    #[inline(always)]
+    fn keep(&mut self, next: Record, text: &[u8], event: Event<'_>) -> Result<(), Stop>
+        requires is { next ≡ record_of self.old.used (event_data event) }
+        requires says { text.now ≡ event_text (event_data event) }
+        ensures ok { OnOk result (TakesRecord self.old (event_data event.entry) self.new) }
+        ensures err { OnErr result (RefusesRecord self.old (event_data event.entry) self.new) }
+    {
+        if self.put(next, text) {
+            return Ok(());
+        }
+        self.wait(event)
+    }
+
+    /// Takes a field with a text. Out of line, since one without needs far fewer registers.
+    #[inline(never)]
+    fn keep_text(
+        &mut self,
+        kind: u32,
+        node: u32,
+        value: Scalar<'_>,
+        text: &[u8],
+    ) -> Result<(), Stop>
+        requires is { (p : ℕ) → text_record kind node p text.now ≡ field_record p node (scalar_data value) }
+        requires says { text.now ≡ text_of (scalar_data value) }
+        ensures ok { OnOk result (TakesRecord self.old (FieldValue node (scalar_data value.entry)) self.new) }
+        ensures err { OnErr result (RefusesRecord self.old (FieldValue node (scalar_data value.entry)) self.new) }
+    {
+        let next = text_record(kind, node, self.used() as u64, text);
+        self.keep(next, text, Event::Field { node, value })
+    }
+
+    /// Takes a field.
+    #[inline(always)]
+    fn keep_field(&mut self, node: u32, value: Scalar<'_>) -> Result<(), Stop>
+        ensures ok { OnOk result (TakesRecord self.old (FieldValue node (scalar_data value.entry)) self.new) }
+        ensures err { OnErr result (RefusesRecord self.old (FieldValue node (scalar_data value.entry)) self.new) }
+    {
+        let event = Event::Field { node, value };
+        match value {
+            Scalar::U(number) => self.keep(mark(UNSIGNED, node, number), &[], event),
+            Scalar::I(number) => self.keep(mark(SIGNED, node, number.cast_unsigned()), &[], event),
+            Scalar::Dec { exponent, mantissa } => {
+                let next = Record {
+                    exponent,
+                    ..mark(DECIMAL, node, mantissa.cast_unsigned())
+                };
+                self.keep(next, &[], event)
+            }
+            Scalar::Ascii(text) => self.keep_text(ASCII, node, value, text),
+            Scalar::Unicode(text) => self.keep_text(UNICODE, node, value, text),
+            Scalar::Bytes(text) => self.keep_text(BYTES, node, value, text),
+        }
+    }
+
     /// Keeps an event that has no room, and lets no later one overtake it.
     #[inline(never)]
     fn wait(&mut self, event: Event<'_>) -> Result<(), Stop>
@@ -141,10 +205,24 @@ impl Sink for RecordSink<'_> {
 
     #[inline(always)]
     fn take(&mut self, event: Event<'_>) -> Result<(), Stop> {
-        let next = record_of(event, self.used() as u64);
-        if self.put(next, text_of(event)) {
-            return Ok(());
+        match event {
+            Event::Field { node, value } => self.keep_field(node, value),
+            Event::MessageStart { template } => self.keep(
+                mark(MESSAGE_START, template, 0),
+                &[],
+                event,
+            ),
+            Event::GroupStart { node } => self.keep(mark(GROUP_START, node, 0), &[], event),
+            Event::GroupEnd => self.keep(mark(GROUP_END, 0, 0), &[], event),
+            Event::SequenceStart { node, count } => self.keep(
+                mark(SEQUENCE_START, node, u64::from(count)),
+                &[],
+                event,
+            ),
+            Event::ElementStart => self.keep(mark(ELEMENT_START, 0, 0), &[], event),
+            Event::ElementEnd => self.keep(mark(ELEMENT_END, 0, 0), &[], event),
+            Event::SequenceEnd => self.keep(mark(SEQUENCE_END, 0, 0), &[], event),
+            Event::MessageEnd => self.keep(mark(MESSAGE_END, 0, 0), &[], event),
         }
-        self.wait(event)
     }
 }

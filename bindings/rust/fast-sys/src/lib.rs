@@ -1,0 +1,91 @@
+//! The functions of `libfast_c.a`, as `include/fast.h` has them, and the heap that the library asks for, which is Rust's.
+//!
+//! The crate `fast` is the safe face. Nothing here is proved: what each call asks for stands in the header.
+#![no_std]
+extern crate alloc;
+
+use core::mem::{offset_of, size_of};
+
+mod heap;
+
+/// What [`fast_interface`] has to answer.
+pub const INTERFACE: u32 = 1;
+
+/// An event of fixed size (`fast_record`).
+#[repr(C)]
+#[derive(Clone, Copy, Debug, Default, PartialEq, Eq)]
+pub struct Record {
+    pub kind: u32,
+    pub node: u32,
+    pub value: u64,
+    pub length: u32,
+    pub exponent: i32,
+}
+
+/// What came of a feed (`fast_fed`).
+#[repr(C)]
+#[derive(Clone, Copy, Debug, Default, PartialEq, Eq)]
+pub struct Fed {
+    pub taken: u64,
+    pub records: u64,
+    pub texts: u64,
+    pub consumed: u64,
+    pub between: u32,
+    pub status: u32,
+}
+
+const _: () = {
+    assert!(size_of::<usize>() == 8);
+    assert!(size_of::<Record>() == 24 && offset_of!(Record, value) == 8 && offset_of!(Record, exponent) == 20);
+    assert!(size_of::<Fed>() == 40 && offset_of!(Fed, status) == 36);
+};
+
+macro_rules! opaque {
+    ($($name:ident)*) => {$(
+        /// What stands behind a pointer of the library.
+        #[repr(C)]
+        pub struct $name {
+            unseen: [u8; 0],
+            // neither Send nor Sync
+            here: core::marker::PhantomData<*mut ()>,
+        }
+    )*};
+}
+opaque!(Set Decoder);
+
+/// A pointer of the library, by value: what it owns goes in with it.
+#[repr(transparent)]
+#[derive(Debug)]
+pub struct Handle<T>(pub *mut T);
+
+extern "C" {
+    pub fn fast_interface() -> u32;
+    pub fn fast_status_words(status: u32, out: *mut u8, out_len: usize) -> usize;
+    pub fn fast_set_read(text: *const u8, text_len: usize, out: *mut *mut Set) -> u32;
+    pub fn fast_set_close(set: Handle<Set>);
+    pub fn fast_set_templates(set: Handle<Set>) -> u32;
+    pub fn fast_set_nodes(set: Handle<Set>) -> u32;
+    pub fn fast_template_name(set: Handle<Set>, number: u32, out: *mut u8, out_len: usize) -> usize;
+    pub fn fast_node_name(set: Handle<Set>, number: u32, out: *mut u8, out_len: usize) -> usize;
+    pub fn fast_decoder_open(
+        set: Handle<Set>,
+        strict: u32,
+        max_text: u32,
+        max_elements: u32,
+        max_total: u32,
+        out: *mut *mut Decoder,
+    ) -> u32;
+    pub fn fast_decoder_feed(
+        decoder: Handle<Decoder>,
+        back: *mut *mut Decoder,
+        piece: *const u8,
+        piece_len: usize,
+        records: *mut Record,
+        records_len: usize,
+        texts: *mut u8,
+        texts_len: usize,
+        fed: *mut Fed,
+    );
+    pub fn fast_decoder_reset(decoder: Handle<Decoder>, back: *mut *mut Decoder);
+    pub fn fast_decoder_close(decoder: Handle<Decoder>);
+}

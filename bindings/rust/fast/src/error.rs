@@ -1,0 +1,43 @@
+use std::fmt;
+
+/// Why a call did not do its work. `Display` is the library's sentence.
+#[derive(Clone, Copy, Debug, PartialEq, Eq)]
+pub struct Error {
+    /// The number of the status, as `fast.h` has it.
+    pub status: u32,
+    /// Of a stream at fault how many bytes were consumed.
+    pub place: u64,
+}
+
+impl Error {
+    /// The sentence; behind a colon where it begins with the name of a code.
+    pub fn words(&self) -> String {
+        let mut words = vec![0; 256];
+        // a buffer and its length; the library writes no more than that
+        let length = unsafe { fast_sys::fast_status_words(self.status, words.as_mut_ptr(), words.len()) };
+        words.truncate(length);
+        String::from_utf8_lossy(&words).into_owned()
+    }
+
+    /// The name of the code, such as `D9`, if it has one.
+    pub fn code(&self) -> Option<String> {
+        let words = self.words();
+        words.split_once(':').map(|(name, _)| name.to_owned())
+    }
+}
+
+impl fmt::Display for Error {
+    fn fmt(&self, f: &mut fmt::Formatter<'_>) -> fmt::Result {
+        write!(f, "{} (at {})", self.words(), self.place)
+    }
+}
+
+impl std::error::Error for Error {}
+
+/// Nothing where a status is 0.
+pub(crate) fn expect(status: u32) -> Result<(), Error> {
+    match status {
+        0 => Ok(()),
+        status => Err(Error { status, place: 0 }),
+    }
+}

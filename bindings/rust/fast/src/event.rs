@@ -1,0 +1,53 @@
+use fast_sys::Record;
+
+/// A value of a field. Texts are lent for the call alone.
+#[derive(Clone, Copy, Debug, PartialEq, Eq)]
+pub enum Value<'a> {
+    Unsigned(u64),
+    Signed(i64),
+    /// The mantissa times ten to the exponent.
+    Decimal { mantissa: i64, exponent: i32 },
+    /// Characters below U+0080.
+    Ascii(&'a [u8]),
+    /// A string in UTF-8.
+    Unicode(&'a [u8]),
+    Bytes(&'a [u8]),
+}
+
+/// What a stream says, in order. Templates and nodes are numbers of their [`Set`](crate::Set).
+#[derive(Clone, Copy, Debug, PartialEq, Eq)]
+pub enum Event<'a> {
+    MessageStart { template: u32 },
+    Field { node: u32, value: Value<'a> },
+    GroupStart { node: u32 },
+    GroupEnd,
+    SequenceStart { node: u32, count: u32 },
+    ElementStart,
+    ElementEnd,
+    SequenceEnd,
+    MessageEnd,
+}
+
+/// The event of a record.
+#[inline]
+pub(crate) fn event_of<'a>(record: &Record, texts: &'a [u8]) -> Event<'a> {
+    let node = record.node;
+    let text = || &texts[record.value as usize..][..record.length as usize];
+    let field = |value| Event::Field { node, value };
+    match record.kind {
+        1 => Event::MessageStart { template: node },
+        2 => field(Value::Unsigned(record.value)),
+        3 => field(Value::Signed(record.value as i64)),
+        4 => field(Value::Decimal { mantissa: record.value as i64, exponent: record.exponent }),
+        5 => field(Value::Ascii(text())),
+        6 => field(Value::Unicode(text())),
+        7 => field(Value::Bytes(text())),
+        8 => Event::GroupStart { node },
+        9 => Event::GroupEnd,
+        10 => Event::SequenceStart { node, count: record.value as u32 },
+        11 => Event::ElementStart,
+        12 => Event::ElementEnd,
+        13 => Event::SequenceEnd,
+        _ => Event::MessageEnd,
+    }
+}

@@ -1,0 +1,112 @@
+//! Template sets.
+
+ghost use Rattle.fast_template.specs.contracts.sets.Templates.{the_row};
+ghost use Rattle.fast_template.specs.declared.sets.Templates.{Templates};
+
+use crate::{NO_MEMORY, write_front};
+use fast_records::Status;
+use fast_template::Templates;
+use std::alloc::Global;
+use std::marker::Model;
+
+/// What C calls the type behind its pointer to a set.
+#[repr(C)]
+#[derive(Drop)]
+pub struct FastSet {
+    unseen: u8,
+}
+
+/// The pointer to a set, by value. The handle to the heap takes no bytes.
+#[repr(C)]
+pub struct SetHandle {
+    at: *mut FastSet,
+    alloc: Global,
+    ghost value: { Templates } by { the_row.coded },
+}
+
+impl Model for SetHandle {
+    ghost use Rattle.std.specs.Box.Ownership.{box_owns};
+    ghost use Rattle.std.specs.contracts.impls.GlobalAllocator.TheImpl.{ghosts};
+    ghost use Rattle.fast_template.specs.contracts.sets.Templates.{the_row};
+
+    // The value at the pointer, and the right to give its block back.
+    ghost also_owns = { λ h. box_owns (ghosts.dealloc_token h.alloc) the_row h.at h.value };
+}
+
+impl SetHandle {
+    ghost use Rattle.std.specs.Prelude.{◌≡◌};
+
+    /// The box that it is.
+    fn into_box(self) -> Box<Templates, Global>
+        ensures { result.value ≡ self.value }
+    {
+        let SetHandle { at, alloc } = self;
+        unsafe { Box::from_raw(alloc, at as *mut Templates) }
+    }
+
+    /// The set, lent for as long as C keeps it.
+    pub(crate) fn lent(self) -> &'static Templates {
+        Box::leak(self.into_box())
+    }
+}
+
+/// A set in a box, of the text of its templates.
+fn made(alloc: Global, text: &[u8]) -> Result<Box<Templates, Global>, Status> {
+    let Ok(text) = std::str::from_utf8(text) else {
+        return Err(Status::NotText);
+    };
+    match Templates::read(alloc, text) {
+        Ok(set) => Box::new(alloc, set).map_err(|_| NO_MEMORY),
+        Err(fault) => Err(Status::Set(fault.code)),
+    }
+}
+
+/// Reads a template set, and hands a pointer to it out. The answer is 0, or the status for which there is none.
+#[unsafe(no_mangle)]
+pub extern "C" fn fast_set_read(alloc: Global, text: &[u8], out: &mut *mut FastSet) -> u32 {
+    match made(alloc, text) {
+        Ok(set) => {
+            *out = Box::into_raw(set) as *mut FastSet;
+            0
+        }
+        Err(status) => status.number(),
+    }
+}
+
+/// Gives a set's memory back.
+#[unsafe(no_mangle)]
+pub extern "C" fn fast_set_close(set: SetHandle) {
+    drop(set.into_box());
+}
+
+/// How many templates a set has.
+#[unsafe(no_mangle)]
+pub extern "C" fn fast_set_templates(set: SetHandle) -> u32 {
+    set.lent().count()
+}
+
+/// How many nodes a set has.
+#[unsafe(no_mangle)]
+pub extern "C" fn fast_set_nodes(set: SetHandle) -> u32 {
+    set.lent().nodes()
+}
+
+/// Writes the name of a template, as far as there is room, and answers its length; 0 where the set has no such template.
+#[unsafe(no_mangle)]
+pub extern "C" fn fast_template_name(set: SetHandle, template: u32, out: &mut [u8]) -> usize {
+    let set = set.lent();
+    if template >= set.count() {
+        return 0;
+    }
+    write_front(set.template(template).name.as_bytes(), out)
+}
+
+/// Writes the name of a node, as far as there is room, and answers its length; 0 where the set has no such node.
+#[unsafe(no_mangle)]
+pub extern "C" fn fast_node_name(set: SetHandle, node: u32, out: &mut [u8]) -> usize {
+    let set = set.lent();
+    if node >= set.nodes() {
+        return 0;
+    }
+    write_front(set.node(node).name.as_bytes(), out)
+}

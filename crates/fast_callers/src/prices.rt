@@ -1,0 +1,86 @@
+//! The last price of a symbol.
+
+ghost use Rattle.std.specs.Prelude.{IfOk};
+ghost use Rattle.fast_template.specs.meaning.Flat.{tree_of};
+ghost use Rattle.fast_callers.specs.meaning.Callers.{HasLastPrice};
+
+use crate::counting::Refusal;
+use fast_decoder::{Decoder, Event, Sink, Stop};
+use fast_template::Templates;
+use fast_value::{Limits, Scalar};
+use std::alloc::Global;
+
+/// A price: the mantissa times ten to the exponent.
+#[derive(Clone, Copy, Debug, PartialEq, Eq)]
+pub struct Price {
+    /// The exponent.
+    pub exponent: i32,
+    /// The mantissa.
+    pub mantissa: i64,
+}
+
+/// Which nodes of a template set hold what is looked for.
+#[derive(Clone, Copy, Debug, PartialEq, Eq)]
+pub struct Columns {
+    /// The node of an ASCII symbol.
+    pub symbol: u32,
+    /// The node of a decimal price.
+    pub price: u32,
+}
+
+/// A sink that keeps the last price behind a symbol.
+#[derive(Drop)]
+struct LastPrice<'a> {
+    columns: Columns,
+    symbol: &'a [u8],
+    /// Whether the last symbol was the one that is looked for.
+    is_ours: bool,
+    price: Option<Price>,
+}
+
+impl Sink for LastPrice<'_> {
+    ghost use Rattle.fast_callers.specs.meaning.Callers.{TakesPrice};
+
+    ghost takes = { TakesPrice };
+
+    ghost stops = { λ _ _ _. ⊥ };
+
+    fn take(&mut self, event: Event<'_>) -> Result<(), Stop> {
+        if let Event::Field { node, value } = event {
+            match value {
+                Scalar::Ascii(text) if node == self.columns.symbol => self.is_ours = text
+                    == self.symbol,
+                Scalar::Dec { exponent, mantissa } if node == self.columns.price && self.is_ours =>
+                    self.price = Some(Price { exponent, mantissa }),
+                _ => {}
+            }
+        }
+        Ok(())
+    }
+}
+
+/// The last price of a symbol in a stream, if it has one. A price belongs to the last symbol before it.
+///
+/// # Errors
+///
+/// No decoder is made, or the stream is at fault.
+pub fn last_price(
+    alloc: Global,
+    templates: &Templates,
+    limits: Limits,
+    columns: Columns,
+    symbol: &[u8],
+    stream: &[u8],
+) -> Result<Option<Price>, Refusal>
+    ensures { IfOk result (HasLastPrice (tree_of templates.now) limits columns symbol.now stream.now) }
+{
+    let mut decoder = Decoder::new(alloc, templates, limits)?;
+    let mut sink = LastPrice {
+        columns,
+        symbol,
+        is_ours: false,
+        price: None,
+    };
+    decoder.feed(stream, &mut sink)?;
+    Ok(sink.price)
+}

@@ -1,0 +1,161 @@
+//! All that a call from another language can come to, as a number and in words.
+
+ghost use Rattle.std.specs.Prelude.{◌≡◌, IfSome};
+ghost use Rattle.fast_records.specs.meaning.Status.{status_number, static_number, ended};
+
+use crate::feeding::Outcome;
+use fast_decoder::{FaultCode, MakeError};
+use fast_template::StaticCode;
+use fast_value::Code;
+use std::fmt;
+
+/// What a call came to.
+#[derive(Clone, Copy, Debug, PartialEq, Eq)]
+pub enum Status {
+    /// All was done.
+    Done,
+    /// Records wait, or bytes are left: the next call goes on.
+    More,
+    /// A buffer has too little room for what is next.
+    NoRoom,
+    /// The template text is not UTF-8.
+    NotText,
+    /// What should do it is closed, or was never made: answered by those who hold it.
+    Closed,
+    /// The stream is at fault.
+    Stream(FaultCode),
+    /// No decoder is made.
+    Make(MakeError),
+    /// The template text is refused.
+    Set(StaticCode),
+}
+
+impl From<Outcome> for Status {
+    ghost use Rattle.std.specs.Prelude.{◌≡◌};
+    ghost use Rattle.fast_records.specs.meaning.Status.{ended};
+
+    ghost from_gives = { λ outcome status. status ≡ ended outcome };
+
+    fn from(outcome: Outcome) -> Status {
+        match outcome {
+            Outcome::Done => Status::Done,
+            Outcome::More => Status::More,
+            Outcome::NoRoom => Status::NoRoom,
+            Outcome::Fault(code) => Status::Stream(code),
+        }
+    }
+}
+
+/// The number of what is wrong with a template text, from 1.
+fn static_number(code: StaticCode) -> u32
+    ensures { result ≡ static_number code }
+{
+    match code {
+        StaticCode::S1 => 1,
+        StaticCode::S2 => 2,
+        StaticCode::S3 => 3,
+        StaticCode::S4 => 4,
+        StaticCode::S5 => 5,
+        StaticCode::D8 => 6,
+        StaticCode::C1 => 7,
+        StaticCode::C2 => 8,
+        StaticCode::C3 => 9,
+        StaticCode::C4 => 10,
+        StaticCode::C5 => 11,
+        StaticCode::C6 => 12,
+        StaticCode::Memory => 13,
+    }
+}
+
+/// Each status, for the way back from its number.
+const ALL: [Status; 39] = [
+    Status::Done,
+    Status::More,
+    Status::NoRoom,
+    Status::NotText,
+    Status::Closed,
+    Status::Stream(FaultCode::Stream(Code::D2)),
+    Status::Stream(FaultCode::Stream(Code::D4)),
+    Status::Stream(FaultCode::Stream(Code::D5)),
+    Status::Stream(FaultCode::Stream(Code::D6)),
+    Status::Stream(FaultCode::Stream(Code::D7)),
+    Status::Stream(FaultCode::Stream(Code::D9)),
+    Status::Stream(FaultCode::Stream(Code::R1)),
+    Status::Stream(FaultCode::Stream(Code::R2)),
+    Status::Stream(FaultCode::Stream(Code::R6)),
+    Status::Stream(FaultCode::Stream(Code::R7)),
+    Status::Stream(FaultCode::Stream(Code::R8)),
+    Status::Stream(FaultCode::Stream(Code::R9)),
+    Status::Stream(FaultCode::Stream(Code::L1)),
+    Status::Stream(FaultCode::Stream(Code::L2)),
+    Status::Stream(FaultCode::Stream(Code::L3)),
+    Status::Stream(FaultCode::Stream(Code::L5)),
+    Status::Stream(FaultCode::L4),
+    Status::Stream(FaultCode::SinkStopped),
+    Status::Make(MakeError::BadLimits),
+    Status::Make(MakeError::InitialTooLong),
+    Status::Make(MakeError::Memory),
+    Status::Set(StaticCode::S1),
+    Status::Set(StaticCode::S2),
+    Status::Set(StaticCode::S3),
+    Status::Set(StaticCode::S4),
+    Status::Set(StaticCode::S5),
+    Status::Set(StaticCode::D8),
+    Status::Set(StaticCode::C1),
+    Status::Set(StaticCode::C2),
+    Status::Set(StaticCode::C3),
+    Status::Set(StaticCode::C4),
+    Status::Set(StaticCode::C5),
+    Status::Set(StaticCode::C6),
+    Status::Set(StaticCode::Memory),
+];
+
+impl Status {
+    /// The number: below 100 how a call ended, from 100 the number of a stream's fault, from 200 that of why no decoder is made,
+    /// from 300 that of a template text's fault.
+    pub fn number(self) -> u32
+        ensures { result ≡ status_number self }
+    {
+        match self {
+            Status::Done => 0,
+            Status::More => 1,
+            Status::NoRoom => 2,
+            Status::NotText => 3,
+            Status::Closed => 4,
+            Status::Stream(code) => 100 + u32::from(code.number()),
+            Status::Make(error) => 200 + u32::from(error.number()),
+            Status::Set(code) => 300 + static_number(code),
+        }
+    }
+
+    /// The status of a number, if it is one.
+    pub fn of_number(number: u32) -> Option<Status>
+        ensures { IfSome result (λ status. status_number status ≡ number) }
+    {
+        for status in ALL {
+            if status.number() == number {
+                return Some(status);
+            }
+        }
+        None
+    }
+}
+
+impl fmt::Display for Status {
+    fn fmt<W: fmt::Write>(&self, f: &mut fmt::Formatter<W>) -> fmt::Result {
+        match self {
+            Status::Done => f.write_str("all was done"),
+            Status::More => f.write_str("records wait, or bytes are left"),
+            Status::NoRoom => f.write_str("a buffer has too little room"),
+            Status::NotText => f.write_str("the template text is not UTF-8"),
+            Status::Closed => f.write_str("it is closed, or was never made"),
+            Status::Stream(FaultCode::SinkStopped) => f.write_str(
+                "there is no memory left for records that wait",
+            ),
+            Status::Stream(code) => write!(f, "{}: {code}", code.name()),
+            Status::Make(error) => write!(f, "{error}"),
+            Status::Set(StaticCode::Memory) => f.write_str("there is no memory left"),
+            Status::Set(code) => write!(f, "{}: {code}", code.name()),
+        }
+    }
+}

@@ -1,0 +1,77 @@
+"""show.py LIBRARY TEMPLATES STREAM [PIECE]: the lines of a stream, as `fastcat show` writes them."""
+
+import os
+import sys
+
+sys.path.insert(0, os.path.join(os.path.dirname(os.path.abspath(__file__)), "../../bindings/python"))
+import fast
+
+PLAIN = {
+    fast.GROUP_END: "end group",
+    fast.ELEMENT_START: "element",
+    fast.ELEMENT_END: "end element",
+    fast.SEQUENCE_END: "end sequence",
+    fast.MESSAGE_END: "end message",
+}
+
+
+def quoted(text):
+    """Returns a text between quotes."""
+    marked = bytearray()
+    for byte in text:
+        if byte < 0x20 or byte == 0x7F:
+            marked += b"\\x%02x" % byte
+        else:
+            marked += (b"\\" if byte in b'"\\' else b"") + bytes([byte])
+    return '"' + marked.decode("utf-8", "surrogateescape") + '"'
+
+
+def value_of(kind, value):
+    """Returns the letter and the value of a field."""
+    if kind == fast.DECIMAL:
+        return "d", f"{value[0]}e{value[1]}"
+    if kind == fast.BYTES:
+        return "b", value.hex()
+    if kind in (fast.ASCII, fast.UNICODE):
+        return "a" if kind == fast.ASCII else "s", quoted(value)
+    return "u" if kind == fast.UNSIGNED else "i", str(value)
+
+
+def line(names, kind, node, value):
+    """Returns the line of an event."""
+    if kind in PLAIN:
+        return PLAIN[kind]
+    if kind == fast.MESSAGE_START:
+        return f"message {names.template_name(node)}"
+    if kind == fast.GROUP_START:
+        return f"group {node} {names.node_name(node)}"
+    if kind == fast.SEQUENCE_START:
+        return f"sequence {node} {names.node_name(node)} {value}"
+    return " ".join(("field", str(node), names.node_name(node), *value_of(kind, value)))
+
+
+def show(names, stream, piece):
+    """Writes the lines of a stream, and returns the status."""
+    out = open(sys.stdout.fileno(), "w", encoding="utf-8", errors="surrogateescape", newline="\n", closefd=False)
+    with names.decoder() as decoder, out:
+        try:
+            for at in range(0, len(stream), piece):
+                for event in decoder.feed(stream[at : at + piece]):
+                    print(line(names, *event), file=out)
+        except fast.Error as fault:
+            print(f"fault {fault.code} at {fault.place}", file=out)
+            return 1
+        if not decoder.between:
+            print(f"truncated at {decoder.consumed}", file=out)
+        return 0 if decoder.between else 1
+
+
+def main(words):
+    library, templates, stream, *piece = words
+    with open(templates, encoding="utf-8") as text, open(stream, "rb") as bytes_of:
+        names, stream = fast.Library(library).set(text.read()), bytes_of.read()
+    return show(names, stream, int(piece[0]) if piece and int(piece[0]) else max(len(stream), 1))
+
+
+if __name__ == "__main__":
+    sys.exit(main(sys.argv[1:]))

@@ -1,0 +1,228 @@
+// A decoder of FAST 1.1 streams, proved in Rattle. For C11 and C++11 on x86-64 and other machines of 64 bits, the least
+// byte first. Link with libfast_c.a, which `rt lib` makes in crates/fast_c, and with heap.c or another heap (below).
+//
+// A set is made of a template text, and decoders are made of a set. What is behind a pointer is the library's: it is never
+// looked into, copied or moved. Nobody calls with one pointer from two threads at once, nor gives one to another thread: the proofs
+// say nothing of that.
+//
+//     fast_set *set = NULL;
+//     fast_decoder *decoder = NULL;
+//     if ((status = fast_set_read(text, text_len, &set)) != FAST_DONE) ..
+//     if ((status = fast_open_decoder(set, fast_default_limits, &decoder)) != FAST_DONE) ..
+//     fast_fed fed = fast_feed(decoder, piece, piece_len, records, 4096, texts, 65536);
+//     .. records[0 .. fed.records - 1]; and again with the rest of the piece, while fed.status is FAST_MORE ..
+//     fast_close_decoder(&decoder);
+//     fast_close_set(&set);
+#ifndef FAST_H
+#define FAST_H
+
+#include <stddef.h>
+#include <stdint.h>
+
+#ifdef __cplusplus
+#define FAST_ASSERT(is, words) static_assert(is, words)
+extern "C" {
+#else
+#include <assert.h>
+#define FAST_ASSERT(is, words) _Static_assert(is, words)
+#endif
+
+// fast_interface() has to answer this number: the header and the library are of one build.
+#define FAST_INTERFACE 1
+
+// ---- records: the events of a stream. What a record has no use for is 0.
+
+enum fast_kind {
+    FAST_MESSAGE_START = 1,  // node: the number of the template
+    FAST_UNSIGNED,           // value
+    FAST_SIGNED,             // value, as int64_t
+    FAST_DECIMAL,            // value, as int64_t, times ten to exponent
+    FAST_ASCII,              // the text at texts[value], of length bytes; none is 0x80 or greater
+    FAST_UNICODE,            // the same in UTF-8
+    FAST_BYTES,              // the same, any bytes
+    FAST_GROUP_START,        // node
+    FAST_GROUP_END,
+    FAST_SEQUENCE_START,     // node; value: how many elements follow
+    FAST_ELEMENT_START,
+    FAST_ELEMENT_END,
+    FAST_SEQUENCE_END,
+    FAST_MESSAGE_END
+};
+
+typedef struct fast_record {
+    uint32_t kind;     // one of fast_kind
+    uint32_t node;     // the number of the field, group or sequence in the set, or of the template; 0 at all others
+    uint64_t value;    // an integer, a mantissa, a number of elements, or where a text begins
+    uint32_t length;   // of a text
+    int32_t exponent;  // of a decimal
+} fast_record;
+
+FAST_ASSERT(sizeof(void *) == 8 && sizeof(size_t) == 8, "a machine of 64 bits");
+FAST_ASSERT(sizeof(fast_record) == 24, "a record has 24 bytes");
+FAST_ASSERT(offsetof(fast_record, node) == 4 && offsetof(fast_record, value) == 8, "the fields of a record");
+FAST_ASSERT(offsetof(fast_record, length) == 16 && offsetof(fast_record, exponent) == 20, "the fields of a record");
+
+// ---- statuses: what a call came to. fast_status_words has a sentence for each.
+
+enum fast_status {
+    FAST_DONE = 0,
+    FAST_MORE = 1,       // records wait, or bytes are left: the next feed goes on with the rest of the piece
+    FAST_NO_ROOM = 2,    // a buffer has too little room for what is next: nothing was taken or given
+    FAST_NOT_TEXT = 3,   // the template text is not UTF-8
+    FAST_CLOSED = 4,     // the pointer is null: what it pointed to is closed, or was never made
+
+    // a stream at fault: it stays so until a reset
+    FAST_D2 = 101, FAST_D4, FAST_D5, FAST_D6, FAST_D7, FAST_D9,
+    FAST_R1, FAST_R2, FAST_R6, FAST_R7, FAST_R8, FAST_R9,
+    FAST_L1, FAST_L2, FAST_L3, FAST_L4,
+    FAST_WAITING_MEMORY = 117,  // there is no memory left for records that wait
+    FAST_L5 = 119,
+
+    // no decoder
+    FAST_BAD_LIMITS = 201, FAST_INITIAL_TOO_LONG = 202, FAST_NO_MEMORY = 204,
+
+    // a template text that is refused
+    FAST_S1 = 301, FAST_S2, FAST_S3, FAST_S4, FAST_S5, FAST_D8,
+    FAST_C1, FAST_C2, FAST_C3, FAST_C4, FAST_C5, FAST_C6, FAST_SET_MEMORY
+};
+
+// Writes what a status says, in English and without a zero at its end, as far as there is room. The answer is the length of all of it; 0
+// where no status has the number. The sentence of a code begins with its name and a colon: "D5: a mandatory field ..".
+size_t fast_status_words(uint32_t status, uint8_t *out, size_t out_len);
+
+// FAST_INTERFACE of the library.
+uint32_t fast_interface(void);
+
+// ---- the heap: the library asks the program for memory. heap.c hands on to malloc, realloc and free. No alignment is greater than 16.
+
+// ---- template sets
+
+typedef struct fast_set fast_set;
+typedef struct fast_set_handle {
+    fast_set *at;
+} fast_set_handle;
+
+// Reads a template set from its TOML text, in UTF-8, which is read during the call alone. FAST_DONE, and then *out is the caller's to close;
+// FAST_NOT_TEXT, FAST_S1 to FAST_SET_MEMORY or FAST_NO_MEMORY, and then *out is as it was.
+uint32_t fast_set_read(const uint8_t *text, size_t text_len, fast_set **out);
+
+// ---- decoders
+
+typedef struct fast_decoder fast_decoder;
+typedef struct fast_decoder_handle {
+    fast_decoder *at;
+} fast_decoder_handle;
+
+typedef struct fast_limits {
+    uint32_t strict;        // 1: what is longer than it needs to be is a fault (R6, R7, R8)
+    uint32_t max_text;      // the bytes of one text, 16 to 1,048,576
+    uint32_t max_elements;  // the elements of one sequence
+    uint32_t max_total;     // the elements of all sequences of one message
+} fast_limits;
+
+static const fast_limits fast_default_limits = {0, 1024, 1000, 1000};
+
+typedef struct fast_fed {
+    uint64_t taken;     // how many bytes of the piece were taken
+    uint64_t records;   // how many records were written
+    uint64_t texts;     // how many bytes of texts were written
+    uint64_t consumed;  // how many bytes of the stream were consumed since the decoder was made or reset: at a fault its place
+    uint32_t between;   // 1: there is no fault, and no message that is begun and not whole
+    uint32_t status;    // FAST_DONE, FAST_MORE, FAST_NO_ROOM, or from FAST_D2 a fault, which is told behind all records before it
+} fast_fed;
+
+FAST_ASSERT(sizeof(fast_fed) == 40, "what comes of a feed has 40 bytes");
+FAST_ASSERT(offsetof(fast_fed, consumed) == 24 && offsetof(fast_fed, status) == 36, "its fields");
+
+// ---- what the library has. Programs call the functions below, which hand over no null pointer but for a set's.
+//
+// A handle goes in by value, and with it what it owns; `back` gets the same pointer, and with it the ownership.
+
+void fast_set_close(fast_set_handle set);
+uint32_t fast_set_templates(fast_set_handle set);
+uint32_t fast_set_nodes(fast_set_handle set);
+size_t fast_template_name(fast_set_handle set, uint32_t number, uint8_t *out, size_t out_len);
+size_t fast_node_name(fast_set_handle set, uint32_t number, uint8_t *out, size_t out_len);
+uint32_t fast_decoder_open(fast_set_handle set, uint32_t strict, uint32_t max_text, uint32_t max_elements, uint32_t max_total,
+                           fast_decoder **out);
+void fast_decoder_feed(fast_decoder_handle decoder, fast_decoder **back, const uint8_t *piece, size_t piece_len,
+                       fast_record *records, size_t records_len, uint8_t *texts, size_t texts_len, fast_fed *fed);
+void fast_decoder_reset(fast_decoder_handle decoder, fast_decoder **back);
+void fast_decoder_close(fast_decoder_handle decoder);
+
+// ---- what programs call. A null buffer is one without room, whatever its length; buffers of one call do not overlap.
+
+// Where a buffer is null: the library wants a place even for nothing.
+static fast_record fast_nothing;
+
+// Gives a set's memory back, and makes the pointer null. All decoders of the set are closed before.
+static inline void fast_close_set(fast_set **set) {
+    fast_set_handle handle = {*set};
+    if (handle.at) fast_set_close(handle);
+    *set = NULL;
+}
+
+// How many templates and nodes a set has: their numbers are those below.
+static inline uint32_t fast_count_templates(fast_set *set) {
+    fast_set_handle handle = {set};
+    return set ? fast_set_templates(handle) : 0;
+}
+static inline uint32_t fast_count_nodes(fast_set *set) {
+    fast_set_handle handle = {set};
+    return set ? fast_set_nodes(handle) : 0;
+}
+
+// Writes the name of a template or node, in UTF-8 and without a zero at its end, as far as there is room. The answer is the length of all of
+// it; 0 where the set has none of the number.
+static inline size_t fast_name_of_template(fast_set *set, uint32_t number, char *out, size_t out_len) {
+    fast_set_handle handle = {set};
+    uint8_t *to = out ? (uint8_t *)out : (uint8_t *)&fast_nothing;
+    return set ? fast_template_name(handle, number, to, out ? out_len : 0) : 0;
+}
+static inline size_t fast_name_of_node(fast_set *set, uint32_t number, char *out, size_t out_len) {
+    fast_set_handle handle = {set};
+    uint8_t *to = out ? (uint8_t *)out : (uint8_t *)&fast_nothing;
+    return set ? fast_node_name(handle, number, to, out ? out_len : 0) : 0;
+}
+
+// Makes a decoder, which borrows the set until it is closed, and takes all memory that it will need, but for records that wait. FAST_DONE, and
+// then *out is the caller's to close; FAST_CLOSED or FAST_BAD_LIMITS to FAST_NO_MEMORY, and then *out is as it was.
+static inline uint32_t fast_open_decoder(fast_set *set, fast_limits limits, fast_decoder **out) {
+    fast_set_handle handle = {set};
+    if (!set) return FAST_CLOSED;
+    return fast_decoder_open(handle, limits.strict, limits.max_text, limits.max_elements, limits.max_total, out);
+}
+
+// Feeds a piece of the stream, cut anywhere, and writes the records of its events from records[0] on, and their texts from texts[0] on. Where
+// the buffers are full, FAST_MORE: records[0 .. fed.records - 1] are the caller's, who calls again with the piece from piece[fed.taken] on,
+// which may be empty. With one record and max_text bytes of texts it always comes forward; 4,096 records (96 KiB) are fast. What has no room
+// waits in memory of the library, which is asked for then alone: at most the events of half as many bytes as there are records.
+static inline fast_fed fast_feed(fast_decoder *decoder, const uint8_t *piece, size_t piece_len, fast_record *records,
+                                 size_t records_len, uint8_t *texts, size_t texts_len) {
+    fast_fed fed = {0, 0, 0, 0, 0, FAST_CLOSED};
+    fast_decoder_handle handle = {decoder};
+    uint8_t *nothing = (uint8_t *)&fast_nothing;
+    if (decoder) {
+        fast_decoder_feed(handle, &handle.at, piece ? piece : nothing, piece ? piece_len : 0, records ? records : &fast_nothing,
+                          records ? records_len : 0, texts ? texts : nothing + 8, texts ? texts_len : 0, &fed);
+    }
+    return fed;
+}
+
+// Makes a decoder as it was made, before the first byte and without a fault; records that wait are gone.
+static inline void fast_reset_decoder(fast_decoder *decoder) {
+    fast_decoder_handle handle = {decoder};
+    if (decoder) fast_decoder_reset(handle, &handle.at);
+}
+
+// Gives a decoder's memory back, and makes the pointer null.
+static inline void fast_close_decoder(fast_decoder **decoder) {
+    fast_decoder_handle handle = {*decoder};
+    if (handle.at) fast_decoder_close(handle);
+    *decoder = NULL;
+}
+
+#ifdef __cplusplus
+}
+#endif
+#endif

@@ -1,0 +1,163 @@
+// Calls the library of crates/fast_c by include/fast.h on the rows of tools/growths/rows.txt: each stream whole and in pieces of one byte, with room
+// for one record and for many; each request for memory refused in turn; and what is answered for what is not there.
+#include "../../include/fast.h"
+#include "../growths/rows.h"
+
+static int wrong;
+
+static void expect(bool is, const struct row *r, const char *words) {
+    if (is) return;
+    wrong++;
+    fprintf(stderr, "calls: rows.txt:%d: %s: %s\n", r->line, r->name, words);
+}
+
+// The checksum of docs/PERFORMANCE.md, over records.
+static const uint64_t basis = 0xcbf29ce484222325, prime = 0x100000001b3, spread = 0x9e3779b97f4a7c15;
+
+static void add(uint64_t *sum, uint64_t word) {
+    *sum = (*sum ^ word) * prime;
+}
+
+static void add_record(uint64_t *sum, const fast_record *it, const uint8_t *texts) {
+    uint64_t key = (it->node * UINT64_C(16) + it->kind) * spread;
+    if (it->kind < FAST_ASCII || it->kind > FAST_BYTES) {
+        add(sum, key + it->value);
+        if (it->kind == FAST_DECIMAL) add(sum, (uint64_t)(int64_t)it->exponent);
+        return;
+    }
+    add(sum, key + it->length);
+    for (uint32_t at = 0; at < it->length; at += 8) {
+        uint64_t word = 0;
+        memcpy(&word, texts + it->value + at, it->length - at < 8 ? it->length - at : 8);
+        add(sum, word);
+    }
+}
+
+// The status of a row: 0 between two messages, 1 inside of one, from 2 a fault, in the order of its codes, then L4 and a sink that stopped.
+static uint64_t status_of(const fast_fed *fed) {
+    if (fed->status == FAST_DONE) return !fed->between;
+    if (fed->status == FAST_L5) return 17;
+    if (fed->status >= FAST_D2 && fed->status <= FAST_L3) return fed->status - FAST_D2 + 2;
+    return fed->status == FAST_L4 ? 18 : fed->status == FAST_WAITING_MEMORY ? 19 : fed->status + 1000;
+}
+
+enum { RECORDS = 4096, TEXTS = 65536 };
+static fast_record records[RECORDS];
+static uint8_t texts[TEXTS];
+
+static fast_limits limits_of(const struct row *r) {
+    return (fast_limits){r->strict, r->max_text, r->max_elements, r->max_total};
+}
+
+// Decodes a row's stream in pieces, with this much room.
+static struct answer decode(fast_decoder *decoder, const struct row *r, size_t piece, size_t room) {
+    struct answer is = {.sum = basis};
+    fast_fed fed = {.between = 1};
+    size_t at = 0;
+    do {
+        size_t ahead = r->stream_len - at < piece ? r->stream_len - at : piece;
+        fed = fast_feed(decoder, r->stream + at, ahead, records, room, texts, r->max_text);
+        for (uint64_t i = 0; i < fed.records; i++) add_record(&is.sum, &records[i], texts);
+        is.events += fed.records;
+        at += fed.taken;
+    } while (fed.status == FAST_MORE || (fed.status == FAST_DONE && at < r->stream_len));
+    is.status = status_of(&fed);
+    is.consumed = fed.consumed;
+    return is;
+}
+
+static bool is_same(const struct answer *a, const struct answer *b) {
+    return a->status == b->status && a->consumed == b->consumed && a->events == b->events && a->sum == b->sum;
+}
+
+static void run_row(const struct row *r) {
+    fast_set *set = NULL;
+    fast_decoder *decoder = NULL;
+    begin_run(none, none);
+    expect(fast_set_read(r->templates, r->templates_len, &set) == FAST_DONE, r, "no set");
+    expect(fast_open_decoder(set, limits_of(r), &decoder) == FAST_DONE, r, "no decoder");
+    static const size_t pieces[] = {SIZE_MAX, 1, 3}, rooms[] = {RECORDS, 1, 5};
+    for (int i = 0; i < 9; i++) {
+        struct answer is = decode(decoder, r, pieces[i / 3], rooms[i % 3]);
+        expect(is_same(&is, &r->due), r, "not what is due");
+        fast_reset_decoder(decoder);
+    }
+    fast_close_decoder(&decoder);
+    fast_close_decoder(&decoder);
+    fast_close_set(&set);
+    fast_close_set(&set);
+    expect(!blocks, r, "memory is left behind");
+}
+
+// Each request is refused in turn, while a stream is fed with room for one record.
+static void refuse_each(const struct row *r) {
+    for (uint64_t number = 0;; number++) {
+        fast_set *set = NULL;
+        fast_decoder *decoder = NULL;
+        begin_run(none, number);
+        uint32_t status = fast_set_read(r->templates, r->templates_len, &set);
+        if (!status) status = fast_open_decoder(set, limits_of(r), &decoder);
+        bool is_waiting = false;
+        if (!status) {
+            struct answer is = decode(decoder, r, SIZE_MAX, 1);
+            is_waiting = is.status == 19;
+            expect(is_waiting || is_same(&is, &r->due), r, "a refused request changes what comes");
+        }
+        bool is_memory = status == FAST_SET_MEMORY || status == FAST_NO_MEMORY || is_waiting;
+        expect(is_memory || number >= requests, r, "a refused request is not told");
+        bool is_last = number >= requests;
+        fast_close_decoder(&decoder);
+        fast_close_set(&set);
+        expect(!blocks, r, "memory is left behind a refused request");
+        if (is_last) return;
+    }
+}
+
+// What is answered for what is not there.
+static void run_nothing(const struct row *r) {
+    fast_set *set = NULL;
+    fast_decoder *decoder = NULL;
+    uint8_t words[256];
+    begin_run(none, none);
+    expect(fast_interface() == FAST_INTERFACE, r, "another build");
+    expect(fast_feed(decoder, NULL, 1, NULL, 1, NULL, 1).status == FAST_CLOSED, r, "a decoder that is not there");
+    expect(fast_open_decoder(set, fast_default_limits, &decoder) == FAST_CLOSED && !decoder, r, "a set that is not there");
+    expect(fast_count_nodes(set) == 0 && fast_count_templates(set) == 0, r, "the counts of a set that is not there");
+    expect(fast_set_read((const uint8_t *)"\xff", 1, &set) == FAST_NOT_TEXT && !set, r, "a text that is none");
+    expect(fast_set_read((const uint8_t *)"x", 1, &set) == FAST_S1 && !set, r, "a text that is refused");
+    expect(fast_set_read(r->templates, r->templates_len, &set) == FAST_DONE, r, "no set");
+    expect(fast_open_decoder(set, (fast_limits){0, 15, 1, 1}, &decoder) == FAST_BAD_LIMITS && !decoder, r, "limits");
+    expect(fast_open_decoder(set, fast_default_limits, &decoder) == FAST_DONE, r, "no decoder");
+    expect(fast_feed(decoder, NULL, 9, records, 1, texts, 1).status == FAST_DONE, r, "a null piece is an empty one");
+    expect(fast_feed(decoder, r->stream, r->stream_len, NULL, 9, NULL, 9).status == FAST_NO_ROOM, r, "no room");
+    expect(fast_name_of_node(set, fast_count_nodes(set), NULL, 9) == 0, r, "a node that is not there");
+    expect(fast_name_of_node(set, 0, NULL, 9) > 0 && fast_name_of_template(set, 0, (char *)words, 1) > 0, r, "names");
+    for (uint32_t status = 0; status < 500; status++) {
+        size_t length = fast_status_words(status, words, sizeof words);
+        bool is_one = status <= FAST_CLOSED || (status > 100 && status < 118) || status == FAST_L5 || status == 201 || status == 202 ||
+                      status == 204 || (status > 300 && status < 314);
+        expect(is_one ? length > 10 && length < 200 : !length, r, "the words of a status");
+    }
+    expect(fast_status_words(FAST_D5, words, 2) > 2 && words[0] == 'D' && words[1] == '5', r, "the words of D5");
+    fast_close_decoder(&decoder);
+    fast_close_set(&set);
+    expect(!blocks, r, "memory is left behind nothing");
+}
+
+int main(void) {
+    FILE *file = fopen("rows.txt", "rb");
+    if (!file) {
+        perror("rows.txt");
+        return 2;
+    }
+    struct row r;
+    int line = 0, rows = 0;
+    while (next_row(file, &line, &r)) {
+        run_row(&r);
+        if (rows++ % 16 == 0) refuse_each(&r);
+        if (rows == 4) run_nothing(&r);
+    }
+    fclose(file);
+    printf("calls: %d streams by fast.h, %d wrong\n", rows, wrong);
+    return wrong != 0 || !rows;
+}
