@@ -157,7 +157,8 @@ fn try_value(
 ) -> Result<(), EncodeFault>
     requires node { node < length (nodes_of templates.now) }
     requires ready { IsReady templates.now limits ledger.old }
-    ensures suits { OnOk result (Suits (instruction_in (nodes_of templates.now) node) (Some (one (value_data value.now)))) }
+    ensures suits { OnOk result
+        (Suits (instruction_in (nodes_of templates.now) node) (Some (one (value_data value.now)))) }
     ensures fits { OnOk result (length (text_of (value_data value.now)) ≤ limits.max_text) }
     ensures ok { OnOk result
         (Wrote (Encodes limits (instruction_in (nodes_of templates.now) node) ledger.old.now
