@@ -37,15 +37,17 @@ fn chain(
     (open, close): (&str, &str),
 ) -> Result<String, AllocError> {
     let mut text = String::new(alloc);
-    let (mut before, mut own) = (Buffer::new(), Buffer::new());
+    let mut number = Buffer::new();
     for k in 0..count {
-        put(&mut text, &["[[template]]\nname='", letter, own.format(k), "'\nfields=["])?;
+        put(&mut text, "[[template]]\nname='", letter, number.format(k))?;
+        text.push_str("'\nfields=[")?;
         if k == 0 {
-            put(&mut text, &[open, "{kind='uInt32', name='x'}", close])?;
+            put(&mut text, open, "{kind='uInt32', name='x'}", close)?;
         } else {
-            let before = before.format(k - 1);
             for _ in 0..times {
-                put(&mut text, &[open, "{kind='ref', name='", letter, before, "'}", close, ", "])?;
+                put(&mut text, open, "{kind='ref', name='", letter)?;
+                put(&mut text, number.format(k - 1), "'}", close)?;
+                text.push_str(", ")?;
             }
         }
         text.push_str("]\n")?;
@@ -85,7 +87,9 @@ fn cycles_of_references(rt: HostRuntime) -> Result<(), Fail> {
     for (open, close) in [GROUPS, SEQUENCES] {
         let (before, field) = ("[[template]]\nname='A'\nfields=[", "{kind='ref', name='A'}");
         let mut text = String::new(rt.alloc());
-        put(&mut text, &[before, open, open, field, close, close, "]"])?;
+        put(&mut text, before, open, open)?;
+        put(&mut text, field, close, close)?;
+        text.push_str("]")?;
         let want = Some((StaticCode::C3, Some(0)));
         expect_fault(&rt, rt.alloc(), text.as_str(), want, text.as_str());
     }
@@ -136,7 +140,7 @@ fn cycles_before_chains_before_nodes(rt: HostRuntime) -> Result<(), Fail> {
         ("long, many", &long, &many, (StaticCode::C4, Some(65))),
     ] {
         let mut text = String::new(rt.alloc());
-        put(&mut text, &[first.as_str(), second.as_str()])?;
+        put(&mut text, first.as_str(), second.as_str(), "")?;
         expect_fault(&rt, rt.alloc(), text.as_str(), Some(want), what);
     }
     Ok(())

@@ -44,7 +44,7 @@ fn spell(text: &mut String, field: &FieldInstruction) -> Result<(), AllocError> 
 
 fn spell_numbers(text: &mut String, body: &[u32]) -> Result<(), AllocError> {
     for n in body {
-        put(text, &[" ", Buffer::new().format(*n)])?;
+        put(text, " ", Buffer::new().format(*n), "")?;
     }
     text.push_str(" }")
 }
@@ -137,8 +137,12 @@ fn copying(alloc: Global, count: usize) -> Result<String, AllocError> {
     let mut text = String::from_str(alloc, "[[template]]\nname = 'A'\nfields = [")?;
     let mut number = Buffer::new();
     for n in 0..count {
-        let number = number.format(n);
-        put(&mut text, &["{kind='uInt32', name='f", number, "', op='copy'},"])?;
+        put(
+            &mut text,
+            "{kind='uInt32', name='f",
+            number.format(n),
+            "', op='copy'},",
+        )?;
     }
     text.push_str("]\n")?;
     Ok(text)
