@@ -1,7 +1,6 @@
 //! Decoders: bytes to records.
 
-ghost use Rattle.std.specs.Prelude.{◌≡◌, ℕ, List, take, Unit};
-ghost use Rattle.fast_stream.specs.meaning.Events.{EventData};
+ghost use Rattle.fast_c.specs.declared.decoding.Decoding.{Decoding};
 
 use crate::sets::SetHandle;
 use crate::{NO_MEMORY, limits_of};
@@ -36,7 +35,6 @@ pub struct DecoderHandle {
 impl Model for DecoderHandle {
     ghost use Rattle.std.specs.Box.Ownership.{box_owns};
     ghost use Rattle.std.specs.contracts.impls.GlobalAllocator.TheImpl.{ghosts};
-    ghost use Rattle.fast_c.specs.declared.decoding.Decoding.{Decoding};
     ghost use Rattle.fast_c.specs.contracts.decoding.Decoding.{the_row};
 
     // The value at the pointer, and the right to give its block back.

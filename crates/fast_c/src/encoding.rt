@@ -1,6 +1,6 @@
 //! Encoders: records to bytes.
 
-ghost use Rattle.std.specs.Prelude.{◌≡◌};
+ghost use Rattle.fast_c.specs.declared.encoding.Encoding.{Encoding};
 
 use crate::sets::SetHandle;
 use crate::{NO_MEMORY, limits_of};
@@ -38,7 +38,6 @@ pub struct EncoderHandle {
 impl Model for EncoderHandle {
     ghost use Rattle.std.specs.Box.Ownership.{box_owns};
     ghost use Rattle.std.specs.contracts.impls.GlobalAllocator.TheImpl.{ghosts};
-    ghost use Rattle.fast_c.specs.declared.encoding.Encoding.{Encoding};
     ghost use Rattle.fast_c.specs.contracts.encoding.Encoding.{the_row};
 
     // The value at the pointer, and the right to give its block back.

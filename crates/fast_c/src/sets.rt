@@ -1,6 +1,7 @@
 //! Template sets.
 
-ghost use Rattle.std.specs.Prelude.{◌≡◌};
+ghost use Rattle.fast_template.specs.contracts.sets.Templates.{the_row};
+ghost use Rattle.fast_template.specs.declared.sets.Templates.{Templates};
 
 use crate::{NO_MEMORY, write_front};
 use fast_records::Status;
@@ -20,13 +21,12 @@ pub struct FastSet {
 pub struct SetHandle {
     at: *mut FastSet,
     alloc: Global,
-    ghost value: { Templates },
+    ghost value: { Templates } by { the_row.coded },
 }
 
 impl Model for SetHandle {
     ghost use Rattle.std.specs.Box.Ownership.{box_owns};
     ghost use Rattle.std.specs.contracts.impls.GlobalAllocator.TheImpl.{ghosts};
-    ghost use Rattle.fast_template.specs.declared.sets.Templates.{Templates};
     ghost use Rattle.fast_template.specs.contracts.sets.Templates.{the_row};
 
     // The value at the pointer, and the right to give its block back.

@@ -55,27 +55,31 @@ fn mark_of(record: Record) -> Option<Event<'static>>
     }
 }
 
+/// A field of a record's kind and node with this text, if it is one with a text.
+fn text_field(record: Record, text: &[u8]) -> Option<Event<'_>>
+    ensures { IfSome result (λ e. event_text (event_data e) ≡ text.now) }
+{
+    let node = record.node;
+    let value = match record.kind {
+        ASCII => Scalar::Ascii(text),
+        UNICODE => Scalar::Unicode(text),
+        BYTES => Scalar::Bytes(text),
+        _ => return None,
+    };
+    Some(Event::Field { node, value })
+}
+
 /// An event of the kind, node and value of a record, with this text.
 fn event_with(record: Record, text: &[u8]) -> Option<Event<'_>>
     ensures { IfSome result (λ e. event_text (event_data e) ≡ text.now) }
 {
-    let node = record.node;
-    match record.kind {
-        ASCII => Some(Event::Field {
-            node,
-            value: Scalar::Ascii(text),
-        }),
-        UNICODE => Some(Event::Field {
-            node,
-            value: Scalar::Unicode(text),
-        }),
-        BYTES => Some(Event::Field {
-            node,
-            value: Scalar::Bytes(text),
-        }),
-        _ if text.is_empty() => mark_of(record),
-        _ => None,
+    if record.kind >= ASCII && record.kind <= BYTES {
+        return text_field(record, text);
     }
+    if !text.is_empty() {
+        return None;
+    }
+    mark_of(record)
 }
 
 /// The text of a record, empty where it has none, if it stands in these texts.
