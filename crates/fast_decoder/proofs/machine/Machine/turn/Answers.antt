@@ -1,5 +1,5 @@
 use Rattle.fast_decoder.proofs.fields.Heads.{node_within, field_head, parts_head, group_head, sequence_head}
-use Rattle.std.proofs.Common.{sym, ◌∙◌}
+use Rattle.std.proofs.Common.{rules, sym, ◌∙◌}
 use Rattle.fast_decoder.proofs.machine.Machine.turn.Goals as goal
 
 pub begin_field-requires-clause-next : goal.begin_field-requires-clause-next
@@ -22,3 +22,7 @@ begin_sequence-requires-clause-next g c =
 
 pub begin_sequence-requires-clause-node : goal.begin_sequence-requires-clause-node
 begin_sequence-requires-clause-node g c = node_within c.args.templates.now c.args.self.now.cursor c.in-Some.number c.node.result.now (sym c.next.ensures ∙ c.in-Some.is) c.node.ensures.found
+
+-- A goal that a wrong body would leave.
+pub returns-in-Field-clause-turns : goal.returns-in-Field-clause-turns
+returns-in-Field-clause-turns g c = search rules

@@ -1,6 +1,12 @@
-use Rattle.std.proofs.Common.{◌∙◌, ap}
+use Rattle.std.proofs.Common.{rules, ◌∙◌, ap}
 use Rattle.fast_template.specs.device.Opcodes.{opcodes_of}
 use Rattle.fast_template.proofs.sets.Templates.read.Goals as goal
 
 pub invariant_of-result-clause-nodes_have_opcodes : goal.invariant_of-result-clause-nodes_have_opcodes
 invariant_of-result-clause-nodes_have_opcodes c = c.in-Ok.ensures ∙ ap opcodes_of c.deref.ensures.value
+
+pub invariant_of-result-clause-nodes_usable : goal.invariant_of-result-clause-nodes_usable
+invariant_of-result-clause-nodes_usable c = search rules
+
+pub returns-clause-read : goal.returns-clause-read
+returns-clause-read c = search rules
