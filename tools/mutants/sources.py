@@ -13,6 +13,11 @@ HOLE = """use Rattle.{crate}.proofs.{folder}.Statement.{{statement}}
 pub {name}_spec : {{M : Type 1}} → statement M
 {name}_spec = ?
 """
+NO_OFFER = "nothing-is-offered"
+UNOFFERED = """
+pub {name} : {name}-goal
+{name} = ?
+"""
 
 
 def rows_of(file):
@@ -70,8 +75,10 @@ def functions_of(crate, file, text):
     found, owner, cycle, head, above = [], "", "", None, 0
     for number, line in enumerate(text.split("\n"), 1):
         indent, bare = len(line) - len(line.lstrip()), line.strip()
-        if it := re.match(r"(?:unsafe )?impl(?:<.*?>)?\s+(?:(\w+)(?:<.*?>)? for )?&?(\w+)", line):
-            owner = f"{it[2]}{it[1] or ''}::"
+        if it := re.match(r"(?:unsafe )?impl(?:<.*?>)?\s+(?:(\w+)(?:<(.*?)>)? for )?&?(\w+)", line):
+            # (a trait's argument is part of the impl's name: RunFaultFromStaticFault)
+            given = it[2] if it[2] and re.fullmatch(r"\w+", it[2]) else ""
+            owner = f"{it[3]}{it[1] or ''}{given}::"
         elif it := re.match(r"(?:pub )?trait (\w+)", line):
             owner = f"{it[1]}::"
         elif line == "}" and head is None:
@@ -98,6 +105,15 @@ def module_of(file):
     return "" if module in ("lib", "main") else module.removesuffix("/mod").replace("/", "::")
 
 
+def modules_in(texts):
+    """Returns the modules that declare types, by the names of these."""
+    found = {}
+    for file, text in texts.items():
+        for it in TYPE.finditer(text):
+            found.setdefault(it[1], []).append(module_of(file))
+    return found
+
+
 def proof_folder(fn, modules_of_types):
     """Returns the folder of a function's proof below proofs/, or None where it is not told by its path: a method of a trait's impl, or of a
     type whose name the crate has twice."""
@@ -116,10 +132,7 @@ def without_bodies(crate, texts, kept):
 
     A function with its body stays where its proof's folder is not known, as does a cycle of calls with a kept member, or whose
     members do not all go."""
-    modules_of_types = {}
-    for file, text in texts.items():
-        for it in TYPE.finditer(text):
-            modules_of_types.setdefault(it[1], []).append(module_of(file))
+    modules_of_types = modules_in(texts)
     functions = {file: functions_of(crate, file, text) for file, text in texts.items()}
     every = [fn for found in functions.values() for fn in found]
     stays = lambda fn: fn.path in kept or proof_folder(fn, modules_of_types) is None or head_line(texts[fn.file].split("\n"), fn) is None
@@ -167,6 +180,18 @@ def leave_holes(room, crate, folders):
         os.makedirs(f"{room}/proofs/{folder}", exist_ok=True)
         with open(f"{room}/proofs/{folder}/Proof.antt", "w", encoding="utf-8") as it:
             it.write(HOLE.format(crate=crate, folder=folder.replace("/", "."), name=name))
+
+
+def leave_unoffered(room, crate, texts, paths):
+    """Adds to the answers of each of these functions one that is wrong: of a function with such an answer a check tells which goals are
+    open, and does not look for the file to offer, which takes as long as to find the open goals."""
+    modules_of_types = modules_in(texts)
+    for fn in (it for file, text in texts.items() for it in functions_of(crate, file, text)):
+        folder = proof_folder(fn, modules_of_types) if fn.path in paths and not fn.cycle else None
+        if folder and not os.path.isfile(f"{room}/proofs/{folder}/Proof.antt"):
+            os.makedirs(f"{room}/proofs/{folder}", exist_ok=True)
+            with open(f"{room}/proofs/{folder}/Answers.antt", "a", encoding="utf-8") as it:
+                it.write(UNOFFERED.format(name=NO_OFFER))
 
 
 def cycle_is_gone(room, folder):
