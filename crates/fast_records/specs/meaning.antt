@@ -1,4 +1,5 @@
 -- What is meant: the contracts of public functions rest on these definitions.
 pub mod Feeding
+pub mod Lent
 pub mod Records
 pub mod Status

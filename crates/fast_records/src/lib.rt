@@ -2,6 +2,8 @@
 #![tactic(auto)]
 
 pub mod feeding;
+pub mod lent;
+pub mod putting;
 pub mod records;
 mod room;
 pub mod sink;
@@ -9,6 +11,7 @@ pub mod status;
 pub mod waiting;
 
 pub use feeding::{Fed, Outcome, feed_records};
+pub use putting::{PutFault, message_of_records};
 pub use records::Record;
 pub use status::Status;
 pub use waiting::Waiting;

@@ -3,6 +3,7 @@ use Rattle.std.specs.Prelude.{ℕ, ◌+◌}
 use Rattle.fast_stream.specs.device.FaultCodes.{code_number, cause_number}
 use Rattle.fast_notation.specs.declared.codes.StaticCode.{StaticCode}
 use Rattle.fast_notation.specs.declared.codes.StaticCode.TheVariants as Static
+use Rattle.fast_spelling.specs.device.Codes.{encode_number}
 use Rattle.fast_records.specs.declared.feeding.Outcome.{Outcome}
 use Rattle.fast_records.specs.declared.feeding.Outcome.TheVariants as Came
 use Rattle.fast_records.specs.declared.status.Status.{Status}
@@ -30,10 +31,12 @@ status_number To.Done = 0
 status_number To.More = 1
 status_number To.NoRoom = 2
 status_number To.NotText = 3
-status_number To.Closed = 4
+status_number To.Misplaced = 4
+status_number To.Closed = 5
 status_number (To.Stream c) = 100 + code_number c
 status_number (To.Make e) = 200 + cause_number e
 status_number (To.Set c) = 300 + static_number c
+status_number (To.Message f) = 400 + encode_number f
 
 -- the status of how a feed ended
 abbrev pub ended : Outcome → Status
