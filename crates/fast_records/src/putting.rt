@@ -185,14 +185,7 @@ fn put_slot(
             if !is_group(node, first) {
                 return Ok((None, at));
             }
-            let (slots, next) = put_body(
-                alloc,
-                templates,
-                body,
-                Mark::GroupEnd,
-                given,
-                at + 1,
-            )?;
+            let (slots, next) = put_body(alloc, templates, body, Mark::GroupEnd, given, at + 1)?;
             Ok((Some(Item::Group(slots)), next))
         }
         Shape::Sequence { body, .. } => {

@@ -3,7 +3,9 @@
 ghost use Rattle.std.specs.Prelude.{◌≡◌, IfSome};
 ghost use Rattle.fast_records.specs.meaning.Status.{status_number, static_number, ended};
 
+use crate::encoding::PutRefusal;
 use crate::feeding::Outcome;
+use crate::putting::PutFault;
 use fast_decoder::{FaultCode, MakeError};
 use fast_spelling::EncodeFault;
 use fast_template::StaticCode;
@@ -47,6 +49,21 @@ impl From<Outcome> for Status {
             Outcome::More => Status::More,
             Outcome::NoRoom => Status::NoRoom,
             Outcome::Fault(code) => Status::Stream(code),
+        }
+    }
+}
+
+impl From<PutRefusal> for Status {
+    ghost use Rattle.std.specs.Prelude.{◌≡◌};
+    ghost use Rattle.fast_records.specs.meaning.Status.{refused};
+
+    ghost from_gives = { λ refusal status. status ≡ refused refusal };
+
+    fn from(refusal: PutRefusal) -> Status {
+        match refusal {
+            PutRefusal::Records(PutFault::Misplaced { .. }) => Status::Misplaced,
+            PutRefusal::Records(PutFault::Memory) => Status::Message(EncodeFault::Memory),
+            PutRefusal::Message(fault) => Status::Message(fault),
         }
     }
 }

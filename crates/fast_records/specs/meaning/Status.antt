@@ -4,6 +4,10 @@ use Rattle.fast_stream.specs.device.FaultCodes.{code_number, cause_number}
 use Rattle.fast_notation.specs.declared.codes.StaticCode.{StaticCode}
 use Rattle.fast_notation.specs.declared.codes.StaticCode.TheVariants as Static
 use Rattle.fast_spelling.specs.device.Codes.{encode_number}
+use Rattle.fast_spelling.specs.declared.faults.EncodeFault.TheVariants as Encode
+use Rattle.fast_records.specs.declared.encoding.PutRefusal.{PutRefusal}
+use Rattle.fast_records.specs.declared.encoding.PutRefusal.TheVariants as Why
+use Rattle.fast_records.specs.declared.putting.PutFault.TheVariants as Put
 use Rattle.fast_records.specs.declared.feeding.Outcome.{Outcome}
 use Rattle.fast_records.specs.declared.feeding.Outcome.TheVariants as Came
 use Rattle.fast_records.specs.declared.status.Status.{Status}
@@ -44,3 +48,9 @@ ended Came.Done = To.Done
 ended Came.More = To.More
 ended Came.NoRoom = To.NoRoom
 ended (Came.Fault c) = To.Stream c
+
+-- the status of why records are not encoded
+abbrev pub refused : PutRefusal → Status
+refused (Why.Records (Put.Misplaced n)) = To.Misplaced
+refused (Why.Records Put.Memory) = To.Message Encode.Memory
+refused (Why.Message f) = To.Message f

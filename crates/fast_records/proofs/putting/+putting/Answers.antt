@@ -29,7 +29,7 @@ put_body-loop-node-preserved t c =
     let given = c.args.given.now in
     let from = map event_data (drop c.args.at given) in
     let to = map event_data (drop c.in_ok-item.next given) in
-    subst (λ (z : List (Option Item)). IsPutTo (body_among nodes body) z (body_among nodes (drop (i + 1) body)) from to) (sym c.in_ok-push.ensures)
+    subst (λ (z : List (Option Item)). IsPutTo (body_among nodes body) z (body_among nodes (drop (i + 1) body)) from to) (sym {A = List (Option Item)} c.in_ok-push.ensures)
     (slot_at nodes body i (slice_index body i) c.loop-node-test.true refl c.loop-node.slots.items from (map event_data (drop c.loop-node.place given)) c.loop-node.invariant c.in_ok-item.item to c.in_ok-item.ensures)
 
 pub put_body-returns : goal.put_body-returns
@@ -44,7 +44,7 @@ put_rows-loop-i-preserved t c =
     let given = c.args.given.now in
     let from = map event_data (drop c.args.at given) in
     let to = map event_data (drop c.in_ok-row.next given) in
-    subst (λ (z : List (Vec (Option Item) Global)). ArePutTo body (c.loop-i._i + 1) z from to) (sym c.in_ok-push.ensures)
+    subst (λ (z : List (Vec (Option Item) Global)). ArePutTo body (c.loop-i._i + 1) z from to) (sym {A = List (Vec (Option Item) Global)} c.in_ok-push.ensures)
     (rows_more body c.loop-i._i c.loop-i.rows.items c.in_ok-row.row from (map event_data (drop c.loop-i.place given)) (map event_data (drop c.in_ok-next.next given)) to c.loop-i.invariant c.in_ok-next.ensures c.in_ok-row.ensures)
 
 pub put_rows-returns : goal.put_rows-returns
