@@ -69,8 +69,8 @@ enum fast_status {
     FAST_MORE = 1,       // records wait, or bytes are left: the next feed goes on with the rest of the piece
     FAST_NO_ROOM = 2,    // a buffer has too little room for what is next: nothing was taken or given
     FAST_NOT_TEXT = 3,   // the template text is not UTF-8
-    FAST_MISPLACED = 4,  // the records are not those of one whole message
-    FAST_CLOSED = 5,     // the pointer is null: what it pointed to is closed, or was never made
+    FAST_CLOSED = 4,     // the pointer is null: what it pointed to is closed, or was never made
+    FAST_MISPLACED = 5,  // the records are not those of one whole message
 
     // a stream at fault: it stays so until a reset
     FAST_D2 = 101, FAST_D4, FAST_D5, FAST_D6, FAST_D7, FAST_D9,

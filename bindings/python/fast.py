@@ -126,7 +126,7 @@ class Held:
     @property
     def handle(self):
         if not self.at:
-            self.library.expect(5)
+            self.library.expect(4)
         return Handle(self.at)
 
     def close(self):

@@ -172,7 +172,7 @@ static void run_nothing(const struct row *r) {
     expect(fast_name_of_node(set, 0, NULL, 9) > 0 && fast_name_of_template(set, 0, (char *)words, 1) > 0, r, "names");
     for (uint32_t status = 0; status < 500; status++) {
         size_t length = fast_status_words(status, words, sizeof words);
-        bool is_one = status <= FAST_CLOSED || (status > 100 && status < 118) || status == FAST_L5 || status == 201 || status == 202 ||
+        bool is_one = status <= FAST_MISPLACED || (status > 100 && status < 118) || status == FAST_L5 || status == 201 || status == 202 ||
                       status == 204 || (status > 300 && status < 314) || (status > 400 && status < 407);
         expect(is_one ? length > 10 && length < 200 : !length, r, "the words of a status");
     }

@@ -4,8 +4,8 @@ ghost use Rattle.fast_c.specs.declared.encoding.Encoding.{Encoding};
 
 use crate::sets::SetHandle;
 use crate::{NO_MEMORY, limits_of};
-use fast_encoder::{EncodeFault, Encoder};
-use fast_records::{PutFault, Record, Status, message_of_records};
+use fast_encoder::Encoder;
+use fast_records::{PutFault, PutRefusal, Record, Status, put_records};
 use fast_template::Templates;
 use fast_value::Limits;
 use std::alloc::Global;
@@ -109,14 +109,30 @@ pub extern "C" fn fast_encoder_open(
 }
 
 /// Encodes the message of these records behind the bytes that wait.
-fn put(encoding: &mut Encoding, records: &[Record], texts: &[u8]) -> Result<(), (Status, usize)> {
-    match message_of_records(encoding.alloc, encoding.templates, records, texts) {
-        Ok(message) => match encoding.encoder.encode(&message, &mut encoding.bytes) {
-            Ok(()) => Ok(()),
-            Err(fault) => Err((Status::Message(fault), 0)),
-        },
-        Err(PutFault::Misplaced { record }) => Err((Status::Misplaced, record)),
-        Err(PutFault::Memory) => Err((Status::Message(EncodeFault::Memory), 0)),
+fn put(encoding: &mut Encoding, records: &[Record], texts: &[u8]) -> FastPut {
+    let Encoding {
+        alloc,
+        templates,
+        encoder,
+        bytes,
+    } = encoding;
+    let (status, record) = match put_records(*alloc, templates, encoder, records, texts, bytes) {
+        Ok(()) => (Status::Done, 0),
+        Err(refusal) => (Status::from(refusal), record_of(refusal)),
+    };
+    FastPut {
+        waiting: bytes.len() as u64,
+        record: record as u64,
+        status: status.number(),
+        unused: 0,
+    }
+}
+
+/// The record that is not due, 0 where the records are a message.
+fn record_of(refusal: PutRefusal) -> usize {
+    match refusal {
+        PutRefusal::Records(PutFault::Misplaced { record }) => record,
+        _ => 0,
     }
 }
 
@@ -130,16 +146,7 @@ pub extern "C" fn fast_encoder_put(
     came: &mut FastPut,
 ) {
     let mut encoding = encoder.into_box();
-    let (status, record) = match put(&mut encoding, records, texts) {
-        Ok(()) => (Status::Done, 0),
-        Err(refusal) => refusal,
-    };
-    *came = FastPut {
-        waiting: encoding.bytes.len() as u64,
-        record: record as u64,
-        status: status.number(),
-        unused: 0,
-    };
+    *came = put(&mut encoding, records, texts);
     *back = Box::into_raw(encoding) as *mut FastEncoder;
 }
 

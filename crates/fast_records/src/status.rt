@@ -23,10 +23,10 @@ pub enum Status {
     NoRoom,
     /// The template text is not UTF-8.
     NotText,
-    /// The records are not those of one whole message of the set.
-    Misplaced,
     /// What should do it is closed, or was never made: answered by those who hold it.
     Closed,
+    /// The records are not those of one whole message of the set.
+    Misplaced,
     /// The stream is at fault.
     Stream(FaultCode),
     /// No decoder or encoder is made.
@@ -95,8 +95,8 @@ const ALL: [Status; 46] = [
     Status::More,
     Status::NoRoom,
     Status::NotText,
-    Status::Misplaced,
     Status::Closed,
+    Status::Misplaced,
     Status::Stream(FaultCode::Stream(Code::D2)),
     Status::Stream(FaultCode::Stream(Code::D4)),
     Status::Stream(FaultCode::Stream(Code::D5)),
@@ -150,8 +150,8 @@ impl Status {
             Status::More => 1,
             Status::NoRoom => 2,
             Status::NotText => 3,
-            Status::Misplaced => 4,
-            Status::Closed => 5,
+            Status::Closed => 4,
+            Status::Misplaced => 5,
             Status::Stream(code) => 100 + u32::from(code.number()),
             Status::Make(error) => 200 + u32::from(error.number()),
             Status::Set(code) => 300 + static_number(code),
