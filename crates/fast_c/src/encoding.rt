@@ -1,5 +1,6 @@
 //! Encoders: records to bytes.
 
+ghost use Rattle.fast_c.specs.contracts.encoding.Encoding.{the_row};
 ghost use Rattle.fast_c.specs.declared.encoding.Encoding.{Encoding};
 
 use crate::sets::SetHandle;
@@ -32,7 +33,7 @@ pub struct FastEncoder {
 pub struct EncoderHandle {
     at: *mut FastEncoder,
     alloc: Global,
-    ghost value: { Encoding },
+    ghost value: { Encoding } by { the_row.coded },
 }
 
 impl Model for EncoderHandle {
