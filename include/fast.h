@@ -1,7 +1,7 @@
-// A decoder of FAST 1.1 streams, proved in Rattle. For C11 and C++11 on x86-64 and other machines of 64 bits, the least
+// A decoder and an encoder of FAST 1.1 streams, proved in Rattle. For C11 and C++11 on x86-64 and other machines of 64 bits, the least
 // byte first. Link with libfast_c.a, which `rt lib` makes in crates/fast_c, and with heap.c or another heap (below).
 //
-// A set is made of a template text, and decoders are made of a set. What is behind a pointer is the library's: it is never
+// A set is made of a template text; decoders and encoders are made of a set. What is behind a pointer is the library's: it is never
 // looked into, copied or moved. Nobody calls with one pointer from two threads at once, nor gives one to another thread: the proofs
 // say nothing of that.
 //
@@ -70,6 +70,7 @@ enum fast_status {
     FAST_NO_ROOM = 2,    // a buffer has too little room for what is next: nothing was taken or given
     FAST_NOT_TEXT = 3,   // the template text is not UTF-8
     FAST_CLOSED = 4,     // the pointer is null: what it pointed to is closed, or was never made
+    FAST_MISPLACED = 5,  // the records are not those of one whole message
 
     // a stream at fault: it stays so until a reset
     FAST_D2 = 101, FAST_D4, FAST_D5, FAST_D6, FAST_D7, FAST_D9,
@@ -78,12 +79,15 @@ enum fast_status {
     FAST_WAITING_MEMORY = 117,  // there is no memory left for records that wait
     FAST_L5 = 119,
 
-    // no decoder
+    // no decoder or encoder
     FAST_BAD_LIMITS = 201, FAST_INITIAL_TOO_LONG = 202, FAST_NO_MEMORY = 204,
 
     // a template text that is refused
     FAST_S1 = 301, FAST_S2, FAST_S3, FAST_S4, FAST_S5, FAST_D8,
-    FAST_C1, FAST_C2, FAST_C3, FAST_C4, FAST_C5, FAST_C6, FAST_SET_MEMORY
+    FAST_C1, FAST_C2, FAST_C3, FAST_C4, FAST_C5, FAST_C6, FAST_SET_MEMORY,
+
+    // a message that is refused
+    FAST_E1 = 401, FAST_E2, FAST_E3, FAST_E4, FAST_MESSAGE_R9, FAST_MESSAGE_MEMORY
 };
 
 // Writes what a status says, in English and without a zero at its end, as far as there is room. The answer is the length of all of it; 0
@@ -114,7 +118,7 @@ typedef struct fast_decoder_handle {
 } fast_decoder_handle;
 
 typedef struct fast_limits {
-    uint32_t strict;        // 1: what is longer than it needs to be is a fault (R6, R7, R8)
+    uint32_t strict;        // 1: what is longer than it needs to be is a fault (R6, R7, R8); an encoder does not look at it
     uint32_t max_text;      // the bytes of one text, 16 to 1,048,576
     uint32_t max_elements;  // the elements of one sequence
     uint32_t max_total;     // the elements of all sequences of one message
@@ -134,6 +138,23 @@ typedef struct fast_fed {
 FAST_ASSERT(sizeof(fast_fed) == 40, "what comes of a feed has 40 bytes");
 FAST_ASSERT(offsetof(fast_fed, consumed) == 24 && offsetof(fast_fed, status) == 36, "its fields");
 
+// ---- encoders
+
+typedef struct fast_encoder fast_encoder;
+typedef struct fast_encoder_handle {
+    fast_encoder *at;
+} fast_encoder_handle;
+
+typedef struct fast_put {
+    uint64_t waiting;  // how many bytes of whole messages wait to be taken
+    uint64_t record;   // at FAST_MISPLACED the number of the record, from 0
+    uint32_t status;   // FAST_DONE; else the message is refused, and nothing has changed
+    uint32_t unused;
+} fast_put;
+
+FAST_ASSERT(sizeof(fast_put) == 24, "what comes of a message has 24 bytes");
+FAST_ASSERT(offsetof(fast_put, status) == 16, "its fields");
+
 // ---- what the library has. Programs call the functions below, which hand over no null pointer but for a set's.
 //
 // A handle goes in by value, and with it what it owns; `back` gets the same pointer, and with it the ownership.
@@ -149,13 +170,19 @@ void fast_decoder_feed(fast_decoder_handle decoder, fast_decoder **back, const u
                        fast_record *records, size_t records_len, uint8_t *texts, size_t texts_len, fast_fed *fed);
 void fast_decoder_reset(fast_decoder_handle decoder, fast_decoder **back);
 void fast_decoder_close(fast_decoder_handle decoder);
+uint32_t fast_encoder_open(fast_set_handle set, uint32_t max_text, uint32_t max_elements, uint32_t max_total, fast_encoder **out);
+void fast_encoder_put(fast_encoder_handle encoder, fast_encoder **back, const fast_record *records, size_t records_len,
+                      const uint8_t *texts, size_t texts_len, fast_put *put);
+size_t fast_encoder_take(fast_encoder_handle encoder, fast_encoder **back, uint8_t *out, size_t out_len);
+void fast_encoder_reset(fast_encoder_handle encoder, fast_encoder **back);
+void fast_encoder_close(fast_encoder_handle encoder);
 
 // ---- what programs call. A null buffer is one without room, whatever its length; buffers of one call do not overlap.
 
 // Where a buffer is null: the library wants a place even for nothing.
 static fast_record fast_nothing;
 
-// Gives a set's memory back, and makes the pointer null. All decoders of the set are closed before.
+// Gives a set's memory back, and makes the pointer null. All decoders and encoders of the set are closed before.
 static inline void fast_close_set(fast_set **set) {
     fast_set_handle handle = {*set};
     if (handle.at) fast_set_close(handle);
@@ -220,6 +247,46 @@ static inline void fast_close_decoder(fast_decoder **decoder) {
     fast_decoder_handle handle = {*decoder};
     if (handle.at) fast_decoder_close(handle);
     *decoder = NULL;
+}
+
+// Makes an encoder, which borrows the set until it is closed. As fast_open_decoder.
+static inline uint32_t fast_open_encoder(fast_set *set, fast_limits limits, fast_encoder **out) {
+    fast_set_handle handle = {set};
+    if (!set) return FAST_CLOSED;
+    return fast_encoder_open(handle, limits.max_text, limits.max_elements, limits.max_total, out);
+}
+
+// Encodes one message, whose records these are, as a decoder gives them: FAST_MESSAGE_START to FAST_MESSAGE_END, each text anywhere in texts. Its
+// bytes wait in the encoder until they are taken. What is refused changes nothing, and the next message can be put.
+static inline fast_put fast_put_message(fast_encoder *encoder, const fast_record *records, size_t records_len,
+                                        const uint8_t *texts, size_t texts_len) {
+    fast_put put = {0, 0, FAST_CLOSED, 0};
+    fast_encoder_handle handle = {encoder};
+    if (encoder) {
+        fast_encoder_put(handle, &handle.at, records ? records : &fast_nothing, records ? records_len : 0,
+                         texts ? texts : (uint8_t *)&fast_nothing, texts ? texts_len : 0, &put);
+    }
+    return put;
+}
+
+// Takes the first of the bytes that wait, as far as they have room, and answers how many it took.
+static inline size_t fast_take_bytes(fast_encoder *encoder, uint8_t *out, size_t out_len) {
+    fast_encoder_handle handle = {encoder};
+    if (!encoder || !out) return 0;
+    return fast_encoder_take(handle, &handle.at, out, out_len);
+}
+
+// Makes an encoder as it was made: to be used where the reader's decoder is reset too. Bytes that wait are gone.
+static inline void fast_reset_encoder(fast_encoder *encoder) {
+    fast_encoder_handle handle = {encoder};
+    if (encoder) fast_encoder_reset(handle, &handle.at);
+}
+
+// Gives an encoder's memory back, and makes the pointer null.
+static inline void fast_close_encoder(fast_encoder **encoder) {
+    fast_encoder_handle handle = {*encoder};
+    if (handle.at) fast_encoder_close(handle);
+    *encoder = NULL;
 }
 
 #ifdef __cplusplus

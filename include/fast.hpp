@@ -1,4 +1,4 @@
-// The decoder of fast.h for C++17: handles that close themselves, exceptions, and a visitor of events.
+// The decoder and the encoder of fast.h for C++17: handles that close themselves, exceptions, and a visitor of events.
 //
 //     struct counter : fast::visitor {
 //         std::uint64_t messages = 0;
@@ -174,6 +174,34 @@ private:
 template <class V> void decode(decoder &by, const std::uint8_t *piece, std::size_t piece_len, V &&sees) {
     by.decode(piece, piece_len, std::forward<V>(sees));
 }
+
+// An encoder. It is moved, and never copied.
+class encoder {
+public:
+    explicit encoder(set of, fast_limits limits = fast_default_limits) : set_(std::move(of)) {
+        fast_encoder *made = nullptr;
+        expect(fast_open_encoder(set_.get(), limits, &made));
+        it_.reset(made);
+    }
+
+    // Appends the bytes of one message, whose records these are. Throws where it is refused, and nothing has changed.
+    void encode(const fast_record *records, std::size_t count, const std::uint8_t *texts, std::size_t texts_len,
+                std::vector<std::uint8_t> &out) {
+        fast_put put = fast_put_message(it_.get(), records, count, texts, texts_len);
+        if (put.status != FAST_DONE) throw error(put.status, put.record);
+        std::size_t before = out.size();
+        out.resize(before + put.waiting);
+        fast_take_bytes(it_.get(), out.data() + before, put.waiting);
+    }
+    void reset() { fast_reset_encoder(it_.get()); }
+
+private:
+    struct closes {
+        void operator()(fast_encoder *it) const { fast_close_encoder(&it); }
+    };
+    set set_;
+    std::unique_ptr<fast_encoder, closes> it_;
+};
 
 }  // namespace fast
 #endif

@@ -1,4 +1,4 @@
-"""A decoder of FAST 1.1 streams, proved in Rattle, over ctypes.
+"""A decoder and an encoder of FAST 1.1 streams, proved in Rattle, over ctypes.
 
 The shared library is made of the static one:
 
@@ -40,13 +40,19 @@ class Fed(c.Structure):
     _fields_ = [(name, c.c_uint64) for name in ("taken", "records", "texts", "consumed")] + [("between", c.c_uint32), ("status", c.c_uint32)]
 
 
+class Put(c.Structure):
+    """What came of a message: fast_put."""
+
+    _fields_ = [("waiting", c.c_uint64), ("record", c.c_uint64), ("status", c.c_uint32), ("unused", c.c_uint32)]
+
+
 class Handle(c.Structure):
     """A pointer of the library, by value."""
 
     _fields_ = [("at", c.c_void_p)]
 
 
-assert (c.sizeof(Record), c.sizeof(Fed), c.sizeof(c.c_size_t)) == (24, 40, 8)
+assert (c.sizeof(Record), c.sizeof(Fed), c.sizeof(Put), c.sizeof(c.c_size_t)) == (24, 40, 24, 8)
 
 U, N, P = c.c_uint32, c.c_size_t, c.c_void_p
 FUNCTIONS = {
@@ -62,11 +68,16 @@ FUNCTIONS = {
     "fast_decoder_feed": (None, Handle, P, c.c_char_p, N, P, N, P, N, P),
     "fast_decoder_reset": (None, Handle, P),
     "fast_decoder_close": (None, Handle),
+    "fast_encoder_open": (U, Handle, U, U, U, P),
+    "fast_encoder_put": (None, Handle, P, P, N, c.c_char_p, N, P),
+    "fast_encoder_take": (N, Handle, P, P, N),
+    "fast_encoder_reset": (None, Handle, P),
+    "fast_encoder_close": (None, Handle),
 }
 
 
 class Error(Exception):
-    """Why a call did not do its work: the number of its status, and at a fault the number of bytes consumed."""
+    """Why a call did not do its work: the number of its status, and at a fault the number of bytes consumed, or of records the first not due."""
 
     def __init__(self, status, place, words):
         super().__init__(f"{words} (at {place})")
@@ -134,7 +145,7 @@ class Held:
 
 
 class Set(Held):
-    """A template set. Its decoders keep it, so close it behind them, or leave that to Python."""
+    """A template set. Its decoders and encoders keep it, so close it behind them, or leave that to Python."""
 
     def __init__(self, library, text):
         super().__init__(library, library.calls.fast_set_close)
@@ -166,6 +177,9 @@ class Set(Held):
 
     def decoder(self, **limits):
         return Decoder(self, **limits)
+
+    def encoder(self, **limits):
+        return Encoder(self, **limits)
 
 
 class Decoder(Held):
@@ -226,3 +240,36 @@ class Decoder(Held):
         """Makes it as it was made."""
         self.library.calls.fast_decoder_reset(self.handle, byref(self.at))
         self.fed = Fed(between=1)
+
+
+class Encoder(Held):
+    """Encodes messages, one after the other."""
+
+    def __init__(self, of, max_text=1024, max_elements=1000, max_total=1000):
+        super().__init__(of.library, of.library.calls.fast_encoder_close)
+        self.set = of
+        self.library.expect(self.library.calls.fast_encoder_open(of.handle, max_text, max_elements, max_total, byref(self.at)))
+
+    def encode(self, events):
+        """The bytes of one message, whose events are as Decoder.feed yields them. Where it is refused, nothing has changed."""
+        records, texts = [], bytearray()
+        for kind, node, value in events:
+            length = exponent = 0
+            if kind == DECIMAL:
+                value, exponent = value
+            elif kind in (ASCII, UNICODE, BYTES):
+                text, value = value, len(texts)
+                texts += text
+                length = len(text)
+            records.append((kind, node, value & (1 << 64) - 1, length, exponent))
+        array, put = (Record * len(records))(*records), Put()
+        calls = self.library.calls
+        calls.fast_encoder_put(self.handle, byref(self.at), array, len(array), bytes(texts), len(texts), byref(put))
+        self.library.expect(put.status, put.record)
+        room = c.create_string_buffer(put.waiting)
+        length = calls.fast_encoder_take(self.handle, byref(self.at), room, len(room))
+        return room.raw[:length]
+
+    def reset(self):
+        """Makes it as it was made: to be used where the reader's decoder is reset too."""
+        self.library.calls.fast_encoder_reset(self.handle, byref(self.at))

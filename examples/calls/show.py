@@ -1,4 +1,5 @@
-"""show.py LIBRARY TEMPLATES STREAM [PIECE]: the lines of a stream, as `fastcat show` writes them."""
+"""show.py LIBRARY TEMPLATES STREAM [PIECE]: the lines of a stream, as `fastcat show` writes them. With --again before it the bytes of its
+messages, encoded again."""
 
 import os
 import sys
@@ -66,10 +67,24 @@ def show(names, stream, piece):
         return 0 if decoder.between else 1
 
 
+def again(names, stream):
+    """Writes the bytes of a stream's messages."""
+    with names.decoder() as decoder, names.encoder() as encoder:
+        message = []
+        for event in decoder.feed(stream):
+            message.append(event)
+            if event[0] == fast.MESSAGE_END:
+                sys.stdout.buffer.write(encoder.encode(message))
+                message = []
+
+
 def main(words):
-    library, templates, stream, *piece = words
+    is_again = words[:1] == ["--again"]
+    library, templates, stream, *piece = words[1:] if is_again else words
     with open(templates, encoding="utf-8") as text, open(stream, "rb") as bytes_of:
         names, stream = fast.Library(library).set(text.read()), bytes_of.read()
+    if is_again:
+        return again(names, stream)
     return show(names, stream, int(piece[0]) if piece and int(piece[0]) else max(len(stream), 1))
 
 

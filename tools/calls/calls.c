@@ -1,5 +1,5 @@
 // Calls the library of crates/fast_c by include/fast.h on the rows of tools/growths/rows.txt: each stream whole and in pieces of one byte, with room
-// for one record and for many; each request for memory refused in turn; and what is answered for what is not there.
+// for one record and for many; each request for memory refused in turn; messages back to bytes; and what is answered for what is not there.
 #include "../../include/fast.h"
 #include "../growths/rows.h"
 
@@ -113,16 +113,54 @@ static void refuse_each(const struct row *r) {
     }
 }
 
+// The messages of a stream, encoded, are decoded to the same events again.
+static void put_back(const struct row *r) {
+    fast_set *set = NULL;
+    fast_decoder *decoder = NULL;
+    fast_encoder *encoder = NULL;
+    begin_run(none, none);
+    fast_set_read(r->templates, r->templates_len, &set);
+    fast_open_decoder(set, limits_of(r), &decoder);
+    expect(fast_open_encoder(set, limits_of(r), &encoder) == FAST_DONE, r, "no encoder");
+    fast_fed fed = fast_feed(decoder, r->stream, r->stream_len, records, RECORDS, texts, TEXTS);
+    struct row back = *r;
+    back.stream_len = 0;
+    bool is_whole = fed.status == FAST_DONE && fed.between, is_refused = false;
+    for (uint64_t from = 0, to; is_whole && from < fed.records; from = to) {
+        for (to = from; to < fed.records && records[to++].kind != FAST_MESSAGE_END;) {}
+        fast_put put = fast_put_message(encoder, records + from, to - from, texts, TEXTS);
+        is_refused = is_refused || put.status == FAST_MESSAGE_R9;
+        if (is_refused) break;
+        expect(put.status == FAST_DONE, r, "a message is refused");
+        // one byte at a time
+        while (fast_take_bytes(encoder, back.stream + back.stream_len, 1) && back.stream_len < sizeof back.stream - 1) back.stream_len++;
+        fast_put wanting = fast_put_message(encoder, records + from, to - from - 1, texts, TEXTS);
+        expect(wanting.status == FAST_MISPLACED && wanting.record == to - from - 1, r, "half a message is taken");
+    }
+    if (is_whole && !is_refused) {
+        fast_reset_decoder(decoder);
+        struct answer is = decode(decoder, &back, SIZE_MAX, RECORDS);
+        expect(is.status == 0 && is.events == r->due.events && is.sum == r->due.sum, r, "not the same behind the encoder");
+    }
+    fast_close_encoder(&encoder);
+    fast_close_encoder(&encoder);
+    fast_close_decoder(&decoder);
+    fast_close_set(&set);
+    expect(!blocks, r, "memory is left behind an encoder");
+}
+
 // What is answered for what is not there.
 static void run_nothing(const struct row *r) {
     fast_set *set = NULL;
     fast_decoder *decoder = NULL;
+    fast_encoder *encoder = NULL;
     uint8_t words[256];
     begin_run(none, none);
     expect(fast_interface() == FAST_INTERFACE, r, "another build");
     expect(fast_feed(decoder, NULL, 1, NULL, 1, NULL, 1).status == FAST_CLOSED, r, "a decoder that is not there");
+    expect(fast_put_message(encoder, NULL, 1, NULL, 1).status == FAST_CLOSED, r, "an encoder that is not there");
     expect(fast_open_decoder(set, fast_default_limits, &decoder) == FAST_CLOSED && !decoder, r, "a set that is not there");
-    expect(fast_count_nodes(set) == 0 && fast_count_templates(set) == 0, r, "the counts of a set that is not there");
+    expect(fast_take_bytes(encoder, words, 1) == 0 && fast_count_nodes(set) == 0, r, "nothing");
     expect(fast_set_read((const uint8_t *)"\xff", 1, &set) == FAST_NOT_TEXT && !set, r, "a text that is none");
     expect(fast_set_read((const uint8_t *)"x", 1, &set) == FAST_S1 && !set, r, "a text that is refused");
     expect(fast_set_read(r->templates, r->templates_len, &set) == FAST_DONE, r, "no set");
@@ -134,8 +172,8 @@ static void run_nothing(const struct row *r) {
     expect(fast_name_of_node(set, 0, NULL, 9) > 0 && fast_name_of_template(set, 0, (char *)words, 1) > 0, r, "names");
     for (uint32_t status = 0; status < 500; status++) {
         size_t length = fast_status_words(status, words, sizeof words);
-        bool is_one = status <= FAST_CLOSED || (status > 100 && status < 118) || status == FAST_L5 || status == 201 || status == 202 ||
-                      status == 204 || (status > 300 && status < 314);
+        bool is_one = status <= FAST_MISPLACED || (status > 100 && status < 118) || status == FAST_L5 || status == 201 || status == 202 ||
+                      status == 204 || (status > 300 && status < 314) || (status > 400 && status < 407);
         expect(is_one ? length > 10 && length < 200 : !length, r, "the words of a status");
     }
     expect(fast_status_words(FAST_D5, words, 2) > 2 && words[0] == 'D' && words[1] == '5', r, "the words of D5");
@@ -154,6 +192,7 @@ int main(void) {
     int line = 0, rows = 0;
     while (next_row(file, &line, &r)) {
         run_row(&r);
+        put_back(&r);
         if (rows++ % 16 == 0) refuse_each(&r);
         if (rows == 4) run_nothing(&r);
     }

@@ -1,10 +1,11 @@
-//! The decoder for callers from C: include/fast.h says what each function does, and what its caller owes.
+//! The decoder and the encoder for callers from C: include/fast.h says what each function does, and what its caller owes.
 //!
 //! A handle is a pointer to a box, which C holds between two calls: it goes in by value, and comes back as the same pointer. What a
-//! decoder borrows of its template set lives as long as C keeps that set.
+//! decoder or an encoder borrows of its template set lives as long as C keeps that set.
 #![tactic(auto)]
 
 mod decoding;
+mod encoding;
 mod sets;
 
 ghost use Rattle.std.specs.Prelude.{◌≡◌, length};

@@ -1,3 +1,5 @@
 pub mod Delivering
 pub mod Moving
+pub mod Put
 pub mod Shown
+pub mod Told

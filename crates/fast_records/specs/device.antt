@@ -1,4 +1,5 @@
 -- Devices of contracts within the crates and of proofs: invariants, models of state, relations in between.
+pub mod Putting
 pub mod Room
 pub mod Sink
 pub mod Waiting

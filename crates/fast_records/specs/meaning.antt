@@ -1,4 +1,6 @@
 -- What is meant: the contracts of public functions rest on these definitions.
 pub mod Feeding
+pub mod Lent
+pub mod Putting
 pub mod Records
 pub mod Status

@@ -1,14 +1,19 @@
 //! Events as records of fixed size, in buffers of the caller's: what other languages are handed.
 #![tactic(auto)]
 
+pub mod encoding;
 pub mod feeding;
+pub mod lent;
+pub mod putting;
 pub mod records;
 mod room;
 pub mod sink;
 pub mod status;
 pub mod waiting;
 
+pub use encoding::{PutRefusal, put_records};
 pub use feeding::{Fed, Outcome, feed_records};
+pub use putting::{PutFault, message_of_records};
 pub use records::Record;
 pub use status::Status;
 pub use waiting::Waiting;

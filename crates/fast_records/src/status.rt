@@ -3,8 +3,11 @@
 ghost use Rattle.std.specs.Prelude.{◌≡◌, IfSome};
 ghost use Rattle.fast_records.specs.meaning.Status.{status_number, static_number, ended};
 
+use crate::encoding::PutRefusal;
 use crate::feeding::Outcome;
+use crate::putting::PutFault;
 use fast_decoder::{FaultCode, MakeError};
+use fast_spelling::EncodeFault;
 use fast_template::StaticCode;
 use fast_value::Code;
 use std::fmt;
@@ -22,12 +25,16 @@ pub enum Status {
     NotText,
     /// What should do it is closed, or was never made: answered by those who hold it.
     Closed,
+    /// The records are not those of one whole message of the set.
+    Misplaced,
     /// The stream is at fault.
     Stream(FaultCode),
-    /// No decoder is made.
+    /// No decoder or encoder is made.
     Make(MakeError),
     /// The template text is refused.
     Set(StaticCode),
+    /// The message is refused.
+    Message(EncodeFault),
 }
 
 impl From<Outcome> for Status {
@@ -42,6 +49,21 @@ impl From<Outcome> for Status {
             Outcome::More => Status::More,
             Outcome::NoRoom => Status::NoRoom,
             Outcome::Fault(code) => Status::Stream(code),
+        }
+    }
+}
+
+impl From<PutRefusal> for Status {
+    ghost use Rattle.std.specs.Prelude.{◌≡◌};
+    ghost use Rattle.fast_records.specs.meaning.Status.{refused};
+
+    ghost from_gives = { λ refusal status. status ≡ refused refusal };
+
+    fn from(refusal: PutRefusal) -> Status {
+        match refusal {
+            PutRefusal::Records(PutFault::Misplaced { .. }) => Status::Misplaced,
+            PutRefusal::Records(PutFault::Memory) => Status::Message(EncodeFault::Memory),
+            PutRefusal::Message(fault) => Status::Message(fault),
         }
     }
 }
@@ -68,12 +90,13 @@ fn static_number(code: StaticCode) -> u32
 }
 
 /// Each status, for the way back from its number.
-const ALL: [Status; 39] = [
+const ALL: [Status; 46] = [
     Status::Done,
     Status::More,
     Status::NoRoom,
     Status::NotText,
     Status::Closed,
+    Status::Misplaced,
     Status::Stream(FaultCode::Stream(Code::D2)),
     Status::Stream(FaultCode::Stream(Code::D4)),
     Status::Stream(FaultCode::Stream(Code::D5)),
@@ -108,11 +131,17 @@ const ALL: [Status; 39] = [
     Status::Set(StaticCode::C5),
     Status::Set(StaticCode::C6),
     Status::Set(StaticCode::Memory),
+    Status::Message(EncodeFault::E1),
+    Status::Message(EncodeFault::E2),
+    Status::Message(EncodeFault::E3),
+    Status::Message(EncodeFault::E4),
+    Status::Message(EncodeFault::R9),
+    Status::Message(EncodeFault::Memory),
 ];
 
 impl Status {
-    /// The number: below 100 how a call ended, from 100 the number of a stream's fault, from 200 that of why no decoder is made,
-    /// from 300 that of a template text's fault.
+    /// The number: below 100 how a call ended, from 100 the number of a stream's fault, from 200 that of why no decoder or encoder is
+    /// made, from 300 that of a template text's fault, from 400 that of a message's.
     pub fn number(self) -> u32
         ensures { result ≡ status_number self }
     {
@@ -122,9 +151,11 @@ impl Status {
             Status::NoRoom => 2,
             Status::NotText => 3,
             Status::Closed => 4,
+            Status::Misplaced => 5,
             Status::Stream(code) => 100 + u32::from(code.number()),
             Status::Make(error) => 200 + u32::from(error.number()),
             Status::Set(code) => 300 + static_number(code),
+            Status::Message(fault) => 400 + u32::from(fault.number()),
         }
     }
 
@@ -148,6 +179,7 @@ impl fmt::Display for Status {
             Status::More => f.write_str("records wait, or bytes are left"),
             Status::NoRoom => f.write_str("a buffer has too little room"),
             Status::NotText => f.write_str("the template text is not UTF-8"),
+            Status::Misplaced => f.write_str("the records are not those of one whole message"),
             Status::Closed => f.write_str("it is closed, or was never made"),
             Status::Stream(FaultCode::SinkStopped) => f.write_str(
                 "there is no memory left for records that wait",
@@ -156,6 +188,8 @@ impl fmt::Display for Status {
             Status::Make(error) => write!(f, "{error}"),
             Status::Set(StaticCode::Memory) => f.write_str("there is no memory left"),
             Status::Set(code) => write!(f, "{}: {code}", code.name()),
+            Status::Message(EncodeFault::Memory) => f.write_str("there is no memory left"),
+            Status::Message(fault) => write!(f, "{}: {fault}", fault.name()),
         }
     }
 }

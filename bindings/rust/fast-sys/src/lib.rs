@@ -34,10 +34,21 @@ pub struct Fed {
     pub status: u32,
 }
 
+/// What came of a message (`fast_put`).
+#[repr(C)]
+#[derive(Clone, Copy, Debug, Default, PartialEq, Eq)]
+pub struct Put {
+    pub waiting: u64,
+    pub record: u64,
+    pub status: u32,
+    pub unused: u32,
+}
+
 const _: () = {
     assert!(size_of::<usize>() == 8);
     assert!(size_of::<Record>() == 24 && offset_of!(Record, value) == 8 && offset_of!(Record, exponent) == 20);
     assert!(size_of::<Fed>() == 40 && offset_of!(Fed, status) == 36);
+    assert!(size_of::<Put>() == 24 && offset_of!(Put, status) == 16);
 };
 
 macro_rules! opaque {
@@ -51,7 +62,7 @@ macro_rules! opaque {
         }
     )*};
 }
-opaque!(Set Decoder);
+opaque!(Set Decoder Encoder);
 
 /// A pointer of the library, by value: what it owns goes in with it.
 #[repr(transparent)]
@@ -88,4 +99,23 @@ extern "C" {
     );
     pub fn fast_decoder_reset(decoder: Handle<Decoder>, back: *mut *mut Decoder);
     pub fn fast_decoder_close(decoder: Handle<Decoder>);
+    pub fn fast_encoder_open(
+        set: Handle<Set>,
+        max_text: u32,
+        max_elements: u32,
+        max_total: u32,
+        out: *mut *mut Encoder,
+    ) -> u32;
+    pub fn fast_encoder_put(
+        encoder: Handle<Encoder>,
+        back: *mut *mut Encoder,
+        records: *const Record,
+        records_len: usize,
+        texts: *const u8,
+        texts_len: usize,
+        put: *mut Put,
+    );
+    pub fn fast_encoder_take(encoder: Handle<Encoder>, back: *mut *mut Encoder, out: *mut u8, out_len: usize) -> usize;
+    pub fn fast_encoder_reset(encoder: Handle<Encoder>, back: *mut *mut Encoder);
+    pub fn fast_encoder_close(encoder: Handle<Encoder>);
 }

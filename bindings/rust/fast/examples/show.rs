@@ -1,5 +1,6 @@
-//! show TEMPLATES STREAM [PIECE]: the lines of a stream, as `fastcat show` writes them.
-use fast::{Decoder, Event, Limits, Set, Value};
+//! show TEMPLATES STREAM [PIECE]: the lines of a stream, as `fastcat show` writes them. With `--again` before it the bytes of its messages,
+//! encoded again.
+use fast::{Decoder, Encoder, Event, Limits, Records, Set, Value};
 use std::error::Error;
 use std::fmt::Write as _;
 use std::io::{self, Write};
@@ -77,13 +78,38 @@ fn show(set: &Set, stream: &[u8], piece: usize) -> Result<ExitCode, Box<dyn Erro
     Ok(ExitCode::from(1))
 }
 
+fn again(set: &Set, stream: &[u8]) -> Result<ExitCode, Box<dyn Error>> {
+    let mut decoder = Decoder::new(set, Limits::default())?;
+    let mut encoder = Encoder::new(set, Limits::default())?;
+    let (mut messages, mut open) = (Vec::new(), Records::default());
+    decoder.feed(stream, |event| {
+        open.push(event);
+        if event == Event::MessageEnd {
+            messages.push(std::mem::take(&mut open));
+        }
+    })?;
+    let mut out = Vec::new();
+    for message in &messages {
+        encoder.encode(message, &mut out)?;
+    }
+    io::stdout().write_all(&out)?;
+    Ok(ExitCode::SUCCESS)
+}
+
 fn main() -> Result<ExitCode, Box<dyn Error>> {
-    let words: Vec<String> = std::env::args().skip(1).collect();
+    let mut words: Vec<String> = std::env::args().skip(1).collect();
+    let is_again = words.first().is_some_and(|word| word == "--again");
+    if is_again {
+        words.remove(0);
+    }
     let [templates, stream, piece @ ..] = words.as_slice() else {
-        return Err("show TEMPLATES STREAM [PIECE]".into());
+        return Err("show [--again] TEMPLATES STREAM [PIECE]".into());
     };
     let set = Set::read(&std::fs::read_to_string(templates)?)?;
     let stream = std::fs::read(stream)?;
+    if is_again {
+        return again(&set, &stream);
+    }
     let piece = piece.first().map_or(Ok(0), |word| word.parse())?;
     show(&set, &stream, if piece == 0 { stream.len().max(1) } else { piece })
 }

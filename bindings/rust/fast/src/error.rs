@@ -5,7 +5,7 @@ use std::fmt;
 pub struct Error {
     /// The number of the status, as `fast.h` has it.
     pub status: u32,
-    /// Of a stream at fault how many bytes were consumed.
+    /// Of a stream at fault how many bytes were consumed; of records that are no message the number of the first one that is not due.
     pub place: u64,
 }
 

@@ -51,3 +51,27 @@ pub(crate) fn event_of<'a>(record: &Record, texts: &'a [u8]) -> Event<'a> {
         _ => Event::MessageEnd,
     }
 }
+
+/// The record of an event, and its text.
+pub(crate) fn record_of<'a>(event: Event<'a>, place: u64) -> (Record, &'a [u8]) {
+    let mark = |kind, node, value| Record { kind, node, value, ..Record::default() };
+    let text = |kind, node, text: &'a [u8]| (Record { length: text.len() as u32, ..mark(kind, node, place) }, text);
+    match event {
+        Event::MessageStart { template } => (mark(1, template, 0), &[]),
+        Event::Field { node, value: Value::Unsigned(number) } => (mark(2, node, number), &[]),
+        Event::Field { node, value: Value::Signed(number) } => (mark(3, node, number as u64), &[]),
+        Event::Field { node, value: Value::Decimal { mantissa, exponent } } => {
+            (Record { exponent, ..mark(4, node, mantissa as u64) }, &[])
+        }
+        Event::Field { node, value: Value::Ascii(it) } => text(5, node, it),
+        Event::Field { node, value: Value::Unicode(it) } => text(6, node, it),
+        Event::Field { node, value: Value::Bytes(it) } => text(7, node, it),
+        Event::GroupStart { node } => (mark(8, node, 0), &[]),
+        Event::GroupEnd => (mark(9, 0, 0), &[]),
+        Event::SequenceStart { node, count } => (mark(10, node, u64::from(count)), &[]),
+        Event::ElementStart => (mark(11, 0, 0), &[]),
+        Event::ElementEnd => (mark(12, 0, 0), &[]),
+        Event::SequenceEnd => (mark(13, 0, 0), &[]),
+        Event::MessageEnd => (mark(14, 0, 0), &[]),
+    }
+}

@@ -1,4 +1,4 @@
-//! A decoder of FAST 1.1 streams, proved in Rattle, over `libfast_c.a`.
+//! A decoder and an encoder of FAST 1.1 streams, proved in Rattle, over `libfast_c.a`.
 //!
 //! ```no_run
 //! use fast::{Decoder, Event, Limits, Set};
@@ -14,11 +14,13 @@
 //! is `Send`, since that is not proved of the library's.
 
 mod decoder;
+mod encoder;
 mod error;
 mod event;
 mod set;
 
 pub use decoder::Decoder;
+pub use encoder::{Encoder, Records};
 pub use error::Error;
 pub use event::{Event, Value};
 pub use set::{Limits, Set};

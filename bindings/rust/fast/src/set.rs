@@ -3,7 +3,7 @@ use fast_sys::Handle;
 use std::ptr::{null_mut, NonNull};
 use std::rc::Rc;
 
-/// What a decoder is asked to keep to.
+/// What a decoder or an encoder is asked to keep to.
 #[derive(Clone, Copy, Debug, PartialEq, Eq)]
 pub struct Limits {
     /// Whether an encoding that is longer than it needs to be is a fault.
@@ -22,7 +22,7 @@ impl Default for Limits {
     }
 }
 
-/// A template set. Clones are the same set, which is closed with the last of them and of the decoders made of it.
+/// A template set. Clones are the same set, which is closed with the last of them and of the decoders and encoders made of it.
 #[derive(Clone, Debug)]
 pub struct Set(Rc<Owned>);
 

@@ -1,0 +1,83 @@
+use crate::error::{expect, Error};
+use crate::event::{record_of, Event};
+use crate::set::{Limits, Set};
+use fast_sys::{Handle, Put, Record};
+use std::ptr::{null_mut, NonNull};
+
+/// The events of one message, kept for an encoder.
+#[derive(Clone, Debug, Default, PartialEq, Eq)]
+pub struct Records {
+    records: Vec<Record>,
+    texts: Vec<u8>,
+}
+
+impl Records {
+    /// Adds an event.
+    pub fn push(&mut self, event: Event<'_>) {
+        let (record, text) = record_of(event, self.texts.len() as u64);
+        self.records.push(record);
+        self.texts.extend_from_slice(text);
+    }
+}
+
+/// Encodes messages, one after the other.
+#[derive(Debug)]
+pub struct Encoder {
+    at: NonNull<fast_sys::Encoder>,
+    // what `at` borrows: dropped behind it
+    _set: Set,
+}
+
+impl Encoder {
+    /// An encoder of messages of a set. It looks at all limits but `strict`.
+    pub fn new(set: &Set, limits: Limits) -> Result<Encoder, Error> {
+        let mut at = null_mut();
+        // the set is open, and stays so as long as the encoder; a place for a pointer
+        expect(unsafe {
+            fast_sys::fast_encoder_open(set.handle(), limits.max_text, limits.max_elements, limits.max_total, &mut at)
+        })?;
+        Ok(Encoder { at: NonNull::new(at).expect("an encoder was made"), _set: set.clone() })
+    }
+
+    /// Appends the bytes of one message, from its start to its end. Where it is refused, nothing has changed.
+    pub fn encode(&mut self, message: &Records, out: &mut Vec<u8>) -> Result<(), Error> {
+        let Records { records, texts } = message;
+        let mut put = Put::default();
+        let mut back = self.at.as_ptr();
+        // the encoder is open, and no other call has it; slices of different memory
+        unsafe {
+            fast_sys::fast_encoder_put(
+                Handle(back),
+                &mut back,
+                records.as_ptr(),
+                records.len(),
+                texts.as_ptr(),
+                texts.len(),
+                &mut put,
+            );
+        }
+        if put.status != 0 {
+            return Err(Error { status: put.status, place: put.record });
+        }
+        let before = out.len();
+        out.resize(before + put.waiting as usize, 0);
+        let room = &mut out[before..];
+        // the encoder is open, and no other call has it
+        unsafe { fast_sys::fast_encoder_take(Handle(back), &mut back, room.as_mut_ptr(), room.len()) };
+        Ok(())
+    }
+
+    /// Makes it as it was made: to be used where the reader's decoder is reset too.
+    pub fn reset(&mut self) {
+        let mut back = self.at.as_ptr();
+        // the encoder is open, and no other call has it
+        unsafe { fast_sys::fast_encoder_reset(Handle(back), &mut back) };
+    }
+}
+
+impl Drop for Encoder {
+    fn drop(&mut self) {
+        // made by fast_encoder_open, and closed here alone
+        unsafe { fast_sys::fast_encoder_close(Handle(self.at.as_ptr())) }
+    }
+}

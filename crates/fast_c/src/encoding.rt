@@ -1,0 +1,190 @@
+//! Encoders: records to bytes.
+
+ghost use Rattle.fast_c.specs.contracts.encoding.Encoding.{the_row};
+ghost use Rattle.fast_c.specs.declared.encoding.Encoding.{Encoding};
+
+use crate::sets::SetHandle;
+use crate::{NO_MEMORY, limits_of};
+use fast_encoder::Encoder;
+use fast_records::{PutFault, PutRefusal, Record, Status, put_records};
+use fast_template::Templates;
+use fast_value::Limits;
+use std::alloc::Global;
+use std::marker::Model;
+
+/// An encoder, its set, and the bytes that were not taken yet.
+#[derive(Drop)]
+pub struct Encoding {
+    alloc: Global,
+    templates: &'static Templates,
+    encoder: Encoder<'static>,
+    bytes: Vec<u8>,
+}
+
+/// What C calls the type behind its pointer to an encoder.
+#[repr(C)]
+#[derive(Drop)]
+pub struct FastEncoder {
+    unseen: u8,
+}
+
+/// The pointer to an encoder, by value. The handle to the heap takes no bytes.
+#[repr(C)]
+pub struct EncoderHandle {
+    at: *mut FastEncoder,
+    alloc: Global,
+    ghost value: { Encoding } by { the_row.coded },
+}
+
+impl Model for EncoderHandle {
+    ghost use Rattle.std.specs.Box.Ownership.{box_owns};
+    ghost use Rattle.std.specs.contracts.impls.GlobalAllocator.TheImpl.{ghosts};
+    ghost use Rattle.fast_c.specs.contracts.encoding.Encoding.{the_row};
+
+    // The value at the pointer, and the right to give its block back.
+    ghost also_owns = { λ h. box_owns (ghosts.dealloc_token h.alloc) the_row h.at h.value };
+}
+
+impl EncoderHandle {
+    ghost use Rattle.std.specs.Prelude.{◌≡◌};
+
+    /// The box that it is.
+    fn into_box(self) -> Box<Encoding, Global>
+        ensures { result.value ≡ self.value }
+    {
+        let EncoderHandle { at, alloc } = self;
+        unsafe { Box::from_raw(alloc, at as *mut Encoding) }
+    }
+}
+
+/// What came of a call of an encoder.
+#[repr(C)]
+#[derive(Clone, Copy)]
+pub struct FastPut {
+    /// How many bytes of finished messages wait to be taken.
+    waiting: u64,
+    /// Which record is not due, from 0, where the status says that one is not.
+    record: u64,
+    /// The number of its status.
+    status: u32,
+    /// 0.
+    unused: u32,
+}
+
+/// An encoder in a box.
+fn made(alloc: Global, set: SetHandle, limits: Limits) -> Result<Box<Encoding, Global>, Status> {
+    let templates = set.lent();
+    match Encoder::new(alloc, templates, limits) {
+        Ok(encoder) => {
+            let bytes = Vec::new(alloc);
+            let encoding = Encoding {
+                alloc,
+                templates,
+                encoder,
+                bytes,
+            };
+            Box::new(alloc, encoding).map_err(|_| NO_MEMORY)
+        }
+        Err(error) => Err(Status::Make(error)),
+    }
+}
+
+/// Makes an encoder of messages of a set, and hands a pointer to it out. The answer is 0, or the status for which there is none.
+#[unsafe(no_mangle)]
+pub extern "C" fn fast_encoder_open(
+    alloc: Global,
+    set: SetHandle,
+    max_text: u32,
+    max_elements: u32,
+    max_total: u32,
+    out: &mut *mut FastEncoder,
+) -> u32 {
+    let limits = limits_of(0, max_text, max_elements, max_total);
+    match made(alloc, set, limits) {
+        Ok(encoding) => {
+            *out = Box::into_raw(encoding) as *mut FastEncoder;
+            0
+        }
+        Err(status) => status.number(),
+    }
+}
+
+/// Encodes the message of these records behind the bytes that wait.
+fn put(encoding: &mut Encoding, records: &[Record], texts: &[u8]) -> FastPut {
+    let Encoding {
+        alloc,
+        templates,
+        encoder,
+        bytes,
+    } = encoding;
+    let (status, record) = match put_records(*alloc, templates, encoder, records, texts, bytes) {
+        Ok(()) => (Status::Done, 0),
+        Err(refusal) => (Status::from(refusal), record_of(refusal)),
+    };
+    FastPut {
+        waiting: bytes.len() as u64,
+        record: record as u64,
+        status: status.number(),
+        unused: 0,
+    }
+}
+
+/// The record that is not due, 0 where the records are a message.
+fn record_of(refusal: PutRefusal) -> usize {
+    match refusal {
+        PutRefusal::Records(PutFault::Misplaced { record }) => record,
+        _ => 0,
+    }
+}
+
+/// Encodes one message, whose records these are. Where it is refused, nothing has changed.
+#[unsafe(no_mangle)]
+pub extern "C" fn fast_encoder_put(
+    encoder: EncoderHandle,
+    back: &mut *mut FastEncoder,
+    records: &[Record],
+    texts: &[u8],
+    came: &mut FastPut,
+) {
+    let mut encoding = encoder.into_box();
+    *came = put(&mut encoding, records, texts);
+    *back = Box::into_raw(encoding) as *mut FastEncoder;
+}
+
+/// Takes out the first bytes that wait, as far as they have room.
+fn take(encoding: &mut Encoding, out: &mut [u8]) -> usize {
+    let count = encoding.bytes.len().min(out.len());
+    out[..count].copy_from_slice(&encoding.bytes[..count]);
+    let left = encoding.bytes.len() - count;
+    encoding.bytes.copy_within(count.., 0);
+    encoding.bytes.truncate(left);
+    count
+}
+
+/// Takes out the first bytes that wait, as far as they have room, and answers how many these are.
+#[unsafe(no_mangle)]
+pub extern "C" fn fast_encoder_take(
+    encoder: EncoderHandle,
+    back: &mut *mut FastEncoder,
+    out: &mut [u8],
+) -> usize {
+    let mut encoding = encoder.into_box();
+    let count = take(&mut encoding, out);
+    *back = Box::into_raw(encoding) as *mut FastEncoder;
+    count
+}
+
+/// Makes an encoder as it was made, and forgets the bytes that wait.
+#[unsafe(no_mangle)]
+pub extern "C" fn fast_encoder_reset(encoder: EncoderHandle, back: &mut *mut FastEncoder) {
+    let mut encoding = encoder.into_box();
+    encoding.encoder.reset();
+    encoding.bytes.clear();
+    *back = Box::into_raw(encoding) as *mut FastEncoder;
+}
+
+/// Gives an encoder's memory back, but for that of its set.
+#[unsafe(no_mangle)]
+pub extern "C" fn fast_encoder_close(encoder: EncoderHandle) {
+    drop(encoder.into_box());
+}

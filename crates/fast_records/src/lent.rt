@@ -1,0 +1,125 @@
+//! Records back to events, whose texts are lent.
+
+ghost use Rattle.std.specs.Prelude.{◌≡◌, [], map, take, drop, IfOk, IfSome};
+ghost use Rattle.fast_value.specs.meaning.Kinds.{text_of};
+ghost use Rattle.fast_value.specs.meaning.Values.{scalar_data};
+ghost use Rattle.fast_stream.specs.meaning.Handed.{event_data};
+ghost use Rattle.fast_records.specs.meaning.Records.{event_text};
+ghost use Rattle.fast_records.specs.meaning.Lent.{Tells, AreTold};
+
+use crate::putting::{PutFault, push};
+use crate::records::{
+    ASCII, BYTES, DECIMAL, ELEMENT_END, ELEMENT_START, GROUP_END, GROUP_START, MESSAGE_END,
+    MESSAGE_START, Record, SEQUENCE_END, SEQUENCE_START, SIGNED, UNICODE, UNSIGNED, record_of,
+};
+use fast_stream::Event;
+use fast_value::Scalar;
+use std::alloc::Global;
+
+/// The number of a record of a number.
+fn number_of(record: Record) -> Option<Scalar<'static>>
+    ensures { IfSome result (λ v. text_of (scalar_data v) ≡ []) }
+{
+    match record.kind {
+        UNSIGNED => Some(Scalar::U(record.value)),
+        SIGNED => Some(Scalar::I(record.value.cast_signed())),
+        DECIMAL => Some(Scalar::Dec {
+            exponent: record.exponent,
+            mantissa: record.value.cast_signed(),
+        }),
+        _ => None,
+    }
+}
+
+/// An event without a text of the kind, node and value of a record.
+fn mark_of(record: Record) -> Option<Event<'static>>
+    ensures { IfSome result (λ e. event_text (event_data e) ≡ []) }
+{
+    let node = record.node;
+    match record.kind {
+        MESSAGE_START => Some(Event::MessageStart { template: node }),
+        GROUP_START => Some(Event::GroupStart { node }),
+        GROUP_END => Some(Event::GroupEnd),
+        SEQUENCE_START => Some(Event::SequenceStart {
+            node,
+            count: (record.value & 0xffff_ffff) as u32,
+        }),
+        ELEMENT_START => Some(Event::ElementStart),
+        ELEMENT_END => Some(Event::ElementEnd),
+        SEQUENCE_END => Some(Event::SequenceEnd),
+        MESSAGE_END => Some(Event::MessageEnd),
+        _ => Some(Event::Field {
+            node,
+            value: number_of(record)?,
+        }),
+    }
+}
+
+/// A field of a record's kind and node with this text, if it is one with a text.
+fn text_field(record: Record, text: &[u8]) -> Option<Event<'_>>
+    ensures { IfSome result (λ e. event_text (event_data e) ≡ text.now) }
+{
+    let node = record.node;
+    let value = match record.kind {
+        ASCII => Scalar::Ascii(text),
+        UNICODE => Scalar::Unicode(text),
+        BYTES => Scalar::Bytes(text),
+        _ => return None,
+    };
+    Some(Event::Field { node, value })
+}
+
+/// An event of the kind, node and value of a record, with this text.
+fn event_with(record: Record, text: &[u8]) -> Option<Event<'_>>
+    ensures { IfSome result (λ e. event_text (event_data e) ≡ text.now) }
+{
+    if record.kind >= ASCII && record.kind <= BYTES {
+        return text_field(record, text);
+    }
+    if !text.is_empty() {
+        return None;
+    }
+    mark_of(record)
+}
+
+/// The text of a record, empty where it has none, if it stands in these texts.
+fn text_in(record: Record, texts: &[u8]) -> Option<&[u8]>
+    ensures { IfSome result (λ t. t.now ≡ take «record».length (drop «record».value texts.now)) }
+{
+    if record.length == 0 {
+        return Some(&[]);
+    }
+    texts
+        .get(record.value as usize..)?
+        .get(..record.length as usize)
+}
+
+/// The event that a record stands for, if it stands for one. What its kind has no use for must be 0.
+fn lent(record: Record, texts: &[u8]) -> Option<Event<'_>>
+    ensures { IfSome result (λ e. Tells texts.now «record» (event_data e)) }
+{
+    let event = event_with(record, text_in(record, texts)?)?;
+    if record_of(event, record.value) == record {
+        Some(event)
+    } else {
+        None
+    }
+}
+
+/// The events that records stand for. Their texts stand anywhere in these.
+pub fn events_of<'a>(
+    alloc: Global,
+    records: &[Record],
+    texts: &'a [u8],
+) -> Result<Vec<Event<'a>>, PutFault>
+    ensures { IfOk result (λ es. AreTold texts.now records.now (map event_data es.items)) }
+{
+    let mut events = Vec::with_capacity(alloc, records.len())?;
+    for (i, record) in records.iter().enumerate() {
+        match lent(*record, texts) {
+            Some(event) => push(&mut events, event)?,
+            None => return Err(PutFault::Misplaced { record: i }),
+        }
+    }
+    Ok(events)
+}

@@ -1,0 +1,284 @@
+//! Messages of their events, as records have them.
+
+ghost use Rattle.std.specs.Prelude.{◌≡◌, ◌<◌, ◌+◌, ◌++◌, ◌∷◌, [], List, length, map, drop, IsTrue, IfOk, IfSome, OnOk, option_map};
+ghost use Rattle.fast_value.specs.meaning.Messages.{count};
+ghost use Rattle.fast_value.specs.meaning.Values.{scalar_data};
+ghost use Rattle.fast_value.specs.meaning.Views.{item_data, slots_data, elements_data, message_data};
+ghost use Rattle.fast_tree.specs.device.Numbers.{AreBelow};
+ghost use Rattle.fast_tree.specs.device.Bodies.{body_among};
+ghost use Rattle.fast_template.specs.meaning.Flat.{nodes_of, tree_of};
+ghost use Rattle.fast_stream.specs.meaning.Events.{EventData, FieldValue, GroupStart, SequenceStart, events};
+ghost use Rattle.fast_stream.specs.meaning.Handed.{event_data};
+ghost use Rattle.fast_spelling.specs.device.Nodes.{instruction_in};
+ghost use Rattle.fast_records.specs.meaning.Lent.{AreTold};
+ghost use Rattle.fast_records.specs.device.Putting.{mark_event, IsBodyPut, IsSlotPut, AreRowsPut};
+
+use crate::lent::events_of;
+use crate::records::Record;
+use fast_stream::Event;
+use fast_template::{Shape, Templates};
+use fast_value::{Item, Message, Scalar, Value};
+use std::alloc::{AllocError, Global};
+
+/// Why records are no message.
+#[derive(Clone, Copy, Debug, PartialEq, Eq)]
+pub enum PutFault {
+    /// The record of this number, from 0, stands for no event, or for one that is not due there; or the records end before it.
+    Misplaced {
+        /// Its number.
+        record: usize,
+    },
+    /// Memory was refused.
+    Memory,
+}
+
+impl From<AllocError> for PutFault {
+    ghost use Rattle.std.specs.Prelude.{◌≡◌};
+    ghost use Rattle.fast_records.specs.declared.putting.PutFault.TheVariants.{Memory};
+
+    ghost from_gives = { λ _ fault. fault ≡ Memory };
+
+    fn from(_error: AllocError) -> PutFault {
+        PutFault::Memory
+    }
+}
+
+/// What stands between the parts of a message.
+#[derive(Clone, Copy, Debug)]
+enum Mark {
+    ElementStart,
+    ElementEnd,
+    SequenceEnd,
+    GroupEnd,
+    MessageEnd,
+}
+
+/// The slots of a message, a group or an element.
+type Slots = Vec<Option<Item>>;
+
+/// Puts an item behind the others.
+#[inline(always)]
+pub(crate) fn push<T: Drop>(items: &mut Vec<T>, item: T) -> Result<(), AllocError>
+    ensures { OnOk result (items.new.items ≡ items.old.items ++ item ∷ []) }
+{
+    match items.push(item) {
+        Ok(()) => Ok(()),
+        Err(refused) => Err(AllocError::from(refused)),
+    }
+}
+
+/// Whether an event is this mark.
+fn is_mark(mark: Mark, event: Event<'_>) -> bool
+    ensures { IsTrue result → event_data event.entry ≡ mark_event mark }
+{
+    match mark {
+        Mark::ElementStart => matches!(event, Event::ElementStart),
+        Mark::ElementEnd => matches!(event, Event::ElementEnd),
+        Mark::SequenceEnd => matches!(event, Event::SequenceEnd),
+        Mark::GroupEnd => matches!(event, Event::GroupEnd),
+        Mark::MessageEnd => matches!(event, Event::MessageEnd),
+    }
+}
+
+/// The event of this number, from 0.
+fn event_at<'e>(given: &[Event<'e>], at: usize) -> Option<Event<'e>>
+    ensures inside { IfSome result (λ e. at < length given.now) }
+    ensures first { IfSome result
+        (λ e. map event_data (drop at given.now) ≡ event_data e ∷ map event_data (drop (at + 1) given.now)) }
+{
+    given.get(at).copied()
+}
+
+/// The number of the event behind a mark that has this number.
+fn behind(mark: Mark, given: &[Event<'_>], at: usize) -> Result<usize, PutFault>
+    ensures { IfOk result
+        (λ next. map event_data (drop at given.now) ≡ mark_event mark ∷ map event_data (drop next given.now)) }
+{
+    match event_at(given, at) {
+        Some(event) if is_mark(mark, event) => Ok(at + 1),
+        _ => Err(PutFault::Misplaced { record: at }),
+    }
+}
+
+/// The value of a field of a node, if the event is one.
+fn value_of<'e>(node: u32, event: Event<'e>) -> Option<Scalar<'e>>
+    ensures { IfSome result (λ v. event_data event.entry ≡ FieldValue node (scalar_data v)) }
+{
+    match event {
+        Event::Field { node: its, value } if its == node => Some(value),
+        _ => None,
+    }
+}
+
+/// Whether an event begins the group of a node.
+fn is_group(node: u32, event: Event<'_>) -> bool
+    ensures { IsTrue result → event_data event.entry ≡ GroupStart node }
+{
+    match event {
+        Event::GroupStart { node: its } => its == node,
+        _ => false,
+    }
+}
+
+/// How many elements follow, if the event begins the sequence of a node.
+fn count_of(node: u32, event: Event<'_>) -> Option<u32>
+    ensures { IfSome result (λ n. event_data event.entry ≡ SequenceStart node n) }
+{
+    match event {
+        Event::SequenceStart { node: its, count } if its == node => Some(count),
+        _ => None,
+    }
+}
+
+/// The slots of a body, whose events begin at this number, up to the mark that ends them, and the number of the event behind it.
+#[cycle(putting)]
+fn put_body(
+    alloc: Global,
+    templates: &Templates,
+    body: &[u32],
+    end: Mark,
+    given: &[Event<'_>],
+    at: usize,
+) -> Result<(Slots, usize), PutFault>
+    requires { AreBelow (length (nodes_of templates.now)) body.now }
+    ensures { IfOk result
+        (λ r. IsBodyPut (body_among (nodes_of templates.now) body.now) end (slots_data r.0.items)
+        (map event_data (drop at given.now)) (map event_data (drop r.1 given.now))) }
+{
+    let mut place = at;
+    let mut slots = Vec::new(alloc);
+    for node in body {
+        let (item, next) = put_slot(alloc, templates, *node, given, place)?;
+        push(&mut slots, item)?;
+        place = next;
+    }
+    let next = behind(end, given, place)?;
+    Ok((slots, next))
+}
+
+/// The item of a node, if the events from this number on begin with it, and the number of the event behind it.
+#[cycle(putting)]
+fn put_slot(
+    alloc: Global,
+    templates: &Templates,
+    node: u32,
+    given: &[Event<'_>],
+    at: usize,
+) -> Result<(Option<Item>, usize), PutFault>
+    requires { node < length (nodes_of templates.now) }
+    ensures { IfOk result
+        (λ r. IsSlotPut (instruction_in (nodes_of templates.now) node) (option_map item_data r.0)
+        (map event_data (drop at given.now)) (map event_data (drop r.1 given.now))) }
+{
+    let Some(first) = event_at(given, at) else {
+        return Ok((None, at));
+    };
+    match &templates.node(node).shape {
+        Shape::Field(_) | Shape::Decimal { .. } => {
+            let Some(value) = value_of(node, first) else {
+                return Ok((None, at));
+            };
+            let value = Value::copy_of(alloc, value)?;
+            Ok((Some(Item::One(value)), at + 1))
+        }
+        Shape::Group { body, .. } => {
+            if !is_group(node, first) {
+                return Ok((None, at));
+            }
+            let (slots, next) = put_body(alloc, templates, body, Mark::GroupEnd, given, at + 1)?;
+            Ok((Some(Item::Group(slots)), next))
+        }
+        Shape::Sequence { body, .. } => {
+            let Some(count) = count_of(node, first) else {
+                return Ok((None, at));
+            };
+            let (rows, next) = put_rows(alloc, templates, body, count, given, at + 1)?;
+            Ok((Some(Item::Sequence(rows)), next))
+        }
+    }
+}
+
+/// So many elements of a sequence, whose events begin at this number, up to its end, and the number of the event behind it.
+#[cycle(putting)]
+fn put_rows(
+    alloc: Global,
+    templates: &Templates,
+    body: &[u32],
+    count: u32,
+    given: &[Event<'_>],
+    at: usize,
+) -> Result<(Vec<Slots>, usize), PutFault>
+    requires { AreBelow (length (nodes_of templates.now)) body.now }
+    ensures { IfOk result
+        (λ r. AreRowsPut (body_among (nodes_of templates.now) body.now) count (elements_data r.0.items)
+        (map event_data (drop at given.now)) (map event_data (drop r.1 given.now))) }
+{
+    let mut place = at;
+    let mut rows = Vec::new(alloc);
+    for _i in 0..count {
+        let next = behind(Mark::ElementStart, given, place)?;
+        let (row, next) = put_body(alloc, templates, body, Mark::ElementEnd, given, next)?;
+        push(&mut rows, row)?;
+        place = next;
+    }
+    let next = behind(Mark::SequenceEnd, given, place)?;
+    Ok((rows, next))
+}
+
+/// The message that begins with these events, and the number of the event behind it.
+fn put_message(
+    alloc: Global,
+    templates: &Templates,
+    given: &[Event<'_>],
+) -> Result<(Message, usize), PutFault>
+    ensures { IfOk result
+        (λ r. map event_data given.now ≡ events (tree_of templates.now) (message_data r.0)
+        ++ map event_data (drop r.1 given.now)) }
+{
+    let Some(Event::MessageStart { template }) = event_at(given, 0) else {
+        return Err(PutFault::Misplaced { record: 0 });
+    };
+    if template >= templates.count() {
+        return Err(PutFault::Misplaced { record: 0 });
+    }
+    let body = &templates.template(template).body;
+    let (items, next) = put_body(alloc, templates, body, Mark::MessageEnd, given, 1)?;
+    Ok((Message { template, items }, next))
+}
+
+/// The message that has these events. Whether it suits its template is for the encoder to say.
+///
+/// # Errors
+///
+/// `Misplaced` at the first event that is not due; `Memory`.
+pub fn message_of(
+    alloc: Global,
+    templates: &Templates,
+    given: &[Event<'_>],
+) -> Result<Message, PutFault>
+    ensures { IfOk result (λ m. events (tree_of templates.now) (message_data m) ≡ map event_data given.now) }
+{
+    let (message, next) = put_message(alloc, templates, given)?;
+    if next < given.len() {
+        return Err(PutFault::Misplaced { record: next });
+    }
+    Ok(message)
+}
+
+/// The message whose records these are, with their texts.
+///
+/// # Errors
+///
+/// `Misplaced` at a record that stands for no event, or else at the first that is not due; `Memory`.
+pub fn message_of_records(
+    alloc: Global,
+    templates: &Templates,
+    records: &[Record],
+    texts: &[u8],
+) -> Result<Message, PutFault>
+    ensures { IfOk result
+        (λ m. AreTold texts.now records.now (events (tree_of templates.now) (message_data m))) }
+{
+    let given = events_of(alloc, records, texts)?;
+    message_of(alloc, templates, &given)
+}
