@@ -1,8 +1,8 @@
 //! Each caller once, over two trades.
 
+use super::set_of;
 use fast_callers::{Columns, Price, Stopped, last_price, messages_in, up_to_fault};
 use fast_decoder::{Fault, FaultCode};
-use fast_template::Templates;
 use fast_value::{Code, Limits};
 use std::alloc::Global;
 use std::test::Fail;
@@ -29,7 +29,7 @@ const WRONG: &[u8] = &[
 #[test]
 fn messages_are_counted(rt: HostRuntime) -> Result<(), Fail> {
     let alloc = rt.alloc();
-    let set = Templates::read(alloc, TEXT)?;
+    let set = set_of(alloc, TEXT)?;
     let (front, rest) = TRADES.split_at(5);
     let counted = messages_in(alloc, &set, Limits::default(), &[front, rest])?;
     assert_eq!(rt; counted, 2);
@@ -38,7 +38,7 @@ fn messages_are_counted(rt: HostRuntime) -> Result<(), Fail> {
 
 /// The last price of a symbol in the two trades.
 fn price_of(alloc: Global, symbol: &[u8]) -> Result<Option<Price>, Fail> {
-    let set = Templates::read(alloc, TEXT)?;
+    let set = set_of(alloc, TEXT)?;
     let columns = Columns {
         symbol: 0,
         price: 1,
@@ -61,7 +61,7 @@ fn the_last_price_is_found(rt: HostRuntime) -> Result<(), Fail> {
 #[test]
 fn a_stream_stops_at_its_fault(rt: HostRuntime) -> Result<(), Fail> {
     let alloc = rt.alloc();
-    let set = Templates::read(alloc, TEXT)?;
+    let set = set_of(alloc, TEXT)?;
     let due = Stopped {
         messages: 2,
         bytes: 12,

@@ -17,28 +17,19 @@ mod limits;
 mod messages;
 mod operators;
 mod rows;
-mod script;
 mod values;
 mod worked;
 
+use super::{LENIENT, Script, decoder_of, feed, set_of};
 use fast_decoder::{Decoder, MakeError};
 use fast_encoder::{EncodeFault, Encoder};
 use fast_template::Templates;
 use fast_value::{Limits, Message};
 use messages::message_of;
 use rows::{Row, Step, bytes_of, events_of, is_answer};
-use script::Script;
 use std::alloc::{AllocError, Global};
 use std::process::Abort;
 use std::test::Fail;
-
-/// Lenient, with the limits that the program has by default.
-const LENIENT: Limits = Limits {
-    strict: false,
-    max_text: 1024,
-    max_elements: 1000,
-    max_total: 1000,
-};
 
 /// What stands before the bytes of a message, and has to stay there.
 const BEFORE: &[u8] = &[0x5A, 0xA5];
@@ -58,14 +49,6 @@ fn reset(encoder: &mut Encoder<'_>) {
 
 fn encoder_of(alloc: Global, set: &Templates, limits: Limits) -> Result<Encoder<'_>, MakeError> {
     Encoder::new(alloc, set, limits)
-}
-
-fn decoder_of(alloc: Global, set: &Templates, limits: Limits) -> Result<Decoder<'_>, MakeError> {
-    Decoder::new(alloc, set, limits)
-}
-
-fn set_of(alloc: Global, text: &str) -> Result<Templates, Fail> {
-    Ok(Templates::read(alloc, text)?)
 }
 
 /// One comparison, of what a test names so.
@@ -144,7 +127,7 @@ fn expect_encoded(
 /// Whether the bytes are a message with these events.
 fn is_played(decoder: &mut Decoder<'_>, bytes: &[u8], events: &str) -> bool {
     let mut script = Script::of(events);
-    decoder.feed(bytes, &mut script).is_ok() && decoder.between() && script.is_played()
+    feed(decoder, bytes, &mut script).is_ok() && decoder.between() && script.is_played()
 }
 
 /// Whether the bytes of these words are a message with these events.
@@ -165,7 +148,7 @@ fn is_read(alloc: Global, decoder: &mut Decoder<'_>, step: Step<'_>) -> Result<b
         return Ok(true);
     }
     let events = events_of(alloc, step.words)?;
-    is_heard(alloc, decoder, step.due, events.as_str())
+    is_heard(alloc, decoder, step.due, events.as_str().trim())
 }
 
 /// The steps that are not refused are read back.

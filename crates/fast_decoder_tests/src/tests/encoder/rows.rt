@@ -1,6 +1,6 @@
 //! Rows that are read from their lines.
 
-use super::LENIENT;
+use super::super::rows::limits_of;
 use fast_encoder::EncodeFault;
 use fast_value::Limits;
 use std::alloc::{AllocError, Global};
@@ -12,26 +12,6 @@ pub struct Row<'t> {
     pub name: &'t str,
     pub limits: Limits,
     pub steps: &'t str,
-}
-
-/// Sets what a word says of the limits.
-fn set_limit(limits: &mut Limits, word: &str) -> Option<()> {
-    match word.split_once('=') {
-        Some(("text", number)) => limits.max_text = number.parse().ok()?,
-        Some(("elements", number)) => limits.max_elements = number.parse().ok()?,
-        Some(("total", number)) => limits.max_total = number.parse().ok()?,
-        Some(_) => return None,
-        None => return if word == "lenient" { Some(()) } else { None },
-    }
-    Some(())
-}
-
-fn limits_of(words: &str) -> Option<Limits> {
-    let mut limits = LENIENT;
-    for word in words.split_whitespace() {
-        set_limit(&mut limits, word)?;
-    }
-    Some(limits)
 }
 
 impl Row<'_> {
