@@ -1,5 +1,6 @@
 //! Texts that are at fault, with the line and what is wrong with it.
 
+use super::super::expect;
 use super::{count_of, set_of};
 use LineFault::{Form, Missing, OutOfPlace, PassedOver, UnknownTemplate, WrongCount, WrongValue};
 use fast_reading::{LineFault, TextFault};
@@ -131,7 +132,7 @@ fn the_first_line_at_fault_is_named(rt: HostRuntime) -> Result<(), Fail> {
                 line: *line,
                 kind: *kind,
             };
-            assert!(rt; answer == Err(want), "{text}");
+            expect(&rt, answer == Err(want), text, *line as usize);
         }
     }
     Ok(())
@@ -157,7 +158,12 @@ fn a_line_that_is_not_utf8_is_of_no_form(rt: HostRuntime) -> Result<(), Fail> {
     ] {
         let answer = count_of(alloc, &set, text);
         let want = TextFault::BadLine { line, kind };
-        assert!(rt; answer == Err(want));
+        expect(
+            &rt,
+            answer == Err(want),
+            "a line that is not UTF-8",
+            line as usize,
+        );
     }
     Ok(())
 }
@@ -183,7 +189,7 @@ fn a_fault_has_a_number_and_a_sentence(rt: HostRuntime) -> Result<(), Fail> {
         (TextFault::Memory, "there is no memory left"),
     ] {
         let found = format!(in alloc; "{fault}")?;
-        assert!(rt; found.as_str() == sentence, "{found}");
+        expect(&rt, found.as_str() == sentence, sentence, found.len());
     }
     Ok(())
 }

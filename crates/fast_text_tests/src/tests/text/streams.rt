@@ -1,5 +1,6 @@
 //! Readers and writers over slices, and those of std.
 
+use super::super::expect;
 use fast_text::{BlockWriter, Failed, FromBytes, Source, Target, ToBytes, Watched};
 use std::io;
 use std::io::{ErrorKind, Read, Write};
@@ -65,10 +66,8 @@ fn expect_reads<S: Source>(
 ) {
     for (answer, front, failed) in reads {
         let is_right = source.read(buf) == *answer && buf.starts_with(front);
-        assert!(rt;
-            is_right && source.failed() == *failed,
-            "{answer:?} {front:?}"
-        );
+        let is_right = is_right && source.failed() == *failed;
+        expect(rt, is_right, "a read", front.len());
     }
 }
 
@@ -80,7 +79,7 @@ fn expect_write<T: Target>(
     answer: Result<(), Failed>,
 ) {
     let is_right = target.write_all(piece) == answer && target.failed() == answer.is_err();
-    assert!(rt; is_right, "{piece:?}");
+    expect(rt, is_right, "a write", piece.len());
 }
 
 #[test]
@@ -133,7 +132,12 @@ fn a_writer_of_std_fails_where_a_call_does_or_writes_nothing(rt: HostRuntime) {
         let is_flushed = Target::flush(&mut target).is_ok() && !Target::failed(&target);
         expect_write(&rt, &mut target, b"cd", Err(Failed));
         drop(target);
-        assert!(rt; is_flushed && cells == written, "{calls} calls");
+        expect(
+            &rt,
+            is_flushed && cells == written,
+            "a writer of std",
+            calls,
+        );
     }
 }
 
@@ -192,8 +196,8 @@ fn a_writer_of_std_has_failed_from_a_flush_on_that_fails(rt: HostRuntime) {
     });
     for (answer, failed) in [(Ok(()), false), (Err(Failed), true), (Ok(()), true)] {
         let is_right = Target::flush(&mut target) == answer && Target::failed(&target) == failed;
-        assert!(rt; is_right, "{answer:?}");
+        expect(&rt, is_right, "a flush", 0);
     }
     let count = target.into_inner().count;
-    assert!(rt; count == 3, "{count} flushes");
+    expect(&rt, count == 3, "flushes", 3);
 }

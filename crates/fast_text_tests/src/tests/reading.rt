@@ -1,4 +1,4 @@
-//! Tests: what no clause says, and each public call once.
+//! Texts of lines, with the line at fault and what is wrong with it.
 
 mod cuts;
 mod faults;
@@ -58,7 +58,7 @@ fn count_of(alloc: Global, set: &Templates, text: &[u8]) -> Result<usize, TextFa
     Ok(messages.len())
 }
 
-/// The set. Without a contract for the same cause.
+/// The set.
 fn set_of(alloc: Global) -> Result<Templates, Fail> {
-    Ok(Templates::read(alloc, SET)?)
+    super::set_of(alloc, SET)
 }

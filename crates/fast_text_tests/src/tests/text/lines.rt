@@ -1,5 +1,6 @@
 //! The line of each event.
 
+use super::super::{expect, set_of};
 use Event::{
     ElementEnd, ElementStart, Field, GroupEnd, GroupStart, MessageEnd, MessageStart, SequenceEnd,
     SequenceStart,
@@ -23,7 +24,7 @@ fields = [
 {kind="sequence", name="legs", fields=[{kind="ascii", name="sym"}, {kind="int32", name="px"}]},
 ]
 "#;
-    Ok(Templates::read(alloc, text)?)
+    set_of(alloc, text)
 }
 
 const EVENTS: &[Event<'static>] = &[
@@ -99,21 +100,24 @@ const LONG: &[Event<'static>] = &[Field {
 /// Numbers that the set does not have, and that have no name.
 const UNKNOWN: &[Event<'static>] = &[MessageStart { template: 1 }, GroupStart { node: 6 }];
 
-/// Events, and their lines.
-const ROWS: [(&[Event<'static>], &[u8]); 4] = [
+/// What they show, events, and their lines.
+const ROWS: [(&str, &[Event<'static>], &[u8]); 4] = [
     (
+        "events",
         EVENTS,
         b"message T15\nfield 0 x u 5\ngroup 1 g\nfield 2 b b 01ff\nend group\nsequence 3 legs 1\nelement\nfield 4 sym a \"AB\"\nfield 5 px i -98\nend element\nend sequence\nend message\n",
     ),
     (
+        "values",
         VALUES,
         b"field 0 x u 18446744073709551615\nfield 0 x i 9223372036854775807\nfield 0 x d -15e-1\nfield 0 x d -9223372036854775808e63\nfield 0 x b \nfield 0 x a \"\"\nfield 0 x s \"\\\"\\\\\\x00\\x1f\\x7f\xc3\xa9 a\"\n",
     ),
     (
+        "a long value",
         LONG,
         b"field 2 b b a5a5a5a5a5a5a5a5a5a5a5a5a5a5a5a5a5a5a5a5a5a5a5a5a5a5a5a5a5a5a5a5a5a5a5a5a5a5a5a5a5a5a5a5a5a5a5a5a5a5a5a5a5a5a5a5a5a5a5a5a5a5a5a5a5\n",
     ),
-    (UNKNOWN, b"message \ngroup 6 \n"),
+    ("unknown numbers", UNKNOWN, b"message \ngroup 6 \n"),
 ];
 
 /// Whether a sink over the cells writes these bytes of the events, and stops or not.
@@ -138,15 +142,15 @@ fn is_written(
 #[test]
 fn each_event_is_its_line(rt: HostRuntime) -> Result<(), Fail> {
     let set = set(rt.alloc())?;
-    for (events, lines) in ROWS {
+    for (name, events, lines) in ROWS {
         let is_written = is_written(&set, &mut [0; 512], events, Ok(()), lines);
-        assert!(rt; is_written, "{events:?}");
+        expect(&rt, is_written, name, events.len());
     }
     for room in 0..12 {
         let mut cells = [0; 12];
         let front = &b"message T15\n"[..room];
         let stops = is_written(&set, &mut cells[..room], &EVENTS[..1], Err(Stop), front);
-        assert!(rt; stops, "in {room}");
+        expect(&rt, stops, "a full target", room);
     }
     Ok(())
 }
@@ -190,7 +194,8 @@ fn a_long_text_stands_in_its_line(rt: HostRuntime) -> Result<(), Fail> {
         value: Ascii(&text),
     };
     let taken = LineSink::new(&set, &mut target).take(event);
-    assert_eq!(rt; taken, Ok(()));
-    assert!(rt; text_in(target.bytes()) == text.as_slice());
+    expect(&rt, taken.is_ok(), "a long text is taken", 600);
+    let stands = text_in(target.bytes()) == text.as_slice();
+    expect(&rt, stands, "a long text stands", 600);
     Ok(())
 }

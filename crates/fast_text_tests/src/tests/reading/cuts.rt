@@ -1,5 +1,6 @@
 //! Whole texts, and texts that end too early.
 
+use super::super::expect;
 use super::{ALL, count_of, set_of};
 use fast_reading::TextFault;
 use std::test::Fail;
@@ -34,9 +35,9 @@ fn a_text_that_is_cut_says_the_messages_before_or_nothing(rt: HostRuntime) -> Re
     for length in 0..text.len() {
         let answer = count_of(alloc, &set, &text[..length]);
         let is_right = is_right(whole_ones(length), answer);
-        assert!(rt; is_right, "{length}");
+        expect(&rt, is_right, "a text that is cut", length);
     }
     let whole = count_of(alloc, &set, text);
-    assert!(rt; whole == Ok(3));
+    expect(&rt, whole == Ok(3), "a whole text", text.len());
     Ok(())
 }

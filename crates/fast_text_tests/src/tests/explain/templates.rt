@@ -1,5 +1,6 @@
 //! Template texts that are refused, and where. `tools/runs/explained` has a row for each way.
 
+use super::super::expect;
 use fast_explain::{Note, explain_templates};
 use fast_notation::{CheckedSet, StaticCode, StaticFault};
 use std::alloc::Global;
@@ -42,11 +43,16 @@ const ROWS: [(&str, &str); 8] = [
 "),
 ];
 
+/// What is said of bytes that are refused so. Without a contract, so that a call is cheap to prove.
+fn explained(alloc: Global, text: &[u8], fault: StaticFault) -> Note {
+    explain_templates(alloc, text, fault)
+}
+
 /// What is said of a text that is refused.
 fn told(alloc: Global, text: &str) -> Option<Note> {
     match CheckedSet::read(alloc, text) {
         Ok(_) => None,
-        Err(fault) => Some(explain_templates(alloc, text.as_bytes(), fault)),
+        Err(fault) => Some(explained(alloc, text.as_bytes(), fault)),
     }
 }
 
@@ -56,7 +62,7 @@ fn refused_texts_are_explained(rt: HostRuntime) -> Result<(), Fail> {
         let Some(note) = told(rt.alloc(), text) else {
             return Err(Fail::from("a text is taken"));
         };
-        assert!(rt; note.as_str() == *lines, "{text} {}", note.as_str());
+        expect(&rt, note.as_str() == *lines, text, note.as_str().len());
     }
     Ok(())
 }
@@ -67,11 +73,11 @@ fn bytes_that_are_no_text_are_explained(rt: HostRuntime) -> Result<(), Fail> {
         code: StaticCode::S1,
         template: None,
     };
-    let note = explain_templates(rt.alloc(), b"# \xc3\xa9\n# \xff\n", fault);
+    let note = explained(rt.alloc(), b"# \xc3\xa9\n# \xff\n", fault);
     let wanted = "  the text is not TOML, or not of the form of a template set
   line 2, column 3
   a byte that is not UTF-8
 ";
-    assert!(rt; note.as_str() == wanted, "{}", note.as_str());
+    expect(&rt, note.as_str() == wanted, note.as_str(), wanted.len());
     Ok(())
 }

@@ -1,8 +1,8 @@
 //! What is said of a stream, by what was read of it.
 
+use super::super::{expect, set_of};
 use fast_explain::{Kept, Note, explain_stream};
 use fast_stream::FaultCode;
-use fast_template::Templates;
 use fast_text::{FromBytes, Source};
 use fast_value::{Code, Limits};
 use std::alloc::Global;
@@ -69,7 +69,7 @@ fn told(
         code,
         Some(FaultCode::Stream(Code::R6 | Code::R7 | Code::R8))
     );
-    let templates = Templates::read(alloc, SET)?;
+    let templates = set_of(alloc, SET)?;
     let source = FromBytes::new(input);
     let mut reader = Kept::new(alloc, source, &templates, limits(strict), is_hex);
     let mut piece = [0; 5];
@@ -77,6 +77,11 @@ fn told(
         let _ = reader.read(&mut piece);
     }
     Ok(explain_stream(code, place, &reader))
+}
+
+/// The second line of what is said.
+fn line_of(note: &Note) -> &str {
+    note.as_str().lines().nth(1).unwrap_or("")
 }
 
 /// The digits of a stream, the code of its fault if it is not cut, how many bytes decide it, and the field that is told.
@@ -119,12 +124,8 @@ fn fields_at_fault_are_told(rt: HostRuntime) -> Result<(), Fail> {
     for (digits, code, place, wanted) in ROWS.iter() {
         let code = code.map(FaultCode::Stream);
         let note = told(rt.alloc(), digits.as_bytes(), true, code, *place)?;
-        let said = note.as_str().lines().nth(1).unwrap_or("");
-        assert!(rt;
-            said.strip_prefix("  ") == Some(*wanted),
-            "{digits}: {}",
-            note.as_str()
-        );
+        let is_told = line_of(&note).strip_prefix("  ") == Some(*wanted);
+        expect(&rt, is_told, note.as_str(), *place as usize);
     }
     Ok(())
 }
@@ -138,7 +139,7 @@ fn faults_are_told_with_the_bytes_around(rt: HostRuntime) -> Result<(), Fail> {
   template \"T\", field 0 \"a\"
   offset 0x6: E0 81 10 00 00 00 [80] 01 02 03 04 05 06 07 08
 ";
-    assert!(rt; note.as_str() == wanted, "{}", note.as_str());
+    expect(&rt, note.as_str() == wanted, note.as_str(), wanted.len());
     Ok(())
 }
 
@@ -149,7 +150,7 @@ fn digits_are_told_as_bytes(rt: HostRuntime) -> Result<(), Fail> {
   template \"T\", field 1 \"b\"
   offset 0x2: E0 81 [C2] 0
 ";
-    assert!(rt; note.as_str() == wanted, "{}", note.as_str());
+    expect(&rt, note.as_str() == wanted, note.as_str(), wanted.len());
     Ok(())
 }
 
@@ -158,19 +159,21 @@ fn long_inputs_keep_their_offsets(rt: HostRuntime) -> Result<(), Fail> {
     let mut input = vec![in rt.alloc(); 0x80; 20000]?;
     input.push(0xAB)?;
     let note = told(rt.alloc(), &input, false, None, 20001)?;
-    assert!(rt;
-        note.as_str()
-            .ends_with("  offset 0x4e20: 80 80 80 80 80 80 80 80 [AB]\n"),
-        "{}",
-        note.as_str()
+    let offset = "  offset 0x4e20: 80 80 80 80 80 80 80 80 [AB]\n";
+    expect(
+        &rt,
+        note.as_str().ends_with(offset),
+        note.as_str(),
+        offset.len(),
     );
     let digits = vec![in rt.alloc(); b'7'; 20001]?;
     let note = told(rt.alloc(), &digits, true, None, 10000)?;
-    assert!(rt;
-        note.as_str()
-            .ends_with("  offset 0x270f: 77 77 77 77 77 77 77 77 [77] 7\n"),
-        "{}",
-        note.as_str()
+    let offset = "  offset 0x270f: 77 77 77 77 77 77 77 77 [77] 7\n";
+    expect(
+        &rt,
+        note.as_str().ends_with(offset),
+        note.as_str(),
+        offset.len(),
     );
     Ok(())
 }
