@@ -1,4 +1,4 @@
-//! Tests: what no clause says, and each public call once.
+//! Dictionaries and field operators.
 
 mod examples;
 mod rows;
