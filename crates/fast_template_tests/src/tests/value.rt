@@ -1,11 +1,26 @@
 //! Texts of initial values, a value that is lent and copied, and what stands for a code.
 
+use super::expect;
 use fast_value::{Code, InitialFault, Kind, Limits, Scalar, Value, parse_initial};
 use std::alloc::Global;
+use std::process::Abort;
 use std::test::Fail;
 
-fn is_refused(alloc: Global, kind: Kind, text: &str) -> bool {
-    matches!(parse_initial(alloc, kind, text), Err(InitialFault::S3))
+/// The value of a text. Without a contract, so that a call is cheap to prove.
+fn parsed(alloc: Global, kind: Kind, text: &str) -> Result<Value, InitialFault> {
+    parse_initial(alloc, kind, text)
+}
+
+/// A text is refused.
+fn expect_refused(rt: &impl Abort, alloc: Global, kind: Kind, text: &str) {
+    let is_refused = matches!(parsed(alloc, kind, text), Err(InitialFault::S3));
+    expect(rt, is_refused, text, text.len());
+}
+
+/// A text has this value.
+fn expect_value(rt: &impl Abort, alloc: Global, kind: Kind, text: &str, value: Value) {
+    let is_right = parsed(alloc, kind, text) == Ok(value);
+    expect(rt, is_right, text, text.len());
 }
 
 #[test]
@@ -19,11 +34,7 @@ fn integers_are_read_up_to_their_bounds(rt: HostRuntime) {
         (Kind::UInt64, "18446744073709551615", u64::MAX),
     ];
     for (kind, text, number) in unsigned {
-        assert_eq!(rt;
-            parse_initial(alloc, kind, text),
-            Ok(Value::U(number)),
-            "{text}"
-        );
+        expect_value(&rt, alloc, kind, text, Value::U(number));
     }
     let signed = [
         (Kind::Int32, "-2147483648", -2147483648),
@@ -32,11 +43,7 @@ fn integers_are_read_up_to_their_bounds(rt: HostRuntime) {
         (Kind::Int64, "9223372036854775807", i64::MAX),
     ];
     for (kind, text, number) in signed {
-        assert_eq!(rt;
-            parse_initial(alloc, kind, text),
-            Ok(Value::I(number)),
-            "{text}"
-        );
+        expect_value(&rt, alloc, kind, text, Value::I(number));
     }
 }
 
@@ -58,7 +65,7 @@ fn other_integers_are_refused(rt: HostRuntime) {
         (Kind::UInt32, "5a"),
     ];
     for (kind, text) in cases {
-        assert!(rt; is_refused(rt.alloc(), kind, text), "{text}");
+        expect_refused(&rt, rt.alloc(), kind, text);
     }
 }
 
@@ -73,11 +80,7 @@ fn decimals_keep_their_exponent(rt: HostRuntime) {
     ];
     for (text, exponent, mantissa) in good {
         let value = Value::Dec { exponent, mantissa };
-        assert_eq!(rt;
-            parse_initial(alloc, Kind::Decimal, text),
-            Ok(value),
-            "{text}"
-        );
+        expect_value(&rt, alloc, Kind::Decimal, text, value);
     }
     for text in [
         "1.5",
@@ -89,7 +92,7 @@ fn decimals_keep_their_exponent(rt: HostRuntime) {
         "1e2e3",
         "9223372036854775808",
     ] {
-        assert!(rt; is_refused(alloc, Kind::Decimal, text), "{text}");
+        expect_refused(&rt, alloc, Kind::Decimal, text);
     }
 }
 
@@ -97,14 +100,18 @@ fn decimals_keep_their_exponent(rt: HostRuntime) {
 fn texts_and_bytes(rt: HostRuntime) -> Result<(), Fail> {
     let alloc = rt.alloc();
     let ascii = Value::Ascii(Vec::from_slice(alloc, b"AB c")?);
-    assert_eq!(rt; parse_initial(alloc, Kind::Ascii, "AB c"), Ok(ascii));
+    expect_value(&rt, alloc, Kind::Ascii, "AB c", ascii);
     let unicode = Value::Unicode(Vec::from_slice(alloc, &[0xC3, 0xA9])?);
-    assert_eq!(rt; parse_initial(alloc, Kind::Unicode, "\u{e9}"), Ok(unicode));
+    expect_value(&rt, alloc, Kind::Unicode, "\u{e9}", unicode);
     let bytes = Value::Bytes(Vec::from_slice(alloc, &[1, 0xFF, 0xAB])?);
-    assert_eq!(rt; parse_initial(alloc, Kind::Bytes, "01fFAb"), Ok(bytes));
-    assert!(rt; is_refused(alloc, Kind::Ascii, "\u{e9}"));
-    assert!(rt; is_refused(alloc, Kind::Bytes, "abc"));
-    assert!(rt; is_refused(alloc, Kind::Bytes, "0g"));
+    expect_value(&rt, alloc, Kind::Bytes, "01fFAb", bytes);
+    for (kind, text) in [
+        (Kind::Ascii, "\u{e9}"),
+        (Kind::Bytes, "abc"),
+        (Kind::Bytes, "0g"),
+    ] {
+        expect_refused(&rt, alloc, kind, text);
+    }
     Ok(())
 }
 
@@ -112,12 +119,10 @@ fn texts_and_bytes(rt: HostRuntime) -> Result<(), Fail> {
 fn a_copy_is_the_same_value(rt: HostRuntime) -> Result<(), Fail> {
     let text = b"GEH6";
     let copy = Value::copy_of(rt.alloc(), Scalar::Ascii(text.as_slice()))?;
-    assert_eq!(rt;
-        copy,
-        Value::Ascii(Vec::from_slice(rt.alloc(), text.as_slice())?)
-    );
+    let same = Value::Ascii(Vec::from_slice(rt.alloc(), text.as_slice())?);
+    expect(&rt, copy == same, "a copy", text.len());
     let lent = matches!(copy.as_scalar(), Scalar::Ascii(lent) if lent == text.as_slice());
-    assert!(rt; lent);
+    expect(&rt, lent, "what is lent", text.len());
     Ok(())
 }
 
@@ -139,10 +144,8 @@ fn a_code_has_a_number_a_name_and_a_sentence(rt: HostRuntime) -> Result<(), Fail
     ] {
         let name = code.name();
         let found = format!(in alloc; "{name}: {code}")?;
-        assert!(rt;
-            found.as_str() == line && code.number() == number,
-            "{found}"
-        );
+        let is_right = found.as_str() == line && code.number() == number;
+        expect(&rt, is_right, line, usize::from(number));
     }
     Ok(())
 }
@@ -155,5 +158,5 @@ fn limits_have_a_default(rt: HostRuntime) {
         max_elements: 1000,
         max_total: 1000,
     };
-    assert_eq!(rt; Limits::default(), limits, "limits");
+    expect(&rt, Limits::default() == limits, "limits", 0);
 }

@@ -1,5 +1,6 @@
 //! The most turns of a message, and how deep its segments are nested.
 
+use super::super::expect;
 use super::set_of;
 use fast_template::Templates;
 use fast_value::Limits;
@@ -93,10 +94,10 @@ fn has_cap(set: &Templates, max_elements: u32, max_total: u32, cap: u64) -> bool
 fn depths_and_caps(rt: HostRuntime) -> Result<(), Fail> {
     for (text, depth, caps) in ROWS {
         let set = set_of(rt.alloc(), text)?;
-        assert!(rt; set.depth() == depth, "{text}");
+        expect(&rt, set.depth() == depth, text, depth as usize);
         for (max_elements, max_total, cap) in caps {
             let is_right = has_cap(&set, *max_elements, *max_total, *cap);
-            assert!(rt; is_right, "{max_elements} {max_total} of {text}");
+            expect(&rt, is_right, text, *max_elements as usize);
         }
     }
     Ok(())

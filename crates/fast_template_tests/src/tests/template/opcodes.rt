@@ -1,5 +1,6 @@
 //! The opcodes of nodes.
 
+use super::super::expect;
 use super::set_of;
 use fast_template::{Opcode, Sending};
 use std::test::Fail;
@@ -55,6 +56,7 @@ fn fields_of_integers_have_opcodes(rt: HostRuntime) -> Result<(), Fail> {
     for n in 0..set.nodes() {
         found.push(set.opcode(n))?;
     }
-    assert!(rt; found.as_slice() == OPCODES.as_slice(), "{found:?}");
+    let is_right = found.as_slice() == OPCODES.as_slice();
+    expect(&rt, is_right, "opcodes", found.len());
     Ok(())
 }

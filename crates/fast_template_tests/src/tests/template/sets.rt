@@ -1,5 +1,6 @@
 //! Sets that are read: their numbers, entries and limits.
 
+use super::super::expect;
 use super::{Faults, expect_faults, finds, put, set_of};
 use fast_template::{FieldInstruction, Operator, Shape, StaticCode, Templates, VECTORS};
 use fast_value::Value;
@@ -12,7 +13,7 @@ fn spelled(alloc: Global, set: &Templates) -> Result<String, AllocError> {
     let mut text = String::new(alloc);
     for n in 0..set.nodes() {
         let node = set.node(n);
-        text.push_str(node.name.as_str())?;
+        put(&mut text, node.name.as_str(), "", "")?;
         match &node.shape {
             Shape::Field(field) => spell(&mut text, field)?,
             Shape::Decimal { exponent, mantissa } => {
@@ -20,33 +21,35 @@ fn spelled(alloc: Global, set: &Templates) -> Result<String, AllocError> {
                 spell(&mut text, mantissa)?;
             }
             Shape::Group { optional, body } => {
-                text.push_str(if *optional { " ?{" } else { " {" })?;
+                put(&mut text, if *optional { " ?{" } else { " {" }, "", "")?;
                 spell_numbers(&mut text, body)?;
             }
             Shape::Sequence { length, body } => {
                 spell(&mut text, length)?;
-                text.push_str(" {")?;
+                put(&mut text, " {", "", "")?;
                 spell_numbers(&mut text, body)?;
             }
         }
-        text.push_str("; ")?;
+        put(&mut text, "; ", "", "")?;
     }
     Ok(text)
 }
 
 fn spell(text: &mut String, field: &FieldInstruction) -> Result<(), AllocError> {
-    text.push_str(if field.optional { " ?" } else { " " })?;
-    match field.entry {
-        Some(entry) => text.push_str(Buffer::new().format(entry)),
-        None => text.push_str("-"),
-    }
+    let before = if field.optional { " ?" } else { " " };
+    let mut number = Buffer::new();
+    let entry = match field.entry {
+        Some(entry) => number.format(entry),
+        None => "-",
+    };
+    put(text, before, entry, "")
 }
 
 fn spell_numbers(text: &mut String, body: &[u32]) -> Result<(), AllocError> {
     for n in body {
         put(text, " ", Buffer::new().format(*n), "")?;
     }
-    text.push_str(" }")
+    put(text, " }", "", "")
 }
 
 /// Whether the template has these nodes, and resets or not.
@@ -81,13 +84,13 @@ fn the_worked_set_has_its_numbers(rt: HostRuntime) -> Result<(), Fail> {
     let ids = [(15, Some(14)), (0, None)];
     let names = [("T19", Some(18)), ("T", None)];
     let has_numbers = finds(&set, 19, &ids, &names) && set.nodes() == 26 && set.entries() == 13;
-    assert!(rt; has_numbers);
+    expect(&rt, has_numbers, "numbers", 19);
     let text = spelled(rt.alloc(), &set)?;
-    assert!(rt; text.as_str() == VECTORS_SPELLED, "{text}");
+    expect(&rt, text.as_str() == VECTORS_SPELLED, text.as_str(), 19);
     let has_parts = is_template(&set, 14, &[15, 16, 18], false)
         && is_template(&set, 8, &[], true)
         && is_seven(&set, 2);
-    assert!(rt; has_parts);
+    expect(&rt, has_parts, "parts", 19);
     Ok(())
 }
 
@@ -123,18 +126,19 @@ const ENTRIES: [(&str, &str); 5] = [
 #[test]
 fn entries_are_those_of_the_text(rt: HostRuntime) -> Result<(), Fail> {
     for (rest, want) in ENTRIES {
-        let mut text = String::from_str(rt.alloc(), "[[template]]\nname = 'A'\n")?;
-        text.push_str(rest)?;
+        let mut text = String::new(rt.alloc());
+        put(&mut text, "[[template]]\nname = 'A'\n", rest, "")?;
         let set = set_of(rt.alloc(), text.as_str())?;
         let spelled = spelled(rt.alloc(), &set)?;
-        assert!(rt; spelled.as_str() == want, "{spelled} of {rest}");
+        expect(&rt, spelled.as_str() == want, spelled.as_str(), rest.len());
     }
     Ok(())
 }
 
 /// A template with so many mandatory fields that copy.
 fn copying(alloc: Global, count: usize) -> Result<String, AllocError> {
-    let mut text = String::from_str(alloc, "[[template]]\nname = 'A'\nfields = [")?;
+    let mut text = String::new(alloc);
+    put(&mut text, "[[template]]\nname = 'A'\nfields = [", "", "")?;
     let mut number = Buffer::new();
     for n in 0..count {
         put(
@@ -144,7 +148,7 @@ fn copying(alloc: Global, count: usize) -> Result<String, AllocError> {
             "', op='copy'},",
         )?;
     }
-    text.push_str("]\n")?;
+    put(&mut text, "]\n", "", "")?;
     Ok(text)
 }
 
@@ -193,7 +197,8 @@ fields = [{kind="uInt32", name="x", op="copy"}, {kind="ascii", name="y", op="cop
 "#;
     let set = set_of(rt.alloc(), text)?;
     for (entry, is_text) in [(0, false), (1, false), (2, true), (3, false)] {
-        assert!(rt; set.holds_text(entry) == is_text, "entry {entry}");
+        let is_right = set.holds_text(entry) == is_text;
+        expect(&rt, is_right, "entry", entry as usize);
     }
     Ok(())
 }

@@ -1,5 +1,6 @@
 //! The presence bits of segments, and which instructions may be absent.
 
+use super::super::expect;
 use super::set_of;
 use fast_template::Templates;
 use std::alloc::{AllocError, Global};
@@ -54,6 +55,6 @@ fn bits_and_what_may_be_absent(rt: HostRuntime) -> Result<(), Fail> {
     let messages = bits_of_messages(rt.alloc(), &set)?;
     let nodes = what_nodes_have(rt.alloc(), &set)?;
     let is_right = messages.as_slice() == MESSAGES && nodes.as_slice() == NODES;
-    assert!(rt; is_right, "{messages:?} {nodes:?}");
+    expect(&rt, is_right, "bits", messages.len());
     Ok(())
 }
