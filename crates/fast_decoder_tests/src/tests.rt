@@ -8,6 +8,8 @@
 //! or `total=2`. A byte is two digits, and `00*146` stands for 146 bytes. The events are as `Script` writes them. The
 //! end is `between` two messages, `inside` a message, or a fault with its place, as `D9@2`.
 
+mod callers;
+mod encoder;
 mod faults;
 mod limits;
 mod maps;
@@ -244,14 +246,10 @@ fn push_all<S: Sink>(decoder: &mut Decoder<'_>, bytes: &[u8], sink: &mut S) -> A
 
 /// Feeds the bytes in two pieces, as far as there is no fault.
 fn feed_cut<S: Sink>(decoder: &mut Decoder<'_>, bytes: &[u8], cut: usize, sink: &mut S) -> Account {
-    let mut answer = Ok(());
-    if cut <= bytes.len() {
-        let (front, rest) = bytes.split_at(cut);
-        for piece in [front, rest] {
-            if answer.is_ok() {
-                answer = feed(decoder, piece, sink);
-            }
-        }
+    let (front, rest) = bytes.split_at_checked(cut).unwrap_or((bytes, &[]));
+    let mut answer = feed(decoder, front, sink);
+    if answer.is_ok() {
+        answer = feed(decoder, rest, sink);
     }
     account_of(decoder, answer)
 }

@@ -1,82 +1,13 @@
 //! Tests: what no clause says, and each public call once.
 
-mod caps;
-mod chains;
-mod opcodes;
-mod sets;
-mod texts;
-mod widths;
+mod dict;
+mod template;
+mod value;
+mod wire;
 
-use fast_template::{StaticCode, Templates};
-use std::alloc::{AllocError, Global};
 use std::process::Abort;
-use std::test::Fail;
 
-/// The code of a text, and the template at which it stands; nothing where the text is a set.
-type Due = Option<(StaticCode, Option<u32>)>;
-
-/// What a text has. No clause says anything of it, so that the contract of `read` is a matter of this function alone.
-fn fault_of(alloc: Global, text: &str) -> Due {
-    match Templates::read(alloc, text) {
-        Ok(_) => None,
-        Err(fault) => Some((fault.code, fault.template)),
-    }
-}
-
-/// The set of a text, with no clause for the same cause.
-fn set_of(alloc: Global, text: &str) -> Result<Templates, Fail> {
-    Ok(Templates::read(alloc, text)?)
-}
-
-/// Puts three pieces behind a text. No clause says which, so that what a text is made of costs the prover nothing.
-fn put(text: &mut String, first: &str, second: &str, third: &str) -> Result<(), AllocError> {
-    text.push_str(first)?;
-    text.push_str(second)?;
-    text.push_str(third)
-}
-
-/// A text has this, and the message says what it shows.
-fn expect_fault(rt: &impl Abort, alloc: Global, text: &str, want: Due, what: &str) {
-    let is_right = fault_of(alloc, text) == want;
-    assert!(rt; is_right, "{what}");
-}
-
-/// What texts have, and the texts.
-type Faults = &'static [(Due, &'static [&'static str])];
-
-/// Each of the texts has what is due, between these texts.
-fn expect_faults(
-    rt: &impl Abort,
-    alloc: Global,
-    (before, after): (&str, &str),
-    faults: Faults,
-) -> Result<(), Fail> {
-    for (want, texts) in faults {
-        for text in *texts {
-            let mut whole = String::new(alloc);
-            put(&mut whole, before, text, after)?;
-            expect_fault(rt, alloc, whole.as_str(), *want, text);
-        }
-    }
-    Ok(())
-}
-
-/// Whether the set has so many templates, and finds them by these identifiers and names.
-fn finds(
-    set: &Templates,
-    count: u32,
-    ids: &[(u32, Option<u32>)],
-    names: &[(&str, Option<u32>)],
-) -> bool {
-    for (id, want) in ids {
-        if set.by_id(*id) != *want {
-            return false;
-        }
-    }
-    for (name, want) in names {
-        if set.by_name(name) != *want {
-            return false;
-        }
-    }
-    set.count() == count
+/// One comparison, of what a test names so.
+fn expect(rt: &impl Abort, is_right: bool, of: &str, at: usize) {
+    assert!(rt; is_right, "{of} ({at})");
 }

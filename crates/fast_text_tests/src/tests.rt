@@ -1,4 +1,20 @@
 //! Tests: what no clause says, and each public call once.
 
-mod lines;
-mod streams;
+mod explain;
+mod reading;
+mod text;
+
+use fast_template::Templates;
+use std::alloc::Global;
+use std::process::Abort;
+use std::test::Fail;
+
+/// The set of a text. Without a contract, so that a call is cheap to prove.
+fn set_of(alloc: Global, text: &str) -> Result<Templates, Fail> {
+    Ok(Templates::read(alloc, text)?)
+}
+
+/// One comparison, of what a test names so.
+fn expect(rt: &impl Abort, is_right: bool, of: &str, at: usize) {
+    assert!(rt; is_right, "{of} ({at})");
+}

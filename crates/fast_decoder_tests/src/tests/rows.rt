@@ -126,7 +126,7 @@ fn is_strict(word: &str) -> Option<bool> {
     }
 }
 
-fn limits_of(words: &str) -> Option<Limits> {
+pub fn limits_of(words: &str) -> Option<Limits> {
     let mut limits = LENIENT;
     for word in words.split_whitespace() {
         set_limit(&mut limits, word)?;

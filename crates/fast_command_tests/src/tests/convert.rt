@@ -1,0 +1,34 @@
+//! Lines and the streams that are written of them.
+
+mod ends;
+mod streams;
+
+use super::{LENIENT, built_in_set, expect, show_stream};
+use fast_command::RunFault;
+use fast_convert::run_convert;
+use fast_template::Templates;
+use fast_text::{Source, Target};
+use fast_value::Limits;
+use std::alloc::Global;
+
+/// Turns lines into a stream.
+fn convert<S: Source, T: Target>(
+    alloc: Global,
+    set: &Templates,
+    limits: Limits,
+    hex: bool,
+    source: &mut S,
+    target: &mut T,
+) -> Result<(), RunFault> {
+    run_convert(alloc, set, limits, hex, source, target)
+}
+
+/// Whether a stream, which is bytes, ends between two messages. Its lines are written.
+fn is_shown<S: Source, T: Target>(
+    alloc: Global,
+    set: &Templates,
+    source: &mut S,
+    target: &mut T,
+) -> bool {
+    show_stream(alloc, set, LENIENT, false, 1000, source, target).is_ok()
+}

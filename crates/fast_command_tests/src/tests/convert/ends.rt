@@ -1,0 +1,159 @@
+//! How a run ends, and what is written by then.
+
+use super::{LENIENT, built_in_set, convert, expect, is_shown};
+use fast_command::RunFault;
+use fast_decoder::MakeError;
+use fast_encoder::EncodeFault;
+use fast_reading::faults::LineFault;
+use fast_template::Templates;
+use fast_text::{FromBytes, ToBytes};
+use fast_value::Limits;
+use std::alloc::Global;
+use std::process::Abort;
+use std::test::Fail;
+
+/// A run over this text ends so, and has written this.
+fn expect_end(
+    rt: &impl Abort,
+    alloc: Global,
+    set: &Templates,
+    limits: Limits,
+    text: &str,
+    wanted: Result<(), RunFault>,
+    written: &str,
+) {
+    let mut cells = [0; 512];
+    let mut target = ToBytes::new(&mut cells);
+    let mut source = FromBytes::new(text.as_bytes());
+    let end = convert(alloc, set, limits, true, &mut source, &mut target);
+    let is_right = end == wanted && target.bytes() == written.as_bytes();
+    expect(rt, is_right, text, target.bytes().len());
+}
+
+const X: &str = "message T1\nfield 0 x u 942755\nend message\n";
+
+/// Lines, and the streams that are written of them.
+const WHOLE: [(&str, &str); 4] = [
+    ("", ""),
+    (X, "c0813945a3\n"),
+    (
+        "message T1\nfield 0 x u 942755\nend message\nmessage T1\nfield 0 x u 0\nend message",
+        "c0813945a3\n8080\n",
+    ),
+    (
+        "message T6\nfield 6 x u 0\nend message\nmessage T9\nend message\nmessage T9\nend message\nmessage T6\nend message\n",
+        "e08681\nc089\n80\nc086\n",
+    ),
+];
+
+#[test]
+fn lines_are_written_as_a_stream(rt: HostRuntime) -> Result<(), Fail> {
+    let set = built_in_set(rt.alloc())?;
+    for (text, written) in WHOLE {
+        expect_end(&rt, rt.alloc(), &set, LENIENT, text, Ok(()), written);
+    }
+    Ok(())
+}
+
+/// Texts that are not the lines of messages: nothing is written of the lines before the one at fault.
+const FAULTY: [(&str, u64, LineFault); 6] = [
+    (
+        "message T1\nfield 0 x u 5\nend message\nmessage TX\n",
+        4,
+        LineFault::UnknownTemplate,
+    ),
+    ("message T1\nfield 1 x u 5\n", 2, LineFault::OutOfPlace),
+    ("message T1\nfield 0 x u 05\n", 2, LineFault::Form),
+    ("message T1\nfield 0 x i 5\n", 2, LineFault::WrongValue),
+    ("message T1\nend message\n", 2, LineFault::PassedOver),
+    ("message T1\nfield 0 x u 5\n", 3, LineFault::Missing),
+];
+
+#[test]
+fn a_line_at_fault_is_told_and_nothing_is_written(rt: HostRuntime) -> Result<(), Fail> {
+    let set = built_in_set(rt.alloc())?;
+    for (text, line, kind) in FAULTY {
+        let end = Err(RunFault::Text { line, kind });
+        expect_end(&rt, rt.alloc(), &set, LENIENT, text, end, "");
+    }
+    Ok(())
+}
+
+#[test]
+fn the_messages_before_one_that_is_refused_are_written(rt: HostRuntime) -> Result<(), Fail> {
+    let set = built_in_set(rt.alloc())?;
+    let text =
+        "message T3\nfield 3 t a \"ABCDE\"\nend message\nmessage T3\nfield 3 t a \"AB\"\nend message\n";
+    let end = Err(RunFault::Encode {
+        message: 1,
+        fault: EncodeFault::E3,
+    });
+    expect_end(
+        &rt,
+        rt.alloc(),
+        &set,
+        LENIENT,
+        text,
+        end,
+        "e08341424344c5\n",
+    );
+    Ok(())
+}
+
+#[test]
+fn limits_are_refused_before_the_text_is_read(rt: HostRuntime) -> Result<(), Fail> {
+    let set = built_in_set(rt.alloc())?;
+    let short = Limits {
+        max_text: 15,
+        ..LENIENT
+    };
+    let end = Err(RunFault::Make(MakeError::BadLimits));
+    expect_end(&rt, rt.alloc(), &set, short, "message TX", end, "");
+    Ok(())
+}
+
+#[test]
+fn a_long_initial_value_is_refused_before_the_text_is_read(rt: HostRuntime) -> Result<(), Fail> {
+    let text =
+        "[[template]]\nname = 'N'\nid = 1\nfields = [{ kind = 'ascii', name = 's', op = 'copy', value = 'seventeen letters' }]\n";
+    let Ok(set) = Templates::read(rt.alloc(), text) else {
+        return Err(Fail::from("the set is refused"));
+    };
+    let short = Limits {
+        max_text: 16,
+        ..LENIENT
+    };
+    let end = Err(RunFault::Make(MakeError::InitialTooLong));
+    expect_end(&rt, rt.alloc(), &set, short, "message TX", end, "");
+    Ok(())
+}
+
+/// Lines of whole messages, each of which is shown again as it was.
+const THERE_AND_BACK: [&str; 8] = [
+    "message T3\nfield 3 t a \"ABCDE\"\nend message\nmessage T3\nfield 3 t a \"ABCXY\"\nend message\n",
+    "message T4\nfield 4 d a \"GEH6\"\nend message\nmessage T4\nfield 4 d a \"GEM6\"\nend message\nmessage T4\nfield 4 d a \"ZZGEM6\"\nend message\n",
+    "message T5\nfield 5 n u 4294967295\nend message\nmessage T5\nfield 5 n u 0\nend message\n",
+    "message T6\nfield 6 x u 0\nend message\nmessage T6\nend message\nmessage T6\nend message\n",
+    "message T7\nfield 8 y u 5\nend message\n",
+    "message T6\nfield 6 x u 0\nend message\nmessage T9\nend message\nmessage T9\nend message\nmessage T6\nend message\n",
+    "message T15\nfield 15 x u 5\ngroup 16 g\nfield 17 b b 01ff\nend group\nsequence 18 legs 2\nelement\nfield 19 sym a \"AB\"\nfield 20 px i 100\nend element\nelement\nfield 19 sym a \"AB\"\nfield 20 px i 98\nend element\nend sequence\nend message\n",
+    "message T16\nfield 21 v i 5\nend message\nmessage T16\nend message\nmessage T16\nfield 21 v i 6\nend message\n",
+];
+
+#[test]
+fn what_is_written_is_shown_as_it_was(rt: HostRuntime) -> Result<(), Fail> {
+    let set = built_in_set(rt.alloc())?;
+    for text in THERE_AND_BACK {
+        let mut cells = [0; 512];
+        let mut stream = ToBytes::new(&mut cells);
+        let mut source = FromBytes::new(text.as_bytes());
+        let end = convert(rt.alloc(), &set, LENIENT, false, &mut source, &mut stream);
+        let mut room = [0; 512];
+        let mut lines = ToBytes::new(&mut room);
+        let mut source = FromBytes::new(stream.bytes());
+        let shown = is_shown(rt.alloc(), &set, &mut source, &mut lines);
+        let is_right = end == Ok(()) && shown && lines.bytes() == text.as_bytes();
+        expect(&rt, is_right, text, stream.bytes().len());
+    }
+    Ok(())
+}

@@ -1,0 +1,204 @@
+//! Messages, with the bytes or the fault that come of them, and what decoders make of the bytes.
+//!
+//! A row is a text, which costs the prover nothing. Its first line is what it shows and the limits, as `what | lenient`
+//! with each limit behind it that is not the usual one: `text=16`, `elements=2` or `total=2`. Each further line is what a
+//! new encoder is asked next:
+//!
+//!     m0 u0=942755 /m > C0 81 39 45 A3
+//!     m0 - /m > E2
+//!     reset
+//!
+//! A message is written by the events that come of it, as `Script` writes them. `-` is an absent one, and gives none;
+//! `-*299` are 299 of them, and `1000*u2=7` are 1000 elements, each with this field. A text is in quotes, or is digits
+//! behind an `x` where it is not UTF-8. What comes of a message is its bytes, `00*146` for 146 of them, or a fault.
+
+mod growths;
+mod limits;
+mod messages;
+mod operators;
+mod rows;
+mod values;
+mod worked;
+
+use super::{LENIENT, Script, decoder_of, feed, set_of};
+use fast_decoder::{Decoder, MakeError};
+use fast_encoder::{EncodeFault, Encoder};
+use fast_template::Templates;
+use fast_value::{Limits, Message};
+use messages::message_of;
+use rows::{Row, Step, bytes_of, events_of, is_answer};
+use std::alloc::{AllocError, Global};
+use std::process::Abort;
+use std::test::Fail;
+
+/// What stands before the bytes of a message, and has to stay there.
+const BEFORE: &[u8] = &[0x5A, 0xA5];
+
+/// Encodes a message. Without a contract, so that a call is cheap to prove, as those of the next functions.
+fn encode(
+    encoder: &mut Encoder<'_>,
+    message: &Message,
+    out: &mut Vec<u8>,
+) -> Result<(), EncodeFault> {
+    encoder.encode(message, out)
+}
+
+fn reset(encoder: &mut Encoder<'_>) {
+    encoder.reset();
+}
+
+fn encoder_of(alloc: Global, set: &Templates, limits: Limits) -> Result<Encoder<'_>, MakeError> {
+    Encoder::new(alloc, set, limits)
+}
+
+/// One comparison, of what a test names so.
+fn expect(rt: &impl Abort, is_right: bool, of: &str, line: &str) {
+    assert!(rt; is_right, "{of}: {line}");
+}
+
+/// Whether what is due of a message comes of the encoder, behind the bytes that stand before.
+fn is_encoded(
+    encoder: &mut Encoder<'_>,
+    message: &Message,
+    out: &mut Vec<u8>,
+    due: &str,
+) -> Result<bool, AllocError> {
+    out.extend_from_slice(BEFORE)?;
+    let answer = encode(encoder, message, out);
+    Ok(match out.strip_prefix(BEFORE) {
+        Some(bytes) => is_answer(answer, bytes, due),
+        None => false,
+    })
+}
+
+/// Whether a message comes of the encoder, over new bytes.
+fn is_made(
+    alloc: Global,
+    encoder: &mut Encoder<'_>,
+    message: &Message,
+    due: &str,
+) -> Result<bool, AllocError> {
+    let mut out = Vec::new(alloc);
+    is_encoded(encoder, message, &mut out, due)
+}
+
+/// Whether a step comes of the encoder.
+fn is_taken(alloc: Global, encoder: &mut Encoder<'_>, step: Step<'_>) -> Result<bool, AllocError> {
+    if step.is_reset() {
+        reset(encoder);
+        return Ok(true);
+    }
+    match message_of(alloc, step.words)? {
+        Some(message) => is_made(alloc, encoder, &message, step.due),
+        None => Ok(false),
+    }
+}
+
+/// The steps come of the encoder, with or without the messages that are refused.
+fn expect_taken(
+    rt: &impl Abort,
+    alloc: Global,
+    encoder: &mut Encoder<'_>,
+    row: Row<'_>,
+    with_refused: bool,
+) -> Result<(), Fail> {
+    for line in row.steps.lines() {
+        let step = Step::of(line);
+        if with_refused || !step.is_refused() {
+            let is_taken = is_taken(alloc, encoder, step)?;
+            expect(rt, is_taken, row.name, line);
+        }
+    }
+    Ok(())
+}
+
+/// The steps come of a new encoder.
+fn expect_encoded(
+    rt: &impl Abort,
+    alloc: Global,
+    set: &Templates,
+    row: Row<'_>,
+    with_refused: bool,
+) -> Result<(), Fail> {
+    let mut encoder = encoder_of(alloc, set, row.limits)?;
+    expect_taken(rt, alloc, &mut encoder, row, with_refused)
+}
+
+/// Whether the bytes are a message with these events.
+fn is_played(decoder: &mut Decoder<'_>, bytes: &[u8], events: &str) -> bool {
+    let mut script = Script::of(events);
+    feed(decoder, bytes, &mut script).is_ok() && decoder.between() && script.is_played()
+}
+
+/// Whether the bytes of these words are a message with these events.
+fn is_heard(
+    alloc: Global,
+    decoder: &mut Decoder<'_>,
+    words: &str,
+    events: &str,
+) -> Result<bool, AllocError> {
+    let bytes = bytes_of(alloc, words)?;
+    Ok(is_played(decoder, &bytes, events))
+}
+
+/// Whether the decoder reads a step back.
+fn is_read(alloc: Global, decoder: &mut Decoder<'_>, step: Step<'_>) -> Result<bool, AllocError> {
+    if step.is_reset() {
+        decoder.reset();
+        return Ok(true);
+    }
+    let events = events_of(alloc, step.words)?;
+    is_heard(alloc, decoder, step.due, events.as_str().trim())
+}
+
+/// The steps that are not refused are read back.
+fn expect_heard(
+    rt: &impl Abort,
+    alloc: Global,
+    decoder: &mut Decoder<'_>,
+    row: Row<'_>,
+) -> Result<(), Fail> {
+    for line in row.steps.lines() {
+        let step = Step::of(line);
+        if !step.is_refused() {
+            let is_read = is_read(alloc, decoder, step)?;
+            expect(rt, is_read, row.name, line);
+        }
+    }
+    Ok(())
+}
+
+/// The steps that are not refused are read back by a new decoder.
+fn expect_read(
+    rt: &impl Abort,
+    alloc: Global,
+    set: &Templates,
+    row: Row<'_>,
+    strict: bool,
+) -> Result<(), Fail> {
+    let limits = Limits {
+        strict,
+        ..row.limits
+    };
+    let mut decoder = decoder_of(alloc, set, limits)?;
+    expect_heard(rt, alloc, &mut decoder, row)
+}
+
+/// A row comes of the set, also if the messages that are refused are left out, and is read back in both modes.
+fn expect_row(rt: &impl Abort, alloc: Global, set: &Templates, text: &str) -> Result<(), Fail> {
+    let row = Row::of(text)?;
+    for is_so in [true, false] {
+        expect_encoded(rt, alloc, set, row, is_so)?;
+        expect_read(rt, alloc, set, row, is_so)?;
+    }
+    Ok(())
+}
+
+/// Each row comes of the template set with this text.
+fn expect_rows(rt: &impl Abort, alloc: Global, text: &str, rows: &[&str]) -> Result<(), Fail> {
+    let set = set_of(alloc, text)?;
+    for row in rows {
+        expect_row(rt, alloc, &set, row)?;
+    }
+    Ok(())
+}

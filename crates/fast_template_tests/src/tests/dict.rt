@@ -1,0 +1,118 @@
+//! Dictionaries and field operators.
+
+mod examples;
+mod rows;
+mod sending;
+mod stores;
+mod table;
+
+use fast_dict::operators::texts::text_of;
+use fast_dict::operators::{
+    Kept, Outcome, Sent, decide, joined, needs_join, subtract, tail_base, tail_keeps,
+};
+use fast_dict::previous::Previous;
+use fast_dict::rule::common::{is_same, is_same_value};
+use fast_tree::{FieldInstruction, Operator};
+use fast_value::{Code, Scalar, Value};
+use std::alloc::{AllocError, Global};
+
+/// A fault of an operator, or want of memory for a joined text.
+#[derive(Clone, Copy, Debug, PartialEq)]
+enum Failed {
+    Fault(Code),
+    Memory,
+}
+
+impl From<Code> for Failed {
+    fn from(code: Code) -> Failed {
+        Failed::Fault(code)
+    }
+}
+
+impl From<AllocError> for Failed {
+    fn from(error: AllocError) -> Failed {
+        let _ = error;
+        Failed::Memory
+    }
+}
+
+/// An instruction.
+fn instruction(
+    alloc: Global,
+    operator: Operator,
+    kind: fast_value::Kind,
+    optional: bool,
+    initial: Option<Scalar<'_>>,
+) -> Result<FieldInstruction, AllocError> {
+    let initial = match initial {
+        Some(value) => Some(Value::copy_of(alloc, value)?),
+        None => None,
+    };
+    Ok(FieldInstruction {
+        kind,
+        optional,
+        operator,
+        initial,
+        entry: None,
+    })
+}
+
+/// What an operator gives, with a text joined in the buffer.
+fn answer<'a>(
+    field: &'a FieldInstruction,
+    previous: Previous<'a>,
+    bit: bool,
+    sent: Sent<'a>,
+    buffer: &'a mut Vec<u8>,
+) -> Result<Outcome<'a>, Failed> {
+    if !needs_join(field.operator, bit, sent) {
+        return Ok(decide(field, previous, bit, sent)?);
+    }
+    match sent {
+        Sent::TextDelta(length, part) => match subtract(field, previous, length)? {
+            Kept::AppendTo(kept) => {
+                buffer.extend_from_slice(kept)?;
+                buffer.extend_from_slice(part)?;
+            }
+            Kept::PrependTo(kept) => {
+                buffer.extend_from_slice(part)?;
+                buffer.extend_from_slice(kept)?;
+            }
+        },
+        Sent::Value(value) => {
+            let part = text_of(value);
+            let base = text_of(tail_base(field, previous)?);
+            buffer.extend_from_slice(tail_keeps(base, part.len()))?;
+            buffer.extend_from_slice(part)?;
+        }
+        _ => {}
+    }
+    Ok(joined(field.kind, buffer)?)
+}
+
+/// Whether two previous values are the same.
+fn is_same_previous(previous: Previous<'_>, wanted: Previous<'_>) -> bool {
+    match (previous, wanted) {
+        (Previous::Undefined, Previous::Undefined) => true,
+        (Previous::Empty, Previous::Empty) => true,
+        (Previous::Assigned(kind, value), Previous::Assigned(wanted_kind, wanted_value)) => {
+            kind == wanted_kind && is_same(value, wanted_value)
+        }
+        _ => false,
+    }
+}
+
+/// Whether two answers are the same.
+fn is_same_answer(
+    answer: Result<Outcome<'_>, Failed>,
+    wanted: Result<Outcome<'_>, Failed>,
+) -> bool {
+    match (answer, wanted) {
+        (Ok(outcome), Ok(wanted)) => {
+            is_same_value(outcome.value, wanted.value)
+                && is_same_previous(outcome.next, wanted.next)
+        }
+        (Err(failed), Err(wanted)) => failed == wanted,
+        _ => false,
+    }
+}

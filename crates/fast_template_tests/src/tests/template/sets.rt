@@ -1,0 +1,204 @@
+//! Sets that are read: their numbers, entries and limits.
+
+use super::super::expect;
+use super::{Faults, expect_faults, finds, put, set_of};
+use fast_template::{FieldInstruction, Operator, Shape, StaticCode, Templates, VECTORS};
+use fast_value::Value;
+use itoa::Buffer;
+use std::alloc::{AllocError, Global};
+use std::test::Fail;
+
+/// The set of a text, node by node: the name, and then what each value has: `?` if it may be absent, and its entry.
+fn spelled(alloc: Global, set: &Templates) -> Result<String, AllocError> {
+    let mut text = String::new(alloc);
+    for n in 0..set.nodes() {
+        let node = set.node(n);
+        put(&mut text, node.name.as_str(), "", "")?;
+        match &node.shape {
+            Shape::Field(field) => spell(&mut text, field)?,
+            Shape::Decimal { exponent, mantissa } => {
+                spell(&mut text, exponent)?;
+                spell(&mut text, mantissa)?;
+            }
+            Shape::Group { optional, body } => {
+                put(&mut text, if *optional { " ?{" } else { " {" }, "", "")?;
+                spell_numbers(&mut text, body)?;
+            }
+            Shape::Sequence { length, body } => {
+                spell(&mut text, length)?;
+                put(&mut text, " {", "", "")?;
+                spell_numbers(&mut text, body)?;
+            }
+        }
+        put(&mut text, "; ", "", "")?;
+    }
+    Ok(text)
+}
+
+fn spell(text: &mut String, field: &FieldInstruction) -> Result<(), AllocError> {
+    let before = if field.optional { " ?" } else { " " };
+    let mut number = Buffer::new();
+    let entry = match field.entry {
+        Some(entry) => number.format(entry),
+        None => "-",
+    };
+    put(text, before, entry, "")
+}
+
+fn spell_numbers(text: &mut String, body: &[u32]) -> Result<(), AllocError> {
+    for n in body {
+        put(text, " ", Buffer::new().format(*n), "")?;
+    }
+    put(text, " }", "", "")
+}
+
+/// Whether the template has these nodes, and resets or not.
+fn is_template(set: &Templates, i: u32, body: &[u32], reset: bool) -> bool {
+    if i < set.count() {
+        let template = set.template(i);
+        template.body.as_slice() == body && template.reset == reset
+    } else {
+        false
+    }
+}
+
+/// Whether the node is a constant 7.
+fn is_seven(set: &Templates, n: u32) -> bool {
+    n < set.nodes()
+        && matches!(
+            &set.node(n).shape,
+            Shape::Field(FieldInstruction {
+                operator: Operator::Constant,
+                initial: Some(Value::U(7)),
+                ..
+            })
+        )
+}
+
+const VECTORS_SPELLED: &str =
+    "x -; s - { 2 }; c -; t 1; d 2; n 3; x ?4; p ?5 6; y 7; u -; z 8; w 4; i -; o ?-; q ?-; x -; g ?{ 17 }; b -; legs ?- { 19 20 }; sym 9; px 10; v ?11; e 12; a -; b ?-; r ?-; ";
+
+#[test]
+fn the_worked_set_has_its_numbers(rt: HostRuntime) -> Result<(), Fail> {
+    let set = set_of(rt.alloc(), VECTORS)?;
+    let ids = [(15, Some(14)), (0, None)];
+    let names = [("T19", Some(18)), ("T", None)];
+    let has_numbers = finds(&set, 19, &ids, &names) && set.nodes() == 26 && set.entries() == 13;
+    expect(&rt, has_numbers, "numbers", 19);
+    let text = spelled(rt.alloc(), &set)?;
+    expect(&rt, text.as_str() == VECTORS_SPELLED, text.as_str(), 19);
+    let has_parts = is_template(&set, 14, &[15, 16, 18], false)
+        && is_template(&set, 8, &[], true)
+        && is_seven(&set, 2);
+    expect(&rt, has_parts, "parts", 19);
+    Ok(())
+}
+
+/// The rest of a template, and what it is, spelled.
+const ENTRIES: [(&str, &str); 5] = [
+    // an exponent before a mantissa, a length before its element, and none for a constant or a default
+    (
+        "fields = [{kind='sequence', name='s', length={op='delta'}, fields=[{kind='decimal', name='p', mantissa={op='delta'}, exponent={op='copy'}}]}, {kind='uInt32', name='c', op='default', value='1'}]",
+        "s 1 { 1 }; p 2 3; c -; ",
+    ),
+    // a length with a name of its own is a field of that name; one without is no field
+    (
+        "fields = [{kind='sequence', name='s', length={name='n', op='copy'}}, {kind='uInt32', name='n', op='copy'}, {kind='uInt32', name='s', op='copy'}, {kind='sequence', name='s', length={op='copy'}}]",
+        "s 1 { }; n 1; s 2; s 3 { }; ",
+    ),
+    // a key of its own stands for a plain entry, whatever it is on
+    (
+        "fields = [{kind='decimal', name='p', exponent={op='copy', key='k'}, mantissa={op='copy', key='p'}}, {kind='decimal', name='p', op='copy'}, {kind='ascii', name='k', op='tail'}]",
+        "p 1 2; p 2; k 1; ",
+    ),
+    // dictionaries: the template's default, the template's own, one with a name, the global one
+    (
+        "dictionary = 'd'\nfields = [{kind='uInt32', name='x', op='copy'}, {kind='uInt32', name='x', op='copy', dictionary='template'}, {kind='uInt32', name='x', op='copy', dictionary='global'}, {kind='uInt32', name='x', op='copy', dictionary='d'}]\n[[template]]\nname = 'B'\nfields = [{kind='uInt32', name='x', op='copy', dictionary='template'}, {kind='uInt32', name='x', op='copy'}, {kind='uInt32', name='x', op='copy', dictionary='d'}]",
+        "x 1; x 2; x 3; x 1; x 4; x 3; x 1; ",
+    ),
+    // the operators of a reference stand in the text to which it leads, and are numbered there
+    (
+        "dictionary = 'template'\nfields = [{kind='ref', name='B'}, {kind='uInt32', name='x', op='copy'}, {kind='group', name='g', fields=[{kind='ref', name='B'}, {kind='ref', name='B'}]}]\n[[template]]\nname = 'B'\nfields = [{kind='uInt32', name='y', op='copy', dictionary='template'}, {kind='uInt32', name='x', op='copy'}]",
+        "y 2; x 3; x 1; g { 4 5 6 7 }; y 2; x 3; y 2; x 3; y 2; x 3; ",
+    ),
+];
+
+#[test]
+fn entries_are_those_of_the_text(rt: HostRuntime) -> Result<(), Fail> {
+    for (rest, want) in ENTRIES {
+        let mut text = String::new(rt.alloc());
+        put(&mut text, "[[template]]\nname = 'A'\n", rest, "")?;
+        let set = set_of(rt.alloc(), text.as_str())?;
+        let spelled = spelled(rt.alloc(), &set)?;
+        expect(&rt, spelled.as_str() == want, spelled.as_str(), rest.len());
+    }
+    Ok(())
+}
+
+/// A template with so many mandatory fields that copy.
+fn copying(alloc: Global, count: usize) -> Result<String, AllocError> {
+    let mut text = String::new(alloc);
+    put(&mut text, "[[template]]\nname = 'A'\nfields = [", "", "")?;
+    let mut number = Buffer::new();
+    for n in 0..count {
+        put(
+            &mut text,
+            "{kind='uInt32', name='f",
+            number.format(n),
+            "', op='copy'},",
+        )?;
+    }
+    put(&mut text, "]\n", "", "")?;
+    Ok(text)
+}
+
+/// Behind as many bits as there may be.
+const ENOUGH_BITS: Faults = &[(
+    None,
+    &[
+        "",
+        "[[template]]\nname = 'B'\nfields = [{kind='group', name='g', fields=[{kind='ref', name='A'}]}]\n",
+    ],
+)];
+
+/// Behind one bit too many: earlier passes come first.
+#[rattlefmt::skip]
+const TOO_MANY_BITS: Faults = &[
+    (Some((StaticCode::C5, Some(0))), &[""]),
+    // a reference to itself, and one to nothing
+    (Some((StaticCode::D8, Some(1))), &["[[template]]\nname = 'B'\nfields = [{kind='ref', name='B'}, {kind='ref', name='X'}]"]),
+    // a reference to itself
+    (Some((StaticCode::C3, Some(1))), &["[[template]]\nname = 'B'\nfields = [{kind='ref', name='B'}]"]),
+    (Some((StaticCode::C1, Some(1))), &["[[template]]\nname = 'A'"]),
+    // 65 times as many nodes
+    (
+        Some((StaticCode::C6, Some(1))),
+        &[
+            "[[template]]\nname = 'B'\nfields = [{kind='ref', name='C'}, {kind='ref', name='C'}, {kind='ref', name='C'}, {kind='ref', name='C'}]\n[[template]]\nname = 'C'\nfields = [{kind='ref', name='D'}, {kind='ref', name='D'}, {kind='ref', name='D'}, {kind='ref', name='D'}]\n[[template]]\nname = 'D'\nfields = [{kind='ref', name='A'}, {kind='ref', name='A'}, {kind='ref', name='A'}, {kind='ref', name='A'}]",
+        ],
+    ),
+];
+
+#[test]
+fn a_message_has_1022_bits(rt: HostRuntime) -> Result<(), Fail> {
+    for (count, faults) in [(1021, ENOUGH_BITS), (1022, TOO_MANY_BITS)] {
+        let text = copying(rt.alloc(), count)?;
+        expect_faults(&rt, rt.alloc(), (text.as_str(), ""), faults)?;
+    }
+    Ok(())
+}
+
+#[test]
+fn entries_of_texts_hold_texts(rt: HostRuntime) -> Result<(), Fail> {
+    let text = r#"
+[[template]]
+name = "A"
+fields = [{kind="uInt32", name="x", op="copy"}, {kind="ascii", name="y", op="copy"}]
+"#;
+    let set = set_of(rt.alloc(), text)?;
+    for (entry, is_text) in [(0, false), (1, false), (2, true), (3, false)] {
+        let is_right = set.holds_text(entry) == is_text;
+        expect(&rt, is_right, "entry", entry as usize);
+    }
+    Ok(())
+}

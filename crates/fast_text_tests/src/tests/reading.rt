@@ -1,0 +1,64 @@
+//! Texts of lines, with the line at fault and what is wrong with it.
+
+mod cuts;
+mod faults;
+
+use fast_reading::{TextFault, read_lines};
+use fast_template::Templates;
+use std::alloc::Global;
+use std::test::Fail;
+
+/// A template with an instruction of every kind, of which most are optional, and one without any.
+const SET: &str = r#"
+[[template]]
+name = "Order"
+id = 1
+fields = [
+    {kind="uInt32", name="size"},
+    {kind="int64", name="shift", optional=true},
+    {kind="decimal", name="price", optional=true},
+    {kind="group", name="party", optional=true, fields=[{kind="bytes", name="key"}, {kind="ascii", name="desk", optional=true}]},
+    {kind="sequence", name="legs", fields=[{kind="unicode", name="venue"}, {kind="uInt64", name="lots", optional=true}]},
+]
+[[template]]
+name = "Beat"
+"#;
+
+/// A message with all of its instructions, one with the mandatory ones alone, and one of the template without any.
+const ALL: &str = "message Order
+field 0 size u 5
+field 1 shift i -3
+field 2 price d 15e-1
+group 3 party
+field 4 key b 01ff
+field 5 desk a \"A\\\"B\\x0a\"
+end group
+sequence 6 legs 2
+element
+field 7 venue s \"é\"
+field 8 lots u 18446744073709551615
+end element
+element
+field 7 venue s \"\"
+end element
+end sequence
+end message
+message Order
+field 0 size u 0
+sequence 6 legs 0
+end sequence
+end message
+message Beat
+end message
+";
+
+/// How many messages a text says. Without a contract, so that a call is cheap to prove.
+fn count_of(alloc: Global, set: &Templates, text: &[u8]) -> Result<usize, TextFault> {
+    let messages = read_lines(alloc, set, text)?;
+    Ok(messages.len())
+}
+
+/// The set.
+fn set_of(alloc: Global) -> Result<Templates, Fail> {
+    super::set_of(alloc, SET)
+}
