@@ -1,9 +1,0 @@
-use Rattle.std.proofs.Common.{codes}
-use Rattle.std.proofs.lemmas.Result.{IfOk-weaker}
-use Rattle.fast_command.specs.meaning.Words.{flag_rule}
-use Rattle.fast_command.proofs.Commands.{makes_rule}
-use Rattle.fast_command.proofs.words.with_options.Goals as goal
-
-pub returns : goal.returns
-returns c =
-    IfOk-weaker c.arg.result _ _ (λ r h. makes_rule _ (flag_rule (codes "explain")) c.in_ok-with_limits.field-0 r c.flag_arg.result c.in_ok-with_limits.ensures c.flag_arg.ensures.rule c.flag_arg.ensures.local h) c.arg.ensures
