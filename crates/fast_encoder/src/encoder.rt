@@ -21,9 +21,11 @@ use fast_decoder::layout::{has_long_initial, measure};
 use fast_spelling::EncodeFault;
 use fast_spelling::checking::try_message;
 use fast_spelling::draft::Draft;
+use fast_spelling::forms::forms_of;
 use fast_spelling::ledger::Ledger;
 use fast_spelling::measuring::fits_limits;
 use fast_spelling::messages::write_message;
+use fast_spelling::plan::{Plan, Work};
 use fast_spelling::suiting::suits_body;
 use fast_template::{Template, Templates};
 use fast_value::{Limits, MAX_TEXT, MIN_TEXT, Message};
@@ -33,12 +35,8 @@ use std::marker::Model;
 /// Encodes messages, one after the other, each from the dictionary that the one before has left.
 #[derive(Drop)]
 pub struct Encoder<'t> {
-    templates: &'t Templates,
-    limits: Limits,
-    /// How many presence bits the segment within each node uses, by the node's number.
-    widths: Vec<usize>,
-    ledger: Ledger,
-    draft: Draft,
+    plan: Plan<'t>,
+    work: Work,
 }
 
 impl<'t> Model for Encoder<'t> {
@@ -47,9 +45,9 @@ impl<'t> Model for Encoder<'t> {
 
     ghost Value = { EncoderData };
 
-    ghost view = { λ e. record { set = set_of e.templates.now; limits = e.limits; dictionary = e.ledger.now } };
+    ghost view = { λ e. record { set = set_of e.plan.templates.now; limits = e.plan.limits; dictionary = e.work.ledger.now } };
 
-    ghost invariant = { λ e. IsSound e.templates.now e.limits e.widths.items e.ledger };
+    ghost invariant = { λ e. IsSound e.plan.templates.now e.plan.limits e.work.ledger };
 }
 
 impl<'t> Encoder<'t> {
@@ -80,14 +78,23 @@ impl<'t> Encoder<'t> {
         let Ok(widths) = measure(alloc, templates) else {
             return Err(MakeError::Memory);
         };
+        let Ok(forms) = forms_of(alloc, templates) else {
+            return Err(MakeError::Memory);
+        };
         match Ledger::new(alloc, templates.entries() as usize, limits.max_text) {
             Err(_) => Err(MakeError::Memory),
             Ok(ledger) => Ok(Encoder {
-                templates,
-                limits,
-                widths: widths.nodes,
-                ledger,
-                draft: Draft::new(alloc),
+                plan: Plan {
+                    templates,
+                    limits,
+                    widths: widths.nodes,
+                    forms,
+                },
+                work: Work {
+                    draft: Draft::new(alloc),
+                    ledger,
+                    room: 0,
+                },
             }),
         }
     }
@@ -97,7 +104,7 @@ impl<'t> Encoder<'t> {
         ensures fresh { self.new.dictionary ≡ fresh (tree self.old).entries }
         ensures same_set { (self.new.set ≡ self.old.set) × (self.new.limits ≡ self.old.limits) }
     {
-        self.ledger.reset_all();
+        self.work.ledger.reset_all();
     }
 
     /// Appends the bytes of a message.
@@ -131,27 +138,19 @@ impl<'t> Encoder<'t> {
         ensures unchanged { IsFalse result → (self.new ≡ self.old) × (out.new.items ≡ out.old.items) }
         ensures same_set { (self.new.set ≡ self.old.set) × (self.new.limits ≡ self.old.limits) }
     {
-        let Some((_, id)) = known(self.templates, message) else {
+        let Some((_, id)) = known(self.plan.templates, message) else {
             return false;
         };
-        let tried = try_message(
-            self.templates,
-            self.limits,
-            &self.widths,
-            id,
-            message,
-            &mut self.draft,
-            &mut self.ledger,
-        );
+        let tried = try_message(&self.plan, id, message, &mut self.work);
         if let Err(_) = tried {
-            self.ledger.take_back();
+            self.work.ledger.take_back();
             return false;
         }
-        if out.extend_from_slice(&self.draft.bytes).is_err() {
-            self.ledger.take_back();
+        if out.extend_from_slice(&self.work.draft.bytes).is_err() {
+            self.work.ledger.take_back();
             return false;
         }
-        self.ledger.commit();
+        self.work.ledger.commit();
         true
     }
 
@@ -169,33 +168,33 @@ impl<'t> Encoder<'t> {
         ensures unchanged { OnErr result ((self.new ≡ self.old) × (out.new.items ≡ out.old.items)) }
         ensures same_set { (self.new.set ≡ self.old.set) × (self.new.limits ≡ self.old.limits) }
     {
-        let Some((template, id)) = known(self.templates, message) else {
+        let Some((template, id)) = known(self.plan.templates, message) else {
             return Err(EncodeFault::E1);
         };
-        if !suits_body(self.templates, &template.body, &message.items) {
+        if !suits_body(self.plan.templates, &template.body, &message.items) {
             return Err(EncodeFault::E2);
         }
-        if !fits_limits(self.limits, &message.items) {
+        if !fits_limits(self.plan.limits, &message.items) {
             return Err(EncodeFault::E4);
         }
         let written = write_message(
-            self.templates,
-            self.limits,
-            &self.widths,
+            self.plan.templates,
+            self.plan.limits,
+            &self.plan.widths,
             id,
             message,
-            &mut self.draft,
-            &mut self.ledger,
+            &mut self.work.draft,
+            &mut self.work.ledger,
         );
         if let Err(fault) = written {
-            self.ledger.take_back();
+            self.work.ledger.take_back();
             return Err(fault);
         }
-        if out.extend_from_slice(&self.draft.bytes).is_err() {
-            self.ledger.take_back();
+        if out.extend_from_slice(&self.work.draft.bytes).is_err() {
+            self.work.ledger.take_back();
             return Err(EncodeFault::Memory);
         }
-        self.ledger.commit();
+        self.work.ledger.commit();
         Ok(())
     }
 }

@@ -6,3 +6,4 @@ pub mod Sendable
 pub mod FieldsWritten
 pub mod Chosen
 pub mod Usual
+pub mod FormsTold

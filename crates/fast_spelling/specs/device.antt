@@ -7,3 +7,4 @@ pub mod Groups
 pub mod Usual
 pub mod Codes
 pub mod Checked
+pub mod Forms

@@ -130,8 +130,11 @@ impl Draft {
         ensures bits { OnOk result (self.new.bits.items ≡ self.old.bits.items ++ bit ∷ []) }
         ensures bytes { self.new.bytes.items ≡ self.old.bytes.items }
     {
-        self.bits.push(bit)?;
-        Ok(())
+        if self.bits.len() < self.bits.capacity() {
+            self.bits.push_reserved(bit);
+            return Ok(());
+        }
+        push_and_grow(&mut self.bits, bit)
     }
 
     /// Appends a presence bit where one is used.
@@ -183,6 +186,15 @@ impl Draft {
         self.bits.truncate(mark.bits);
         Ok(())
     }
+}
+
+/// Appends a bit where there is no room for it yet.
+#[cold]
+fn push_and_grow(bits: &mut Vec<bool>, bit: bool) -> Result<(), AllocError>
+    ensures { OnOk result (bits.new.items ≡ bits.old.items ++ bit ∷ []) }
+{
+    bits.push(bit)?;
+    Ok(())
 }
 
 /// Puts the shortest map of the bits in front of what stands behind a place.

@@ -1,11 +1,14 @@
 //! A field: its presence bit, its item, and the entry behind it.
 
-ghost use Rattle.std.specs.Prelude.{◌≡◌, ℕ, ◌<◌, ◌≤◌, length, option_map, Some, IfSome, OnOk, IfErr, Ok};
+ghost use Rattle.std.specs.Prelude.{◌≡◌, ℕ, Option, ◌<◌, ◌≤◌, length, option_map, Some, IfSome, OnOk, IfErr, Ok};
+ghost use Rattle.std.specs.Bool.{IsFalse};
+ghost use Rattle.fast_value.specs.declared.kinds.Kind.{Kind};
 ghost use Rattle.fast_value.specs.declared.settings.Limits.{Limits};
 ghost use Rattle.fast_value.specs.meaning.Kinds.{ScalarData, text_of};
 ghost use Rattle.fast_value.specs.meaning.Values.{scalar_data};
+ghost use Rattle.fast_tree.specs.meaning.Tree.{uses_bit};
 ghost use Rattle.fast_tree.specs.device.Nodes.{field_data};
-ghost use Rattle.fast_dict.specs.meaning.Dictionary.{previous_at, write_at};
+ghost use Rattle.fast_dict.specs.meaning.Dictionary.{PreviousData, previous_at, write_at};
 ghost use Rattle.fast_dict.specs.device.Held.{text_size};
 ghost use Rattle.fast_dict.specs.meaning.Operators.{delta_base};
 ghost use Rattle.fast_dict.specs.meaning.Previous.{previous_data};
@@ -13,7 +16,7 @@ ghost use Rattle.fast_dict.specs.meaning.Rule.{Rule};
 ghost use Rattle.fast_dict.specs.meaning.Sending.{sent_data};
 ghost use Rattle.fast_spelling.specs.meaning.Encoding.{EncodesField};
 ghost use Rattle.fast_spelling.specs.device.Drafts.{IsSendable, IsTold};
-ghost use Rattle.fast_spelling.specs.device.Fields.{IsServed, IsSuited, IsNarrow, Wrote, next_of};
+ghost use Rattle.fast_spelling.specs.device.Fields.{IsServed, IsSuited, IsNarrow, Wrote, next_by, next_of};
 ghost use Rattle.fast_spelling.specs.device.Nodes.{Keeps};
 ghost use Rattle.fast_spelling.specs.meaning.Refusals.{RefusesField};
 
@@ -116,7 +119,15 @@ pub fn write_chosen(
     let Some(choice) = choose(field, previous, value) else {
         return Err(EncodeFault::E3);
     };
-    send(draft, ledger, field, value, choice.bit, choice.item)
+    send(
+        draft,
+        ledger,
+        field,
+        field.operator,
+        value,
+        choice.bit,
+        choice.item,
+    )
 }
 
 /// Writes what stands in the stream for the field's value or absence, by the rule, and keeps that.
@@ -129,10 +140,12 @@ pub fn send(
     draft: &mut Draft,
     ledger: &mut Ledger,
     field: &FieldInstruction,
+    operator: Operator,
     value: Option<Scalar<'_>>,
     bit: bool,
     item: Sent<'_>,
 ) -> Result<(), EncodeFault>
+    requires operator { field.now.operator ≡ operator }
     requires served { IsServed ledger.old (field_data field.now) }
     requires suited { IsSuited ledger.old.max_text (field_data field.now) (option_map scalar_data value) }
     requires ruled { Rule (field_data field.now) (previous_at (field_data field.now).entry ledger.old.now)
@@ -147,12 +160,36 @@ pub fn send(
     ensures max_text { ledger.new.max_text ≡ ledger.old.max_text }
     ensures length { length ledger.new.now ≡ length ledger.old.now }
 {
-    if field.uses_bit() {
+    if uses_bit(field, operator) {
         draft.push_bit(bit)?;
     }
     write_item(&mut draft.bytes, field, item)?;
-    keep(ledger, field, value)?;
+    keep(ledger, field, operator, value)?;
     Ok(())
+}
+
+/// Whether the field, which has this operator, has a presence bit.
+#[inline(always)]
+fn uses_bit(field: &FieldInstruction, operator: Operator) -> bool
+    requires { field.now.operator ≡ operator }
+    ensures { result ≡ uses_bit (field_data field.now) }
+{
+    match operator {
+        Operator::None | Operator::Delta => false,
+        Operator::Constant => field.optional,
+        Operator::Default | Operator::Copy | Operator::Increment | Operator::Tail => true,
+    }
+}
+
+/// Whether the operator keeps what was written for the next message.
+#[inline(always)]
+fn keeps(operator: Operator) -> bool
+    ensures { IsFalse result → (kind : Kind) (p : PreviousData) (v : Option ScalarData) → next_by operator kind p v ≡ p }
+{
+    match operator {
+        Operator::None | Operator::Constant | Operator::Default => false,
+        Operator::Copy | Operator::Increment | Operator::Delta | Operator::Tail => true,
+    }
 }
 
 /// What the field's operator reads.
@@ -201,8 +238,10 @@ fn note_range(value: Scalar<'_>)
 fn keep(
     ledger: &mut Ledger,
     field: &FieldInstruction,
+    operator: Operator,
     value: Option<Scalar<'_>>,
 ) -> Result<(), AllocError>
+    requires operator { field.now.operator ≡ operator }
     requires served { IsServed ledger.old (field_data field.now) }
     requires suited { IsSuited ledger.old.max_text (field_data field.now) (option_map scalar_data value) }
     ensures now { OnOk result (ledger.new.now ≡ write_at (field_data field.now).entry
@@ -212,10 +251,13 @@ fn keep(
     ensures max_text { ledger.new.max_text ≡ ledger.old.max_text }
     ensures length { length ledger.new.now ≡ length ledger.old.now }
 {
+    if !keeps(operator) {
+        return Ok(());
+    }
     let Some(entry) = field.entry else {
         return Ok(());
     };
-    match (value, field.operator) {
+    match (value, operator) {
         (Some(value), _) => ledger.set(entry as usize, field.kind, value),
         (None, Operator::Delta) => Ok(()),
         (None, _) => {

@@ -1,6 +1,6 @@
 //! Integers, each by its shortest entity. One of a few bytes is written as it is, any other through an array.
 
-ghost use Rattle.std.specs.Prelude.{◌≡◌, ◌<◌, ◌≤◌, ◌+◌, ◌-◌, ◌*◌, ◌^◌, ◌<ℤ◌, ◌≤ℤ◌, ◌-ℤ◌, neg_ℤ, Some, pos, negsuc, true, false, OnOk};
+ghost use Rattle.std.specs.Prelude.{◌++◌, ◌∷◌, [], ◌≡◌, ◌<◌, ◌≤◌, ◌+◌, ◌-◌, ◌*◌, ◌^◌, ◌<ℤ◌, ◌≤ℤ◌, ◌-ℤ◌, neg_ℤ, Some, pos, negsuc, true, false, OnOk};
 ghost use Rattle.fast_wire.specs.meaning.Integers.{signed_range, IsWithin, Means};
 ghost use Rattle.fast_wire.specs.device.Shortest.{IsShortest};
 ghost use Rattle.fast_spelling.specs.device.Drafts.{Adds};
@@ -9,23 +9,143 @@ ghost use Rattle.fast_spelling.specs.device.Groups.{IsGroups, IsLeast};
 use fast_wire::{write_nullable_signed, write_nullable_unsigned, write_signed, write_unsigned};
 use std::alloc::AllocError;
 
+/// The bytes for which there has to be room where nothing is made larger.
+const ROOM: usize = 5;
+
 /// The least unsigned integer, and the least natural signed one, whose nullable form takes more than five bytes.
 const LONG_UNSIGNED: u64 = (1 << 35) - 1;
+
+const LONG_NUMBER: u64 = (1 << 34) - 1;
+
+/// The least complement of a negative one that takes more than five bytes.
+const LONG_COMPLEMENT: u64 = 1 << 34;
 
 const LONG_NATURAL: i128 = (1 << 34) - 1;
 
 /// The least integer of five bytes.
 const LEAST_SHORT: i128 = -(1 << 34);
 
-/// Writes an unsigned integer.
+/// Writes an unsigned integer. One of a single byte is written where this is called.
+#[inline(always)]
 pub fn write_unsigned_as(bytes: &mut Vec<u8>, nullable: bool, number: u64) -> Result<(), AllocError>
     ensures { OnOk result (Adds (IsShortest false nullable (Some (pos number))) bytes.old.items bytes.new.items) }
 {
-    if number >= LONG_UNSIGNED {
+    if number < 0x7f {
+        return push_one(bytes, raised(nullable, number));
+    }
+    write_wide_unsigned(bytes, nullable, number)
+}
+
+/// The same for one of any length.
+fn write_wide_unsigned(bytes: &mut Vec<u8>, nullable: bool, number: u64) -> Result<(), AllocError>
+    ensures { OnOk result (Adds (IsShortest false nullable (Some (pos number))) bytes.old.items bytes.new.items) }
+{
+    if number >= LONG_UNSIGNED || bytes.capacity() - bytes.len() < ROOM {
         return write_long_unsigned(bytes, nullable, number);
     }
     let sent = raised(nullable, number);
     push_groups(bytes, sent, groups(sent))
+}
+
+/// Writes a signed integer of 64 bits. One of a single byte is written where this is called.
+#[inline(always)]
+pub fn write_narrow_as(bytes: &mut Vec<u8>, nullable: bool, number: i64) -> Result<(), AllocError>
+    ensures { OnOk result (Adds (IsShortest true nullable (Some number)) bytes.old.items bytes.new.items) }
+{
+    if number < 0 {
+        return write_negative(bytes, nullable, complement_in(number));
+    }
+    write_natural(bytes, nullable, natural_in(number))
+}
+
+/// Writes the signed integer `-1 - complement`.
+#[inline(always)]
+fn write_negative(bytes: &mut Vec<u8>, nullable: bool, complement: u64) -> Result<(), AllocError>
+    requires { complement < 2 ^ 63 }
+    ensures { OnOk result (Adds (IsShortest true nullable (Some (negsuc complement))) bytes.old.items bytes.new.items) }
+{
+    if complement < 0x40 {
+        return push_one(bytes, 0x7f - complement);
+    }
+    write_wide_negative(bytes, nullable, complement)
+}
+
+/// The same for one of any length.
+fn write_wide_negative(
+    bytes: &mut Vec<u8>,
+    nullable: bool,
+    complement: u64,
+) -> Result<(), AllocError>
+    requires { complement < 2 ^ 63 }
+    ensures { OnOk result (Adds (IsShortest true nullable (Some (negsuc complement))) bytes.old.items bytes.new.items) }
+{
+    if complement >= LONG_COMPLEMENT || bytes.capacity() - bytes.len() < ROOM {
+        return write_long_signed(bytes, nullable, negative_of(complement));
+    }
+    push_negative(bytes, complement)
+}
+
+/// The negative number with this complement.
+#[inline(always)]
+fn negative_of(complement: u64) -> i128
+    ensures value { result ≡ negsuc complement }
+{
+    -1 - i128::from(complement)
+}
+
+/// Writes a natural number as a signed integer.
+#[inline(always)]
+fn write_natural(bytes: &mut Vec<u8>, nullable: bool, number: u64) -> Result<(), AllocError>
+    requires { number < 2 ^ 63 }
+    ensures { OnOk result (Adds (IsShortest true nullable (Some (pos number))) bytes.old.items bytes.new.items) }
+{
+    if number < 0x3f {
+        return push_one(bytes, raised(nullable, number));
+    }
+    write_wide_natural(bytes, nullable, number)
+}
+
+/// The same for one of any length.
+fn write_wide_natural(bytes: &mut Vec<u8>, nullable: bool, number: u64) -> Result<(), AllocError>
+    requires { number < 2 ^ 63 }
+    ensures { OnOk result (Adds (IsShortest true nullable (Some (pos number))) bytes.old.items bytes.new.items) }
+{
+    if number >= LONG_NUMBER || bytes.capacity() - bytes.len() < ROOM {
+        return write_long_signed(bytes, nullable, i128::from(number));
+    }
+    push_natural(bytes, raised(nullable, number))
+}
+
+/// A natural number of 64 bits.
+#[inline(always)]
+fn natural_in(number: i64) -> u64
+    requires { pos 0 ≤ℤ number }
+    ensures value { number ≡ pos result }
+    ensures small { result < 2 ^ 63 }
+{
+    number as u64
+}
+
+/// The complement of a negative number of 64 bits.
+#[inline(always)]
+fn complement_in(number: i64) -> u64
+    requires { number <ℤ pos 0 }
+    ensures value { number ≡ negsuc result }
+    ensures small { result < 2 ^ 63 }
+{
+    (-1 - number) as u64
+}
+
+/// Writes a difference of integers, which most often has 64 bits.
+#[inline(always)]
+pub fn write_delta_as(bytes: &mut Vec<u8>, nullable: bool, number: i128) -> Result<(), AllocError>
+    requires { IsWithin (signed_range 68) number }
+    ensures { OnOk result (Adds (IsShortest true nullable (Some number)) bytes.old.items bytes.new.items) }
+{
+    match i64::try_from(number) {
+        Ok(narrow) => write_narrow_as(bytes, nullable, narrow),
+        Err(_) => write_signed_as(bytes, nullable, number),
+    }
 }
 
 /// Writes a signed integer.
@@ -157,7 +277,27 @@ fn push_one(bytes: &mut Vec<u8>, number: u64) -> Result<(), AllocError>
     requires { number < 2 ^ 7 }
     ensures { OnOk result (Adds (IsGroups number 1) bytes.old.items bytes.new.items) }
 {
-    bytes.push((number % 0x80) as u8 + 0x80)?;
+    push_byte(bytes, (number % 0x80) as u8 + 0x80)
+}
+
+/// Appends a byte.
+#[inline(always)]
+pub fn push_byte(bytes: &mut Vec<u8>, byte: u8) -> Result<(), AllocError>
+    ensures { OnOk result (bytes.new.items ≡ bytes.old.items ++ byte ∷ []) }
+{
+    if bytes.len() < bytes.capacity() {
+        bytes.push_reserved(byte);
+        return Ok(());
+    }
+    push_and_grow(bytes, byte)
+}
+
+/// Appends a byte where there is no room for it yet.
+#[cold]
+fn push_and_grow(bytes: &mut Vec<u8>, byte: u8) -> Result<(), AllocError>
+    ensures { OnOk result (bytes.new.items ≡ bytes.old.items ++ byte ∷ []) }
+{
+    bytes.push(byte)?;
     Ok(())
 }
 

@@ -15,7 +15,9 @@ ghost use Rattle.fast_spelling.specs.device.Drafts.{Adds, IsTold, IsSendable, Is
 ghost use Rattle.fast_spelling.specs.meaning.Refusals.{HasZeroInFront};
 
 use crate::faults::EncodeFault;
-use crate::integers::{write_signed_as, write_unsigned_as};
+use crate::integers::{
+    push_byte, write_delta_as, write_narrow_as, write_signed_as, write_unsigned_as,
+};
 use fast_dict::Sent;
 use fast_template::FieldInstruction;
 use fast_value::{Kind, Scalar};
@@ -44,7 +46,7 @@ pub fn write_item(
         }
         Sent::Value(value) => write_value(bytes, field.kind, field.optional, value),
         Sent::IntegerDelta(delta) => {
-            write_signed_as(bytes, field.optional, delta)?;
+            write_delta_as(bytes, field.optional, delta)?;
             Ok(())
         }
         Sent::DecimalDelta(exponent, mantissa) => {
@@ -82,17 +84,16 @@ fn write_value(
             Ok(())
         }
         Scalar::I(number) => {
-            write_signed_as(bytes, nullable, i128::from(number))?;
+            write_narrow_as(bytes, nullable, number)?;
             Ok(())
         }
         Scalar::Dec { exponent, mantissa } => {
-            write_signed_as(bytes, nullable, i128::from(exponent))?;
-            write_signed_as(bytes, false, i128::from(mantissa))?;
+            write_narrow_as(bytes, nullable, i64::from(exponent))?;
+            write_narrow_as(bytes, false, mantissa)?;
             Ok(())
         }
-        Scalar::Ascii(text) | Scalar::Unicode(text) | Scalar::Bytes(text) => {
-            write_text(bytes, kind, nullable, text)
-        }
+        Scalar::Ascii(text) => write_short_ascii(bytes, nullable, text),
+        Scalar::Unicode(text) | Scalar::Bytes(text) => write_text(bytes, kind, nullable, text),
     }
 }
 
@@ -116,6 +117,22 @@ fn write_text(
             Ok(())
         }
     }
+}
+
+/// Writes an ASCII text. One of a single character is written where this is called.
+#[inline(always)]
+fn write_short_ascii(bytes: &mut Vec<u8>, nullable: bool, text: &[u8]) -> Result<(), EncodeFault>
+    requires { All (λ c. c < 128) text.now }
+    ensures ok { OnOk result
+        (Adds (λ w. (room : ℕ) → length text.now ≤ room → SpellsAscii nullable room (Some text.now) w) bytes.old.items
+        bytes.new.items) }
+    ensures err { IfErr result (IsTold (λ c. (c ≡ R9) × ((rest : List ℕ) × (text.now ≡ 0 ∷ rest)))) }
+{
+    if text.len() == 1 && text[0] != 0 {
+        push_byte(bytes, text[0] + 128)?;
+        return Ok(());
+    }
+    write_ascii(bytes, nullable, text)
 }
 
 /// Writes an ASCII text: its characters, with the stop bit on the last.

@@ -5,6 +5,7 @@ ghost use Rattle.fast_value.specs.declared.settings.Limits.{Limits};
 ghost use Rattle.fast_value.specs.meaning.Kinds.{U, I, Dec, AsciiText, UnicodeText, ByteVector, IsWithin, signed_range, integer_of, value_of_integer};
 ghost use Rattle.fast_value.specs.meaning.Values.{scalar_data};
 ghost use Rattle.fast_value.specs.declared.kinds.Kind.TheVariants.{UInt32, Int32, UInt64, Int64};
+ghost use Rattle.fast_tree.specs.declared.operators.Operator.TheVariants.{None as no_operator, Constant, Default, Copy, Increment, Delta};
 ghost use Rattle.fast_tree.specs.device.Nodes.{field_data};
 ghost use Rattle.fast_dict.specs.meaning.Dictionary.{assigned, empty, previous_at};
 ghost use Rattle.fast_dict.specs.meaning.Operators.{incremented, range_of};
@@ -19,12 +20,11 @@ use crate::draft::Draft;
 use crate::faults::EncodeFault;
 use crate::fields::{previous_of, send, write_chosen};
 use crate::ledger::Ledger;
-use fast_dict::operators::initial_value;
 use fast_dict::operators::integers::integer_of;
 use fast_dict::operators::unsent::next_integer;
 use fast_dict::{Previous, Sent};
 use fast_template::{FieldInstruction, Operator};
-use fast_value::{Kind, Scalar};
+use fast_value::{Kind, Scalar, Value};
 
 /// Writes a field that has an unsigned integer.
 ///
@@ -48,8 +48,7 @@ pub fn write_unsigned(
     ensures keeps { Keeps ledger.old ledger.new }
 {
     if field.operator == Operator::None {
-        let value = Scalar::U(number);
-        return send(draft, ledger, field, Some(value), true, Sent::Value(value));
+        return write_plain(draft, ledger, field, Scalar::U(number));
     }
     write_kept_unsigned(draft, ledger, field, number)
 }
@@ -94,6 +93,254 @@ pub fn write_signed(
     write_integer(draft, ledger, field, Scalar::I(number))
 }
 
+/// Writes a field without operator.
+#[tactic(auto, using(crate::proofs::rules::Usual::plain_ruled, crate::proofs::rules::Usual::value_sendable))]
+#[inline(always)]
+pub fn write_plain(
+    draft: &mut Draft,
+    ledger: &mut Ledger,
+    field: &FieldInstruction,
+    value: Scalar<'_>,
+) -> Result<(), EncodeFault>
+    requires operator { field.now.operator ≡ no_operator }
+    requires served { IsServed ledger.old (field_data field.now) }
+    requires suited { IsSuited ledger.old.max_text (field_data field.now) (Some (scalar_data value)) }
+    ensures ok { OnOk result ((l : Limits) → l.max_text ≡ ledger.old.max_text
+        → Wrote (EncodesField l (field_data field.now) ledger.old.now (Some (scalar_data value.entry))) draft.old
+        draft.new ledger.new.now) }
+    ensures err { IfErr result
+        (IsTold (RefusesField (field_data field.now) ledger.old.now (Some (scalar_data value.entry)))) }
+    ensures keeps { Keeps ledger.old ledger.new }
+{
+    send(
+        draft,
+        ledger,
+        field,
+        Operator::None,
+        Some(value),
+        true,
+        Sent::Value(value),
+    )
+}
+
+/// Writes a field under default: its initial value is not sent.
+#[tactic(auto, using(crate::proofs::rules::Usual::default_other, crate::proofs::rules::Usual::value_sendable))]
+#[inline(always)]
+pub fn write_default(
+    draft: &mut Draft,
+    ledger: &mut Ledger,
+    field: &FieldInstruction,
+    value: Scalar<'_>,
+) -> Result<(), EncodeFault>
+    requires operator { field.now.operator ≡ Default }
+    requires served { IsServed ledger.old (field_data field.now) }
+    requires suited { IsSuited ledger.old.max_text (field_data field.now) (Some (scalar_data value)) }
+    ensures ok { OnOk result ((l : Limits) → l.max_text ≡ ledger.old.max_text
+        → Wrote (EncodesField l (field_data field.now) ledger.old.now (Some (scalar_data value.entry))) draft.old
+        draft.new ledger.new.now) }
+    ensures err { IfErr result
+        (IsTold (RefusesField (field_data field.now) ledger.old.now (Some (scalar_data value.entry)))) }
+    ensures keeps { Keeps ledger.old ledger.new }
+{
+    if is_initial(field, value) {
+        return Ok(draft.push_bit(false)?);
+    }
+    send(
+        draft,
+        ledger,
+        field,
+        Operator::Default,
+        Some(value),
+        true,
+        Sent::Value(value),
+    )
+}
+
+/// Writes a field under constant: nothing but its initial value can be written.
+#[tactic(auto, using(crate::proofs::rules::Usual::constant_ruled, crate::proofs::rules::Usual::value_sendable))]
+#[inline(always)]
+pub fn write_constant(
+    draft: &mut Draft,
+    ledger: &mut Ledger,
+    field: &FieldInstruction,
+    value: Scalar<'_>,
+) -> Result<(), EncodeFault>
+    requires operator { field.now.operator ≡ Constant }
+    requires served { IsServed ledger.old (field_data field.now) }
+    requires suited { IsSuited ledger.old.max_text (field_data field.now) (Some (scalar_data value)) }
+    ensures ok { OnOk result ((l : Limits) → l.max_text ≡ ledger.old.max_text
+        → Wrote (EncodesField l (field_data field.now) ledger.old.now (Some (scalar_data value.entry))) draft.old
+        draft.new ledger.new.now) }
+    ensures err { IfErr result
+        (IsTold (RefusesField (field_data field.now) ledger.old.now (Some (scalar_data value.entry)))) }
+    ensures keeps { Keeps ledger.old ledger.new }
+{
+    if is_initial(field, value) {
+        return send(
+            draft,
+            ledger,
+            field,
+            Operator::Constant,
+            Some(value),
+            true,
+            Sent::Nothing,
+        );
+    }
+    choose_value(draft, ledger, field, value)
+}
+
+/// Writes an integer under copy: what the entry holds is not sent.
+#[tactic(auto, using(crate::proofs::rules::Usual::copy_other, crate::proofs::rules::Usual::number_sendable))]
+#[inline(always)]
+pub fn write_copied(
+    draft: &mut Draft,
+    ledger: &mut Ledger,
+    field: &FieldInstruction,
+    value: Scalar<'_>,
+) -> Result<(), EncodeFault>
+    requires operator { field.now.operator ≡ Copy }
+    requires served { IsServed ledger.old (field_data field.now) }
+    requires suited { IsSuited ledger.old.max_text (field_data field.now) (Some (scalar_data value)) }
+    requires number { IsNumber (scalar_data value) }
+    ensures ok { OnOk result ((l : Limits) → l.max_text ≡ ledger.old.max_text
+        → Wrote (EncodesField l (field_data field.now) ledger.old.now (Some (scalar_data value.entry))) draft.old
+        draft.new ledger.new.now) }
+    ensures err { IfErr result
+        (IsTold (RefusesField (field_data field.now) ledger.old.now (Some (scalar_data value.entry)))) }
+    ensures keeps { Keeps ledger.old ledger.new }
+{
+    match held_in(ledger, field, value) {
+        None => choose_value(draft, ledger, field, value),
+        Some(held) if is_same(held, value) => Ok(draft.push_bit(false)?),
+        Some(_) => send(
+            draft,
+            ledger,
+            field,
+            Operator::Copy,
+            Some(value),
+            true,
+            Sent::Value(value),
+        ),
+    }
+}
+
+/// Writes an integer under increment: one more than the entry holds is not sent.
+#[tactic(auto, using(crate::proofs::rules::Usual::step_other, crate::proofs::rules::Usual::number_sendable))]
+#[inline(always)]
+pub fn write_next(
+    draft: &mut Draft,
+    ledger: &mut Ledger,
+    field: &FieldInstruction,
+    kind: Kind,
+    value: Scalar<'_>,
+) -> Result<(), EncodeFault>
+    requires kind { field.now.kind ≡ kind }
+    requires operator { field.now.operator ≡ Increment }
+    requires served { IsServed ledger.old (field_data field.now) }
+    requires suited { IsSuited ledger.old.max_text (field_data field.now) (Some (scalar_data value)) }
+    requires number { IsNumber (scalar_data value) }
+    ensures ok { OnOk result ((l : Limits) → l.max_text ≡ ledger.old.max_text
+        → Wrote (EncodesField l (field_data field.now) ledger.old.now (Some (scalar_data value.entry))) draft.old
+        draft.new ledger.new.now) }
+    ensures err { IfErr result
+        (IsTold (RefusesField (field_data field.now) ledger.old.now (Some (scalar_data value.entry)))) }
+    ensures keeps { Keeps ledger.old ledger.new }
+{
+    match held_in(ledger, field, value) {
+        None => choose_value(draft, ledger, field, value),
+        Some(held) if is_next(kind, held, value) => {
+            send(
+                draft,
+                ledger,
+                field,
+                Operator::Increment,
+                Some(value),
+                false,
+                Sent::Nothing,
+            )
+        }
+        Some(_) => send(
+            draft,
+            ledger,
+            field,
+            Operator::Increment,
+            Some(value),
+            true,
+            Sent::Value(value),
+        ),
+    }
+}
+
+/// Writes an integer under delta: what it is more than the entry holds.
+#[inline(always)]
+pub fn write_difference(
+    draft: &mut Draft,
+    ledger: &mut Ledger,
+    field: &FieldInstruction,
+    value: Scalar<'_>,
+) -> Result<(), EncodeFault>
+    requires operator { field.now.operator ≡ Delta }
+    requires served { IsServed ledger.old (field_data field.now) }
+    requires suited { IsSuited ledger.old.max_text (field_data field.now) (Some (scalar_data value)) }
+    requires number { IsNumber (scalar_data value) }
+    ensures ok { OnOk result ((l : Limits) → l.max_text ≡ ledger.old.max_text
+        → Wrote (EncodesField l (field_data field.now) ledger.old.now (Some (scalar_data value.entry))) draft.old
+        draft.new ledger.new.now) }
+    ensures err { IfErr result
+        (IsTold (RefusesField (field_data field.now) ledger.old.now (Some (scalar_data value.entry)))) }
+    ensures keeps { Keeps ledger.old ledger.new }
+{
+    match held_in(ledger, field, value) {
+        None => choose_value(draft, ledger, field, value),
+        Some(held) => {
+            let delta = Sent::IntegerDelta(difference(value, held));
+            send(
+                draft,
+                ledger,
+                field,
+                Operator::Delta,
+                Some(value),
+                true,
+                delta,
+            )
+        }
+    }
+}
+
+/// Writes a text or a decimal under copy.
+#[tactic(auto, using(crate::proofs::rules::Usual::copy_other, crate::proofs::rules::Usual::value_sendable))]
+#[inline(always)]
+pub fn write_copied_other(
+    draft: &mut Draft,
+    ledger: &mut Ledger,
+    field: &FieldInstruction,
+    value: Scalar<'_>,
+) -> Result<(), EncodeFault>
+    requires operator { field.now.operator ≡ Copy }
+    requires served { IsServed ledger.old (field_data field.now) }
+    requires suited { IsSuited ledger.old.max_text (field_data field.now) (Some (scalar_data value)) }
+    ensures ok { OnOk result ((l : Limits) → l.max_text ≡ ledger.old.max_text
+        → Wrote (EncodesField l (field_data field.now) ledger.old.now (Some (scalar_data value.entry))) draft.old
+        draft.new ledger.new.now) }
+    ensures err { IfErr result
+        (IsTold (RefusesField (field_data field.now) ledger.old.now (Some (scalar_data value.entry)))) }
+    ensures keeps { Keeps ledger.old ledger.new }
+{
+    match held_value(ledger, field) {
+        None => choose_value(draft, ledger, field, value),
+        Some(held) if is_same(held, value) => Ok(draft.push_bit(false)?),
+        Some(_) => send(
+            draft,
+            ledger,
+            field,
+            Operator::Copy,
+            Some(value),
+            true,
+            Sent::Value(value),
+        ),
+    }
+}
+
 /// Writes a field that has an integer.
 ///
 /// # Errors
@@ -117,36 +364,12 @@ pub fn write_integer(
     ensures keeps { Keeps ledger.old ledger.new }
 {
     match field.operator {
-        Operator::None => send(draft, ledger, field, Some(value), true, Sent::Value(value)),
-        Operator::Copy => match held_in(ledger, field, value) {
-            None => choose_value(draft, ledger, field, value),
-            Some(held) if is_same(held, value) => Ok(draft.push_bit(false)?),
-            Some(_) => send(draft, ledger, field, Some(value), true, Sent::Value(value)),
-        },
-        Operator::Increment => match held_in(ledger, field, value) {
-            None => choose_value(draft, ledger, field, value),
-            Some(held) if is_next(field.kind, held, value) => {
-                send(draft, ledger, field, Some(value), false, Sent::Nothing)
-            }
-            Some(_) => send(draft, ledger, field, Some(value), true, Sent::Value(value)),
-        },
-        Operator::Delta => match held_in(ledger, field, value) {
-            None => choose_value(draft, ledger, field, value),
-            Some(held) => {
-                let delta = Sent::IntegerDelta(difference(value, held));
-                send(draft, ledger, field, Some(value), true, delta)
-            }
-        },
-        Operator::Default => match initial_value(field) {
-            Some(initial) if is_same(initial, value) => Ok(draft.push_bit(false)?),
-            _ => send(draft, ledger, field, Some(value), true, Sent::Value(value)),
-        },
-        Operator::Constant => match initial_value(field) {
-            Some(initial) if is_same(initial, value) => {
-                send(draft, ledger, field, Some(value), true, Sent::Nothing)
-            }
-            _ => choose_value(draft, ledger, field, value),
-        },
+        Operator::None => write_plain(draft, ledger, field, value),
+        Operator::Copy => write_copied(draft, ledger, field, value),
+        Operator::Increment => write_next(draft, ledger, field, field.kind, value),
+        Operator::Delta => write_difference(draft, ledger, field, value),
+        Operator::Default => write_default(draft, ledger, field, value),
+        Operator::Constant => write_constant(draft, ledger, field, value),
         Operator::Tail => choose_value(draft, ledger, field, value),
     }
 }
@@ -241,7 +464,6 @@ pub fn write_whole_decimal(
 /// # Errors
 ///
 /// E3, R9; memory was refused. Then the draft is of no use.
-#[tactic(auto, using(crate::proofs::rules::Usual::plain_ruled, crate::proofs::rules::Usual::copy_other, crate::proofs::rules::Usual::default_other, crate::proofs::rules::Usual::constant_ruled, crate::proofs::rules::Usual::value_sendable))]
 #[inline(always)]
 fn write_other(
     draft: &mut Draft,
@@ -259,26 +481,64 @@ fn write_other(
     ensures keeps { Keeps ledger.old ledger.new }
 {
     match field.operator {
-        Operator::None => send(draft, ledger, field, Some(value), true, Sent::Value(value)),
-        Operator::Copy => match held_value(ledger, field) {
-            None => choose_value(draft, ledger, field, value),
-            Some(held) if is_same(held, value) => Ok(draft.push_bit(false)?),
-            Some(_) => send(draft, ledger, field, Some(value), true, Sent::Value(value)),
-        },
-        Operator::Default => match initial_value(field) {
-            Some(initial) if is_same(initial, value) => Ok(draft.push_bit(false)?),
-            _ => send(draft, ledger, field, Some(value), true, Sent::Value(value)),
-        },
-        Operator::Constant => match initial_value(field) {
-            Some(initial) if is_same(initial, value) => {
-                send(draft, ledger, field, Some(value), true, Sent::Nothing)
-            }
-            _ => choose_value(draft, ledger, field, value),
-        },
+        Operator::None => write_plain(draft, ledger, field, value),
+        Operator::Copy => write_copied_other(draft, ledger, field, value),
+        Operator::Default => write_default(draft, ledger, field, value),
+        Operator::Constant => write_constant(draft, ledger, field, value),
         Operator::Increment | Operator::Delta | Operator::Tail => {
             choose_value(draft, ledger, field, value)
         }
     }
+}
+
+/// Writes the absence of a field under default: without an initial value nothing is sent.
+#[inline(always)]
+pub fn write_no_default(
+    draft: &mut Draft,
+    ledger: &mut Ledger,
+    field: &FieldInstruction,
+) -> Result<(), EncodeFault>
+    requires operator { field.now.operator ≡ Default }
+    requires served { IsServed ledger.old (field_data field.now) }
+    requires suited { IsSuited ledger.old.max_text (field_data field.now) None }
+    ensures ok { OnOk result ((l : Limits) → l.max_text ≡ ledger.old.max_text
+        → Wrote (EncodesField l (field_data field.now) ledger.old.now None) draft.old draft.new ledger.new.now) }
+    ensures err { IfErr result (IsTold (RefusesField (field_data field.now) ledger.old.now None)) }
+    ensures keeps { Keeps ledger.old ledger.new }
+{
+    match &field.initial {
+        None => Ok(draft.push_bit(false)?),
+        Some(_) => send(
+            draft,
+            ledger,
+            field,
+            Operator::Default,
+            None,
+            true,
+            Sent::Null,
+        ),
+    }
+}
+
+/// Writes the absence of a field under copy: where the entry holds an absence nothing is sent.
+#[inline(always)]
+pub fn write_no_copy(
+    draft: &mut Draft,
+    ledger: &mut Ledger,
+    field: &FieldInstruction,
+) -> Result<(), EncodeFault>
+    requires operator { field.now.operator ≡ Copy }
+    requires served { IsServed ledger.old (field_data field.now) }
+    requires suited { IsSuited ledger.old.max_text (field_data field.now) None }
+    ensures ok { OnOk result ((l : Limits) → l.max_text ≡ ledger.old.max_text
+        → Wrote (EncodesField l (field_data field.now) ledger.old.now None) draft.old draft.new ledger.new.now) }
+    ensures err { IfErr result (IsTold (RefusesField (field_data field.now) ledger.old.now None)) }
+    ensures keeps { Keeps ledger.old ledger.new }
+{
+    if is_empty_in(ledger, field) {
+        return Ok(draft.push_bit(false)?);
+    }
+    choose_none(draft, ledger, field)
 }
 
 /// Writes a field that is absent.
@@ -299,18 +559,10 @@ pub fn write_none(
     ensures keeps { Keeps ledger.old ledger.new }
 {
     match field.operator {
-        Operator::None => send(draft, ledger, field, None, true, Sent::Null),
-        Operator::Delta => send(draft, ledger, field, None, true, Sent::Null),
-        Operator::Default => match &field.initial {
-            None => Ok(draft.push_bit(false)?),
-            Some(_) => send(draft, ledger, field, None, true, Sent::Null),
-        },
-        Operator::Copy => {
-            if is_empty_in(ledger, field) {
-                return Ok(draft.push_bit(false)?);
-            }
-            choose_none(draft, ledger, field)
-        }
+        Operator::None => send(draft, ledger, field, field.operator, None, true, Sent::Null),
+        Operator::Delta => send(draft, ledger, field, field.operator, None, true, Sent::Null),
+        Operator::Default => write_no_default(draft, ledger, field),
+        Operator::Copy => write_no_copy(draft, ledger, field),
         Operator::Increment | Operator::Constant | Operator::Tail => {
             choose_none(draft, ledger, field)
         }
@@ -337,7 +589,7 @@ fn choose_none(
 /// Writes a field that has a value, as the rule chooses. The parts of the value are handed on, so that it does not stand in memory
 /// where it is not wanted.
 #[inline(always)]
-fn choose_value(
+pub fn choose_value(
     draft: &mut Draft,
     ledger: &mut Ledger,
     field: &FieldInstruction,
@@ -485,6 +737,19 @@ fn choose_bytes(
     write_chosen(draft, ledger, field, Some(Scalar::Bytes(text)))
 }
 
+/// Whether the value is the field's initial value.
+#[inline(always)]
+fn is_initial(field: &FieldInstruction, value: Scalar<'_>) -> bool
+    ensures { IsTrue result ↔ ((field_data field.now).initial ≡ Some (scalar_data value.entry)) }
+{
+    match (&field.initial, value) {
+        (Some(Value::U(initial)), Scalar::U(number)) => *initial == number,
+        (Some(Value::I(initial)), Scalar::I(number)) => *initial == number,
+        (Some(initial), _) => is_same(initial.as_scalar(), value),
+        (None, _) => false,
+    }
+}
+
 /// Whether the field's entry holds that a field was absent.
 #[inline(always)]
 fn is_empty_in(ledger: &Ledger, field: &FieldInstruction) -> bool
@@ -598,11 +863,32 @@ fn is_same(a: Scalar<'_>, b: Scalar<'_>) -> bool
                 mantissa: m,
             },
         ) => exponent == e && mantissa == m,
-        (Scalar::Ascii(a), Scalar::Ascii(b)) => a == b,
+        (Scalar::Ascii(a), Scalar::Ascii(b)) => is_same_text(a, b),
         (Scalar::Unicode(a), Scalar::Unicode(b)) => a == b,
         (Scalar::Bytes(a), Scalar::Bytes(b)) => a == b,
         _ => false,
     }
+}
+
+/// Whether two texts are the same. Those of one character are met most often.
+#[inline(always)]
+fn is_same_text(a: &[u8], b: &[u8]) -> bool
+    ensures { IsTrue result ↔ (a.now ≡ b.now) }
+{
+    if a.len() != b.len() {
+        return false;
+    }
+    if a.len() == 1 {
+        return a[0] == b[0];
+    }
+    is_same_long_text(a, b)
+}
+
+/// The same for texts of any length.
+fn is_same_long_text(a: &[u8], b: &[u8]) -> bool
+    ensures { IsTrue result ↔ (a.now ≡ b.now) }
+{
+    a == b
 }
 
 /// How much greater one integer is than another.

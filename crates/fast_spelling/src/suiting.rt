@@ -113,7 +113,7 @@ pub fn is_right(kind: Kind, value: &Value) -> bool
 
 /// Whether an unsigned integer is one of the kind.
 #[inline(always)]
-fn is_unsigned(kind: Kind, number: u64) -> bool
+pub fn is_unsigned(kind: Kind, number: u64) -> bool
     ensures { IsTrue result ↔ IsRight kind (U number) }
 {
     if kind == Kind::UInt32 {
@@ -124,7 +124,7 @@ fn is_unsigned(kind: Kind, number: u64) -> bool
 
 /// Whether a signed integer is one of the kind.
 #[inline(always)]
-fn is_signed(kind: Kind, number: i64) -> bool
+pub fn is_signed(kind: Kind, number: i64) -> bool
     ensures { IsTrue result ↔ IsRight kind (I number) }
 {
     if kind == Kind::Int32 {
@@ -135,7 +135,7 @@ fn is_signed(kind: Kind, number: i64) -> bool
 
 /// Whether a decimal is one of the kind.
 #[inline(always)]
-fn is_decimal(kind: Kind, exponent: i32, mantissa: i64) -> bool
+pub fn is_decimal(kind: Kind, exponent: i32, mantissa: i64) -> bool
     ensures { IsTrue result ↔ IsRight kind (Dec exponent mantissa) }
 {
     matches!(kind, Kind::Decimal) && -63 <= exponent && exponent <= 63

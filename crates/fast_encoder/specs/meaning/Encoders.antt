@@ -4,9 +4,7 @@ use Rattle.fast_value.specs.declared.settings.Limits.{Limits}
 use Rattle.fast_value.specs.meaning.Limits.{in_mode}
 use Rattle.fast_value.specs.meaning.Messages.{MessageData}
 use Rattle.fast_tree.specs.meaning.Tree.{Tree}
-use Rattle.fast_tree.specs.device.Bodies.{AreNodeWidths}
 use Rattle.fast_template.specs.declared.sets.Templates.{Templates}
-use Rattle.fast_template.specs.meaning.Flat.{nodes_of}
 use Rattle.fast_decoder.specs.device.Positions.{Set, tree_in}
 use Rattle.fast_dict.specs.meaning.Dictionary.{Dictionary}
 use Rattle.fast_stream.specs.meaning.Messages.{SpellsMessage}
@@ -29,9 +27,8 @@ abbrev pub tree : EncoderData → Tree
 tree e = tree_in e.set
 
 -- Between two messages: the ledger serves the set, and nothing in it could be taken back.
-pub record IsSound (t : Templates) (l : Limits) (widths : List ℕ) (s : LedgerData) : Type 0 where
+pub record IsSound (t : Templates) (l : Limits) (s : LedgerData) : Type 0 where
   pub ready : IsReady t l s
-  pub bits : AreNodeWidths (nodes_of t) widths
   pub committed : s.before ≡ s.now
 
 -- The message suits its template and keeps to the limits, and behind the bytes that there were stands what spells it in strict mode, by the

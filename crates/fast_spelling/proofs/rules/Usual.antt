@@ -17,7 +17,7 @@ use Rattle.fast_spelling.specs.device.Drafts.{IsSendableValue}
 use Rattle.fast_spelling.specs.meaning.Encoding.{EncodesField}
 use Rattle.fast_spelling.specs.device.Fields.{IsSuited, next_by, next_of}
 use Rattle.fast_spelling.specs.meaning.Suiting.{IsRight}
-use Rattle.fast_spelling.specs.device.Usual.{IsNumber}
+use Rattle.fast_spelling.specs.device.Usual.{IsNumber, IsOfNumbers}
 use Rattle.fast_spelling.proofs.rules.OneItem.{one_ok}
 use Rattle.fast_spelling.proofs.rules.FieldsWritten.{field_done}
 
@@ -140,8 +140,20 @@ number_sendable kind (U n) t (room, h) = absurd h
 number_sendable kind (I x) t (room, h) = absurd h
 number_sendable kind v t h = absurd t
 
+-- a value of a type of integers is an integer
+pub number_of : (kind : Kind) (v : ScalarData) → IsOfNumbers kind → IsRight kind v → IsNumber v
+number_of UInt32 (U n) t h = tt
+number_of UInt64 (U n) t h = tt
+number_of Int32 (I x) t h = tt
+number_of Int64 (I x) t h = tt
+number_of UInt32 v t (room, h) = absurd h
+number_of UInt64 v t (room, h) = absurd h
+number_of Int32 v t (room, h) = absurd h
+number_of Int64 v t (room, h) = absurd h
+number_of kind v t h = absurd t
+
 -- A value that is not sent, and that the entry holds already.
-write_back : (e : Option ℕ) (d : Dictionary) → write_at e (previous_at e d) d ≡ d
+pub write_back : (e : Option ℕ) (d : Dictionary) → write_at e (previous_at e d) d ≡ d
 write_back None d = refl
 write_back (Some e) d = set-get_or d e undefined
 

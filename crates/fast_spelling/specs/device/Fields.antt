@@ -8,6 +8,10 @@ use Rattle.fast_tree.specs.meaning.Tree.{FieldData}
 use Rattle.fast_tree.specs.device.Usable.{IsUsable}
 use Rattle.fast_dict.specs.meaning.Dictionary.{Dictionary, PreviousData, empty, assigned}
 use Rattle.fast_spelling.specs.declared.draft.Draft.{Draft}
+use Rattle.fast_value.specs.declared.settings.Limits.{Limits}
+use Rattle.fast_value.specs.meaning.Messages.{Slots}
+use Rattle.fast_tree.specs.meaning.Tree.{Body}
+use Rattle.fast_spelling.specs.meaning.Encoding.{EncodesBody, EncodesSegment}
 use Rattle.fast_spelling.specs.meaning.Ledgers.{LedgerData}
 use Rattle.fast_spelling.specs.meaning.Suiting.{IsRight}
 
@@ -37,6 +41,10 @@ next_of f p v = next_by f.operator f.kind p v
 -- Bits and bytes were appended that say what leads to this dictionary.
 abbrev pub Wrote : (List Bool → List ℕ → Dictionary → Type 0) → Draft → Draft → Dictionary → Type 0
 Wrote says old new d = (b : List Bool) × (w : List ℕ) × (new.bits.items ≡ old.bits.items ++ b) × (new.bytes.items ≡ old.bytes.items ++ w) × says b w d
+
+-- Behind the bytes that there were stands a segment that says what leads to this dictionary; the bits around it are as they were.
+abbrev pub WroteSegment : Limits → Body → Dictionary → Slots → Draft → Draft → Dictionary → Type 0
+WroteSegment l body d vs old new d' = (w : List ℕ) × (new.bits.items ≡ old.bits.items) × (new.bytes.items ≡ old.bytes.items ++ w) × EncodesSegment body (EncodesBody l body) d vs w d'
 
 -- The numbers of the value are those of its Rust type.
 abbrev pub IsNarrow : ScalarData → Type 0

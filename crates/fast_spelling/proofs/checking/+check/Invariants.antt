@@ -13,29 +13,32 @@ use Rattle.fast_spelling.proofs.checking.+check.Given as goal
 
 abbrev pub invariant-try_body-loop-i : goal.invariant-try_body-loop-i
 invariant-try_body-loop-i l = record {
-  written : IsWritten l.limits (body_among (nodes_of l.templates) l.body) (slots_data l.slots) l.fn.ledger.now l.fn.draft (body_among (nodes_of l.templates) (drop l.i l.body)) (slots_data (drop l.i l.slots)) l.ledger.now l.draft;
-  suits : SuitsBody (body_among (nodes_of l.templates) (drop l.i l.body)) (slots_data (drop l.i l.slots)) → SuitsBody (body_among (nodes_of l.templates) l.body) (slots_data l.slots);
-  fits : AreWithinLimits l.limits (slots_data (drop l.i l.slots)) → AreWithinLimits l.limits (slots_data l.slots);
-  sum : l.left + total (slots_data l.slots) ≡ l.fn.room + total (slots_data (drop l.i l.slots));
-  ready : IsReady l.templates l.limits l.ledger;
-  keeps : Keeps l.fn.ledger l.ledger;
+  written : IsWritten l.plan.limits (body_among (nodes_of l.plan.templates.now) l.body) (slots_data l.slots) l.fn.work.ledger.now l.fn.work.draft (body_among (nodes_of l.plan.templates.now) (drop l.i l.body)) (slots_data (drop l.i l.slots)) l.work.ledger.now l.work.draft;
+  suits : SuitsBody (body_among (nodes_of l.plan.templates.now) (drop l.i l.body)) (slots_data (drop l.i l.slots)) → SuitsBody (body_among (nodes_of l.plan.templates.now) l.body) (slots_data l.slots);
+  fits : AreWithinLimits l.plan.limits (slots_data (drop l.i l.slots)) → AreWithinLimits l.plan.limits (slots_data l.slots);
+  sum : l.work.room + total (slots_data l.slots) ≡ l.fn.work.room + total (slots_data (drop l.i l.slots));
+  ready : IsReady l.plan.templates.now l.plan.limits l.work.ledger;
+  keeps : Keeps l.fn.work.ledger l.work.ledger;
 }
 
 abbrev pub invariant-try_item-loop-row : goal.invariant-try_item-loop-row
 invariant-try_item-loop-row l = record {
-  written : AreWritten l.limits (body_among (nodes_of l.templates) l.body.items) (elements_data l.row-items) l.initial.ledger.now l.initial.draft (elements_data (drop l.row-index l.row-items)) l.ledger.now l.draft;
-  right : AreRight (SuitsBody (body_among (nodes_of l.templates) l.body.items)) (elements_data (drop l.row-index l.row-items)) → AreRight (SuitsBody (body_among (nodes_of l.templates) l.body.items)) (elements_data l.row-items);
-  fits : RowsWithinLimits l.limits (elements_data (drop l.row-index l.row-items)) → RowsWithinLimits l.limits (elements_data l.row-items);
-  sum : l.left + (count (elements_data l.row-items) + rows_total (elements_data l.row-items)) ≡ l.fn.room + rows_total (elements_data (drop l.row-index l.row-items));
-  ready : IsReady l.templates l.limits l.ledger;
-  keeps : Keeps l.fn.ledger l.ledger;
+  written : AreWritten l.plan.limits (body_among (nodes_of l.plan.templates.now) l.body.items) (elements_data l.row-items) l.initial.work.ledger.now l.initial.work.draft (elements_data (drop l.row-index l.row-items)) l.work.ledger.now l.work.draft;
+  right : AreRight (SuitsBody (body_among (nodes_of l.plan.templates.now) l.body.items)) (elements_data (drop l.row-index l.row-items)) → AreRight (SuitsBody (body_among (nodes_of l.plan.templates.now) l.body.items)) (elements_data l.row-items);
+  fits : RowsWithinLimits l.plan.limits (elements_data (drop l.row-index l.row-items)) → RowsWithinLimits l.plan.limits (elements_data l.row-items);
+  sum : l.work.room + (count (elements_data l.row-items) + rows_total (elements_data l.row-items)) ≡ l.fn.work.room + rows_total (elements_data (drop l.row-index l.row-items));
+  ready : IsReady l.plan.templates.now l.plan.limits l.work.ledger;
+  keeps : Keeps l.fn.work.ledger l.work.ledger;
 }
 
 abbrev pub decreases-try_body : goal.decreases-try_body
-decreases-try_body l = 3 * slots_depth (slots_data l.slots.now) + 2
+decreases-try_body l = 4 * slots_depth (slots_data l.slots.now) + 2
 
 abbrev pub decreases-try_slot : goal.decreases-try_slot
-decreases-try_slot l = 3 * option_depth (option_map item_data l.slot.now) + 1
+decreases-try_slot l = 4 * option_depth (option_map item_data l.slot.now) + 1
 
 abbrev pub decreases-try_item : goal.decreases-try_item
-decreases-try_item l = 3 * item_depth (item_data l.item.now)
+decreases-try_item l = 4 * item_depth (item_data l.item.now)
+
+abbrev pub decreases-try_segment : goal.decreases-try_segment
+decreases-try_segment l = 4 * slots_depth (slots_data l.slots.now) + 3

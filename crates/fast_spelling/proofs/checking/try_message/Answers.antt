@@ -1,5 +1,5 @@
 -- A whole message, by its parts: it suits and fits as they do.
-use Rattle.std.proofs.Common.{ℕ, List, ap, subst, ◌∙◌, ◌≤◌, arith}
+use Rattle.std.proofs.Common.{ℕ, List, refl, ap, subst, ◌∙◌, ◌≤◌, arith}
 use Rattle.fast_value.specs.meaning.Messages.{Slots, total}
 use Rattle.fast_value.specs.meaning.Views.{message_data, slots_data}
 use Rattle.fast_tree.specs.device.Bodies.{body_among}
@@ -12,34 +12,34 @@ use Rattle.fast_spelling.proofs.limits.Checked.{on_any}
 use Rattle.fast_spelling.proofs.encodings.Whole.{template_suits, message_made}
 use Rattle.fast_spelling.proofs.checking.try_message.Goals as goal
 
-suited : (c : goal.After-finish) → SuitsTemplate (tree_of c.args.templates.now) (message_data c.args.message.now)
-suited c = template_suits c.args.templates.now (message_data c.args.message.now) c.template-template.result.now c.template-template.ensures.found
-    (subst (λ (vs : Slots). SuitsBody (body_among (nodes_of c.args.templates.now) c.template-template.result.now.body.items) vs) (ap slots_data c.deref-2.ensures.value)
-    (subst (λ (ns : List ℕ). SuitsBody (body_among (nodes_of c.args.templates.now) ns) (slots_data c.deref-2.result.now)) c.deref.ensures.value c.in_ok-try_body.ensures.suits))
+suited : (c : goal.After-finish) → SuitsTemplate (tree_of c.args.plan.now.templates.now) (message_data c.args.message.now)
+suited c = template_suits c.args.plan.now.templates.now (message_data c.args.message.now) c.template-template.result.now c.template-template.ensures.found
+    (subst (λ (vs : Slots). SuitsBody (body_among (nodes_of c.args.plan.now.templates.now) c.template-template.result.now.body.items) vs) (ap slots_data c.deref-2.ensures.value)
+    (subst (λ (ns : List ℕ). SuitsBody (body_among (nodes_of c.args.plan.now.templates.now) ns) (slots_data c.deref-2.result.now)) c.deref.ensures.value (c.if-not-try_body.ensures.suits refl)))
 
 pub returns-clause-suits : goal.returns-clause-suits
 returns-clause-suits c = on_any c.finish.result (suited c)
 
-fitted : (c : goal.After-finish) → FitsLimits c.args.limits (slots_data c.args.message.now.items.items)
+fitted : (c : goal.After-finish) → FitsLimits c.args.plan.now.limits (slots_data c.args.message.now.items.items)
 fitted c =
-    let k = c.in_ok-try_body.ensures.fits in
+    let k = c.if-not-try_body.ensures.fits refl in
     let sum = k.1 in
-    let few : total (slots_data c.deref-2.result.now) ≤ c.args.limits.max_total = omega (arith, sum) in
-    subst (λ (vs : Slots). FitsLimits c.args.limits vs) (ap slots_data c.deref-2.ensures.value) (k.0, few)
+    let few : total (slots_data c.deref-2.result.now) ≤ c.args.plan.now.limits.max_total = omega (arith, sum) in
+    subst (λ (vs : Slots). FitsLimits c.args.plan.now.limits vs) (ap slots_data c.deref-2.ensures.value) (k.0, few)
 
 pub returns-clause-fits : goal.returns-clause-fits
 returns-clause-fits c = on_any c.finish.result (fitted c)
 
 -- what the body has written, by the message's own names
-body_wrote : (c : goal.After-finish) → Wrote (EncodesBody c.args.limits (body_among (nodes_of c.args.templates.now) c.template-template.result.now.body.items) c.reset_if.new.ledger.now (slots_data c.args.message.now.items.items)) c.write_identifier.new.draft c.try_body.new.draft c.try_body.new.ledger.now
+body_wrote : (c : goal.After-finish) → Wrote (EncodesBody c.args.plan.now.limits (body_among (nodes_of c.args.plan.now.templates.now) c.template-template.result.now.body.items) c.reset_if.new.ledger.now (slots_data c.args.message.now.items.items)) c.write_identifier.new.draft c.try_body.new.work.draft c.try_body.new.work.ledger.now
 body_wrote c =
-    subst (λ (vs : Slots). Wrote (EncodesBody c.args.limits (body_among (nodes_of c.args.templates.now) c.template-template.result.now.body.items) c.reset_if.new.ledger.now vs) c.write_identifier.new.draft c.try_body.new.draft c.try_body.new.ledger.now) (ap slots_data c.deref-2.ensures.value)
-    (subst (λ (ns : List ℕ). Wrote (EncodesBody c.args.limits (body_among (nodes_of c.args.templates.now) ns) c.reset_if.new.ledger.now (slots_data c.deref-2.result.now)) c.write_identifier.new.draft c.try_body.new.draft c.try_body.new.ledger.now) c.deref.ensures.value
-    c.in_ok-try_body.ensures.ok)
+    subst (λ (vs : Slots). Wrote (EncodesBody c.args.plan.now.limits (body_among (nodes_of c.args.plan.now.templates.now) c.template-template.result.now.body.items) c.reset_if.new.ledger.now vs) c.write_identifier.new.draft c.try_body.new.work.draft c.try_body.new.work.ledger.now) (ap slots_data c.deref-2.ensures.value)
+    (subst (λ (ns : List ℕ). Wrote (EncodesBody c.args.plan.now.limits (body_among (nodes_of c.args.plan.now.templates.now) ns) c.reset_if.new.ledger.now (slots_data c.deref-2.result.now)) c.write_identifier.new.draft c.try_body.new.work.draft c.try_body.new.work.ledger.now) c.deref.ensures.value
+    (c.if-not-try_body.ensures.ok refl))
 
 pub returns-clause-ok : goal.returns-clause-ok
 returns-clause-ok c = on_ok c.finish.result c.finish.ensures
-    (message_made c.args.templates.now c.args.limits c.args.ledger.now.now c.write_identifier.new.ledger.now c.reset_if.new.ledger.now c.try_body.new.ledger.now (message_data c.args.message.now) c.args.id c.template-template.result.now
-    c.begin.new.self c.write_identifier.new.draft c.try_body.new.draft c.finish.new.self.bytes.items
+    (message_made c.args.plan.now.templates.now c.args.plan.now.limits c.args.work.now.ledger.now c.write_identifier.new.ledger.now c.reset_if.new.ledger.now c.try_body.new.work.ledger.now (message_data c.args.message.now) c.args.id c.template-template.result.now
+    c.begin.new.self c.write_identifier.new.draft c.try_body.new.work.draft c.finish.new.self.bytes.items
     c.template-template.ensures.found c.requires.known c.in_ok-begin.ensures.bits c.in_ok-begin.ensures.bytes
     c.in_ok-write_identifier.ensures.ok c.reset_if.ensures.now (body_wrote c))

@@ -7,9 +7,9 @@ use Rattle.fast_spelling.specs.device.Drafts.{SpellsItem}
 use Rattle.fast_spelling.proofs.bytes.Spelling.{on_ok, handed}
 use Rattle.fast_spelling.proofs.items.write_item.Goals as goal
 
-pub returns-in_ok-write_signed_as-in-IntegerDelta-clause-ok : goal.returns-in_ok-write_signed_as-in-IntegerDelta-clause-ok
-returns-in_ok-write_signed_as-in-IntegerDelta-clause-ok c =
-    let h = c.in_ok-write_signed_as-in-IntegerDelta.ensures in
+pub returns-in_ok-write_delta_as-in-IntegerDelta-clause-ok : goal.returns-in_ok-write_delta_as-in-IntegerDelta-clause-ok
+returns-in_ok-write_delta_as-in-IntegerDelta-clause-ok c =
+    let h = c.in_ok-write_delta_as-in-IntegerDelta.ensures in
     (h.0, h.1, subst (λ (x : Sent). SpellsItem (field_data c.args.field.now) (sent_data x) h.0) (sym c.in-IntegerDelta.is) (handed c.args.field.now.optional c.in-IntegerDelta.delta h.0 (search rules) h.2))
 
 pub returns-in_ok-write_signed_as-in-DecimalDelta-2-clause-ok : goal.returns-in_ok-write_signed_as-in-DecimalDelta-2-clause-ok

@@ -7,20 +7,19 @@ use Rattle.fast_wire.specs.device.Shortest.{IsShortest}
 use Rattle.fast_value.specs.meaning.Values.{scalar_data}
 use Rattle.fast_value.specs.declared.values.Scalar.{Scalar}
 use Rattle.fast_spelling.specs.device.Drafts.{SpellsValue}
-use Rattle.fast_spelling.proofs.bytes.Spelling.{handed}
 use Rattle.fast_spelling.proofs.items.write_value.Goals as goal
 
-pub returns-in_ok-write_signed_as-in-I-clause-ok : goal.returns-in_ok-write_signed_as-in-I-clause-ok
-returns-in_ok-write_signed_as-in-I-clause-ok c =
-    let h = c.in_ok-write_signed_as-in-I.ensures in
-    (h.0, h.1, subst (λ (v : Scalar). SpellsValue c.args.kind c.args.nullable (scalar_data v) h.0) (sym c.in-I.is) (subst (λ (n : ℤ). IsShortest true c.args.nullable (Some n) h.0) (c.from.ensures ∙ to_z-of_z w64 c.in-I.number (search rules)) (handed c.args.nullable c.from.result h.0 (search rules) h.2)))
+pub returns-in_ok-write_narrow_as-in-I-clause-ok : goal.returns-in_ok-write_narrow_as-in-I-clause-ok
+returns-in_ok-write_narrow_as-in-I-clause-ok c =
+    let h = c.in_ok-write_narrow_as-in-I.ensures in
+    (h.0, h.1, subst (λ (v : Scalar). SpellsValue c.args.kind c.args.nullable (scalar_data v) h.0) (sym c.in-I.is) (subst (λ (n : ℤ). IsShortest true c.args.nullable (Some n) h.0) (to_z-of_z w64 c.in-I.number (search rules)) h.2))
 
-pub returns-in_ok-write_signed_as-in-Dec-2-clause-ok : goal.returns-in_ok-write_signed_as-in-Dec-2-clause-ok
-returns-in_ok-write_signed_as-in-Dec-2-clause-ok c =
-    let h = c.in_ok-write_signed_as-in-Dec.ensures in
-    let k = c.in_ok-write_signed_as-in-Dec-2.ensures in (
+pub returns-in_ok-write_narrow_as-in-Dec-2-clause-ok : goal.returns-in_ok-write_narrow_as-in-Dec-2-clause-ok
+returns-in_ok-write_narrow_as-in-Dec-2-clause-ok c =
+    let h = c.in_ok-write_narrow_as-in-Dec.ensures in
+    let k = c.in_ok-write_narrow_as-in-Dec-2.ensures in (
       h.0 ++ k.0,
       k.1 ∙ ap (λ (w : List ℕ). w ++ k.0) h.1 ∙ append_assoc c.args.bytes.now.items h.0 k.0,
       subst (λ (v : Scalar). SpellsValue c.args.kind c.args.nullable (scalar_data v) (h.0 ++ k.0)) (sym c.in-Dec.is)
-          (h.0, k.0, subst (λ (n : ℤ). IsShortest true c.args.nullable (Some n) h.0) (c.from-in-Dec.ensures ∙ to_z-of_z w32 c.in-Dec.exponent (search rules)) (handed c.args.nullable c.from-in-Dec.result h.0 (search rules) h.2), subst (λ (n : ℤ). IsShortest true false (Some n) k.0) (c.from-in-Dec-2.ensures ∙ to_z-of_z w64 c.in-Dec.mantissa (search rules)) (handed false c.from-in-Dec-2.result k.0 (search rules) k.2), refl),
+          (h.0, k.0, subst (λ (n : ℤ). IsShortest true c.args.nullable (Some n) h.0) (to_z-of_z w64 c.from.result (search rules) ∙ c.from.ensures ∙ to_z-of_z w32 c.in-Dec.exponent (search rules)) h.2, subst (λ (n : ℤ). IsShortest true false (Some n) k.0) (to_z-of_z w64 c.in-Dec.mantissa (search rules)) k.2, refl),
     )

@@ -25,8 +25,8 @@ use Rattle.fast_encoder.proofs.encoder.Encoder.encode_in_order.Goals as goal
 abbrev before : (t : Templates) → Limits → LedgerData → EncoderData
 before t l s = record { set = set_of t; limits = l; dictionary = s.now }
 
-e2_refused : (c : goal.Then-not-suits_body) → IsToldOf (before c.self.inside.templates.now c.self.inside.limits c.self.inside.ledger) (message_data c.args.message.now) E2
-e2_refused c = inr (unsuited c.self.inside.templates.now c.self.inside.limits c.self.inside.ledger.now (message_data c.args.message.now) c.in-Some.id c.in-Some.template.now c.in-Some.ensures.template c.in-Some.ensures.known
+e2_refused : (c : goal.Then-not-suits_body) → IsToldOf (before c.self.inside.plan.templates.now c.self.inside.plan.limits c.self.inside.work.ledger) (message_data c.args.message.now) E2
+e2_refused c = inr (unsuited c.self.inside.plan.templates.now c.self.inside.plan.limits c.self.inside.work.ledger.now (message_data c.args.message.now) c.in-Some.id c.in-Some.template.now c.in-Some.ensures.template c.in-Some.ensures.known
     (λ suits. let wrong : false ≡ true = c.if-not-suits_body.ensures.1 (rw c.deref.ensures.value (rw c.deref-2.ensures.value suits)) in cc wrong))
 
 pub returns-then-not-suits_body-clause-err : goal.returns-then-not-suits_body-clause-err
@@ -40,9 +40,9 @@ returns-then-not-suits_body-clause-told c = λ f h.
 suits_so : (t : Templates) (ns ms : List ℕ) (xs ys : List (Option Item)) → ns ≡ ms → xs ≡ ys → SuitsBody (body_among (nodes_of t) ns) (slots_data xs) → SuitsBody (body_among (nodes_of t) ms) (slots_data ys)
 suits_so t ns ms xs ys e f h = subst (λ (z : List (Option Item)). SuitsBody (body_among (nodes_of t) ms) (slots_data z)) f (subst (λ (z : List ℕ). SuitsBody (body_among (nodes_of t) z) (slots_data xs)) e h)
 
-e4_refused : (c : goal.Then-not-fits_limits) → IsToldOf (before c.self.inside.templates.now c.self.inside.limits c.self.inside.ledger) (message_data c.args.message.now) E4
-e4_refused c = inr (unfit c.self.inside.templates.now c.self.inside.limits c.self.inside.ledger.now (message_data c.args.message.now) c.in-Some.id c.in-Some.template.now c.in-Some.ensures.template c.in-Some.ensures.known
-    (suits_so c.self.inside.templates.now c.deref.result.now c.in-Some.template.now.body.items c.deref-2.result.now c.args.message.now.items.items c.deref.ensures.value c.deref-2.ensures.value (c.if-not-suits_body.ensures.0 refl))
+e4_refused : (c : goal.Then-not-fits_limits) → IsToldOf (before c.self.inside.plan.templates.now c.self.inside.plan.limits c.self.inside.work.ledger) (message_data c.args.message.now) E4
+e4_refused c = inr (unfit c.self.inside.plan.templates.now c.self.inside.plan.limits c.self.inside.work.ledger.now (message_data c.args.message.now) c.in-Some.id c.in-Some.template.now c.in-Some.ensures.template c.in-Some.ensures.known
+    (suits_so c.self.inside.plan.templates.now c.deref.result.now c.in-Some.template.now.body.items c.deref-2.result.now c.args.message.now.items.items c.deref.ensures.value c.deref-2.ensures.value (c.if-not-suits_body.ensures.0 refl))
     (λ fits. let wrong : false ≡ true = c.if-not-fits_limits.ensures.1 (rw c.deref-3.ensures.value fits) in cc wrong))
 
 pub returns-then-not-fits_limits-clause-err : goal.returns-then-not-fits_limits-clause-err
@@ -53,20 +53,20 @@ returns-then-not-fits_limits-clause-told c = λ f h.
     told_alone (tree c.args.self.now) c.args.self.now.limits c.args.self.now.dictionary (message_data c.args.message.now) E4 f (returns-then-not-fits_limits-clause-err c) h
 
 pub write_message-written-requires-clause-suits : goal.write_message-written-requires-clause-suits
-write_message-written-requires-clause-suits c = template_suits c.self.inside.templates.now (message_data c.args.message.now) c.in-Some.template.now c.in-Some.ensures.template
-    (suits_so c.self.inside.templates.now c.deref.result.now c.in-Some.template.now.body.items c.deref-2.result.now c.args.message.now.items.items c.deref.ensures.value c.deref-2.ensures.value (c.if-not-suits_body.ensures.0 refl))
+write_message-written-requires-clause-suits c = template_suits c.self.inside.plan.templates.now (message_data c.args.message.now) c.in-Some.template.now c.in-Some.ensures.template
+    (suits_so c.self.inside.plan.templates.now c.deref.result.now c.in-Some.template.now.body.items c.deref-2.result.now c.args.message.now.items.items c.deref.ensures.value c.deref-2.ensures.value (c.if-not-suits_body.ensures.0 refl))
 
 -- the same where the message was refused
-suited : (c : goal.After-take_back) → SuitsTemplate (tree_of c.self.inside.templates.now) (message_data c.args.message.now)
-suited c = template_suits c.self.inside.templates.now (message_data c.args.message.now) c.in-Some.template.now c.in-Some.ensures.template
-    (suits_so c.self.inside.templates.now c.deref.result.now c.in-Some.template.now.body.items c.deref-2.result.now c.args.message.now.items.items c.deref.ensures.value c.deref-2.ensures.value (c.if-not-suits_body.ensures.0 refl))
+suited : (c : goal.After-take_back) → SuitsTemplate (tree_of c.self.inside.plan.templates.now) (message_data c.args.message.now)
+suited c = template_suits c.self.inside.plan.templates.now (message_data c.args.message.now) c.in-Some.template.now c.in-Some.ensures.template
+    (suits_so c.self.inside.plan.templates.now c.deref.result.now c.in-Some.template.now.body.items c.deref-2.result.now c.args.message.now.items.items c.deref.ensures.value c.deref-2.ensures.value (c.if-not-suits_body.ensures.0 refl))
 
-fitted : (c : goal.After-take_back) → FitsLimits c.self.inside.limits (slots_data c.args.message.now.items.items)
-fitted c = subst (λ (z : List (Option Item)). FitsLimits c.self.inside.limits (slots_data z)) c.deref-3.ensures.value (c.if-not-fits_limits.ensures.0 refl)
+fitted : (c : goal.After-take_back) → FitsLimits c.self.inside.plan.limits (slots_data c.args.message.now.items.items)
+fitted c = subst (λ (z : List (Option Item)). FitsLimits c.self.inside.plan.limits (slots_data z)) c.deref-3.ensures.value (c.if-not-fits_limits.ensures.0 refl)
 
-late_told : (c : goal.After-take_back) → IsToldOf (before c.self.inside.templates.now c.self.inside.limits c.self.inside.ledger) (message_data c.args.message.now) c.in-Err.fault
-late_told c = late_refused (tree_of c.self.inside.templates.now) c.self.inside.limits c.self.inside.ledger.now (message_data c.args.message.now) c.in-Err.fault
-    (known_so (tree_of c.self.inside.templates.now) (message_data c.args.message.now) c.in-Some.id c.in-Some.ensures.known) (suited c) (fitted c) c.in-Err.ensures.err
+late_told : (c : goal.After-take_back) → IsToldOf (before c.self.inside.plan.templates.now c.self.inside.plan.limits c.self.inside.work.ledger) (message_data c.args.message.now) c.in-Err.fault
+late_told c = late_refused (tree_of c.self.inside.plan.templates.now) c.self.inside.plan.limits c.self.inside.work.ledger.now (message_data c.args.message.now) c.in-Err.fault
+    (known_so (tree_of c.self.inside.plan.templates.now) (message_data c.args.message.now) c.in-Some.id c.in-Some.ensures.known) (suited c) (fitted c) c.in-Err.ensures.err
 
 pub returns-in-Err-clause-err : goal.returns-in-Err-clause-err
 returns-in-Err-clause-err c = subst (λ (e : EncoderData). IsToldOf e (message_data c.args.message.now) c.in-Err.fault) c.self.view_is (late_told c)
@@ -76,32 +76,32 @@ returns-in-Err-clause-told c = λ f h.
     told_alone (tree c.args.self.now) c.args.self.now.limits c.args.self.now.dictionary (message_data c.args.message.now) c.in-Err.fault f (returns-in-Err-clause-err c) h
 
 -- the same where it was written
-all_suit : (c : goal.After-commit) → SuitsTemplate (tree_of c.self.inside.templates.now) (message_data c.args.message.now)
-all_suit c = template_suits c.self.inside.templates.now (message_data c.args.message.now) c.in-Some.template.now c.in-Some.ensures.template
-    (suits_so c.self.inside.templates.now c.deref.result.now c.in-Some.template.now.body.items c.deref-2.result.now c.args.message.now.items.items c.deref.ensures.value c.deref-2.ensures.value (c.if-not-suits_body.ensures.0 refl))
+all_suit : (c : goal.After-commit) → SuitsTemplate (tree_of c.self.inside.plan.templates.now) (message_data c.args.message.now)
+all_suit c = template_suits c.self.inside.plan.templates.now (message_data c.args.message.now) c.in-Some.template.now c.in-Some.ensures.template
+    (suits_so c.self.inside.plan.templates.now c.deref.result.now c.in-Some.template.now.body.items c.deref-2.result.now c.args.message.now.items.items c.deref.ensures.value c.deref-2.ensures.value (c.if-not-suits_body.ensures.0 refl))
 
-all_fit : (c : goal.After-commit) → FitsLimits c.self.inside.limits (slots_data c.args.message.now.items.items)
-all_fit c = subst (λ (z : List (Option Item)). FitsLimits c.self.inside.limits (slots_data z)) c.deref-3.ensures.value (c.if-not-fits_limits.ensures.0 refl)
+all_fit : (c : goal.After-commit) → FitsLimits c.self.inside.plan.limits (slots_data c.args.message.now.items.items)
+all_fit c = subst (λ (z : List (Option Item)). FitsLimits c.self.inside.plan.limits (slots_data z)) c.deref-3.ensures.value (c.if-not-fits_limits.ensures.0 refl)
 
-ruled : (c : goal.After-commit) → EncodesMessage (tree_of c.self.inside.templates.now) c.self.inside.limits c.self.inside.ledger.now (message_data c.args.message.now) c.write_message-written.new.draft.bytes.items c.commit.new.self.now
+ruled : (c : goal.After-commit) → EncodesMessage (tree_of c.self.inside.plan.templates.now) c.self.inside.plan.limits c.self.inside.work.ledger.now (message_data c.args.message.now) c.write_message-written.new.draft.bytes.items c.commit.new.self.now
 ruled c = rw c.commit.ensures.now c.in_default-written.ensures.ok
 
-encoded : (c : goal.After-commit) → IsEncoded (before c.self.inside.templates.now c.self.inside.limits c.self.inside.ledger) (message_data c.args.message.now) c.args.out.now.items (before c.self.inside.templates.now c.self.inside.limits c.commit.new.self) c.extend_from_slice.new.self.items
+encoded : (c : goal.After-commit) → IsEncoded (before c.self.inside.plan.templates.now c.self.inside.plan.limits c.self.inside.work.ledger) (message_data c.args.message.now) c.args.out.now.items (before c.self.inside.plan.templates.now c.self.inside.plan.limits c.commit.new.self) c.extend_from_slice.new.self.items
 encoded c = record {
   bytes = c.write_message-written.new.draft.bytes.items;
   appended = c.extend_from_slice.ensures.items ∙ ap (λ (b : Bool). if b then c.args.out.now.items ++ c.deref-5.result.now else c.args.out.now.items) c.if-is_err.ensures.negation ∙ ap (λ (z : List ℕ). c.args.out.now.items ++ z) c.deref-5.ensures.value;
   suits = all_suit c;
   fits = all_fit c;
   ruled = ruled c;
-  spelled = encoded_is_spelled (tree_of c.self.inside.templates.now) c.self.inside.limits c.self.inside.ledger.now (message_data c.args.message.now) c.write_message-written.new.draft.bytes.items c.commit.new.self.now
-      (distinct_ids c.self.inside.templates.now) (all_suit c) (all_fit c) (ruled c);
+  spelled = encoded_is_spelled (tree_of c.self.inside.plan.templates.now) c.self.inside.plan.limits c.self.inside.work.ledger.now (message_data c.args.message.now) c.write_message-written.new.draft.bytes.items c.commit.new.self.now
+      (distinct_ids c.self.inside.plan.templates.now) (all_suit c) (all_fit c) (ruled c);
 }
 
 pub returns-clause-ok : goal.returns-clause-ok
-returns-clause-ok c = subst (λ (e : EncoderData). IsEncoded e (message_data c.args.message.now) c.args.out.now.items (before c.self.inside.templates.now c.self.inside.limits c.commit.new.self) c.extend_from_slice.new.self.items) c.self.view_is (encoded c)
+returns-clause-ok c = subst (λ (e : EncoderData). IsEncoded e (message_data c.args.message.now) c.args.out.now.items (before c.self.inside.plan.templates.now c.self.inside.plan.limits c.commit.new.self) c.extend_from_slice.new.self.items) c.self.view_is (encoded c)
 
 pub returns-clause-told : goal.returns-clause-told
 returns-clause-told c = λ f h.
-    let refused : IsRefused (tree_of c.self.inside.templates.now) c.self.inside.limits c.self.inside.ledger.now (message_data c.args.message.now) f
+    let refused : IsRefused (tree_of c.self.inside.plan.templates.now) c.self.inside.plan.limits c.self.inside.work.ledger.now (message_data c.args.message.now) f
     = subst (λ (e : EncoderData). IsRefused (tree e) e.limits e.dictionary (message_data c.args.message.now) f) (sym c.self.view_is) h in
-    absurd (refused_is_not_encoded (tree_of c.self.inside.templates.now) c.self.inside.limits c.self.inside.ledger.now c.commit.new.self.now (message_data c.args.message.now) c.write_message-written.new.draft.bytes.items f (all_suit c) (all_fit c) (ruled c) refused)
+    absurd (refused_is_not_encoded (tree_of c.self.inside.plan.templates.now) c.self.inside.plan.limits c.self.inside.work.ledger.now c.commit.new.self.now (message_data c.args.message.now) c.write_message-written.new.draft.bytes.items f (all_suit c) (all_fit c) (ruled c) refused)

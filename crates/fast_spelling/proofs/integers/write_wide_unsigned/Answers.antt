@@ -1,0 +1,9 @@
+-- As many groups as the number takes.
+use Rattle.fast_spelling.proofs.bytes.Groups.{unsigned_means}
+use Rattle.fast_spelling.proofs.bytes.Spelling.{on_ok}
+use Rattle.fast_spelling.proofs.integers.write_wide_unsigned.Goals as goal
+
+pub returns : goal.returns
+returns c =
+    let g = c.groups.ensures in
+    on_ok c.push_groups.result c.push_groups.ensures (λ h. (h.0, h.1, unsigned_means c.args.nullable c.args.number c.raised-sent.result c.groups.result h.0 h.2 g.few g.no_more c.raised-sent.ensures.meaning))

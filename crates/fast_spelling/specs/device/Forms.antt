@@ -1,0 +1,110 @@
+-- What a form says of a node.
+use Rattle.std.specs.Prelude.{◌≡◌, ℕ, List, map, slice_get, Some}
+use Rattle.fast_value.specs.declared.kinds.Kind.{Kind}
+use Rattle.fast_value.specs.declared.kinds.Kind.TheVariants.{UInt32, Int32, UInt64, Int64, Decimal as decimal, Ascii, Unicode, Bytes}
+use Rattle.fast_tree.specs.declared.operators.Operator.{Operator}
+use Rattle.fast_tree.specs.declared.operators.Operator.TheVariants.{None as no_operator, Constant, Default, Copy, Increment, Delta, Tail}
+use Rattle.fast_tree.specs.declared.instructions.Node.{Node}
+use Rattle.fast_tree.specs.declared.instructions.Shape.{Shape}
+use Rattle.fast_tree.specs.declared.instructions.Shape.TheVariants.{Field, Decimal, Group, Sequence}
+use Rattle.fast_spelling.specs.declared.forms.Form.{Form}
+use Rattle.fast_spelling.specs.declared.forms.Form.TheVariants.{PlainUInt32, PlainInt32, PlainUInt64, PlainInt64, ConstantUInt32, ConstantInt32, ConstantUInt64, ConstantInt64, DefaultUInt32, DefaultInt32, DefaultUInt64, DefaultInt64, CopyUInt32, CopyInt32, CopyUInt64, CopyInt64, IncrementUInt32, IncrementInt32, IncrementUInt64, IncrementInt64, DeltaUInt32, DeltaInt32, DeltaUInt64, DeltaInt64, PlainAscii, ConstantAscii, DefaultAscii, CopyAscii, TailAscii, DeltaAscii, PlainUnicode, DeltaUnicode, PlainBytes, TailBytes, PlainDecimal, CopyDecimal, DeltaDecimal, Other}
+
+-- the form of a field of this type under this operator
+abbrev pub form_by : Kind → Operator → Form
+form_by UInt32 no_operator = PlainUInt32
+form_by Int32 no_operator = PlainInt32
+form_by UInt64 no_operator = PlainUInt64
+form_by Int64 no_operator = PlainInt64
+form_by UInt32 Constant = ConstantUInt32
+form_by Int32 Constant = ConstantInt32
+form_by UInt64 Constant = ConstantUInt64
+form_by Int64 Constant = ConstantInt64
+form_by UInt32 Default = DefaultUInt32
+form_by Int32 Default = DefaultInt32
+form_by UInt64 Default = DefaultUInt64
+form_by Int64 Default = DefaultInt64
+form_by UInt32 Copy = CopyUInt32
+form_by Int32 Copy = CopyInt32
+form_by UInt64 Copy = CopyUInt64
+form_by Int64 Copy = CopyInt64
+form_by UInt32 Increment = IncrementUInt32
+form_by Int32 Increment = IncrementInt32
+form_by UInt64 Increment = IncrementUInt64
+form_by Int64 Increment = IncrementInt64
+form_by UInt32 Delta = DeltaUInt32
+form_by Int32 Delta = DeltaInt32
+form_by UInt64 Delta = DeltaUInt64
+form_by Int64 Delta = DeltaInt64
+form_by Ascii no_operator = PlainAscii
+form_by Ascii Constant = ConstantAscii
+form_by Ascii Default = DefaultAscii
+form_by Ascii Copy = CopyAscii
+form_by Ascii Tail = TailAscii
+form_by Ascii Delta = DeltaAscii
+form_by Unicode no_operator = PlainUnicode
+form_by Unicode Delta = DeltaUnicode
+form_by Bytes no_operator = PlainBytes
+form_by Bytes Tail = TailBytes
+form_by decimal no_operator = PlainDecimal
+form_by decimal Copy = CopyDecimal
+form_by decimal Delta = DeltaDecimal
+form_by kind operator = Other
+
+-- the form of a node
+abbrev pub form_of : Shape → Form
+form_of (Field f) = form_by f.kind f.operator
+form_of x = Other
+
+abbrev pub forms_of : List Node → List Form
+forms_of = map (λ x. form_of x.shape)
+
+-- the shape is a field of this type under this operator
+abbrev pub IsFieldOf : Kind → Operator → Shape → Type 0
+IsFieldOf kind operator (Field f) = (f.kind ≡ kind) × (f.operator ≡ operator)
+IsFieldOf kind operator x = ⊥
+
+-- so is that of the node with this number
+abbrev pub IsFieldAt : List Node → ℕ → Kind → Operator → Type 0
+IsFieldAt nodes n kind operator = (x : Node) → slice_get nodes n ≡ Some x → IsFieldOf kind operator x.shape
+
+-- What a form says of a field, and of a node.
+abbrev pub Says : Form → Shape → Type 0
+Says PlainUInt32 x = IsFieldOf UInt32 no_operator x
+Says PlainInt32 x = IsFieldOf Int32 no_operator x
+Says PlainUInt64 x = IsFieldOf UInt64 no_operator x
+Says PlainInt64 x = IsFieldOf Int64 no_operator x
+Says ConstantUInt32 x = IsFieldOf UInt32 Constant x
+Says ConstantInt32 x = IsFieldOf Int32 Constant x
+Says ConstantUInt64 x = IsFieldOf UInt64 Constant x
+Says ConstantInt64 x = IsFieldOf Int64 Constant x
+Says DefaultUInt32 x = IsFieldOf UInt32 Default x
+Says DefaultInt32 x = IsFieldOf Int32 Default x
+Says DefaultUInt64 x = IsFieldOf UInt64 Default x
+Says DefaultInt64 x = IsFieldOf Int64 Default x
+Says CopyUInt32 x = IsFieldOf UInt32 Copy x
+Says CopyInt32 x = IsFieldOf Int32 Copy x
+Says CopyUInt64 x = IsFieldOf UInt64 Copy x
+Says CopyInt64 x = IsFieldOf Int64 Copy x
+Says IncrementUInt32 x = IsFieldOf UInt32 Increment x
+Says IncrementInt32 x = IsFieldOf Int32 Increment x
+Says IncrementUInt64 x = IsFieldOf UInt64 Increment x
+Says IncrementInt64 x = IsFieldOf Int64 Increment x
+Says DeltaUInt32 x = IsFieldOf UInt32 Delta x
+Says DeltaInt32 x = IsFieldOf Int32 Delta x
+Says DeltaUInt64 x = IsFieldOf UInt64 Delta x
+Says DeltaInt64 x = IsFieldOf Int64 Delta x
+Says PlainAscii x = IsFieldOf Ascii no_operator x
+Says ConstantAscii x = IsFieldOf Ascii Constant x
+Says DefaultAscii x = IsFieldOf Ascii Default x
+Says CopyAscii x = IsFieldOf Ascii Copy x
+Says TailAscii x = IsFieldOf Ascii Tail x
+Says DeltaAscii x = IsFieldOf Ascii Delta x
+Says PlainUnicode x = IsFieldOf Unicode no_operator x
+Says DeltaUnicode x = IsFieldOf Unicode Delta x
+Says PlainBytes x = IsFieldOf Bytes no_operator x
+Says TailBytes x = IsFieldOf Bytes Tail x
+Says PlainDecimal x = IsFieldOf decimal no_operator x
+Says CopyDecimal x = IsFieldOf decimal Copy x
+Says DeltaDecimal x = IsFieldOf decimal Delta x
+Says Other x = Unit {0}

@@ -1,0 +1,252 @@
+//! What the encoder has to do at a node, as one number: the type and the operator of its field.
+
+ghost use Rattle.std.specs.Prelude.{◌≡◌, ℕ, IfOk};
+ghost use Rattle.fast_value.specs.declared.kinds.Kind.TheVariants.{UInt32, Int32, UInt64, Int64, Decimal, Ascii, Unicode, Bytes};
+ghost use Rattle.fast_template.specs.meaning.Flat.{nodes_of};
+ghost use Rattle.fast_spelling.specs.device.Forms.{form_by, form_of, forms_of};
+
+use fast_template::{FieldInstruction, Operator, Shape, Templates};
+use fast_value::Kind;
+use std::alloc::{AllocError, Global};
+
+/// The type and the operator of a field, where the encoder has a way of its own for the two.
+#[derive(Clone, Copy, Debug, PartialEq, Eq)]
+pub enum Form {
+    /// A field of `uInt32` without operator.
+    PlainUInt32,
+    /// A field of `int32` without operator.
+    PlainInt32,
+    /// A field of `uInt64` without operator.
+    PlainUInt64,
+    /// A field of `int64` without operator.
+    PlainInt64,
+    /// A field of `uInt32` under constant.
+    ConstantUInt32,
+    /// A field of `int32` under constant.
+    ConstantInt32,
+    /// A field of `uInt64` under constant.
+    ConstantUInt64,
+    /// A field of `int64` under constant.
+    ConstantInt64,
+    /// A field of `uInt32` under default.
+    DefaultUInt32,
+    /// A field of `int32` under default.
+    DefaultInt32,
+    /// A field of `uInt64` under default.
+    DefaultUInt64,
+    /// A field of `int64` under default.
+    DefaultInt64,
+    /// A field of `uInt32` under copy.
+    CopyUInt32,
+    /// A field of `int32` under copy.
+    CopyInt32,
+    /// A field of `uInt64` under copy.
+    CopyUInt64,
+    /// A field of `int64` under copy.
+    CopyInt64,
+    /// A field of `uInt32` under increment.
+    IncrementUInt32,
+    /// A field of `int32` under increment.
+    IncrementInt32,
+    /// A field of `uInt64` under increment.
+    IncrementUInt64,
+    /// A field of `int64` under increment.
+    IncrementInt64,
+    /// A field of `uInt32` under delta.
+    DeltaUInt32,
+    /// A field of `int32` under delta.
+    DeltaInt32,
+    /// A field of `uInt64` under delta.
+    DeltaUInt64,
+    /// A field of `int64` under delta.
+    DeltaInt64,
+    /// A field of ASCII strings without operator.
+    PlainAscii,
+    /// A field of ASCII strings under constant.
+    ConstantAscii,
+    /// A field of ASCII strings under default.
+    DefaultAscii,
+    /// A field of ASCII strings under copy.
+    CopyAscii,
+    /// A field of ASCII strings under tail.
+    TailAscii,
+    /// A field of ASCII strings under delta.
+    DeltaAscii,
+    /// A field of Unicode strings without operator.
+    PlainUnicode,
+    /// A field of Unicode strings under delta.
+    DeltaUnicode,
+    /// A field of byte vectors without operator.
+    PlainBytes,
+    /// A field of byte vectors under tail.
+    TailBytes,
+    /// A field of decimals without operator.
+    PlainDecimal,
+    /// A field of decimals under copy.
+    CopyDecimal,
+    /// A field of decimals under delta.
+    DeltaDecimal,
+    /// All else: decimals by parts, groups and sequences, and fields that are met less often.
+    Other,
+}
+
+impl Form {
+    /// The form of a node.
+    fn of(shape: &Shape) -> Form
+        ensures { result ≡ form_of shape.now }
+    {
+        match shape {
+            Shape::Field(field) => Form::of_field(field),
+            Shape::Decimal { .. } | Shape::Group { .. } | Shape::Sequence { .. } => Form::Other,
+        }
+    }
+
+    /// The form of a field.
+    fn of_field(field: &FieldInstruction) -> Form
+        ensures { result ≡ form_by field.now.kind field.now.operator }
+    {
+        match field.kind {
+            Kind::UInt32 => Form::of_uint32(field.operator),
+            Kind::Int32 => Form::of_int32(field.operator),
+            Kind::UInt64 => Form::of_uint64(field.operator),
+            Kind::Int64 => Form::of_int64(field.operator),
+            Kind::Decimal => Form::of_decimal(field.operator),
+            Kind::Ascii => Form::of_ascii(field.operator),
+            Kind::Unicode => Form::of_unicode(field.operator),
+            Kind::Bytes => Form::of_bytes(field.operator),
+        }
+    }
+
+    /// The form of a field of `uInt32`.
+    fn of_uint32(operator: Operator) -> Form
+        ensures { result ≡ form_by UInt32 operator }
+    {
+        match operator {
+            Operator::None => Form::PlainUInt32,
+            Operator::Constant => Form::ConstantUInt32,
+            Operator::Default => Form::DefaultUInt32,
+            Operator::Copy => Form::CopyUInt32,
+            Operator::Increment => Form::IncrementUInt32,
+            Operator::Delta => Form::DeltaUInt32,
+            Operator::Tail => Form::Other,
+        }
+    }
+
+    /// The form of a field of `int32`.
+    fn of_int32(operator: Operator) -> Form
+        ensures { result ≡ form_by Int32 operator }
+    {
+        match operator {
+            Operator::None => Form::PlainInt32,
+            Operator::Constant => Form::ConstantInt32,
+            Operator::Default => Form::DefaultInt32,
+            Operator::Copy => Form::CopyInt32,
+            Operator::Increment => Form::IncrementInt32,
+            Operator::Delta => Form::DeltaInt32,
+            Operator::Tail => Form::Other,
+        }
+    }
+
+    /// The form of a field of `uInt64`.
+    fn of_uint64(operator: Operator) -> Form
+        ensures { result ≡ form_by UInt64 operator }
+    {
+        match operator {
+            Operator::None => Form::PlainUInt64,
+            Operator::Constant => Form::ConstantUInt64,
+            Operator::Default => Form::DefaultUInt64,
+            Operator::Copy => Form::CopyUInt64,
+            Operator::Increment => Form::IncrementUInt64,
+            Operator::Delta => Form::DeltaUInt64,
+            Operator::Tail => Form::Other,
+        }
+    }
+
+    /// The form of a field of `int64`.
+    fn of_int64(operator: Operator) -> Form
+        ensures { result ≡ form_by Int64 operator }
+    {
+        match operator {
+            Operator::None => Form::PlainInt64,
+            Operator::Constant => Form::ConstantInt64,
+            Operator::Default => Form::DefaultInt64,
+            Operator::Copy => Form::CopyInt64,
+            Operator::Increment => Form::IncrementInt64,
+            Operator::Delta => Form::DeltaInt64,
+            Operator::Tail => Form::Other,
+        }
+    }
+
+    /// The form of a field of decimals.
+    fn of_decimal(operator: Operator) -> Form
+        ensures { result ≡ form_by Decimal operator }
+    {
+        match operator {
+            Operator::None => Form::PlainDecimal,
+            Operator::Copy => Form::CopyDecimal,
+            Operator::Delta => Form::DeltaDecimal,
+            Operator::Constant | Operator::Default | Operator::Increment | Operator::Tail =>
+                Form::Other,
+        }
+    }
+
+    /// The form of a field of ASCII strings.
+    fn of_ascii(operator: Operator) -> Form
+        ensures { result ≡ form_by Ascii operator }
+    {
+        match operator {
+            Operator::None => Form::PlainAscii,
+            Operator::Constant => Form::ConstantAscii,
+            Operator::Default => Form::DefaultAscii,
+            Operator::Copy => Form::CopyAscii,
+            Operator::Tail => Form::TailAscii,
+            Operator::Delta => Form::DeltaAscii,
+            Operator::Increment => Form::Other,
+        }
+    }
+
+    /// The form of a field of Unicode strings.
+    fn of_unicode(operator: Operator) -> Form
+        ensures { result ≡ form_by Unicode operator }
+    {
+        match operator {
+            Operator::None => Form::PlainUnicode,
+            Operator::Delta => Form::DeltaUnicode,
+            Operator::Constant
+            | Operator::Default
+            | Operator::Copy
+            | Operator::Increment
+            | Operator::Tail => Form::Other,
+        }
+    }
+
+    /// The form of a field of byte vectors.
+    fn of_bytes(operator: Operator) -> Form
+        ensures { result ≡ form_by Bytes operator }
+    {
+        match operator {
+            Operator::None => Form::PlainBytes,
+            Operator::Tail => Form::TailBytes,
+            Operator::Constant
+            | Operator::Default
+            | Operator::Copy
+            | Operator::Increment
+            | Operator::Delta => Form::Other,
+        }
+    }
+}
+
+/// The forms of the nodes of a set, by their numbers.
+///
+/// # Errors
+///
+/// Memory was refused.
+pub fn forms_of(alloc: Global, templates: &Templates) -> Result<Vec<Form>, AllocError>
+    ensures { IfOk result (λ v. v.items ≡ forms_of (nodes_of templates.now)) }
+{
+    let mut forms = Vec::with_capacity(alloc, templates.nodes() as usize)?;
+    for node in 0..templates.nodes() {
+        forms.push(Form::of(&templates.node(node).shape))?;
+    }
+    Ok(forms)
+}

@@ -1,0 +1,38 @@
+//! What an encoder goes by through all messages, and the message in the making.
+
+ghost use Rattle.std.specs.Prelude.{◌≡◌};
+ghost use Rattle.fast_template.specs.meaning.Flat.{nodes_of};
+ghost use Rattle.fast_tree.specs.device.Bodies.{AreNodeWidths};
+ghost use Rattle.fast_spelling.specs.device.Forms.{forms_of};
+
+use crate::draft::Draft;
+use crate::forms::Form;
+use crate::ledger::Ledger;
+use fast_template::Templates;
+use fast_value::Limits;
+
+/// What an encoder goes by through all messages.
+#[derive(Drop)]
+pub struct Plan<'t> {
+    /// The template set.
+    pub templates: &'t Templates,
+    /// The limits.
+    pub limits: Limits,
+    /// How many presence bits the segment within each node uses, by the node's number.
+    pub widths: Vec<usize>,
+    /// The form of each node, by its number.
+    pub forms: Vec<Form>,
+    ghost widths_fit: { AreNodeWidths (nodes_of templates.now) widths.items },
+    ghost forms_fit: { forms.items ≡ forms_of (nodes_of templates.now) },
+}
+
+/// The message in the making, and the dictionary before and behind it.
+#[derive(Drop)]
+pub struct Work {
+    /// The bytes and bits so far.
+    pub draft: Draft,
+    /// The dictionary.
+    pub ledger: Ledger,
+    /// How many more elements the message may have.
+    pub room: u32,
+}
