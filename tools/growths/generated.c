@@ -167,7 +167,7 @@ static void run_stream(const struct row *r) {
 }
 
 int main(void) {
-    static struct row row = {.set = "worked", .max_text = 1024, .max_elements = 1000, .max_total = 1000};
+    static struct row row = {.set = "vectors", .max_text = 1024, .max_elements = 1000, .max_total = 1000};
     if (!read_set(&row)) return 2;
     for (int i = 0; i < stream_count && failures < 10; i++) run_stream(&row);
     printf("generated: %d streams of %" PRIu64 " messages, cut behind each of %" PRIu64 " bytes, %" PRIu64 " failures\n", stream_count,

@@ -132,7 +132,7 @@ static uint64_t next_random(void) {
 
 // Puts other bytes at some places of the row's stream, many times where the set is the built-in one, and cuts what comes of it.
 static void damage(const struct row *r) {
-    for (int i = strcmp(r->set, "worked") ? 8 : 20; i > 0 && r->stream_len; i--) {
+    for (int i = strcmp(r->set, "vectors") ? 8 : 20; i > 0 && r->stream_len; i--) {
         static struct row damaged;
         damaged = *r;
         for (uint64_t left = 1 + next_random() % 3; left; left--) {

@@ -96,14 +96,26 @@ static bool read_stream(struct row *r, const char *hex) {
     return true;
 }
 
+// Of a source that has one raw text, the text, without the line break at its front.
+static bool keep_raw_text(struct row *r) {
+    static const char front[] = "r#\"\n";
+    char *all = (char *)r->templates, *text = strstr(all, front), *end = text ? strstr(text, "\"#") : NULL;
+    if (!end) return false;
+    text += sizeof front - 1;
+    r->templates_len = end - text;
+    memmove(all, text, r->templates_len);
+    return true;
+}
+
 static bool read_set(struct row *r) {
+    bool is_built_in = !strcmp(r->set, "vectors");
     char path[80];
-    snprintf(path, sizeof path, "sets/%s.toml", r->set);
+    snprintf(path, sizeof path, is_built_in ? "../../crates/fast_template/src/%s.rt" : "sets/%s.toml", r->set);
     FILE *file = fopen(path, "rb");
     if (!file) return false;
-    r->templates_len = fread(r->templates, 1, sizeof r->templates, file);
+    r->templates_len = fread(r->templates, 1, sizeof r->templates - 1, file);
     fclose(file);
-    return r->templates_len > 0 && r->templates_len < sizeof r->templates;
+    return r->templates_len > 0 && r->templates_len < sizeof r->templates - 1 && (!is_built_in || keep_raw_text(r));
 }
 
 static bool read_row(struct row *r, const char *line) {

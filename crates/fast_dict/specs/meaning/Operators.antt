@@ -29,6 +29,7 @@ abbrev pub gives : ScalarData → PreviousData → Result Outcome Code
 gives v p = Ok (record { value = Some v; next = p })
 
 -- the value, which the entry then holds
+-- FAST 1.1: Template Definition, Dictionaries and Previous Values.
 abbrev pub keeps : Kind → ScalarData → Result Outcome Code
 keeps kind v = Ok (record { value = Some v; next = assigned kind v })
 
@@ -94,6 +95,7 @@ fixed (Some v) p = gives v p
 fixed None p = gives_none p
 
 -- what a text's tail or delta is joined to, or a number's delta added to, before anything is known of the entry
+-- FAST 1.1: Template Definition, Delta and Tail Operators.
 abbrev pub zero_in : Kind → Family → ScalarData
 zero_in kind (integers range) = value_of_integer kind (pos 0)
 zero_in kind decimals = Dec (pos 0) (pos 0)
@@ -124,6 +126,7 @@ abbrev pub with_tail : List ℕ → List ℕ → List ℕ
 with_tail base part = if nat_le (length part) (length base) then take (length base - length part) base ++ part else part
 
 -- What a text delta keeps of its base, and on which side of it the part goes.
+-- FAST 1.1: Template Definition, Delta Operator.
 pub data Kept : Type 0 where
   append_to : List ℕ → Kept
   prepend_to : List ℕ → Kept
@@ -135,6 +138,7 @@ kept_of base (pos k) = if nat_le k (length base) then Ok (append_to (take (lengt
 kept_of base (negsuc k) = if nat_le k (length base) then Ok (prepend_to (drop k base)) else Err D7
 
 -- the length of what is kept
+-- FAST 1.1: Template Definition, Delta Operator.
 abbrev pub kept_length : Kept → ℕ
 kept_length (append_to v) = length v
 kept_length (prepend_to v) = length v

@@ -17,14 +17,17 @@ abbrev pub common_back : List ℕ → List ℕ → ℕ
 common_back xs ys = common_front (reverse xs) (reverse ys)
 
 -- The delta that appends to what is kept of the base: of v, what stands behind the common front.
+-- FAST 1.1: Template Definition, Delta Operator.
 abbrev pub appending : List ℕ → List ℕ → Sent
 appending base v = text_delta (pos (length base - common_front base v)) (drop (common_front base v) v)
 
 -- The delta that prepends: of v, what stands before the common back.
+-- FAST 1.1: Template Definition, Delta Operator.
 abbrev pub prepending : List ℕ → List ℕ → Sent
 prepending base v = text_delta (negsuc (length base - common_back base v)) (take (length v - common_back base v) v)
 
 -- Where both forms send parts of one length, the appending one wins: a text is sent for the front only if more is common at the back.
+-- FAST 1.1: Template Definition, Delta Operator.
 abbrev pub IsTextDelta : List ℕ → List ℕ → Sent → Type 0
 IsTextDelta base v item =
     (common_back base v ≤ common_front base v) × (item ≡ appending base v)
@@ -32,12 +35,14 @@ IsTextDelta base v item =
 
 -- A tail of the base's length begins where the two differ. A longer value is the tail itself, and a shorter one
 -- has none.
+-- FAST 1.1: Template Definition, Tail Operator.
 abbrev pub IsTail : List ℕ → List ℕ → List ℕ → Type 0
 IsTail base v part =
     (length v ≡ length base) × (part ≡ drop (common_front base v) v)
     ⊎ (length base < length v) × (part ≡ v)
 
 -- the delta from the base to the value, in each family
+-- FAST 1.1: Template Definition, Delta Operator.
 abbrev pub IsDelta : Family → ScalarData → ScalarData → Sent → Type 0
 IsDelta (integers range) base v item = item ≡ integer_delta (integer_of v -ℤ integer_of base)
 IsDelta decimals base v item = item ≡ decimal_delta (exponent_of v -ℤ exponent_of base) (mantissa_of v -ℤ mantissa_of base)
@@ -45,6 +50,7 @@ IsDelta texts base v item = IsTextDelta (text_of base) (text_of v) item
 
 -- What stands in the stream for a value, or for absence: NULL for absence, the initial value of a constant without a
 -- byte, a delta or tail on a base that is there and of the field's kind, and else the value itself.
+-- FAST 1.1: Template Definition, Field Operators.
 abbrev pub SentBy : Operator → FieldData → PreviousData → Option ScalarData → Sent → Type 0
 SentBy Constant f p v item = (v ≡ f.initial) × (item ≡ nothing)
 SentBy operator f p None item = item ≡ null
@@ -53,10 +59,12 @@ SentBy Tail f p (Some v) item = (base : ScalarData) × (part : List ℕ) × (tai
 SentBy operator f p (Some v) item = item ≡ value v
 
 -- what stands in the stream for the field's value, or for its absence
+-- FAST 1.1: Template Definition, Field Operators.
 abbrev pub SentFor : FieldData → PreviousData → Option ScalarData → Sent → Type 0
 SentFor f p v item = SentBy f.operator f p v item
 
 -- With the bit clear, nothing sent gives just this value or absence.
+-- FAST 1.1: Template Definition, Field Operators.
 abbrev pub GoesUnsent : FieldData → PreviousData → Option ScalarData → Type 0
 GoesUnsent f p v = (next : PreviousData) × (uses_bit f ≡ true) × Op f p false nothing v next
 

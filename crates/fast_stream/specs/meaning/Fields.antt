@@ -28,16 +28,19 @@ text Ascii nullable room = ascii_text nullable room give
 text kind nullable room = integer (unsigned_range 32) nullable D2 (sized room)
 
 -- an integer, or NULL, as an item of an integer kind
+-- FAST 1.1: Transfer Encoding, Nullable Types.
 abbrev pub sent_integer : Kind → Option ℤ → Sent
 sent_integer kind None = null
 sent_integer kind (Some x) = value (value_of_integer kind x)
 
 -- a text, or NULL, as an item of a text kind
+-- FAST 1.1: Transfer Encoding, Nullable Types.
 abbrev pub sent_text : Kind → Option (List ℕ) → Sent
 sent_text kind None = null
 sent_text kind (Some v) = value (value_of_text kind v)
 
 -- the mantissa of a decimal whose exponent is not NULL
+-- FAST 1.1: Transfer Encoding, Scaled Numbers.
 abbrev pub sent_decimal : ℤ → Option ℤ → Sent
 sent_decimal e None = null
 sent_decimal e (Some m) = value (Dec e m)
@@ -49,6 +52,7 @@ decimal_from None = give null
 decimal_from (Some e) = integer (signed_range 63) false R1 (λ m. give (sent_decimal e m))
 
 -- the same in each family
+-- FAST 1.1: Transfer Encoding, Field Instructions.
 abbrev pub item_in : Family → Bounds → FieldData → Grammar Sent
 item_in (integers range) l f = integer range f.optional D2 (λ x. give (sent_integer f.kind x))
 item_in decimals l f = integer exponent_range f.optional R1 decimal_from
@@ -66,6 +70,7 @@ integer_change f p None = of_result (gives_none p)
 integer_change f p (Some k) = of_result (integer_step f p k)
 
 -- a decimal behind its mantissa delta
+-- FAST 1.1: Template Definition, Delta Operator.
 abbrev pub mantissa_change : FieldData → PreviousData → ℤ → Option ℤ → Grammar Outcome
 mantissa_change f p e None = of_result (gives_none p)
 mantissa_change f p e (Some j) = of_result (mantissa_step f p e j)
@@ -79,6 +84,7 @@ decimal_change f p (Some k) =
     integer delta_range false D2 (mantissa_change f p e))
 
 -- a text behind the part of its delta
+-- FAST 1.1: Template Definition, Delta Operator.
 abbrev pub part_change : FieldData → PreviousData → Kept → Option (List ℕ) → Grammar Outcome
 part_change f p kept None = of_result (gives_none p)
 part_change f p kept (Some part) = of_result (text_step f kept part)
@@ -92,6 +98,7 @@ text_change l f p (Some k) =
     text f.kind false (l.max_text - kept_length kept) >>= part_change f p kept)
 
 -- a delta in each family
+-- FAST 1.1: Template Definition, Delta Operator.
 abbrev pub change_in : Family → Bounds → FieldData → PreviousData → Grammar Outcome
 change_in (integers range) l f p = integer delta_range f.optional D2 (integer_change f p)
 change_in decimals l f p = integer delta_range f.optional D2 (decimal_change f p)

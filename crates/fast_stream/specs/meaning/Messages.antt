@@ -34,6 +34,7 @@ abbrev pub with_dictionary : Dictionary → Context → Context
 with_dictionary d c = record c { dictionary = d }
 
 -- a value, or absence, and the state behind it
+-- FAST 1.1: Transfer Encoding, Field Instructions.
 abbrev pub Found : Type 0
 Found = Option ScalarData × State
 
@@ -114,12 +115,14 @@ elements inside (suc n) c =
     hand ElementEnd (elements inside n r.1 >>= (λ rest. give (element r.0 rest.0, rest.1)))))
 
 -- a group that is there
+-- FAST 1.1: Template Definition, Group Field Instruction.
 abbrev pub group_from : ℕ → Segment → State → Grammar Read
 group_from n inside s =
     hand (GroupStart n) (inside s.context >>= (λ r.
     hand GroupEnd (give (Some (group_item r.0), record s { context = r.1 }))))
 
 -- a group, if it is there
+-- FAST 1.1: Template Definition, Group Field Instruction.
 abbrev pub group_if : Bool → ℕ → Segment → State → Grammar Read
 group_if true n inside s = group_from n inside s
 group_if false n inside s = give (None, s)
@@ -166,11 +169,13 @@ unfoldable mutual
   body_term l (step i is) s = instruction l i s >>= (λ r. body_term l is r.1 >>= (λ rest. give (with_slot r.0 rest.0, rest.1)))
 
 -- a template's identifier, if it has one, is this one
+-- FAST 1.1: Transfer Encoding, Template Identifier.
 abbrev pub has_id : Option ℕ → ℕ → Bool
 has_id None id = false
 has_id (Some k) id = nat_eq k id
 
 -- the template with an identifier, and its number, counted from n on
+-- FAST 1.1: Transfer Encoding, Template Identifier; Error Codes, D9.
 abbrev pub with_id : ℕ → ℕ → List TemplateData → Result (ℕ × TemplateData) Code
 with_id id n [] = Err D9
 with_id id n (t ∷ ts) = if has_id t.id id then Ok (n, t) else with_id id (suc n) ts
@@ -188,12 +193,14 @@ reset_if true s = record s { context = with_dictionary (reset s.context.dictiona
 reset_if false s = s
 
 -- a message of a template from the state behind its identifier on
+-- FAST 1.1: Transfer Encoding, Messages.
 abbrev pub message_of : Bounds → ℕ → TemplateData → State → Grammar (MessageData × Dictionary)
 message_of l n t s =
     hand (MessageStart n) (body_term l t.body (reset_if t.reset s) >>= (λ r.
     hand MessageEnd (give (record { template = n; slots = r.0 }, r.1.context.dictionary))))
 
 -- Behind the identifier: a template that has it, whose segment doesn't want a narrower map, and its instructions.
+-- FAST 1.1: Transfer Encoding, Messages.
 abbrev pub message_behind : Tree → Bounds → List ℕ → Found → Grammar (MessageData × Dictionary)
 message_behind t l m id =
     of_result (template_of t id.0) >>= (λ u.

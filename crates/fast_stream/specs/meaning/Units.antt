@@ -25,6 +25,7 @@ integer strict range nullable outside w es cut = HaveNoStop w × (length w < 10)
 integer strict range nullable outside w es (wrong c) = WrongInt strict range nullable outside w c × (es ≡ [])
 
 -- the first byte is zero
+-- FAST 1.1: Transfer Encoding, ASCII Strings.
 abbrev pub BeginsWithZero : List ℕ → Type 0
 BeginsWithZero w = (rest : List ℕ) × (w ≡ 0x00 ∷ rest)
 

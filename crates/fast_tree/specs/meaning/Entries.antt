@@ -31,6 +31,7 @@ pub record IsPlace (s : Scope) (name : List ℕ) (p : Place) : Type 0 where
   pub is_named : name ≢ codes "global" → name ≢ codes "template" → p ≡ named name
 
 -- the key and part of an entry, by the key that is written
+-- FAST 1.1: Template Definition, Dictionaries and Previous Values.
 abbrev pub IsUnderKey : Option (List ℕ) → Use → Entry → Type 0
 IsUnderKey None u e = (e.key ≡ u.name) × (e.part ≡ u.part)
 IsUnderKey (Some key) u e = (e.key ≡ key) × (e.part ≡ whole)
@@ -55,6 +56,7 @@ EntryNumber entries s u None = keeps_value u.written.operator ≡ false
 EntryNumber entries s u (Some n) = (k : ℕ) × (e : Entry) × (keeps_value u.written.operator ≡ true) × IsEntry s u e × (slice_get entries k ≡ Some e) × (n ≡ suc k)
 
 -- the scope of a template's text
+-- FAST 1.1: Template Definition, Dictionaries and Previous Values.
 abbrev pub scope_of : ℕ → DeclaredTemplate → Scope
 scope_of n t = record { template = n; dictionary = t.dictionary }
 

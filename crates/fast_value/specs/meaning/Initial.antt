@@ -7,11 +7,13 @@ use Rattle.fast_value.specs.declared.kinds.Kind.TheVariants.{UInt32, Int32, UInt
 use Rattle.fast_value.specs.meaning.Kinds.{ScalarData, Dec, AsciiText, UnicodeText, ByteVector, value_of_integer}
 
 -- the number that decimal digits stand for
+-- FAST 1.1: Template Definition, Type Conversion.
 abbrev pub digits_value : List ℕ → ℕ
 digits_value [] = 0
 digits_value (d ∷ ds) = (d - 0x30) * 10 ^ length ds + digits_value ds
 
 -- 1 to 20 decimal digits
+-- FAST 1.1: Template Definition, Type Conversion.
 abbrev pub IsNumeral : List ℕ → Type 0
 IsNumeral ds = All IsAsciiDigit ds × (1 ≤ length ds) × (length ds ≤ 20)
 
@@ -26,6 +28,7 @@ abbrev pub IsDecimal : List ℕ → ℤ → ℤ → Type 0
 IsDecimal text e m = IsInteger (signed_range 63) text m × (e ≡ pos 0) ⊎ ((front back : List ℕ) × (text ≡ front ++ 0x65 ∷ back) × IsInteger (signed_range 63) front m × IsInteger exponent_range back e)
 
 -- The character is the hexadecimal digit, in either case, of the number.
+-- FAST 1.1: Template Definition, Type Conversion.
 abbrev pub IsHexDigit : ℕ → ℕ → Type 0
 IsHexDigit c n = (n < 10) × (c ≡ 0x30 + n) ⊎ (10 ≤ n) × (n < 16) × (c ≡ 0x57 + n) ⊎ (10 ≤ n) × (n < 16) × (c ≡ 0x37 + n)
 
@@ -37,6 +40,7 @@ IsHex (c ∷ []) v = ⊥
 IsHex (c ∷ d ∷ text) v = (high low : ℕ) × (rest : List ℕ) × IsHexDigit c high × IsHexDigit d low × IsHex text rest × (v ≡ (16 * high + low) ∷ rest)
 
 -- the text is an integer of the kind in digits
+-- FAST 1.1: Template Definition, Type Conversion.
 abbrev pub IsNumber : Range → Kind → List ℕ → ScalarData → Type 0
 IsNumber range kind text v = (x : ℤ) × IsInteger range text x × (v ≡ value_of_integer kind x)
 

@@ -34,12 +34,14 @@ family Unicode = texts
 family Bytes = texts
 
 -- an integer as a value of an integer kind
+-- FAST 1.1: Template Definition, Primitive Field Types.
 abbrev pub value_of_integer : Kind → ℤ → ScalarData
 value_of_integer UInt32 (pos n) = U n
 value_of_integer UInt64 (pos n) = U n
 value_of_integer kind x = I x
 
 -- a text as a value of a text kind
+-- FAST 1.1: Template Definition, Primitive Field Types.
 abbrev pub value_of_text : Kind → List ℕ → ScalarData
 value_of_text Unicode v = UnicodeText v
 value_of_text Bytes v = ByteVector v

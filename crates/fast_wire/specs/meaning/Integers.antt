@@ -14,10 +14,12 @@ abbrev pub unsigned_range : ℕ → Range
 unsigned_range bits = record { is_signed = false; low = pos 0; high = pos (2 ^ bits) -ℤ pos 1 }
 
 -- the integers from 0 to a greatest one
+-- FAST 1.1: Transfer Encoding, Integers.
 abbrev pub unsigned_up_to : ℕ → Range
 unsigned_up_to top = record { is_signed = false; low = pos 0; high = pos top }
 
 -- the integers from a least to a greatest one, in two's complement
+-- FAST 1.1: Transfer Encoding, Integers.
 abbrev pub signed_between : ℤ → ℤ → Range
 signed_between low high = record { is_signed = true; low = low; high = high }
 

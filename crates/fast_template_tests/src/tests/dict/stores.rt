@@ -12,46 +12,16 @@ use std::process::Abort;
 use std::test::Fail;
 
 /// A command of each kind, with values of each form, and a value that replaces another. Entries 1 and 3 take texts.
+#[rattlefmt::skip]
 const COMMANDS: [StoreCommand<'static>; 9] = [
-    StoreCommand::Set {
-        entry: 0,
-        kind: Kind::UInt32,
-        scalar: Scalar::U(7),
-    },
-    StoreCommand::Set {
-        entry: 1,
-        kind: Kind::Ascii,
-        scalar: Scalar::Ascii(b"GEH6"),
-    },
-    StoreCommand::Set {
-        entry: 3,
-        kind: Kind::Unicode,
-        scalar: Scalar::Unicode(b"\xC3\xA9"),
-    },
-    StoreCommand::Set {
-        entry: 1,
-        kind: Kind::Bytes,
-        scalar: Scalar::Bytes(b"0123456789ABCDEF"),
-    },
-    StoreCommand::Set {
-        entry: 2,
-        kind: Kind::Decimal,
-        scalar: Scalar::Dec {
-            exponent: -1,
-            mantissa: 15,
-        },
-    },
+    StoreCommand::Set { entry: 0, kind: Kind::UInt32, scalar: Scalar::U(7) },
+    StoreCommand::Set { entry: 1, kind: Kind::Ascii, scalar: Scalar::Ascii(b"GEH6") },
+    StoreCommand::Set { entry: 3, kind: Kind::Unicode, scalar: Scalar::Unicode(b"\xC3\xA9") },
+    StoreCommand::Set { entry: 1, kind: Kind::Bytes, scalar: Scalar::Bytes(b"0123456789ABCDEF") },
+    StoreCommand::Set { entry: 2, kind: Kind::Decimal, scalar: Scalar::Dec { exponent: -1, mantissa: 15 } },
     StoreCommand::SetEmpty { entry: 2 },
-    StoreCommand::Set {
-        entry: 2,
-        kind: Kind::Int64,
-        scalar: Scalar::I(-5),
-    },
-    StoreCommand::Set {
-        entry: 4,
-        kind: Kind::Int32,
-        scalar: Scalar::I(3),
-    },
+    StoreCommand::Set { entry: 2, kind: Kind::Int64, scalar: Scalar::I(-5) },
+    StoreCommand::Set { entry: 4, kind: Kind::Int32, scalar: Scalar::I(3) },
     StoreCommand::SetEmpty { entry: 4 },
 ];
 

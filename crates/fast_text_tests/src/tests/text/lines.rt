@@ -27,68 +27,31 @@ fields = [
     set_of(alloc, text)
 }
 
+#[rattlefmt::skip]
 const EVENTS: &[Event<'static>] = &[
     MessageStart { template: 0 },
-    Field {
-        node: 0,
-        value: U(5),
-    },
+    Field { node: 0, value: U(5) },
     GroupStart { node: 1 },
-    Field {
-        node: 2,
-        value: Bytes(&[0x01, 0xff]),
-    },
+    Field { node: 2, value: Bytes(&[0x01, 0xff]) },
     GroupEnd,
     SequenceStart { node: 3, count: 1 },
     ElementStart,
-    Field {
-        node: 4,
-        value: Ascii(b"AB"),
-    },
-    Field {
-        node: 5,
-        value: I(-98),
-    },
+    Field { node: 4, value: Ascii(b"AB") },
+    Field { node: 5, value: I(-98) },
     ElementEnd,
     SequenceEnd,
     MessageEnd,
 ];
 
+#[rattlefmt::skip]
 const VALUES: &[Event<'static>] = &[
-    Field {
-        node: 0,
-        value: U(u64::MAX),
-    },
-    Field {
-        node: 0,
-        value: I(i64::MAX),
-    },
-    Field {
-        node: 0,
-        value: Dec {
-            exponent: -1,
-            mantissa: -15,
-        },
-    },
-    Field {
-        node: 0,
-        value: Dec {
-            exponent: 63,
-            mantissa: i64::MIN,
-        },
-    },
-    Field {
-        node: 0,
-        value: Bytes(&[]),
-    },
-    Field {
-        node: 0,
-        value: Ascii(b""),
-    },
-    Field {
-        node: 0,
-        value: Unicode(b"\"\\\x00\x1f\x7f\xc3\xa9 a"),
-    },
+    Field { node: 0, value: U(u64::MAX) },
+    Field { node: 0, value: I(i64::MAX) },
+    Field { node: 0, value: Dec { exponent: -1, mantissa: -15 } },
+    Field { node: 0, value: Dec { exponent: 63, mantissa: i64::MIN } },
+    Field { node: 0, value: Bytes(&[]) },
+    Field { node: 0, value: Ascii(b"") },
+    Field { node: 0, value: Unicode(b"\"\\\x00\x1f\x7f\xc3\xa9 a") },
 ];
 
 /// A vector that is written in more than one piece.
