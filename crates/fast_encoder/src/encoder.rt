@@ -177,10 +177,11 @@ impl<'t> Encoder<'t> {
         if !fits_limits(self.plan.limits, &message.items) {
             return Err(EncodeFault::E4);
         }
+        let plan = &self.plan;
         let written = write_message(
-            self.plan.templates,
-            self.plan.limits,
-            &self.plan.widths,
+            plan.templates,
+            plan.limits,
+            &plan.widths,
             id,
             message,
             &mut self.work.draft,
