@@ -1,6 +1,5 @@
-//! The tests of fast_command and fast_convert, a crate of their own so that each of these is proved once: streams and what is shown
-//! of them, the lines of a set, words and their plans, and how runs end; lines and the streams that are written of them, there and back;
-//! and readers and writers that fail. They stand in one crate, since what a crate of tests links is dear to prove, and they link the same.
+//! The tests of fast_command, a crate of their own so that fast_command is proved once: streams and what is shown of them, the lines
+//! of a set, words and their plans, and how runs end.
 #![tactic(auto)]
 
 #[cfg(test)]

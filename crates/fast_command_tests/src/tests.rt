@@ -4,7 +4,6 @@
 //! contract that the tests call.
 
 mod check;
-mod convert;
 mod devices;
 mod faults;
 mod show;
@@ -13,9 +12,7 @@ mod texts;
 mod vectors;
 mod words;
 
-use fast_command::{RunFault, ShowEnd, built_in, run_show, show_all};
 use fast_template::Templates;
-use fast_text::{Source, Target};
 use fast_value::Limits;
 use std::alloc::Global;
 use std::process::Abort;
@@ -31,54 +28,6 @@ const LENIENT: Limits = Limits {
 
 fn set_of(alloc: Global, text: &str) -> Result<Templates, Fail> {
     Ok(Templates::read(alloc, text)?)
-}
-
-/// The built-in set.
-fn built_in_set(alloc: Global) -> Result<Templates, Fail> {
-    match built_in(alloc) {
-        Ok(set) => Ok(set),
-        Err(_) => Err(Fail::from("there is no memory")),
-    }
-}
-
-/// Shows a stream, in at most so many reads.
-fn show_stream<S: Source, T: Target>(
-    alloc: Global,
-    set: &Templates,
-    limits: Limits,
-    is_hex: bool,
-    max_reads: u32,
-    source: &mut S,
-    target: &mut T,
-) -> Result<ShowEnd, RunFault> {
-    run_show(
-        alloc,
-        set,
-        limits,
-        is_hex,
-        u64::from(max_reads),
-        source,
-        target,
-    )
-}
-
-/// Shows a stream of bytes, in at most so many reads, with a last flush.
-fn show_to_the_end<S: Source, T: Target>(
-    alloc: Global,
-    set: &Templates,
-    max_reads: u32,
-    source: &mut S,
-    target: &mut T,
-) -> Result<ShowEnd, RunFault> {
-    show_all(
-        alloc,
-        set,
-        LENIENT,
-        false,
-        u64::from(max_reads),
-        source,
-        target,
-    )
 }
 
 /// One comparison, of what a test names so.

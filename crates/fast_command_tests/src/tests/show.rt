@@ -1,10 +1,10 @@
 //! Streams as lines.
 
 use super::sinks::{Drip, Flushed, Lines};
-use super::{LENIENT, built_in_set, expect, set_of, show_stream, show_to_the_end};
-use fast_command::{RunFault, ShowEnd};
+use super::{LENIENT, expect, set_of};
+use fast_command::{RunFault, ShowEnd, built_in, run_show, show_all};
 use fast_template::Templates;
-use fast_text::{FromBytes, Target, ToBytes};
+use fast_text::{FromBytes, Source, Target, ToBytes};
 use fast_value::Limits;
 use std::alloc::{AllocError, Global};
 use std::process::Abort;
@@ -32,6 +32,27 @@ struct Stream<'b> {
     is_hex: bool,
 }
 
+/// Shows a stream, in at most so many reads.
+fn show<S: Source, T: Target>(
+    alloc: Global,
+    set: &Templates,
+    limits: Limits,
+    is_hex: bool,
+    max_reads: u32,
+    source: &mut S,
+    target: &mut T,
+) -> Result<ShowEnd, RunFault> {
+    run_show(
+        alloc,
+        set,
+        limits,
+        is_hex,
+        u64::from(max_reads),
+        source,
+        target,
+    )
+}
+
 /// What a run answered, with no clause that says how `Debug` writes it.
 fn told(alloc: Global, found: &Result<ShowEnd, RunFault>) -> Result<String, AllocError> {
     format!(in alloc; "{found:?}")
@@ -50,7 +71,7 @@ fn expect_shown(
     let mut cells = [0; 512];
     let mut target = ToBytes::new(&mut cells);
     let mut source = FromBytes::new(stream.bytes);
-    let found = show_stream(
+    let found = show(
         alloc,
         set,
         limits,
@@ -210,7 +231,7 @@ C0 8G | Err(BadHex(4)) |";
 
 #[test]
 fn streams_of_the_built_in_set(rt: HostRuntime) -> Result<(), Fail> {
-    let set = built_in_set(rt.alloc())?;
+    let set = built_in(rt.alloc())?;
     expect_rows(&rt, rt.alloc(), &set, LENIENT, BUILT_IN_ROWS)
 }
 
@@ -260,7 +281,7 @@ fn nested_front(alloc: Global, len: usize, decided: usize) -> Result<(String, St
 #[test]
 fn a_nested_message_cut_anywhere(rt: HostRuntime) -> Result<(), Fail> {
     let alloc = rt.alloc();
-    let set = built_in_set(alloc)?;
+    let set = built_in(alloc)?;
     for (len, decided) in DECIDED.into_iter().enumerate() {
         let (end, lines) = nested_front(alloc, len, decided)?;
         let stream = Stream {
@@ -320,7 +341,7 @@ fn reads_come_to_an_end(rt: HostRuntime) -> Result<(), Fail> {
         let mut source = drip(fails_at);
         let mut cells = [0; 512];
         let mut target = ToBytes::new(&mut cells);
-        let end = show_stream(
+        let end = show(
             rt.alloc(),
             &set,
             LENIENT,
@@ -348,7 +369,7 @@ fn a_writer_that_fails_leaves_a_front(rt: HostRuntime) -> Result<(), Fail> {
         let (cells, _) = cells.split_at_mut(room.min(64));
         let mut target = ToBytes::new(cells);
         let mut source = FromBytes::new(b"C0 81 39 45 A3 C0");
-        let end = show_stream(
+        let end = show(
             rt.alloc(),
             &set,
             LENIENT,
@@ -375,7 +396,7 @@ fn a_long_stream_is_shown_whole(rt: HostRuntime) -> Result<(), Fail> {
     }
     let mut source = FromBytes::new(stream.as_slice());
     let mut target = Lines { count: 0 };
-    let end = show_stream(
+    let end = show(
         rt.alloc(),
         &set,
         LENIENT,
@@ -402,7 +423,7 @@ fn lines_can_be_seen_before_each_read(rt: HostRuntime) -> Result<(), Fail> {
             fails_at,
             failed: false,
         };
-        let end = show_stream(
+        let end = show(
             rt.alloc(),
             &set,
             LENIENT,
@@ -419,7 +440,7 @@ fn lines_can_be_seen_before_each_read(rt: HostRuntime) -> Result<(), Fail> {
 
 #[test]
 fn a_failure_of_the_last_flush_is_told(rt: HostRuntime) -> Result<(), Fail> {
-    let set = built_in_set(rt.alloc())?;
+    let set = built_in(rt.alloc())?;
     for (fails_at, due) in [(3, Err(RunFault::Write)), (4, Ok(ShowEnd::Good))] {
         let mut source = FromBytes::new(b"\xc0\x81\x39\x45\xa3");
         let mut target = Flushed {
@@ -427,7 +448,15 @@ fn a_failure_of_the_last_flush_is_told(rt: HostRuntime) -> Result<(), Fail> {
             fails_at,
             failed: false,
         };
-        let end = show_to_the_end(rt.alloc(), &set, 6, &mut source, &mut target);
+        let end = show_all(
+            rt.alloc(),
+            &set,
+            LENIENT,
+            false,
+            6,
+            &mut source,
+            &mut target,
+        );
         expect(&rt, end == due && target.flushes == 3, "last flush", 3);
     }
     Ok(())

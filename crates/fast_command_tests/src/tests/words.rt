@@ -1,7 +1,7 @@
 //! Words, and what they ask for.
 
 use super::expect;
-use clap::error::{Error, ErrorKind};
+use clap::error::ErrorKind;
 use fast_command::{BUILT_IN, Plan, Task, plan};
 use std::alloc::Global;
 use std::process::Abort;
@@ -19,11 +19,6 @@ const DEFAULTS: Plan<'static> = Plan {
     max_total: 1000,
 };
 
-/// What words ask for. Without a contract, so that a call is cheap to prove.
-fn plan_of<'a>(alloc: Global, words: &'a [&'a str]) -> Result<Plan<'a>, Error> {
-    plan(alloc, words)
-}
-
 /// These words ask for this.
 fn expect_plan(
     rt: &impl Abort,
@@ -31,7 +26,7 @@ fn expect_plan(
     words: &[&str],
     wanted: Plan<'_>,
 ) -> Result<(), Fail> {
-    let Ok(found) = plan_of(alloc, words) else {
+    let Ok(found) = plan(alloc, words) else {
         return Err(Fail::from("the words are refused"));
     };
     expect(rt, found == wanted, "words", words.len());
@@ -46,7 +41,7 @@ fn expect_refusal(
     kind: ErrorKind,
     status: i32,
 ) -> Result<(), Fail> {
-    let Err(error) = plan_of(alloc, words) else {
+    let Err(error) = plan(alloc, words) else {
         return Err(Fail::from("the words are taken"));
     };
     let is_right = error.kind() == kind && error.exit_code() == status;

@@ -1,6 +1,6 @@
 //! How a run ends, and what is written by then.
 
-use super::{LENIENT, built_in_set, convert, expect, is_shown};
+use super::{LENIENT, convert, expect, is_shown, set_of};
 use fast_command::RunFault;
 use fast_decoder::MakeError;
 use fast_encoder::EncodeFault;
@@ -48,7 +48,7 @@ const WHOLE: [(&str, &str); 4] = [
 
 #[test]
 fn lines_are_written_as_a_stream(rt: HostRuntime) -> Result<(), Fail> {
-    let set = built_in_set(rt.alloc())?;
+    let set = set_of(rt.alloc())?;
     for (text, written) in WHOLE {
         expect_end(&rt, rt.alloc(), &set, LENIENT, text, Ok(()), written);
     }
@@ -71,7 +71,7 @@ const FAULTY: [(&str, u64, LineFault); 6] = [
 
 #[test]
 fn a_line_at_fault_is_told_and_nothing_is_written(rt: HostRuntime) -> Result<(), Fail> {
-    let set = built_in_set(rt.alloc())?;
+    let set = set_of(rt.alloc())?;
     for (text, line, kind) in FAULTY {
         let end = Err(RunFault::Text { line, kind });
         expect_end(&rt, rt.alloc(), &set, LENIENT, text, end, "");
@@ -81,7 +81,7 @@ fn a_line_at_fault_is_told_and_nothing_is_written(rt: HostRuntime) -> Result<(),
 
 #[test]
 fn the_messages_before_one_that_is_refused_are_written(rt: HostRuntime) -> Result<(), Fail> {
-    let set = built_in_set(rt.alloc())?;
+    let set = set_of(rt.alloc())?;
     let text =
         "message T3\nfield 3 t a \"ABCDE\"\nend message\nmessage T3\nfield 3 t a \"AB\"\nend message\n";
     let end = Err(RunFault::Encode {
@@ -102,7 +102,7 @@ fn the_messages_before_one_that_is_refused_are_written(rt: HostRuntime) -> Resul
 
 #[test]
 fn limits_are_refused_before_the_text_is_read(rt: HostRuntime) -> Result<(), Fail> {
-    let set = built_in_set(rt.alloc())?;
+    let set = set_of(rt.alloc())?;
     let short = Limits {
         max_text: 15,
         ..LENIENT
@@ -142,7 +142,7 @@ const THERE_AND_BACK: [&str; 8] = [
 
 #[test]
 fn what_is_written_is_shown_as_it_was(rt: HostRuntime) -> Result<(), Fail> {
-    let set = built_in_set(rt.alloc())?;
+    let set = set_of(rt.alloc())?;
     for text in THERE_AND_BACK {
         let mut cells = [0; 512];
         let mut stream = ToBytes::new(&mut cells);
