@@ -5,6 +5,11 @@
 // looked into, copied or moved. Nobody calls with one pointer from two threads at once, nor gives one to another thread: the proofs
 // say nothing of that.
 //
+// Whoever makes a set, a decoder or an encoder owns it, and closes it once. A decoder or an encoder borrows its set from its making to its
+// closing; any number may share one, and the set is closed behind all of them. Buffers are the caller's before, in and behind each call:
+// the library keeps no pointer to one. What a call answers for a null pointer, a closed one, a buffer that is full or limits out of range
+// stands at the call. Nothing can be said where a buffer is shorter than its length, or a copy of a pointer is used behind its closing.
+//
 //     fast_set *set = NULL;
 //     fast_decoder *decoder = NULL;
 //     if ((status = fast_set_read(text, text_len, &set)) != FAST_DONE) ..
@@ -90,6 +95,10 @@ enum fast_status {
     FAST_E1 = 401, FAST_E2, FAST_E3, FAST_E4, FAST_MESSAGE_R9, FAST_MESSAGE_MEMORY
 };
 
+FAST_ASSERT(FAST_R1 == 107 && FAST_L1 == 113 && FAST_L4 == 116, "the numbers of faults of streams");
+FAST_ASSERT(FAST_D8 == 306 && FAST_C6 == 312 && FAST_SET_MEMORY == 313, "the numbers of faults of template texts");
+FAST_ASSERT(FAST_E4 == 404 && FAST_MESSAGE_R9 == 405 && FAST_MESSAGE_MEMORY == 406, "the numbers of faults of messages");
+
 // Writes what a status says, in English and without a zero at its end, as far as there is room. The answer is the length of all of it; 0
 // where no status has the number. The sentence of a code begins with its name and a colon: "D5: a mandatory field ..".
 size_t fast_status_words(uint32_t status, uint8_t *out, size_t out_len);
@@ -153,28 +162,60 @@ typedef struct fast_put {
 } fast_put;
 
 FAST_ASSERT(sizeof(fast_put) == 24, "what comes of a message has 24 bytes");
-FAST_ASSERT(offsetof(fast_put, status) == 16, "its fields");
+FAST_ASSERT(offsetof(fast_put, record) == 8 && offsetof(fast_put, status) == 16 && offsetof(fast_put, unused) == 20, "its fields");
+FAST_ASSERT(sizeof(fast_set_handle) == 8 && sizeof(fast_decoder_handle) == 8 && sizeof(fast_encoder_handle) == 8, "a handle is a pointer");
 
-// ---- what the library has. Programs call the functions below, which hand over no null pointer but for a set's.
+// ---- what the library has. Programs call the functions of the next part, which stand between these and null pointers.
 //
-// A handle goes in by value, and with it what it owns; `back` gets the same pointer, and with it the ownership.
+// At each of these calls a handle is one that was made and is not closed; no buffer is null, also where its length is 0; and no two of the
+// buffers and places overlap. A handle goes in by value, and with it what it owns. Where a call has `back`, that is a place of the caller's
+// for a pointer, whatever it holds: it gets the pointer of the handle again, and with it the ownership, however the call ends. A call
+// without `back` keeps what it is given if its name ends in `close`, and has only borrowed it else.
 
+// Ends the set and frees its memory: neither the pointer nor a copy of it is good behind that. No decoder and no encoder borrows it any more.
 void fast_set_close(fast_set_handle set);
+
+// These borrow the set for the call. `out` is the caller's, of out_len bytes, of which the front gets what has room, and the rest stays as it is.
 uint32_t fast_set_templates(fast_set_handle set);
 uint32_t fast_set_nodes(fast_set_handle set);
 size_t fast_template_name(fast_set_handle set, uint32_t number, uint8_t *out, size_t out_len);
 size_t fast_node_name(fast_set_handle set, uint32_t number, uint8_t *out, size_t out_len);
+
+// Borrows the set until the decoder is closed. FAST_DONE, and *out owns a new decoder; else *out is as it was, and nothing is owned or borrowed.
 uint32_t fast_decoder_open(fast_set_handle set, uint32_t strict, uint32_t max_text, uint32_t max_elements, uint32_t max_total,
                            fast_decoder **out);
+
+// Reads piece[0 .. piece_len - 1] in the call alone. records and texts are the caller's: records[0 .. fed->records - 1] and texts[0 ..
+// fed->texts - 1] are written, and good until the caller writes there, or gives them to the next call; what stands behind is not to be
+// read. *fed is written whole. What had no room stays with the decoder. A fault, and want of room or memory, are statuses: the decoder stays
+// open.
 void fast_decoder_feed(fast_decoder_handle decoder, fast_decoder **back, const uint8_t *piece, size_t piece_len,
                        fast_record *records, size_t records_len, uint8_t *texts, size_t texts_len, fast_fed *fed);
+
+// The decoder stays open, and borrows its set on. Records that were given before are the caller's, and stay good.
 void fast_decoder_reset(fast_decoder_handle decoder, fast_decoder **back);
+
+// Ends the decoder, frees its memory with what waits in it, and gives the set back that it borrowed.
 void fast_decoder_close(fast_decoder_handle decoder);
+
+// Borrows the set until the encoder is closed. FAST_DONE, and *out owns a new encoder; else *out is as it was, and nothing is owned or borrowed.
 uint32_t fast_encoder_open(fast_set_handle set, uint32_t max_text, uint32_t max_elements, uint32_t max_total, fast_encoder **out);
+
+// Reads records[0 .. records_len - 1] and texts[0 .. texts_len - 1] in the call alone: a text that does not stand in texts as its record says is
+// FAST_MISPLACED, as is too small or too great a number of records, 0 among them. *put is written whole. The bytes of the message are the
+// encoder's, behind those that wait already; a status other than FAST_DONE leaves them, and all else of the encoder, as they were. There is no
+// buffer that could be full: where memory is refused it is FAST_MESSAGE_MEMORY.
 void fast_encoder_put(fast_encoder_handle encoder, fast_encoder **back, const fast_record *records, size_t records_len,
                       const uint8_t *texts, size_t texts_len, fast_put *put);
+
+// Writes the first bytes that wait to out, as many as out_len has room for, and answers how many: these are the caller's, and no longer the
+// encoder's; the others wait on. 0 where none waits, or out_len is 0. It cannot fail.
 size_t fast_encoder_take(fast_encoder_handle encoder, fast_encoder **back, uint8_t *out, size_t out_len);
+
+// The encoder stays open, and borrows its set on. Bytes that wait are gone; those that were taken are the caller's.
 void fast_encoder_reset(fast_encoder_handle encoder, fast_encoder **back);
+
+// Ends the encoder, frees its memory with the bytes that wait, and gives the set back that it borrowed.
 void fast_encoder_close(fast_encoder_handle encoder);
 
 // ---- what programs call. A null buffer is one without room, whatever its length; buffers of one call do not overlap.
@@ -182,14 +223,14 @@ void fast_encoder_close(fast_encoder_handle encoder);
 // Where a buffer is null: the library wants a place even for nothing.
 static fast_record fast_nothing;
 
-// Gives a set's memory back, and makes the pointer null. All decoders and encoders of the set are closed before.
+// Gives a set's memory back, and makes the pointer null, so that a second time does nothing. All decoders and encoders of the set are closed before.
 static inline void fast_close_set(fast_set **set) {
     fast_set_handle handle = {*set};
     if (handle.at) fast_set_close(handle);
     *set = NULL;
 }
 
-// How many templates and nodes a set has: their numbers are those below.
+// How many templates and nodes a set has: their numbers are those below. 0 where there is no set.
 static inline uint32_t fast_count_templates(fast_set *set) {
     fast_set_handle handle = {set};
     return set ? fast_set_templates(handle) : 0;
@@ -200,7 +241,7 @@ static inline uint32_t fast_count_nodes(fast_set *set) {
 }
 
 // Writes the name of a template or node, in UTF-8 and without a zero at its end, as far as there is room. The answer is the length of all of
-// it; 0 where the set has none of the number.
+// it; 0 where the set has none of the number, or there is no set.
 static inline size_t fast_name_of_template(fast_set *set, uint32_t number, char *out, size_t out_len) {
     fast_set_handle handle = {set};
     uint8_t *to = out ? (uint8_t *)out : (uint8_t *)&fast_nothing;
@@ -223,7 +264,9 @@ static inline uint32_t fast_open_decoder(fast_set *set, fast_limits limits, fast
 // Feeds a piece of the stream, cut anywhere, and writes the records of its events from records[0] on, and their texts from texts[0] on. Where
 // the buffers are full, FAST_MORE: records[0 .. fed.records - 1] are the caller's, who calls again with the piece from piece[fed.taken] on,
 // which may be empty. With one record and max_text bytes of texts it always comes forward; 4,096 records (96 KiB) are fast. What has no room
-// waits in memory of the library, which is asked for then alone: at most the events of half as many bytes as there are records.
+// waits in memory of the library, which is asked for then alone: at most the events of half as many bytes as there are records. FAST_NO_ROOM
+// where not even the next record has room with its text: a call with larger buffers goes on. FAST_CLOSED, and nothing else is written, where
+// there is no decoder.
 static inline fast_fed fast_feed(fast_decoder *decoder, const uint8_t *piece, size_t piece_len, fast_record *records,
                                  size_t records_len, uint8_t *texts, size_t texts_len) {
     fast_fed fed = {0, 0, 0, 0, 0, FAST_CLOSED};
@@ -236,28 +279,32 @@ static inline fast_fed fast_feed(fast_decoder *decoder, const uint8_t *piece, si
     return fed;
 }
 
-// Makes a decoder as it was made, before the first byte and without a fault; records that wait are gone.
+// Makes a decoder as it was made, before the first byte and without a fault; records that wait are gone. A null pointer does nothing.
 static inline void fast_reset_decoder(fast_decoder *decoder) {
     fast_decoder_handle handle = {decoder};
     if (decoder) fast_decoder_reset(handle, &handle.at);
 }
 
-// Gives a decoder's memory back, and makes the pointer null.
+// Gives a decoder's memory back with the records that wait, and makes the pointer null, so that a second time does nothing. The set stays open.
 static inline void fast_close_decoder(fast_decoder **decoder) {
     fast_decoder_handle handle = {*decoder};
     if (handle.at) fast_decoder_close(handle);
     *decoder = NULL;
 }
 
-// Makes an encoder, which borrows the set until it is closed. As fast_open_decoder.
+// Makes an encoder, which borrows the set until it is closed, with an empty dictionary and no bytes. It looks at all limits but `strict`.
+// FAST_DONE, and then *out is the caller's to close; FAST_CLOSED or FAST_BAD_LIMITS to FAST_NO_MEMORY, and then *out is as it was.
 static inline uint32_t fast_open_encoder(fast_set *set, fast_limits limits, fast_encoder **out) {
     fast_set_handle handle = {set};
     if (!set) return FAST_CLOSED;
     return fast_encoder_open(handle, limits.max_text, limits.max_elements, limits.max_total, out);
 }
 
-// Encodes one message, whose records these are, as a decoder gives them: FAST_MESSAGE_START to FAST_MESSAGE_END, each text anywhere in texts. Its
-// bytes wait in the encoder until they are taken. What is refused changes nothing, and the next message can be put.
+// Encodes one message, whose records these are, as a decoder gives them: FAST_MESSAGE_START to FAST_MESSAGE_END, each text anywhere in texts.
+// Records and texts are read in the call alone, and stay the caller's. FAST_DONE, and the bytes wait in the encoder until they are taken, behind
+// those that wait already. Else FAST_CLOSED where there is no encoder; FAST_MISPLACED where the records are no message, with the number of
+// the first that stands for no event, else of the first that is not due, which is how many there are where one is missing; FAST_E1 to
+// FAST_MESSAGE_R9 where the message is refused; FAST_MESSAGE_MEMORY. What is refused changes nothing, and the next message can be put.
 static inline fast_put fast_put_message(fast_encoder *encoder, const fast_record *records, size_t records_len,
                                         const uint8_t *texts, size_t texts_len) {
     fast_put put = {0, 0, FAST_CLOSED, 0};
@@ -269,20 +316,21 @@ static inline fast_put fast_put_message(fast_encoder *encoder, const fast_record
     return put;
 }
 
-// Takes the first of the bytes that wait, as far as they have room, and answers how many it took.
+// Takes the first of the bytes that wait, as far as they have room, and answers how many it took: these are the caller's. The others wait on,
+// also where out is null or has no room. 0 where there is no encoder.
 static inline size_t fast_take_bytes(fast_encoder *encoder, uint8_t *out, size_t out_len) {
     fast_encoder_handle handle = {encoder};
     if (!encoder || !out) return 0;
     return fast_encoder_take(handle, &handle.at, out, out_len);
 }
 
-// Makes an encoder as it was made: to be used where the reader's decoder is reset too. Bytes that wait are gone.
+// Makes an encoder as it was made: to be used where the reader's decoder is reset too. Bytes that wait are gone. A null pointer does nothing.
 static inline void fast_reset_encoder(fast_encoder *encoder) {
     fast_encoder_handle handle = {encoder};
     if (encoder) fast_encoder_reset(handle, &handle.at);
 }
 
-// Gives an encoder's memory back, and makes the pointer null.
+// Gives an encoder's memory back with the bytes that wait, and makes the pointer null, so that a second time does nothing. The set stays open.
 static inline void fast_close_encoder(fast_encoder **encoder) {
     fast_encoder_handle handle = {*encoder};
     if (handle.at) fast_encoder_close(handle);

@@ -30,7 +30,8 @@ inline std::string words_of(std::uint32_t status) {
     return std::string(reinterpret_cast<const char *>(words), length < sizeof words ? length : sizeof words);
 }
 
-// What a call did not do, and why. place: of a stream at fault, how many bytes were consumed when it was decided.
+// What a call did not do, and why. place: of a stream at fault, how many bytes were consumed when it was decided; of records that are no
+// message (FAST_MISPLACED), the number of the one that is not due. It owns its words, and needs nothing of what threw it.
 class error : public std::runtime_error {
 public:
     explicit error(std::uint32_t status, std::uint64_t place = 0)
@@ -43,7 +44,8 @@ inline void expect(std::uint32_t status) {
     if (status != FAST_DONE) throw error(status);
 }
 
-// A template set, which all that borrow it keep.
+// A template set. Copies are the same set, which is closed behind the last of them and of the decoders and encoders that were made of it. The
+// text is read in the constructor alone; names are copies.
 class set {
 public:
     explicit set(std::string_view text) {
@@ -127,7 +129,7 @@ template <class V> void visit(const fast_record &it, const std::uint8_t *texts, 
     }
 }
 
-// A decoder with buffers of its own. It is moved, and never copied.
+// A decoder with buffers of its own, which keeps its set. It is moved, and never copied; one that was moved from answers FAST_CLOSED.
 class decoder {
 public:
     explicit decoder(set of, fast_limits limits = fast_default_limits, std::size_t records = 4096)
@@ -137,7 +139,8 @@ public:
         it_.reset(made);
     }
 
-    // Feeds a piece, and shows its events to a visitor. Throws at a fault, behind the events before it, and so again until a reset.
+    // Feeds a piece, which is read in the call alone, and shows its events to a visitor. Throws at a fault, behind the events before it, and
+    // so again until a reset. Where the visitor throws, the events of the rest of its buffer are lost: reset before the next stream.
     template <class V> void decode(const std::uint8_t *piece, std::size_t piece_len, V &&sees) {
         do {
             last_ = fast_feed(it_.get(), piece, piece_len, records_.data(), records_.size(), texts_.data(), texts_.size());
@@ -152,6 +155,7 @@ public:
     bool between() const { return last_.between != 0; }
     // How many bytes were consumed since the decoder was made or reset.
     std::uint64_t consumed() const { return last_.consumed; }
+    // As it was made, before the first byte.
     void reset() {
         fast_reset_decoder(it_.get());
         last_ = at_start;
@@ -175,7 +179,7 @@ template <class V> void decode(decoder &by, const std::uint8_t *piece, std::size
     by.decode(piece, piece_len, std::forward<V>(sees));
 }
 
-// An encoder. It is moved, and never copied.
+// An encoder, which keeps its set. It is moved, and never copied; one that was moved from answers FAST_CLOSED.
 class encoder {
 public:
     explicit encoder(set of, fast_limits limits = fast_default_limits) : set_(std::move(of)) {
@@ -184,7 +188,9 @@ public:
         it_.reset(made);
     }
 
-    // Appends the bytes of one message, whose records these are. Throws where it is refused, and nothing has changed.
+    // Appends the bytes of one message, whose records these are, as a visitor sees them: records and texts are read in the call alone, and the
+    // bytes are the caller's. Throws where it is refused, and nothing has changed: FAST_MISPLACED where they are no message, FAST_E1 to
+    // FAST_MESSAGE_R9, FAST_MESSAGE_MEMORY. Where out cannot grow, the bytes wait in the encoder, and come first at the next call.
     void encode(const fast_record *records, std::size_t count, const std::uint8_t *texts, std::size_t texts_len,
                 std::vector<std::uint8_t> &out) {
         fast_put put = fast_put_message(it_.get(), records, count, texts, texts_len);
@@ -193,6 +199,7 @@ public:
         out.resize(before + put.waiting);
         fast_take_bytes(it_.get(), out.data() + before, put.waiting);
     }
+    // As it was made: to be used where the reader's decoder is reset too.
     void reset() { fast_reset_encoder(it_.get()); }
 
 private:

@@ -13,6 +13,7 @@ What is proved is the library; this face of it is not.
 """
 
 import ctypes as c
+import struct
 from ctypes import byref
 
 try:
@@ -34,6 +35,10 @@ class Record(c.Structure):
     _fields_ = [("kind", c.c_uint32), ("node", c.c_uint32), ("value", c.c_uint64), ("length", c.c_uint32), ("exponent", c.c_int32)]
 
 
+# the same, as bytes
+ROW = struct.Struct("<IIQIi")
+
+
 class Fed(c.Structure):
     """What came of a feed: fast_fed."""
 
@@ -52,6 +57,7 @@ class Handle(c.Structure):
     _fields_ = [("at", c.c_void_p)]
 
 
+assert ROW.size == c.sizeof(Record)
 assert (c.sizeof(Record), c.sizeof(Fed), c.sizeof(Put), c.sizeof(c.c_size_t)) == (24, 40, 24, 8)
 
 U, N, P = c.c_uint32, c.c_size_t, c.c_void_p
@@ -118,7 +124,10 @@ class Library:
 
 
 class Held:
-    """What the library made. It is closed with close(), at the end of a with statement, or with the last reference; twice does nothing."""
+    """What the library made. It is closed with close(), at the end of a with statement, or with the last reference; twice does nothing.
+
+    What is used when it is closed raises an Error of status 4.
+    """
 
     def __init__(self, library, close):
         self.library, self.at, self._close = library, P(), close
@@ -183,7 +192,7 @@ class Set(Held):
 
 
 class Decoder(Held):
-    """Decodes a stream that comes in pieces, cut anywhere."""
+    """Decodes a stream that comes in pieces, cut anywhere. It keeps its set; of a piece it makes a copy for the call."""
 
     def __init__(self, of, strict=False, max_text=1024, max_elements=1000, max_total=1000, records=65536):
         super().__init__(of.library, of.library.calls.fast_decoder_close)
@@ -193,11 +202,8 @@ class Decoder(Held):
         self.records, self.texts = (Record * max(records, 1))(), c.create_string_buffer(max(max_text, 1 << 20))
         self.fed = Fed(between=1)
 
-    def feed_records(self, piece):
-        """Yields records and their texts: an array of Record, or of NumPy where that is there, and bytes. Both are good until the next is asked for.
-
-        At a fault it raises an Error, behind all records before it.
-        """
+    def _fed(self, piece):
+        """Yields how many records were written, and their texts, each time that there are some."""
         piece = bytes(piece)
         while True:
             fed, back = self.fed, byref(self.at)
@@ -205,25 +211,31 @@ class Decoder(Held):
                 self.handle, back, piece, len(piece), self.records, len(self.records), self.texts, len(self.texts), byref(fed)
             )
             if fed.records:
-                records = numpy.ctypeslib.as_array(self.records)[: fed.records] if numpy else self.records[: fed.records]
-                yield records, self.texts.raw[: fed.texts]
+                yield fed.records, self.texts[: fed.texts]
             piece = piece[fed.taken :]
             if fed.status != MORE:
                 self.library.expect(fed.status, fed.consumed)
                 return
 
+    def feed_records(self, piece):
+        """Yields records and their texts: an array of Record, or of NumPy where that is there, and bytes. Records are good until the next are
+        asked for; texts are a copy.
+
+        At a fault it raises an Error, behind all records before it.
+        """
+        for count, texts in self._fed(piece):
+            yield numpy.ctypeslib.as_array(self.records)[:count] if numpy else self.records[:count], texts
+
     def feed(self, piece):
         """Yields (kind, node, value): of a decimal the mantissa and the exponent, of texts bytes."""
-        for records, texts in self.feed_records(piece):
-            for record in records:
-                kind, node, value, length, exponent = record if numpy else (getattr(record, it) for it, _ in Record._fields_)
-                kind, node, value = int(kind), int(node), int(value)
+        for count, texts in self._fed(piece):
+            for kind, node, value, length, exponent in ROW.iter_unpack(c.string_at(self.records, count * ROW.size)):
                 if kind in (SIGNED, DECIMAL):
                     value -= (value >> 63) << 64
                 if kind == DECIMAL:
-                    value = value, int(exponent)
-                elif kind in (ASCII, UNICODE, BYTES):
-                    value = texts[value : value + int(length)]
+                    value = value, exponent
+                elif ASCII <= kind <= BYTES:
+                    value = texts[value : value + length]
                 yield kind, node, value
 
     @property
@@ -243,7 +255,7 @@ class Decoder(Held):
 
 
 class Encoder(Held):
-    """Encodes messages, one after the other."""
+    """Encodes messages, one after the other. It keeps its set; it copies events and texts for the call, and the bytes it answers are the caller's."""
 
     def __init__(self, of, max_text=1024, max_elements=1000, max_total=1000):
         super().__init__(of.library, of.library.calls.fast_encoder_close)
@@ -251,24 +263,26 @@ class Encoder(Held):
         self.library.expect(self.library.calls.fast_encoder_open(of.handle, max_text, max_elements, max_total, byref(self.at)))
 
     def encode(self, events):
-        """The bytes of one message, whose events are as Decoder.feed yields them. Where it is refused, nothing has changed."""
+        """The bytes of one message, whose events are as Decoder.feed yields them.
+
+        Where it is refused, it raises an Error, and nothing has changed: of status 5 where the events are no message, with the number of the
+        one that is not due as its place; from 401 with the codes E1 to E4 and R9; 406 where memory was refused.
+        """
         records, texts = [], bytearray()
         for kind, node, value in events:
             length = exponent = 0
             if kind == DECIMAL:
                 value, exponent = value
-            elif kind in (ASCII, UNICODE, BYTES):
+            elif ASCII <= kind <= BYTES:
                 text, value = value, len(texts)
                 texts += text
                 length = len(text)
-            records.append((kind, node, value & (1 << 64) - 1, length, exponent))
-        array, put = (Record * len(records))(*records), Put()
-        calls = self.library.calls
-        calls.fast_encoder_put(self.handle, byref(self.at), array, len(array), bytes(texts), len(texts), byref(put))
+            records.append(ROW.pack(kind, node, value & (1 << 64) - 1, length, exponent))
+        put, calls = Put(), self.library.calls
+        calls.fast_encoder_put(self.handle, byref(self.at), b"".join(records), len(records), bytes(texts), len(texts), byref(put))
         self.library.expect(put.status, put.record)
         room = c.create_string_buffer(put.waiting)
-        length = calls.fast_encoder_take(self.handle, byref(self.at), room, len(room))
-        return room.raw[:length]
+        return room[: calls.fast_encoder_take(self.handle, byref(self.at), room, len(room))]
 
     def reset(self):
         """Makes it as it was made: to be used where the reader's decoder is reset too."""

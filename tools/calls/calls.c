@@ -1,5 +1,6 @@
 // Calls the library of crates/fast_c by include/fast.h on the rows of tools/growths/rows.txt: each stream whole and in pieces of one byte, with room
-// for one record and for many; each request for memory refused in turn; messages back to bytes; and what is answered for what is not there.
+// for one record and for many; each request for memory refused in turn; messages back to bytes; messages that are refused; and what is answered
+// for what is not there.
 #include "../../include/fast.h"
 #include "../growths/rows.h"
 
@@ -149,6 +150,111 @@ static void put_back(const struct row *r) {
     expect(!blocks, r, "memory is left behind an encoder");
 }
 
+// The bytes of the first message, from an encoder that is new. Request number `ahead` of the call is refused: either the encoder does without, or
+// it tells so and the message is put again.
+static size_t put_anew(const struct row *r, fast_set *set, size_t len, uint64_t ahead, uint8_t *bytes, bool *was_refused) {
+    fast_encoder *encoder = NULL;
+    expect(fast_open_encoder(set, limits_of(r), &encoder) == FAST_DONE, r, "no encoder");
+    refused = requests + ahead;
+    fast_put put = fast_put_message(encoder, records, len, texts, TEXTS);
+    *was_refused = refused < requests;
+    refused = none;
+    if (put.status == FAST_MESSAGE_MEMORY) {
+        expect(*was_refused && !put.waiting, r, "an encoder tells of memory that was not refused");
+        put = fast_put_message(encoder, records, len, texts, TEXTS);
+    }
+    size_t taken = fast_take_bytes(encoder, bytes, sizeof r->stream);
+    fast_close_encoder(&encoder);
+    return taken;
+}
+
+// Each request is refused in turn, while the first message of a stream is put, which changes nothing.
+static void refuse_each_put(const struct row *r) {
+    static uint8_t due[sizeof r->stream], again[sizeof r->stream];
+    fast_set *set = NULL;
+    fast_decoder *decoder = NULL;
+    begin_run(none, none);
+    fast_set_read(r->templates, r->templates_len, &set);
+    fast_open_decoder(set, limits_of(r), &decoder);
+    uint64_t given = fast_feed(decoder, r->stream, r->stream_len, records, RECORDS, texts, TEXTS).records, len = 0;
+    while (len < given && records[len++].kind != FAST_MESSAGE_END) {}
+    bool is_refused = true;
+    size_t due_len = put_anew(r, set, len, UINT32_MAX, due, &is_refused);
+    expect(!is_refused, r, "a message asks for memory for ever");
+    is_refused = due_len;
+    for (uint64_t ahead = 0; is_refused; ahead++) {
+        size_t len_again = put_anew(r, set, len, ahead, again, &is_refused);
+        expect(len_again == due_len && !memcmp(again, due, due_len), r, "a refused request changes an encoder");
+    }
+    fast_close_decoder(&decoder);
+    fast_close_set(&set);
+    expect(!blocks, r, "memory is left behind a refused request of an encoder");
+}
+
+// A text from the beginning of those of put_refused.
+#define TEXT(kind, node, length) {kind, node, 0, length, 0}
+#define START(number) {FAST_MESSAGE_START, number, 0, 0, 0}
+#define END {FAST_MESSAGE_END, 0, 0, 0, 0}
+
+// Records, as many as have a kind, of which the encoder answers this.
+static const struct {
+    uint32_t status, record;
+    fast_record records[6];
+} refusals[] = {
+    {FAST_MISPLACED, 0, {{0, 0, 0, 0, 0}}},
+    {FAST_MISPLACED, 0, {START(2), END}},
+    {FAST_MISPLACED, 0, {END}},
+    {FAST_MISPLACED, 1, {START(0)}},
+    {FAST_MISPLACED, 1, {START(0), {99, 0, 0, 0, 0}, END}},
+    {FAST_MISPLACED, 1, {START(0), {FAST_ASCII, 0, 64, 1, 0}, END}},
+    {FAST_MISPLACED, 1, {START(0), {FAST_ASCII, 0, UINT64_MAX, 2, 0}, END}},
+    {FAST_MISPLACED, 1, {START(0), {FAST_UNSIGNED, 1, 7, 1, 0}, END}},
+    {FAST_MISPLACED, 2, {START(0), {FAST_UNSIGNED, 1, 7, 0, 0}, TEXT(FAST_ASCII, 0, 1), END}},
+    {FAST_MISPLACED, 2, {START(0), TEXT(FAST_ASCII, 0, 1), START(0), END}},
+    {FAST_MISPLACED, 3, {START(0), TEXT(FAST_ASCII, 0, 1), END, START(0), END}},
+    {FAST_E1, 0, {START(1), END}},
+    {FAST_E2, 0, {START(0), {FAST_UNSIGNED, 1, 7, 0, 0}, END}},
+    {FAST_E2, 0, {START(0), TEXT(FAST_BYTES, 0, 1), {FAST_UNSIGNED, 1, 7, 0, 0}, END}},
+    {FAST_E3, 0, {START(0), TEXT(FAST_ASCII, 0, 1), {FAST_UNSIGNED, 1, 8, 0, 0}, END}},
+    {FAST_E4, 0, {START(0), TEXT(FAST_ASCII, 0, 17), {FAST_UNSIGNED, 1, 7, 0, 0}, END}},
+    {FAST_MESSAGE_R9, 0, {START(0), {FAST_ASCII, 0, 17, 2, 0}, {FAST_UNSIGNED, 1, 7, 0, 0}, END}},
+};
+
+// Each of these is refused as it should be, and changes nothing: the bytes that wait stay, and the next message is encoded.
+static void put_refused(const struct row *r) {
+    static const char set_text[] = "[[template]]\nname = 'A'\nid = 1\n"
+                                   "fields = [{ kind = 'ascii', name = 'a' }, { kind = 'uInt32', name = 'n', op = 'constant', value = '7' }]\n"
+                                   "[[template]]\nname = 'B'\n";
+    static const uint8_t all[64] = "xaaaaaaaaaaaaaaaa";  // and zeros
+    static const fast_record good[] = {START(0), TEXT(FAST_ASCII, 0, 1), {FAST_UNSIGNED, 1, 7, 0, 0}, END};
+    fast_set *set = NULL;
+    fast_encoder *encoder = NULL;
+    uint8_t out[8];
+    begin_run(none, none);
+    expect(fast_set_read((const uint8_t *)set_text, sizeof set_text - 1, &set) == FAST_DONE, r, "no set of messages to refuse");
+    expect(fast_open_encoder(set, (fast_limits){0, 15, 1, 1}, &encoder) == FAST_BAD_LIMITS && !encoder, r, "limits of an encoder");
+    expect(fast_open_encoder(set, (fast_limits){0, 16, 1, 1}, &encoder) == FAST_DONE, r, "no encoder of messages to refuse");
+    expect(fast_put_message(encoder, NULL, 9, NULL, 9).status == FAST_MISPLACED, r, "no records are no message");
+    expect(fast_put_message(encoder, good, 4, all, sizeof all).waiting == 3, r, "a message");
+    for (size_t i = 0; i < sizeof refusals / sizeof *refusals; i++) {
+        size_t len = 0;
+        while (len < 6 && refusals[i].records[len].kind) len++;
+        fast_put put = fast_put_message(encoder, refusals[i].records, len, all, sizeof all);
+        bool is_due = put.status == refusals[i].status && put.record == refusals[i].record && put.waiting == 3;
+        if (!is_due) fprintf(stderr, "calls: refusal %zu: %u at %u\n", i, put.status, (unsigned)put.record);
+        expect(is_due, r, "not refused as it should be");
+    }
+    expect(fast_put_message(encoder, good, 4, all, sizeof all).waiting == 5, r, "a message behind those that are refused");
+    expect(fast_take_bytes(encoder, NULL, 9) == 0 && fast_take_bytes(encoder, out, 0) == 0, r, "no room for bytes");
+    expect(fast_take_bytes(encoder, out, 4) == 4 && !memcmp(out, "\xc0\x81\xf8\x80", 4), r, "the first bytes");
+    fast_reset_encoder(encoder);
+    expect(fast_take_bytes(encoder, out, 8) == 0, r, "bytes behind a reset");
+    expect(fast_put_message(encoder, good, 4, all, sizeof all).waiting == 3, r, "a message behind a reset");
+    fast_close_encoder(&encoder);
+    fast_close_set(&set);
+    expect(!blocks, r, "memory is left behind messages that are refused");
+}
+
 // What is answered for what is not there.
 static void run_nothing(const struct row *r) {
     fast_set *set = NULL;
@@ -193,8 +299,14 @@ int main(void) {
     while (next_row(file, &line, &r)) {
         run_row(&r);
         put_back(&r);
-        if (rows++ % 16 == 0) refuse_each(&r);
-        if (rows == 4) run_nothing(&r);
+        if (rows++ % 16 == 0) {
+            refuse_each(&r);
+            refuse_each_put(&r);
+        }
+        if (rows == 4) {
+            run_nothing(&r);
+            put_refused(&r);
+        }
     }
     fclose(file);
     printf("calls: %d streams by fast.h, %d wrong\n", rows, wrong);

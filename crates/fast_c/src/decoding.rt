@@ -1,6 +1,11 @@
 //! Decoders: bytes to records.
 
+ghost use Rattle.std.specs.Prelude.{ℕ, List};
+ghost use Rattle.fast_stream.specs.meaning.Events.{EventData};
+ghost use Rattle.fast_decoder.specs.meaning.Decoding.{HasRead, tree};
+ghost use Rattle.fast_records.specs.device.Waiting.{pending};
 ghost use Rattle.fast_c.specs.declared.decoding.Decoding.{Decoding};
+ghost use Rattle.fast_c.specs.meaning.Called.{IsFed};
 
 use crate::sets::SetHandle;
 use crate::{NO_MEMORY, limits_of};
@@ -104,12 +109,11 @@ pub extern "C" fn fast_decoder_open(
 }
 
 /// Feeds a piece, as far as its events have room.
-fn feed(
-    decoding: &mut Decoding,
-    piece: &[u8],
-    records: &mut [Record],
-    texts: &mut [u8],
-) -> FastFed {
+fn feed(decoding: &mut Decoding, piece: &[u8], records: &mut [Record], texts: &mut [u8]) -> FastFed
+    ensures { (w : List ℕ) (es : List EventData) → HasRead decoding.old.decoder w es
+        → IsFed (tree decoding.old.decoder) decoding.old.decoder.limits w es piece.now
+        (pending decoding.old.waiting) records.new texts.new result }
+{
     let Decoding { decoder, waiting } = decoding;
     let fed = feed_records(decoder, waiting, piece, records, texts);
     FastFed {
@@ -131,7 +135,11 @@ pub extern "C" fn fast_decoder_feed(
     records: &mut [Record],
     texts: &mut [u8],
     fed: &mut FastFed,
-) {
+)
+    ensures { (w : List ℕ) (es : List EventData) → HasRead decoder.value.decoder w es
+        → IsFed (tree decoder.value.decoder) decoder.value.decoder.limits w es piece.now
+        (pending decoder.value.waiting) records.new texts.new fed.new }
+{
     let mut decoding = decoder.into_box();
     *fed = feed(&mut decoding, piece, records, texts);
     *back = Box::into_raw(decoding) as *mut FastDecoder;

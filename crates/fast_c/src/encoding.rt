@@ -1,7 +1,10 @@
 //! Encoders: records to bytes.
 
+ghost use Rattle.std.specs.Prelude.{◌≡◌, Err};
 ghost use Rattle.fast_c.specs.contracts.encoding.Encoding.{the_row};
 ghost use Rattle.fast_c.specs.declared.encoding.Encoding.{Encoding};
+ghost use Rattle.fast_template.specs.meaning.Flat.{tree_of};
+ghost use Rattle.fast_c.specs.meaning.Called.{misplaced, HasCome, IsTaken};
 
 use crate::sets::SetHandle;
 use crate::{NO_MEMORY, limits_of};
@@ -110,7 +113,10 @@ pub extern "C" fn fast_encoder_open(
 }
 
 /// Encodes the message of these records behind the bytes that wait.
-fn put(encoding: &mut Encoding, records: &[Record], texts: &[u8]) -> FastPut {
+fn put(encoding: &mut Encoding, records: &[Record], texts: &[u8]) -> FastPut
+    ensures { HasCome (tree_of encoding.old.templates.now) encoding.old.encoder records.now texts.now
+        encoding.old.bytes.items result }
+{
     let Encoding {
         alloc,
         templates,
@@ -130,7 +136,9 @@ fn put(encoding: &mut Encoding, records: &[Record], texts: &[u8]) -> FastPut {
 }
 
 /// The record that is not due, 0 where the records are a message.
-fn record_of(refusal: PutRefusal) -> usize {
+fn record_of(refusal: PutRefusal) -> usize
+    ensures { result ≡ misplaced (Err refusal) }
+{
     match refusal {
         PutRefusal::Records(PutFault::Misplaced { record }) => record,
         _ => 0,
@@ -145,14 +153,19 @@ pub extern "C" fn fast_encoder_put(
     records: &[Record],
     texts: &[u8],
     came: &mut FastPut,
-) {
+)
+    ensures { HasCome (tree_of encoder.value.templates.now) encoder.value.encoder records.now texts.now
+        encoder.value.bytes.items came.new }
+{
     let mut encoding = encoder.into_box();
     *came = put(&mut encoding, records, texts);
     *back = Box::into_raw(encoding) as *mut FastEncoder;
 }
 
 /// Takes out the first bytes that wait, as far as they have room.
-fn take(encoding: &mut Encoding, out: &mut [u8]) -> usize {
+fn take(encoding: &mut Encoding, out: &mut [u8]) -> usize
+    ensures { IsTaken encoding.old.bytes.items out.new result }
+{
     let count = encoding.bytes.len().min(out.len());
     out[..count].copy_from_slice(&encoding.bytes[..count]);
     let left = encoding.bytes.len() - count;
@@ -167,7 +180,9 @@ pub extern "C" fn fast_encoder_take(
     encoder: EncoderHandle,
     back: &mut *mut FastEncoder,
     out: &mut [u8],
-) -> usize {
+) -> usize
+    ensures { IsTaken encoder.value.bytes.items out.new result }
+{
     let mut encoding = encoder.into_box();
     let count = take(&mut encoding, out);
     *back = Box::into_raw(encoding) as *mut FastEncoder;

@@ -1,7 +1,11 @@
 //! Template sets.
 
+ghost use Rattle.std.specs.Prelude.{◌≡◌, ◌<◌, ◌≤◌, length, slice_get, Some, string_bytes};
+ghost use Rattle.fast_tree.specs.declared.instructions.Node.{Node};
+ghost use Rattle.fast_tree.specs.declared.instructions.Template.{Template};
 ghost use Rattle.fast_template.specs.contracts.sets.Templates.{the_row};
 ghost use Rattle.fast_template.specs.declared.sets.Templates.{Templates};
+ghost use Rattle.fast_template.specs.meaning.Flat.{nodes_of, templates_of};
 
 use crate::{NO_MEMORY, write_front};
 use fast_records::Status;
@@ -45,7 +49,9 @@ impl SetHandle {
     }
 
     /// The set, lent for as long as C keeps it.
-    pub(crate) fn lent(self) -> &'static Templates {
+    pub(crate) fn lent(self) -> &'static Templates
+        ensures { result.now ≡ self.value }
+    {
         Box::leak(self.into_box())
     }
 }
@@ -81,19 +87,27 @@ pub extern "C" fn fast_set_close(set: SetHandle) {
 
 /// How many templates a set has.
 #[unsafe(no_mangle)]
-pub extern "C" fn fast_set_templates(set: SetHandle) -> u32 {
+pub extern "C" fn fast_set_templates(set: SetHandle) -> u32
+    ensures { result ≡ length (templates_of set.value) }
+{
     set.lent().count()
 }
 
 /// How many nodes a set has.
 #[unsafe(no_mangle)]
-pub extern "C" fn fast_set_nodes(set: SetHandle) -> u32 {
+pub extern "C" fn fast_set_nodes(set: SetHandle) -> u32
+    ensures { result ≡ length (nodes_of set.value) }
+{
     set.lent().nodes()
 }
 
 /// Writes the name of a template, as far as there is room, and answers its length; 0 where the set has no such template.
 #[unsafe(no_mangle)]
-pub extern "C" fn fast_template_name(set: SetHandle, template: u32, out: &mut [u8]) -> usize {
+pub extern "C" fn fast_template_name(set: SetHandle, template: u32, out: &mut [u8]) -> usize
+    ensures some { (t : Template) → slice_get (templates_of set.value) template ≡ Some t
+        → result ≡ length (string_bytes t.name) }
+    ensures none { length (templates_of set.value) ≤ template → result ≡ 0 }
+{
     let set = set.lent();
     if template >= set.count() {
         return 0;
@@ -103,7 +117,11 @@ pub extern "C" fn fast_template_name(set: SetHandle, template: u32, out: &mut [u
 
 /// Writes the name of a node, as far as there is room, and answers its length; 0 where the set has no such node.
 #[unsafe(no_mangle)]
-pub extern "C" fn fast_node_name(set: SetHandle, node: u32, out: &mut [u8]) -> usize {
+pub extern "C" fn fast_node_name(set: SetHandle, node: u32, out: &mut [u8]) -> usize
+    ensures some { (n : Node) → slice_get (nodes_of set.value) node ≡ Some n
+        → result ≡ length (string_bytes n.name) }
+    ensures none { length (nodes_of set.value) ≤ node → result ≡ 0 }
+{
     let set = set.lent();
     if node >= set.nodes() {
         return 0;

@@ -8,3 +8,4 @@ pub mod Scalars
 pub mod TurnsLeft
 pub mod Serving
 pub mod AtHand
+pub mod Words

@@ -37,18 +37,6 @@ use fast_units::fields::{Number, needs_bytes, unsent, value_at};
 use fast_units::source::ValueSource;
 use fast_value::{Code, Kind, Limits, Scalar};
 
-/// Whether a field uses a presence bit.
-#[inline]
-pub fn uses_bit(field: &FieldInstruction) -> bool
-    ensures { result ≡ uses_bit (field_data field.now) }
-{
-    match field.operator {
-        Operator::None | Operator::Delta => false,
-        Operator::Constant => field.optional,
-        Operator::Default | Operator::Copy | Operator::Increment | Operator::Tail => true,
-    }
-}
-
 /// What a field leaves of which nothing is sent, out of line: for fields that are seldom left out.
 ///
 /// # Errors
@@ -90,7 +78,7 @@ impl<'t> Machine<'t> {
         requires { IsMapWhole self.now.cursor.map }
         ensures { (d : Dictionary) (n : ℕ) → result ≡ bit_of (field_data field.now) (state_in d n self.now.cursor) }
     {
-        !uses_bit(field) || self.cursor.bit()
+        !field.uses_bit() || self.cursor.bit()
     }
 
     /// Goes past the next instruction, whose field has a value now or none, and hands the value over.
@@ -118,7 +106,7 @@ impl<'t> Machine<'t> {
         ensures depth { self.new.cursor.depth ≡ self.old.cursor.depth }
         ensures on { result ≢ Ok Turn.Waits }
     {
-        self.finish_by(node, field, uses_bit(field), source, piece, sink)
+        self.finish_by(node, field, field.uses_bit(), source, piece, sink)
     }
 
     /// The same, where it is known whether the field uses a presence bit.
@@ -255,7 +243,7 @@ impl<'t> Machine<'t> {
         ensures turns { (way : Way) (n : ℕ) → HasTurns way (set_of templates.now) limits 1 n self.old
             → HasTurnsBehind result way (set_of templates.now) limits n self.new }
     {
-        let has_bit = uses_bit(field);
+        let has_bit = field.uses_bit();
         let bit = self.presence(field);
         if needs_bytes(field, bit) {
             self.wait_first(field);
@@ -321,7 +309,7 @@ impl<'t> Machine<'t> {
             else bits_left self.old.cursor }
         ensures same { self.new ≡ record self.old { cursor = record self.old.cursor { used = self.new.cursor.used } } }
     {
-        if uses_bit(field) {
+        if field.uses_bit() {
             self.cursor.use_bit();
         }
     }
@@ -481,7 +469,7 @@ impl<'t> Machine<'t> {
             }
             None => Turn::Silent,
         };
-        if uses_bit(mantissa) {
+        if mantissa.uses_bit() {
             self.cursor.use_bit();
         }
         self.cursor.advance();

@@ -18,8 +18,8 @@ ghost use Rattle.fast_dict.specs.device.EntryTexts.{HasLongInitial};
 ghost use Rattle.fast_decoder.specs.declared.machine.Machine.{Machine};
 ghost use Rattle.fast_dict.specs.meaning.Dictionary.{Dictionary, reset};
 ghost use Rattle.fast_decoder.specs.device.Handing.{Hands, Fed, waiting_at};
-ghost use Rattle.fast_decoder.specs.device.Quick.{IsTakenTo};
-ghost use Rattle.fast_units.specs.device.Settling.{Serves, value_at};
+ghost use Rattle.fast_decoder.specs.device.Words.{TakesUnit, IsServedBy, PaysTurns, PaysMessage};
+ghost use Rattle.fast_units.specs.device.Settling.{value_at};
 ghost use Rattle.fast_decoder.specs.device.Passing.{state_past, identified_then};
 ghost use Rattle.fast_decoder.specs.device.Scalars.{IsOfField, IsOfFieldLater, IsScalarUnit, CanStep, CanProgress, step_then};
 ghost use Rattle.fast_units.specs.device.UnitFronts.{IsNumberStage};
@@ -52,7 +52,7 @@ use std::alloc::{AllocError, Global};
 
 /// How many bytes of a piece were taken, and why the machine stopped behind them, if it did.
 #[derive(Clone, Copy, Debug)]
-pub struct Taken {
+pub struct PieceTaken {
     /// The bytes that were taken.
     pub bytes: usize,
     /// Whether the machine goes on.
@@ -195,12 +195,9 @@ impl<'t> Machine<'t> {
         requires waits { self.old.waiting ≡ Waiting.Map }
         requires ready { IsReady (set_of templates.now) limits self.old }
         requires some { 0 < length rest.now }
-        ensures taken { IsTakenTo S.takes S.stops (set_of templates.now) limits
-            (meaning (set_of templates.now) limits self.old) rest.now sink.old result.bytes result.turn sink.new
-            self.new }
-        ensures turns { (way : Way) (n : ℕ)
-            → self.old.turns.count + most_by way (tree_in (set_of templates.now)) limits ≤ n
-            → HasTurnsBehind result.turn way (set_of templates.now) limits n self.new }
+        ensures taken { TakesUnit S.takes S.stops (set_of templates.now) limits self.old rest.now sink.old result
+            sink.new self.new }
+        ensures turns { PaysMessage (set_of templates.now) limits self.old result.turn self.new }
     {
         match self.cursor.take_map(rest) {
             MapFront::Cut => Quick::cut(rest),
@@ -224,9 +221,7 @@ impl<'t> Machine<'t> {
         ensures turn { IsTurn S.takes S.stops (set_of templates.now) limits
             (mapped_reader (set_of templates.now) limits (slots_dictionary self.old.slots) self.old.cursor.map)
             sink.old result sink.new self.new }
-        ensures turns { (way : Way) (n : ℕ)
-            → self.old.turns.count + most_by way (tree_in (set_of templates.now)) limits ≤ n
-            → HasTurnsBehind result way (set_of templates.now) limits n self.new }
+        ensures turns { PaysMessage (set_of templates.now) limits self.old result self.new }
     {
         if is_overlong(limits.strict, self.cursor.map()) {
             return Err(FaultCode::Stream(Code::R7));
@@ -257,9 +252,7 @@ impl<'t> Machine<'t> {
             (value_at source identifier (slots_dictionary self.old.slots) self.old.text.text piece.now)
             (slots_dictionary self.old.slots) self.old.cursor))
             sink.old result sink.new self.new }
-        ensures turns { (way : Way) (n : ℕ)
-            → self.old.turns.count + most_by way (tree_in (set_of templates.now)) limits ≤ n
-            → HasTurnsBehind result way (set_of templates.now) limits n self.new }
+        ensures turns { PaysMessage (set_of templates.now) limits self.old result self.new }
     {
         let text = self.text.as_slice();
         let value = value_at(&self.slots, &self.identifier, text, piece, source);
@@ -293,9 +286,7 @@ impl<'t> Machine<'t> {
         ensures goes_on { GoesOn (set_of templates.now) limits self.new result }
         ensures supplied { IsSupplied (set_of templates.now) limits self.new }
         ensures on { result ≢ Ok Turn.Waits }
-        ensures turns { (way : Way) (n : ℕ)
-            → self.old.turns.count + most_by way (tree_in (set_of templates.now)) limits ≤ n
-            → HasTurnsBehind result way (set_of templates.now) limits n self.new }
+        ensures turns { PaysMessage (set_of templates.now) limits self.old result self.new }
     {
         hand(sink, Event::MessageStart { template: number })?;
         let template = templates.template(number);
@@ -319,12 +310,9 @@ impl<'t> Machine<'t> {
         requires waits { self.old.waiting ≡ Waiting.Identifier }
         requires ready { IsReady (set_of templates.now) limits self.old }
         requires some { 0 < length rest.now }
-        ensures taken { IsTakenTo S.takes S.stops (set_of templates.now) limits
-            (meaning (set_of templates.now) limits self.old) rest.now sink.old result.bytes result.turn sink.new
-            self.new }
-        ensures turns { (way : Way) (n : ℕ)
-            → self.old.turns.count + most_by way (tree_in (set_of templates.now)) limits ≤ n
-            → HasTurnsBehind result.turn way (set_of templates.now) limits n self.new }
+        ensures taken { TakesUnit S.takes S.stops (set_of templates.now) limits self.old rest.now sink.old result
+            sink.new self.new }
+        ensures turns { PaysMessage (set_of templates.now) limits self.old result.turn self.new }
     {
         match take_integer(
             &mut self.slots,
@@ -355,11 +343,9 @@ impl<'t> Machine<'t> {
         requires waits { self.old.waiting ≡ Waiting.SegmentMap width }
         requires ready { IsReady (set_of templates.now) limits self.old }
         requires some { 0 < length rest.now }
-        ensures taken { IsTakenTo S.takes S.stops (set_of templates.now) limits
-            (meaning (set_of templates.now) limits self.old) rest.now sink.old result.bytes result.turn sink.new
-            self.new }
-        ensures turns { (way : Way) (n : ℕ) → HasTurns way (set_of templates.now) limits 0 n self.old
-            → HasTurnsBehind result.turn way (set_of templates.now) limits n self.new }
+        ensures taken { TakesUnit S.takes S.stops (set_of templates.now) limits self.old rest.now sink.old result
+            sink.new self.new }
+        ensures turns { PaysTurns (set_of templates.now) limits 0 self.old result.turn self.new }
     {
         match self.cursor.take_map(rest) {
             MapFront::Cut => Quick::cut(rest),
@@ -386,8 +372,7 @@ impl<'t> Machine<'t> {
         ensures turn { IsTurn S.takes S.stops (set_of templates.now) limits
             (segment_reader (set_of templates.now) limits self.old width)
             sink.old result sink.new self.new }
-        ensures turns { (way : Way) (n : ℕ) → HasTurns way (set_of templates.now) limits 0 n self.old
-            → HasTurnsBehind result way (set_of templates.now) limits n self.new }
+        ensures turns { PaysTurns (set_of templates.now) limits 0 self.old result self.new }
     {
         if is_overlong(limits.strict, self.cursor.map()) {
             return Err(FaultCode::Stream(Code::R7));
@@ -399,7 +384,7 @@ impl<'t> Machine<'t> {
     }
 
     /// Takes bytes of the first unit of the next instruction, an integer.
-    fn take_other<S: Sink>(
+    fn take_first_integer<S: Sink>(
         &mut self,
         templates: &'t Templates,
         limits: Limits,
@@ -409,11 +394,9 @@ impl<'t> Machine<'t> {
         requires waits { self.old.waiting ≡ Waiting.Field }
         requires ready { IsReady (set_of templates.now) limits self.old }
         requires some { 0 < length rest.now }
-        ensures taken { IsTakenTo S.takes S.stops (set_of templates.now) limits
-            (meaning (set_of templates.now) limits self.old) rest.now sink.old result.bytes result.turn sink.new
-            self.new }
-        ensures turns { (way : Way) (n : ℕ) → HasTurns way (set_of templates.now) limits 1 n self.old
-            → HasTurnsBehind result.turn way (set_of templates.now) limits n self.new }
+        ensures taken { TakesUnit S.takes S.stops (set_of templates.now) limits self.old rest.now sink.old result
+            sink.new self.new }
+        ensures turns { PaysTurns (set_of templates.now) limits 1 self.old result.turn self.new }
     {
         let Some(number) = self.cursor.next() else {
             return Quick::cut(rest);
@@ -466,16 +449,12 @@ impl<'t> Machine<'t> {
         requires some { 0 < length rest.now }
         requires next { IsAtParts (set_of templates.now) self.old.cursor node (field_data exponent.now)
             (field_data mantissa.now) }
-        requires exponent { Serves (set_of templates.now).entries (slots_terms self.old.slots)
-            (field_data exponent.now) }
-        requires mantissa { Serves (set_of templates.now).entries (slots_terms self.old.slots)
-            (field_data mantissa.now) }
+        requires exponent { IsServedBy (set_of templates.now) self.old (field_data exponent.now) }
+        requires mantissa { IsServedBy (set_of templates.now) self.old (field_data mantissa.now) }
         requires kind { exponent.now.kind ≡ Kind.Int32 }
-        ensures taken { IsTakenTo S.takes S.stops (set_of templates.now) limits
-            (meaning (set_of templates.now) limits self.old) rest.now sink.old result.bytes result.turn sink.new
-            self.new }
-        ensures turns { (way : Way) (n : ℕ) → HasTurns way (set_of templates.now) limits 1 n self.old
-            → HasTurnsBehind result.turn way (set_of templates.now) limits n self.new }
+        ensures taken { TakesUnit S.takes S.stops (set_of templates.now) limits self.old rest.now sink.old result
+            sink.new self.new }
+        ensures turns { PaysTurns (set_of templates.now) limits 1 self.old result.turn self.new }
     {
         match take_integer(
             &mut self.slots,
@@ -510,17 +489,15 @@ impl<'t> Machine<'t> {
         requires ready { IsReady (set_of templates.now) limits self.old }
         requires some { 0 < list_length rest.now }
         requires next { IsAtSequence (set_of templates.now) self.old.cursor node (field_data length.now) body.now }
-        requires serves { Serves (set_of templates.now).entries (slots_terms self.old.slots) (field_data length.now) }
+        requires serves { IsServedBy (set_of templates.now) self.old (field_data length.now) }
         requires kind { length.now.kind ≡ Kind.UInt32 }
         requires below { AreBelow (list_length (set_of templates.now).nodes) body.now }
         requires width { slice_index self.old.widths.nodes.items node
             ≡ bits_of (body_in (set_of templates.now) body.now) }
         requires node { node < list_length (set_of templates.now).nodes }
-        ensures taken { IsTakenTo S.takes S.stops (set_of templates.now) limits
-            (meaning (set_of templates.now) limits self.old) rest.now sink.old result.bytes result.turn sink.new
-            self.new }
-        ensures turns { (way : Way) (n : ℕ) → HasTurns way (set_of templates.now) limits 1 n self.old
-            → HasTurnsBehind result.turn way (set_of templates.now) limits n self.new }
+        ensures taken { TakesUnit S.takes S.stops (set_of templates.now) limits self.old rest.now sink.old result
+            sink.new self.new }
+        ensures turns { PaysTurns (set_of templates.now) limits 1 self.old result.turn self.new }
     {
         match take_integer(
             &mut self.slots,
@@ -550,11 +527,9 @@ impl<'t> Machine<'t> {
         requires waits { self.old.waiting ≡ Waiting.Mantissa exponent }
         requires ready { IsReady (set_of templates.now) limits self.old }
         requires some { 0 < length rest.now }
-        ensures taken { IsTakenTo S.takes S.stops (set_of templates.now) limits
-            (meaning (set_of templates.now) limits self.old) rest.now sink.old result.bytes result.turn sink.new
-            self.new }
-        ensures turns { (way : Way) (n : ℕ) → HasTurns way (set_of templates.now) limits 1 n self.old
-            → HasTurnsBehind result.turn way (set_of templates.now) limits n self.new }
+        ensures taken { TakesUnit S.takes S.stops (set_of templates.now) limits self.old rest.now sink.old result
+            sink.new self.new }
+        ensures turns { PaysTurns (set_of templates.now) limits 1 self.old result.turn self.new }
     {
         let Some(number) = self.cursor.next() else {
             return Quick::cut(rest);
@@ -579,7 +554,7 @@ impl<'t> Machine<'t> {
     }
 
     /// Takes bytes of a text or of a later unit of the next instruction, a field.
-    fn take_later<S: Sink>(
+    fn take_later_unit<S: Sink>(
         &mut self,
         templates: &'t Templates,
         limits: Limits,
@@ -589,11 +564,9 @@ impl<'t> Machine<'t> {
         requires waits { IsOfFieldLater self.old.waiting }
         requires ready { IsReady (set_of templates.now) limits self.old }
         requires some { 0 < length rest.now }
-        ensures taken { IsTakenTo S.takes S.stops (set_of templates.now) limits
-            (meaning (set_of templates.now) limits self.old) rest.now sink.old result.bytes result.turn sink.new
-            self.new }
-        ensures turns { (way : Way) (n : ℕ) → HasTurns way (set_of templates.now) limits 1 n self.old
-            → HasTurnsBehind result.turn way (set_of templates.now) limits n self.new }
+        ensures taken { TakesUnit S.takes S.stops (set_of templates.now) limits self.old rest.now sink.old result
+            sink.new self.new }
+        ensures turns { PaysTurns (set_of templates.now) limits 1 self.old result.turn self.new }
     {
         let Some(number) = self.cursor.next() else {
             return Quick::cut(rest);
@@ -615,7 +588,7 @@ impl<'t> Machine<'t> {
     ) -> Progress<FieldStep>
         requires waits { IsOfFieldLater self.old.waiting }
         requires ready { IsReady (set_of templates.now) limits self.old }
-        requires serves { Serves (set_of templates.now).entries (slots_terms self.old.slots) (field_data field.now) }
+        requires serves { IsServedBy (set_of templates.now) self.old (field_data field.now) }
         requires next { (node : ℕ) × IsAtField (set_of templates.now) self.old.cursor node (field_data field.now) }
         ensures unit { IsScalarUnit limits self.old self.new (field_data field.now) rest.now result }
         ensures supplied { IsSupplied (set_of templates.now) limits self.new }
@@ -666,13 +639,12 @@ impl<'t> Machine<'t> {
         sink: &mut S,
     ) -> Quick
         requires next { IsAtField (set_of templates.now) self.old.cursor node (field_data field.now) }
-        requires serves { Serves (set_of templates.now).entries (slots_terms self.old.slots) (field_data field.now) }
+        requires serves { IsServedBy (set_of templates.now) self.old (field_data field.now) }
         requires progress { CanProgress (set_of templates.now) limits self.old (field_data field.now) progress }
         requires within { (step : FieldStep) (n : ℕ) → progress ≡ Progress.Whole step n → n ≤ length rest.now }
         ensures taken { (m : Machine) → IsReady (set_of templates.now) limits m → IsOfField m.waiting
             → 0 < length rest.now → IsScalarUnit limits m self.old (field_data field.now) rest.now progress
-            → IsTakenTo S.takes S.stops (set_of templates.now) limits (meaning (set_of templates.now) limits m) rest.now
-            sink.old result.bytes result.turn sink.new self.new }
+            → TakesUnit S.takes S.stops (set_of templates.now) limits m rest.now sink.old result sink.new self.new }
         ensures turns { (way : Way) (n : ℕ) → IsOfField self.old.waiting
             → HasTurns way (set_of templates.now) limits 1 n self.old
             → HasTurnsBehind result.turn way (set_of templates.now) limits n self.new }
@@ -701,14 +673,13 @@ impl<'t> Machine<'t> {
         sink: &mut S,
     ) -> Result<Turn, FaultCode>
         requires next { IsAtField (set_of templates.now) self.old.cursor node (field_data field.now) }
-        requires serves { Serves (set_of templates.now).entries (slots_terms self.old.slots) (field_data field.now) }
+        requires serves { IsServedBy (set_of templates.now) self.old (field_data field.now) }
         requires step { CanStep (set_of templates.now) limits self.old (field_data field.now) step }
         ensures turn { IsTurn S.takes S.stops (set_of templates.now) limits
             (reader_of limits.strict
             (step_then (set_of templates.now) limits node (field_data field.now) self.old piece.now step))
             sink.old result sink.new self.new }
-        ensures turns { (way : Way) (n : ℕ) → HasTurns way (set_of templates.now) limits 1 n self.old
-            → HasTurnsBehind result way (set_of templates.now) limits n self.new }
+        ensures turns { PaysTurns (set_of templates.now) limits 1 self.old result self.new }
     {
         match step {
             FieldStep::Settled(source) => self.finish(node, field, source, piece, sink),
@@ -780,9 +751,8 @@ impl<'t> Machine<'t> {
     ) -> Quick
         requires ready { IsReady (set_of templates.now) limits self.old }
         requires some { 0 < length rest.now }
-        ensures taken { IsTakenTo S.takes S.stops (set_of templates.now) limits
-            (meaning (set_of templates.now) limits self.old) rest.now sink.old result.bytes result.turn sink.new
-            self.new }
+        ensures taken { TakesUnit S.takes S.stops (set_of templates.now) limits self.old rest.now sink.old result
+            sink.new self.new }
         ensures turns { (way : Way) (n : ℕ) → HasTurnsWaiting way (set_of templates.now) limits n self.old
             → HasTurnsBehind result.turn way (set_of templates.now) limits
             (1 + n + turns_begun_at self.old.waiting self.old.cursor.map way (tree_in (set_of templates.now)) limits)
@@ -803,23 +773,22 @@ impl<'t> Machine<'t> {
     ) -> Quick
         requires ready { IsReady (set_of templates.now) limits self.old }
         requires some { 0 < length rest.now }
-        ensures taken { IsTakenTo S.takes S.stops (set_of templates.now) limits
-            (meaning (set_of templates.now) limits self.old) rest.now sink.old result.bytes result.turn sink.new
-            self.new }
+        ensures taken { TakesUnit S.takes S.stops (set_of templates.now) limits self.old rest.now sink.old result
+            sink.new self.new }
         ensures turns { (way : Way) (n : ℕ) → HasTurnsWaiting way (set_of templates.now) limits n self.old
             → HasTurnsBehind result.turn way (set_of templates.now) limits
             (n + turns_begun_at self.old.waiting self.old.cursor.map way (tree_in (set_of templates.now)) limits)
             self.new }
     {
         match self.waiting {
-            Waiting::Field => self.take_other(templates, limits, rest, sink),
+            Waiting::Field => self.take_first_integer(templates, limits, rest, sink),
             Waiting::Map => self.take_map(templates, limits, rest, sink),
             Waiting::Identifier => self.take_identifier(templates, limits, rest, sink),
             Waiting::SegmentMap(width) => self.take_segment_map(
                 templates, limits, width, rest, sink,
             ),
             Waiting::Text | Waiting::Number(_) | Waiting::Bytes(_) => {
-                self.take_later(templates, limits, rest, sink)
+                self.take_later_unit(templates, limits, rest, sink)
             }
             Waiting::Mantissa(exponent) => self.take_mantissa(
                 templates, limits, exponent, rest, sink,
@@ -835,7 +804,7 @@ impl<'t> Machine<'t> {
         limits: Limits,
         piece: &[u8],
         sink: &mut S,
-    ) -> Taken
+    ) -> PieceTaken
         requires ready { IsReady (set_of templates.now) limits self.old }
         ensures within { result.bytes ≤ length piece.now }
         ensures all { IsOk result.outcome → result.bytes ≡ length piece.now }
@@ -866,10 +835,10 @@ impl<'t> Machine<'t> {
             bytes += quick.bytes;
             let outcome = self.go_on(templates, limits, quick.turn, sink);
             if outcome.is_err() {
-                return Taken { bytes, outcome };
+                return PieceTaken { bytes, outcome };
             }
         }
-        Taken {
+        PieceTaken {
             bytes,
             outcome: Ok(()),
         }

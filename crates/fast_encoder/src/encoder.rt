@@ -21,7 +21,7 @@ use fast_decoder::layout::{has_long_initial, measure};
 use fast_spelling::EncodeFault;
 use fast_spelling::checking::try_message;
 use fast_spelling::draft::Draft;
-use fast_spelling::forms::forms_of;
+use fast_spelling::forms::steps_of;
 use fast_spelling::ledger::Ledger;
 use fast_spelling::measuring::fits_limits;
 use fast_spelling::messages::write_message;
@@ -78,7 +78,7 @@ impl<'t> Encoder<'t> {
         let Ok(widths) = measure(alloc, templates) else {
             return Err(MakeError::Memory);
         };
-        let Ok(forms) = forms_of(alloc, templates) else {
+        let Ok(steps) = steps_of(alloc, templates) else {
             return Err(MakeError::Memory);
         };
         match Ledger::new(alloc, templates.entries() as usize, limits.max_text) {
@@ -88,7 +88,7 @@ impl<'t> Encoder<'t> {
                     templates,
                     limits,
                     widths: widths.nodes,
-                    forms,
+                    steps,
                 },
                 work: Work {
                     draft: Draft::new(alloc),

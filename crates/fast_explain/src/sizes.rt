@@ -2,7 +2,7 @@
 
 use crate::keys::{entry_of, has_flag, is_segment, items_of, name_of, target_of, text_of};
 use crate::walks::Walk;
-use fast_notation::NESTING_LIMIT;
+use fast_notation::{NESTING_LIMIT, operator_named};
 use std::alloc::{AllocError, Global};
 use std::collections::HashMap;
 use toml::{Table, Value};
@@ -35,20 +35,19 @@ pub(crate) fn index(
     Ok(names)
 }
 
-/// Whether a field uses a presence bit.
-fn uses_bit(table: &Table, optional: bool) -> u64 {
-    match text_of(table, "op").unwrap_or("none") {
-        "none" | "delta" => 0,
-        "constant" => u64::from(optional),
-        _ => 1,
+/// The presence bits that the operator of a table uses: one or none.
+fn own_bit(table: &Table, optional: bool) -> u64 {
+    match operator_named(text_of(table, "op").unwrap_or("none")) {
+        Some(operator) => u64::from(operator.uses_bit(optional)),
+        None => 0,
     }
 }
 
-/// Whether a part of a field uses a presence bit.
+/// The presence bits that the operator of a part of a field uses.
 fn part_bit(table: &Table, part: &str, optional: bool) -> u64 {
     match table.get(part) {
         Some(value) => match value.as_table() {
-            Some(inner) => uses_bit(inner, optional),
+            Some(inner) => own_bit(inner, optional),
             None => 0,
         },
         None => 0,
@@ -64,7 +63,7 @@ fn bits_of(field: &Value) -> u64 {
     match text_of(table, "kind") {
         Some("group") => u64::from(optional),
         Some("sequence") => part_bit(table, "length", optional),
-        Some(_) if table.get("op").is_some() => uses_bit(table, optional),
+        Some(_) if table.get("op").is_some() => own_bit(table, optional),
         _ => part_bit(table, "exponent", optional).saturating_add(part_bit(
             table, "mantissa", false,
         )),

@@ -9,8 +9,8 @@ use Rattle.fast_lines.specs.meaning.Lines.{hex_digit, hex_byte, escaped, quoted}
 use Rattle.fast_lines.specs.meaning.Texts.{IsMarked, IsControl, IsPlain}
 
 -- what stands for a byte
-abbrev pub Stands : ℕ → List ℕ → Type 0
-Stands c e = IsMarked c × (e ≡ 0x5C ∷ c ∷ []) ⊎ IsControl c × (e ≡ 0x5C ∷ 0x78 ∷ hex_byte c) ⊎ IsPlain c × (e ≡ c ∷ [])
+abbrev pub IsEscape : ℕ → List ℕ → Type 0
+IsEscape c e = IsMarked c × (e ≡ 0x5C ∷ c ∷ []) ⊎ IsControl c × (e ≡ 0x5C ∷ 0x78 ∷ hex_byte c) ⊎ IsPlain c × (e ≡ c ∷ [])
 
 -- each byte is of one of the three sorts
 sorted : (c : ℕ) → IsMarked c ⊎ IsControl c ⊎ IsPlain c
@@ -34,8 +34,8 @@ all_plain (c ∷ cs) h =
     let rest : flat_map escaped cs ≡ cs = all_plain cs (All-tail IsPlain c cs h) in
     rw (here, rest) refl
 
-pub byte_stands : (c : ℕ) → Stands c (escaped c)
-byte_stands c = elim (sorted c) [
+pub byte_escape : (c : ℕ) → IsEscape c (escaped c)
+byte_escape c = elim (sorted c) [
   | inl m ↦ inl (m, marked_stands c m)
   | inr other ↦ elim other [ inl k ↦ inr (inl (k, control_stands c k)) | inr p ↦ inr (inr (p, plain_stands c p)) ]
 ]
@@ -54,7 +54,7 @@ no_mark c (inl m) k = omega (arith, m, k)
 no_mark c (inr m) k = omega (arith, m, k)
 
 -- what stands for two bytes begins no text alike, unless they are one
-same_first : (c d : ℕ) (e f xs ys : List ℕ) → Stands c e → Stands d f → e ++ xs ≡ f ++ ys → (c ≡ d) × (xs ≡ ys)
+same_first : (c d : ℕ) (e f xs ys : List ℕ) → IsEscape c e → IsEscape d f → e ++ xs ≡ f ++ ys → (c ≡ d) × (xs ≡ ys)
 same_first c d e f xs ys (inl m) (inl n) h = let g = rw (m.1, n.1) at h in (cc, cc)
 same_first c d e f xs ys (inl m) (inr (inl n)) h = let g = rw (m.1, n.1) at h in let k : c ≡ 0x78 = cc in absurd (no_mark c m.0 k)
 same_first c d e f xs ys (inl m) (inr (inr n)) h = let g = rw (m.1, n.1) at h in let k : 0x5C ≡ d = cc in absurd (n.0.3 (sym k))
@@ -66,11 +66,11 @@ same_first c d e f xs ys (inr (inr m)) (inr (inl n)) h = let g = rw (m.1, n.1) a
 same_first c d e f xs ys (inr (inr m)) (inr (inr n)) h = let g = rw (m.1, n.1) at h in (cc, cc)
 
 pub first_is_one : (c d : ℕ) (xs ys : List ℕ) → escaped c ++ xs ≡ escaped d ++ ys → (c ≡ d) × (xs ≡ ys)
-first_is_one c d xs ys h = same_first c d (escaped c) (escaped d) xs ys (byte_stands c) (byte_stands d) h
+first_is_one c d xs ys h = same_first c d (escaped c) (escaped d) xs ys (byte_escape c) (byte_escape d) h
 
 -- something stands for each byte
 pub stands_shown : (c : ℕ) (t : List ℕ) → [] ≡ escaped c ++ t → ⊥
-stands_shown c t h = elim (byte_stands c) [
+stands_shown c t h = elim (byte_escape c) [
   | inl m ↦ let g = rw m.1 at h in cc g
   | inr other ↦ elim other [ inl k ↦ let g = rw k.1 at h in cc g | inr p ↦ let g = rw p.1 at h in cc g ]
 ]

@@ -107,7 +107,7 @@ fn template_of(
 
 /// Where instructions stand: in the text of a template, from which so many references may still lead on.
 #[derive(Clone, Copy, Debug)]
-pub(crate) struct Standing<'a> {
+pub(crate) struct BuildContext<'a> {
     pub(crate) scope: TextScope<'a>,
     pub(crate) chain: usize,
 }
@@ -147,7 +147,7 @@ impl Builder<'_> {
                 template: k as u32,
                 dictionary: written.dictionary.as_str(),
             };
-            let at = Standing {
+            let at = BuildContext {
                 scope,
                 chain: NESTING_LIMIT as usize,
             };
@@ -188,7 +188,7 @@ impl Builder<'_> {
         &self,
         nodes: &mut Vec<Node>,
         body: &mut Vec<u32>,
-        at: Standing<'_>,
+        at: BuildContext<'_>,
         fields: &[WrittenInstruction],
     ) -> Result<(), AllocError>
         requires set { IsBuilder self.now }
@@ -208,7 +208,7 @@ impl Builder<'_> {
         &self,
         nodes: &mut Vec<Node>,
         body: &mut Vec<u32>,
-        at: Standing<'_>,
+        at: BuildContext<'_>,
         instruction: &WrittenInstruction,
     ) -> Result<(), AllocError>
         requires set { IsBuilder self.now }
@@ -275,7 +275,7 @@ impl Builder<'_> {
         &self,
         nodes: &mut Vec<Node>,
         body: &mut Vec<u32>,
-        at: Standing<'_>,
+        at: BuildContext<'_>,
         name: &str,
         optional: bool,
         fields: &[WrittenInstruction],
@@ -304,7 +304,7 @@ impl Builder<'_> {
         &self,
         nodes: &mut Vec<Node>,
         body: &mut Vec<u32>,
-        at: Standing<'_>,
+        at: BuildContext<'_>,
         name: &str,
         sent: FieldInstruction,
         fields: &[WrittenInstruction],
@@ -335,7 +335,7 @@ impl Builder<'_> {
         &self,
         nodes: &mut Vec<Node>,
         body: &mut Vec<u32>,
-        at: Standing<'_>,
+        at: BuildContext<'_>,
         name: &str,
     ) -> Result<(), AllocError>
         requires set { IsBuilder self.now }
@@ -351,7 +351,7 @@ impl Builder<'_> {
             template: number,
             dictionary: template.dictionary.as_str(),
         };
-        let at = Standing {
+        let at = BuildContext {
             scope,
             chain: at.chain - 1,
         };

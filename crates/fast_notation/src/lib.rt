@@ -24,4 +24,5 @@ mod written;
 
 pub use codes::{StaticCode, StaticFault};
 pub use limits::{NESTING_LIMIT, NODE_LIMIT, SEGMENT_LIMIT};
+pub use reading::operator_named;
 pub use sets::CheckedSet;

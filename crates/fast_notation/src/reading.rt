@@ -32,8 +32,8 @@ fn kind_named(name: &str) -> Option<Kind>
     }
 }
 
-/// The operator of a name.
-fn operator_named(name: &str) -> Option<Operator>
+/// The operator of a name in a template text.
+pub fn operator_named(name: &str) -> Option<Operator>
     ensures { result ≡ operator_named name.now }
 {
     match name {

@@ -1,29 +1,14 @@
 //! The eighth pass: no segment has more bits than a presence map.
 
-ghost use Rattle.std.specs.Prelude.{◌≡◌, ◌↔◌, ℕ, ◌<◌, ◌≤◌, ◌^◌, length, map, take, slice_get, slice_index_or, All, Some, IsTrue, OnOk, IfErr, List};
+ghost use Rattle.std.specs.Prelude.{◌≡◌, ◌↔◌, ◌<◌, ◌^◌, length, map, take, slice_get, slice_index_or, All, Some, IsTrue, OnOk, IfErr};
 ghost use Rattle.fast_notation.specs.meaning.Checked.{IsNarrowInside};
-ghost use Rattle.fast_tree.specs.device.Nodes.{body_of, instruction_of, instructions_from, no_instruction, template_data};
+ghost use Rattle.fast_tree.specs.device.Nodes.{body_of, instructions_from, no_instruction, template_data};
 ghost use Rattle.fast_tree.specs.device.Numbers.{AreBelow, NameNodes, NameLaterNodes};
 ghost use Rattle.fast_notation.specs.device.Segments.{IsNarrowSegment, IsNarrow, IsWide};
-ghost use Rattle.fast_tree.specs.meaning.Tree.{Label, Instruction, bits_used, bits_of, TemplateData};
+ghost use Rattle.fast_tree.specs.meaning.Tree.{bits_of, TemplateData};
 
 use crate::limits::SEGMENT_LIMIT;
 use fast_tree::{Node, Shape, Template};
-
-/// The bits that an instruction uses of its own segment.
-fn bits_used(shape: &Shape) -> usize
-    ensures few { result ≤ 2 }
-    ensures number { (at : Label) (is : List Instruction) → result ≡ bits_used (instruction_of at 0 is shape.now) }
-{
-    match shape {
-        Shape::Field(field) => usize::from(field.uses_bit()),
-        Shape::Decimal { exponent, mantissa } => {
-            usize::from(exponent.uses_bit()) + usize::from(mantissa.uses_bit())
-        }
-        Shape::Group { optional, .. } => usize::from(*optional),
-        Shape::Sequence { length, .. } => usize::from(length.uses_bit()),
-    }
-}
 
 /// The bits that the instructions of a segment use.
 fn segment_bits(nodes: &[Node], body: &[u32]) -> usize
@@ -33,7 +18,7 @@ fn segment_bits(nodes: &[Node], body: &[u32]) -> usize
 {
     let mut bits = 0;
     for number in body {
-        bits += bits_used(&nodes[*number as usize].shape);
+        bits += nodes[*number as usize].shape.bits_used();
     }
     bits
 }

@@ -8,7 +8,7 @@ use Rattle.fast_stream.specs.declared.faults.FaultCode.TheVariants as Why
 use Rattle.fast_stream.specs.meaning.Events.{EventData}
 use Rattle.fast_stream.specs.meaning.Sinks.{Takes}
 use Rattle.fast_decoder.specs.meaning.Decoding.{DecoderData, answer}
-use Rattle.fast_decoder.specs.meaning.Feeding.{Follows, StopsShort, Overflows, FollowedAt, Followed}
+use Rattle.fast_decoder.specs.meaning.Feeding.{Follows, FollowedAt, Followed}
 use Rattle.fast_records.specs.declared.records.Record.{Record}
 use Rattle.fast_records.specs.declared.feeding.Outcome.{Outcome}
 use Rattle.fast_records.specs.declared.waiting.Waiting.{Waiting}

@@ -1,5 +1,5 @@
 -- Records are added one behind the other, and what waits moves into the buffers.
-use Rattle.std.proofs.Common.{◌≡◌, ℕ, ◌+◌, ◌<◌, List, [], ◌∷◌, ◌++◌, length, map, drop, Some, Bor, refl, sym, ap, ◌∙◌, append_assoc, append-nil, add_assoc, length-append, arith, add-zero}
+use Rattle.std.proofs.Common.{◌≡◌, ℕ, ◌+◌, List, [], ◌∷◌, ◌++◌, length, map, drop, Some, Bor, sym, ap, ◌∙◌, append_assoc, append-nil, length-append, arith, add-zero}
 use Rattle.std.specs.Slice.{IsItemAt}
 use Rattle.std.proofs.lemmas.List.{flat_map_more}
 use Rattle.fast_stream.specs.meaning.Events.{EventData}
@@ -8,8 +8,8 @@ use Rattle.fast_decoder.specs.meaning.Recorded.{recorded_data}
 use Rattle.fast_records.specs.declared.records.Record.{Record}
 use Rattle.fast_records.specs.declared.room.Room.{Room}
 use Rattle.fast_records.specs.declared.waiting.Waiting.{Waiting}
-use Rattle.fast_records.specs.meaning.Records.{record_of, event_text, records_of, texts_of, AreRecordsOf}
-use Rattle.fast_records.specs.device.Room.{records_in, texts_in, Adds, IsAsFilled}
+use Rattle.fast_records.specs.meaning.Records.{record_of, event_text, records_of, texts_of}
+use Rattle.fast_records.specs.device.Room.{texts_in, Adds, IsAsFilled}
 use Rattle.fast_records.specs.device.Waiting.{pending, Holds, Moves}
 
 -- the records of one event more

@@ -1,5 +1,5 @@
 -- What a sink of records shows.
-use Rattle.std.proofs.Common.{◌≡◌, ℕ, ◌+◌, ◌<◌, List, [], ◌∷◌, ◌++◌, length, take, sym, ap, ◌∙◌, append_assoc, append-nil, arith, Result, Ok, Err, OnOk, OnErr}
+use Rattle.std.proofs.Common.{◌≡◌, ℕ, ◌<◌, List, [], ◌∷◌, ◌++◌, length, take, sym, ap, ◌∙◌, append-nil, arith, Result, Ok, Err, OnOk, OnErr}
 use Rattle.fast_stream.specs.declared.events.Stop.{Stop}
 use Rattle.fast_stream.specs.meaning.Events.{EventData}
 use Rattle.fast_records.specs.declared.records.Record.{Record}

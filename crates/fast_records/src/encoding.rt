@@ -2,7 +2,7 @@
 
 ghost use Rattle.std.specs.Prelude.{◌≡◌, IfErr, OnOk, OnErr};
 ghost use Rattle.fast_template.specs.meaning.Flat.{tree_of};
-ghost use Rattle.fast_records.specs.meaning.Putting.{IsPut, IsToldOfPut};
+ghost use Rattle.fast_records.specs.meaning.Putting.{IsPut, IsToldOfPut, IsPlacedPut};
 
 use crate::putting::{PutFault, message_of_records};
 use crate::records::Record;
@@ -35,6 +35,7 @@ pub fn put_records(
     ensures ok { OnOk result
         (IsPut (tree_of templates.now) encoder.old records.now texts.now out.old.items encoder.new out.new.items) }
     ensures err { IfErr result (IsToldOfPut (tree_of templates.now) encoder.old records.now texts.now) }
+    ensures placed { IfErr result (IsPlacedPut records.now texts.now) }
     ensures unchanged { OnErr result ((encoder.new ≡ encoder.old) × (out.new.items ≡ out.old.items)) }
     ensures same_set { (encoder.new.set ≡ encoder.old.set) × (encoder.new.limits ≡ encoder.old.limits) }
 {

@@ -1,11 +1,14 @@
 //! Records back to events, whose texts are lent.
 
-ghost use Rattle.std.specs.Prelude.{◌≡◌, [], map, take, drop, IfOk, IfSome};
+ghost use Rattle.std.specs.Prelude.{◌≡◌, ◌≤◌, ◌<◌, ◌+◌, List, [], length, map, take, drop, IfOk, IfErr, IfSome, IfNone};
 ghost use Rattle.fast_value.specs.meaning.Kinds.{text_of};
 ghost use Rattle.fast_value.specs.meaning.Values.{scalar_data};
+ghost use Rattle.fast_stream.specs.meaning.Events.{EventData, FieldValue};
 ghost use Rattle.fast_stream.specs.meaning.Handed.{event_data};
 ghost use Rattle.fast_records.specs.meaning.Records.{event_text};
 ghost use Rattle.fast_records.specs.meaning.Lent.{Tells, AreTold};
+ghost use Rattle.fast_records.specs.meaning.Putting.{OnMisplaced, OnMisplacedAt, IsPlaced};
+ghost use Rattle.fast_records.specs.device.Lent.{event_back, IsOf, HasNoEvent};
 
 use crate::putting::{PutFault, push};
 use crate::records::{
@@ -18,7 +21,9 @@ use std::alloc::Global;
 
 /// The number of a record of a number.
 fn number_of(record: Record) -> Option<Scalar<'static>>
-    ensures { IfSome result (λ v. text_of (scalar_data v) ≡ []) }
+    ensures text { IfSome result (λ v. text_of (scalar_data v) ≡ []) }
+    ensures some { IfSome result (λ v. FieldValue «record».node (scalar_data v) ≡ event_back «record» []) }
+    ensures none { IfNone result (¬ ((2 ≤ «record».kind) × («record».kind ≤ 4))) }
 {
     match record.kind {
         UNSIGNED => Some(Scalar::U(record.value)),
@@ -33,17 +38,20 @@ fn number_of(record: Record) -> Option<Scalar<'static>>
 
 /// An event without a text of the kind, node and value of a record.
 fn mark_of(record: Record) -> Option<Event<'static>>
-    ensures { IfSome result (λ e. event_text (event_data e) ≡ []) }
+    ensures text { IfSome result (λ e. event_text (event_data e) ≡ []) }
+    ensures some { IfSome result (λ e. event_data e ≡ event_back «record» []) }
+    ensures none { IfNone result
+        ((e : EventData) → IsOf «record» [] e → (5 ≤ «record».kind) × («record».kind ≤ 7)) }
 {
     let node = record.node;
     match record.kind {
         MESSAGE_START => Some(Event::MessageStart { template: node }),
         GROUP_START => Some(Event::GroupStart { node }),
         GROUP_END => Some(Event::GroupEnd),
-        SEQUENCE_START => Some(Event::SequenceStart {
-            node,
-            count: (record.value & 0xffff_ffff) as u32,
-        }),
+        SEQUENCE_START => match u32::try_from(record.value) {
+            Ok(count) => Some(Event::SequenceStart { node, count }),
+            Err(_) => None,
+        },
         ELEMENT_START => Some(Event::ElementStart),
         ELEMENT_END => Some(Event::ElementEnd),
         SEQUENCE_END => Some(Event::SequenceEnd),
@@ -57,7 +65,9 @@ fn mark_of(record: Record) -> Option<Event<'static>>
 
 /// A field of a record's kind and node with this text, if it is one with a text.
 fn text_field(record: Record, text: &[u8]) -> Option<Event<'_>>
-    ensures { IfSome result (λ e. event_text (event_data e) ≡ text.now) }
+    ensures text { IfSome result (λ e. event_text (event_data e) ≡ text.now) }
+    ensures some { IfSome result (λ e. event_data e ≡ event_back «record» text.now) }
+    ensures none { IfNone result (¬ ((5 ≤ «record».kind) × («record».kind ≤ 7))) }
 {
     let node = record.node;
     let value = match record.kind {
@@ -71,7 +81,9 @@ fn text_field(record: Record, text: &[u8]) -> Option<Event<'_>>
 
 /// An event of the kind, node and value of a record, with this text.
 fn event_with(record: Record, text: &[u8]) -> Option<Event<'_>>
-    ensures { IfSome result (λ e. event_text (event_data e) ≡ text.now) }
+    ensures text { IfSome result (λ e. event_text (event_data e) ≡ text.now) }
+    ensures some { IfSome result (λ e. event_data e ≡ event_back «record» text.now) }
+    ensures none { IfNone result (HasNoEvent «record» text.now) }
 {
     if record.kind >= ASCII && record.kind <= BYTES {
         return text_field(record, text);
@@ -84,7 +96,8 @@ fn event_with(record: Record, text: &[u8]) -> Option<Event<'_>>
 
 /// The text of a record, empty where it has none, if it stands in these texts.
 fn text_in(record: Record, texts: &[u8]) -> Option<&[u8]>
-    ensures { IfSome result (λ t. t.now ≡ take «record».length (drop «record».value texts.now)) }
+    ensures some { IfSome result (λ t. t.now ≡ take «record».length (drop «record».value texts.now)) }
+    ensures none { IfNone result (length (take «record».length (drop «record».value texts.now)) < «record».length) }
 {
     if record.length == 0 {
         return Some(&[]);
@@ -96,7 +109,8 @@ fn text_in(record: Record, texts: &[u8]) -> Option<&[u8]>
 
 /// The event that a record stands for, if it stands for one. What its kind has no use for must be 0.
 fn lent(record: Record, texts: &[u8]) -> Option<Event<'_>>
-    ensures { IfSome result (λ e. Tells texts.now «record» (event_data e)) }
+    ensures some { IfSome result (λ e. Tells texts.now «record» (event_data e)) }
+    ensures none { IfNone result ((e : EventData) → ¬ (Tells texts.now «record» e)) }
 {
     let event = event_with(record, text_in(record, texts)?)?;
     if record_of(event, record.value) == record {
@@ -112,7 +126,9 @@ pub fn events_of<'a>(
     records: &[Record],
     texts: &'a [u8],
 ) -> Result<Vec<Event<'a>>, PutFault>
-    ensures { IfOk result (λ es. AreTold texts.now records.now (map event_data es.items)) }
+    ensures told { IfOk result (λ es. AreTold texts.now records.now (map event_data es.items)) }
+    ensures none { IfErr result (OnMisplaced ((es : List EventData) → ¬ (AreTold texts.now records.now es))) }
+    ensures placed { IfErr result (OnMisplacedAt (IsPlaced records.now texts.now)) }
 {
     let mut events = Vec::with_capacity(alloc, records.len())?;
     for (i, record) in records.iter().enumerate() {

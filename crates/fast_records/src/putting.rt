@@ -1,6 +1,8 @@
 //! Messages of their events, as records have them.
 
-ghost use Rattle.std.specs.Prelude.{◌≡◌, ◌<◌, ◌+◌, ◌++◌, ◌∷◌, [], List, length, map, drop, IsTrue, IfOk, IfSome, OnOk, option_map};
+ghost use Rattle.std.specs.Prelude.{◌≡◌, ◌≢◌, ℕ, ◌<◌, ◌≤◌, ◌+◌, ◌++◌, ◌∷◌, [], List, length, map, drop};
+ghost use Rattle.std.specs.Prelude.{IsTrue, IsFalse, IfOk, IfErr, IfSome, IfNone, OnOk, option_map};
+ghost use Rattle.fast_value.specs.meaning.Kinds.{ScalarData};
 ghost use Rattle.fast_value.specs.meaning.Messages.{count};
 ghost use Rattle.fast_value.specs.meaning.Values.{scalar_data};
 ghost use Rattle.fast_value.specs.meaning.Views.{item_data, slots_data, elements_data, message_data};
@@ -11,7 +13,10 @@ ghost use Rattle.fast_stream.specs.meaning.Events.{EventData, FieldValue, GroupS
 ghost use Rattle.fast_stream.specs.meaning.Handed.{event_data};
 ghost use Rattle.fast_spelling.specs.device.Nodes.{instruction_in};
 ghost use Rattle.fast_records.specs.meaning.Lent.{AreTold};
+ghost use Rattle.fast_records.specs.meaning.Putting.{OnMisplaced, OnMisplacedAt, AreNoMessage, IsPlaced};
 ghost use Rattle.fast_records.specs.device.Putting.{mark_event, IsBodyPut, IsSlotPut, AreRowsPut};
+ghost use Rattle.fast_records.specs.device.Due.{Passes, IsStuck, IsWithin};
+ghost use Rattle.fast_records.specs.device.Due.{HasNoBody, HasNoRows, HasNoFront, HasNoMessage};
 
 use crate::lent::events_of;
 use crate::records::Record;
@@ -69,7 +74,8 @@ pub(crate) fn push<T: Drop>(items: &mut Vec<T>, item: T) -> Result<(), AllocErro
 
 /// Whether an event is this mark.
 fn is_mark(mark: Mark, event: Event<'_>) -> bool
-    ensures { IsTrue result → event_data event.entry ≡ mark_event mark }
+    ensures yes { IsTrue result → event_data event.entry ≡ mark_event mark }
+    ensures no { IsFalse result → event_data event.entry ≢ mark_event mark }
 {
     match mark {
         Mark::ElementStart => matches!(event, Event::ElementStart),
@@ -85,14 +91,19 @@ fn event_at<'e>(given: &[Event<'e>], at: usize) -> Option<Event<'e>>
     ensures inside { IfSome result (λ e. at < length given.now) }
     ensures first { IfSome result
         (λ e. map event_data (drop at given.now) ≡ event_data e ∷ map event_data (drop (at + 1) given.now)) }
+    ensures none { IfNone result (map event_data (drop at given.now) ≡ []) }
 {
     given.get(at).copied()
 }
 
 /// The number of the event behind a mark that has this number.
 fn behind(mark: Mark, given: &[Event<'_>], at: usize) -> Result<usize, PutFault>
-    ensures { IfOk result
+    ensures found { IfOk result
         (λ next. map event_data (drop at given.now) ≡ mark_event mark ∷ map event_data (drop next given.now)) }
+    ensures none { IfErr result
+        (λ f. (next : List EventData) → map event_data (drop at given.now) ≢ mark_event mark ∷ next) }
+    ensures next { IfOk result (λ next. next ≤ length given.now) }
+    ensures within { at ≤ length given.now → IfErr result (IsWithin (length given.now)) }
 {
     match event_at(given, at) {
         Some(event) if is_mark(mark, event) => Ok(at + 1),
@@ -102,7 +113,8 @@ fn behind(mark: Mark, given: &[Event<'_>], at: usize) -> Result<usize, PutFault>
 
 /// The value of a field of a node, if the event is one.
 fn value_of<'e>(node: u32, event: Event<'e>) -> Option<Scalar<'e>>
-    ensures { IfSome result (λ v. event_data event.entry ≡ FieldValue node (scalar_data v)) }
+    ensures some { IfSome result (λ v. event_data event.entry ≡ FieldValue node (scalar_data v)) }
+    ensures none { IfNone result ((v : ScalarData) → event_data event.entry ≢ FieldValue node v) }
 {
     match event {
         Event::Field { node: its, value } if its == node => Some(value),
@@ -112,7 +124,8 @@ fn value_of<'e>(node: u32, event: Event<'e>) -> Option<Scalar<'e>>
 
 /// Whether an event begins the group of a node.
 fn is_group(node: u32, event: Event<'_>) -> bool
-    ensures { IsTrue result → event_data event.entry ≡ GroupStart node }
+    ensures yes { IsTrue result → event_data event.entry ≡ GroupStart node }
+    ensures no { IsFalse result → event_data event.entry ≢ GroupStart node }
 {
     match event {
         Event::GroupStart { node: its } => its == node,
@@ -122,7 +135,8 @@ fn is_group(node: u32, event: Event<'_>) -> bool
 
 /// How many elements follow, if the event begins the sequence of a node.
 fn count_of(node: u32, event: Event<'_>) -> Option<u32>
-    ensures { IfSome result (λ n. event_data event.entry ≡ SequenceStart node n) }
+    ensures some { IfSome result (λ n. event_data event.entry ≡ SequenceStart node n) }
+    ensures none { IfNone result ((n : ℕ) → event_data event.entry ≢ SequenceStart node n) }
 {
     match event {
         Event::SequenceStart { node: its, count } if its == node => Some(count),
@@ -141,9 +155,13 @@ fn put_body(
     at: usize,
 ) -> Result<(Slots, usize), PutFault>
     requires { AreBelow (length (nodes_of templates.now)) body.now }
-    ensures { IfOk result
+    ensures put { IfOk result
         (λ r. IsBodyPut (body_among (nodes_of templates.now) body.now) end (slots_data r.0.items)
         (map event_data (drop at given.now)) (map event_data (drop r.1 given.now))) }
+    ensures none { IfErr result (OnMisplaced
+        (HasNoBody (body_among (nodes_of templates.now) body.now) end (map event_data (drop at given.now)))) }
+    ensures next { at ≤ length given.now → IfOk result (λ r. r.1 ≤ length given.now) }
+    ensures within { at ≤ length given.now → IfErr result (IsWithin (length given.now)) }
 {
     let mut place = at;
     let mut slots = Vec::new(alloc);
@@ -166,9 +184,15 @@ fn put_slot(
     at: usize,
 ) -> Result<(Option<Item>, usize), PutFault>
     requires { node < length (nodes_of templates.now) }
-    ensures { IfOk result
+    ensures put { IfOk result
         (λ r. IsSlotPut (instruction_in (nodes_of templates.now) node) (option_map item_data r.0)
         (map event_data (drop at given.now)) (map event_data (drop r.1 given.now))) }
+    ensures passes { IfOk result (λ r. Passes (nodes_of templates.now) node
+        (map event_data (drop at given.now)) (map event_data (drop r.1 given.now))) }
+    ensures none { IfErr result (OnMisplaced
+        (IsStuck (nodes_of templates.now) node (map event_data (drop at given.now)))) }
+    ensures next { at ≤ length given.now → IfOk result (λ r. r.1 ≤ length given.now) }
+    ensures within { at ≤ length given.now → IfErr result (IsWithin (length given.now)) }
 {
     let Some(first) = event_at(given, at) else {
         return Ok((None, at));
@@ -209,9 +233,13 @@ fn put_rows(
     at: usize,
 ) -> Result<(Vec<Slots>, usize), PutFault>
     requires { AreBelow (length (nodes_of templates.now)) body.now }
-    ensures { IfOk result
+    ensures put { IfOk result
         (λ r. AreRowsPut (body_among (nodes_of templates.now) body.now) count (elements_data r.0.items)
         (map event_data (drop at given.now)) (map event_data (drop r.1 given.now))) }
+    ensures none { IfErr result (OnMisplaced
+        (HasNoRows (body_among (nodes_of templates.now) body.now) count (map event_data (drop at given.now)))) }
+    ensures next { at ≤ length given.now → IfOk result (λ r. r.1 ≤ length given.now) }
+    ensures within { at ≤ length given.now → IfErr result (IsWithin (length given.now)) }
 {
     let mut place = at;
     let mut rows = Vec::new(alloc);
@@ -231,9 +259,13 @@ fn put_message(
     templates: &Templates,
     given: &[Event<'_>],
 ) -> Result<(Message, usize), PutFault>
-    ensures { IfOk result
+    ensures put { IfOk result
         (λ r. map event_data given.now ≡ events (tree_of templates.now) (message_data r.0)
         ++ map event_data (drop r.1 given.now)) }
+    ensures known { IfOk result (λ r. r.0.template < length (tree_of templates.now).templates) }
+    ensures none { IfErr result (OnMisplaced (HasNoFront (tree_of templates.now) (map event_data given.now))) }
+    ensures next { IfOk result (λ r. r.1 ≤ length given.now) }
+    ensures within { IfErr result (IsWithin (length given.now)) }
 {
     let Some(Event::MessageStart { template }) = event_at(given, 0) else {
         return Err(PutFault::Misplaced { record: 0 });
@@ -256,7 +288,10 @@ pub fn message_of(
     templates: &Templates,
     given: &[Event<'_>],
 ) -> Result<Message, PutFault>
-    ensures { IfOk result (λ m. events (tree_of templates.now) (message_data m) ≡ map event_data given.now) }
+    ensures ok { IfOk result (λ m. events (tree_of templates.now) (message_data m) ≡ map event_data given.now) }
+    ensures known { IfOk result (λ m. m.template < length (tree_of templates.now).templates) }
+    ensures misplaced { IfErr result (OnMisplaced (HasNoMessage (tree_of templates.now) (map event_data given.now))) }
+    ensures within { IfErr result (IsWithin (length given.now)) }
 {
     let (message, next) = put_message(alloc, templates, given)?;
     if next < given.len() {
@@ -276,8 +311,11 @@ pub fn message_of_records(
     records: &[Record],
     texts: &[u8],
 ) -> Result<Message, PutFault>
-    ensures { IfOk result
+    ensures ok { IfOk result
         (λ m. AreTold texts.now records.now (events (tree_of templates.now) (message_data m))) }
+    ensures known { IfOk result (λ m. m.template < length (tree_of templates.now).templates) }
+    ensures misplaced { IfErr result (OnMisplaced (AreNoMessage (tree_of templates.now) records.now texts.now)) }
+    ensures placed { IfErr result (OnMisplacedAt (IsPlaced records.now texts.now)) }
 {
     let given = events_of(alloc, records, texts)?;
     message_of(alloc, templates, &given)

@@ -15,6 +15,7 @@ ghost use Rattle.fast_spelling.specs.device.Usual.{IsOfNumbers};
 ghost use Rattle.fast_spelling.specs.device.Nodes.{instruction_in, IsReady, Keeps};
 ghost use Rattle.fast_spelling.specs.meaning.Suiting.{IsKnownAs, Suits, SuitsTemplate, SuitsBody, FitsLimits, AreWithinLimits, IsRight};
 ghost use Rattle.fast_tree.specs.declared.instructions.Node.{Node};
+ghost use Rattle.fast_tree.specs.declared.instructions.Shape.TheVariants.{Field};
 ghost use Rattle.fast_tree.specs.device.Usable.{IsUsable};
 ghost use Rattle.fast_tree.specs.meaning.Tree.{Label, field, has_map as needs_map};
 ghost use Rattle.fast_dict.specs.device.EntryTexts.{HasLongInitial, IsLongText};
@@ -24,8 +25,9 @@ ghost use Rattle.fast_value.specs.declared.kinds.Kind.TheVariants.{Decimal};
 ghost use Rattle.fast_value.specs.meaning.Values.{value_data, scalar_data};
 
 use crate::faults::EncodeFault;
-use crate::fields::write_field;
+use crate::fields::{keeps, write_field};
 use crate::forms::Form;
+use crate::known::Known;
 use crate::measuring::text_len;
 use crate::messages::{reset_if, write_identifier};
 use crate::parts::{write_absent, write_decimal};
@@ -88,8 +90,8 @@ pub fn try_body(plan: &Plan<'_>, body: &[u32], slots: &[Option<Item>], work: &mu
         → (AreWithinLimits plan.now.limits (slots_data slots.now)
         × (work.new.room + total (slots_data slots.now) ≡ work.old.room)) }
     ensures ok { IsTrue result
-        → (Wrote (EncodesBody plan.now.limits (body_among (nodes_of plan.now.templates.now) body.now) work.old.ledger.now
-        (slots_data slots.now)) work.old.draft work.new.draft work.new.ledger.now) }
+        → (Wrote (EncodesBody plan.now.limits (body_among (nodes_of plan.now.templates.now) body.now)
+        work.old.ledger.now (slots_data slots.now)) work.old.draft work.new.draft work.new.ledger.now) }
     ensures keeps { Keeps work.old.ledger work.new.ledger }
 {
     if body.len() != slots.len() {
@@ -130,7 +132,7 @@ fn form_at(plan: &Plan<'_>, node: u32) -> Form
     requires { node < length (nodes_of plan.now.templates.now) }
     ensures { (x : Node) → slice_get (nodes_of plan.now.templates.now) node ≡ Some x → Says result x.shape }
 {
-    plan.forms[node as usize]
+    plan.steps[node as usize].form
 }
 
 /// The field of a node that is one.
@@ -140,7 +142,10 @@ fn field_at<'t>(plan: &Plan<'t>, node: u32, kind: Kind, operator: Operator) -> &
     requires form { IsFieldAt (nodes_of plan.now.templates.now) node kind operator }
     ensures kind { result.now.kind ≡ kind }
     ensures operator { result.now.operator ≡ operator }
-    ensures instruction { (at : Label) × (instruction_in (nodes_of plan.now.templates.now) node ≡ field at (field_data result.now)) }
+    ensures shape { (x : Node) → slice_get (nodes_of plan.now.templates.now) node ≡ Some x
+        → x.shape ≡ Field result.now }
+    ensures instruction { (at : Label)
+        × (instruction_in (nodes_of plan.now.templates.now) node ≡ field at (field_data result.now)) }
     ensures usable { IsUsable (tree_of plan.now.templates.now).entries (field_data result.now) }
     ensures initial { (m : ℕ) → ¬ (HasLongInitial m (nodes_of plan.now.templates.now))
         → ¬ (IsLongText m (field_data result.now).initial) }
@@ -148,6 +153,28 @@ fn field_at<'t>(plan: &Plan<'t>, node: u32, kind: Kind, operator: Operator) -> &
     match &plan.templates.node(node).shape {
         Shape::Field(field) => field,
         Shape::Decimal { .. } | Shape::Group { .. } | Shape::Sequence { .. } => unreachable!(),
+    }
+}
+
+/// The field of a node that is one, with what its step says of it.
+#[inline(always)]
+fn known_at<'t>(plan: &Plan<'t>, node: u32, kind: Kind, operator: Operator) -> Known<'t>
+    requires node { node < length (nodes_of plan.now.templates.now) }
+    requires form { IsFieldAt (nodes_of plan.now.templates.now) node kind operator }
+    ensures kind { result.field.now.kind ≡ kind }
+    ensures operator { result.field.now.operator ≡ operator }
+    ensures instruction { (at : Label)
+        × (instruction_in (nodes_of plan.now.templates.now) node ≡ field at (field_data result.field.now)) }
+    ensures usable { IsUsable (tree_of plan.now.templates.now).entries (field_data result.field.now) }
+    ensures initial { (m : ℕ) → ¬ (HasLongInitial m (nodes_of plan.now.templates.now))
+        → ¬ (IsLongText m (field_data result.field.now).initial) }
+{
+    let step = plan.steps[node as usize];
+    Known {
+        field: field_at(plan, node, kind, operator),
+        kind,
+        nullable: step.nullable,
+        entry: if keeps(operator) { Some(step.entry) } else { None },
     }
 }
 
@@ -228,11 +255,11 @@ fn try_plain(
     ensures keeps { Keeps work.old.ledger work.new.ledger }
     ensures room { work.new.room ≡ work.old.room }
 {
-    let field = field_at(plan, node, kind, Operator::None);
+    let at = known_at(plan, node, kind, Operator::None);
     let Some(scalar) = right_value(plan.limits, kind, value) else {
         return Err(EncodeFault::E2);
     };
-    write_plain(&mut work.draft, &mut work.ledger, field, scalar)
+    write_plain(&mut work.draft, &mut work.ledger, at, scalar)
 }
 
 /// Writes a value of a field under constant.
@@ -256,11 +283,11 @@ fn try_constant(
     ensures keeps { Keeps work.old.ledger work.new.ledger }
     ensures room { work.new.room ≡ work.old.room }
 {
-    let field = field_at(plan, node, kind, Operator::Constant);
+    let at = known_at(plan, node, kind, Operator::Constant);
     let Some(scalar) = right_value(plan.limits, kind, value) else {
         return Err(EncodeFault::E2);
     };
-    write_constant(&mut work.draft, &mut work.ledger, field, scalar)
+    write_constant(&mut work.draft, &mut work.ledger, at, scalar)
 }
 
 /// Writes a value of a field under default.
@@ -284,11 +311,11 @@ fn try_default(
     ensures keeps { Keeps work.old.ledger work.new.ledger }
     ensures room { work.new.room ≡ work.old.room }
 {
-    let field = field_at(plan, node, kind, Operator::Default);
+    let at = known_at(plan, node, kind, Operator::Default);
     let Some(scalar) = right_value(plan.limits, kind, value) else {
         return Err(EncodeFault::E2);
     };
-    write_default(&mut work.draft, &mut work.ledger, field, scalar)
+    write_default(&mut work.draft, &mut work.ledger, at, scalar)
 }
 
 /// Writes a value of a field of integers under copy.
@@ -313,11 +340,11 @@ fn try_copied(
     ensures keeps { Keeps work.old.ledger work.new.ledger }
     ensures room { work.new.room ≡ work.old.room }
 {
-    let field = field_at(plan, node, kind, Operator::Copy);
+    let at = known_at(plan, node, kind, Operator::Copy);
     let Some(scalar) = right_value(plan.limits, kind, value) else {
         return Err(EncodeFault::E2);
     };
-    write_copied(&mut work.draft, &mut work.ledger, field, scalar)
+    write_copied(&mut work.draft, &mut work.ledger, at, scalar)
 }
 
 /// Writes a value of a field of texts or decimals under copy.
@@ -341,11 +368,11 @@ fn try_copied_other(
     ensures keeps { Keeps work.old.ledger work.new.ledger }
     ensures room { work.new.room ≡ work.old.room }
 {
-    let field = field_at(plan, node, kind, Operator::Copy);
+    let at = known_at(plan, node, kind, Operator::Copy);
     let Some(scalar) = right_value(plan.limits, kind, value) else {
         return Err(EncodeFault::E2);
     };
-    write_copied_other(&mut work.draft, &mut work.ledger, field, scalar)
+    write_copied_other(&mut work.draft, &mut work.ledger, at, scalar)
 }
 
 /// Writes a value of a field of integers under increment.
@@ -370,11 +397,11 @@ fn try_next(
     ensures keeps { Keeps work.old.ledger work.new.ledger }
     ensures room { work.new.room ≡ work.old.room }
 {
-    let field = field_at(plan, node, kind, Operator::Increment);
+    let at = known_at(plan, node, kind, Operator::Increment);
     let Some(scalar) = right_value(plan.limits, kind, value) else {
         return Err(EncodeFault::E2);
     };
-    write_next(&mut work.draft, &mut work.ledger, field, kind, scalar)
+    write_next(&mut work.draft, &mut work.ledger, at, scalar)
 }
 
 /// Writes a value of a field of integers under delta.
@@ -399,11 +426,11 @@ fn try_difference(
     ensures keeps { Keeps work.old.ledger work.new.ledger }
     ensures room { work.new.room ≡ work.old.room }
 {
-    let field = field_at(plan, node, kind, Operator::Delta);
+    let at = known_at(plan, node, kind, Operator::Delta);
     let Some(scalar) = right_value(plan.limits, kind, value) else {
         return Err(EncodeFault::E2);
     };
-    write_difference(&mut work.draft, &mut work.ledger, field, scalar)
+    write_difference(&mut work.draft, &mut work.ledger, at, scalar)
 }
 
 /// Writes a value of a field under any operator, as the rule chooses.
@@ -476,8 +503,8 @@ fn try_none(plan: &Plan<'_>, node: u32, work: &mut Work) -> Result<(), EncodeFau
     requires ready { IsReady plan.now.templates.now plan.now.limits work.old.ledger }
     ensures suits { OnOk result (Suits (instruction_in (nodes_of plan.now.templates.now) node) None) }
     ensures ok { OnOk result
-        (Wrote (Encodes plan.now.limits (instruction_in (nodes_of plan.now.templates.now) node) work.old.ledger.now None)
-        work.old.draft work.new.draft work.new.ledger.now) }
+        (Wrote (Encodes plan.now.limits (instruction_in (nodes_of plan.now.templates.now) node) work.old.ledger.now
+        None) work.old.draft work.new.draft work.new.ledger.now) }
     ensures keeps { Keeps work.old.ledger work.new.ledger }
     ensures room { work.new.room ≡ work.old.room }
 {
@@ -509,16 +536,16 @@ fn try_no_default(
     requires ready { IsReady plan.now.templates.now plan.now.limits work.old.ledger }
     ensures suits { OnOk result (Suits (instruction_in (nodes_of plan.now.templates.now) node) None) }
     ensures ok { OnOk result
-        (Wrote (Encodes plan.now.limits (instruction_in (nodes_of plan.now.templates.now) node) work.old.ledger.now None)
-        work.old.draft work.new.draft work.new.ledger.now) }
+        (Wrote (Encodes plan.now.limits (instruction_in (nodes_of plan.now.templates.now) node) work.old.ledger.now
+        None) work.old.draft work.new.draft work.new.ledger.now) }
     ensures keeps { Keeps work.old.ledger work.new.ledger }
     ensures room { work.new.room ≡ work.old.room }
 {
-    let field = field_at(plan, node, kind, Operator::Default);
-    if !field.optional {
+    let at = known_at(plan, node, kind, Operator::Default);
+    if !at.nullable {
         return Err(EncodeFault::E2);
     }
-    write_no_default(&mut work.draft, &mut work.ledger, field)
+    write_no_default(&mut work.draft, &mut work.ledger, at)
 }
 
 /// Writes the absence of a node that is a field of this type, under copy.
@@ -529,16 +556,16 @@ fn try_no_copy(plan: &Plan<'_>, node: u32, kind: Kind, work: &mut Work) -> Resul
     requires ready { IsReady plan.now.templates.now plan.now.limits work.old.ledger }
     ensures suits { OnOk result (Suits (instruction_in (nodes_of plan.now.templates.now) node) None) }
     ensures ok { OnOk result
-        (Wrote (Encodes plan.now.limits (instruction_in (nodes_of plan.now.templates.now) node) work.old.ledger.now None)
-        work.old.draft work.new.draft work.new.ledger.now) }
+        (Wrote (Encodes plan.now.limits (instruction_in (nodes_of plan.now.templates.now) node) work.old.ledger.now
+        None) work.old.draft work.new.draft work.new.ledger.now) }
     ensures keeps { Keeps work.old.ledger work.new.ledger }
     ensures room { work.new.room ≡ work.old.room }
 {
-    let field = field_at(plan, node, kind, Operator::Copy);
-    if !field.optional {
+    let at = known_at(plan, node, kind, Operator::Copy);
+    if !at.nullable {
         return Err(EncodeFault::E2);
     }
-    write_no_copy(&mut work.draft, &mut work.ledger, field)
+    write_no_copy(&mut work.draft, &mut work.ledger, at)
 }
 
 /// Writes the absence of any other node.
@@ -548,8 +575,8 @@ fn try_absence(plan: &Plan<'_>, node: u32, work: &mut Work) -> Result<(), Encode
     requires ready { IsReady plan.now.templates.now plan.now.limits work.old.ledger }
     ensures suits { OnOk result (Suits (instruction_in (nodes_of plan.now.templates.now) node) None) }
     ensures ok { OnOk result
-        (Wrote (Encodes plan.now.limits (instruction_in (nodes_of plan.now.templates.now) node) work.old.ledger.now None)
-        work.old.draft work.new.draft work.new.ledger.now) }
+        (Wrote (Encodes plan.now.limits (instruction_in (nodes_of plan.now.templates.now) node) work.old.ledger.now
+        None) work.old.draft work.new.draft work.new.ledger.now) }
     ensures keeps { Keeps work.old.ledger work.new.ledger }
     ensures room { work.new.room ≡ work.old.room }
 {

@@ -117,6 +117,52 @@ impl Entry {
         }
     }
 
+    /// The ASCII string that it holds, if it holds one that a field of the type kept.
+    #[inline(always)]
+    pub fn ascii(&self, kind: Kind) -> Option<Scalar<'_>>
+        ensures { IfSome result (λ v. entry_now self.now ≡ assigned kind (scalar_data v)) }
+    {
+        match self.held {
+            Held::Ascii(found) if found == kind => Some(Scalar::Ascii(&self.text)),
+            _ => None,
+        }
+    }
+
+    /// The Unicode string that it holds, if it holds one that a field of the type kept.
+    #[inline(always)]
+    pub fn unicode(&self, kind: Kind) -> Option<Scalar<'_>>
+        ensures { IfSome result (λ v. entry_now self.now ≡ assigned kind (scalar_data v)) }
+    {
+        match self.held {
+            Held::Unicode(found) if found == kind => Some(Scalar::Unicode(&self.text)),
+            _ => None,
+        }
+    }
+
+    /// The byte vector that it holds, if it holds one that a field of the type kept.
+    #[inline(always)]
+    pub fn bytes(&self, kind: Kind) -> Option<Scalar<'_>>
+        ensures { IfSome result (λ v. entry_now self.now ≡ assigned kind (scalar_data v)) }
+    {
+        match self.held {
+            Held::Bytes(found) if found == kind => Some(Scalar::Bytes(&self.text)),
+            _ => None,
+        }
+    }
+
+    /// The decimal that it holds, if it holds one that a field of the type kept.
+    #[inline(always)]
+    pub fn decimal(&self, kind: Kind) -> Option<Scalar<'static>>
+        ensures { IfSome result (λ v. entry_now self.now ≡ assigned kind (scalar_data v)) }
+    {
+        match self.held {
+            Held::Dec(found, exponent, mantissa) if found == kind => {
+                Some(Scalar::Dec { exponent, mantissa })
+            }
+            _ => None,
+        }
+    }
+
     /// Notes that it is changed in this message: what it holds is kept, unless that was noted already.
     #[inline(always)]
     pub fn touch(&mut self, epoch: u64)

@@ -6,6 +6,7 @@ ghost use Rattle.fast_value.specs.declared.kinds.Kind.{Kind};
 ghost use Rattle.fast_value.specs.declared.settings.Limits.{Limits};
 ghost use Rattle.fast_value.specs.meaning.Kinds.{ScalarData, text_of};
 ghost use Rattle.fast_value.specs.meaning.Values.{scalar_data};
+ghost use Rattle.fast_tree.specs.meaning.Entries.{keeps_value};
 ghost use Rattle.fast_tree.specs.meaning.Tree.{uses_bit};
 ghost use Rattle.fast_tree.specs.device.Nodes.{field_data};
 ghost use Rattle.fast_dict.specs.meaning.Dictionary.{PreviousData, previous_at, write_at};
@@ -23,6 +24,7 @@ ghost use Rattle.fast_spelling.specs.meaning.Refusals.{RefusesField};
 use crate::draft::Draft;
 use crate::faults::EncodeFault;
 use crate::items::write_item;
+use crate::known::Known;
 use crate::ledger::Ledger;
 use crate::quick::{
     write_ascii, write_bytes, write_none, write_signed, write_unicode, write_unsigned,
@@ -49,8 +51,8 @@ pub fn write_field(
     requires served { IsServed ledger.old (field_data field.now) }
     requires suited { IsSuited ledger.old.max_text (field_data field.now) (option_map scalar_data value) }
     ensures ok { OnOk result ((l : Limits) → l.max_text ≡ ledger.old.max_text
-        → Wrote (EncodesField l (field_data field.now) ledger.old.now (option_map scalar_data value.entry)) draft.old
-        draft.new ledger.new.now) }
+        → Wrote (EncodesField l (field_data field.now) ledger.old.now (option_map scalar_data value.entry))
+        draft.old draft.new ledger.new.now) }
     ensures err { IfErr result
         (IsTold (RefusesField (field_data field.now) ledger.old.now (option_map scalar_data value.entry))) }
     ensures before { ledger.new.before ≡ ledger.old.before }
@@ -74,8 +76,8 @@ fn write_present(
     requires served { IsServed ledger.old (field_data field.now) }
     requires suited { IsSuited ledger.old.max_text (field_data field.now) (Some (scalar_data value)) }
     ensures ok { OnOk result ((l : Limits) → l.max_text ≡ ledger.old.max_text
-        → Wrote (EncodesField l (field_data field.now) ledger.old.now (Some (scalar_data value.entry))) draft.old
-        draft.new ledger.new.now) }
+        → Wrote (EncodesField l (field_data field.now) ledger.old.now (Some (scalar_data value.entry)))
+        draft.old draft.new ledger.new.now) }
     ensures err { IfErr result
         (IsTold (RefusesField (field_data field.now) ledger.old.now (Some (scalar_data value.entry)))) }
     ensures keeps { Keeps ledger.old ledger.new }
@@ -106,15 +108,16 @@ pub fn write_chosen(
     requires served { IsServed ledger.old (field_data field.now) }
     requires suited { IsSuited ledger.old.max_text (field_data field.now) (option_map scalar_data value) }
     ensures ok { OnOk result ((l : Limits) → l.max_text ≡ ledger.old.max_text
-        → Wrote (EncodesField l (field_data field.now) ledger.old.now (option_map scalar_data value.entry)) draft.old
-        draft.new ledger.new.now) }
+        → Wrote (EncodesField l (field_data field.now) ledger.old.now (option_map scalar_data value.entry))
+        draft.old draft.new ledger.new.now) }
     ensures err { IfErr result
         (IsTold (RefusesField (field_data field.now) ledger.old.now (option_map scalar_data value.entry))) }
     ensures before { ledger.new.before ≡ ledger.old.before }
     ensures max_text { ledger.new.max_text ≡ ledger.old.max_text }
     ensures length { length ledger.new.now ≡ length ledger.old.now }
 {
-    let previous = previous_of(ledger, field);
+    let at = Known::of(field);
+    let previous = previous_of(ledger, at);
     note_base(field, previous);
     let Some(choice) = choose(field, previous, value) else {
         return Err(EncodeFault::E3);
@@ -122,7 +125,7 @@ pub fn write_chosen(
     send(
         draft,
         ledger,
-        field,
+        at,
         field.operator,
         value,
         choice.bit,
@@ -139,52 +142,54 @@ pub fn write_chosen(
 pub fn send(
     draft: &mut Draft,
     ledger: &mut Ledger,
-    field: &FieldInstruction,
+    at: Known<'_>,
     operator: Operator,
     value: Option<Scalar<'_>>,
     bit: bool,
     item: Sent<'_>,
 ) -> Result<(), EncodeFault>
-    requires operator { field.now.operator ≡ operator }
-    requires served { IsServed ledger.old (field_data field.now) }
-    requires suited { IsSuited ledger.old.max_text (field_data field.now) (option_map scalar_data value) }
-    requires ruled { Rule (field_data field.now) (previous_at (field_data field.now).entry ledger.old.now)
+    requires operator { at.field.now.operator ≡ operator }
+    requires served { IsServed ledger.old (field_data at.field.now) }
+    requires suited { IsSuited ledger.old.max_text (field_data at.field.now) (option_map scalar_data value) }
+    requires ruled { Rule (field_data at.field.now) (previous_at (field_data at.field.now).entry ledger.old.now)
         (option_map scalar_data value) bit (sent_data item) }
-    requires sendable { IsSendable (field_data field.now) (sent_data item) }
+    requires sendable { IsSendable (field_data at.field.now) (sent_data item) }
     ensures ok { OnOk result ((l : Limits) → l.max_text ≡ ledger.old.max_text
-        → Wrote (EncodesField l (field_data field.now) ledger.old.now (option_map scalar_data value.entry)) draft.old
-        draft.new ledger.new.now) }
+        → Wrote (EncodesField l (field_data at.entry.field.now) ledger.old.now (option_map scalar_data value.entry))
+        draft.old draft.new ledger.new.now) }
     ensures err { IfErr result
-        (IsTold (RefusesField (field_data field.now) ledger.old.now (option_map scalar_data value.entry))) }
+        (IsTold (RefusesField (field_data at.entry.field.now) ledger.old.now (option_map scalar_data value.entry))) }
     ensures before { ledger.new.before ≡ ledger.old.before }
     ensures max_text { ledger.new.max_text ≡ ledger.old.max_text }
     ensures length { length ledger.new.now ≡ length ledger.old.now }
 {
-    if uses_bit(field, operator) {
+    if uses_bit(at, operator) {
         draft.push_bit(bit)?;
     }
-    write_item(&mut draft.bytes, field, item)?;
-    keep(ledger, field, operator, value)?;
+    write_item(&mut draft.bytes, at, item)?;
+    keep(ledger, at, operator, value)?;
     Ok(())
 }
 
 /// Whether the field, which has this operator, has a presence bit.
 #[inline(always)]
-fn uses_bit(field: &FieldInstruction, operator: Operator) -> bool
-    requires { field.now.operator ≡ operator }
-    ensures { result ≡ uses_bit (field_data field.now) }
+fn uses_bit(at: Known<'_>, operator: Operator) -> bool
+    requires { at.field.now.operator ≡ operator }
+    ensures { result ≡ uses_bit (field_data at.entry.field.now) }
 {
     match operator {
         Operator::None | Operator::Delta => false,
-        Operator::Constant => field.optional,
+        Operator::Constant => at.nullable,
         Operator::Default | Operator::Copy | Operator::Increment | Operator::Tail => true,
     }
 }
 
 /// Whether the operator keeps what was written for the next message.
 #[inline(always)]
-fn keeps(operator: Operator) -> bool
-    ensures { IsFalse result → (kind : Kind) (p : PreviousData) (v : Option ScalarData) → next_by operator kind p v ≡ p }
+pub fn keeps(operator: Operator) -> bool
+    ensures value { result ≡ keeps_value operator }
+    ensures same { IsFalse result
+        → (kind : Kind) (p : PreviousData) (v : Option ScalarData) → next_by operator kind p v ≡ p }
 {
     match operator {
         Operator::None | Operator::Constant | Operator::Default => false,
@@ -194,12 +199,12 @@ fn keeps(operator: Operator) -> bool
 
 /// What the field's operator reads.
 #[inline(always)]
-pub fn previous_of<'a>(ledger: &'a Ledger, field: &FieldInstruction) -> Previous<'a>
-    requires { IsServed ledger.now (field_data field.now) }
-    ensures value { previous_data result ≡ previous_at (field_data field.now).entry ledger.now.now }
+pub fn previous_of<'a>(ledger: &'a Ledger, at: Known<'_>) -> Previous<'a>
+    requires { IsServed ledger.now (field_data at.field.now) }
+    ensures value { previous_data result ≡ previous_at (field_data at.entry.field.now).entry ledger.now.now }
     ensures short { text_size (previous_data result) ≤ ledger.now.max_text }
 {
-    match field.entry {
+    match at.entry {
         Some(entry) => ledger.get(entry as usize),
         None => Previous::Undefined,
     }
@@ -216,7 +221,7 @@ fn note_base(field: &FieldInstruction, previous: Previous<'_>)
 }
 
 /// Notes the same of a value.
-fn note_range(value: Scalar<'_>)
+pub fn note_range(value: Scalar<'_>)
     ensures { IsNarrow (scalar_data value.entry) }
 {
     match value {
@@ -237,15 +242,15 @@ fn note_range(value: Scalar<'_>)
 #[inline(always)]
 fn keep(
     ledger: &mut Ledger,
-    field: &FieldInstruction,
+    at: Known<'_>,
     operator: Operator,
     value: Option<Scalar<'_>>,
 ) -> Result<(), AllocError>
-    requires operator { field.now.operator ≡ operator }
-    requires served { IsServed ledger.old (field_data field.now) }
-    requires suited { IsSuited ledger.old.max_text (field_data field.now) (option_map scalar_data value) }
-    ensures now { OnOk result (ledger.new.now ≡ write_at (field_data field.now).entry
-        (next_of (field_data field.now) (previous_at (field_data field.now).entry ledger.old.now)
+    requires operator { at.field.now.operator ≡ operator }
+    requires served { IsServed ledger.old (field_data at.field.now) }
+    requires suited { IsSuited ledger.old.max_text (field_data at.field.now) (option_map scalar_data value) }
+    ensures now { OnOk result (ledger.new.now ≡ write_at (field_data at.entry.field.now).entry
+        (next_of (field_data at.entry.field.now) (previous_at (field_data at.entry.field.now).entry ledger.old.now)
         (option_map scalar_data value.entry)) ledger.old.now) }
     ensures before { ledger.new.before ≡ ledger.old.before }
     ensures max_text { ledger.new.max_text ≡ ledger.old.max_text }
@@ -254,11 +259,11 @@ fn keep(
     if !keeps(operator) {
         return Ok(());
     }
-    let Some(entry) = field.entry else {
+    let Some(entry) = at.entry else {
         return Ok(());
     };
     match (value, operator) {
-        (Some(value), _) => ledger.set(entry as usize, field.kind, value),
+        (Some(value), _) => ledger.set(entry as usize, at.kind, value),
         (None, Operator::Delta) => Ok(()),
         (None, _) => {
             ledger.set_empty(entry as usize);

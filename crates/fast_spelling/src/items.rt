@@ -18,8 +18,8 @@ use crate::faults::EncodeFault;
 use crate::integers::{
     push_byte, write_delta_as, write_narrow_as, write_signed_as, write_unsigned_as,
 };
+use crate::known::Known;
 use fast_dict::Sent;
-use fast_template::FieldInstruction;
 use fast_value::{Kind, Scalar};
 
 /// Writes the item of a field: nothing for [`Sent::Nothing`].
@@ -30,13 +30,14 @@ use fast_value::{Kind, Scalar};
 #[inline(always)]
 pub fn write_item(
     bytes: &mut Vec<u8>,
-    field: &FieldInstruction,
+    at: Known<'_>,
     item: Sent<'_>,
 ) -> Result<(), EncodeFault>
-    requires { IsSendable (field_data field.now) (sent_data item) }
+    requires { IsSendable (field_data at.field.now) (sent_data item) }
     ensures ok { OnOk result
-        (Adds (SpellsItem (field_data field.now) (sent_data item.entry)) bytes.old.items bytes.new.items) }
-    ensures err { IfErr result (IsTold (λ c. (c ≡ R9) × HasZeroInFront field.now.kind (sent_data item.entry))) }
+        (Adds (SpellsItem (field_data at.entry.field.now) (sent_data item.entry)) bytes.old.items bytes.new.items) }
+    ensures err { IfErr result
+        (IsTold (λ c. (c ≡ R9) × HasZeroInFront at.entry.field.now.kind (sent_data item.entry))) }
 {
     match item {
         Sent::Nothing => Ok(()),
@@ -44,19 +45,19 @@ pub fn write_item(
             bytes.extend_from_slice(&NULL)?;
             Ok(())
         }
-        Sent::Value(value) => write_value(bytes, field.kind, field.optional, value),
+        Sent::Value(value) => write_value(bytes, at.kind, at.nullable, value),
         Sent::IntegerDelta(delta) => {
-            write_delta_as(bytes, field.optional, delta)?;
+            write_delta_as(bytes, at.nullable, delta)?;
             Ok(())
         }
         Sent::DecimalDelta(exponent, mantissa) => {
-            write_signed_as(bytes, field.optional, exponent)?;
+            write_signed_as(bytes, at.nullable, exponent)?;
             write_signed_as(bytes, false, mantissa)?;
             Ok(())
         }
         Sent::TextDelta(taken, part) => {
-            write_signed_as(bytes, field.optional, taken)?;
-            write_text(bytes, field.kind, false, part)
+            write_signed_as(bytes, at.nullable, taken)?;
+            write_text(bytes, at.kind, false, part)
         }
     }
 }

@@ -71,7 +71,8 @@ impl Ledger {
     #[inline(always)]
     pub fn unsigned_at(&self, entry: usize, kind: Kind) -> Option<Scalar<'static>>
         requires { entry < length self.now.now }
-        ensures { IfSome result (λ v. previous_at (Some entry) self.now.now ≡ assigned kind (scalar_data v)) }
+        ensures value { IfSome result (λ v. previous_at (Some entry) self.now.now ≡ assigned kind (scalar_data v)) }
+        ensures short { IfSome result (λ v. length (text_of (scalar_data v)) ≤ self.now.max_text) }
     {
         self.entries[entry].unsigned(kind)
     }
@@ -80,9 +81,50 @@ impl Ledger {
     #[inline(always)]
     pub fn signed_at(&self, entry: usize, kind: Kind) -> Option<Scalar<'static>>
         requires { entry < length self.now.now }
-        ensures { IfSome result (λ v. previous_at (Some entry) self.now.now ≡ assigned kind (scalar_data v)) }
+        ensures value { IfSome result (λ v. previous_at (Some entry) self.now.now ≡ assigned kind (scalar_data v)) }
+        ensures short { IfSome result (λ v. length (text_of (scalar_data v)) ≤ self.now.max_text) }
     {
         self.entries[entry].signed(kind)
+    }
+
+    /// The ASCII string that the entry holds, if it holds one that a field of the type kept.
+    #[inline(always)]
+    pub fn ascii_at(&self, entry: usize, kind: Kind) -> Option<Scalar<'_>>
+        requires { entry < length self.now.now }
+        ensures value { IfSome result (λ v. previous_at (Some entry) self.now.now ≡ assigned kind (scalar_data v)) }
+        ensures short { IfSome result (λ v. length (text_of (scalar_data v)) ≤ self.now.max_text) }
+    {
+        self.entries[entry].ascii(kind)
+    }
+
+    /// The Unicode string that the entry holds, if it holds one that a field of the type kept.
+    #[inline(always)]
+    pub fn unicode_at(&self, entry: usize, kind: Kind) -> Option<Scalar<'_>>
+        requires { entry < length self.now.now }
+        ensures value { IfSome result (λ v. previous_at (Some entry) self.now.now ≡ assigned kind (scalar_data v)) }
+        ensures short { IfSome result (λ v. length (text_of (scalar_data v)) ≤ self.now.max_text) }
+    {
+        self.entries[entry].unicode(kind)
+    }
+
+    /// The byte vector that the entry holds, if it holds one that a field of the type kept.
+    #[inline(always)]
+    pub fn bytes_at(&self, entry: usize, kind: Kind) -> Option<Scalar<'_>>
+        requires { entry < length self.now.now }
+        ensures value { IfSome result (λ v. previous_at (Some entry) self.now.now ≡ assigned kind (scalar_data v)) }
+        ensures short { IfSome result (λ v. length (text_of (scalar_data v)) ≤ self.now.max_text) }
+    {
+        self.entries[entry].bytes(kind)
+    }
+
+    /// The decimal that the entry holds, if it holds one that a field of the type kept.
+    #[inline(always)]
+    pub fn decimal_at(&self, entry: usize, kind: Kind) -> Option<Scalar<'static>>
+        requires { entry < length self.now.now }
+        ensures value { IfSome result (λ v. previous_at (Some entry) self.now.now ≡ assigned kind (scalar_data v)) }
+        ensures short { IfSome result (λ v. length (text_of (scalar_data v)) ≤ self.now.max_text) }
+    {
+        self.entries[entry].decimal(kind)
     }
 
     /// Assigns the value to the entry, as a field of the type does.

@@ -9,6 +9,7 @@ pub mod fields;
 pub mod forms;
 pub mod integers;
 pub mod items;
+pub mod known;
 pub mod laws;
 pub mod ledger;
 pub mod measuring;

@@ -3,10 +3,10 @@
 ghost use Rattle.std.specs.Prelude.{◌≡◌};
 ghost use Rattle.fast_template.specs.meaning.Flat.{nodes_of};
 ghost use Rattle.fast_tree.specs.device.Bodies.{AreNodeWidths};
-ghost use Rattle.fast_spelling.specs.device.Forms.{forms_of};
+ghost use Rattle.fast_spelling.specs.device.Forms.{steps_of};
 
 use crate::draft::Draft;
-use crate::forms::Form;
+use crate::forms::Step;
 use crate::ledger::Ledger;
 use fast_template::Templates;
 use fast_value::Limits;
@@ -20,10 +20,10 @@ pub struct Plan<'t> {
     pub limits: Limits,
     /// How many presence bits the segment within each node uses, by the node's number.
     pub widths: Vec<usize>,
-    /// The form of each node, by its number.
-    pub forms: Vec<Form>,
+    /// What is done at each node, by its number.
+    pub steps: Vec<Step>,
     ghost widths_fit: { AreNodeWidths (nodes_of templates.now) widths.items },
-    ghost forms_fit: { forms.items ≡ forms_of (nodes_of templates.now) },
+    ghost steps_fit: { steps.items ≡ steps_of (nodes_of templates.now) },
 }
 
 /// The message in the making, and the dictionary before and behind it.

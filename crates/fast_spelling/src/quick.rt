@@ -1,11 +1,11 @@
 //! Fields under the usual operators and previous values: one comparison tells which case of the rule it is.
 
-ghost use Rattle.std.specs.Prelude.{◌≡◌, ◌-ℤ◌, ◌↔◌, true, None, Some, IsTrue, IfSome, OnOk, IfErr};
+ghost use Rattle.std.specs.Prelude.{◌≡◌, ◌≤◌, ◌-ℤ◌, ◌↔◌, true, None, Some, length, IsTrue, IfSome, OnOk, IfErr};
 ghost use Rattle.fast_value.specs.declared.settings.Limits.{Limits};
-ghost use Rattle.fast_value.specs.meaning.Kinds.{U, I, Dec, AsciiText, UnicodeText, ByteVector, IsWithin, signed_range, integer_of, value_of_integer};
+ghost use Rattle.fast_value.specs.meaning.Kinds.{U, I, Dec, AsciiText, UnicodeText, ByteVector, IsWithin, signed_range, integer_of, text_of, value_of_integer};
 ghost use Rattle.fast_value.specs.meaning.Values.{scalar_data};
 ghost use Rattle.fast_value.specs.declared.kinds.Kind.TheVariants.{UInt32, Int32, UInt64, Int64};
-ghost use Rattle.fast_tree.specs.declared.operators.Operator.TheVariants.{None as no_operator, Constant, Default, Copy, Increment, Delta};
+ghost use Rattle.fast_tree.specs.declared.operators.Operator.TheVariants.{None as no_operator, Constant, Default, Copy, Increment, Delta, Tail};
 ghost use Rattle.fast_tree.specs.device.Nodes.{field_data};
 ghost use Rattle.fast_dict.specs.meaning.Dictionary.{assigned, empty, previous_at};
 ghost use Rattle.fast_dict.specs.meaning.Operators.{incremented, range_of};
@@ -14,14 +14,17 @@ ghost use Rattle.fast_spelling.specs.device.Drafts.{IsTold};
 ghost use Rattle.fast_spelling.specs.device.Fields.{IsServed, IsSuited, Wrote};
 ghost use Rattle.fast_spelling.specs.device.Nodes.{Keeps};
 ghost use Rattle.fast_spelling.specs.meaning.Refusals.{RefusesField};
-ghost use Rattle.fast_spelling.specs.device.Usual.{IsNumber};
+ghost use Rattle.fast_spelling.specs.device.Usual.{IsNumber, IsText};
 
 use crate::draft::Draft;
 use crate::faults::EncodeFault;
-use crate::fields::{previous_of, send, write_chosen};
+use crate::fields::{note_range, previous_of, send, write_chosen};
+use crate::known::Known;
 use crate::ledger::Ledger;
 use fast_dict::operators::integers::integer_of;
+use fast_dict::operators::texts::text_of;
 use fast_dict::operators::unsent::next_integer;
+use fast_dict::rule::items::{tail_of, text_delta, text_value};
 use fast_dict::{Previous, Sent};
 use fast_template::{FieldInstruction, Operator};
 use fast_value::{Kind, Scalar, Value};
@@ -48,7 +51,7 @@ pub fn write_unsigned(
     ensures keeps { Keeps ledger.old ledger.new }
 {
     if field.operator == Operator::None {
-        return write_plain(draft, ledger, field, Scalar::U(number));
+        return write_plain(draft, ledger, Known::of(field), Scalar::U(number));
     }
     write_kept_unsigned(draft, ledger, field, number)
 }
@@ -99,23 +102,23 @@ pub fn write_signed(
 pub fn write_plain(
     draft: &mut Draft,
     ledger: &mut Ledger,
-    field: &FieldInstruction,
+    at: Known<'_>,
     value: Scalar<'_>,
 ) -> Result<(), EncodeFault>
-    requires operator { field.now.operator ≡ no_operator }
-    requires served { IsServed ledger.old (field_data field.now) }
-    requires suited { IsSuited ledger.old.max_text (field_data field.now) (Some (scalar_data value)) }
+    requires operator { at.field.now.operator ≡ no_operator }
+    requires served { IsServed ledger.old (field_data at.field.now) }
+    requires suited { IsSuited ledger.old.max_text (field_data at.field.now) (Some (scalar_data value)) }
     ensures ok { OnOk result ((l : Limits) → l.max_text ≡ ledger.old.max_text
-        → Wrote (EncodesField l (field_data field.now) ledger.old.now (Some (scalar_data value.entry))) draft.old
-        draft.new ledger.new.now) }
+        → Wrote (EncodesField l (field_data at.entry.field.now) ledger.old.now (Some (scalar_data value.entry)))
+        draft.old draft.new ledger.new.now) }
     ensures err { IfErr result
-        (IsTold (RefusesField (field_data field.now) ledger.old.now (Some (scalar_data value.entry)))) }
+        (IsTold (RefusesField (field_data at.entry.field.now) ledger.old.now (Some (scalar_data value.entry)))) }
     ensures keeps { Keeps ledger.old ledger.new }
 {
     send(
         draft,
         ledger,
-        field,
+        at,
         Operator::None,
         Some(value),
         true,
@@ -129,26 +132,26 @@ pub fn write_plain(
 pub fn write_default(
     draft: &mut Draft,
     ledger: &mut Ledger,
-    field: &FieldInstruction,
+    at: Known<'_>,
     value: Scalar<'_>,
 ) -> Result<(), EncodeFault>
-    requires operator { field.now.operator ≡ Default }
-    requires served { IsServed ledger.old (field_data field.now) }
-    requires suited { IsSuited ledger.old.max_text (field_data field.now) (Some (scalar_data value)) }
+    requires operator { at.field.now.operator ≡ Default }
+    requires served { IsServed ledger.old (field_data at.field.now) }
+    requires suited { IsSuited ledger.old.max_text (field_data at.field.now) (Some (scalar_data value)) }
     ensures ok { OnOk result ((l : Limits) → l.max_text ≡ ledger.old.max_text
-        → Wrote (EncodesField l (field_data field.now) ledger.old.now (Some (scalar_data value.entry))) draft.old
-        draft.new ledger.new.now) }
+        → Wrote (EncodesField l (field_data at.entry.field.now) ledger.old.now (Some (scalar_data value.entry)))
+        draft.old draft.new ledger.new.now) }
     ensures err { IfErr result
-        (IsTold (RefusesField (field_data field.now) ledger.old.now (Some (scalar_data value.entry)))) }
+        (IsTold (RefusesField (field_data at.entry.field.now) ledger.old.now (Some (scalar_data value.entry)))) }
     ensures keeps { Keeps ledger.old ledger.new }
 {
-    if is_initial(field, value) {
+    if is_initial(at, value) {
         return Ok(draft.push_bit(false)?);
     }
     send(
         draft,
         ledger,
-        field,
+        at,
         Operator::Default,
         Some(value),
         true,
@@ -162,31 +165,31 @@ pub fn write_default(
 pub fn write_constant(
     draft: &mut Draft,
     ledger: &mut Ledger,
-    field: &FieldInstruction,
+    at: Known<'_>,
     value: Scalar<'_>,
 ) -> Result<(), EncodeFault>
-    requires operator { field.now.operator ≡ Constant }
-    requires served { IsServed ledger.old (field_data field.now) }
-    requires suited { IsSuited ledger.old.max_text (field_data field.now) (Some (scalar_data value)) }
+    requires operator { at.field.now.operator ≡ Constant }
+    requires served { IsServed ledger.old (field_data at.field.now) }
+    requires suited { IsSuited ledger.old.max_text (field_data at.field.now) (Some (scalar_data value)) }
     ensures ok { OnOk result ((l : Limits) → l.max_text ≡ ledger.old.max_text
-        → Wrote (EncodesField l (field_data field.now) ledger.old.now (Some (scalar_data value.entry))) draft.old
-        draft.new ledger.new.now) }
+        → Wrote (EncodesField l (field_data at.entry.field.now) ledger.old.now (Some (scalar_data value.entry)))
+        draft.old draft.new ledger.new.now) }
     ensures err { IfErr result
-        (IsTold (RefusesField (field_data field.now) ledger.old.now (Some (scalar_data value.entry)))) }
+        (IsTold (RefusesField (field_data at.entry.field.now) ledger.old.now (Some (scalar_data value.entry)))) }
     ensures keeps { Keeps ledger.old ledger.new }
 {
-    if is_initial(field, value) {
+    if is_initial(at, value) {
         return send(
             draft,
             ledger,
-            field,
+            at,
             Operator::Constant,
             Some(value),
             true,
             Sent::Nothing,
         );
     }
-    choose_value(draft, ledger, field, value)
+    choose_value(draft, ledger, at.field, value)
 }
 
 /// Writes an integer under copy: what the entry holds is not sent.
@@ -195,27 +198,27 @@ pub fn write_constant(
 pub fn write_copied(
     draft: &mut Draft,
     ledger: &mut Ledger,
-    field: &FieldInstruction,
+    at: Known<'_>,
     value: Scalar<'_>,
 ) -> Result<(), EncodeFault>
-    requires operator { field.now.operator ≡ Copy }
-    requires served { IsServed ledger.old (field_data field.now) }
-    requires suited { IsSuited ledger.old.max_text (field_data field.now) (Some (scalar_data value)) }
+    requires operator { at.field.now.operator ≡ Copy }
+    requires served { IsServed ledger.old (field_data at.field.now) }
+    requires suited { IsSuited ledger.old.max_text (field_data at.field.now) (Some (scalar_data value)) }
     requires number { IsNumber (scalar_data value) }
     ensures ok { OnOk result ((l : Limits) → l.max_text ≡ ledger.old.max_text
-        → Wrote (EncodesField l (field_data field.now) ledger.old.now (Some (scalar_data value.entry))) draft.old
-        draft.new ledger.new.now) }
+        → Wrote (EncodesField l (field_data at.entry.field.now) ledger.old.now (Some (scalar_data value.entry)))
+        draft.old draft.new ledger.new.now) }
     ensures err { IfErr result
-        (IsTold (RefusesField (field_data field.now) ledger.old.now (Some (scalar_data value.entry)))) }
+        (IsTold (RefusesField (field_data at.entry.field.now) ledger.old.now (Some (scalar_data value.entry)))) }
     ensures keeps { Keeps ledger.old ledger.new }
 {
-    match held_in(ledger, field, value) {
-        None => choose_value(draft, ledger, field, value),
+    match held_in(ledger, at, value) {
+        None => choose_value(draft, ledger, at.field, value),
         Some(held) if is_same(held, value) => Ok(draft.push_bit(false)?),
         Some(_) => send(
             draft,
             ledger,
-            field,
+            at,
             Operator::Copy,
             Some(value),
             true,
@@ -230,29 +233,27 @@ pub fn write_copied(
 pub fn write_next(
     draft: &mut Draft,
     ledger: &mut Ledger,
-    field: &FieldInstruction,
-    kind: Kind,
+    at: Known<'_>,
     value: Scalar<'_>,
 ) -> Result<(), EncodeFault>
-    requires kind { field.now.kind ≡ kind }
-    requires operator { field.now.operator ≡ Increment }
-    requires served { IsServed ledger.old (field_data field.now) }
-    requires suited { IsSuited ledger.old.max_text (field_data field.now) (Some (scalar_data value)) }
+    requires operator { at.field.now.operator ≡ Increment }
+    requires served { IsServed ledger.old (field_data at.field.now) }
+    requires suited { IsSuited ledger.old.max_text (field_data at.field.now) (Some (scalar_data value)) }
     requires number { IsNumber (scalar_data value) }
     ensures ok { OnOk result ((l : Limits) → l.max_text ≡ ledger.old.max_text
-        → Wrote (EncodesField l (field_data field.now) ledger.old.now (Some (scalar_data value.entry))) draft.old
-        draft.new ledger.new.now) }
+        → Wrote (EncodesField l (field_data at.entry.field.now) ledger.old.now (Some (scalar_data value.entry)))
+        draft.old draft.new ledger.new.now) }
     ensures err { IfErr result
-        (IsTold (RefusesField (field_data field.now) ledger.old.now (Some (scalar_data value.entry)))) }
+        (IsTold (RefusesField (field_data at.entry.field.now) ledger.old.now (Some (scalar_data value.entry)))) }
     ensures keeps { Keeps ledger.old ledger.new }
 {
-    match held_in(ledger, field, value) {
-        None => choose_value(draft, ledger, field, value),
-        Some(held) if is_next(kind, held, value) => {
+    match held_in(ledger, at, value) {
+        None => choose_value(draft, ledger, at.field, value),
+        Some(held) if is_next(at.kind, held, value) => {
             send(
                 draft,
                 ledger,
-                field,
+                at,
                 Operator::Increment,
                 Some(value),
                 false,
@@ -262,7 +263,7 @@ pub fn write_next(
         Some(_) => send(
             draft,
             ledger,
-            field,
+            at,
             Operator::Increment,
             Some(value),
             true,
@@ -276,28 +277,28 @@ pub fn write_next(
 pub fn write_difference(
     draft: &mut Draft,
     ledger: &mut Ledger,
-    field: &FieldInstruction,
+    at: Known<'_>,
     value: Scalar<'_>,
 ) -> Result<(), EncodeFault>
-    requires operator { field.now.operator ≡ Delta }
-    requires served { IsServed ledger.old (field_data field.now) }
-    requires suited { IsSuited ledger.old.max_text (field_data field.now) (Some (scalar_data value)) }
+    requires operator { at.field.now.operator ≡ Delta }
+    requires served { IsServed ledger.old (field_data at.field.now) }
+    requires suited { IsSuited ledger.old.max_text (field_data at.field.now) (Some (scalar_data value)) }
     requires number { IsNumber (scalar_data value) }
     ensures ok { OnOk result ((l : Limits) → l.max_text ≡ ledger.old.max_text
-        → Wrote (EncodesField l (field_data field.now) ledger.old.now (Some (scalar_data value.entry))) draft.old
-        draft.new ledger.new.now) }
+        → Wrote (EncodesField l (field_data at.entry.field.now) ledger.old.now (Some (scalar_data value.entry)))
+        draft.old draft.new ledger.new.now) }
     ensures err { IfErr result
-        (IsTold (RefusesField (field_data field.now) ledger.old.now (Some (scalar_data value.entry)))) }
+        (IsTold (RefusesField (field_data at.entry.field.now) ledger.old.now (Some (scalar_data value.entry)))) }
     ensures keeps { Keeps ledger.old ledger.new }
 {
-    match held_in(ledger, field, value) {
-        None => choose_value(draft, ledger, field, value),
+    match held_in(ledger, at, value) {
+        None => choose_value(draft, ledger, at.field, value),
         Some(held) => {
             let delta = Sent::IntegerDelta(difference(value, held));
             send(
                 draft,
                 ledger,
-                field,
+                at,
                 Operator::Delta,
                 Some(value),
                 true,
@@ -313,31 +314,92 @@ pub fn write_difference(
 pub fn write_copied_other(
     draft: &mut Draft,
     ledger: &mut Ledger,
-    field: &FieldInstruction,
+    at: Known<'_>,
     value: Scalar<'_>,
 ) -> Result<(), EncodeFault>
-    requires operator { field.now.operator ≡ Copy }
-    requires served { IsServed ledger.old (field_data field.now) }
-    requires suited { IsSuited ledger.old.max_text (field_data field.now) (Some (scalar_data value)) }
+    requires operator { at.field.now.operator ≡ Copy }
+    requires served { IsServed ledger.old (field_data at.field.now) }
+    requires suited { IsSuited ledger.old.max_text (field_data at.field.now) (Some (scalar_data value)) }
     ensures ok { OnOk result ((l : Limits) → l.max_text ≡ ledger.old.max_text
-        → Wrote (EncodesField l (field_data field.now) ledger.old.now (Some (scalar_data value.entry))) draft.old
-        draft.new ledger.new.now) }
+        → Wrote (EncodesField l (field_data at.entry.field.now) ledger.old.now (Some (scalar_data value.entry)))
+        draft.old draft.new ledger.new.now) }
     ensures err { IfErr result
-        (IsTold (RefusesField (field_data field.now) ledger.old.now (Some (scalar_data value.entry)))) }
+        (IsTold (RefusesField (field_data at.entry.field.now) ledger.old.now (Some (scalar_data value.entry)))) }
     ensures keeps { Keeps ledger.old ledger.new }
 {
-    match held_value(ledger, field) {
-        None => choose_value(draft, ledger, field, value),
+    match held_in(ledger, at, value) {
+        None => choose_value(draft, ledger, at.field, value),
         Some(held) if is_same(held, value) => Ok(draft.push_bit(false)?),
         Some(_) => send(
             draft,
             ledger,
-            field,
+            at,
             Operator::Copy,
             Some(value),
             true,
             Sent::Value(value),
         ),
+    }
+}
+
+/// Writes a text under tail: what the entry holds is not sent, and of another text of its length only what differs.
+#[inline(always)]
+fn write_tail(
+    draft: &mut Draft,
+    ledger: &mut Ledger,
+    at: Known<'_>,
+    value: Scalar<'_>,
+) -> Result<(), EncodeFault>
+    requires operator { at.field.now.operator ≡ Tail }
+    requires served { IsServed ledger.old (field_data at.field.now) }
+    requires suited { IsSuited ledger.old.max_text (field_data at.field.now) (Some (scalar_data value)) }
+    ensures ok { OnOk result ((l : Limits) → l.max_text ≡ ledger.old.max_text
+        → Wrote (EncodesField l (field_data at.entry.field.now) ledger.old.now (Some (scalar_data value.entry)))
+        draft.old draft.new ledger.new.now) }
+    ensures err { IfErr result
+        (IsTold (RefusesField (field_data at.entry.field.now) ledger.old.now (Some (scalar_data value.entry)))) }
+    ensures keeps { Keeps ledger.old ledger.new }
+{
+    match held_in(ledger, at, value) {
+        None => write_chosen(draft, ledger, at.field, Some(value)),
+        Some(held) if is_same(held, value) => Ok(draft.push_bit(false)?),
+        Some(held) => {
+            note_range(held);
+            let Some(part) = tail_of(text_of(held), text_of(value)) else {
+                return write_chosen(draft, ledger, at.field, Some(value));
+            };
+            let tail = Sent::Value(text_value(at.kind, part));
+            send(draft, ledger, at, Operator::Tail, Some(value), true, tail)
+        }
+    }
+}
+
+/// Writes a text under delta: what is taken from that which the entry holds, and what comes in its place.
+#[inline(always)]
+fn write_text_delta(
+    draft: &mut Draft,
+    ledger: &mut Ledger,
+    at: Known<'_>,
+    value: Scalar<'_>,
+) -> Result<(), EncodeFault>
+    requires operator { at.field.now.operator ≡ Delta }
+    requires served { IsServed ledger.old (field_data at.field.now) }
+    requires suited { IsSuited ledger.old.max_text (field_data at.field.now) (Some (scalar_data value)) }
+    requires text { IsText (scalar_data value) }
+    ensures ok { OnOk result ((l : Limits) → l.max_text ≡ ledger.old.max_text
+        → Wrote (EncodesField l (field_data at.entry.field.now) ledger.old.now (Some (scalar_data value.entry)))
+        draft.old draft.new ledger.new.now) }
+    ensures err { IfErr result
+        (IsTold (RefusesField (field_data at.entry.field.now) ledger.old.now (Some (scalar_data value.entry)))) }
+    ensures keeps { Keeps ledger.old ledger.new }
+{
+    match held_in(ledger, at, value) {
+        None => write_chosen(draft, ledger, at.field, Some(value)),
+        Some(held) => {
+            note_range(held);
+            let delta = text_delta(text_of(held), text_of(value));
+            send(draft, ledger, at, Operator::Delta, Some(value), true, delta)
+        }
     }
 }
 
@@ -357,19 +419,19 @@ pub fn write_integer(
     requires suited { IsSuited ledger.old.max_text (field_data field.now) (Some (scalar_data value)) }
     requires number { IsNumber (scalar_data value) }
     ensures ok { OnOk result ((l : Limits) → l.max_text ≡ ledger.old.max_text
-        → Wrote (EncodesField l (field_data field.now) ledger.old.now (Some (scalar_data value.entry))) draft.old
-        draft.new ledger.new.now) }
+        → Wrote (EncodesField l (field_data field.now) ledger.old.now (Some (scalar_data value.entry)))
+        draft.old draft.new ledger.new.now) }
     ensures err { IfErr result
         (IsTold (RefusesField (field_data field.now) ledger.old.now (Some (scalar_data value.entry)))) }
     ensures keeps { Keeps ledger.old ledger.new }
 {
     match field.operator {
-        Operator::None => write_plain(draft, ledger, field, value),
-        Operator::Copy => write_copied(draft, ledger, field, value),
-        Operator::Increment => write_next(draft, ledger, field, field.kind, value),
-        Operator::Delta => write_difference(draft, ledger, field, value),
-        Operator::Default => write_default(draft, ledger, field, value),
-        Operator::Constant => write_constant(draft, ledger, field, value),
+        Operator::None => write_plain(draft, ledger, Known::of(field), value),
+        Operator::Copy => write_copied(draft, ledger, Known::of(field), value),
+        Operator::Increment => write_next(draft, ledger, Known::of(field), value),
+        Operator::Delta => write_difference(draft, ledger, Known::of(field), value),
+        Operator::Default => write_default(draft, ledger, Known::of(field), value),
+        Operator::Constant => write_constant(draft, ledger, Known::of(field), value),
         Operator::Tail => choose_value(draft, ledger, field, value),
     }
 }
@@ -474,17 +536,17 @@ fn write_other(
     requires served { IsServed ledger.old (field_data field.now) }
     requires suited { IsSuited ledger.old.max_text (field_data field.now) (Some (scalar_data value)) }
     ensures ok { OnOk result ((l : Limits) → l.max_text ≡ ledger.old.max_text
-        → Wrote (EncodesField l (field_data field.now) ledger.old.now (Some (scalar_data value.entry))) draft.old
-        draft.new ledger.new.now) }
+        → Wrote (EncodesField l (field_data field.now) ledger.old.now (Some (scalar_data value.entry)))
+        draft.old draft.new ledger.new.now) }
     ensures err { IfErr result
         (IsTold (RefusesField (field_data field.now) ledger.old.now (Some (scalar_data value.entry)))) }
     ensures keeps { Keeps ledger.old ledger.new }
 {
     match field.operator {
-        Operator::None => write_plain(draft, ledger, field, value),
-        Operator::Copy => write_copied_other(draft, ledger, field, value),
-        Operator::Default => write_default(draft, ledger, field, value),
-        Operator::Constant => write_constant(draft, ledger, field, value),
+        Operator::None => write_plain(draft, ledger, Known::of(field), value),
+        Operator::Copy => write_copied_other(draft, ledger, Known::of(field), value),
+        Operator::Default => write_default(draft, ledger, Known::of(field), value),
+        Operator::Constant => write_constant(draft, ledger, Known::of(field), value),
         Operator::Increment | Operator::Delta | Operator::Tail => {
             choose_value(draft, ledger, field, value)
         }
@@ -496,22 +558,23 @@ fn write_other(
 pub fn write_no_default(
     draft: &mut Draft,
     ledger: &mut Ledger,
-    field: &FieldInstruction,
+    at: Known<'_>,
 ) -> Result<(), EncodeFault>
-    requires operator { field.now.operator ≡ Default }
-    requires served { IsServed ledger.old (field_data field.now) }
-    requires suited { IsSuited ledger.old.max_text (field_data field.now) None }
+    requires operator { at.field.now.operator ≡ Default }
+    requires served { IsServed ledger.old (field_data at.field.now) }
+    requires suited { IsSuited ledger.old.max_text (field_data at.field.now) None }
     ensures ok { OnOk result ((l : Limits) → l.max_text ≡ ledger.old.max_text
-        → Wrote (EncodesField l (field_data field.now) ledger.old.now None) draft.old draft.new ledger.new.now) }
-    ensures err { IfErr result (IsTold (RefusesField (field_data field.now) ledger.old.now None)) }
+        → Wrote (EncodesField l (field_data at.entry.field.now) ledger.old.now None) draft.old draft.new
+        ledger.new.now) }
+    ensures err { IfErr result (IsTold (RefusesField (field_data at.entry.field.now) ledger.old.now None)) }
     ensures keeps { Keeps ledger.old ledger.new }
 {
-    match &field.initial {
+    match &at.field.initial {
         None => Ok(draft.push_bit(false)?),
         Some(_) => send(
             draft,
             ledger,
-            field,
+            at,
             Operator::Default,
             None,
             true,
@@ -525,20 +588,21 @@ pub fn write_no_default(
 pub fn write_no_copy(
     draft: &mut Draft,
     ledger: &mut Ledger,
-    field: &FieldInstruction,
+    at: Known<'_>,
 ) -> Result<(), EncodeFault>
-    requires operator { field.now.operator ≡ Copy }
-    requires served { IsServed ledger.old (field_data field.now) }
-    requires suited { IsSuited ledger.old.max_text (field_data field.now) None }
+    requires operator { at.field.now.operator ≡ Copy }
+    requires served { IsServed ledger.old (field_data at.field.now) }
+    requires suited { IsSuited ledger.old.max_text (field_data at.field.now) None }
     ensures ok { OnOk result ((l : Limits) → l.max_text ≡ ledger.old.max_text
-        → Wrote (EncodesField l (field_data field.now) ledger.old.now None) draft.old draft.new ledger.new.now) }
-    ensures err { IfErr result (IsTold (RefusesField (field_data field.now) ledger.old.now None)) }
+        → Wrote (EncodesField l (field_data at.entry.field.now) ledger.old.now None) draft.old draft.new
+        ledger.new.now) }
+    ensures err { IfErr result (IsTold (RefusesField (field_data at.entry.field.now) ledger.old.now None)) }
     ensures keeps { Keeps ledger.old ledger.new }
 {
-    if is_empty_in(ledger, field) {
+    if is_empty_in(ledger, at) {
         return Ok(draft.push_bit(false)?);
     }
-    choose_none(draft, ledger, field)
+    choose_none(draft, ledger, at.field)
 }
 
 /// Writes a field that is absent.
@@ -559,10 +623,10 @@ pub fn write_none(
     ensures keeps { Keeps ledger.old ledger.new }
 {
     match field.operator {
-        Operator::None => send(draft, ledger, field, field.operator, None, true, Sent::Null),
-        Operator::Delta => send(draft, ledger, field, field.operator, None, true, Sent::Null),
-        Operator::Default => write_no_default(draft, ledger, field),
-        Operator::Copy => write_no_copy(draft, ledger, field),
+        Operator::None => send(draft, ledger, Known::of(field), field.operator, None, true, Sent::Null),
+        Operator::Delta => send(draft, ledger, Known::of(field), field.operator, None, true, Sent::Null),
+        Operator::Default => write_no_default(draft, ledger, Known::of(field)),
+        Operator::Copy => write_no_copy(draft, ledger, Known::of(field)),
         Operator::Increment | Operator::Constant | Operator::Tail => {
             choose_none(draft, ledger, field)
         }
@@ -598,8 +662,8 @@ pub fn choose_value(
     requires served { IsServed ledger.old (field_data field.now) }
     requires suited { IsSuited ledger.old.max_text (field_data field.now) (Some (scalar_data value)) }
     ensures ok { OnOk result ((l : Limits) → l.max_text ≡ ledger.old.max_text
-        → Wrote (EncodesField l (field_data field.now) ledger.old.now (Some (scalar_data value.entry))) draft.old
-        draft.new ledger.new.now) }
+        → Wrote (EncodesField l (field_data field.now) ledger.old.now (Some (scalar_data value.entry)))
+        draft.old draft.new ledger.new.now) }
     ensures err { IfErr result
         (IsTold (RefusesField (field_data field.now) ledger.old.now (Some (scalar_data value.entry)))) }
     ensures keeps { Keeps ledger.old ledger.new }
@@ -696,7 +760,7 @@ fn choose_ascii(
         (IsTold (RefusesField (field_data field.now) ledger.old.now (Some (AsciiText text.now)))) }
     ensures keeps { Keeps ledger.old ledger.new }
 {
-    write_chosen(draft, ledger, field, Some(Scalar::Ascii(text)))
+    write_text(draft, ledger, field, Scalar::Ascii(text))
 }
 
 /// The same for a Unicode string.
@@ -715,7 +779,7 @@ fn choose_unicode(
         (IsTold (RefusesField (field_data field.now) ledger.old.now (Some (UnicodeText text.now)))) }
     ensures keeps { Keeps ledger.old ledger.new }
 {
-    write_chosen(draft, ledger, field, Some(Scalar::Unicode(text)))
+    write_text(draft, ledger, field, Scalar::Unicode(text))
 }
 
 /// The same for a byte vector.
@@ -734,17 +798,43 @@ fn choose_bytes(
         (IsTold (RefusesField (field_data field.now) ledger.old.now (Some (ByteVector text.now)))) }
     ensures keeps { Keeps ledger.old ledger.new }
 {
-    write_chosen(draft, ledger, field, Some(Scalar::Bytes(text)))
+    write_text(draft, ledger, field, Scalar::Bytes(text))
+}
+
+/// Writes a field that has a text: those under tail and delta have ways of their own.
+#[inline(always)]
+fn write_text(
+    draft: &mut Draft,
+    ledger: &mut Ledger,
+    field: &FieldInstruction,
+    value: Scalar<'_>,
+) -> Result<(), EncodeFault>
+    requires served { IsServed ledger.old (field_data field.now) }
+    requires suited { IsSuited ledger.old.max_text (field_data field.now) (Some (scalar_data value)) }
+    requires text { IsText (scalar_data value) }
+    ensures ok { OnOk result ((l : Limits) → l.max_text ≡ ledger.old.max_text
+        → Wrote (EncodesField l (field_data field.now) ledger.old.now (Some (scalar_data value.entry)))
+        draft.old draft.new ledger.new.now) }
+    ensures err { IfErr result
+        (IsTold (RefusesField (field_data field.now) ledger.old.now (Some (scalar_data value.entry)))) }
+    ensures keeps { Keeps ledger.old ledger.new }
+{
+    match field.operator {
+        Operator::Tail => write_tail(draft, ledger, Known::of(field), value),
+        Operator::Delta => write_text_delta(draft, ledger, Known::of(field), value),
+        _ => write_chosen(draft, ledger, field, Some(value)),
+    }
 }
 
 /// Whether the value is the field's initial value.
 #[inline(always)]
-fn is_initial(field: &FieldInstruction, value: Scalar<'_>) -> bool
-    ensures { IsTrue result ↔ ((field_data field.now).initial ≡ Some (scalar_data value.entry)) }
+fn is_initial(at: Known<'_>, value: Scalar<'_>) -> bool
+    ensures { IsTrue result ↔ ((field_data at.entry.field.now).initial ≡ Some (scalar_data value.entry)) }
 {
-    match (&field.initial, value) {
+    match (&at.field.initial, value) {
         (Some(Value::U(initial)), Scalar::U(number)) => *initial == number,
         (Some(Value::I(initial)), Scalar::I(number)) => *initial == number,
+        (Some(Value::Ascii(initial)), Scalar::Ascii(text)) => is_same_text(initial, text),
         (Some(initial), _) => is_same(initial.as_scalar(), value),
         (None, _) => false,
     }
@@ -752,40 +842,31 @@ fn is_initial(field: &FieldInstruction, value: Scalar<'_>) -> bool
 
 /// Whether the field's entry holds that a field was absent.
 #[inline(always)]
-fn is_empty_in(ledger: &Ledger, field: &FieldInstruction) -> bool
-    requires { IsServed ledger.now (field_data field.now) }
-    ensures { IsTrue result → previous_at (field_data field.now).entry ledger.now.now ≡ empty }
+fn is_empty_in(ledger: &Ledger, at: Known<'_>) -> bool
+    requires { IsServed ledger.now (field_data at.field.now) }
+    ensures { IsTrue result → previous_at (field_data at.entry.field.now).entry ledger.now.now ≡ empty }
 {
-    matches!(previous_of(ledger, field), Previous::Empty)
+    matches!(previous_of(ledger, at), Previous::Empty)
 }
 
-/// The value that the field's entry holds, if it holds one of the field's type. A text is lent.
+/// The value that the field's entry holds, if it holds one of the field's type, and of the value's form. A text is lent.
 #[inline(always)]
-fn held_value<'a>(ledger: &'a Ledger, field: &FieldInstruction) -> Option<Scalar<'a>>
-    requires { IsServed ledger.now (field_data field.now) }
-    ensures { IfSome result (λ held. previous_at (field_data field.now).entry ledger.now.now
-        ≡ assigned (field_data field.now).kind (scalar_data held)) }
+fn held_in<'a>(ledger: &'a Ledger, at: Known<'_>, value: Scalar<'_>) -> Option<Scalar<'a>>
+    requires { IsServed ledger.now (field_data at.field.now) }
+    ensures value { IfSome result (λ held. previous_at (field_data at.entry.field.now).entry ledger.now.now
+        ≡ assigned (field_data at.entry.field.now).kind (scalar_data held)) }
+    ensures short { IfSome result (λ held. length (text_of (scalar_data held)) ≤ ledger.now.max_text) }
 {
-    match previous_of(ledger, field) {
-        Previous::Assigned(kind, held) if kind == field.kind => Some(held),
-        _ => None,
-    }
-}
-
-/// The integer that the field's entry holds, if it holds one of the field's type, and of the value's form.
-#[inline(always)]
-fn held_in(ledger: &Ledger, field: &FieldInstruction, value: Scalar<'_>) -> Option<Scalar<'static>>
-    requires { IsServed ledger.now (field_data field.now) }
-    ensures { IfSome result (λ held. previous_at (field_data field.now).entry ledger.now.now
-        ≡ assigned (field_data field.now).kind (scalar_data held)) }
-{
-    let Some(entry) = field.entry else {
+    let Some(entry) = at.entry else {
         return None;
     };
     match value {
-        Scalar::U(_) => ledger.unsigned_at(entry as usize, field.kind),
-        Scalar::I(_) => ledger.signed_at(entry as usize, field.kind),
-        _ => None,
+        Scalar::U(_) => ledger.unsigned_at(entry as usize, at.kind),
+        Scalar::I(_) => ledger.signed_at(entry as usize, at.kind),
+        Scalar::Dec { .. } => ledger.decimal_at(entry as usize, at.kind),
+        Scalar::Ascii(_) => ledger.ascii_at(entry as usize, at.kind),
+        Scalar::Unicode(_) => ledger.unicode_at(entry as usize, at.kind),
+        Scalar::Bytes(_) => ledger.bytes_at(entry as usize, at.kind),
     }
 }
 

@@ -145,6 +145,16 @@ pub fn is_decimal(kind: Kind, exponent: i32, mantissa: i64) -> bool
 fn is_ascii(text: &[u8]) -> bool
     ensures { IsTrue result ↔ All (λ c. c < 128) text.now }
 {
+    if text.len() == 1 {
+        return text[0] < 128;
+    }
+    is_long_ascii(text)
+}
+
+/// The same for a text of any length.
+fn is_long_ascii(text: &[u8]) -> bool
+    ensures { IsTrue result ↔ All (λ c. c < 128) text.now }
+{
     text.is_ascii()
 }
 

@@ -1,12 +1,12 @@
 //! How many presence bits segments use, and which instructions may be absent. No query takes memory.
 
-ghost use Rattle.std.specs.Prelude.{◌≡◌, ℕ, ◌<◌, ◌≤◌, ◌^◌, ◌-◌, List, length, slice_get, Some};
-ghost use Rattle.fast_tree.specs.meaning.Tree.{Label, Instruction, bits_used, bits_of, message_bits};
+ghost use Rattle.std.specs.Prelude.{◌≡◌, ◌<◌, ◌^◌, ◌-◌, length, slice_get, Some};
+ghost use Rattle.fast_tree.specs.meaning.Tree.{bits_of, message_bits};
 ghost use Rattle.fast_tree.specs.declared.instructions.Node.{Node};
 ghost use Rattle.fast_tree.specs.declared.instructions.Template.{Template};
 ghost use Rattle.fast_tree.specs.device.Bodies.{body_among};
 ghost use Rattle.fast_tree.specs.device.Numbers.{AreBelow, numbers_of};
-ghost use Rattle.fast_template.specs.meaning.Flat.{nodes_of, templates_of, instruction_of, instructions_from, template_data};
+ghost use Rattle.fast_template.specs.meaning.Flat.{nodes_of, templates_of, instructions_from, template_data};
 ghost use Rattle.fast_template.specs.device.Presence.{may_be_absent};
 
 use crate::sets::Templates;
@@ -47,22 +47,6 @@ impl Templates {
     }
 }
 
-/// The bits that the instruction uses of its own segment's map.
-fn bits_used(node: &Node) -> usize
-    ensures used { (at : Label) (first : ℕ) (is : List Instruction)
-        → result ≡ bits_used (instruction_of at first is node.now.shape) }
-    ensures few { result ≤ 2 }
-{
-    match &node.shape {
-        Shape::Field(field) => usize::from(field.uses_bit()),
-        Shape::Decimal { exponent, mantissa } => {
-            usize::from(exponent.uses_bit()) + usize::from(mantissa.uses_bit())
-        }
-        Shape::Group { optional, .. } => usize::from(*optional),
-        Shape::Sequence { length, .. } => usize::from(length.uses_bit()),
-    }
-}
-
 /// The bits that the segment of these nodes uses.
 fn body_bits(templates: &Templates, body: &[u32]) -> usize
     requires within { AreBelow (length (nodes_of templates.now)) body.now }
@@ -72,7 +56,7 @@ fn body_bits(templates: &Templates, body: &[u32]) -> usize
 {
     let mut bits = 0;
     for n in body {
-        bits += bits_used(templates.node(*n));
+        bits += templates.node(*n).shape.bits_used();
     }
     bits
 }

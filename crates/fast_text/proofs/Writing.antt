@@ -13,7 +13,7 @@ use Rattle.fast_text.specs.declared.line_sink.LineSink.{LineSink}
 use Rattle.fast_text.specs.device.LineSink.{whole_line, TakesLine, StopsInLine}
 use Rattle.fast_text.specs.declared.streams.Failed.{Failed}
 use Rattle.fast_text.specs.device.Room.{kept_in}
-use Rattle.fast_text.specs.device.LineWriter.{Point, Puts, Stands, Writes, IsFresh, Finishes, point_of}
+use Rattle.fast_text.specs.device.LineWriter.{Point, Puts, HasPut, Writes, IsFresh, Finishes, point_of}
 
 -- no text
 pub appends_none : (old : Option (List ℕ)) → Appends old old []
@@ -70,8 +70,8 @@ front_of_first old new a b first = record {
 }
 
 -- the same text
-stands_same : (begun : Option (List ℕ)) (had_failed : Bool) (a b : List ℕ) (p : Point) → a ≡ b → Stands begun had_failed a p → Stands begun had_failed b p
-stands_same begun had_failed a b p same h = rw (← same) h
+put_same : (begun : Option (List ℕ)) (had_failed : Bool) (a b : List ℕ) (p : Point) → a ≡ b → HasPut begun had_failed a p → HasPut begun had_failed b p
+put_same begun had_failed a b p same h = rw (← same) h
 
 apart : true ≡ false → ⊥
 apart h = cc
@@ -79,7 +79,7 @@ apart h = cc
 -- one text and then another
 pub puts_both : (p q r : Point) (a b : List ℕ) → Puts p a q → Puts q b r → Puts p (a ++ b) r
 puts_both p q r a b first second begun had_failed before h =
-    stands_same begun had_failed ((before ++ a) ++ b) (before ++ (a ++ b)) r (append_assoc before a b) (second begun had_failed (before ++ a) (first begun had_failed before h))
+    put_same begun had_failed ((before ++ a) ++ b) (before ++ (a ++ b)) r (append_assoc before a b) (second begun had_failed (before ++ a) (first begun had_failed before h))
 
 -- The text is kept.
 pub puts_kept : (p q : Point) (text : List ℕ) → q.written ≡ p.written → q.failed ≡ p.failed → q.is_writing ≡ p.is_writing → q.kept ≡ p.kept ++ text → Puts p text q
@@ -144,7 +144,7 @@ pub writes_none : {T : Type 0} (written : T → Option (List ℕ)) (failed : T �
 writes_none written failed s = record {
   same_target = refl;
   same_room = refl;
-  puts = λ begun had_failed before h. stands_same begun had_failed before (before ++ []) (point_of written failed s) (sym (append-nil before)) h;
+  puts = λ begun had_failed before h. put_same begun had_failed before (before ++ []) (point_of written failed s) (sym (append-nil before)) h;
 }
 
 -- the same text
@@ -183,13 +183,13 @@ written_directly written failed s t text (Err x) empty emptied same_target same_
 pub finished : {T : Type 0} {written : T → Option (List ℕ)} {failed : T → Bool} {s t : LineWriter T} → Writes written failed s [] t → kept_in t.kept.now ≡ [] → Finishes written failed s t t.outcome
 finished {T} {written} {failed} {s} {t} h empty = record { same_target = h.same_target; same_room = h.same_room; whole = on_ok t.outcome refl; part = on_err t.outcome refl }
   where
-    behind : (begun : Option (List ℕ)) (had_failed : Bool) (text : List ℕ) → Stands begun had_failed text (point_of written failed s) → Stands begun had_failed text (point_of written failed t)
-    behind begun had_failed text stands = stands_same begun had_failed (text ++ []) text (point_of written failed t) (append-nil text) (h.puts begun had_failed text stands)
+    behind : (begun : Option (List ℕ)) (had_failed : Bool) (text : List ℕ) → HasPut begun had_failed text (point_of written failed s) → HasPut begun had_failed text (point_of written failed t)
+    behind begun had_failed text stands = put_same begun had_failed (text ++ []) text (point_of written failed t) (append-nil text) (h.puts begun had_failed text stands)
 
     front_is : (text front : List ℕ) → text ≡ front ++ kept_in t.kept.now → text ≡ front
     front_is text front e = e ∙ ap (λ (xs : List ℕ). front ++ xs) empty ∙ append-nil front
 
-    on_ok : (r : Result (Unit {0}) Failed) → t.outcome ≡ r → OnOk r ((begun : Option (List ℕ)) (had_failed : Bool) (text : List ℕ) → Stands begun had_failed text (point_of written failed s)
+    on_ok : (r : Result (Unit {0}) Failed) → t.outcome ≡ r → OnOk r ((begun : Option (List ℕ)) (had_failed : Bool) (text : List ℕ) → HasPut begun had_failed text (point_of written failed s)
         → Appends begun (written t.target.now) text × (failed t.target.now ≡ had_failed))
     on_ok (Err x) e = tt
     on_ok (Ok x) e = λ begun had_failed text stands. elim (behind begun had_failed text stands).how [
@@ -197,7 +197,7 @@ finished {T} {written} {failed} {s} {t} h empty = record { same_target = h.same_
       | inr f ↦ absurd (apart (sym (ap is_ok e) ∙ f.0))
     ]
 
-    on_err : (r : Result (Unit {0}) Failed) → t.outcome ≡ r → OnErr r ((begun : Option (List ℕ)) (had_failed : Bool) (text : List ℕ) → Stands begun had_failed text (point_of written failed s)
+    on_err : (r : Result (Unit {0}) Failed) → t.outcome ≡ r → OnErr r ((begun : Option (List ℕ)) (had_failed : Bool) (text : List ℕ) → HasPut begun had_failed text (point_of written failed s)
         → AppendsFront begun (written t.target.now) text × IsTrue (failed t.target.now))
     on_err (Ok x) e = tt
     on_err (Err x) e = λ begun had_failed text stands. elim (behind begun had_failed text stands).how [
@@ -206,18 +206,18 @@ finished {T} {written} {failed} {s} {t} h empty = record { same_target = h.same_
     ]
 
 -- a writer that keeps nothing
-pub stands_fresh : {T : Type 0} (written : T → Option (List ℕ)) (failed : T → Bool) (s : LineWriter T) → IsFresh s → Stands (written s.target.now) (failed s.target.now) [] (point_of written failed s)
-stands_fresh written failed s fresh = record { how = inl (ap is_ok fresh.is_open, ([], sym fresh.empty, appends_none (written s.target.now)), refl) }
+pub put_fresh : {T : Type 0} (written : T → Option (List ℕ)) (failed : T → Bool) (s : LineWriter T) → IsFresh s → HasPut (written s.target.now) (failed s.target.now) [] (point_of written failed s)
+put_fresh written failed s fresh = record { how = inl (ap is_ok fresh.is_open, ([], sym fresh.empty, appends_none (written s.target.now)), refl) }
 
 -- from a writer that begins to one that has written all
 pub ended_whole : {T : Type 0} {written : T → Option (List ℕ)} {failed : T → Bool} {s t u : LineWriter T} {r : Result (Unit {0}) Failed} {text : List ℕ}
     → IsFresh s → Writes written failed s text t → Finishes written failed t u r → r ≡ Ok tt → Appends (written s.target.now) (written u.target.now) text × (failed u.target.now ≡ failed s.target.now)
 ended_whole {T} {written} {failed} {s} {t} {u} {r} {text} fresh h end ok = on_ok r ok end.whole
   where
-    put : Stands (written s.target.now) (failed s.target.now) text (point_of written failed t)
-    put = h.puts (written s.target.now) (failed s.target.now) [] (stands_fresh written failed s fresh)
+    put : HasPut (written s.target.now) (failed s.target.now) text (point_of written failed t)
+    put = h.puts (written s.target.now) (failed s.target.now) [] (put_fresh written failed s fresh)
 
-    on_ok : (r : Result (Unit {0}) Failed) → r ≡ Ok tt → OnOk r ((begun : Option (List ℕ)) (had_failed : Bool) (xs : List ℕ) → Stands begun had_failed xs (point_of written failed t) → Appends begun (written u.target.now) xs × (failed u.target.now ≡ had_failed))
+    on_ok : (r : Result (Unit {0}) Failed) → r ≡ Ok tt → OnOk r ((begun : Option (List ℕ)) (had_failed : Bool) (xs : List ℕ) → HasPut begun had_failed xs (point_of written failed t) → Appends begun (written u.target.now) xs × (failed u.target.now ≡ had_failed))
         → Appends (written s.target.now) (written u.target.now) text × (failed u.target.now ≡ failed s.target.now)
     on_ok (Ok x) e w = w (written s.target.now) (failed s.target.now) text put
     on_ok (Err x) e w = absurd (cc)
@@ -227,10 +227,10 @@ pub ended_short : {T : Type 0} {written : T → Option (List ℕ)} {failed : T �
     → IsFresh s → Writes written failed s text t → Finishes written failed t u r → r ≡ Err e → AppendsFront (written s.target.now) (written u.target.now) text × IsTrue (failed u.target.now)
 ended_short {T} {written} {failed} {s} {t} {u} {r} {text} e fresh h end failing = on_err r failing end.part
   where
-    put : Stands (written s.target.now) (failed s.target.now) text (point_of written failed t)
-    put = h.puts (written s.target.now) (failed s.target.now) [] (stands_fresh written failed s fresh)
+    put : HasPut (written s.target.now) (failed s.target.now) text (point_of written failed t)
+    put = h.puts (written s.target.now) (failed s.target.now) [] (put_fresh written failed s fresh)
 
-    on_err : (r : Result (Unit {0}) Failed) → r ≡ Err e → OnErr r ((begun : Option (List ℕ)) (had_failed : Bool) (xs : List ℕ) → Stands begun had_failed xs (point_of written failed t) → AppendsFront begun (written u.target.now) xs × IsTrue (failed u.target.now))
+    on_err : (r : Result (Unit {0}) Failed) → r ≡ Err e → OnErr r ((begun : Option (List ℕ)) (had_failed : Bool) (xs : List ℕ) → HasPut begun had_failed xs (point_of written failed t) → AppendsFront begun (written u.target.now) xs × IsTrue (failed u.target.now))
         → AppendsFront (written s.target.now) (written u.target.now) text × IsTrue (failed u.target.now)
     on_err (Ok x) e w = absurd (cc)
     on_err (Err x) e w = w (written s.target.now) (failed s.target.now) text put

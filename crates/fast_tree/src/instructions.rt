@@ -1,8 +1,8 @@
 //! Templates and their instructions, as they are kept.
 
-ghost use Rattle.std.specs.Prelude.{◌≡◌};
-ghost use Rattle.fast_tree.specs.device.Nodes.{field_data};
-ghost use Rattle.fast_tree.specs.meaning.Tree.{uses_bit};
+ghost use Rattle.std.specs.Prelude.{◌≡◌, ◌≤◌, ℕ, List};
+ghost use Rattle.fast_tree.specs.device.Nodes.{field_data, instruction_of};
+ghost use Rattle.fast_tree.specs.meaning.Tree.{Label, Instruction, uses_bit, bits_used};
 
 use crate::operators::Operator;
 use fast_value::{Kind, Value};
@@ -23,16 +23,12 @@ pub struct FieldInstruction {
 }
 
 impl FieldInstruction {
-    /// Whether the value has a bit in the presence map of its segment (FAST 1.1, Transfer Encoding, Presence Map Utilization).
+    /// Whether the value has a bit in the presence map of its segment.
     #[inline]
     pub fn uses_bit(&self) -> bool
         ensures { result ≡ uses_bit (field_data self.now) }
     {
-        match self.operator {
-            Operator::None | Operator::Delta => false,
-            Operator::Constant => self.optional,
-            Operator::Default | Operator::Copy | Operator::Increment | Operator::Tail => true,
-        }
+        self.operator.uses_bit(self.optional)
     }
 }
 
@@ -62,6 +58,24 @@ pub enum Shape {
         /// The nodes of an element's instructions, in order.
         body: Vec<u32>,
     },
+}
+
+impl Shape {
+    /// The greatest number of presence bits that the instruction uses of its own segment.
+    pub fn bits_used(&self) -> usize
+        ensures used { (at : Label) (first : ℕ) (is : List Instruction)
+            → result ≡ bits_used (instruction_of at first is self.now) }
+        ensures few { result ≤ 2 }
+    {
+        match self {
+            Shape::Field(field) => usize::from(field.uses_bit()),
+            Shape::Decimal { exponent, mantissa } => {
+                usize::from(exponent.uses_bit()) + usize::from(mantissa.uses_bit())
+            }
+            Shape::Group { optional, .. } => usize::from(*optional),
+            Shape::Sequence { length, .. } => usize::from(length.uses_bit()),
+        }
+    }
 }
 
 /// An instruction with its name.

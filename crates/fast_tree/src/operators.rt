@@ -1,5 +1,8 @@
 //! The field operators.
 
+ghost use Rattle.std.specs.Prelude.{◌≡◌};
+ghost use Rattle.fast_tree.specs.meaning.Tree.{operator_uses_bit};
+
 /// The field operators of FAST 1.1 (Template Definition, Field Operators).
 #[derive(Clone, Copy, Debug, PartialEq, Eq)]
 pub enum Operator {
@@ -17,4 +20,19 @@ pub enum Operator {
     Delta,
     /// The end of a string is sent, and replaces as much of the previous value.
     Tail,
+}
+
+impl Operator {
+    /// Whether a value under the operator, which may be optional, has a bit in the presence map of its segment (FAST 1.1,
+    /// Transfer Encoding, Presence Map Utilization).
+    #[inline]
+    pub fn uses_bit(self, optional: bool) -> bool
+        ensures { result ≡ operator_uses_bit self optional }
+    {
+        match self {
+            Operator::None | Operator::Delta => false,
+            Operator::Constant => optional,
+            Operator::Default | Operator::Copy | Operator::Increment | Operator::Tail => true,
+        }
+    }
 }

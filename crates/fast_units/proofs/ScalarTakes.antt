@@ -1,7 +1,6 @@
 -- Units of fields, from the functions that take them to the machine that calls these.
 use Rattle.std.proofs.Common.{refl, sym, ◌∙◌, subst}
-use Rattle.std.specs.Prelude.{◌≡◌, ℕ, ◌<◌, List, [], ◌++◌, length}
-use Rattle.fast_wire.specs.meaning.Entities.{HaveNoStop}
+use Rattle.std.specs.Prelude.{◌≡◌, ℕ, List, []}
 use Rattle.fast_value.specs.meaning.Kinds.{decimals, texts, family}
 use Rattle.fast_value.specs.declared.settings.Limits.{Limits}
 use Rattle.fast_value.specs.meaning.Limits.{Bounds, bounds}
@@ -11,6 +10,7 @@ use Rattle.fast_dict.specs.meaning.Operators.{Outcome}
 use Rattle.fast_stream.specs.device.Readers.{Reader}
 use Rattle.fast_units.specs.device.Settling.{IsLastUnit}
 use Rattle.fast_units.specs.device.Stages.{IsFieldUnit}
+use Rattle.fast_units.specs.device.Words.{IsKeptCut}
 use Rattle.fast_units.specs.device.UnitFronts.{IsEntityKept, IsNextStage, IsNextOf, settled}
 use Rattle.fast_units.specs.device.TextDecisions.{HasBytes}
 use Rattle.fast_units.specs.declared.source.ValueSource.{ValueSource}
@@ -58,7 +58,7 @@ next_of_text l f p Cut h = tt
 
 -- what is in hand of an integer
 pub kept_entity : {T : Type 0} (front rest after : List ℕ) (q : Progress T) → ((x : T) (n : ℕ) → q ≡ Whole x n → after ≡ [])
-    → (q ≡ Cut → (after ≡ front ++ rest) × HaveNoStop after × (length after < 10)) → IsEntityKept front rest after q
+    → IsKeptCut front rest after q → IsEntityKept front rest after q
 kept_entity front rest after (Whole x n) whole cut = whole x n refl
 kept_entity front rest after (Wrong c n) whole cut = tt
 kept_entity front rest after Cut whole cut = cut refl

@@ -1,7 +1,6 @@
 //! Fields of numbers: what their units give, and what they leave in the dictionary.
 
-ghost use Rattle.std.specs.Prelude.{false, Some, IfSome, ◌≡◌, ◌≢◌, ℕ, ◌<◌, ◌≤◌, true, List, [], length, ℤ, pos, neg_ℤ, ◌≤ℤ◌, Ok};
-ghost use Rattle.fast_wire.specs.meaning.Entities.{HaveNoStop};
+ghost use Rattle.std.specs.Prelude.{false, Some, IfSome, ◌≡◌, ◌≢◌, ℕ, ◌<◌, ◌≤◌, true, List, [], ℤ, pos, neg_ℤ, ◌≤ℤ◌, Ok};
 ghost use Rattle.fast_wire.specs.meaning.Integers.{unsigned_up_to};
 ghost use Rattle.fast_value.specs.meaning.Kinds.{U, Dec, value_of_integer, integers, decimals, texts, family, signed_range};
 ghost use Rattle.fast_value.specs.meaning.Limits.{Bounds, bounds};
@@ -12,7 +11,7 @@ ghost use Rattle.fast_stream.specs.device.GrammarReaders.{reader_of};
 ghost use Rattle.fast_units.specs.device.Stages.{term_behind, IsStageOf};
 ghost use Rattle.fast_units.specs.device.NextUnits.{range_data};
 ghost use Rattle.fast_units.specs.device.Deciding.{number_data, sent_number, base_integer, progress_of};
-ghost use Rattle.fast_units.specs.device.Words.{ServesField, HasEntryOf, previous_of, sent_reader, IsLastUnitOf, IsUnitOf, IsDecidedIn, IsKeptCut};
+ghost use Rattle.fast_units.specs.device.Words.{IsOpenEntity, ServesField, HasEntryOf, previous_of, sent_reader, IsLastUnitOf, IsUnitOf, IsDecidedIn, IsKeptCut};
 
 use crate::fields::{Number, assign_empty, keep, own_number, previous};
 use crate::progress::Progress;
@@ -168,8 +167,7 @@ pub fn take_integer(
     rest: &[u8],
     strict: bool,
 ) -> Progress<ValueSource>
-    requires open { HaveNoStop pending.old }
-    requires short { length pending.old < 10 }
+    requires open { IsOpenEntity pending.old }
     requires serves { ServesField slots.old field.now }
     requires integers { family field.now.kind ≡ integers (range_of field.now.kind) }
     requires sent { field.now.operator ≢ Operator.Constant }
@@ -194,8 +192,7 @@ fn take_integer_item(
     rest: &[u8],
     strict: bool,
 ) -> Progress<ValueSource>
-    requires open { HaveNoStop pending.old }
-    requires short { length pending.old < 10 }
+    requires open { IsOpenEntity pending.old }
     requires serves { ServesField slots.old field.now }
     requires integers { family field.now.kind ≡ integers (range_of field.now.kind) }
     requires no_delta { field.now.operator ≢ Operator.Delta }
@@ -247,8 +244,7 @@ fn take_unsigned(
     strict: bool,
     top: u64,
 ) -> Progress<ValueSource>
-    requires open { HaveNoStop pending.old }
-    requires short { length pending.old < 10 }
+    requires open { IsOpenEntity pending.old }
     requires serves { ServesField slots.old field.now }
     requires integers { family field.now.kind ≡ integers (range_of field.now.kind) }
     requires no_delta { field.now.operator ≢ Operator.Delta }
@@ -281,8 +277,7 @@ fn take_integer_delta(
     rest: &[u8],
     strict: bool,
 ) -> Progress<ValueSource>
-    requires open { HaveNoStop pending.old }
-    requires short { length pending.old < 10 }
+    requires open { IsOpenEntity pending.old }
     requires serves { ServesField slots.old field.now }
     requires integers { family field.now.kind ≡ integers (range_of field.now.kind) }
     requires delta { field.now.operator ≡ Operator.Delta }
@@ -310,8 +305,7 @@ pub fn take_exponent(
     rest: &[u8],
     limits: Limits,
 ) -> Progress<FieldStep>
-    requires open { HaveNoStop pending.old }
-    requires short { length pending.old < 10 }
+    requires open { IsOpenEntity pending.old }
     requires serves { ServesField slots.old field.now }
     requires decimals { family field.now.kind ≡ decimals }
     requires sent { field.now.operator ≢ Operator.Constant }
@@ -335,8 +329,7 @@ fn take_exponent_item(
     rest: &[u8],
     limits: Limits,
 ) -> Progress<FieldStep>
-    requires open { HaveNoStop pending.old }
-    requires short { length pending.old < 10 }
+    requires open { IsOpenEntity pending.old }
     requires serves { ServesField slots.old field.now }
     requires decimals { family field.now.kind ≡ decimals }
     requires no_delta { field.now.operator ≢ Operator.Delta }
@@ -375,8 +368,7 @@ fn take_exponent_delta(
     rest: &[u8],
     limits: Limits,
 ) -> Progress<FieldStep>
-    requires open { HaveNoStop pending.old }
-    requires short { length pending.old < 10 }
+    requires open { IsOpenEntity pending.old }
     requires serves { ServesField slots.old field.now }
     requires decimals { family field.now.kind ≡ decimals }
     requires delta { field.now.operator ≡ Operator.Delta }
@@ -421,8 +413,7 @@ pub fn take_mantissa(
     rest: &[u8],
     limits: Limits,
 ) -> Progress<ValueSource>
-    requires open { HaveNoStop pending.old }
-    requires short { length pending.old < 10 }
+    requires open { IsOpenEntity pending.old }
     requires serves { ServesField slots.old field.now }
     requires stage { IsStageOf (bounds limits) (field_data field.now) (previous_of slots.old field.now)
         (Stage.Mantissa exponent) }
@@ -453,8 +444,7 @@ pub fn take_mantissa_delta(
     rest: &[u8],
     limits: Limits,
 ) -> Progress<ValueSource>
-    requires open { HaveNoStop pending.old }
-    requires short { length pending.old < 10 }
+    requires open { IsOpenEntity pending.old }
     requires serves { ServesField slots.old field.now }
     requires stage { IsStageOf (bounds limits) (field_data field.now) (previous_of slots.old field.now)
         (Stage.MantissaDelta exponent) }

@@ -1,7 +1,6 @@
 //! The units of fields that are neither lengths nor parts of decimals, by which unit is in hand.
 
-ghost use Rattle.std.specs.Prelude.{◌≡◌, ◌≢◌, ◌<◌, ◌≤◌, ℕ, List, [], ◌++◌, length};
-ghost use Rattle.fast_wire.specs.meaning.Entities.{HaveNoStop};
+ghost use Rattle.std.specs.Prelude.{◌≡◌, ◌≢◌, ◌<◌, ℕ, List, [], ◌++◌};
 ghost use Rattle.fast_value.specs.meaning.Kinds.{family, integers};
 ghost use Rattle.fast_value.specs.meaning.Limits.{bounds};
 ghost use Rattle.fast_tree.specs.device.Nodes.{field_data};
@@ -12,7 +11,7 @@ ghost use Rattle.fast_units.specs.device.Stages.{term_behind, IsStageOf};
 ghost use Rattle.fast_stream.specs.meaning.Units.{ascii_text};
 ghost use Rattle.fast_stream.specs.meaning.Phrases.{cut};
 ghost use Rattle.fast_units.specs.device.UnitFronts.{IsAsciiFirst, IsNumberStage, IsBytesStage, IsEntityKept, IsNextOf, settled, SettlesOnly};
-ghost use Rattle.fast_units.specs.device.Words.{ServesField, previous_of, sent_reader, IsUnitOf};
+ghost use Rattle.fast_units.specs.device.Words.{IsOpenEntity, HasTextLimit, HasRoomFor, ServesField, previous_of, sent_reader, IsUnitOf};
 
 use crate::numbers::{take_exponent, take_integer, take_mantissa, take_mantissa_delta};
 use crate::progress::Progress;
@@ -38,8 +37,7 @@ pub fn take_only(
     limits: Limits,
 ) -> Progress<FieldStep>
     requires serves { ServesField slots.old field.now }
-    requires open { HaveNoStop pending.old }
-    requires short { length pending.old < 10 }
+    requires open { IsOpenEntity pending.old }
     requires integers { family field.now.kind ≡ integers (range_of field.now.kind) }
     requires varies { field.now.operator ≢ Operator.Constant }
     ensures unit { (scratch : List ℕ) → IsUnitOf limits (sent_reader limits.strict (bounds limits) slots.old field.now)
@@ -62,11 +60,9 @@ pub fn take_first(
     limits: Limits,
 ) -> Progress<FieldStep>
     requires serves { ServesField slots.old field.now }
-    requires max_text { (slots_terms slots.old).max_text ≡ limits.max_text }
-    requires least { 16 ≤ limits.max_text }
-    requires joined { limits.max_text ≤ joined.old.capacity }
-    requires open { HaveNoStop pending.old }
-    requires short { length pending.old < 10 }
+    requires limit { HasTextLimit slots.old limits }
+    requires joined { HasRoomFor slots.old joined.old }
+    requires open { IsOpenEntity pending.old }
     requires number { ¬ (IsAsciiFirst (field_data field.now)) }
     requires varies { field.now.operator ≢ Operator.Constant }
     ensures unit { IsUnitOf limits (sent_reader limits.strict (bounds limits) slots.old field.now) field.now pending.old
@@ -102,10 +98,9 @@ pub fn take_first_text(
     limits: Limits,
 ) -> Progress<FieldStep>
     requires serves { ServesField slots.old field.now }
-    requires max_text { (slots_terms slots.old).max_text ≡ limits.max_text }
-    requires least { 16 ≤ limits.max_text }
-    requires room { limits.max_text ≤ scratch.old.capacity }
-    requires joined { limits.max_text ≤ joined.old.capacity }
+    requires limit { HasTextLimit slots.old limits }
+    requires room { HasRoomFor slots.old scratch.old }
+    requires joined { HasRoomFor slots.old joined.old }
     requires text { IsAsciiFirst (field_data field.now) }
     requires varies { field.now.operator ≢ Operator.Constant }
     requires open { ascii_text field.now.optional limits.max_text scratch.old.text [] cut }
@@ -133,11 +128,9 @@ pub fn take_number(
     limits: Limits,
 ) -> Progress<FieldStep>
     requires serves { ServesField slots.old field.now }
-    requires max_text { (slots_terms slots.old).max_text ≡ limits.max_text }
-    requires least { 16 ≤ limits.max_text }
-    requires joined { limits.max_text ≤ joined.old.capacity }
-    requires open { HaveNoStop pending.old }
-    requires short { length pending.old < 10 }
+    requires limit { HasTextLimit slots.old limits }
+    requires joined { HasRoomFor slots.old joined.old }
+    requires open { IsOpenEntity pending.old }
     requires stage { IsStageOf (bounds limits) (field_data field.now) (previous_of slots.old field.now) stage }
     requires number { IsNumberStage (field_data field.now) stage }
     ensures unit { (text : List ℕ) → IsUnitOf limits (reader_of limits.strict
@@ -179,10 +172,9 @@ pub fn take_bytes(
     limits: Limits,
 ) -> Progress<FieldStep>
     requires serves { ServesField slots.old field.now }
-    requires max_text { (slots_terms slots.old).max_text ≡ limits.max_text }
-    requires least { 16 ≤ limits.max_text }
-    requires room { limits.max_text ≤ scratch.old.capacity }
-    requires joined { limits.max_text ≤ joined.old.capacity }
+    requires limit { HasTextLimit slots.old limits }
+    requires room { HasRoomFor slots.old scratch.old }
+    requires joined { HasRoomFor slots.old joined.old }
     requires stage { IsStageOf (bounds limits) (field_data field.now) (previous_of slots.old field.now) stage }
     requires bytes { IsBytesStage (bounds limits) (field_data field.now) (previous_of slots.old field.now) stage
         scratch.old.text }

@@ -14,7 +14,7 @@ ghost use Rattle.fast_dict.specs.meaning.Slots.{slots_dictionary, slots_terms};
 ghost use Rattle.fast_stream.specs.meaning.Fields.{sent_text};
 ghost use Rattle.fast_units.specs.device.Settling.{value_at};
 ghost use Rattle.fast_units.specs.device.TextDecisions.{is_emptied, IsTextDecided};
-ghost use Rattle.fast_units.specs.device.Words.{ServesField, previous_of};
+ghost use Rattle.fast_units.specs.device.Words.{HasRoomFor, ServesField, previous_of};
 
 use crate::fields::{assign, assign_empty, previous};
 use crate::scratch::Scratch;
@@ -78,7 +78,7 @@ fn join_tail(
     requires text { family field.now.kind ≡ texts }
     requires keeps { keeps_value field.now.operator ≡ true }
     requires fits { length part.now ≤ (slots_terms slots.now).max_text }
-    requires room { (slots_terms slots.now).max_text ≤ joined.old.capacity }
+    requires room { HasRoomFor slots.now joined.old }
     ensures joined { MatchResult result (λ _. (base : ScalarData)
         × (tail_base (field_data field.now) (previous_of slots.now field.now) ≡ Ok base)
         × (joined.new.text ≡ with_tail (text_of base) part.now))
@@ -130,7 +130,7 @@ fn join_part(
     requires keeps { keeps_value field.now.operator ≡ true }
     requires fits { (kept : KeptData) → subtraction_step (field_data field.now) (previous_of slots.now field.now)
         subtraction ≡ Ok kept → length part.now ≤ (slots_terms slots.now).max_text - kept_length kept }
-    requires room { (slots_terms slots.now).max_text ≤ joined.old.capacity }
+    requires room { HasRoomFor slots.now joined.old }
     ensures joined { MatchResult result (λ _. (kept : KeptData)
         × (subtraction_step (field_data field.now) (previous_of slots.now field.now) subtraction ≡ Ok kept)
         × (joined.new.text ≡ joined_text kept part.now))
@@ -158,7 +158,7 @@ fn finish_tail(
     requires text { family field.now.kind ≡ texts }
     requires tail { field.now.operator ≡ Operator.Tail }
     requires fits { length part.now ≤ (slots_terms slots.old).max_text }
-    requires room { (slots_terms slots.old).max_text ≤ joined.old.capacity }
+    requires room { HasRoomFor slots.old joined.old }
     ensures field { (scratch piece : List ℕ) → IsTextDecided
         (decide (field_data field.now) (previous_of slots.old field.now) true
         (sent_text field.now.kind (Some part.now))) (field_data field.now) (slots_dictionary slots.old)
@@ -183,7 +183,7 @@ pub fn finish_text(
     requires sent { field.now.operator ≢ Operator.Constant }
     requires whole { field.now.operator ≢ Operator.Delta }
     requires fits { length text.now ≤ (slots_terms slots.old).max_text }
-    requires room { (slots_terms slots.old).max_text ≤ joined.old.capacity }
+    requires room { HasRoomFor slots.old joined.old }
     ensures field { (scratch piece : List ℕ) → value_at place (field_data field.now) (slots_dictionary slots.new)
         scratch piece ≡ Some (value_of_text field.now.kind text.now)
         → IsTextDecided (decide (field_data field.now) (previous_of slots.old field.now) true
@@ -217,7 +217,7 @@ pub fn finish_ascii(
     requires sent { field.now.operator ≢ Operator.Constant }
     requires whole { field.now.operator ≢ Operator.Delta }
     requires fits { length text.now ≤ (slots_terms slots.old).max_text }
-    requires room { (slots_terms slots.old).max_text ≤ joined.old.capacity }
+    requires room { HasRoomFor slots.old joined.old }
     ensures field { (scratch piece : List ℕ) → value_at place (field_data field.now) (slots_dictionary slots.new)
         scratch piece ≡ Some (value_of_text field.now.kind text.now)
         → IsTextDecided (decide (field_data field.now) (previous_of slots.old field.now) true
@@ -249,7 +249,7 @@ pub fn finish_part(
     requires delta { field.now.operator ≡ Operator.Delta }
     requires fits { (kept : KeptData) → subtraction_step (field_data field.now) (previous_of slots.old field.now)
         subtraction ≡ Ok kept → length part.now ≤ (slots_terms slots.old).max_text - kept_length kept }
-    requires room { (slots_terms slots.old).max_text ≤ joined.old.capacity }
+    requires room { HasRoomFor slots.old joined.old }
     ensures field { (kept : KeptData) → subtraction_step (field_data field.now) (previous_of slots.old field.now)
         subtraction ≡ Ok kept → (scratch piece : List ℕ)
         → IsTextDecided (text_step (field_data field.now) kept part.now) (field_data field.now)

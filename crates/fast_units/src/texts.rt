@@ -3,8 +3,7 @@
 //! A unit at a time: an ASCII text, or the size of a vector and then its bytes; before the part of a delta its subtraction length.
 //! Of a unit that a piece cuts the bytes are in hand, in the entity or in the scratch, and nothing else changes.
 
-ghost use Rattle.std.specs.Prelude.{◌≡◌, ◌≢◌, ◌-◌, ◌<◌, ◌≤◌, ◌++◌, ℕ, List, [], length, false, Ok, Some, pos, IfOk};
-ghost use Rattle.fast_wire.specs.meaning.Entities.{HaveNoStop};
+ghost use Rattle.std.specs.Prelude.{◌≡◌, ◌≢◌, ◌-◌, ◌<◌, ◌++◌, ℕ, List, [], length, false, Ok, Some, pos, IfOk};
 ghost use Rattle.fast_wire.specs.meaning.Integers.{IsWithin, unsigned_range, signed_range};
 ghost use Rattle.fast_value.specs.meaning.Kinds.{texts, family};
 ghost use Rattle.fast_value.specs.meaning.Limits.{bounds};
@@ -17,7 +16,7 @@ ghost use Rattle.fast_stream.specs.meaning.Units.{ascii_text as ascii_phrase};
 ghost use Rattle.fast_stream.specs.device.GrammarReaders.{reader_of};
 ghost use Rattle.fast_units.specs.device.Stages.{IsStageOf};
 ghost use Rattle.fast_units.specs.device.TextDecisions.{IsStepped, first_reader, reader_behind, behind_size, behind_part_size, answered, settled, HasBytes};
-ghost use Rattle.fast_units.specs.device.Words.{ServesField, previous_of, IsLastUnitOf, IsUnitOf, IsKeptCut};
+ghost use Rattle.fast_units.specs.device.Words.{IsOpenEntity, HasTextLimit, HasRoomFor, ServesField, previous_of, IsLastUnitOf, IsUnitOf, IsKeptCut};
 
 use crate::progress::Progress;
 use crate::scratch::Scratch;
@@ -83,14 +82,13 @@ pub fn take_text(
     limits: Limits,
 ) -> Progress<ValueSource>
     requires serves { ServesField slots.old field.now }
-    requires max_text { (slots_terms slots.old).max_text ≡ limits.max_text }
-    requires least { 16 ≤ limits.max_text }
+    requires limit { HasTextLimit slots.old limits }
     requires kind { field.now.kind ≡ Kind.Ascii }
     requires sent { field.now.operator ≢ Operator.Constant }
     requires whole { field.now.operator ≢ Operator.Delta }
     requires open { ascii_phrase field.now.optional limits.max_text scratch.old.text [] cut }
-    requires scratch { limits.max_text ≤ scratch.old.capacity }
-    requires joined { limits.max_text ≤ joined.old.capacity }
+    requires scratch { HasRoomFor slots.old scratch.old }
+    requires joined { HasRoomFor slots.old joined.old }
     ensures unit { IsLastUnitOf (first_reader limits (field_data field.now) (slots_dictionary slots.old)) field.now
         scratch.old.text rest.now slots.old slots.new scratch.new.text result }
     ensures cut { result ≡ Progress.Cut
@@ -124,15 +122,13 @@ pub fn take_size(
     limits: Limits,
 ) -> Progress<FieldStep>
     requires serves { ServesField slots.old field.now }
-    requires max_text { (slots_terms slots.old).max_text ≡ limits.max_text }
-    requires least { 16 ≤ limits.max_text }
+    requires limit { HasTextLimit slots.old limits }
     requires text { family field.now.kind ≡ texts }
     requires kind { field.now.kind ≢ Kind.Ascii }
     requires sent { field.now.operator ≢ Operator.Constant }
     requires whole { field.now.operator ≢ Operator.Delta }
-    requires open { HaveNoStop pending.old }
-    requires short { length pending.old < 10 }
-    requires joined { limits.max_text ≤ joined.old.capacity }
+    requires open { IsOpenEntity pending.old }
+    requires joined { HasRoomFor slots.old joined.old }
     ensures unit { IsUnitOf limits (first_reader limits (field_data field.now) (slots_dictionary slots.old)) field.now
         pending.old rest.now slots.old slots.new [] result }
     ensures more { (step : FieldStep) (n : ℕ) → result ≡ Progress.Whole step n → HasBytes step }
@@ -173,13 +169,12 @@ fn vector_next(
     limits: Limits,
 ) -> Result<FieldStep, Code>
     requires serves { ServesField slots.old field.now }
-    requires max_text { (slots_terms slots.old).max_text ≡ limits.max_text }
-    requires least { 16 ≤ limits.max_text }
+    requires limit { HasTextLimit slots.old limits }
     requires text { family field.now.kind ≡ texts }
     requires kind { field.now.kind ≢ Kind.Ascii }
     requires sent { field.now.operator ≢ Operator.Constant }
     requires whole { field.now.operator ≢ Operator.Delta }
-    requires joined { limits.max_text ≤ joined.old.capacity }
+    requires joined { HasRoomFor slots.old joined.old }
     ensures step { (piece : List ℕ) → IsStepped limits (reader_of limits.strict
         (behind_size (bounds limits) (field_data field.now) (previous_of slots.old field.now) (Some (pos size))))
         (field_data field.now) (slots_dictionary slots.old) (slots_dictionary slots.new) [] piece result }
@@ -205,13 +200,12 @@ pub fn take_vector(
     limits: Limits,
 ) -> Progress<ValueSource>
     requires serves { ServesField slots.old field.now }
-    requires max_text { (slots_terms slots.old).max_text ≡ limits.max_text }
-    requires least { 16 ≤ limits.max_text }
+    requires limit { HasTextLimit slots.old limits }
     requires stage { IsStageOf (bounds limits) (field_data field.now) (previous_of slots.old field.now)
         (Stage.Vector size) }
     requires more { length scratch.old.text < size }
-    requires scratch { limits.max_text ≤ scratch.old.capacity }
-    requires joined { limits.max_text ≤ joined.old.capacity }
+    requires scratch { HasRoomFor slots.old scratch.old }
+    requires joined { HasRoomFor slots.old joined.old }
     ensures unit { IsLastUnitOf (reader_behind limits (field_data field.now) (slots_dictionary slots.old)
         (Stage.Vector size)) field.now scratch.old.text rest.now slots.old slots.new scratch.new.text result }
     ensures cut { result ≡ Progress.Cut
@@ -249,12 +243,10 @@ pub fn take_subtraction(
     limits: Limits,
 ) -> Progress<FieldStep>
     requires serves { ServesField slots.old field.now }
-    requires max_text { (slots_terms slots.old).max_text ≡ limits.max_text }
-    requires least { 16 ≤ limits.max_text }
+    requires limit { HasTextLimit slots.old limits }
     requires text { family field.now.kind ≡ texts }
     requires delta { field.now.operator ≡ Operator.Delta }
-    requires open { HaveNoStop pending.old }
-    requires short { length pending.old < 10 }
+    requires open { IsOpenEntity pending.old }
     ensures unit { (scratch : List ℕ) → IsUnitOf limits (first_reader limits (field_data field.now)
         (slots_dictionary slots.old)) field.now pending.old rest.now slots.old slots.new scratch result }
     ensures more { (step : FieldStep) (n : ℕ) → result ≡ Progress.Whole step n → HasBytes step }
@@ -308,15 +300,14 @@ pub fn take_part(
     limits: Limits,
 ) -> Progress<ValueSource>
     requires serves { ServesField slots.old field.now }
-    requires max_text { (slots_terms slots.old).max_text ≡ limits.max_text }
-    requires least { 16 ≤ limits.max_text }
+    requires limit { HasTextLimit slots.old limits }
     requires stage { IsStageOf (bounds limits) (field_data field.now) (previous_of slots.old field.now)
         (Stage.Part subtraction) }
     requires kind { field.now.kind ≡ Kind.Ascii }
     requires open { (kept : KeptData) → subtraction_step (field_data field.now) (previous_of slots.old field.now)
         subtraction ≡ Ok kept → ascii_phrase false (limits.max_text - kept_length kept) scratch.old.text [] cut }
-    requires scratch { limits.max_text ≤ scratch.old.capacity }
-    requires joined { limits.max_text ≤ joined.old.capacity }
+    requires scratch { HasRoomFor slots.old scratch.old }
+    requires joined { HasRoomFor slots.old joined.old }
     ensures unit { IsLastUnitOf (reader_behind limits (field_data field.now) (slots_dictionary slots.old)
         (Stage.Part subtraction)) field.now scratch.old.text rest.now slots.old slots.new scratch.new.text result }
     ensures cut { result ≡ Progress.Cut → (scratch.new.text ≡ scratch.old.text ++ rest.now)
@@ -349,14 +340,12 @@ pub fn take_part_size(
     limits: Limits,
 ) -> Progress<FieldStep>
     requires serves { ServesField slots.old field.now }
-    requires max_text { (slots_terms slots.old).max_text ≡ limits.max_text }
-    requires least { 16 ≤ limits.max_text }
+    requires limit { HasTextLimit slots.old limits }
     requires stage { IsStageOf (bounds limits) (field_data field.now) (previous_of slots.old field.now)
         (Stage.Part subtraction) }
     requires kind { field.now.kind ≢ Kind.Ascii }
-    requires open { HaveNoStop pending.old }
-    requires short { length pending.old < 10 }
-    requires joined { limits.max_text ≤ joined.old.capacity }
+    requires open { IsOpenEntity pending.old }
+    requires joined { HasRoomFor slots.old joined.old }
     ensures unit { (scratch : List ℕ) → IsUnitOf limits (reader_behind limits (field_data field.now)
         (slots_dictionary slots.old) (Stage.Part subtraction)) field.now pending.old rest.now slots.old slots.new
         scratch result }
@@ -389,12 +378,11 @@ fn part_vector_next(
     limits: Limits,
 ) -> Result<FieldStep, Code>
     requires serves { ServesField slots.old field.now }
-    requires max_text { (slots_terms slots.old).max_text ≡ limits.max_text }
-    requires least { 16 ≤ limits.max_text }
+    requires limit { HasTextLimit slots.old limits }
     requires stage { IsStageOf (bounds limits) (field_data field.now) (previous_of slots.old field.now)
         (Stage.Part subtraction) }
     requires kind { field.now.kind ≢ Kind.Ascii }
-    requires joined { limits.max_text ≤ joined.old.capacity }
+    requires joined { HasRoomFor slots.old joined.old }
     ensures step { (kept : KeptData) → subtraction_step (field_data field.now) (previous_of slots.old field.now)
         subtraction ≡ Ok kept → (scratch piece : List ℕ)
         → IsStepped limits (reader_of limits.strict (behind_part_size (bounds limits) (field_data field.now)
@@ -424,13 +412,12 @@ pub fn take_part_vector(
     limits: Limits,
 ) -> Progress<ValueSource>
     requires serves { ServesField slots.old field.now }
-    requires max_text { (slots_terms slots.old).max_text ≡ limits.max_text }
-    requires least { 16 ≤ limits.max_text }
+    requires limit { HasTextLimit slots.old limits }
     requires stage { IsStageOf (bounds limits) (field_data field.now) (previous_of slots.old field.now)
         (Stage.PartVector subtraction size) }
     requires more { length scratch.old.text < size }
-    requires scratch { limits.max_text ≤ scratch.old.capacity }
-    requires joined { limits.max_text ≤ joined.old.capacity }
+    requires scratch { HasRoomFor slots.old scratch.old }
+    requires joined { HasRoomFor slots.old joined.old }
     ensures unit { IsLastUnitOf (reader_behind limits (field_data field.now) (slots_dictionary slots.old)
         (Stage.PartVector subtraction size)) field.now scratch.old.text rest.now slots.old slots.new scratch.new.text
         result }

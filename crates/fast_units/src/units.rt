@@ -11,7 +11,7 @@ ghost use Rattle.fast_stream.specs.meaning.Grammar.{give, integer, ascii_text, r
 ghost use Rattle.fast_stream.specs.device.GrammarReaders.{reader_of};
 ghost use Rattle.fast_units.specs.device.Taking.{IsUnit};
 ghost use Rattle.fast_units.specs.device.NextUnits.{range_data, first_mapped, IsRefusedInt, IsGathered, IsNextInteger, text_or_null, BeginsWithCharacter, IsNextText, IsNextRun};
-ghost use Rattle.fast_units.specs.device.Words.{IsKeptCut};
+ghost use Rattle.fast_units.specs.device.Words.{IsOpenEntity, IsKeptCut};
 
 use crate::progress::Progress;
 use crate::scratch::Scratch;
@@ -42,8 +42,7 @@ pub fn next_integer(
     nullable: bool,
     outside: Code,
 ) -> Progress<Option<i128>>
-    requires open { HaveNoStop pending.old }
-    requires short { length pending.old < 10 }
+    requires open { IsOpenEntity pending.old }
     ensures unit { IsUnit (reader_of strict (integer (range_data range) nullable outside give)) (λ x. x) pending.old
         rest.now result }
     ensures whole { (x : Option ℤ) (n : ℕ) → result ≡ Progress.Whole x n → pending.new ≡ [] }
@@ -64,8 +63,7 @@ pub fn next_integer(
 /// The mandatory integer from 0 to `top` that begins with the bytes in hand and goes on with the rest.
 #[inline(always)]
 pub fn next_unsigned(pending: &mut Entity, rest: &[u8], strict: bool, top: u64) -> Progress<u64>
-    requires open { HaveNoStop pending.old }
-    requires short { length pending.old < 10 }
+    requires open { IsOpenEntity pending.old }
     ensures unit { IsUnit (reader_of strict (integer (unsigned_up_to top) false Code.D2 give)) (λ x. Some (pos x))
         pending.old rest.now result }
     ensures whole { (x n : ℕ) → result ≡ Progress.Whole x n → pending.new ≡ [] }
@@ -221,8 +219,7 @@ fn stream_fault(fault: WireFault, bytes: &[u8], outside: Code) -> Code
 
 /// Takes bytes until the entity is whole.
 fn gather(pending: &mut Entity, rest: &[u8]) -> Progress<()>
-    requires open { HaveNoStop pending.old }
-    requires short { length pending.old < 10 }
+    requires open { IsOpenEntity pending.old }
     ensures { IsGathered pending.old rest.now pending.new result }
 {
     for (i, byte) in rest.iter().enumerate() {
@@ -246,8 +243,7 @@ fn complete_integer(
     nullable: bool,
     outside: Code,
 ) -> Progress<Option<i128>>
-    requires open { HaveNoStop pending.old }
-    requires short { length pending.old < 10 }
+    requires open { IsOpenEntity pending.old }
     ensures { IsNextInteger (λ x. x) strict (range_data range) nullable outside pending.old rest.now pending.new
         result }
 {
@@ -270,8 +266,7 @@ fn complete_integer(
 #[cold]
 #[inline(never)]
 fn complete_unsigned(pending: &mut Entity, rest: &[u8], strict: bool, top: u64) -> Progress<u64>
-    requires open { HaveNoStop pending.old }
-    requires short { length pending.old < 10 }
+    requires open { IsOpenEntity pending.old }
     ensures { IsNextInteger (λ x. Some (pos x)) strict (unsigned_up_to top) false Code.D2 pending.old rest.now
         pending.new result }
 {

@@ -9,7 +9,7 @@ const RECORDS: usize = 4096;
 /// How many bytes of texts it has room for, at least.
 const TEXTS: usize = 65536;
 
-/// Decodes a stream that comes in pieces, cut anywhere.
+/// Decodes a stream that comes in pieces, cut anywhere. It keeps its set open, and is closed where it is dropped.
 #[derive(Debug)]
 pub struct Decoder {
     at: NonNull<fast_sys::Decoder>,
@@ -22,6 +22,10 @@ pub struct Decoder {
 
 impl Decoder {
     /// A decoder of streams under a set, before the first byte.
+    ///
+    /// # Errors
+    ///
+    /// `max_text` is out of range, an initial value of the set is longer than it, or memory was refused: statuses 201, 202 and 204.
     pub fn new(set: &Set, limits: Limits) -> Result<Decoder, Error> {
         let Limits { strict, max_text, max_elements, max_total } = limits;
         let mut at = null_mut();
@@ -38,7 +42,12 @@ impl Decoder {
         })
     }
 
-    /// Feeds a piece, and hands its events over. At a fault each further feed answers the same one, until a reset.
+    /// Feeds a piece, which is read in the call alone, and hands its events over, whose texts are lent for that call of `take`.
+    ///
+    /// # Errors
+    ///
+    /// The stream is at a fault: statuses from 101, and as the place how many bytes were consumed. The events before it were handed over; each
+    /// further feed answers the same one, until a reset.
     ///
     /// It is generic, so that the loop over the records is compiled with `take`.
     pub fn feed(&mut self, piece: &[u8], mut take: impl FnMut(Event<'_>)) -> Result<(), Error> {

@@ -4,7 +4,7 @@ use crate::set::{Limits, Set};
 use fast_sys::{Handle, Put, Record};
 use std::ptr::{null_mut, NonNull};
 
-/// The events of one message, kept for an encoder.
+/// The events of one message, kept for an encoder: it owns copies of their texts.
 #[derive(Clone, Debug, Default, PartialEq, Eq)]
 pub struct Records {
     records: Vec<Record>,
@@ -20,7 +20,7 @@ impl Records {
     }
 }
 
-/// Encodes messages, one after the other.
+/// Encodes messages, one after the other. It keeps its set open, and is closed where it is dropped.
 #[derive(Debug)]
 pub struct Encoder {
     at: NonNull<fast_sys::Encoder>,
@@ -29,7 +29,11 @@ pub struct Encoder {
 }
 
 impl Encoder {
-    /// An encoder of messages of a set. It looks at all limits but `strict`.
+    /// An encoder of messages of a set, with an empty dictionary. It looks at all limits but `strict`.
+    ///
+    /// # Errors
+    ///
+    /// `max_text` is out of range, an initial value of the set is longer than it, or memory was refused: statuses 201, 202 and 204.
     pub fn new(set: &Set, limits: Limits) -> Result<Encoder, Error> {
         let mut at = null_mut();
         // the set is open, and stays so as long as the encoder; a place for a pointer
@@ -39,7 +43,12 @@ impl Encoder {
         Ok(Encoder { at: NonNull::new(at).expect("an encoder was made"), _set: set.clone() })
     }
 
-    /// Appends the bytes of one message, from its start to its end. Where it is refused, nothing has changed.
+    /// Appends the bytes of one message, from its start to its end. The message is read in the call alone, and the bytes are the caller's.
+    ///
+    /// # Errors
+    ///
+    /// Status 5 where the events are no message, with the number of the one that is not due as the place; from 401 the codes E1 to E4 and R9, and
+    /// 406 where memory was refused. Neither the encoder nor `out` has changed.
     pub fn encode(&mut self, message: &Records, out: &mut Vec<u8>) -> Result<(), Error> {
         let Records { records, texts } = message;
         let mut put = Put::default();

@@ -1,7 +1,6 @@
 -- A machine that takes the parts of decimals and the lengths of sequences: integers, which are the only units of their fields.
 use Rattle.std.proofs.Common.{refl, sym, ap, ◌∙◌, subst}
 use Rattle.std.specs.Prelude.{◌≡◌, ℕ, ◌<◌, true, List, [], ◌++◌, length, take, ℤ, Option, Some, Result, Ok, Err}
-use Rattle.fast_wire.specs.meaning.Entities.{HaveNoStop}
 use Rattle.fast_wire.specs.declared.entities.Entity.{Entity}
 use Rattle.fast_value.specs.declared.codes.Code.{Code}
 use Rattle.fast_value.specs.declared.kinds.Kind.{Kind}
@@ -26,6 +25,7 @@ use Rattle.fast_stream.specs.device.Machine.{after_bytes}
 use Rattle.fast_units.specs.device.Taking.{Turns, Stays}
 use Rattle.fast_decoder.specs.device.Handing.{IsTaken}
 use Rattle.fast_units.specs.device.Settling.{IsSettled, IsLastUnit, value_at}
+use Rattle.fast_units.specs.device.Words.{IsOpenEntity}
 use Rattle.fast_units.specs.device.UnitFronts.{IsSent}
 use Rattle.fast_decoder.specs.device.Passing.{state_past}
 use Rattle.fast_decoder.specs.device.Positions.{Set, tree_in, body_in, frames_in, state_in, bit_of, mantissa_then, meaning_at, meaning, turning, IsSupplied, IsReady, IsAtParts, IsAtSequence, IsTurn, CanTurn, CanTake, BeginsWithInteger, GoesOnWithMantissa}
@@ -172,24 +172,22 @@ module _ (set : Set) (l : Limits) (m : Machine) (s : Slots) (e : Entity) where
     part_supplied = still_supplied set l m s e m.text m.joined terms refl refl ready.supplied
 
     -- It is ready for more of the integer.
-    pub first_ready : m.waiting ≡ Field → slots_dictionary s ≡ slots_dictionary m.slots → HaveNoStop e → length e < 10 → IsReady set l (record m { slots = s; entity = e })
-    first_ready is same no_stop short =
+    pub first_ready : m.waiting ≡ Field → slots_dictionary s ≡ slots_dictionary m.slots → IsOpenEntity e → IsReady set l (record m { slots = s; entity = e })
+    first_ready is same is_open =
         let can = subst (λ (w : Waiting). CanTake w set l m) is ready.takes in
         record {
           supplied = part_supplied;
-          entity_open = no_stop;
-          entity_short = short;
+          entity = is_open;
           takes = subst (λ (w : Waiting). CanTake w set l (record m { slots = s; entity = e })) (sym is)
               (can.0, can.1, subst (λ (d : Dictionary). BeginsWithInteger (body_in set m.cursor.left) (state_in d m.counted m.cursor)) (sym same) can.2);
         }
 
-    pub second_ready : (x : ℤ) → m.waiting ≡ Mantissa x → slots_dictionary s ≡ slots_dictionary m.slots → HaveNoStop e → length e < 10 → IsReady set l (record m { slots = s; entity = e })
-    second_ready x is same no_stop short =
+    pub second_ready : (x : ℤ) → m.waiting ≡ Mantissa x → slots_dictionary s ≡ slots_dictionary m.slots → IsOpenEntity e → IsReady set l (record m { slots = s; entity = e })
+    second_ready x is same is_open =
         let can = subst (λ (w : Waiting). CanTake w set l m) is ready.takes in
         record {
           supplied = part_supplied;
-          entity_open = no_stop;
-          entity_short = short;
+          entity = is_open;
           takes = subst (λ (w : Waiting). CanTake w set l (record m { slots = s; entity = e })) (sym is)
               (can.0, can.1, subst (λ (d : Dictionary). GoesOnWithMantissa (body_in set m.cursor.left) (state_in d m.counted m.cursor)) (sym same) can.2);
         }

@@ -1,7 +1,6 @@
 -- A machine that takes the units of its next instruction, a field.
 use Rattle.std.proofs.Common.{refl, sym, ap, ◌∙◌, subst}
 use Rattle.std.specs.Prelude.{◌≡◌, ℕ, ◌<◌, ◌≤◌, true, List, [], ◌++◌, length, take, drop, Option, Result, Ok, Err}
-use Rattle.fast_wire.specs.meaning.Entities.{HaveNoStop}
 use Rattle.fast_wire.specs.declared.entities.Entity.{Entity}
 use Rattle.fast_value.specs.declared.codes.Code.{Code}
 use Rattle.fast_value.specs.declared.settings.Limits.{Limits}
@@ -26,6 +25,7 @@ use Rattle.fast_decoder.specs.device.Handing.{IsTaken}
 use Rattle.fast_decoder.specs.device.Quick.{IsTakenTo}
 use Rattle.fast_units.specs.device.Settling.{IsSettled, value_at}
 use Rattle.fast_units.specs.device.Stages.{term_behind, IsStageOf, IsFieldUnit}
+use Rattle.fast_units.specs.device.Words.{IsOpenEntity}
 use Rattle.fast_units.specs.device.UnitFronts.{IsSent, IsBytesStage, IsEntityKept, IsNextOf, IsNextStage, SettlesOnly}
 use Rattle.fast_stream.specs.meaning.Phrases.{cut}
 use Rattle.fast_stream.specs.meaning.Units.{ascii_text}
@@ -183,11 +183,10 @@ module _ (set : Set) (l : Limits) (m : Machine) (f : FieldData) (n : ℕ) (rest 
     same = refl;
   }
 
-  again : (w : Waiting) → m.waiting ≡ w → HaveNoStop e → length e < 10 → CanTake w set l (with_units m s e t j) → IsReady set l (with_units m s e t j)
-  again w is no_stop short can = record {
+  again : (w : Waiting) → m.waiting ≡ w → IsOpenEntity e → CanTake w set l (with_units m s e t j) → IsReady set l (with_units m s e t j)
+  again w is is_open can = record {
     supplied = supplied;
-    entity_open = no_stop;
-    entity_short = short;
+    entity = is_open;
     takes = subst (λ (v : Waiting). CanTake v set l (with_units m s e t j)) (sym is) can;
   }
 
@@ -219,7 +218,7 @@ module _ (set : Set) (l : Limits) (m : Machine) (f : FieldData) (n : ℕ) (rest 
   emptied_by front (Wrong c k) h x b i = absurd cc
   emptied_by front Cut h x b i = absurd cc
 
-  cut_by : (front : List ℕ) → IsEntityKept front rest e q → q ≡ Cut → (e ≡ front ++ rest) × HaveNoStop e × (length e < 10)
+  cut_by : (front : List ℕ) → IsEntityKept front rest e q → q ≡ Cut → (e ≡ front ++ rest) × IsOpenEntity e
   cut_by front h i = subst (λ (p : Progress FieldStep). IsEntityKept front rest e p) i h
 
   can_by : (w : Waiting) → m.waiting ≡ w → CanTake w set l m
@@ -235,7 +234,7 @@ module _ (set : Set) (l : Limits) (m : Machine) (f : FieldData) (n : ℕ) (rest 
       let (sent, first, front) = subst (λ (b : Body). BeginsWithText l b (state_of m) m.text.text) body can.3 in (
         scalar_unit Text is h (λ i. (kept i).0),
         progress_by Text tt can (reader_of l.strict (field_term (bounds l) f (previous_at f.entry (slots_dictionary m.slots)) true)) m.text.text q h (next_of_settled (bounds l) f (previous_at f.entry (slots_dictionary m.slots)) q settles) (λ x b i. held ∙ can.2)
-            (λ i. again Text is (subst (λ (x : Entity). HaveNoStop x) (sym held) ready.entity_open) (subst (λ (x : Entity). length x < 10) (sym held) ready.entity_short)
+            (λ i. again Text is (subst (λ (x : Entity). IsOpenEntity x) (sym held) ready.entity)
             (can.0, can.1, held ∙ can.2, subst (λ (b : Body). BeginsWithText l b (state_of (with_units m s e t j)) t.text) (sym body) (sent, first, (kept i).1))),
       )
 
@@ -247,7 +246,7 @@ module _ (set : Set) (l : Limits) (m : Machine) (f : FieldData) (n : ℕ) (rest 
       let can = can_by Field is in (
         scalar_unit Field is h (λ i. (cut_by m.entity kept i).0),
         progress_by Field tt can (reader_of l.strict (field_term (bounds l) f (previous_at f.entry (slots_dictionary m.slots)) true)) m.entity q h next (emptied_by m.entity q kept)
-            (λ i. again Field is (cut_by m.entity kept i).1 (cut_by m.entity kept i).2
+            (λ i. again Field is (cut_by m.entity kept i).1
             (can.0, can.1, subst (λ (d : Dictionary). BeginsWithInteger (body_in set m.cursor.left) (state_in d m.counted m.cursor)) (sym (cut_same l (reader_of l.strict (field_term (bounds l) f (previous_at f.entry (slots_dictionary m.slots)) true)) f m.entity rest (slots_dictionary m.slots) (slots_dictionary s) t.text q i h)) can.2)),
       )
 
@@ -260,7 +259,7 @@ module _ (set : Set) (l : Limits) (m : Machine) (f : FieldData) (n : ℕ) (rest 
       let r = reader_of l.strict (term_behind (bounds l) f (previous_at f.entry (slots_dictionary m.slots)) stage) in (
         scalar_unit (Number stage) is h (λ i. (cut_by m.entity kept i).0),
         progress_by (Number stage) tt can r m.entity q h next (emptied_by m.entity q kept)
-            (λ i. again (Number stage) is (cut_by m.entity kept i).1 (cut_by m.entity kept i).2
+            (λ i. again (Number stage) is (cut_by m.entity kept i).1
             (can.0, can.1, subst (λ (d : Dictionary). GoesOnWithNumber l (body_in set m.cursor.left) (state_in d m.counted m.cursor) stage) (sym (cut_same l r f m.entity rest (slots_dictionary m.slots) (slots_dictionary s) t.text q i h)) can.2)),
       )
 
@@ -275,7 +274,7 @@ module _ (set : Set) (l : Limits) (m : Machine) (f : FieldData) (n : ℕ) (rest 
       let (sent, is_stage, front) = subst (λ (b : Body). GoesOnWithBytes l b (state_of m) stage m.text.text) body can.3 in (
         scalar_unit (Bytes stage) is h (λ i. (kept i).0),
         progress_by (Bytes stage) tt can r m.text.text q h (next_of_settled (bounds l) f (previous_at f.entry (slots_dictionary m.slots)) q settles) (λ x b i. held ∙ can.2)
-            (λ i. again (Bytes stage) is (subst (λ (x : Entity). HaveNoStop x) (sym held) ready.entity_open) (subst (λ (x : Entity). length x < 10) (sym held) ready.entity_short) (
+            (λ i. again (Bytes stage) is (subst (λ (x : Entity). IsOpenEntity x) (sym held) ready.entity) (
               can.0,
               can.1,
               held ∙ can.2,

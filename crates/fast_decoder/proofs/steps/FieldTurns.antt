@@ -170,8 +170,7 @@ meaning_mantissa set l m x e i = ap (λ w. meaning_at w set l m) e ∙ ap (λ fr
 pub ready_at : (set : Set) (l : Limits) (m : Machine) (w : Waiting) → IsSupplied set l m → m.waiting ≡ w → m.entity ≡ [] → CanTake w set l m → IsReady set l m
 ready_at set l m w supplied e i h = record {
   supplied = supplied;
-  entity_open = rw i (λ k d below. absurd (omega (arith, below)));
-  entity_short = rw i (omega arith);
+  entity = (rw i (λ k d below. absurd (omega (arith, below))), rw i (omega arith));
   takes = subst (λ (x : Waiting). CanTake x set l m) (sym e) h;
 }
 

@@ -125,7 +125,7 @@ first_of nodes n ns later below =
 
 module _ (set : Set) (l : Limits) (m : Machine) (later : NameLaterNodes set.nodes) (ready : IsReady set l m) where
   open_here : IsOpen m.entity
-  open_here = record { no_stop = ready.entity_open; short = ready.entity_short }
+  open_here = record { no_stop = ready.entity.0; short = ready.entity.1 }
 
   abbrev st : State
   st = state_in (slots_dictionary m.slots) m.counted m.cursor

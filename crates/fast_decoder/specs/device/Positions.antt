@@ -28,6 +28,7 @@ use Rattle.fast_cursor.specs.device.Cursors.{ElementsData, FrameData, CursorData
 use Rattle.fast_decoder.specs.device.Serving.{ServesNodes}
 use Rattle.fast_tree.specs.device.Bodies.{body_among, AreNodeWidths, AreTemplateWidths}
 use Rattle.fast_units.specs.device.Stages.{term_behind, IsStageOf}
+use Rattle.fast_units.specs.device.Words.{IsOpenEntity}
 use Rattle.fast_units.specs.device.UnitFronts.{IsSent, IsAsciiFirst, IsNumberStage, IsBytesStage}
 use Rattle.fast_units.specs.declared.stages.Stage.{Stage}
 use Rattle.fast_decoder.specs.declared.machine.Machine.{Machine}
@@ -230,8 +231,7 @@ CanTake (Mantissa x) set l m = IsPlaced set m.cursor × IsMapWhole m.cursor.map 
 -- The machine can go on.
 pub record IsReady (set : Set) (l : Limits) (m : Machine) : Type 0 where
   pub supplied : IsSupplied set l m
-  pub entity_open : HaveNoStop m.entity
-  pub entity_short : length m.entity < 10
+  pub entity : IsOpenEntity m.entity
   pub takes : CanTake m.waiting set l m
 
 -- The next instruction is a field, and so on.

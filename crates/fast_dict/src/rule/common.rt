@@ -1,6 +1,7 @@
 //! Comparisons of values and texts.
 
-ghost use Rattle.std.specs.Prelude.{◌≡◌, ◌↔◌, ◌≤◌, length, IsTrue, option_map};
+ghost use Rattle.std.specs.Prelude.{◌≡◌, ◌↔◌, ◌+◌, ◌≤◌, length, take, drop, IsTrue, option_map};
+ghost use Rattle.std.specs.Int.{w64, from_le_bytes};
 ghost use Rattle.fast_value.specs.meaning.Values.{scalar_data};
 ghost use Rattle.fast_dict.specs.meaning.Rule.{common_front, common_back};
 
@@ -44,11 +45,43 @@ pub fn common_front(a: &[u8], b: &[u8]) -> usize
     ensures in_a { result ≤ length a.now }
     ensures in_b { result ≤ length b.now }
 {
-    let mut size = 0;
+    let mut size = common_eights(a, b);
     while size < a.len() && size < b.len() && a[size] == b[size] {
         size += 1;
     }
     size
+}
+
+/// How many characters of two texts are the same from the front on, where they are compared by eights.
+#[inline(always)]
+fn common_eights(a: &[u8], b: &[u8]) -> usize
+    ensures size { result + common_front (drop result a.now) (drop result b.now) ≡ common_front a.now b.now }
+    ensures in_a { result ≤ length a.now }
+    ensures in_b { result ≤ length b.now }
+{
+    let mut size = 0;
+    while size + 8 <= a.len() && size + 8 <= b.len() && eight_at(a, size) == eight_at(b, size) {
+        size += 8;
+    }
+    size
+}
+
+/// Eight characters from a place on, as one number.
+#[inline(always)]
+fn eight_at(text: &[u8], at: usize) -> u64
+    requires { at + 8 ≤ length text.now }
+    ensures { result ≡ from_le_bytes w64 (take 8 (drop at text.now)) }
+{
+    u64::from_le_bytes([
+        text[at],
+        text[at + 1],
+        text[at + 2],
+        text[at + 3],
+        text[at + 4],
+        text[at + 5],
+        text[at + 6],
+        text[at + 7],
+    ])
 }
 
 /// The length of the longest common back of two texts.

@@ -92,7 +92,7 @@ fn minus(a: i128, b: i128) -> i128
 
 /// The delta from one text to another: what stands behind the common front is appended, or, if that is shorter, what
 /// stands before the common back is prepended.
-fn text_delta<'a>(base: &[u8], text: &'a [u8]) -> Sent<'a>
+pub fn text_delta<'a>(base: &[u8], text: &'a [u8]) -> Sent<'a>
     ensures { IsTextDelta base.now text.now (sent_data result) }
 {
     let front = common_front(base, text);
@@ -130,7 +130,7 @@ fn tail_for<'a, 'p>(
 }
 
 /// The tail that makes one text of another, if it is no shorter.
-fn tail_of<'a>(base: &[u8], text: &'a [u8]) -> Option<&'a [u8]>
+pub fn tail_of<'a>(base: &[u8], text: &'a [u8]) -> Option<&'a [u8]>
     ensures some { IfSome result (λ part. IsTail base.now text.now part.now) }
     ensures none { IfNone result ((part : List ℕ) → ¬ (IsTail base.now text.now part)) }
 {
@@ -144,7 +144,7 @@ fn tail_of<'a>(base: &[u8], text: &'a [u8]) -> Option<&'a [u8]>
 }
 
 /// A text as a value of a kind of texts.
-fn text_value(kind: Kind, text: &[u8]) -> Scalar<'_>
+pub fn text_value(kind: Kind, text: &[u8]) -> Scalar<'_>
     ensures { scalar_data result ≡ value_of_text kind text.now }
 {
     match kind {

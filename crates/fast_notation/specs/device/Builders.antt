@@ -6,7 +6,7 @@ use Rattle.fast_tree.specs.declared.instructions.Node.{Node}
 use Rattle.fast_tree.specs.meaning.AsWritten.{DeclaredList, DeclaredTemplate}
 use Rattle.fast_tree.specs.meaning.Entries.{Entry}
 use Rattle.fast_notation.specs.declared.building.Builder.{Builder}
-use Rattle.fast_notation.specs.declared.building.Standing.{Standing}
+use Rattle.fast_notation.specs.declared.building.BuildContext.{BuildContext}
 use Rattle.fast_notation.specs.device.Built.{data_of, IsIndexed, CanBuild, IsBuilt}
 use Rattle.fast_notation.specs.device.EntryKeys.{scope_data, entries_of}
 use Rattle.fast_notation.specs.device.WrittenSets.{templates_data}
@@ -24,10 +24,10 @@ abbrev pub IsBuilder : Builder → Type 0
 IsBuilder b = IsIndexed (get_by_text b.set.now.names) (templates_in b) (entries_in b)
 
 -- The instructions can be built there, behind so many nodes.
-abbrev pub CanBuildAt : Builder → Standing → DeclaredList → ℕ → Type 0
+abbrev pub CanBuildAt : Builder → BuildContext → DeclaredList → ℕ → Type 0
 CanBuildAt b at ds n = CanBuild (templates_in b) (entries_in b) at.chain (scope_data at.scope) ds n
 
 -- The instructions that stand there are built behind the old nodes, with their numbers behind those that were there.
-abbrev pub IsBuiltAt : Builder → Standing → DeclaredList → Vec Node Global → Vec Node Global → List ℕ → List ℕ → Type 0
+abbrev pub IsBuiltAt : Builder → BuildContext → DeclaredList → Vec Node Global → Vec Node Global → List ℕ → List ℕ → Type 0
 IsBuiltAt b at ds old new before after =
     IsBuilt (templates_in b) (entries_in b) at.chain (scope_data at.scope) ds (data_of old) (data_of new) before after

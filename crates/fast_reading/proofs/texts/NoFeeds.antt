@@ -13,7 +13,7 @@ use Rattle.fast_lines.specs.meaning.Values.{Lacks}
 use Rattle.fast_lines.specs.meaning.Forms.{IsWord}
 use Rattle.fast_lines.proofs.Splits.{decimal_lacks, signed_lacks}
 use Rattle.fast_lines.proofs.Numerals.{small_from_range, small_from_narrow}
-use Rattle.fast_lines.proofs.Escapes.{Stands, byte_stands}
+use Rattle.fast_lines.proofs.Escapes.{IsEscape, byte_escape}
 use Rattle.fast_reading.specs.meaning.Lined.{IsTold, IsNamed, IsLined}
 
 -- what is no LF
@@ -61,15 +61,15 @@ bytes_lack (c ∷ v) = join (hex_byte c) (flat_map hex_byte v) (byte_lacks c) (b
 single : (c : ℕ) → c ≢ 0x0A → Lacks 0x0A (c ∷ [])
 single c h = All-cons IsOther c [] h (All-nil IsOther)
 
-stands_lacks : (c : ℕ) (e : List ℕ) → Stands c e → Lacks 0x0A e
-stands_lacks c e (inl (inl m, is)) = rw (is) (join (codes "\\") (c ∷ []) (tested (codes "\\") refl) (single c (λ k. omega (arith, m, k))))
-stands_lacks c e (inl (inr m, is)) = rw (is) (join (codes "\\") (c ∷ []) (tested (codes "\\") refl) (single c (λ k. omega (arith, m, k))))
-stands_lacks c e (inr (inl (m, is))) = rw (is) (join (codes "\\x") (hex_byte c) (tested (codes "\\x") refl) (byte_lacks c))
-stands_lacks c e (inr (inr (m, is))) = let big : 0x20 ≤ c = m.0 in rw (is) (single c (λ k. omega (arith, big, k)))
+escape_lacks : (c : ℕ) (e : List ℕ) → IsEscape c e → Lacks 0x0A e
+escape_lacks c e (inl (inl m, is)) = rw (is) (join (codes "\\") (c ∷ []) (tested (codes "\\") refl) (single c (λ k. omega (arith, m, k))))
+escape_lacks c e (inl (inr m, is)) = rw (is) (join (codes "\\") (c ∷ []) (tested (codes "\\") refl) (single c (λ k. omega (arith, m, k))))
+escape_lacks c e (inr (inl (m, is))) = rw (is) (join (codes "\\x") (hex_byte c) (tested (codes "\\x") refl) (byte_lacks c))
+escape_lacks c e (inr (inr (m, is))) = let big : 0x20 ≤ c = m.0 in rw (is) (single c (λ k. omega (arith, big, k)))
 
 escaped_lack : (v : List ℕ) → Lacks 0x0A (flat_map escaped v)
 escaped_lack [] = All-nil IsOther
-escaped_lack (c ∷ v) = join (escaped c) (flat_map escaped v) (stands_lacks c (escaped c) (byte_stands c)) (escaped_lack v)
+escaped_lack (c ∷ v) = join (escaped c) (flat_map escaped v) (escape_lacks c (escaped c) (byte_escape c)) (escaped_lack v)
 
 quoted_lacks : (v : List ℕ) → Lacks 0x0A (quoted v)
 quoted_lacks v = join (codes "\"") (flat_map escaped v ++ codes "\"") (tested (codes "\"") refl) (join (flat_map escaped v) (codes "\"") (escaped_lack v) (tested (codes "\"") refl))

@@ -1,5 +1,5 @@
 -- What waits for room.
-use Rattle.std.specs.Prelude.{◌≡◌, List, ◌∷◌, ◌++◌, map}
+use Rattle.std.specs.Prelude.{◌≡◌, List, ◌++◌, map}
 use Rattle.fast_stream.specs.meaning.Events.{EventData}
 use Rattle.fast_decoder.specs.meaning.Recorded.{recorded_data}
 use Rattle.fast_records.specs.declared.waiting.Waiting.{Waiting}

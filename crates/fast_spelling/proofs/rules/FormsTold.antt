@@ -2,7 +2,7 @@
 use Rattle.std.proofs.Common.{◌≡◌, ℕ, ◌+◌, ◌++◌, ◌∷◌, [], ◌∙◌, refl, ap, sym, subst, List, length, take}
 use Rattle.std.proofs.lemmas.List.{take_more, map-append}
 use Rattle.std.proofs.lemmas.Option.{slice_get_within, get_or_from_slice_get}
-use Rattle.std.specs.Prelude.{Some, map, option_map, slice_get}
+use Rattle.std.specs.Prelude.{true, false, Option, None, Some, is_some, unwrap_or, map, option_map, slice_get}
 use Rattle.std.proofs.lemmas.Option.{slice_get-map}
 use Rattle.fast_value.specs.declared.kinds.Kind.{Kind}
 use Rattle.fast_value.specs.declared.kinds.Kind.TheVariants.{UInt32, Int32, UInt64, Int64, Decimal as decimal, Ascii, Unicode, Bytes}
@@ -12,8 +12,8 @@ use Rattle.fast_tree.specs.declared.instructions.FieldInstruction.{FieldInstruct
 use Rattle.fast_tree.specs.declared.instructions.Node.{Node}
 use Rattle.fast_tree.specs.declared.instructions.Shape.{Shape}
 use Rattle.fast_tree.specs.declared.instructions.Shape.TheVariants.{Field, Decimal, Group, Sequence}
-use Rattle.fast_spelling.specs.declared.forms.Form.{Form}
-use Rattle.fast_spelling.specs.device.Forms.{form_by, form_of, forms_of, Says}
+use Rattle.fast_spelling.specs.declared.forms.Step.{Step}
+use Rattle.fast_spelling.specs.device.Forms.{form_by, form_of, step_of, steps_of, Says}
 
 says_by : (f : FieldInstruction) (k : Kind) (o : Operator) → f.kind ≡ k → f.operator ≡ o → Says (form_by k o) (Field f)
 says_by f UInt32 no_operator a b = (a, b)
@@ -82,12 +82,32 @@ says (Sequence l b) = tt
 some_is : {A : Type 0} (x y : A) → Some x ≡ Some y → x ≡ y
 some_is x y e = cc
 
--- so what stands at a node's number among the forms says what the node is
-pub says_at : (nodes : List Node) (n : ℕ) (c : Form) (x : Node) → slice_get (forms_of nodes) n ≡ Some c → slice_get nodes n ≡ Some x → Says c x.shape
-says_at nodes n c x at found =
-    let is : form_of x.shape ≡ c = some_is (form_of x.shape) c (sym (ap (option_map (λ (v : Node). form_of v.shape)) found) ∙ sym (slice_get-map (λ (v : Node). form_of v.shape) nodes n) ∙ at) in
-    subst (λ (z : Form). Says z x.shape) is (says x.shape)
+-- so what stands at a node's number among the steps is the node's
+pub step_at : (nodes : List Node) (n : ℕ) (c : Step) (x : Node) → slice_get (steps_of nodes) n ≡ Some c → slice_get nodes n ≡ Some x → c ≡ step_of x.shape
+step_at nodes n c x at found =
+    sym (some_is (step_of x.shape) c (sym (ap (option_map (λ (v : Node). step_of v.shape)) found) ∙ sym (slice_get-map (λ (v : Node). step_of v.shape) nodes n) ∙ at))
 
-pub forms_more : (nodes : List Node) (n : ℕ) (x : Node) → slice_get nodes n ≡ Some x → forms_of (take (n + 1) nodes) ≡ forms_of (take n nodes) ++ form_of x.shape ∷ []
-forms_more nodes n x found =
-    ap forms_of (take_more nodes n x (slice_get_within nodes n x found)) ∙ map-append (λ (v : Node). form_of v.shape) (take n nodes) _ ∙ ap (λ (v : Node). forms_of (take n nodes) ++ form_of v.shape ∷ []) (get_or_from_slice_get nodes n x x found)
+mapped : (o : Option Node) (c : Step) → option_map (λ (v : Node). step_of v.shape) o ≡ Some c → (x : Node) × (o ≡ Some x) × (step_of x.shape ≡ c)
+mapped None c e = absurd (cc e)
+mapped (Some x) c e = (x, refl, some_is (step_of x.shape) c e)
+
+-- and there is such a node
+pub step_is : (nodes : List Node) (n : ℕ) (c : Step) → slice_get (steps_of nodes) n ≡ Some c → (x : Node) × (slice_get nodes n ≡ Some x) × (step_of x.shape ≡ c)
+step_is nodes n c at = mapped (slice_get nodes n) c (sym (slice_get-map (λ (v : Node). step_of v.shape) nodes n) ∙ at)
+
+-- an entry that is there, and one that is not
+pub entry_there : (o : Option ℕ) → is_some o ≡ true → o ≡ Some (unwrap_or o 0)
+entry_there None e = absurd (cc e)
+entry_there (Some n) e = refl
+
+pub entry_missing : (o : Option ℕ) → is_some o ≡ false → o ≡ None
+entry_missing None e = refl
+entry_missing (Some n) e = absurd (cc e)
+
+-- and its form says what the node is
+pub says_at : (nodes : List Node) (n : ℕ) (c : Step) (x : Node) → slice_get (steps_of nodes) n ≡ Some c → slice_get nodes n ≡ Some x → Says c.form x.shape
+says_at nodes n c x at found = subst (λ (z : Step). Says z.form x.shape) (sym (step_at nodes n c x at found)) (says x.shape)
+
+pub steps_more : (nodes : List Node) (n : ℕ) (x : Node) → slice_get nodes n ≡ Some x → steps_of (take (n + 1) nodes) ≡ steps_of (take n nodes) ++ step_of x.shape ∷ []
+steps_more nodes n x found =
+    ap steps_of (take_more nodes n x (slice_get_within nodes n x found)) ∙ map-append (λ (v : Node). step_of v.shape) (take n nodes) _ ∙ ap (λ (v : Node). steps_of (take n nodes) ++ step_of v.shape ∷ []) (get_or_from_slice_get nodes n x x found)

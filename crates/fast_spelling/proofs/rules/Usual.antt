@@ -1,25 +1,27 @@
 -- The cases of the rule that one comparison tells.
-use Rattle.std.proofs.Common.{◌≡◌, ℕ, ◌≤◌, [], ◌∷◌, length, refl, ap, sym, subst, ◌∙◌, arith}
-use Rattle.std.specs.Prelude.{Bool, true, false, if◌then◌else◌, ◌-ℤ◌, Option, Some, None, Ok, Err}
+use Rattle.std.proofs.Common.{◌≡◌, ℕ, ◌≤◌, [], ◌∷◌, length, refl, ap, sym, subst, ◌∙◌, arith, List}
+use Rattle.std.specs.Prelude.{Bool, true, false, if◌then◌else◌, ◌-ℤ◌, Option, Some, None, Result, Ok, Err}
 use Rattle.std.proofs.lemmas.List.{set-get_or}
 use Rattle.fast_value.specs.declared.kinds.Kind.{Kind}
 use Rattle.fast_value.specs.declared.kinds.Kind.TheVariants.{UInt32, Int32, UInt64, Int64, Decimal, Ascii, Unicode, Bytes}
 use Rattle.fast_value.specs.declared.settings.Limits.{Limits}
+use Rattle.fast_value.specs.declared.codes.Code.{Code}
 use Rattle.fast_value.specs.declared.codes.Code.TheVariants.{D4, D6}
-use Rattle.fast_value.specs.meaning.Kinds.{ScalarData, U, I, Dec, AsciiText, UnicodeText, ByteVector, text_of, texts, family, value_of_integer, integer_of, same_kind}
+use Rattle.fast_value.specs.meaning.Kinds.{ScalarData, U, I, Dec, AsciiText, UnicodeText, ByteVector, text_of, Family, texts, family, value_of_integer, value_of_text, integer_of, same_kind}
 use Rattle.fast_tree.specs.declared.operators.Operator.{Operator}
 use Rattle.fast_tree.specs.declared.operators.Operator.TheVariants.{None as no_operator, Constant, Default, Copy, Increment, Delta, Tail}
 use Rattle.fast_tree.specs.meaning.Tree.{FieldData, operator_uses_bit, uses_bit}
 use Rattle.fast_dict.specs.meaning.Dictionary.{Dictionary, PreviousData, undefined, empty, assigned, previous_at, write_at}
-use Rattle.fast_dict.specs.meaning.Operators.{◌>>=◌, Outcome, nothing, null, value, integer_delta, keeps, from_initial, fixed, incremented, range_of, next_value, unsent, delta_base, decide_by, IsItemBy}
-use Rattle.fast_dict.specs.meaning.Rule.{GoesUnsent, IsDelta, SentBy, Rule}
-use Rattle.fast_spelling.specs.device.Drafts.{IsSendableValue}
+use Rattle.fast_dict.specs.meaning.Operators.{◌>>=◌, Outcome, Sent, nothing, null, value, integer_delta, keeps, from_initial, fixed, incremented, range_of, next_value, unsent, delta_base, tail_base, decide_by, IsItemBy}
+use Rattle.fast_dict.specs.meaning.Rule.{GoesUnsent, IsDelta, IsTail, IsTextDelta, SentBy, Rule}
+use Rattle.fast_spelling.specs.device.Drafts.{IsSendable, IsSendableValue}
 use Rattle.fast_spelling.specs.meaning.Encoding.{EncodesField}
-use Rattle.fast_spelling.specs.device.Fields.{IsSuited, next_by, next_of}
+use Rattle.fast_spelling.specs.device.Fields.{IsSuited, IsNarrow, next_by, next_of}
 use Rattle.fast_spelling.specs.meaning.Suiting.{IsRight}
-use Rattle.fast_spelling.specs.device.Usual.{IsNumber, IsOfNumbers}
+use Rattle.fast_spelling.specs.device.Usual.{IsNumber, IsText, IsOfNumbers}
 use Rattle.fast_spelling.proofs.rules.OneItem.{one_ok}
 use Rattle.fast_spelling.proofs.rules.FieldsWritten.{field_done}
+use Rattle.fast_spelling.proofs.rules.Sendable.{IsBase, rule_sendable}
 
 same_is : (k : Kind) → same_kind k k ≡ true
 same_is UInt32 = refl
@@ -241,3 +243,65 @@ copy_absent l f d is tail suited held =
     absent_passed l f d (ap (λ (o : Operator). operator_uses_bit o f.optional) is) tail suited
     (absent_clear f (previous_at f.entry d) empty Copy is (refl, refl, gives))
     (ap (λ (o : Operator). next_by o f.kind (previous_at f.entry d) None) is ∙ sym held)
+
+-- tail: what the entry holds is not sent, and of another text what its tail is
+tailed : (f : FieldData) (p : PreviousData) (u : ScalarData) → f.operator ≡ Tail → p ≡ assigned f.kind u → unsent f p ≡ keeps f.kind u
+tailed f p u is held = unsent_at f p u held ∙ ap (λ (o : Operator). keeps f.kind (next_value o f.kind u)) is
+
+tail_at : (f : FieldData) (p : PreviousData) (u : ScalarData) → p ≡ assigned f.kind u → tail_base f p ≡ Ok u
+tail_at f p u is = ap (tail_base f) is ∙ ap (λ (b : Bool). if b then Ok u else Err D4) (same_is f.kind)
+
+pub tail_passed : (l : Limits) (f : FieldData) (d : Dictionary) (v : ScalarData) → f.operator ≡ Tail → (f.operator ≡ Tail → family f.kind ≡ texts) → IsSuited l.max_text f (Some v) → previous_at f.entry d ≡ assigned f.kind v
+    → EncodesField l f d (Some v) (false ∷ []) [] d
+tail_passed l f d v is tail suited held =
+    passed l f d v (ap (λ (o : Operator). operator_uses_bit o f.optional) is) tail suited
+    (clear f (previous_at f.entry d) (assigned f.kind v) v Tail is (refl, refl, tailed f (previous_at f.entry d) v is held))
+    (ap (λ (o : Operator). next_by o f.kind (previous_at f.entry d) (Some v)) is ∙ sym held)
+
+pub tail_other : (f : FieldData) (p : PreviousData) (u v : ScalarData) (part : List ℕ) → f.operator ≡ Tail → p ≡ assigned f.kind u → ¬ (u ≡ v) → IsTail (text_of u) (text_of v) part → Rule f p (Some v) true (value (value_of_text f.kind part))
+tail_other f p u v part is held differs tail = (not, subst (λ (z : Operator). SentBy z f p (Some v) (value (value_of_text f.kind part))) (sym is) (u, part, tail_at f p u held, tail, refl))
+  where
+    not : ¬ (GoesUnsent f p (Some v))
+    not (m, _, (_, g)) =
+        let h : decide_by Tail false f p nothing ≡ Ok (record { value = Some v; next = m }) = subst (λ (z : Operator). decide_by z false f p nothing ≡ Ok (record { value = Some v; next = m })) is g in
+        differs (some_is u v (ap (λ (z : Outcome). z.value) (one_ok (decide_by Tail false f p nothing) (record { value = Some u; next = assigned f.kind u }) (record { value = Some v; next = m }) (tailed f p u is held) h)))
+
+-- the delta of a text is sent
+pub text_delta_ruled : (f : FieldData) (p : PreviousData) (b v : ScalarData) (x : Sent) → f.operator ≡ Delta → p ≡ assigned f.kind b → family f.kind ≡ texts → IsTextDelta (text_of b) (text_of v) x → Rule f p (Some v) true x
+text_delta_ruled f p b v x is held kind delta = (not, subst (λ (z : Operator). SentBy z f p (Some v) x) (sym is) (b, delta_at f p b held, subst (λ (w : Family). IsDelta w b v x) (sym kind) delta))
+  where
+    not : ¬ (GoesUnsent f p (Some v))
+    not (m, u, _) =
+        let clash : false ≡ true = subst (λ (z : Operator). operator_uses_bit z f.optional ≡ true) is u in
+        absurd (cc clash)
+
+-- the type of a text is one of texts
+pub text_kind : (kind : Kind) (v : ScalarData) → IsText v → IsRight kind v → family kind ≡ texts
+text_kind Ascii v t h = refl
+text_kind Unicode v t h = refl
+text_kind Bytes v t h = refl
+text_kind UInt32 (AsciiText s) t (room, h) = absurd h
+text_kind UInt32 (UnicodeText s) t (room, h) = absurd h
+text_kind UInt32 (ByteVector s) t (room, h) = absurd h
+text_kind Int32 (AsciiText s) t (room, h) = absurd h
+text_kind Int32 (UnicodeText s) t (room, h) = absurd h
+text_kind Int32 (ByteVector s) t (room, h) = absurd h
+text_kind UInt64 (AsciiText s) t (room, h) = absurd h
+text_kind UInt64 (UnicodeText s) t (room, h) = absurd h
+text_kind UInt64 (ByteVector s) t (room, h) = absurd h
+text_kind Int64 (AsciiText s) t (room, h) = absurd h
+text_kind Int64 (UnicodeText s) t (room, h) = absurd h
+text_kind Int64 (ByteVector s) t (room, h) = absurd h
+text_kind Decimal (AsciiText s) t (room, h) = absurd h
+text_kind Decimal (UnicodeText s) t (room, h) = absurd h
+text_kind Decimal (ByteVector s) t (room, h) = absurd h
+text_kind kind v t h = absurd t
+
+one_base : (r : Result ScalarData Code) (u b : ScalarData) → r ≡ Ok u → r ≡ Ok b → u ≡ b
+one_base r u b e h = cc
+
+-- what is sent on a value that the entry holds can be written
+pub held_sendable : (f : FieldData) (p : PreviousData) (u v : ScalarData) (bit : Bool) (x : Sent) (m : ℕ) → m ≤ 1048576 → (f.operator ≡ Tail → family f.kind ≡ texts) → p ≡ assigned f.kind u → IsNarrow u → length (text_of u) ≤ m
+    → IsSuited m f (Some v) → Rule f p (Some v) bit x → IsSendable f x
+held_sendable f p u v bit x m g t held narrow short suited rule =
+    rule_sendable f p (Some v) bit x m g t (λ base e. subst (IsBase m) (one_base (delta_base f p) u base (delta_at f p u held) e) (record { narrow = narrow; short = short })) suited rule

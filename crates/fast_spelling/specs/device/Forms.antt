@@ -1,5 +1,5 @@
 -- What a form says of a node.
-use Rattle.std.specs.Prelude.{◌≡◌, ℕ, List, map, slice_get, Some}
+use Rattle.std.specs.Prelude.{◌≡◌, ℕ, Bool, false, List, map, slice_get, Some, unwrap_or}
 use Rattle.fast_value.specs.declared.kinds.Kind.{Kind}
 use Rattle.fast_value.specs.declared.kinds.Kind.TheVariants.{UInt32, Int32, UInt64, Int64, Decimal as decimal, Ascii, Unicode, Bytes}
 use Rattle.fast_tree.specs.declared.operators.Operator.{Operator}
@@ -8,6 +8,7 @@ use Rattle.fast_tree.specs.declared.instructions.Node.{Node}
 use Rattle.fast_tree.specs.declared.instructions.Shape.{Shape}
 use Rattle.fast_tree.specs.declared.instructions.Shape.TheVariants.{Field, Decimal, Group, Sequence}
 use Rattle.fast_spelling.specs.declared.forms.Form.{Form}
+use Rattle.fast_spelling.specs.declared.forms.Step.{Step}
 use Rattle.fast_spelling.specs.declared.forms.Form.TheVariants.{PlainUInt32, PlainInt32, PlainUInt64, PlainInt64, ConstantUInt32, ConstantInt32, ConstantUInt64, ConstantInt64, DefaultUInt32, DefaultInt32, DefaultUInt64, DefaultInt64, CopyUInt32, CopyInt32, CopyUInt64, CopyInt64, IncrementUInt32, IncrementInt32, IncrementUInt64, IncrementInt64, DeltaUInt32, DeltaInt32, DeltaUInt64, DeltaInt64, PlainAscii, ConstantAscii, DefaultAscii, CopyAscii, TailAscii, DeltaAscii, PlainUnicode, DeltaUnicode, PlainBytes, TailBytes, PlainDecimal, CopyDecimal, DeltaDecimal, Other}
 
 -- the form of a field of this type under this operator
@@ -56,8 +57,22 @@ abbrev pub form_of : Shape → Form
 form_of (Field f) = form_by f.kind f.operator
 form_of x = Other
 
-abbrev pub forms_of : List Node → List Form
-forms_of = map (λ x. form_of x.shape)
+-- whether the field of a node may be absent
+abbrev pub is_nullable : Shape → Bool
+is_nullable (Field f) = f.optional
+is_nullable x = false
+
+-- the entry of a node's field, or 0
+abbrev pub entry_of : Shape → ℕ
+entry_of (Field f) = unwrap_or f.entry 0
+entry_of x = 0
+
+-- what is done at a node
+abbrev pub step_of : Shape → Step
+step_of x = record { form = form_of x; nullable = is_nullable x; entry = entry_of x }
+
+abbrev pub steps_of : List Node → List Step
+steps_of = map (λ x. step_of x.shape)
 
 -- the shape is a field of this type under this operator
 abbrev pub IsFieldOf : Kind → Operator → Shape → Type 0

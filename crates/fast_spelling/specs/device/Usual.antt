@@ -1,13 +1,20 @@
--- Integers among the values, and among the types.
+-- Integers and texts among the values, and integers among the types.
 use Rattle.fast_value.specs.declared.kinds.Kind.{Kind}
 use Rattle.fast_value.specs.declared.kinds.Kind.TheVariants.{UInt32, Int32, UInt64, Int64}
-use Rattle.fast_value.specs.meaning.Kinds.{ScalarData, U, I}
+use Rattle.fast_value.specs.meaning.Kinds.{ScalarData, U, I, AsciiText, UnicodeText, ByteVector}
 
 -- the value is an integer
 abbrev pub IsNumber : ScalarData → Type 0
 IsNumber (U n) = Unit {0}
 IsNumber (I x) = Unit {0}
 IsNumber v = ⊥
+
+-- the value is a text
+abbrev pub IsText : ScalarData → Type 0
+IsText (AsciiText t) = Unit {0}
+IsText (UnicodeText t) = Unit {0}
+IsText (ByteVector t) = Unit {0}
+IsText v = ⊥
 
 -- the type is one of integers
 abbrev pub IsOfNumbers : Kind → Type 0

@@ -22,6 +22,7 @@ IsSound l d = (n : ℕ) → IsSoundEntry l (slice_index_or d n undefined)
 
 -- What reading a template set grants of a field, and the limits of its initial value: the operator suits the kind, the initial
 -- value is of the kind, and a constant or a mandatory default has one.
+-- FAST 1.1: Error Codes, S2 to S5.
 pub record IsGranted (l : Limits) (f : FieldData) : Type 0 where
   pub suited : suits f.operator (family f.kind) ≡ true
   pub initial : IfSome f.initial (IsOfKind l f.kind)

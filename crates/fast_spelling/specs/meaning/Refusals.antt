@@ -17,6 +17,7 @@ use Rattle.fast_spelling.specs.meaning.Encoding.{Encoder, SameBits, Encodes, Enc
 use Rattle.fast_spelling.specs.meaning.Suiting.{IsKnown, SuitsTemplate, FitsLimits}
 
 -- An ASCII text that would stand in an entity begins with U+0000.
+-- FAST 1.1: Error Codes, R9.
 abbrev pub HasZeroInFront : Kind → Sent → Type 0
 HasZeroInFront Ascii (value v) = (rest : List ℕ) × (text_of v ≡ 0 ∷ rest)
 HasZeroInFront Ascii (text_delta k part) = (rest : List ℕ) × (part ≡ 0 ∷ rest)

@@ -15,14 +15,14 @@ pub record Point : Type 0 where
 
 -- A text was put since the target held what it did at the beginning: it was written but for what is kept; or a front of it was
 -- written, and the target failed.
-pub record Stands (begun : Option (List ℕ)) (had_failed : Bool) (text : List ℕ) (p : Point) : Type 0 where
+pub record HasPut (begun : Option (List ℕ)) (had_failed : Bool) (text : List ℕ) (p : Point) : Type 0 where
   pub how :
       (p.is_writing ≡ true) × ((front : List ℕ) × (text ≡ front ++ p.kept) × Appends begun p.written front) × (p.failed ≡ had_failed)
       ⊎ (p.is_writing ≡ false) × AppendsFront begun p.written text × IsTrue p.failed
 
 -- The text was put behind whatever was put before.
 abbrev pub Puts : Point → List ℕ → Point → Type 0
-Puts p text q = (begun : Option (List ℕ)) (had_failed : Bool) (before : List ℕ) → Stands begun had_failed before p → Stands begun had_failed (before ++ text) q
+Puts p text q = (begun : Option (List ℕ)) (had_failed : Bool) (before : List ℕ) → HasPut begun had_failed before p → HasPut begun had_failed (before ++ text) q
 
 -- where a writer is
 abbrev pub point_of : {T : Type 0} → (T → Option (List ℕ)) → (T → Bool) → LineWriter T → Point
@@ -50,7 +50,7 @@ pub record Begins {T R : Type 0} (target : MutBor T) (room : MutBor R) (s : Line
 pub record Finishes {T : Type 0} (written : T → Option (List ℕ)) (failed : T → Bool) (old new : LineWriter T) (r : Result (Unit {0}) Failed) : Type 0 where
   pub same_target : new.target.ghost_name ≡ old.target.ghost_name
   pub same_room : new.kept.ghost_name ≡ old.kept.ghost_name
-  pub whole : OnOk r ((begun : Option (List ℕ)) (had_failed : Bool) (text : List ℕ) → Stands begun had_failed text (point_of written failed old)
+  pub whole : OnOk r ((begun : Option (List ℕ)) (had_failed : Bool) (text : List ℕ) → HasPut begun had_failed text (point_of written failed old)
       → Appends begun (written new.target.now) text × (failed new.target.now ≡ had_failed))
-  pub part : OnErr r ((begun : Option (List ℕ)) (had_failed : Bool) (text : List ℕ) → Stands begun had_failed text (point_of written failed old)
+  pub part : OnErr r ((begun : Option (List ℕ)) (had_failed : Bool) (text : List ℕ) → HasPut begun had_failed text (point_of written failed old)
       → AppendsFront begun (written new.target.now) text × IsTrue (failed new.target.now))

@@ -1,5 +1,5 @@
--- Words for what clauses on fields say again and again: of a dictionary in memory, and of an instruction.
-use Rattle.std.specs.Prelude.{◌≡◌, ℕ, ◌<◌, Bool, true, List, ◌++◌, length, Some, Result}
+-- Words for what clauses on fields say again and again: of a dictionary in memory, of an instruction, and of bytes in hand.
+use Rattle.std.specs.Prelude.{◌≡◌, ℕ, ◌<◌, ◌≤◌, Bool, true, List, ◌++◌, length, Some, Result}
 use Rattle.fast_wire.specs.meaning.Entities.{HaveNoStop}
 use Rattle.fast_value.specs.declared.codes.Code.{Code}
 use Rattle.fast_value.specs.meaning.Limits.{Bounds}
@@ -13,6 +13,7 @@ use Rattle.fast_dict.specs.meaning.Slots.{slots_dictionary, slots_terms}
 use Rattle.fast_stream.specs.meaning.Fields.{field_term}
 use Rattle.fast_stream.specs.device.Readers.{Reader}
 use Rattle.fast_stream.specs.device.GrammarReaders.{reader_of}
+use Rattle.fast_units.specs.device.Scratches.{Held}
 use Rattle.fast_units.specs.device.Settling.{Serves, IsLastUnit}
 use Rattle.fast_units.specs.device.Stages.{IsFieldUnit}
 use Rattle.fast_units.specs.device.Deciding.{IsDecided}
@@ -49,6 +50,18 @@ IsUnitOf l r field front rest old new scratch p = IsFieldUnit l r (field_data fi
 abbrev pub IsDecidedIn : Result Outcome Code → FieldInstruction → Slots → Slots → Result ValueSource Code → Type 0
 IsDecidedIn decided field old new result = IsDecided decided (field_data field) (slots_dictionary old) (slots_dictionary new) result
 
--- Where an entity is cut, its bytes are kept: they have no stop, and there is room for one more.
+-- The dictionary takes texts within the limit, which is no less than the least there may be.
+abbrev pub HasTextLimit : Slots → Limits → Type 0
+HasTextLimit slots limits = ((slots_terms slots).max_text ≡ limits.max_text) × (16 ≤ limits.max_text)
+
+-- There is room for each text that the dictionary takes.
+abbrev pub HasRoomFor : Slots → Held → Type 0
+HasRoomFor slots scratch = (slots_terms slots).max_text ≤ scratch.capacity
+
+-- The bytes are those of an entity that is not whole: they have no stop, and there is room for one more.
+abbrev pub IsOpenEntity : List ℕ → Type 0
+IsOpenEntity w = HaveNoStop w × (length w < 10)
+
+-- Where an entity is cut, its bytes are kept.
 abbrev pub IsKeptCut : {T : Type 0} → List ℕ → List ℕ → List ℕ → Progress T → Type 0
-IsKeptCut front rest kept p = p ≡ Cut → (kept ≡ front ++ rest) × HaveNoStop kept × (length kept < 10)
+IsKeptCut front rest kept p = p ≡ Cut → (kept ≡ front ++ rest) × IsOpenEntity kept

@@ -2,6 +2,7 @@
 use Rattle.std.proofs.Common.{◌≡◌, ◌+◌, ◌∷◌, List, inl, inr, drop, map, refl, ap, sym, subst, ◌∙◌, arith}
 use Rattle.std.specs.Prelude.{Option, slice_index}
 use Rattle.std.specs.declared.vec.Vec.{Vec}
+use Rattle.std.proofs.lemmas.Result.{err_from_is_err_and}
 use Rattle.std.specs.declared.alloc.Global.{Global}
 use Rattle.fast_value.specs.declared.messages.Item.{Item}
 use Rattle.fast_value.specs.declared.messages.Item.TheVariants as V
@@ -13,12 +14,16 @@ use Rattle.fast_tree.specs.declared.instructions.Shape.TheVariants.{Field, Decim
 use Rattle.fast_tree.specs.device.Bodies.{body_among}
 use Rattle.fast_tree.specs.device.Nodes.{field_data, label_of}
 use Rattle.fast_template.specs.meaning.Flat.{nodes_of}
-use Rattle.fast_stream.specs.meaning.Events.{EventData}
+use Rattle.fast_stream.specs.meaning.Events.{EventData, GroupStart, SequenceStart}
 use Rattle.fast_stream.specs.meaning.Handed.{event_data}
 use Rattle.fast_spelling.specs.device.Nodes.{instruction_in}
 use Rattle.fast_spelling.proofs.encodings.Instructions.{at_shape}
 use Rattle.fast_records.specs.device.Putting.{IsPutTo, ArePutTo}
 use Rattle.fast_records.proofs.Put.{slot_at, body_ended, rows_more, rows_done, field_put, parts_put, group_put, sequence_put}
+use Rattle.fast_records.specs.device.Due.{HasNoBody, IsStuck, HasNoRows}
+use Rattle.fast_records.specs.meaning.Putting.{OnMisplaced}
+use Rattle.fast_records.specs.declared.putting.Mark.TheVariants as Is
+use Rattle.fast_records.proofs.Due.{on_misplaced, always, pass_none, pass_some, stuck_at, never_field, never_parts, never_group, never_sequence, never_slots, never_rows, there_one, there_parts, there_group, there_sequence, left_next, left_stuck, left_end, rows_next, rows_unstarted, rows_stuck, rows_unended}
 use Rattle.fast_records.proofs.putting.+putting.Goals as goal
 
 pub put_body-loop-node-preserved : goal.put_body-loop-node-preserved
@@ -29,14 +34,44 @@ put_body-loop-node-preserved t c =
     let given = c.args.given.now in
     let from = map event_data (drop c.args.at given) in
     let to = map event_data (drop c.in_ok-item.next given) in
-    subst (λ (z : List (Option Item)). IsPutTo (body_among nodes body) z (body_among nodes (drop (i + 1) body)) from to) (sym {A = List (Option Item)} c.in_ok-push.ensures)
-    (slot_at nodes body i (slice_index body i) c.loop-node-test.true refl c.loop-node.slots.items from (map event_data (drop c.loop-node.place given)) c.loop-node.invariant c.in_ok-item.item to c.in_ok-item.ensures)
+    let here = map event_data (drop c.loop-node.place given) in (
+      subst (λ (z : List (Option Item)). IsPutTo (body_among nodes body) z (body_among nodes (drop (i + 1) body)) from to) (sym {A = List (Option Item)} c.in_ok-push.ensures)
+          (slot_at nodes body i (slice_index body i) c.loop-node-test.true refl c.loop-node.slots.items from here c.loop-node.invariant.0 c.in_ok-item.item to c.in_ok-item.ensures.put),
+      left_next nodes body i (slice_index body i) c.loop-node-test.true refl c.requires c.args.end from here c.loop-node.invariant.1 to c.in_ok-item.ensures.passes,
+      λ h. c.in_ok-item.ensures.next (c.loop-node.invariant.2 h),
+    )
 
-pub put_body-returns : goal.put_body-returns
-put_body-returns t c =
+pub put_body-returns-in_err-item-clause-none : goal.put_body-returns-in_err-item-clause-none
+put_body-returns-in_err-item-clause-none t c =
+    let nodes = nodes_of c.args.templates.now in
+    let body = c.args.body.now in
+    let i = c.loop-node.node-index in
+    let given = c.args.given.now in
+    let from = map event_data (drop c.args.at given) in
+    let here = map event_data (drop c.loop-node.place given) in
+    let due = HasNoBody (body_among nodes body) c.args.end from in
+    let p = err_from_is_err_and c.from_residual.result c.from_residual.ensures.1 in
+    rw p.1 (subst (OnMisplaced due) (sym p.2) (on_misplaced (IsStuck nodes (slice_index body i) here) due
+    (λ stuck. left_stuck nodes body i (slice_index body i) c.loop-node-test.true refl c.requires c.args.end from here c.loop-node.invariant.1 stuck)
+    c.in_err-item.field-0.0 (c.in_err-item.ensures.none)))
+
+pub put_body-returns-in_err-next-clause-none : goal.put_body-returns-in_err-next-clause-none
+put_body-returns-in_err-next-clause-none t c =
+    let nodes = nodes_of c.args.templates.now in
+    let body = c.args.body.now in
+    let i = c.loop-node.node-index in
+    let given = c.args.given.now in
+    let from = map event_data (drop c.args.at given) in
+    let here = map event_data (drop c.loop-node.place given) in
+    let due = HasNoBody (body_among nodes body) c.args.end from in
+    let p = err_from_is_err_and c.from_residual-in_err-next.result c.from_residual-in_err-next.ensures.1 in
+    rw p.1 (always due p.0 (left_end nodes body i c.args.end from here c.loop-node-test.false c.loop-node.invariant.1 (c.in_err-next.ensures.none)))
+
+pub put_body-returns-clause-put : goal.put_body-returns-clause-put
+put_body-returns-clause-put t c =
     let given = c.args.given.now in
     body_ended (nodes_of c.args.templates.now) c.args.body.now c.loop-node.node-index c.loop-node.slots.items c.args.end (map event_data (drop c.args.at given)) (map event_data (drop c.loop-node.place given)) (map event_data (drop c.in_ok-next.next given))
-    c.loop-node-test.false c.loop-node.invariant c.in_ok-next.ensures
+    c.loop-node-test.false c.loop-node.invariant.0 c.in_ok-next.ensures.found
 
 pub put_rows-loop-i-preserved : goal.put_rows-loop-i-preserved
 put_rows-loop-i-preserved t c =
@@ -44,21 +79,197 @@ put_rows-loop-i-preserved t c =
     let given = c.args.given.now in
     let from = map event_data (drop c.args.at given) in
     let to = map event_data (drop c.in_ok-row.next given) in
-    subst (λ (z : List (Vec (Option Item) Global)). ArePutTo body (c.loop-i._i + 1) z from to) (sym {A = List (Vec (Option Item) Global)} c.in_ok-push.ensures)
-    (rows_more body c.loop-i._i c.loop-i.rows.items c.in_ok-row.row from (map event_data (drop c.loop-i.place given)) (map event_data (drop c.in_ok-next.next given)) to c.loop-i.invariant c.in_ok-next.ensures c.in_ok-row.ensures)
+    let here = map event_data (drop c.loop-i.place given) in
+    let mid = map event_data (drop c.in_ok-next.next given) in (
+      subst (λ (z : List (Vec (Option Item) Global)). ArePutTo body (c.loop-i._i + 1) z from to) (sym {A = List (Vec (Option Item) Global)} c.in_ok-push.ensures)
+          (rows_more body c.loop-i._i c.loop-i.rows.items c.in_ok-row.row from here mid to c.loop-i.invariant.0 c.in_ok-next.ensures.found c.in_ok-row.ensures.put),
+      rows_next body c.args.count c.loop-i._i from here c.loop-i.invariant.1 (slots_data c.in_ok-row.row.items) mid to c.in_ok-next.ensures.found c.in_ok-row.ensures.put,
+      λ h. c.in_ok-row.ensures.next c.in_ok-next.ensures.next,
+    )
 
-pub put_rows-returns : goal.put_rows-returns
-put_rows-returns t c =
+pub put_rows-returns-in_err-next-clause-none : goal.put_rows-returns-in_err-next-clause-none
+put_rows-returns-in_err-next-clause-none t c =
+    let body = body_among (nodes_of c.args.templates.now) c.args.body.now in
+    let given = c.args.given.now in
+    let from = map event_data (drop c.args.at given) in
+    let here = map event_data (drop c.loop-i.place given) in
+    let due = HasNoRows body c.args.count from in
+    let p = err_from_is_err_and c.from_residual.result c.from_residual.ensures.1 in
+    rw p.1 (always due p.0 (rows_unstarted body c.args.count c.loop-i._i from here c.loop-i.invariant.1 c.loop-i-test.true (c.in_err-next.ensures.none)))
+
+pub put_rows-returns-in_err-row-clause-none : goal.put_rows-returns-in_err-row-clause-none
+put_rows-returns-in_err-row-clause-none t c =
+    let body = body_among (nodes_of c.args.templates.now) c.args.body.now in
+    let given = c.args.given.now in
+    let from = map event_data (drop c.args.at given) in
+    let here = map event_data (drop c.loop-i.place given) in
+    let due = HasNoRows body c.args.count from in
+    let mid = map event_data (drop c.in_ok-next.next given) in
+    let p = err_from_is_err_and c.from_residual-in_err-row.result c.from_residual-in_err-row.ensures.1 in
+    rw p.1 (subst (OnMisplaced due) (sym p.2) (on_misplaced (HasNoBody body Is.ElementEnd mid) due
+    (λ none. rows_stuck body c.args.count c.loop-i._i from here c.loop-i.invariant.1 mid c.in_ok-next.ensures.found none)
+    c.in_err-row.field-0.0 (c.in_err-row.ensures.none)))
+
+pub put_rows-returns-in_err-next-2-clause-none : goal.put_rows-returns-in_err-next-2-clause-none
+put_rows-returns-in_err-next-2-clause-none t c =
+    let body = body_among (nodes_of c.args.templates.now) c.args.body.now in
+    let given = c.args.given.now in
+    let from = map event_data (drop c.args.at given) in
+    let here = map event_data (drop c.loop-i.place given) in
+    let due = HasNoRows body c.args.count from in
+    let p = err_from_is_err_and c.from_residual-in_err-next-2.result c.from_residual-in_err-next-2.ensures.1 in
+    rw p.1 (always due p.0 (rows_unended body c.args.count c.loop-i._i from here c.loop-i.invariant.1 c.loop-i-test.false (c.in_err-next-2.ensures.none)))
+
+pub put_rows-returns-clause-put : goal.put_rows-returns-clause-put
+put_rows-returns-clause-put t c =
     let body = body_among (nodes_of c.args.templates.now) c.args.body.now in
     let given = c.args.given.now in
     let from = map event_data (drop c.args.at given) in
     let at = map event_data (drop c.loop-i.place given) in
     let rows = c.loop-i.rows.items in
     let all : c.loop-i._i ≡ c.args.count = omega (arith, c.loop-i-test.false) in
-    rows_done body c.args.count rows from at (map event_data (drop c.in_ok-next-2.next given)) (subst (λ k. ArePutTo body k rows from at) all c.loop-i.invariant) c.in_ok-next-2.ensures
+    rows_done body c.args.count rows from at (map event_data (drop c.in_ok-next-2.next given)) (subst (λ k. ArePutTo body k rows from at) all c.loop-i.invariant.0) c.in_ok-next-2.ensures.found
 
-pub put_slot-returns-in_ok-slots-in-Group : goal.put_slot-returns-in_ok-slots-in-Group
-put_slot-returns-in_ok-slots-in-Group t c =
+pub put_slot-returns-in_ok-slots-in-Group-clause-passes : goal.put_slot-returns-in_ok-slots-in-Group-clause-passes
+put_slot-returns-in_ok-slots-in-Group-clause-passes t c =
+    let nodes = nodes_of c.args.templates.now in
+    let n = c.args.node in
+    let v = c.node.result.now in
+    let i = instruction_in nodes n in
+    let given = c.args.given.now in
+    let from = map event_data (drop c.args.at given) in
+    let mid = map event_data (drop (c.args.at + 1) given) in
+    let e = event_data c.in-Some.first in
+    let inner = body_among nodes c.in-Group.body.items in
+    let is = at_shape nodes n v (Group c.in-Group.optional c.in-Group.body) c.node.ensures.found c.node.ensures.body c.in-Group.is in
+    let start : from ≡ GroupStart n ∷ mid = c.in-Some.ensures.first ∙ ap (λ (z : EventData). z ∷ mid) (c.if-not-is_group.ensures.yes refl) in
+    let slots = c.in_ok-slots-in-Group.slots in
+    let x = item_data (V.Group slots) in
+    let to = map event_data (drop c.in_ok-slots-in-Group.next given) in
+    pass_some nodes n x from to c.requires (there_group i (label_of n v) c.in-Group.optional inner (slots_data slots.items) x is (item_data-Group slots))
+    (group_put n i (label_of n v) c.in-Group.optional inner (slots_data slots.items) x from mid to is refl (item_data-Group slots) start (rw c.deref.ensures.value at c.in_ok-slots-in-Group.ensures.put))
+
+pub put_slot-returns-in_ok-rows-in-Sequence-clause-passes : goal.put_slot-returns-in_ok-rows-in-Sequence-clause-passes
+put_slot-returns-in_ok-rows-in-Sequence-clause-passes t c =
+    let nodes = nodes_of c.args.templates.now in
+    let n = c.args.node in
+    let v = c.node.result.now in
+    let i = instruction_in nodes n in
+    let given = c.args.given.now in
+    let from = map event_data (drop c.args.at given) in
+    let mid = map event_data (drop (c.args.at + 1) given) in
+    let e = event_data c.in-Some.first in
+    let inner = body_among nodes c.in-Sequence.body.items in
+    let is = at_shape nodes n v (Sequence c.in-Sequence.length c.in-Sequence.body) c.node.ensures.found c.node.ensures.body c.in-Sequence.is in
+    let many = c.in-Some-count_of.count in
+    let start : from ≡ SequenceStart n many ∷ mid = c.in-Some.ensures.first ∙ ap (λ (z : EventData). z ∷ mid) c.in-Some-count_of.ensures.some in
+    let rows = c.in_ok-rows-in-Sequence.rows in
+    let x = item_data (V.Sequence rows) in
+    let to = map event_data (drop c.in_ok-rows-in-Sequence.next given) in
+    pass_some nodes n x from to c.requires (there_sequence i (label_of n v) (field_data c.in-Sequence.length) inner (elements_data rows.items) x is (item_data-Sequence rows))
+    (sequence_put n i (label_of n v) (field_data c.in-Sequence.length) inner (elements_data rows.items) many x from mid to is refl (item_data-Sequence rows) start (rw c.deref-in-Sequence.ensures.value at c.in_ok-rows-in-Sequence.ensures.put))
+
+pub put_slot-returns-in_ok-value-in-Field-clause-passes : goal.put_slot-returns-in_ok-value-in-Field-clause-passes
+put_slot-returns-in_ok-value-in-Field-clause-passes t c =
+    let nodes = nodes_of c.args.templates.now in
+    let n = c.args.node in
+    let v = c.node.result.now in
+    let i = instruction_in nodes n in
+    let given = c.args.given.now in
+    let from = map event_data (drop c.args.at given) in
+    let mid = map event_data (drop (c.args.at + 1) given) in
+    let e = event_data c.in-Some.first in
+    let value = scalar_data c.in-Some-value_of.value in
+    let x = item_data (V.One c.in_ok-value-in-Field.value) in
+    let item = item_data-One c.in_ok-value-in-Field.value ∙ ap one c.in_ok-value-in-Field.ensures in
+    let first = c.in-Some.ensures.first ∙ ap (λ (z : EventData). z ∷ mid) c.in-Some-value_of.ensures.some in
+    elim c.in-Field.is [
+      | inl w ↦ let is = at_shape nodes n v (Field w.0) c.node.ensures.found c.node.ensures.body w.1 in pass_some nodes n x from mid c.requires (there_one i (label_of n v) (field_data w.0) value x is item) (field_put n i (label_of n v) (field_data w.0) value x from mid is refl item first)
+      | inr w ↦ let is = at_shape nodes n v (Decimal w.0 w.1) c.node.ensures.found c.node.ensures.body w.2 in pass_some nodes n x from mid c.requires (there_parts i (label_of n v) (field_data w.0) (field_data w.1) value x is item) (parts_put n i (label_of n v) (field_data w.0) (field_data w.1) value x from mid is refl item first)
+    ]
+
+pub put_slot-returns-then-not-is_group-clause-passes : goal.put_slot-returns-then-not-is_group-clause-passes
+put_slot-returns-then-not-is_group-clause-passes t c =
+    let nodes = nodes_of c.args.templates.now in
+    let n = c.args.node in
+    let v = c.node.result.now in
+    let i = instruction_in nodes n in
+    let given = c.args.given.now in
+    let from = map event_data (drop c.args.at given) in
+    let mid = map event_data (drop (c.args.at + 1) given) in
+    let e = event_data c.in-Some.first in
+    let inner = body_among nodes c.in-Group.body.items in
+    let is = at_shape nodes n v (Group c.in-Group.optional c.in-Group.body) c.node.ensures.found c.node.ensures.body c.in-Group.is in
+    pass_none nodes n from (never_group n e from mid c.in-Some.ensures.first i (label_of n v) c.in-Group.optional inner is refl (c.if-not-is_group.ensures.no refl))
+
+pub put_slot-returns-in_err-slots-in-Group-clause-none : goal.put_slot-returns-in_err-slots-in-Group-clause-none
+put_slot-returns-in_err-slots-in-Group-clause-none t c =
+    let nodes = nodes_of c.args.templates.now in
+    let n = c.args.node in
+    let v = c.node.result.now in
+    let i = instruction_in nodes n in
+    let given = c.args.given.now in
+    let from = map event_data (drop c.args.at given) in
+    let mid = map event_data (drop (c.args.at + 1) given) in
+    let e = event_data c.in-Some.first in
+    let inner = body_among nodes c.in-Group.body.items in
+    let is = at_shape nodes n v (Group c.in-Group.optional c.in-Group.body) c.node.ensures.found c.node.ensures.body c.in-Group.is in
+    let start : from ≡ GroupStart n ∷ mid = c.in-Some.ensures.first ∙ ap (λ (z : EventData). z ∷ mid) (c.if-not-is_group.ensures.yes refl) in
+    let p = err_from_is_err_and c.from_residual.result c.from_residual.ensures.1 in
+    rw p.1 (subst (OnMisplaced (IsStuck nodes n from)) (sym p.2) (on_misplaced (HasNoBody inner Is.GroupEnd mid) (IsStuck nodes n from)
+    (λ none. stuck_at nodes n (GroupStart n) from mid c.requires start refl (never_slots i (label_of n v) c.in-Group.optional inner n from mid is start none))
+    c.in_err-slots-in-Group.field-0.0 (rw c.deref.ensures.value at c.in_err-slots-in-Group.ensures.none)))
+
+pub put_slot-returns-in_default-count_of-clause-passes : goal.put_slot-returns-in_default-count_of-clause-passes
+put_slot-returns-in_default-count_of-clause-passes t c =
+    let nodes = nodes_of c.args.templates.now in
+    let n = c.args.node in
+    let v = c.node.result.now in
+    let i = instruction_in nodes n in
+    let given = c.args.given.now in
+    let from = map event_data (drop c.args.at given) in
+    let mid = map event_data (drop (c.args.at + 1) given) in
+    let e = event_data c.in-Some.first in
+    let inner = body_among nodes c.in-Sequence.body.items in
+    let is = at_shape nodes n v (Sequence c.in-Sequence.length c.in-Sequence.body) c.node.ensures.found c.node.ensures.body c.in-Sequence.is in
+    pass_none nodes n from (never_sequence n e from mid c.in-Some.ensures.first i (label_of n v) (field_data c.in-Sequence.length) inner is refl c.in_default-count_of.ensures.none)
+
+pub put_slot-returns-in_err-rows-in-Sequence-clause-none : goal.put_slot-returns-in_err-rows-in-Sequence-clause-none
+put_slot-returns-in_err-rows-in-Sequence-clause-none t c =
+    let nodes = nodes_of c.args.templates.now in
+    let n = c.args.node in
+    let v = c.node.result.now in
+    let i = instruction_in nodes n in
+    let given = c.args.given.now in
+    let from = map event_data (drop c.args.at given) in
+    let mid = map event_data (drop (c.args.at + 1) given) in
+    let e = event_data c.in-Some.first in
+    let inner = body_among nodes c.in-Sequence.body.items in
+    let is = at_shape nodes n v (Sequence c.in-Sequence.length c.in-Sequence.body) c.node.ensures.found c.node.ensures.body c.in-Sequence.is in
+    let many = c.in-Some-count_of.count in
+    let start : from ≡ SequenceStart n many ∷ mid = c.in-Some.ensures.first ∙ ap (λ (z : EventData). z ∷ mid) c.in-Some-count_of.ensures.some in
+    let p = err_from_is_err_and c.from_residual-in_err-rows-in-Sequence.result c.from_residual-in_err-rows-in-Sequence.ensures.1 in
+    rw p.1 (subst (OnMisplaced (IsStuck nodes n from)) (sym p.2) (on_misplaced (HasNoRows inner many mid) (IsStuck nodes n from)
+    (λ none. stuck_at nodes n (SequenceStart n many) from mid c.requires start refl (never_rows i (label_of n v) (field_data c.in-Sequence.length) inner n many from mid is start none))
+    c.in_err-rows-in-Sequence.field-0.0 (rw c.deref-in-Sequence.ensures.value at c.in_err-rows-in-Sequence.ensures.none)))
+
+pub put_slot-returns-in_default-value_of-clause-passes : goal.put_slot-returns-in_default-value_of-clause-passes
+put_slot-returns-in_default-value_of-clause-passes t c =
+    let nodes = nodes_of c.args.templates.now in
+    let n = c.args.node in
+    let v = c.node.result.now in
+    let i = instruction_in nodes n in
+    let given = c.args.given.now in
+    let from = map event_data (drop c.args.at given) in
+    let mid = map event_data (drop (c.args.at + 1) given) in
+    let e = event_data c.in-Some.first in
+    elim c.in-Field.is [
+      | inl w ↦ pass_none nodes n from (never_field n e from mid c.in-Some.ensures.first i (label_of n v) (field_data w.0) (at_shape nodes n v (Field w.0) c.node.ensures.found c.node.ensures.body w.1) refl c.in_default-value_of.ensures.none)
+      | inr w ↦ pass_none nodes n from (never_parts n e from mid c.in-Some.ensures.first i (label_of n v) (field_data w.0) (field_data w.1) (at_shape nodes n v (Decimal w.0 w.1) c.node.ensures.found c.node.ensures.body w.2) refl c.in_default-value_of.ensures.none)
+    ]
+
+pub put_slot-returns-in_ok-slots-in-Group-clause-put : goal.put_slot-returns-in_ok-slots-in-Group-clause-put
+put_slot-returns-in_ok-slots-in-Group-clause-put t c =
     let nodes = nodes_of c.args.templates.now in
     let n = c.args.node in
     let v = c.node.result.now in
@@ -67,10 +278,10 @@ put_slot-returns-in_ok-slots-in-Group t c =
     let slots = c.in_ok-slots-in-Group.slots in
     group_put n (instruction_in nodes n) (label_of n v) c.in-Group.optional (body_among nodes c.in-Group.body.items) (slots_data slots.items) (item_data (V.Group slots)) (map event_data (drop c.args.at given)) mid (map event_data (drop c.in_ok-slots-in-Group.next given))
     (at_shape nodes n v (Group c.in-Group.optional c.in-Group.body) c.node.ensures.found c.node.ensures.body c.in-Group.is) refl (item_data-Group slots)
-    (c.in-Some.ensures.first ∙ ap (λ (z : EventData). z ∷ mid) (c.if-not-is_group.ensures refl)) (rw c.deref.ensures.value at c.in_ok-slots-in-Group.ensures)
+    (c.in-Some.ensures.first ∙ ap (λ (z : EventData). z ∷ mid) (c.if-not-is_group.ensures.yes refl)) (rw c.deref.ensures.value at c.in_ok-slots-in-Group.ensures.put)
 
-pub put_slot-returns-in_ok-rows-in-Sequence : goal.put_slot-returns-in_ok-rows-in-Sequence
-put_slot-returns-in_ok-rows-in-Sequence t c =
+pub put_slot-returns-in_ok-rows-in-Sequence-clause-put : goal.put_slot-returns-in_ok-rows-in-Sequence-clause-put
+put_slot-returns-in_ok-rows-in-Sequence-clause-put t c =
     let nodes = nodes_of c.args.templates.now in
     let n = c.args.node in
     let v = c.node.result.now in
@@ -79,10 +290,10 @@ put_slot-returns-in_ok-rows-in-Sequence t c =
     let rows = c.in_ok-rows-in-Sequence.rows in
     sequence_put n (instruction_in nodes n) (label_of n v) (field_data c.in-Sequence.length) (body_among nodes c.in-Sequence.body.items) (elements_data rows.items) c.in-Some-count_of.count (item_data (V.Sequence rows)) (map event_data (drop c.args.at given)) mid
     (map event_data (drop c.in_ok-rows-in-Sequence.next given)) (at_shape nodes n v (Sequence c.in-Sequence.length c.in-Sequence.body) c.node.ensures.found c.node.ensures.body c.in-Sequence.is) refl (item_data-Sequence rows)
-    (c.in-Some.ensures.first ∙ ap (λ (z : EventData). z ∷ mid) c.in-Some-count_of.ensures) (rw c.deref-in-Sequence.ensures.value at c.in_ok-rows-in-Sequence.ensures)
+    (c.in-Some.ensures.first ∙ ap (λ (z : EventData). z ∷ mid) c.in-Some-count_of.ensures.some) (rw c.deref-in-Sequence.ensures.value at c.in_ok-rows-in-Sequence.ensures.put)
 
-pub put_slot-returns-in_ok-value-in-Field : goal.put_slot-returns-in_ok-value-in-Field
-put_slot-returns-in_ok-value-in-Field t c =
+pub put_slot-returns-in_ok-value-in-Field-clause-put : goal.put_slot-returns-in_ok-value-in-Field-clause-put
+put_slot-returns-in_ok-value-in-Field-clause-put t c =
     let nodes = nodes_of c.args.templates.now in
     let n = c.args.node in
     let v = c.node.result.now in
@@ -91,7 +302,7 @@ put_slot-returns-in_ok-value-in-Field t c =
     let from = map event_data (drop c.args.at given) in
     let value = scalar_data c.in-Some-value_of.value in
     let item = item_data-One c.in_ok-value-in-Field.value ∙ ap one c.in_ok-value-in-Field.ensures in
-    let first = c.in-Some.ensures.first ∙ ap (λ (z : EventData). z ∷ mid) c.in-Some-value_of.ensures in
+    let first = c.in-Some.ensures.first ∙ ap (λ (z : EventData). z ∷ mid) c.in-Some-value_of.ensures.some in
     elim c.in-Field.is [
       | inl w ↦ field_put n (instruction_in nodes n) (label_of n v) (field_data w.0) value (item_data (V.One c.in_ok-value-in-Field.value)) from mid (at_shape nodes n v (Field w.0) c.node.ensures.found c.node.ensures.body w.1) refl item first
       | inr w ↦ parts_put n (instruction_in nodes n) (label_of n v) (field_data w.0) (field_data w.1) value (item_data (V.One c.in_ok-value-in-Field.value)) from mid (at_shape nodes n v (Decimal w.0 w.1) c.node.ensures.found c.node.ensures.body w.2) refl item first

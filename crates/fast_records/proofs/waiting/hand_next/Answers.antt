@@ -1,6 +1,5 @@
 use Rattle.std.proofs.Common.{sym, ap, ◌∷◌, ◌∙◌}
 use Rattle.fast_stream.specs.meaning.Handed.{event_data}
-use Rattle.fast_decoder.specs.declared.recorder.Recorded.{Recorded}
 use Rattle.fast_records.proofs.Moving.{front_is, moves_first}
 use Rattle.fast_records.proofs.waiting.hand_next.Goals as goal
 

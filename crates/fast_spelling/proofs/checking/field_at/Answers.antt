@@ -1,5 +1,7 @@
 -- The field of a node whose form tells that it is one.
-use Rattle.std.proofs.Common.{◌≡◌, sym, subst}
+use Rattle.std.proofs.Common.{◌≡◌, ◌∙◌, ap, sym, subst}
+use Rattle.std.specs.Prelude.{Some}
+use Rattle.fast_tree.specs.declared.instructions.Node.{Node}
 use Rattle.fast_tree.specs.declared.instructions.Shape.{Shape}
 use Rattle.fast_tree.specs.declared.instructions.Shape.TheVariants.{Field, Decimal, Group, Sequence}
 use Rattle.fast_tree.specs.device.Nodes.{label_of}
@@ -26,3 +28,9 @@ returns-clause-kind c = (is_field c).0
 
 pub returns-clause-operator : goal.returns-clause-operator
 returns-clause-operator c = (is_field c).1
+
+some_is : (x y : Node) → Some x ≡ Some y → x ≡ y
+some_is x y e = cc
+
+pub returns-clause-shape : goal.returns-clause-shape
+returns-clause-shape c = λ x found. ap (λ (n : Node). n.shape) (some_is x c.node.result.now (sym found ∙ c.node.ensures.found)) ∙ c.in-Field.is

@@ -15,13 +15,13 @@ use Rattle.fast_spelling.proofs.checking.try_constant.Goals as goal
 
 pub write_constant-requires-clause-served : goal.write_constant-requires-clause-served
 write_constant-requires-clause-served c =
-    let k = c.field_at-field.ensures in
-    served c.args.plan.now.templates.now c.args.plan.now.limits c.args.work.now.ledger (field_data c.field_at-field.result.now) c.requires.ready k.usable k.initial
+    let k = c.known_at-at.ensures in
+    served c.args.plan.now.templates.now c.args.plan.now.limits c.args.work.now.ledger (field_data c.known_at-at.result.field.now) c.requires.ready k.usable k.initial
 
 pub returns-clause-ok : goal.returns-clause-ok
 returns-clause-ok c =
-    let f = field_data c.field_at-field.result.now in
-    let at = c.field_at-field.ensures.instruction.0 in
+    let f = field_data c.known_at-at.result.field.now in
+    let at = c.known_at-at.ensures.instruction.0 in
     let l = c.args.plan.now.limits in
     let d = c.args.work.now.ledger.now in
     let old = c.args.work.now.draft in
@@ -29,5 +29,5 @@ returns-clause-ok c =
     let after = c.write_constant.new.ledger.now in
     let v = value_data c.args.value.now in
     let y : Option ItemData = Some (one v) in
-    on_ok c.write_constant.result c.write_constant.ensures.ok (λ k. encodes_as l (instruction_in (nodes_of c.args.plan.now.templates.now) c.args.node) (field at f) y y d old new after c.field_at-field.ensures.instruction.1 refl
+    on_ok c.write_constant.result c.write_constant.ensures.ok (λ k. encodes_as l (instruction_in (nodes_of c.args.plan.now.templates.now) c.args.node) (field at f) y y d old new after c.known_at-at.ensures.instruction.1 refl
     (field_encodes l at f v d old new after (subst (λ (z : ScalarData). Wrote (EncodesField l f d (Some z)) old new after) c.in-Some.ensures.0 (k l c.requires.ready.room))))

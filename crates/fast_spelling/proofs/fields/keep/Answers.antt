@@ -11,9 +11,9 @@ use Rattle.fast_spelling.proofs.fields.keep.Goals as goal
 
 pub returns-then-not-keeps-clause-now : goal.returns-then-not-keeps-clause-now
 returns-then-not-keeps-clause-now c =
-    let f = field_data c.args.field.now in
+    let f = field_data c.args.at.field.now in
     let d = c.args.ledger.now.now in
     let p = previous_at f.entry d in
     let v = option_map scalar_data c.args.value in
-    let same : next_by f.operator f.kind p v ≡ p = ap (λ (o : Operator). next_by o f.kind p v) c.requires.operator ∙ c.if-not-keeps.ensures refl f.kind p v in
+    let same : next_by f.operator f.kind p v ≡ p = ap (λ (o : Operator). next_by o f.kind p v) c.requires.operator ∙ c.if-not-keeps.ensures.same refl f.kind p v in
     sym (ap (λ (q : PreviousData). write_at f.entry q d) same ∙ write_back f.entry d)

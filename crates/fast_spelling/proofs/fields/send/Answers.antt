@@ -15,7 +15,7 @@ use Rattle.fast_spelling.proofs.fields.send.Goals.{then-uses_bit+in_ok-push_bit,
 
 pub returns-clause-ok : goal.returns-clause-ok
 returns-clause-ok c = λ l same.
-    let f : FieldData = field_data c.args.field.now in
+    let f : FieldData = field_data c.args.at.field.now in
     let v = option_map scalar_data c.args.value in
     let h = c.in_ok-write_item.ensures.ok in
     let suited = subst (λ (m : ℕ). IsSuited m f v) (sym same) c.requires.suited in

@@ -1,16 +1,19 @@
 -- Deltas are one or two signed integers, or one and a part of a text.
-use Rattle.std.proofs.Common.{◌++◌, List, ℕ, refl, ◌∙◌, ap, sym, subst, append_assoc, rules, false}
+use Rattle.std.proofs.Common.{◌++◌, List, ℕ, refl, ◌∙◌, ap, sym, subst, append_assoc, rules, Bool, true, false}
+use Rattle.std.specs.Prelude.{Some}
+use Rattle.fast_value.specs.declared.kinds.Kind.{Kind}
+use Rattle.fast_wire.specs.device.Shortest.{IsShortest}
 use Rattle.fast_tree.specs.device.Nodes.{field_data}
 use Rattle.fast_dict.specs.meaning.Sending.{sent_data}
 use Rattle.fast_dict.specs.declared.operators.table.Sent.{Sent}
-use Rattle.fast_spelling.specs.device.Drafts.{SpellsItem}
+use Rattle.fast_spelling.specs.device.Drafts.{SpellsItem, SpellsPart}
 use Rattle.fast_spelling.proofs.bytes.Spelling.{on_ok, handed}
 use Rattle.fast_spelling.proofs.items.write_item.Goals as goal
 
 pub returns-in_ok-write_delta_as-in-IntegerDelta-clause-ok : goal.returns-in_ok-write_delta_as-in-IntegerDelta-clause-ok
 returns-in_ok-write_delta_as-in-IntegerDelta-clause-ok c =
     let h = c.in_ok-write_delta_as-in-IntegerDelta.ensures in
-    (h.0, h.1, subst (λ (x : Sent). SpellsItem (field_data c.args.field.now) (sent_data x) h.0) (sym c.in-IntegerDelta.is) (handed c.args.field.now.optional c.in-IntegerDelta.delta h.0 (search rules) h.2))
+    (h.0, h.1, subst (λ (x : Sent). SpellsItem (field_data c.args.at.field.now) (sent_data x) h.0) (sym c.in-IntegerDelta.is) (subst (λ (b : Bool). IsShortest true b (Some c.in-IntegerDelta.delta) h.0) (sym c.args.at.same_nullable) (handed c.args.at.nullable c.in-IntegerDelta.delta h.0 (search rules) h.2)))
 
 pub returns-in_ok-write_signed_as-in-DecimalDelta-2-clause-ok : goal.returns-in_ok-write_signed_as-in-DecimalDelta-2-clause-ok
 returns-in_ok-write_signed_as-in-DecimalDelta-2-clause-ok c =
@@ -18,7 +21,7 @@ returns-in_ok-write_signed_as-in-DecimalDelta-2-clause-ok c =
     let k = c.in_ok-write_signed_as-in-DecimalDelta-2.ensures in (
       h.0 ++ k.0,
       k.1 ∙ ap (λ (w : List ℕ). w ++ k.0) h.1 ∙ append_assoc c.args.bytes.now.items h.0 k.0,
-      subst (λ (x : Sent). SpellsItem (field_data c.args.field.now) (sent_data x) (h.0 ++ k.0)) (sym c.in-DecimalDelta.is) (h.0, k.0, handed c.args.field.now.optional c.in-DecimalDelta.exponent h.0 (search rules) h.2, handed false c.in-DecimalDelta.mantissa k.0 (search rules) k.2, refl),
+      subst (λ (x : Sent). SpellsItem (field_data c.args.at.field.now) (sent_data x) (h.0 ++ k.0)) (sym c.in-DecimalDelta.is) (h.0, k.0, subst (λ (b : Bool). IsShortest true b (Some c.in-DecimalDelta.exponent) h.0) (sym c.args.at.same_nullable) (handed c.args.at.nullable c.in-DecimalDelta.exponent h.0 (search rules) h.2), handed false c.in-DecimalDelta.mantissa k.0 (search rules) k.2, refl),
     )
 
 pub returns-in_ok-write_signed_as-in-TextDelta-clause-ok : goal.returns-in_ok-write_signed_as-in-TextDelta-clause-ok
@@ -27,5 +30,5 @@ returns-in_ok-write_signed_as-in-TextDelta-clause-ok c =
     on_ok c.write_text.result c.write_text.ensures.ok (λ k. (
       h.0 ++ k.0,
       k.1 ∙ ap (λ (w : List ℕ). w ++ k.0) h.1 ∙ append_assoc c.args.bytes.now.items h.0 k.0,
-      subst (λ (x : Sent). SpellsItem (field_data c.args.field.now) (sent_data x) (h.0 ++ k.0)) (sym c.in-TextDelta.is) (h.0, k.0, handed c.args.field.now.optional c.in-TextDelta.taken h.0 (search rules) h.2, k.2, refl),
+      subst (λ (x : Sent). SpellsItem (field_data c.args.at.field.now) (sent_data x) (h.0 ++ k.0)) (sym c.in-TextDelta.is) (h.0, k.0, subst (λ (b : Bool). IsShortest true b (Some c.in-TextDelta.taken) h.0) (sym c.args.at.same_nullable) (handed c.args.at.nullable c.in-TextDelta.taken h.0 (search rules) h.2), subst (λ (q : Kind). SpellsPart q false c.in-TextDelta.part.now k.0) (sym c.args.at.same_kind) k.2, refl),
     ))

@@ -8,5 +8,5 @@ use Rattle.fast_spelling.proofs.quick.write_constant.Goals as goal
 
 pub send-requires-clause-ruled : goal.send-requires-clause-ruled
 send-requires-clause-ruled c =
-    let f = field_data c.args.field.now in
+    let f = field_data c.args.at.field.now in
     constant_ruled f (previous_at f.entry c.args.ledger.now.now) (scalar_data c.args.value) c.requires.operator (c.if-is_initial.ensures.0 refl)

@@ -11,11 +11,11 @@ use Rattle.fast_spelling.proofs.quick.write_copied_other.Goals as goal
 
 pub returns-in_ok-push_bit-in-Some-clause-ok : goal.returns-in_ok-push_bit-in-Some-clause-ok
 returns-in_ok-push_bit-in-Some-clause-ok c = λ l same.
-    let f = field_data c.args.field.now in
+    let f = field_data c.args.at.field.now in
     let v = scalar_data c.args.value in (
       false ∷ [],
       [],
       c.in_ok-push_bit-in-Some.ensures.bits,
       c.push_bit.ensures.bytes ∙ sym (append-nil c.args.draft.now.bytes.items),
-      copy_passed l f c.args.ledger.now.now v c.requires.operator c.requires.served.usable.tail (subst (λ (m : ℕ). IsSuited m f (Some v)) (sym same) c.requires.suited) (c.in-Some.ensures ∙ ap (assigned f.kind) (c.if-is_same.ensures.0 refl)),
+      copy_passed l f c.args.ledger.now.now v c.requires.operator c.requires.served.usable.tail (subst (λ (m : ℕ). IsSuited m f (Some v)) (sym same) c.requires.suited) (c.in-Some.ensures.value ∙ ap (assigned f.kind) (c.if-is_same.ensures.0 refl)),
     )

@@ -10,7 +10,7 @@ use Rattle.fast_spelling.proofs.quick.write_default.Goals as goal
 
 pub returns-then-is_initial-clause-ok : goal.returns-then-is_initial-clause-ok
 returns-then-is_initial-clause-ok c = λ l same.
-    let f = field_data c.args.field.now in
+    let f = field_data c.args.at.field.now in
     let v = scalar_data c.args.value in (
       false ∷ [],
       [],

@@ -11,7 +11,7 @@ use Rattle.fast_spelling.proofs.quick.write_next.Goals as goal
 
 pub send-requires-clause-ruled : goal.send-requires-clause-ruled
 send-requires-clause-ruled c =
-    let f = field_data c.args.field.now in
+    let f = field_data c.args.at.field.now in
     let u = scalar_data c.in-Some.held in
-    step_same f (previous_at f.entry c.args.ledger.now.now) u (scalar_data c.args.value) c.requires.operator c.in-Some.ensures
-    (ap (λ (k : Kind). value_of_integer k (incremented (range_of k) (integer_of u))) c.requires.kind ∙ c.if-is_next.ensures.0 refl)
+    step_same f (previous_at f.entry c.args.ledger.now.now) u (scalar_data c.args.value) c.requires.operator c.in-Some.ensures.value
+    (ap (λ (k : Kind). value_of_integer k (incremented (range_of k) (integer_of u))) c.args.at.same_kind ∙ c.if-is_next.ensures.0 refl)

@@ -8,7 +8,7 @@ use Rattle.fast_spelling.proofs.quick.write_no_copy.Goals as goal
 
 pub returns-then-is_empty_in-clause-ok : goal.returns-then-is_empty_in-clause-ok
 returns-then-is_empty_in-clause-ok c = λ l same.
-    let f = field_data c.args.field.now in (
+    let f = field_data c.args.at.field.now in (
       false ∷ [],
       [],
       c.in_ok-push_bit.ensures.bits,

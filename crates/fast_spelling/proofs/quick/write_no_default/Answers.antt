@@ -9,7 +9,7 @@ use Rattle.fast_spelling.proofs.quick.write_no_default.Goals as goal
 
 pub returns-in_ok-push_bit-in-None-clause-ok : goal.returns-in_ok-push_bit-in-None-clause-ok
 returns-in_ok-push_bit-in-None-clause-ok c = λ l same.
-    let f = field_data c.args.field.now in (
+    let f = field_data c.args.at.field.now in (
       false ∷ [],
       [],
       c.in_ok-push_bit-in-None.ensures.bits,

@@ -38,7 +38,7 @@ finish_part-requires-clause-fits c other e =
     let is : length (run_at c.in-Whole-Piece-default.field-0 c.next_raw.new.scratch.text (take c.in-Whole-Piece-default.bytes c.args.rest.now)) ≡ length (run_at Piece c.next_raw.new.scratch.text (take c.in-Whole-Piece-default.bytes c.args.rest.now))
     = ap (λ (r : Run). length (run_at r c.next_raw.new.scratch.text (take c.in-Whole-Piece-default.bytes c.args.rest.now))) c.in-Whole-Piece-default.field-0-is in
     let same : kept ≡ other = one_kept kept other step (ap (λ (x : ℤ). subtraction_step f p x) (sym (to_z-of_z w32 c.args.subtraction c.ranges.subtraction)) ∙ e) in
-    let most = c.requires.max_text in
+    let most = c.requires.limit.0 in
     let kepts : kept_length kept ≡ kept_length other = ap kept_length same in
     omega (arith, len, is, fits, most, kepts)
 
@@ -55,7 +55,7 @@ finish_part-requires-in-Whole-Scratch-default-clause-fits c other e =
     let is : length (run_at c.in-Whole-Scratch-default.field-0 c.next_raw.new.scratch.text (take c.in-Whole-Scratch-default.bytes c.args.rest.now)) ≡ length (run_at Scratch c.next_raw.new.scratch.text (take c.in-Whole-Scratch-default.bytes c.args.rest.now))
     = ap (λ (r : Run). length (run_at r c.next_raw.new.scratch.text (take c.in-Whole-Scratch-default.bytes c.args.rest.now))) c.in-Whole-Scratch-default.field-0-is in
     let same : kept ≡ other = one_kept kept other step (ap (λ (x : ℤ). subtraction_step f p x) (sym (to_z-of_z w32 c.args.subtraction c.ranges.subtraction)) ∙ e) in
-    let most = c.requires.max_text in
+    let most = c.requires.limit.0 in
     let kepts : kept_length kept ≡ kept_length other = ap kept_length same in
     rw c.as_slice-part.ensures (omega (arith, len, is, fits, most, kepts))
 

@@ -30,7 +30,7 @@ finish_text-requires-clause-fits c =
     let is : length (run_at c.in-Whole-Piece-default.field-0 c.next_raw.new.scratch.text (take c.in-Whole-Piece-default.bytes c.args.rest.now)) ≡ length (run_at Piece c.next_raw.new.scratch.text (take c.in-Whole-Piece-default.bytes c.args.rest.now))
     = ap (λ (r : Run). length (run_at r c.next_raw.new.scratch.text (take c.in-Whole-Piece-default.bytes c.args.rest.now))) c.in-Whole-Piece-default.field-0-is in
     let fits = c.requires.stage.4 in
-    let most = c.requires.max_text in
+    let most = c.requires.limit.0 in
     omega (arith, len, is, fits, most)
 
 pub finish_text-requires-in-Whole-Scratch-default-clause-fits : goal.finish_text-requires-in-Whole-Scratch-default-clause-fits
@@ -39,7 +39,7 @@ finish_text-requires-in-Whole-Scratch-default-clause-fits c =
     let is : length (run_at c.in-Whole-Scratch-default.field-0 c.next_raw.new.scratch.text (take c.in-Whole-Scratch-default.bytes c.args.rest.now)) ≡ length (run_at Scratch c.next_raw.new.scratch.text (take c.in-Whole-Scratch-default.bytes c.args.rest.now))
     = ap (λ (r : Run). length (run_at r c.next_raw.new.scratch.text (take c.in-Whole-Scratch-default.bytes c.args.rest.now))) c.in-Whole-Scratch-default.field-0-is in
     let fits = c.requires.stage.4 in
-    let most = c.requires.max_text in
+    let most = c.requires.limit.0 in
     rw c.as_slice-text.ensures (omega (arith, len, is, fits, most))
 
 pub returns-in-Whole-Piece-default-clause-unit : goal.returns-in-Whole-Piece-default-clause-unit

@@ -1,6 +1,6 @@
 -- `into_box` makes the box again: a walk of its MIR by hand.
 use Rattle.std.proofs.Common.{◌≡◌, List, [], ◌∷◌, ◌++◌, T, refl, sym, ap, subst}
-use mir.Syntax.{Args, impl, tcons, tnil, dnil}
+use mir.Syntax.{impl, tcons, tnil, dnil}
 use mir.Raw.{raw as bare}
 use mir.Val.{Val, vptr, has_ty, WT}
 use base.Fraction.{full_share}

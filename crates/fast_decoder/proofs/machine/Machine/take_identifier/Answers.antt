@@ -40,12 +40,11 @@ returns-in-Cut-clause-taken g c =
     let new : Machine = record m { slots = c.take_integer.new.slots; entity = c.take_integer.new.pending } in
     let (entity, bit, place) = subst (λ (w : Waiting). CanTake w set l m) c.requires.waits c.requires.ready.takes in
     let (stays, dictionary) = c.in-Cut.ensures.unit (bounds l) [] in
-    let (pending, no_stop, short) = c.in-Cut.ensures.cut refl in
+    let (pending, is_open) = c.in-Cut.ensures.cut refl in
     let r : Reader Dictionary = reader_of l.strict (behind_map set (bounds l) d m.cursor.map) in
     let ready : IsReady set l new = record {
       supplied = part_supplied set l m c.take_integer.new.slots c.take_integer.new.pending c.requires.ready c.take_integer.ensures.terms;
-      entity_open = no_stop;
-      entity_short = short;
+      entity = is_open;
       takes = subst (λ (w : Waiting). CanTake w set l new) (sym c.requires.waits) (entity, bit, place);
     } in
     cut_to g.S.Sink.takes g.S.Sink.stops set l (meaning set l m) rest c.args.sink.now new c.cut.ensures.bytes c.cut.ensures.turn ready

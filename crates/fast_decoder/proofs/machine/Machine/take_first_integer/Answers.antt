@@ -8,7 +8,7 @@ use Rattle.fast_decoder.specs.declared.machine.Waiting.{Waiting}
 use Rattle.fast_decoder.proofs.steps.FieldTurns.{serves_here}
 use Rattle.fast_decoder.proofs.machines.ScalarMachines.{still_supplied, first_taken}
 use Rattle.fast_decoder.proofs.fields.ScalarNodes.{at_field_node, at_parts_node, at_sequence_node, no_group, first_below, served_node, first_begins}
-use Rattle.fast_decoder.proofs.machine.Machine.take_other.Goals as goal
+use Rattle.fast_decoder.proofs.machine.Machine.take_first_integer.Goals as goal
 
 pub take_first-progress-requires-clause-serves : goal.take_first-progress-requires-clause-serves
 take_first-progress-requires-clause-serves g c =

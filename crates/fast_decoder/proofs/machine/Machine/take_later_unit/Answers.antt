@@ -5,7 +5,7 @@ use Rattle.fast_decoder.specs.device.Scalars.{IsOfField}
 use Rattle.fast_decoder.specs.device.TurnsLeft.{HasTurns}
 use Rattle.fast_decoder.specs.declared.machine.Machine.{Machine}
 use Rattle.fast_decoder.proofs.fields.ScalarNodes.{at_field_node, of_later, later_field, not_field, still_at_field}
-use Rattle.fast_decoder.proofs.machine.Machine.take_later.Goals as goal
+use Rattle.fast_decoder.proofs.machine.Machine.take_later_unit.Goals as goal
 
 pub returns-in_default-shape : goal.returns-in_default-shape
 returns-in_default-shape g c =

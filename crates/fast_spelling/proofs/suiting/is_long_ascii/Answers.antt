@@ -4,7 +4,7 @@ use Rattle.std.specs.Prelude.{Bool, true, false, IsTrue}
 use Rattle.std.specs.Bool.{MatchBool}
 use Rattle.std.specs.Str.{IsAscii, IsNotAscii}
 use Rattle.std.proofs.lemmas.Str.Ascii.{IsAscii-from_all, All-from_ascii}
-use Rattle.fast_spelling.proofs.suiting.is_ascii.Goals as goal
+use Rattle.fast_spelling.proofs.suiting.is_long_ascii.Goals as goal
 
 told : (b : Bool) (t : List ℕ) → MatchBool b (IsAscii t) (IsNotAscii t) → (IsTrue b → All (λ c. c < 128) t) × (All (λ c. c < 128) t → IsTrue b)
 told true t h = (λ e. All-from_ascii t h, λ all. refl)

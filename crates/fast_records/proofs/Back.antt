@@ -1,0 +1,83 @@
+-- The event that a record stands for, and which records stand for none.
+use Rattle.std.proofs.Common.{◌≡◌, ℕ, ◌≤◌, List, [], ◌∷◌, take, drop, refl, ap, sym, ◌∙◌, arith}
+use Rattle.fast_value.specs.meaning.Kinds.{U, I, Dec, AsciiText, UnicodeText, ByteVector}
+use Rattle.fast_stream.specs.meaning.Events.{EventData, MessageStart, FieldValue, GroupStart, GroupEnd, SequenceStart, ElementStart, ElementEnd, SequenceEnd, MessageEnd}
+use Rattle.fast_records.specs.declared.records.Record.{Record}
+use Rattle.fast_records.specs.meaning.Records.{record_of, event_text}
+use Rattle.fast_records.specs.meaning.Lent.{Tells, AreTold}
+use Rattle.fast_records.specs.device.Lent.{event_back, IsOf}
+
+-- the kind of a record is that of its event
+kind_is : (r : Record) (text : List ℕ) (e : EventData) → IsOf r text e → r.kind ≡ (record_of r.value e).kind
+kind_is r text e h = ap (λ (z : Record). z.kind) h.record_is
+
+-- The kinds are those of events.
+pub kind_known : (r : Record) (text : List ℕ) (e : EventData) → IsOf r text e → (1 ≤ r.kind) × (r.kind ≤ 14)
+kind_known r text (MessageStart n) h = let k = kind_is r text (MessageStart n) h in (omega (arith, k), omega (arith, k))
+kind_known r text (FieldValue n (U x)) h = let k = kind_is r text (FieldValue n (U x)) h in (omega (arith, k), omega (arith, k))
+kind_known r text (FieldValue n (I x)) h = let k = kind_is r text (FieldValue n (I x)) h in (omega (arith, k), omega (arith, k))
+kind_known r text (FieldValue n (Dec x m)) h = let k = kind_is r text (FieldValue n (Dec x m)) h in (omega (arith, k), omega (arith, k))
+kind_known r text (FieldValue n (AsciiText v)) h = let k = kind_is r text (FieldValue n (AsciiText v)) h in (omega (arith, k), omega (arith, k))
+kind_known r text (FieldValue n (UnicodeText v)) h = let k = kind_is r text (FieldValue n (UnicodeText v)) h in (omega (arith, k), omega (arith, k))
+kind_known r text (FieldValue n (ByteVector v)) h = let k = kind_is r text (FieldValue n (ByteVector v)) h in (omega (arith, k), omega (arith, k))
+kind_known r text (GroupStart n) h = let k = kind_is r text (GroupStart n) h in (omega (arith, k), omega (arith, k))
+kind_known r text GroupEnd h = let k = kind_is r text GroupEnd h in (omega (arith, k), omega (arith, k))
+kind_known r text (SequenceStart n m) h = let k = kind_is r text (SequenceStart n m) h in (omega (arith, k), omega (arith, k))
+kind_known r text ElementStart h = let k = kind_is r text ElementStart h in (omega (arith, k), omega (arith, k))
+kind_known r text ElementEnd h = let k = kind_is r text ElementEnd h in (omega (arith, k), omega (arith, k))
+kind_known r text SequenceEnd h = let k = kind_is r text SequenceEnd h in (omega (arith, k), omega (arith, k))
+kind_known r text MessageEnd h = let k = kind_is r text MessageEnd h in (omega (arith, k), omega (arith, k))
+
+-- Records of no kind of text have none.
+pub no_text : (r : Record) (text : List ℕ) (e : EventData) → IsOf r text e → ¬ ((5 ≤ r.kind) × (r.kind ≤ 7)) → text ≡ []
+no_text r text (FieldValue n (AsciiText v)) h other = let k = kind_is r text (FieldValue n (AsciiText v)) h in absurd (other (omega (arith, k), omega (arith, k)))
+no_text r text (FieldValue n (UnicodeText v)) h other = let k = kind_is r text (FieldValue n (UnicodeText v)) h in absurd (other (omega (arith, k), omega (arith, k)))
+no_text r text (FieldValue n (ByteVector v)) h other = let k = kind_is r text (FieldValue n (ByteVector v)) h in absurd (other (omega (arith, k), omega (arith, k)))
+no_text r text (FieldValue n (U x)) h other = sym h.text_is
+no_text r text (FieldValue n (I x)) h other = sym h.text_is
+no_text r text (FieldValue n (Dec x m)) h other = sym h.text_is
+no_text r text (MessageStart n) h other = sym h.text_is
+no_text r text (GroupStart n) h other = sym h.text_is
+no_text r text GroupEnd h other = sym h.text_is
+no_text r text (SequenceStart n m) h other = sym h.text_is
+no_text r text ElementStart h other = sym h.text_is
+no_text r text ElementEnd h other = sym h.text_is
+no_text r text SequenceEnd h other = sym h.text_is
+no_text r text MessageEnd h other = sym h.text_is
+
+-- what a record and a text stand for, by the record of an event
+from_event : (r : Record) (text : List ℕ) (e : EventData) → IsOf r text e → event_back r text ≡ event_back (record_of r.value e) (event_text e)
+from_event r text e h = ap (λ (z : Record). event_back z text) h.record_is ∙ ap (λ (v : List ℕ). event_back (record_of r.value e) v) (sym h.text_is)
+
+pub back_is : (r : Record) (text : List ℕ) (e : EventData) → IsOf r text e → event_back r text ≡ e
+back_is r text (MessageStart n) h = from_event r text (MessageStart n) h
+back_is r text (FieldValue n (U x)) h = from_event r text (FieldValue n (U x)) h
+back_is r text (FieldValue n (I x)) h = from_event r text (FieldValue n (I x)) h ∙ ap (λ (y : _). FieldValue n (I y)) h.held
+back_is r text (FieldValue n (Dec x m)) h = from_event r text (FieldValue n (Dec x m)) h ∙ ap (λ (y : _). FieldValue n (Dec x y)) h.held
+back_is r text (FieldValue n (AsciiText v)) h = from_event r text (FieldValue n (AsciiText v)) h
+back_is r text (FieldValue n (UnicodeText v)) h = from_event r text (FieldValue n (UnicodeText v)) h
+back_is r text (FieldValue n (ByteVector v)) h = from_event r text (FieldValue n (ByteVector v)) h
+back_is r text (GroupStart n) h = from_event r text (GroupStart n) h
+back_is r text GroupEnd h = from_event r text GroupEnd h
+back_is r text (SequenceStart n m) h = from_event r text (SequenceStart n m) h
+back_is r text ElementStart h = from_event r text ElementStart h
+back_is r text ElementEnd h = from_event r text ElementEnd h
+back_is r text SequenceEnd h = from_event r text SequenceEnd h
+back_is r text MessageEnd h = from_event r text MessageEnd h
+
+-- the event that a record tells is of it
+pub told_of : (texts : List ℕ) (r : Record) (e : EventData) → Tells texts r e → IsOf r (take r.length (drop r.value texts)) e
+told_of texts r e h = record { record_is = h.record_is; text_is = h.text_is; held = h.held }
+
+-- A record tells one event.
+pub one_event : (texts : List ℕ) (r : Record) (d e : EventData) → Tells texts r d → Tells texts r e → d ≡ e
+one_event texts r d e h k = let v = take r.length (drop r.value texts) in sym (back_is r v d (told_of texts r d h)) ∙ back_is r v e (told_of texts r e k)
+
+-- So do records.
+pub one_list : (texts : List ℕ) (rs : List Record) (ds es : List EventData) → AreTold texts rs ds → AreTold texts rs es → ds ≡ es
+one_list texts [] [] [] h k = refl
+one_list texts [] [] (e ∷ es) h k = absurd k
+one_list texts [] (d ∷ ds) es h k = absurd h
+one_list texts (r ∷ rs) [] es h k = absurd h
+one_list texts (r ∷ rs) (d ∷ ds) [] h k = absurd k
+one_list texts (r ∷ rs) (d ∷ ds) (e ∷ es) h k = let first = one_event texts r d e h.0 k.0 in let later = one_list texts rs ds es h.1 k.1 in cc (first, later)
