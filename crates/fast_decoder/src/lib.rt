@@ -9,6 +9,7 @@ mod quick_decimals;
 mod quick_starts;
 mod quick_units;
 pub mod recorder;
+mod run;
 mod settling;
 mod taking;
 mod turns;

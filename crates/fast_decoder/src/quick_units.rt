@@ -42,7 +42,7 @@ pub struct Quick {
 
 /// Whether a field that stands so uses a presence bit.
 #[inline(always)]
-fn has_bit(sending: Sending) -> bool
+pub fn has_bit(sending: Sending) -> bool
     ensures { result ≡ operator_uses_bit (sending_operator sending) (is_nullable sending) }
 {
     match sending {
@@ -58,7 +58,7 @@ fn has_bit(sending: Sending) -> bool
 
 /// The operator of a field that stands so.
 #[inline(always)]
-fn operator_of(sending: Sending) -> Operator
+pub fn operator_of(sending: Sending) -> Operator
     ensures { result ≡ sending_operator sending }
 {
     match sending {
@@ -140,7 +140,7 @@ impl<'t> Machine<'t> {
 
     /// Waits for the first unit of the next instruction. Most often the machine does so already, and nothing is written then.
     #[inline(always)]
-    fn wait_for_field(&mut self)
+    pub fn wait_for_field(&mut self)
         ensures { self.new ≡ record self.old { waiting = Waiting.Field } }
     {
         match self.waiting {
@@ -211,7 +211,7 @@ impl<'t> Machine<'t> {
 
     /// Takes the unit of the next instruction, a field of unsigned integers that stands in the stream so.
     #[inline(always)]
-    fn take_unsigned<S: Sink>(
+    pub fn take_unsigned<S: Sink>(
         &mut self,
         templates: &'t Templates,
         limits: Limits,
@@ -266,7 +266,7 @@ impl<'t> Machine<'t> {
 
     /// Takes the unit of the next instruction, a field of signed integers that stands in the stream so.
     #[inline(always)]
-    fn take_signed<S: Sink>(
+    pub fn take_signed<S: Sink>(
         &mut self,
         templates: &'t Templates,
         limits: Limits,

@@ -691,7 +691,7 @@ impl<'t> Machine<'t> {
 
     /// What is next needs no byte, or the machine waits.
     #[inline(always)]
-    fn turn<S: Sink>(
+    pub fn turn<S: Sink>(
         &mut self,
         templates: &'t Templates,
         limits: Limits,

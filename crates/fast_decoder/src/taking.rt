@@ -821,21 +821,19 @@ impl<'t> Machine<'t> {
     {
         let mut bytes = 0;
         while bytes < piece.len() {
-            let rest = &piece[bytes..];
-            let quick = match self.take_quickly(templates, limits, rest, sink) {
-                Some(quick) => {
-                    if quick.waits() {
-                        bytes += quick.bytes;
-                        continue;
-                    }
-                    quick
-                }
-                None => self.take_unit(templates, limits, rest, sink),
-            };
+            let quick = self.take_unit(templates, limits, &piece[bytes..], sink);
             bytes += quick.bytes;
-            let outcome = self.go_on(templates, limits, quick.turn, sink);
-            if outcome.is_err() {
-                return PieceTaken { bytes, outcome };
+            let turn = match quick.turn {
+                Ok(Turn::Waits) => Ok(Turn::Waits),
+                Ok(_) => {
+                    let run = self.run(templates, limits, &piece[bytes..], sink);
+                    bytes += run.bytes;
+                    run.turn
+                }
+                Err(code) => Err(code),
+            };
+            if let Err(code) = turn {
+                return PieceTaken { bytes, outcome: Err(code) };
             }
         }
         PieceTaken {

@@ -12,3 +12,4 @@ pub mod stages;
 pub mod text_outcomes;
 pub mod texts;
 pub mod units;
+pub mod unsent_integers;

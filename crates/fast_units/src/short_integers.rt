@@ -91,7 +91,7 @@ fn signed_number(
 
 /// Keeps an integer at the field's entry, if it has one.
 #[inline(always)]
-fn keep_integer(slots: &mut Slots, field: &FieldInstruction, kind: Kind, number: Number)
+pub fn keep_integer(slots: &mut Slots, field: &FieldInstruction, kind: Kind, number: Number)
     requires kind { kind ≡ field.now.kind }
     requires within { HasEntryOf slots.old field.now }
     ensures entry { slots_dictionary slots.new
