@@ -1,6 +1,7 @@
 -- What the machine's functions do with each kind of unit.
 pub mod CutMaps
 pub mod Quick
+pub mod QuickSteps
 pub mod ShortMaps
 pub mod StartMaps
 pub mod SentItems

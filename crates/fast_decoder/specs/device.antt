@@ -9,3 +9,4 @@ pub mod TurnsLeft
 pub mod Serving
 pub mod AtHand
 pub mod Words
+pub mod Steps

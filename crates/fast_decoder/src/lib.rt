@@ -6,11 +6,12 @@ pub mod in_hand;
 pub mod layout;
 mod machine;
 mod quick_decimals;
+mod quick_fields;
 mod quick_starts;
 mod quick_units;
 pub mod recorder;
-mod run;
 mod settling;
+mod stepping;
 mod taking;
 mod turns;
 

@@ -105,39 +105,7 @@ fn nullable(sending: Sending) -> bool
     }
 }
 
-/// How the field behind an opcode stands in the stream, if it is one of integers.
-#[inline(always)]
-fn sending_of(opcode: Opcode) -> Option<Sending>
-    ensures { result ≡ opcode_sending opcode }
-{
-    match opcode {
-        Opcode::UInt32(sending) => Some(sending),
-        Opcode::Int32(sending) => Some(sending),
-        Opcode::UInt64(sending) => Some(sending),
-        Opcode::Int64(sending) => Some(sending),
-        Opcode::Other => None,
-    }
-}
-
 impl<'t> Machine<'t> {
-    /// Whether the next instruction is a field of integers that stands in the stream.
-    #[inline(always)]
-    fn next_waits(&self, templates: &Templates) -> bool
-        requires placed { IsPlaced (set_of templates.now) self.now.cursor }
-        requires mapped { IsMapWhole self.now.cursor.map }
-        ensures { result ≡ true
-            → (n : ℕ) × (f : FieldData) × IsAtField (set_of templates.now) self.now.cursor n f × ¬ (IsAsciiFirst f)
-            × IsSent f (bit_of f (state_in (slots_dictionary self.now.slots) self.now.counted self.now.cursor)) }
-    {
-        let Some(number) = self.cursor.next() else {
-            return false;
-        };
-        match sending_of(templates.opcode(number)) {
-            Some(sending) => !has_bit(sending) || self.cursor.bit(),
-            None => false,
-        }
-    }
-
     /// Waits for the first unit of the next instruction. Most often the machine does so already, and nothing is written then.
     #[inline(always)]
     pub fn wait_for_field(&mut self)
@@ -146,38 +114,6 @@ impl<'t> Machine<'t> {
         match self.waiting {
             Waiting::Field => {}
             _ => self.waiting = Waiting::Field,
-        }
-    }
-
-    /// Behind a turn: if the next instruction is a field of integers that stands in the stream, the machine waits for it.
-    #[inline(always)]
-    pub fn wait_if<S: Sink>(
-        &mut self,
-        templates: &Templates,
-        limits: Limits,
-        turn: Result<Turn, FaultCode>,
-        sink: &mut S,
-    ) -> Result<Turn, FaultCode>
-        requires goes_on { GoesOn (set_of templates.now) limits self.old turn }
-        requires supplied { IsSupplied (set_of templates.now) limits self.old }
-        requires on { turn ≢ Ok Turn.Waits }
-        ensures turn { (r : Reader Dictionary) (s : S)
-            → Moves S.takes S.stops r s turn sink.old (turning (set_of templates.now) limits self.old)
-            (meaning (set_of templates.now) limits self.old)
-            → IsTurn S.takes S.stops (set_of templates.now) limits r s result sink.new self.new }
-        ensures turns { (way : Way) (n : ℕ) → HasTurnsBehind turn way (set_of templates.now) limits n self.old
-            → HasTurnsBehind result way (set_of templates.now) limits n self.new }
-    {
-        match turn {
-            Err(code) => Err(code),
-            Ok(turn) => {
-                if self.next_waits(templates) {
-                    self.turns = Turns::after(&self.turns);
-                    self.wait_for_field();
-                    return Ok(Turn::Waits);
-                }
-                Ok(turn)
-            }
         }
     }
 
@@ -200,6 +136,7 @@ impl<'t> Machine<'t> {
             → IsTakenTo S.takes S.stops set l (meaning set l m) rest sink.old result.bytes result.turn sink.new
             self.new }
         ensures on { result.turn ≢ Ok Turn.Waits }
+        ensures waits { self.new.waiting ≡ self.old.waiting }
         ensures turns { (set : Set) (l : Limits) (m : Machine) (rest : List ℕ)
             → IsSentItem set l m self.old number (field_data field.now) rest item bytes
             → (way : Way) (n : ℕ) → HasTurns way set l 1 n m → HasTurnsBehind result.turn way set l (1 + n) self.new }
@@ -237,6 +174,7 @@ impl<'t> Machine<'t> {
             (λ q. IsTakenTo S.takes S.stops (set_of templates.now) limits
             (meaning (set_of templates.now) limits self.old) rest.now sink.old q.bytes q.turn sink.new self.new) }
         ensures on { IfSome result (λ q. q.turn ≢ Ok Turn.Waits) }
+        ensures waits { IfSome result (λ _. self.new.waiting ≡ self.old.waiting) }
         ensures turns { (way : Way) (n : ℕ) → HasTurns way (set_of templates.now) limits 1 n self.old
             → IfSome result (λ q. HasTurnsBehind q.turn way (set_of templates.now) limits (1 + n) self.new) }
     {
@@ -293,6 +231,7 @@ impl<'t> Machine<'t> {
             (λ q. IsTakenTo S.takes S.stops (set_of templates.now) limits
             (meaning (set_of templates.now) limits self.old) rest.now sink.old q.bytes q.turn sink.new self.new) }
         ensures on { IfSome result (λ q. q.turn ≢ Ok Turn.Waits) }
+        ensures waits { IfSome result (λ _. self.new.waiting ≡ self.old.waiting) }
         ensures turns { (way : Way) (n : ℕ) → HasTurns way (set_of templates.now) limits 1 n self.old
             → IfSome result (λ q. HasTurnsBehind q.turn way (set_of templates.now) limits (1 + n) self.new) }
     {
@@ -322,123 +261,9 @@ impl<'t> Machine<'t> {
         Some(self.sent(number, field, has_bit(sending), item, entity.len, sink))
     }
 
-    /// Takes the unit of the next instruction, if it is a field of integers.
+    /// Takes the unit that the machine waits for, if it is a mantissa or a map for the quick way.
     #[inline(always)]
-    fn take_integer<S: Sink>(
-        &mut self,
-        templates: &'t Templates,
-        limits: Limits,
-        rest: &[u8],
-        sink: &mut S,
-    ) -> Option<Quick>
-        requires waits { self.old.waiting ≡ Waiting.Field }
-        requires ready { IsReady (set_of templates.now) limits self.old }
-        ensures none { IfNone result ((self.new ≡ self.old) × (sink.new ≡ sink.old)) }
-        ensures taken { IfSome result
-            (λ q. IsTakenTo S.takes S.stops (set_of templates.now) limits
-            (meaning (set_of templates.now) limits self.old) rest.now sink.old q.bytes q.turn sink.new self.new) }
-        ensures on { IfSome result (λ q. q.turn ≢ Ok Turn.Waits) }
-        ensures turns { (way : Way) (n : ℕ) → HasTurns way (set_of templates.now) limits 1 n self.old
-            → IfSome result (λ q. HasTurnsBehind q.turn way (set_of templates.now) limits (1 + n) self.new) }
-    {
-        if !self.entity.is_empty() {
-            return None;
-        }
-        let number = self.cursor.next()?;
-        // The same call in several arms: in each the compiler knows how the field stands, and folds all later looks at it.
-        match templates.opcode(number) {
-            Opcode::UInt32(sending) => match sending {
-                Sending::Plain => self.take_unsigned(
-                    templates,
-                    limits,
-                    number,
-                    Kind::UInt32,
-                    4_294_967_295,
-                    sending,
-                    rest,
-                    sink,
-                ),
-                Sending::Copy | Sending::Increment => self.take_unsigned(
-                    templates,
-                    limits,
-                    number,
-                    Kind::UInt32,
-                    4_294_967_295,
-                    sending,
-                    rest,
-                    sink,
-                ),
-                Sending::Delta => self.take_unsigned(
-                    templates,
-                    limits,
-                    number,
-                    Kind::UInt32,
-                    4_294_967_295,
-                    sending,
-                    rest,
-                    sink,
-                ),
-                Sending::Default
-                | Sending::NullablePlain
-                | Sending::NullableDefault
-                | Sending::NullableCopy
-                | Sending::NullableIncrement
-                | Sending::NullableDelta => self.take_unsigned(
-                    templates,
-                    limits,
-                    number,
-                    Kind::UInt32,
-                    4_294_967_295,
-                    sending,
-                    rest,
-                    sink,
-                ),
-            }
-            Opcode::Int32(sending) => {
-                self.take_signed(
-                    templates,
-                    limits,
-                    number,
-                    Kind::Int32,
-                    -2_147_483_648,
-                    2_147_483_647,
-                    sending,
-                    rest,
-                    sink,
-                )
-            }
-            Opcode::UInt64(sending) => {
-                self.take_unsigned(
-                    templates,
-                    limits,
-                    number,
-                    Kind::UInt64,
-                    18_446_744_073_709_551_615,
-                    sending,
-                    rest,
-                    sink,
-                )
-            }
-            Opcode::Int64(sending) => {
-                self.take_signed(
-                    templates,
-                    limits,
-                    number,
-                    Kind::Int64,
-                    -9_223_372_036_854_775_808,
-                    9_223_372_036_854_775_807,
-                    sending,
-                    rest,
-                    sink,
-                )
-            }
-            Opcode::Other => None,
-        }
-    }
-
-    /// Takes the unit that the machine waits for, if it is one for the quick way, without a turn behind it that waits.
-    #[inline]
-    fn take_whole<S: Sink>(
+    pub fn take_whole<S: Sink>(
         &mut self,
         templates: &'t Templates,
         limits: Limits,
@@ -456,9 +281,6 @@ impl<'t> Machine<'t> {
             (1 + n + turns_begun_at self.old.waiting self.old.cursor.map way (tree_in (set_of templates.now)) limits)
             self.new) }
     {
-        if let Waiting::Field = self.waiting {
-            return self.take_integer(templates, limits, rest, sink);
-        }
         match self.waiting {
             Waiting::Mantissa(exponent) => {
                 self.take_short_mantissa(templates, limits, exponent, rest, sink)
@@ -467,32 +289,5 @@ impl<'t> Machine<'t> {
             Waiting::SegmentMap(_) => self.open_quickly(templates, limits, rest, sink),
             _ => None,
         }
-    }
-
-    /// Takes the unit that the machine waits for, if it is one for the quick way.
-    #[inline(always)]
-    pub fn take_quickly<S: Sink>(
-        &mut self,
-        templates: &'t Templates,
-        limits: Limits,
-        rest: &[u8],
-        sink: &mut S,
-    ) -> Option<Quick>
-        requires ready { IsReady (set_of templates.now) limits self.old }
-        ensures none { IfNone result ((self.new ≡ self.old) × (sink.new ≡ sink.old)) }
-        ensures taken { IfSome result
-            (λ q. IsTakenTo S.takes S.stops (set_of templates.now) limits
-            (meaning (set_of templates.now) limits self.old) rest.now sink.old q.bytes q.turn sink.new self.new) }
-        ensures turns { (way : Way) (n : ℕ) → HasTurnsWaiting way (set_of templates.now) limits n self.old
-            → IfSome result (λ q. HasTurnsBehind q.turn way (set_of templates.now) limits
-            (1 + n + turns_begun_at self.old.waiting self.old.cursor.map way (tree_in (set_of templates.now)) limits)
-            self.new) }
-    {
-        let quick = self.take_whole(templates, limits, rest, sink)?;
-        let turn = self.wait_if(templates, limits, quick.turn, sink);
-        Some(Quick {
-            bytes: quick.bytes,
-            turn,
-        })
     }
 }

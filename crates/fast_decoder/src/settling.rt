@@ -722,33 +722,6 @@ impl<'t> Machine<'t> {
             }
         }
     }
-
-    /// All that needs no further byte.
-    #[inline(always)]
-    pub fn settle<S: Sink>(
-        &mut self,
-        templates: &'t Templates,
-        limits: Limits,
-        sink: &mut S,
-    ) -> Result<(), FaultCode>
-        requires turn { CanTurn (set_of templates.now) limits self.old }
-        ensures hands { Hands S.takes S.stops (turning (set_of templates.now) limits self.old) sink.old result sink.new
-            (meaning (set_of templates.now) limits self.new) }
-        ensures ready { OnOk result (IsReady (set_of templates.now) limits self.new) }
-        ensures supplied { IsSupplied (set_of templates.now) limits self.new }
-        ensures turns { (way : Way) (n : ℕ) → HasTurns way (set_of templates.now) limits 0 n self.old
-            → HasTurnsAfter result way (set_of templates.now) limits n self.new }
-    {
-        'events: loop {
-            'silent: loop {
-                match self.turn(templates, limits, sink)? {
-                    Turn::Silent => {}
-                    Turn::Handed => break 'silent,
-                    Turn::Waits => return Ok(()),
-                }
-            }
-        }
-    }
 }
 
 /// An exponent, if it lies in the range of exponents.

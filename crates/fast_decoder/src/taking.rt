@@ -18,6 +18,7 @@ ghost use Rattle.fast_dict.specs.device.EntryTexts.{HasLongInitial};
 ghost use Rattle.fast_decoder.specs.declared.machine.Machine.{Machine};
 ghost use Rattle.fast_dict.specs.meaning.Dictionary.{Dictionary, reset};
 ghost use Rattle.fast_decoder.specs.device.Handing.{Hands, Fed, waiting_at};
+ghost use Rattle.fast_decoder.specs.device.Steps.{IsCountedBy};
 ghost use Rattle.fast_decoder.specs.device.Words.{TakesUnit, IsServedBy, PaysTurns, PaysMessage};
 ghost use Rattle.fast_units.specs.device.Settling.{value_at};
 ghost use Rattle.fast_decoder.specs.device.Passing.{state_past, identified_then};
@@ -70,14 +71,6 @@ impl Quick {
             bytes: rest.len(),
             turn: Ok(Turn::Waits),
         }
-    }
-
-    /// Whether the machine waits behind the unit.
-    #[inline(always)]
-    fn waits(&self) -> bool
-        ensures { result ≡ true → self.now.turn ≡ Ok Turn.Waits }
-    {
-        matches!(self.turn, Ok(Turn::Waits))
     }
 
     /// So many bytes, of which the last decides a fault.
@@ -711,35 +704,6 @@ impl<'t> Machine<'t> {
         }
     }
 
-    /// Goes on behind a turn, with all that needs no further byte.
-    #[inline(always)]
-    fn go_on<S: Sink>(
-        &mut self,
-        templates: &'t Templates,
-        limits: Limits,
-        turn: Result<Turn, FaultCode>,
-        sink: &mut S,
-    ) -> Result<(), FaultCode>
-        requires supplied { IsSupplied (set_of templates.now) limits self.old }
-        requires goes_on { GoesOn (set_of templates.now) limits self.old turn }
-        ensures hands { (r : Reader Dictionary) (s : S)
-            → Moves S.takes S.stops r s turn sink.old (turning (set_of templates.now) limits self.old)
-            (meaning (set_of templates.now) limits self.old)
-            → Hands S.takes S.stops r s result sink.new (meaning (set_of templates.now) limits self.new) }
-        ensures ready { OnOk result (IsReady (set_of templates.now) limits self.new) }
-        ensures supplied { IsSupplied (set_of templates.now) limits self.new }
-        ensures turns { (way : Way) (n : ℕ) → HasTurnsBehind turn way (set_of templates.now) limits n self.old
-            → HasTurnsAfter result way (set_of templates.now) limits n self.new }
-    {
-        match turn {
-            Err(code) => Err(code),
-            Ok(turn) => match turn {
-                Turn::Waits => Ok(()),
-                _ => self.settle(templates, limits, sink),
-            },
-        }
-    }
-
     /// Takes one unit, or as much of it as there is, in the general way.
     #[inline(never)]
     fn take_unit<S: Sink>(
@@ -796,6 +760,47 @@ impl<'t> Machine<'t> {
         }
     }
 
+    /// Takes one unit in the general way, and all units behind it that are for the quick way.
+    #[inline(always)]
+    fn take_some<S: Sink>(
+        &mut self,
+        templates: &'t Templates,
+        limits: Limits,
+        rest: &[u8],
+        sink: &mut S,
+    ) -> PieceTaken
+        requires ready { IsReady (set_of templates.now) limits self.old }
+        requires some { 0 < length rest.now }
+        ensures some { 0 < result.bytes }
+        ensures within { result.bytes ≤ length rest.now }
+        ensures fed { Fed S.takes S.stops (tree_in (set_of templates.now)) limits
+            (waiting_at (meaning (set_of templates.now) limits self.old)) (take result.bytes rest.now)
+            sink.old result.outcome sink.new (waiting_at (meaning (set_of templates.now) limits self.new)) }
+        ensures ready { OnOk result.outcome (IsReady (set_of templates.now) limits self.new) }
+        ensures supplied { IsSupplied (set_of templates.now) limits self.new }
+        ensures turns { (way : Way) → IsCountedBy result.outcome way (set_of templates.now) limits result.bytes self.old
+            self.new }
+    {
+        let unit = self.take_unit(templates, limits, rest, sink);
+        match unit.turn {
+            Err(code) => PieceTaken {
+                bytes: unit.bytes,
+                outcome: Err(code),
+            },
+            Ok(Turn::Waits) => PieceTaken {
+                bytes: unit.bytes,
+                outcome: Ok(()),
+            },
+            Ok(_) => {
+                let run = self.run(templates, limits, &rest[unit.bytes..], sink);
+                PieceTaken {
+                    bytes: unit.bytes + run.bytes,
+                    outcome: run.outcome(),
+                }
+            }
+        }
+    }
+
     /// Takes the units of a piece, up to its end, a fault, or where the sink stops.
     #[inline(never)]
     pub fn take_all<S: Sink>(
@@ -821,19 +826,13 @@ impl<'t> Machine<'t> {
     {
         let mut bytes = 0;
         while bytes < piece.len() {
-            let quick = self.take_unit(templates, limits, &piece[bytes..], sink);
-            bytes += quick.bytes;
-            let turn = match quick.turn {
-                Ok(Turn::Waits) => Ok(Turn::Waits),
-                Ok(_) => {
-                    let run = self.run(templates, limits, &piece[bytes..], sink);
-                    bytes += run.bytes;
-                    run.turn
-                }
-                Err(code) => Err(code),
-            };
-            if let Err(code) = turn {
-                return PieceTaken { bytes, outcome: Err(code) };
+            let taken = self.take_some(templates, limits, &piece[bytes..], sink);
+            bytes += taken.bytes;
+            if taken.outcome.is_err() {
+                return PieceTaken {
+                    bytes,
+                    outcome: taken.outcome,
+                };
             }
         }
         PieceTaken {

@@ -22,6 +22,7 @@ use Rattle.fast_decoder.specs.declared.machine.Waiting.TheVariants.{Map, Identif
 use Rattle.fast_cursor.specs.device.Cursors.{ElementsData, FrameData, CursorData, entered, left_to}
 use Rattle.fast_stream.specs.meaning.Messages.{within_limits}
 use Rattle.fast_decoder.specs.device.Positions.{Set, tree_in, body_in, IsFresh}
+use Rattle.fast_decoder.specs.device.Steps.{IsCountedBy}
 use Rattle.fast_decoder.specs.device.TurnsLeft.{Way, by_sequence, by_message, most_by, body_turns, AreWithin, elements_turns, AreElementsWithin, frames_turns, AreFramesWithin, turns_left, IsWithinTurns, HasTurns, HasTurnsInMap, HasTurnsAt, HasTurnsWaiting, HasTurnsBehind, HasTurnsAfter, turns_begun, turns_begun_at, IsWithinMessage}
 use Rattle.fast_decoder.proofs.steps.SegmentTurns.{some_frame}
 
@@ -422,6 +423,42 @@ more_at (Number stage) way set l n n' m more h = more_within way set l 1 n n' m.
 more_at (Bytes stage) way set l n n' m more h = more_within way set l 1 n n' m.turns.count m.counted m.cursor more h
 more_at (Mantissa x) way set l n n' m more h = more_within way set l 1 n n' m.turns.count m.counted m.cursor more h
 
+-- So they are behind a turn, however it ends.
+pub more_behind : (result : Result Turn FaultCode) (way : Way) (set : Set) (l : Limits) (n n' : ℕ) (m : Machine) → n ≤ n' → HasTurnsBehind result way set l n m → HasTurnsBehind result way set l n' m
+more_behind (Ok Silent) way set l n n' m more h = more_within way set l 0 n n' m.turns.count m.counted m.cursor more h
+more_behind (Ok Handed) way set l n n' m more h = more_within way set l 0 n n' m.turns.count m.counted m.cursor more h
+more_behind (Ok Waits) way set l n n' m more h = more_at m.waiting way set l n n' m more h
+more_behind (Err c) way set l n n' m more h = le_trans h more
+
+-- Of an instruction that is next a turn may be taken already.
+pub one_taken : (way : Way) (set : Set) (l : Limits) (n t counted : ℕ) (c : CursorData) → IsWithinTurns way set l 0 n t counted c → IsWithinTurns way set l 1 n t counted c
+one_taken way set l n t counted c h = record {
+  each = h.each;
+  body = h.body;
+  frames = h.frames;
+  most = le_trans h.most (up (most_by way (tree_in set) l));
+  all = le_trans h.all (up n);
+}
+  where
+    up : (x : ℕ) → x + 0 ≤ x + 1
+    up x = omega arith
+
+-- The same where it is counted.
+pub one_turn : (way : Way) (set : Set) (l : Limits) (n t t' counted : ℕ) (c : CursorData) → t' ≡ t + 1 → IsWithinTurns way set l 0 n t counted c → IsWithinTurns way set l 1 n t' counted c
+one_turn way set l n t t' counted c same h = record {
+  each = h.each;
+  body = h.body;
+  frames = h.frames;
+  most = le_trans h.most (up (most_by way (tree_in set) l));
+  all = rw same (one t (turns_left way set l h.each counted c) n h.all);
+}
+  where
+    up : (x : ℕ) → x + 0 ≤ x + 1
+    up x = omega arith
+
+    one : (t x n : ℕ) → t + x ≤ n + 0 → t + 1 + x ≤ n + 1
+    one t x n i = omega (arith, i)
+
 -- A unit more, with a turn that it pays for itself.
 paid_map : (way : Way) (set : Set) (l : Limits) (n t t' : ℕ) (map : List ℕ) → t' ≡ t + 1 → HasTurnsInMap map way set l n t → HasTurnsInMap map way set l (1 + n) t'
 paid_map way set l n t t' [] e h = omega (arith, e, h)
@@ -465,6 +502,14 @@ begun_within way t l (Number stage) map = omega arith
 begun_within way t l (Bytes stage) map = omega arith
 begun_within way t l (Mantissa x) map = omega arith
 
+-- Bytes of a unit pay for its own turn, and for those of a message that it begins.
+pub unit_covers : (way : Way) (set : Set) (l : Limits) (n bytes : ℕ) (m : Machine) → 0 < bytes → 1 + n + turns_begun_at m.waiting m.cursor.map way (tree_in set) l ≤ n + bytes * (1 + most_by way (tree_in set) l)
+unit_covers way set l n bytes m some =
+    up n (turns_begun_at m.waiting m.cursor.map way (tree_in set) l) (most_by way (tree_in set) l) (bytes * (1 + most_by way (tree_in set) l)) (begun_within way (tree_in set) l m.waiting m.cursor.map) (mul-le-mul_right (1 + most_by way (tree_in set) l) some)
+  where
+    up : (n b m x : ℕ) → b ≤ m → 1 * (1 + m) ≤ x → 1 + n + b ≤ n + x
+    up n b m x i j = omega (arith, i, j)
+
 -- at the first unit of a call
 first_map : (way : Way) (set : Set) (l : Limits) (t : ℕ) (map : List ℕ) → t ≡ 0 → (n : ℕ) × HasTurnsInMap map way set l n t × (n + turns_begun map way (tree_in set) l ≤ 0 * (1 + most_by way (tree_in set) l) + most_by way (tree_in set) l)
 first_map way set l t [] e = (0, omega (arith, e), none (most_by way (tree_in set) l))
@@ -498,33 +543,29 @@ can_spend way set l (suc k) m h = record {
     up : (x b m : ℕ) → b ≤ m → x + b ≤ x + m
     up x b m i = omega (arith, i)
 
--- A unit of some bytes pays for its own turn, and for those of the message that it begins.
-unit_pays : (k n x b m : ℕ) → 0 < n → x + b ≤ k * (1 + m) + m → 1 + x + b ≤ (k + n) * (1 + m)
-unit_pays k n x b m some h = rw (add-mul k n (1 + m)) (up (k * (1 + m)) (n * (1 + m)) x b m (mul-le-mul_right (1 + m) some) h)
+-- A unit pays for its own turn, and for those of the message that it begins, and units behind it pay for theirs.
+some_pay : (k n more x b m : ℕ) → more < n → x + b ≤ k * (1 + m) + m → 1 + x + b + more * (1 + m) ≤ (k + n) * (1 + m)
+some_pay k n more x b m some h = rw (add-mul k n (1 + m)) (up (k * (1 + m)) (n * (1 + m)) (more * (1 + m)) x b m (subst (λ y. y ≤ n * (1 + m)) (suc-mul more (1 + m)) (mul-le-mul_right (1 + m) some)) h)
   where
-    up : (p q x b m : ℕ) → 1 * (1 + m) ≤ q → x + b ≤ p + m → 1 + x + b ≤ p + q
-    up p q x b m i j = omega (arith, i, j)
+    up : (p q r x b m : ℕ) → r + (1 + m) ≤ q → x + b ≤ p + m → 1 + x + b + r ≤ p + q
+    up p q r x b m i j = omega (arith, i, j)
 
--- what a unit does with turns
-abbrev pub IsUnitCounted : Result Unit FaultCode → Way → Set → Limits → Machine → Machine → Type 0
-IsUnitCounted r way set l m m' = (n : ℕ) → HasTurnsWaiting way set l n m → HasTurnsAfter r way set l (1 + n + turns_begun_at m.waiting m.cursor.map way (tree_in set) l) m'
-
-pub after_unit : (way : Way) (set : Set) (l : Limits) (k n : ℕ) (m m' : Machine) (r : Result Unit FaultCode) → 0 < n → IsSpent way set l k m → IsUnitCounted r way set l m m' → HasTurnsAfter r way set l ((k + n) * (1 + most_by way (tree_in set) l)) m'
-after_unit way set l k n m m' (Ok u) some h counted =
+pub after_some : (way : Way) (set : Set) (l : Limits) (k n : ℕ) (m m' : Machine) (r : Result Unit FaultCode) → IsSpent way set l k m → IsCountedBy r way set l n m m' → HasTurnsAfter r way set l ((k + n) * (1 + most_by way (tree_in set) l)) m'
+after_some way set l k n m m' (Ok u) h (more, some, counted) =
     let s = can_spend way set l k m h in
     let t = turns_begun_at m.waiting m.cursor.map way (tree_in set) l in
-    more_at m'.waiting way set l (1 + s.upto + t) ((k + n) * (1 + most_by way (tree_in set) l)) m' (unit_pays k n s.upto t (most_by way (tree_in set) l) some s.within) (counted s.upto s.has)
-after_unit way set l k n m m' (Err code) some h counted =
+    more_at m'.waiting way set l (1 + s.upto + t + more * (1 + most_by way (tree_in set) l)) ((k + n) * (1 + most_by way (tree_in set) l)) m' (some_pay k n more s.upto t (most_by way (tree_in set) l) some s.within) (counted s.upto s.has)
+after_some way set l k n m m' (Err code) h (more, some, counted) =
     let s = can_spend way set l k m h in
     let t = turns_begun_at m.waiting m.cursor.map way (tree_in set) l in
-    le_trans (counted s.upto s.has) (unit_pays k n s.upto t (most_by way (tree_in set) l) some s.within)
+    le_trans (counted s.upto s.has) (some_pay k n more s.upto t (most_by way (tree_in set) l) some s.within)
 
 spent_of : (way : Way) (set : Set) (l : Limits) (k : ℕ) (m : Machine) → 0 < k → HasTurnsWaiting way set l (k * (1 + most_by way (tree_in set) l)) m → IsSpent way set l k m
 spent_of way set l zero m some h = absurd (omega (arith, some))
 spent_of way set l (suc k) m some h = h
 
-pub still_spent : (way : Way) (set : Set) (l : Limits) (k n : ℕ) (m m' : Machine) (r : Result Unit FaultCode) → is_err r ≡ false → 0 < n → IsSpent way set l k m → IsUnitCounted r way set l m m' → IsSpent way set l (k + n) m'
-still_spent way set l k n m m' (Ok u) ok some h counted = spent_of way set l (k + n) m' (omega (arith, some)) (after_unit way set l k n m m' (Ok u) some h counted)
+pub still_spent : (way : Way) (set : Set) (l : Limits) (k n : ℕ) (m m' : Machine) (r : Result Unit FaultCode) → is_err r ≡ false → 0 < n → IsSpent way set l k m → IsCountedBy r way set l n m m' → IsSpent way set l (k + n) m'
+still_spent way set l k n m m' (Ok u) ok some h counted = spent_of way set l (k + n) m' (omega (arith, some)) (after_some way set l k n m m' (Ok u) h counted)
 still_spent way set l k n m m' (Err code) ok some h counted = absurd (cc ok)
 
 -- At the end of a call its bytes have paid.

@@ -207,7 +207,7 @@ module _ (t : Tree) (l : Limits) where
         }
     quiet_fed r b w s (Err Why.L4) s' q h i = hands_no_count takes stops (after_bytes (due t l r) (b ∷ w)) s s' q i
 
-    by_list : (r : Reader Dictionary) (w : List ℕ) (s : S) (o : Result Unit FaultCode) (s' : S) (q : Reader Dictionary) → 0 < length w → Quiet (due t l r) w
+    pub by_list : (r : Reader Dictionary) (w : List ℕ) (s : S) (o : Result Unit FaultCode) (s' : S) (q : Reader Dictionary) → 0 < length w → Quiet (due t l r) w
         → Hands takes stops (after_bytes (due t l r) w) s o s' q → Fed takes stops t l (waiting_at r) w s o s' (waiting_at q)
     by_list r [] s o s' q some h i = absurd (omega (arith, some))
     by_list r (b ∷ w) s o s' q some h i = quiet_fed r b w s o s' q h i

@@ -1,0 +1,171 @@
+//! The machine's loop: steps from one instruction to the next, with no byte, or with whole units for the quick way.
+
+ghost use Rattle.std.specs.Prelude.{◌≡◌, ◌≢◌, ℕ, Ok, Err, length, take};
+ghost use Rattle.fast_decoder.specs.declared.machine.Waiting.{Waiting};
+ghost use Rattle.fast_stream.specs.declared.faults.FaultCode.{FaultCode};
+ghost use Rattle.fast_decoder.specs.device.Handing.{Hands};
+ghost use Rattle.fast_decoder.specs.device.Positions.{set_of, CanTurn, IsReady, turning, meaning};
+ghost use Rattle.fast_decoder.specs.device.TurnsLeft.{Way, HasTurns, HasTurnsWaiting};
+ghost use Rattle.fast_decoder.specs.declared.machine.Machine.{Machine};
+ghost use Rattle.fast_decoder.specs.device.Steps.{IsStep};
+ghost use Rattle.fast_decoder.specs.declared.machine.Turn.{Turn};
+
+use crate::machine::{Machine, Turn, Waiting};
+use crate::quick_units::Quick;
+use fast_stream::{FaultCode, Sink};
+use fast_template::Templates;
+use fast_value::Limits;
+
+impl Quick {
+    /// Whether the machine goes on, and why not.
+    #[inline(always)]
+    pub fn outcome(&self) -> Result<(), FaultCode>
+        ensures ok { (t : Turn) → self.now.turn ≡ Ok t → result ≡ Ok tt }
+        ensures err { (c : FaultCode) → self.now.turn ≡ Err c → result ≡ Err c }
+    {
+        match self.turn {
+            Ok(_) => Ok(()),
+            Err(code) => Err(code),
+        }
+    }
+}
+
+impl<'t> Machine<'t> {
+    /// Takes steps for as long as there are any for the quick way: what is left then waits for a byte, in the general way.
+    #[inline(never)]
+    pub fn run<S: Sink>(
+        &mut self,
+        templates: &'t Templates,
+        limits: Limits,
+        piece: &[u8],
+        sink: &mut S,
+    ) -> Quick
+        requires turn { CanTurn (set_of templates.now) limits self.old }
+        ensures step { IsStep S.takes S.stops (set_of templates.now) limits self.old piece.now sink.old result sink.new
+            self.new }
+        ensures ends { (t : Turn) → result.turn ≡ Ok t → t ≡ Turn.Waits }
+    {
+        let mut rest = piece;
+        self.wait_for_field();
+        'units: loop {
+            'events: loop {
+                'silent: loop {
+                    let step = self.step(templates, limits, rest, sink);
+                    rest = &rest[step.bytes..];
+                    let bytes = piece.len() - rest.len();
+                    match step.turn {
+                        Err(code) => {
+                            return Quick {
+                                bytes,
+                                turn: Err(code),
+                            };
+                        }
+                        Ok(turn) => match turn {
+                            Turn::Waits => {
+                                return Quick {
+                                    bytes,
+                                    turn: Ok(Turn::Waits),
+                                };
+                            }
+                            Turn::Handed => {
+                                if step.bytes > 0 {
+                                    break 'events;
+                                }
+                                break 'silent;
+                            }
+                            Turn::Silent => {
+                                if step.bytes > 0 {
+                                    break 'events;
+                                }
+                            }
+                        },
+                    }
+                }
+            }
+        }
+    }
+
+    /// A step: the next instruction, or the end of the innermost segment.
+    #[inline(always)]
+    fn step<S: Sink>(
+        &mut self,
+        templates: &'t Templates,
+        limits: Limits,
+        rest: &[u8],
+        sink: &mut S,
+    ) -> Quick
+        requires waits { self.old.waiting ≡ Waiting.Field }
+        requires turn { CanTurn (set_of templates.now) limits self.old }
+        ensures step { IsStep S.takes S.stops (set_of templates.now) limits self.old rest.now sink.old result sink.new
+            self.new }
+        ensures waits { (t : Turn) → result.turn ≡ Ok t → t ≢ Turn.Waits → self.new.waiting ≡ Waiting.Field }
+    {
+        match self.take_next(templates, limits, rest, sink) {
+            Some(quick) => quick,
+            None => self.step_by_turn(templates, limits, rest, sink),
+        }
+    }
+
+    /// A step by a turn of the machine. Where it waits behind that, its unit is taken, if it is a mantissa or a map for the quick way.
+    #[inline(always)]
+    fn step_by_turn<S: Sink>(
+        &mut self,
+        templates: &'t Templates,
+        limits: Limits,
+        rest: &[u8],
+        sink: &mut S,
+    ) -> Quick
+        requires turn { CanTurn (set_of templates.now) limits self.old }
+        ensures step { IsStep S.takes S.stops (set_of templates.now) limits self.old rest.now sink.old result sink.new
+            self.new }
+        ensures waits { (t : Turn) → result.turn ≡ Ok t → t ≢ Turn.Waits → self.new.waiting ≡ Waiting.Field }
+    {
+        let turn = self.turn(templates, limits, sink);
+        match turn {
+            Err(code) => Quick {
+                bytes: 0,
+                turn: Err(code),
+            },
+            Ok(next) => match next {
+                Turn::Waits => self.take_behind(templates, limits, rest, sink),
+                _ => {
+                    self.wait_for_field();
+                    Quick {
+                        bytes: 0,
+                        turn: Ok(next),
+                    }
+                }
+            },
+        }
+    }
+
+    /// Takes the unit that the machine waits for, if it is a mantissa or a map for the quick way.
+    #[inline(always)]
+    fn take_behind<S: Sink>(
+        &mut self,
+        templates: &'t Templates,
+        limits: Limits,
+        rest: &[u8],
+        sink: &mut S,
+    ) -> Quick
+        requires ready { IsReady (set_of templates.now) limits self.old }
+        ensures step { (m : Machine) (s : S)
+            → Hands S.takes S.stops (turning (set_of templates.now) limits m) s (Ok tt) sink.old
+            (meaning (set_of templates.now) limits self.old)
+            → ((way : Way) (n : ℕ) → HasTurns way (set_of templates.now) limits 0 n m
+            → HasTurnsWaiting way (set_of templates.now) limits n self.old)
+            → IsStep S.takes S.stops (set_of templates.now) limits m rest.now s result sink.new self.new }
+        ensures waits { (t : Turn) → result.turn ≡ Ok t → t ≢ Turn.Waits → self.new.waiting ≡ Waiting.Field }
+    {
+        match self.take_whole(templates, limits, rest, sink) {
+            Some(quick) => {
+                self.wait_for_field();
+                quick
+            }
+            None => Quick {
+                bytes: 0,
+                turn: Ok(Turn::Waits),
+            },
+        }
+    }
+}
