@@ -787,17 +787,19 @@ impl<'t> Machine<'t> {
                 bytes: unit.bytes,
                 outcome: Err(code),
             },
-            Ok(Turn::Waits) => PieceTaken {
-                bytes: unit.bytes,
-                outcome: Ok(()),
-            },
-            Ok(_) => {
-                let run = self.run(templates, limits, &rest[unit.bytes..], sink);
-                PieceTaken {
-                    bytes: unit.bytes + run.bytes,
-                    outcome: run.outcome(),
+            Ok(turn) => match turn {
+                Turn::Waits => PieceTaken {
+                    bytes: unit.bytes,
+                    outcome: Ok(()),
+                },
+                _ => {
+                    let run = self.run(templates, limits, &rest[unit.bytes..], sink);
+                    PieceTaken {
+                        bytes: unit.bytes + run.bytes,
+                        outcome: run.outcome(),
+                    }
                 }
-            }
+            },
         }
     }
 

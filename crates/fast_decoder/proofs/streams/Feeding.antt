@@ -212,15 +212,12 @@ module _ (t : Tree) (l : Limits) where
     by_list r [] s o s' q some h i = absurd (omega (arith, some))
     by_list r (b ∷ w) s o s' q some h i = quiet_fed r b w s o s' q h i
 
-    -- A unit that was taken, behind bytes that were taken before it.
-    pub fed_unit : (from : Position Dictionary) (piece : List ℕ) (k n : ℕ) (r : Reader Dictionary) (s m s' : S) (o : Result Unit FaultCode) (q : Reader Dictionary) → k ≤ length piece
-        → TookEvents takes t l from (take k piece) s m (waiting_at r) → IsTaken takes stops t l r (take (length piece - k) (drop k piece)) m n o s' q → Fed takes stops t l from (take (k + n) piece) s o s' (waiting_at q)
-    fed_unit from piece k n r s m s' o q inside a behind =
-        let b : IsTaken takes stops t l r (drop k piece) m n o s' q = subst (λ (w : List ℕ). IsTaken takes stops t l r w m n o s' q) (take_rest piece k) behind in
-        let len : length (take n (drop k piece)) ≡ n = length-take-le n (drop k piece) b.within in
-        let some : 0 < length (take n (drop k piece)) = let h = b.some in omega arith in
-        subst (λ (w : List ℕ). Fed takes stops t l from w s o s' (waiting_at q)) (sym (take-add k n piece))
-        (fed_both from (waiting_at r) (waiting_at q) (take k piece) (take n (drop k piece)) s m s' o a (by_list r (take n (drop k piece)) m o s' q some b.quiet b.hands))
+    -- Bytes of a piece that were fed behind others that were taken.
+    pub fed_behind : (from mid to : Position Dictionary) (piece : List ℕ) (k n : ℕ) (s m s' : S) (o : Result Unit FaultCode) → TookEvents takes t l from (take k piece) s m mid
+        → Fed takes stops t l mid (take n (take (length piece - k) (drop k piece))) m o s' to → Fed takes stops t l from (take (k + n) piece) s o s' to
+    fed_behind from mid to piece k n s m s' o a b =
+        subst (λ (w : List ℕ). Fed takes stops t l from w s o s' to) (sym (take-add k n piece))
+        (fed_both from mid to (take k piece) (take n (drop k piece)) s m s' o a (subst (λ (w : List ℕ). Fed takes stops t l mid (take n w) m o s' to) (take_rest piece k) b))
 
     -- where the machine goes on
     pub fed_on : (from : Position Dictionary) (w : List ℕ) (s : S) (r : Result Unit FaultCode) (s' : S) (to : Position Dictionary) → is_err r ≡ false → Fed takes stops t l from w s r s' to → TookEvents takes t l from w s s' to

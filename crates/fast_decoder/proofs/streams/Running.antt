@@ -1,6 +1,6 @@
 -- Steps of a machine, one after the other.
 use Rattle.std.proofs.Common.{refl, sym, ap, ◌∙◌, subst, arith, append_assoc, append-nil}
-use Rattle.std.specs.Prelude.{◌≡◌, ℕ, ◌+◌, ◌*◌, ◌-◌, ◌<◌, ◌≤◌, List, [], ◌++◌, length, take, drop, Result, Ok, Err}
+use Rattle.std.specs.Prelude.{◌≡◌, ℕ, ◌+◌, ◌*◌, ◌-◌, ◌<◌, ◌≤◌, List, [], ◌++◌, length, take, drop, Result, Ok, Err, OnOk}
 use Rattle.std.proofs.lemmas.List.{length-take-le, take_rest, length-drop, drop-drop}
 use Rattle.std.proofs.Math.Seq.{take-add}
 use Rattle.fast_value.specs.declared.settings.Limits.{Limits}
@@ -18,7 +18,7 @@ use Rattle.fast_decoder.specs.device.Moving.{Moves, events_due, Onward}
 use Rattle.fast_decoder.specs.declared.machine.Waiting.{Waiting}
 use Rattle.fast_decoder.specs.declared.quick_units.Quick.{Quick}
 use Rattle.fast_decoder.specs.device.TurnsLeft.{Way, most_by, HasTurns, HasTurnsWaiting, HasTurnsBehind, HasTurnsAfter, turns_begun_at}
-use Rattle.fast_decoder.specs.device.Positions.{Set, tree_in, CanTurn, GoesOn, IsSupplied, IsTurn, turning, meaning}
+use Rattle.fast_decoder.specs.device.Positions.{Set, tree_in, CanTurn, GoesOn, IsReady, IsSupplied, IsTurn, turning, meaning}
 use Rattle.fast_decoder.specs.device.Quick.{IsTakenTo}
 use Rattle.fast_decoder.specs.device.Steps.{FedBehind, Runs, IsStep, IsCountedBy}
 use Rattle.fast_decoder.proofs.steps.Moves.{hands_turned, fewer_due}
@@ -35,6 +35,14 @@ after_end set l m (Ok Silent) o way n ends ok err h = let never : Silent ≡ Tur
 after_end set l m (Ok Handed) o way n ends ok err h = let never : Handed ≡ TurnWaits = ends Handed refl in absurd (cc never)
 after_end set l m (Ok TurnWaits) o way n ends ok err h = rw (ok TurnWaits refl) h
 after_end set l m (Err c) o way n ends ok err h = rw (err c refl) h
+
+-- A machine that waits is ready.
+pub ready_end : (set : Set) (l : Limits) (m : Machine) (turn : Result Turn FaultCode) (o : Result Unit FaultCode) → ((t : Turn) → turn ≡ Ok t → t ≡ TurnWaits)
+    → ((t : Turn) → turn ≡ Ok t → o ≡ Ok tt) → ((c : FaultCode) → turn ≡ Err c → o ≡ Err c) → GoesOn set l m turn → OnOk o (IsReady set l m)
+ready_end set l m (Ok Silent) o ends ok err h = let never : Silent ≡ TurnWaits = ends Silent refl in absurd (cc never)
+ready_end set l m (Ok Handed) o ends ok err h = let never : Handed ≡ TurnWaits = ends Handed refl in absurd (cc never)
+ready_end set l m (Ok TurnWaits) o ends ok err h = rw (ok TurnWaits refl) h
+ready_end set l m (Err c) o ends ok err h = rw (err c refl) tt
 
 module _ {S : Type 0} (takes stops : S → EventData → S → Type 0) (set : Set) (l : Limits) where
   -- What is due is handed over, and no byte is taken.
