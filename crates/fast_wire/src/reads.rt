@@ -226,10 +226,7 @@ fn is_refused_unsigned(w: &[u8], strict: bool) -> bool
     requires { IsEntity w.now }
     ensures { IsTrue result ↔ (IsTrue strict × IsOverlong (λ v. pos (number v)) w.now) }
 {
-    if !strict {
-        return false;
-    }
-    w.len() > 1 && w[0] == 0
+    w[0] == 0 && strict
 }
 
 /// Whether a signed integer has a byte too many, in strict mode: seven bits in front that repeat the sign behind them.

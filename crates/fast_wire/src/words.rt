@@ -8,6 +8,9 @@ ghost use Rattle.fast_wire.specs.device.Words.{word_of, IsShortEntity};
 /// The stop bits of eight bytes.
 const STOP_BITS: u64 = 0x8080_8080_8080_8080;
 
+/// The stop bits of four bytes.
+const SHORT_STOP_BITS: u32 = 0x8080_8080;
+
 /// An entity of at most eight bytes.
 #[derive(Clone, Copy, Debug)]
 pub struct ShortEntity {
@@ -25,6 +28,12 @@ pub fn short_entity(bytes: &[u8]) -> Option<ShortEntity>
     if let Some(number) = one_byte(bytes) {
         return Some(ShortEntity { number, len: 1 });
     }
+    if let Some((number, len)) = four_bytes(bytes) {
+        return Some(ShortEntity {
+            number: u64::from(number),
+            len,
+        });
+    }
     let (number, len) = eight_bytes(bytes)?;
     Some(ShortEntity { number, len })
 }
@@ -39,6 +48,22 @@ pub(crate) fn one_byte(bytes: &[u8]) -> Option<u64>
         return None;
     }
     Some(u64::from(byte & 0x7f))
+}
+
+/// The number and the length of the first entity, if four bytes are there and it ends among them. Most do: so their number is made of
+/// 32 bits, which leaves no question of its range.
+#[inline(always)]
+fn four_bytes(bytes: &[u8]) -> Option<(u32, usize)>
+    ensures { IfSome result (λ e. IsShortEntity e.0 e.1 bytes.now) }
+{
+    let chunk = *bytes.first_chunk::<4>()?;
+    let stops = u32::from_le_bytes(chunk) & SHORT_STOP_BITS;
+    if stops == 0 {
+        return None;
+    }
+    let bits = stops.trailing_zeros() + 1;
+    let word = u32::from_be_bytes(chunk) >> (32 - bits);
+    Some((packed_short(word), bits as usize / 8))
 }
 
 /// The number and the length of the first entity, if eight bytes are there and it ends among them.
@@ -82,6 +107,16 @@ fn packed_whole(word: u64) -> u64
 #[inline(always)]
 fn packed_low(word: u64) -> u64
     requires low { word ≤ 4294967295 }
+    ensures { (w : List ℕ) → length w ≡ 8 → All (λ byte. byte < 256) w → word ≡ word_of w → result ≡ number w }
+{
+    let sevens = word & 0x7f7f_7f7f;
+    let pairs = sevens - ((sevens & 0x7f00_7f00) >> 1);
+    pairs - (pairs >> 16) * 0xc000
+}
+
+/// The lower seven bits of each of four bytes, side by side.
+#[inline(always)]
+fn packed_short(word: u32) -> u32
     ensures { (w : List ℕ) → length w ≡ 8 → All (λ byte. byte < 256) w → word ≡ word_of w → result ≡ number w }
 {
     let sevens = word & 0x7f7f_7f7f;

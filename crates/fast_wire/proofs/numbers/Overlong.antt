@@ -1,5 +1,5 @@
 -- Which entities are overlong.
-use Rattle.std.proofs.Common.{◌≡◌, ℕ, zero, suc, ◌+◌, ◌*◌, ◌%◌, ◌^◌, ◌<◌, ◌≤◌, List, [], ◌∷◌, refl, ap, sym, ◌∙◌, length, get_or, arith, lit<, eqb, leb}
+use Rattle.std.proofs.Common.{◌≡◌, ℕ, zero, suc, ◌+◌, ◌*◌, ◌%◌, ◌^◌, ◌<◌, ◌≤◌, List, [], ◌∷◌, refl, ap, sym, ◌∙◌, length, length-append, get_or, arith, lit<, eqb, leb}
 use Rattle.std.specs.Prelude.{ℤ, pos, ◌-ℤ◌, ◌↔◌, Bool, true, false, if◌then◌else◌}
 use Rattle.std.proofs.Math.Nat.{one-le-pow, mul-le-mul_right, pow-suc, le_of_mul-le-mul_right}
 use Rattle.std.proofs.lemmas.Int.{ints}
@@ -38,11 +38,15 @@ overlong_is_zero w entity (x, y, r, d, e) =
     let z : x % 128 ≡ 0 = no_factor (x % 128) (128 ^ length (y ∷ r)) (one-le-pow (length (y ∷ r)) 128 (lit< tt)) (omega arith) in
     rw d (omega arith)
 
-pub overlong_by_zero : (w : List ℕ) → IsEntity w → 1 < length w → (eqb (get_or w 0 0) 0 ≡ true) ↔ IsOverlong (λ v. pos (number v)) w
-overlong_by_zero w entity l = (
-  λ t. zero_is_overlong w l ((Decides-eqb (get_or w 0 0) 0).0 t),
-  λ o. (Decides-eqb (get_or w 0 0) 0).1 (overlong_is_zero w entity o),
-)
+-- an entity that begins with a zero has more bytes than one
+zero_is_long : (w : List ℕ) → IsEntity w → get_or w 0 0 ≡ 0 → 1 < length w
+zero_is_long w ([], last, e, unstopped, stop) none =
+    let first : get_or w 0 0 ≡ last = ap (λ v. get_or v 0 0) e in
+    absurd (omega (arith, first, none, stop))
+zero_is_long w (x ∷ front, last, e, unstopped, stop) none = rw (e, length-append) (omega arith)
+
+pub overlong_by_zero : (w : List ℕ) → IsEntity w → (get_or w 0 0 ≡ 0) ↔ IsOverlong (λ v. pos (number v)) w
+overlong_by_zero w entity = (λ none. zero_is_overlong w (zero_is_long w entity none) none, overlong_is_zero w entity)
 
 -- seven bits like a sign
 abbrev pub sevens_of : Bool → ℕ

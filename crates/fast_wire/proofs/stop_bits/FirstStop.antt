@@ -1,7 +1,7 @@
 -- The first stop bit of eight bytes, by the zeros below it.
 use Rattle.std.proofs.Common.{◌≡◌, ◌≢◌, ℕ, zero, suc, ◌+◌, ◌*◌, ◌-◌, ◌%◌, ◌/◌, ◌^◌, ◌<◌, ◌≤◌, ◌⊎◌, inl, inr, List, [], ◌∷◌, ◌++◌, refl, ap, sym, subst, ◌∙◌, length, map, replicate, arith, lit<, length-append, append_assoc}
 use Rattle.std.specs.Prelude.{All, bit_and}
-use Rattle.std.specs.Int.{w64, from_be_bytes, from_le_bytes}
+use Rattle.std.specs.Int.{w32, w64, from_be_bytes, from_le_bytes}
 use lib.Count.{count_trailing_zeros}
 use Rattle.std.proofs.Math.Nat.{add-mul, mul_assoc, mul-le-mul_right}
 use Rattle.std.proofs.lemmas.Bool.{cases_lt}
@@ -158,6 +158,23 @@ word-loaded (a ∷ b ∷ c ∷ d ∷ e ∷ f ∷ g ∷ []) l = absurd (omega ari
 word-loaded (a ∷ b ∷ c ∷ d ∷ e ∷ f ∷ g ∷ h ∷ []) l = omega arith
 word-loaded (a ∷ b ∷ c ∷ d ∷ e ∷ f ∷ g ∷ h ∷ i ∷ w) l = absurd (omega arith)
 
+-- the same of four bytes
+pub word-loaded_short : (w : List ℕ) → length w ≡ 4 → from_be_bytes w32 w ≡ word_of w
+word-loaded_short [] l = absurd (omega arith)
+word-loaded_short (a ∷ []) l = absurd (omega arith)
+word-loaded_short (a ∷ b ∷ []) l = absurd (omega arith)
+word-loaded_short (a ∷ b ∷ c ∷ []) l = absurd (omega arith)
+word-loaded_short (a ∷ b ∷ c ∷ d ∷ []) l = omega arith
+word-loaded_short (a ∷ b ∷ c ∷ d ∷ e ∷ w) l = absurd (omega arith)
+
+turned-loaded_short : (w : List ℕ) → length w ≡ 4 → from_le_bytes w32 w ≡ turned_of w
+turned-loaded_short [] l = absurd (omega arith)
+turned-loaded_short (a ∷ []) l = absurd (omega arith)
+turned-loaded_short (a ∷ b ∷ []) l = absurd (omega arith)
+turned-loaded_short (a ∷ b ∷ c ∷ []) l = absurd (omega arith)
+turned-loaded_short (a ∷ b ∷ c ∷ d ∷ []) l = omega arith
+turned-loaded_short (a ∷ b ∷ c ∷ d ∷ e ∷ w) l = absurd (omega arith)
+
 turned-loaded : (w : List ℕ) → length w ≡ 8 → from_le_bytes w64 w ≡ turned_of w
 turned-loaded [] l = absurd (omega arith)
 turned-loaded (a ∷ []) l = absurd (omega arith)
@@ -215,6 +232,40 @@ told w l bytes some = by (first_entity w (λ e. some (stops ∙ e)))
         omega (arith, z)
 
     by : Split w → Told w (count_trailing_zeros 64 (stops_of (from_le_bytes w64 w)))
+    by s =
+        let rest : AreBytes s.rest = rest_are_bytes s.front s.rest (subst AreBytes s.whole bytes) in
+        record {
+          front = s.front;
+          rest = s.rest;
+          whole = s.whole;
+          entity = s.entity;
+          count = count_by s.front s.rest s.whole s.entity;
+          word = ap (λ (n : ℕ). n / 2 ^ (8 * length s.rest)) (ap word_of s.whole ∙ word-append s.front s.rest)
+              ∙ shr_high (word_of s.front) (8 * length s.rest) (word_of s.rest) (word-lt s.rest rest);
+        }
+
+-- the same of four bytes
+abbrev pub short_stops_of : ℕ → ℕ
+short_stops_of x = bit_and x 0x8080_8080
+
+pub told_short : (w : List ℕ) → length w ≡ 4 → AreBytes w → short_stops_of (from_le_bytes w32 w) ≢ 0 → Told w (count_trailing_zeros 32 (short_stops_of (from_le_bytes w32 w)))
+told_short w l bytes some = by (first_entity w (λ e. some (stops ∙ e)))
+  where
+    stops : short_stops_of (from_le_bytes w32 w) ≡ turned_of (map stop w)
+    stops = ap short_stops_of (turned-loaded_short w l) ∙ ap (λ n. bit_and (turned_of w) (turned_of (replicate n 128))) (sym l) ∙ and_turned w 128 (lit< tt) bytes
+
+    count_by : (front rest : List ℕ) → w ≡ front ++ rest → IsEntity front → count_trailing_zeros 32 (short_stops_of (from_le_bytes w32 w)) + 1 ≡ 8 * length front
+    count_by front rest e (before, last, is, none, h) =
+        let all : w ≡ before ++ last ∷ rest = e ∙ ap (λ v. v ++ rest) is ∙ append_assoc before (last ∷ []) rest in
+        let fronts : AreBytes front = front_are_bytes front rest (subst AreBytes e bytes) in
+        let few : length front ≤ 4 = omega (arith, length-append front rest, ap length e) in
+        let size : length front ≡ length before + 1 = ap length is ∙ length-append before (last ∷ []) in
+        let z = zeros_before before last rest 4 none h (last_is_byte before last (subst AreBytes is fronts)) (omega arith) in
+        let c : count_trailing_zeros 32 (short_stops_of (from_le_bytes w32 w)) ≡ count_trailing_zeros 32 (turned_of (map stop (before ++ last ∷ rest))) =
+        ap (λ (n : ℕ). count_trailing_zeros 32 n) (stops ∙ ap (λ v. turned_of (map stop v)) all) in
+        omega (arith, z)
+
+    by : Split w → Told w (count_trailing_zeros 32 (short_stops_of (from_le_bytes w32 w)))
     by s =
         let rest : AreBytes s.rest = rest_are_bytes s.front s.rest (subst AreBytes s.whole bytes) in
         record {
