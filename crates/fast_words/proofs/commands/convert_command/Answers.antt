@@ -2,9 +2,9 @@ use Rattle.std.proofs.Common.{codes, ap, ◌∙◌, ◌≡◌, rules, false}
 use Rattle.std.proofs.lemmas.Result.{IfOk-weaker}
 use Rattle.clap.specs.Simple.{app_of, app_of_fields, new_app}
 use Rattle.clap.specs.declared.builder.command.Command.TheViews.{out-Command}
-use Rattle.fast_command.specs.meaning.Words.{templates_rule, input_rule, flag_rule, with_options}
-use Rattle.fast_command.proofs.Commands.{makes_rule}
-use Rattle.fast_command.proofs.words.convert_command.Goals as goal
+use Rattle.fast_words.specs.meaning.Commands.{templates_rule, input_rule, flag_rule, with_options}
+use Rattle.fast_words.proofs.Making.{makes_rule}
+use Rattle.fast_words.proofs.commands.convert_command.Goals as goal
 
 pub returns : goal.returns
 returns c =
