@@ -1,40 +1,13 @@
--- The command that takes the words, and what it makes of them.
-use Rattle.std.proofs.Common.{◌≡◌, Bool, true, false, List, [], ◌∷◌, Option, Some, None, refl, ap, ap₂, ◌∙◌, is_some, option_map, ◌||◌, ◌&&◌, not}
-use Rattle.clap.specs.Built.{AddsArg, AddsSubcommand}
-use Rattle.clap.specs.Faults.{fault_of, built_fault, check_fault, defaults_fault, entered_fault, settle_fault, walk_fault, is_simple_and_free}
+-- What the command makes of the words.
+use Rattle.std.proofs.Common.{◌≡◌, Bool, true, false, List, [], ◌∷◌, Option, Some, None, refl, ap₂, is_some, option_map, ◌&&◌, not}
+use Rattle.clap.specs.Faults.{fault_of, built_fault, check_fault, defaults_fault, entered_fault, settle_fault, walk_fault}
 use Rattle.clap.specs.Kinds.{Kinds, or_else, check_kinds}
-use Rattle.clap.specs.Simple.{App, argument_words, built, entered, is_simple, names_of, subcommand_of, with_rule, with_subcommand}
-use Rattle.clap.specs.Walk.{Rule, Text, finished, nothing_held, rule_of, settled, stop_after, walk, walk_from}
+use Rattle.clap.specs.Simple.{App, argument_words, built, entered, names_of, subcommand_of}
+use Rattle.clap.specs.Walk.{Text, finished, nothing_held, settled, stop_after, walk, walk_from}
 use Rattle.clap.specs.Facts.{explicit_source}
 use Rattle.clap.specs.Takes.{is_given}
 use Rattle.std.specs.List.{list_any}
-use Rattle.clap.specs.declared.builder.arg.Arg.{Arg}
-use Rattle.clap.specs.declared.builder.command.Command.{Command}
-use Rattle.clap.proofs.OnLiterals.{clap_on_literals}
-use Rattle.fast_command.specs.meaning.Words.{MakesApp, fastcat_app}
-
--- one more argument
-pub makes_rule : (app : App) (r : Rule) (old new : Command) (a : Arg) → MakesApp app old → rule_of a ≡ r → a.global ≡ false → AddsArg old a new → MakesApp (with_rule app r) new
-makes_rule app r old new a before rule local adds = record {
-  is = adds.shape local ∙ ap₂ with_rule before.is rule;
-  local = adds.globals ∙ ap₂ (λ x y. x || y) before.local local;
-}
-
--- one more subcommand
-pub makes_command : (app sub : App) (old given new : Command) → MakesApp app old → MakesApp sub given → AddsSubcommand old given new → MakesApp (with_subcommand app sub.top) new
-makes_command app sub old given new before inner adds = record {
-  is = adds.shape inner.local ∙ ap₂ with_subcommand before.is (ap (λ (a : App). a.top) inner.is);
-  local = adds.globals ∙ ap₂ (λ x y. x || y) before.local inner.local;
-}
-
--- the command is simple, and its arguments are free
-pub fastcat_simple : is_simple fastcat_app ≡ true
-unfolding clap_on_literals
-fastcat_simple = refl
-
-pub fastcat_free : is_simple_and_free fastcat_app ≡ true
-unfolding clap_on_literals
-fastcat_free = refl
+use Rattle.fast_words.specs.meaning.Commands.{fastcat_app}
 
 -- what fails by no kind does not fail by its last step
 last_none : (a b : Kinds) → or_else a b ≡ [] → b ≡ []

@@ -174,7 +174,11 @@ fn known_at<'t>(plan: &Plan<'t>, node: u32, kind: Kind, operator: Operator) -> K
         field: field_at(plan, node, kind, operator),
         kind,
         nullable: step.nullable,
-        entry: if keeps(operator) { Some(step.entry) } else { None },
+        entry: if keeps(operator) {
+            Some(step.entry)
+        } else {
+            None
+        },
     }
 }
 

@@ -28,11 +28,7 @@ use fast_value::{Kind, Scalar};
 ///
 /// R9 if the item is an ASCII text that begins with a zero character; memory was refused.
 #[inline(always)]
-pub fn write_item(
-    bytes: &mut Vec<u8>,
-    at: Known<'_>,
-    item: Sent<'_>,
-) -> Result<(), EncodeFault>
+pub fn write_item(bytes: &mut Vec<u8>, at: Known<'_>, item: Sent<'_>) -> Result<(), EncodeFault>
     requires { IsSendable (field_data at.field.now) (sent_data item) }
     ensures ok { OnOk result
         (Adds (SpellsItem (field_data at.entry.field.now) (sent_data item.entry)) bytes.old.items bytes.new.items) }

@@ -295,15 +295,7 @@ pub fn write_difference(
         None => choose_value(draft, ledger, at.field, value),
         Some(held) => {
             let delta = Sent::IntegerDelta(difference(value, held));
-            send(
-                draft,
-                ledger,
-                at,
-                Operator::Delta,
-                Some(value),
-                true,
-                delta,
-            )
+            send(draft, ledger, at, Operator::Delta, Some(value), true, delta)
         }
     }
 }
@@ -571,15 +563,7 @@ pub fn write_no_default(
 {
     match &at.field.initial {
         None => Ok(draft.push_bit(false)?),
-        Some(_) => send(
-            draft,
-            ledger,
-            at,
-            Operator::Default,
-            None,
-            true,
-            Sent::Null,
-        ),
+        Some(_) => send(draft, ledger, at, Operator::Default, None, true, Sent::Null),
     }
 }
 
@@ -623,8 +607,24 @@ pub fn write_none(
     ensures keeps { Keeps ledger.old ledger.new }
 {
     match field.operator {
-        Operator::None => send(draft, ledger, Known::of(field), field.operator, None, true, Sent::Null),
-        Operator::Delta => send(draft, ledger, Known::of(field), field.operator, None, true, Sent::Null),
+        Operator::None => send(
+            draft,
+            ledger,
+            Known::of(field),
+            field.operator,
+            None,
+            true,
+            Sent::Null,
+        ),
+        Operator::Delta => send(
+            draft,
+            ledger,
+            Known::of(field),
+            field.operator,
+            None,
+            true,
+            Sent::Null,
+        ),
         Operator::Default => write_no_default(draft, ledger, Known::of(field)),
         Operator::Copy => write_no_copy(draft, ledger, Known::of(field)),
         Operator::Increment | Operator::Constant | Operator::Tail => {

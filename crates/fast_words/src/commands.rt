@@ -1,0 +1,151 @@
+//! The command that takes the words, as clap is told it.
+
+ghost use Rattle.std.specs.Prelude.{◌≡◌, false, IfOk};
+ghost use Rattle.clap.specs.Walk.{rule_of};
+ghost use Rattle.clap.specs.Simple.{app_of};
+ghost use Rattle.clap.specs.declared.builder.command.Command.TheViews.{out-Command};
+ghost use Rattle.fast_words.specs.meaning.Commands.{number_rule, flag_rule, templates_rule, input_rule, with_limits, with_options, check_app, show_app, convert_app, fastcat_app, MakesApp};
+
+use clap::{Arg, ArgAction, Command, value_parser};
+use std::alloc::{AllocError, Global};
+
+/// The version that `fastcat --version` tells.
+const VERSION: &str = "0.1.0";
+
+/// What stands below the help of the whole command.
+const TEMPLATES_HELP: &str = "T is @vectors or a text in TOML such as
+  [[template]]
+  name = \"Trade\"
+  id = 1
+  fields = [{ kind = \"uInt32\", name = \"price\" }]
+
+Examples:
+  fastcat check templates.toml
+  fastcat show templates.toml stream.fast
+  fastcat convert templates.toml lines.txt >stream.fast";
+
+/// The argument for the templates.
+fn templates_arg<'a>(alloc: Global) -> Arg<'a>
+    ensures rule { rule_of result ≡ templates_rule }
+    ensures local { result.global ≡ false }
+{
+    Arg::new(alloc, "templates")
+        .value_name("T")
+        .required(true)
+        .help("The path of a template text (see fastcat --help), or @vectors for the built-in set")
+}
+
+/// The argument for the input.
+fn input_arg<'a>(alloc: Global, help: &'a str) -> Arg<'a>
+    ensures rule { rule_of result ≡ input_rule }
+    ensures local { result.global ≡ false }
+{
+    Arg::new(alloc, "input").value_name("F").help(help)
+}
+
+/// A flag.
+fn flag_arg<'a>(alloc: Global, name: &'a str, help: &'a str) -> Arg<'a>
+    ensures rule { rule_of result ≡ flag_rule name.entry.now }
+    ensures local { result.global ≡ false }
+{
+    Arg::new(alloc, name)
+        .long(name)
+        .action(ArgAction::SetTrue)
+        .help(help)
+}
+
+/// An option with a number of 32 bits.
+fn number_arg<'a>(alloc: Global, name: &'a str, help: &'a str) -> Arg<'a>
+    ensures rule { rule_of result ≡ number_rule name.entry.now }
+    ensures local { result.global ≡ false }
+{
+    Arg::new(alloc, name)
+        .long(name)
+        .value_name("N")
+        .value_parser(value_parser!(u32))
+        .help(help)
+}
+
+/// A command with the options for the limits.
+fn with_limits<'a>(alloc: Global, command: Command<'a>) -> Result<Command<'a>, AllocError>
+    requires { (out-Command command).has_globals ≡ false }
+    ensures { IfOk result (MakesApp (with_limits (app_of command.entry))) }
+{
+    let texts = "The most bytes of a text, from 16 to 1048576; 1024 if not given";
+    let elements = "The most elements of a sequence; 1000 if not given";
+    let total = "The most elements of all sequences of a message; 1000 if not given";
+    command
+        .arg(number_arg(alloc, "max-text", texts))?
+        .arg(number_arg(alloc, "max-elements", elements))?
+        .arg(number_arg(alloc, "max-total", total))
+}
+
+/// A command with the options that all of them have.
+fn with_options<'a>(alloc: Global, command: Command<'a>) -> Result<Command<'a>, AllocError>
+    requires { (out-Command command).has_globals ≡ false }
+    ensures { IfOk result (MakesApp (with_options (app_of command.entry))) }
+{
+    let explain = "Says behind the line on standard error, in words, what is wrong, and where";
+    with_limits(alloc, command)?.arg(flag_arg(alloc, "explain", explain))
+}
+
+/// The subcommand that checks a template text.
+fn check_command<'a>(alloc: Global) -> Result<Command<'a>, AllocError>
+    ensures { IfOk result (MakesApp check_app) }
+{
+    let command = Command::new(alloc, "check")
+        .about("Checks a template text, and says how large its set is")
+        .after_help("Example: fastcat check templates.toml")
+        .arg(templates_arg(alloc))?;
+    with_options(alloc, command)
+}
+
+/// The subcommand that shows a stream.
+fn show_command<'a>(alloc: Global) -> Result<Command<'a>, AllocError>
+    ensures { IfOk result (MakesApp show_app) }
+{
+    let hex = "Reads hexadecimal digits, with blanks between them, and not bytes";
+    let input = "The path of the stream; without it, standard input is read";
+    let strict = "Refuses an integer or a presence map that is longer than it needs to be";
+    let command = Command::new(alloc, "show")
+        .about("Shows the messages of a FAST stream, a line for each event")
+        .after_help("Example: fastcat show --hex @vectors stream.txt")
+        .arg(templates_arg(alloc))?
+        .arg(input_arg(alloc, input))?
+        .arg(flag_arg(alloc, "hex", hex))?
+        .arg(flag_arg(alloc, "strict", strict))?;
+    with_options(alloc, command)
+}
+
+/// The subcommand that turns lines into a stream.
+fn convert_command<'a>(alloc: Global) -> Result<Command<'a>, AllocError>
+    ensures { IfOk result (MakesApp convert_app) }
+{
+    let input = "The path of the lines; without it, standard input is read";
+    let hex = "Writes hexadecimal digits, a line for each message, and not bytes";
+    let command = Command::new(alloc, "convert")
+        .about("Turns lines, as show writes them, into a FAST stream")
+        .after_help("Example: fastcat convert --hex @vectors lines.txt")
+        .arg(templates_arg(alloc))?
+        .arg(input_arg(alloc, input))?
+        .arg(flag_arg(alloc, "hex", hex))?;
+    with_options(alloc, command)
+}
+
+/// The whole command.
+///
+/// # Errors
+///
+/// Memory was refused.
+pub fn fastcat_command<'a>(alloc: Global) -> Result<Command<'a>, AllocError>
+    ensures { IfOk result (MakesApp fastcat_app) }
+{
+    Command::new(alloc, "fastcat")
+        .about("Reads and writes streams in the FAST encoding, version 1.1, by templates in TOML")
+        .version(VERSION)
+        .after_help(TEMPLATES_HELP)
+        .subcommand_required(true)
+        .subcommand(check_command(alloc)?)?
+        .subcommand(show_command(alloc)?)?
+        .subcommand(convert_command(alloc)?)
+}
