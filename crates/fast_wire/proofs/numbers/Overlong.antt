@@ -45,8 +45,15 @@ zero_is_long w ([], last, e, unstopped, stop) none =
     absurd (omega (arith, first, none, stop))
 zero_is_long w (x ∷ front, last, e, unstopped, stop) none = rw (e, length-append) (omega arith)
 
-pub overlong_by_zero : (w : List ℕ) → IsEntity w → (get_or w 0 0 ≡ 0) ↔ IsOverlong (λ v. pos (number v)) w
-overlong_by_zero w entity = (λ none. zero_is_overlong w (zero_is_long w entity none) none, overlong_is_zero w entity)
+pub overlong_by_first : (w : List ℕ) → IsEntity w → (get_or w 0 0 ≡ 0) ↔ IsOverlong (λ v. pos (number v)) w
+overlong_by_first w entity = (λ none. zero_is_overlong w (zero_is_long w entity none) none, overlong_is_zero w entity)
+
+-- the same as a test, of more than one byte
+pub overlong_by_zero : (w : List ℕ) → IsEntity w → 1 < length w → (eqb (get_or w 0 0) 0 ≡ true) ↔ IsOverlong (λ v. pos (number v)) w
+overlong_by_zero w entity l = (
+  λ t. zero_is_overlong w l ((Decides-eqb (get_or w 0 0) 0).0 t),
+  λ o. (Decides-eqb (get_or w 0 0) 0).1 (overlong_is_zero w entity o),
+)
 
 -- seven bits like a sign
 abbrev pub sevens_of : Bool → ℕ
