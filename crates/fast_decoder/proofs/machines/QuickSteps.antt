@@ -1,11 +1,11 @@
 -- Fields of integers as steps of a machine.
-use Rattle.std.proofs.Common.{refl, sym, ap, ◌∙◌, subst, inl, inr, arith}
-use Rattle.std.specs.Prelude.{◌≡◌, ◌≢◌, ◌⊎◌, ℕ, ◌+◌, ◌<◌, Bool, true, false, List, [], length, drop, slice_get, Option, Some, None, Result, Ok, Err, OnOk, option_map, if◌then◌else◌}
+use Rattle.std.proofs.Common.{refl, sym, ap, ◌∙◌, subst, arith}
+use Rattle.std.specs.Prelude.{◌≡◌, ◌≢◌, ◌⊎◌, ℕ, ◌+◌, true, false, List, [], drop, slice_get, Some, Result, Ok, Err, OnOk, option_map, if◌then◌else◌}
 use Rattle.fast_wire.specs.meaning.Maps.{first_bit}
 use Rattle.fast_value.specs.declared.kinds.Kind.{Kind}
 use Rattle.fast_value.specs.declared.kinds.Kind.TheVariants.{UInt32, Int32, UInt64, Int64, Decimal, Ascii, Unicode, Bytes}
-use Rattle.fast_value.specs.meaning.Kinds.{ScalarData, family, integers}
-use Rattle.fast_value.specs.meaning.Limits.{Bounds, bounds}
+use Rattle.fast_value.specs.meaning.Kinds.{family, integers}
+use Rattle.fast_value.specs.meaning.Limits.{bounds}
 use Rattle.fast_value.specs.declared.settings.Limits.{Limits}
 use Rattle.fast_tree.specs.device.Nodes.{field_data}
 use Rattle.fast_tree.specs.meaning.Tree.{FieldData, operator_uses_bit, uses_bit}
@@ -32,7 +32,7 @@ use Rattle.fast_units.specs.device.Deciding.{needs_bytes, number_data, source_of
 use Rattle.fast_units.proofs.Deciding.{item_value, stands_unsent}
 use Rattle.fast_decoder.specs.declared.machine.Machine.{Machine}
 use Rattle.fast_decoder.specs.declared.machine.Turn.{Turn}
-use Rattle.fast_decoder.specs.declared.machine.Turn.TheVariants.{Silent, Handed, Waits as TurnWaits}
+use Rattle.fast_decoder.specs.declared.machine.Turn.TheVariants.{Silent, Waits as TurnWaits}
 use Rattle.fast_decoder.specs.declared.machine.Waiting.TheVariants.{Field}
 use Rattle.fast_decoder.specs.declared.quick_units.Quick.{Quick}
 use Rattle.fast_decoder.specs.declared.turns.Turns.{Turns}
