@@ -11,7 +11,7 @@ use Rattle.fast_tree.specs.device.Nodes.{field_data}
 use Rattle.fast_tree.specs.meaning.Tree.{FieldData, operator_uses_bit, uses_bit}
 use Rattle.fast_tree.specs.declared.instructions.FieldInstruction.{FieldInstruction}
 use Rattle.fast_tree.specs.declared.instructions.Node.{Node}
-use Rattle.fast_tree.specs.declared.operators.Operator.TheVariants.{Constant}
+use Rattle.fast_tree.specs.declared.operators.Operator.TheVariants.{Constant, Delta}
 use Rattle.fast_tree.specs.declared.instructions.Shape.TheVariants as Shape
 use Rattle.fast_template.specs.declared.sets.Templates.{Templates}
 use Rattle.fast_template.specs.declared.opcodes.Sending.{Sending}
@@ -72,6 +72,10 @@ none_needed As.Increment h = refl
 none_needed As.NullableIncrement h = refl
 none_needed As.Delta h = absurd (cc h)
 none_needed As.NullableDelta h = absurd (cc h)
+
+-- Under delta it uses none.
+pub delta_unmarked : (s : Sending) → sending_operator s ≡ Delta → operator_uses_bit (sending_operator s) (is_nullable s) ≡ false
+delta_unmarked s e = ap (λ o. operator_uses_bit o (is_nullable s)) e
 
 -- It is the field at the node.
 pub field_at : (set : Set) (n : ℕ) (k : Kind) (s : Sending) (x : Node) (field : FieldInstruction) → IsAtInteger set n k s → slice_get set.nodes n ≡ Some x → x.shape ≡ Shape.Field field → IsSentAs field k s
