@@ -17,7 +17,7 @@ ghost use Rattle.fast_decoder.specs.device.Positions.{set_of, CanTurn, IsAtInteg
 ghost use Rattle.fast_decoder.specs.device.Steps.{IsStep};
 
 use crate::machine::{Machine, Waiting};
-use crate::quick_units::{Quick, has_bit, operator_of};
+use crate::quick_units::{Quick, has_bit, is_delta, operator_of};
 use crate::turns::Turns;
 use fast_stream::Sink;
 use fast_template::{Opcode, Sending, Shape, Templates};
@@ -66,7 +66,7 @@ impl<'t> Machine<'t> {
         Some(Quick { bytes: 0, turn })
     }
 
-    /// The next instruction, a field of unsigned integers.
+    /// The next instruction, a field of unsigned integers, under no delta.
     #[inline(always)]
     fn pass_unsigned<S: Sink>(
         &mut self,
@@ -91,6 +91,9 @@ impl<'t> Machine<'t> {
             sink.old q sink.new self.new) }
         ensures waits { IfSome result (λ _. self.new.waiting ≡ Waiting.Field) }
     {
+        if is_delta(sending) {
+            return None;
+        }
         if !self.stands(sending) {
             return self.pass_unsent(templates, limits, number, kind, sending, sink);
         }
@@ -98,56 +101,7 @@ impl<'t> Machine<'t> {
         Some(quick)
     }
 
-    /// The same. In each arm the compiler knows how the field stands, and folds all later looks at it.
-    #[inline(always)]
-    fn pass_by_unsigned<S: Sink>(
-        &mut self,
-        templates: &'t Templates,
-        limits: Limits,
-        number: u32,
-        kind: Kind,
-        top: u64,
-        sending: Sending,
-        rest: &[u8],
-        sink: &mut S,
-    ) -> Option<Quick>
-        requires range { unsigned_up_to top ≡ range_of kind }
-        requires unsigned { (n : ℕ) → value_of_integer kind (pos n) ≡ U n }
-        requires waits { self.old.waiting ≡ Waiting.Field }
-        requires turn { CanTurn (set_of templates.now) limits self.old }
-        requires next { first_node self.old.cursor.left ≡ Some number }
-        requires integers { family kind ≡ integers (range_of kind) }
-        requires at { IsAtInteger (set_of templates.now) number kind sending }
-        ensures none { IfNone result ((self.new ≡ self.old) × (sink.new ≡ sink.old)) }
-        ensures step { IfSome result (λ q. IsStep S.takes S.stops (set_of templates.now) limits self.old rest.now
-            sink.old q sink.new self.new) }
-        ensures waits { IfSome result (λ _. self.new.waiting ≡ Waiting.Field) }
-    {
-        match sending {
-            Sending::Plain => self.pass_unsigned(
-                templates, limits, number, kind, top, sending, rest, sink,
-            ),
-            Sending::Copy => self.pass_unsigned(
-                templates, limits, number, kind, top, sending, rest, sink,
-            ),
-            Sending::Increment => self.pass_unsigned(
-                templates, limits, number, kind, top, sending, rest, sink,
-            ),
-            Sending::Delta => self.pass_unsigned(
-                templates, limits, number, kind, top, sending, rest, sink,
-            ),
-            Sending::Default
-            | Sending::NullablePlain
-            | Sending::NullableDefault
-            | Sending::NullableCopy
-            | Sending::NullableIncrement
-            | Sending::NullableDelta => self.pass_unsigned(
-                templates, limits, number, kind, top, sending, rest, sink,
-            ),
-        }
-    }
-
-    /// The next instruction, a field of signed integers.
+    /// The next instruction, a field of signed integers, under no delta.
     #[inline(always)]
     fn pass_signed<S: Sink>(
         &mut self,
@@ -173,6 +127,9 @@ impl<'t> Machine<'t> {
             sink.old q sink.new self.new) }
         ensures waits { IfSome result (λ _. self.new.waiting ≡ Waiting.Field) }
     {
+        if is_delta(sending) {
+            return None;
+        }
         if !self.stands(sending) {
             return self.pass_unsent(templates, limits, number, kind, sending, sink);
         }
@@ -182,22 +139,18 @@ impl<'t> Machine<'t> {
         Some(quick)
     }
 
-    /// The same. In each arm the compiler knows how the field stands, and folds all later looks at it.
+    /// The next instruction, a field of integers, under delta.
     #[inline(always)]
-    fn pass_by_signed<S: Sink>(
+    fn pass_delta<S: Sink>(
         &mut self,
         templates: &'t Templates,
         limits: Limits,
         number: u32,
         kind: Kind,
-        low: i128,
-        top: i128,
         sending: Sending,
         rest: &[u8],
         sink: &mut S,
     ) -> Option<Quick>
-        requires range { signed_between low top ≡ range_of kind }
-        requires signed { (x : ℤ) → value_of_integer kind x ≡ I x }
         requires waits { self.old.waiting ≡ Waiting.Field }
         requires turn { CanTurn (set_of templates.now) limits self.old }
         requires next { first_node self.old.cursor.left ≡ Some number }
@@ -208,26 +161,361 @@ impl<'t> Machine<'t> {
             sink.old q sink.new self.new) }
         ensures waits { IfSome result (λ _. self.new.waiting ≡ Waiting.Field) }
     {
+        if !is_delta(sending) {
+            return None;
+        }
+        let quick = self.take_delta(templates, limits, number, kind, sending, rest, sink)?;
+        Some(quick)
+    }
+
+    /// The next instruction, a field of kind `UInt32`. In each arm the compiler knows how it stands, and folds all later looks at it.
+    #[inline(always)]
+    fn pass_uint32<S: Sink>(
+        &mut self,
+        templates: &'t Templates,
+        limits: Limits,
+        number: u32,
+        sending: Sending,
+        rest: &[u8],
+        sink: &mut S,
+    ) -> Option<Quick>
+        requires waits { self.old.waiting ≡ Waiting.Field }
+        requires turn { CanTurn (set_of templates.now) limits self.old }
+        requires next { first_node self.old.cursor.left ≡ Some number }
+        requires at { IsAtInteger (set_of templates.now) number Kind.UInt32 sending }
+        ensures none { IfNone result ((self.new ≡ self.old) × (sink.new ≡ sink.old)) }
+        ensures step { IfSome result (λ q. IsStep S.takes S.stops (set_of templates.now) limits self.old rest.now
+            sink.old q sink.new self.new) }
+        ensures waits { IfSome result (λ _. self.new.waiting ≡ Waiting.Field) }
+    {
         match sending {
-            Sending::Plain => self.pass_signed(
-                templates, limits, number, kind, low, top, sending, rest, sink,
+            Sending::Plain => self.pass_unsigned(
+                templates,
+                limits,
+                number,
+                Kind::UInt32,
+                4_294_967_295,
+                sending,
+                rest,
+                sink,
             ),
-            Sending::Copy => self.pass_signed(
-                templates, limits, number, kind, low, top, sending, rest, sink,
+            Sending::Copy => self.pass_unsigned(
+                templates,
+                limits,
+                number,
+                Kind::UInt32,
+                4_294_967_295,
+                sending,
+                rest,
+                sink,
             ),
-            Sending::Increment => self.pass_signed(
-                templates, limits, number, kind, low, top, sending, rest, sink,
+            Sending::Increment => self.pass_unsigned(
+                templates,
+                limits,
+                number,
+                Kind::UInt32,
+                4_294_967_295,
+                sending,
+                rest,
+                sink,
             ),
-            Sending::Delta => self.pass_signed(
-                templates, limits, number, kind, low, top, sending, rest, sink,
+            Sending::Delta => self.pass_delta(
+                templates,
+                limits,
+                number,
+                Kind::UInt32,
+                sending,
+                rest,
+                sink,
+            ),
+            Sending::NullableDelta => self.pass_delta(
+                templates,
+                limits,
+                number,
+                Kind::UInt32,
+                sending,
+                rest,
+                sink,
             ),
             Sending::Default
             | Sending::NullablePlain
             | Sending::NullableDefault
             | Sending::NullableCopy
-            | Sending::NullableIncrement
-            | Sending::NullableDelta => self.pass_signed(
-                templates, limits, number, kind, low, top, sending, rest, sink,
+            | Sending::NullableIncrement => self.pass_unsigned(
+                templates,
+                limits,
+                number,
+                Kind::UInt32,
+                4_294_967_295,
+                sending,
+                rest,
+                sink,
+            ),
+        }
+    }
+
+    /// The next instruction, a field of kind `Int32`. In each arm the compiler knows how it stands, and folds all later looks at it.
+    #[inline(always)]
+    fn pass_int32<S: Sink>(
+        &mut self,
+        templates: &'t Templates,
+        limits: Limits,
+        number: u32,
+        sending: Sending,
+        rest: &[u8],
+        sink: &mut S,
+    ) -> Option<Quick>
+        requires waits { self.old.waiting ≡ Waiting.Field }
+        requires turn { CanTurn (set_of templates.now) limits self.old }
+        requires next { first_node self.old.cursor.left ≡ Some number }
+        requires at { IsAtInteger (set_of templates.now) number Kind.Int32 sending }
+        ensures none { IfNone result ((self.new ≡ self.old) × (sink.new ≡ sink.old)) }
+        ensures step { IfSome result (λ q. IsStep S.takes S.stops (set_of templates.now) limits self.old rest.now
+            sink.old q sink.new self.new) }
+        ensures waits { IfSome result (λ _. self.new.waiting ≡ Waiting.Field) }
+    {
+        match sending {
+            Sending::Plain => self.pass_signed(
+                templates,
+                limits,
+                number,
+                Kind::Int32,
+                -2_147_483_648,
+                2_147_483_647,
+                sending,
+                rest,
+                sink,
+            ),
+            Sending::Copy => self.pass_signed(
+                templates,
+                limits,
+                number,
+                Kind::Int32,
+                -2_147_483_648,
+                2_147_483_647,
+                sending,
+                rest,
+                sink,
+            ),
+            Sending::Increment => self.pass_signed(
+                templates,
+                limits,
+                number,
+                Kind::Int32,
+                -2_147_483_648,
+                2_147_483_647,
+                sending,
+                rest,
+                sink,
+            ),
+            Sending::Delta => self.pass_delta(
+                templates,
+                limits,
+                number,
+                Kind::Int32,
+                sending,
+                rest,
+                sink,
+            ),
+            Sending::NullableDelta => self.pass_delta(
+                templates,
+                limits,
+                number,
+                Kind::Int32,
+                sending,
+                rest,
+                sink,
+            ),
+            Sending::Default
+            | Sending::NullablePlain
+            | Sending::NullableDefault
+            | Sending::NullableCopy
+            | Sending::NullableIncrement => self.pass_signed(
+                templates,
+                limits,
+                number,
+                Kind::Int32,
+                -2_147_483_648,
+                2_147_483_647,
+                sending,
+                rest,
+                sink,
+            ),
+        }
+    }
+
+    /// The next instruction, a field of kind `UInt64`. In each arm the compiler knows how it stands, and folds all later looks at it.
+    #[inline(always)]
+    fn pass_uint64<S: Sink>(
+        &mut self,
+        templates: &'t Templates,
+        limits: Limits,
+        number: u32,
+        sending: Sending,
+        rest: &[u8],
+        sink: &mut S,
+    ) -> Option<Quick>
+        requires waits { self.old.waiting ≡ Waiting.Field }
+        requires turn { CanTurn (set_of templates.now) limits self.old }
+        requires next { first_node self.old.cursor.left ≡ Some number }
+        requires at { IsAtInteger (set_of templates.now) number Kind.UInt64 sending }
+        ensures none { IfNone result ((self.new ≡ self.old) × (sink.new ≡ sink.old)) }
+        ensures step { IfSome result (λ q. IsStep S.takes S.stops (set_of templates.now) limits self.old rest.now
+            sink.old q sink.new self.new) }
+        ensures waits { IfSome result (λ _. self.new.waiting ≡ Waiting.Field) }
+    {
+        match sending {
+            Sending::Plain => self.pass_unsigned(
+                templates,
+                limits,
+                number,
+                Kind::UInt64,
+                18_446_744_073_709_551_615,
+                sending,
+                rest,
+                sink,
+            ),
+            Sending::Copy => self.pass_unsigned(
+                templates,
+                limits,
+                number,
+                Kind::UInt64,
+                18_446_744_073_709_551_615,
+                sending,
+                rest,
+                sink,
+            ),
+            Sending::Increment => self.pass_unsigned(
+                templates,
+                limits,
+                number,
+                Kind::UInt64,
+                18_446_744_073_709_551_615,
+                sending,
+                rest,
+                sink,
+            ),
+            Sending::Delta => self.pass_delta(
+                templates,
+                limits,
+                number,
+                Kind::UInt64,
+                sending,
+                rest,
+                sink,
+            ),
+            Sending::NullableDelta => self.pass_delta(
+                templates,
+                limits,
+                number,
+                Kind::UInt64,
+                sending,
+                rest,
+                sink,
+            ),
+            Sending::Default
+            | Sending::NullablePlain
+            | Sending::NullableDefault
+            | Sending::NullableCopy
+            | Sending::NullableIncrement => self.pass_unsigned(
+                templates,
+                limits,
+                number,
+                Kind::UInt64,
+                18_446_744_073_709_551_615,
+                sending,
+                rest,
+                sink,
+            ),
+        }
+    }
+
+    /// The next instruction, a field of kind `Int64`. In each arm the compiler knows how it stands, and folds all later looks at it.
+    #[inline(always)]
+    fn pass_int64<S: Sink>(
+        &mut self,
+        templates: &'t Templates,
+        limits: Limits,
+        number: u32,
+        sending: Sending,
+        rest: &[u8],
+        sink: &mut S,
+    ) -> Option<Quick>
+        requires waits { self.old.waiting ≡ Waiting.Field }
+        requires turn { CanTurn (set_of templates.now) limits self.old }
+        requires next { first_node self.old.cursor.left ≡ Some number }
+        requires at { IsAtInteger (set_of templates.now) number Kind.Int64 sending }
+        ensures none { IfNone result ((self.new ≡ self.old) × (sink.new ≡ sink.old)) }
+        ensures step { IfSome result (λ q. IsStep S.takes S.stops (set_of templates.now) limits self.old rest.now
+            sink.old q sink.new self.new) }
+        ensures waits { IfSome result (λ _. self.new.waiting ≡ Waiting.Field) }
+    {
+        match sending {
+            Sending::Plain => self.pass_signed(
+                templates,
+                limits,
+                number,
+                Kind::Int64,
+                -9_223_372_036_854_775_808,
+                9_223_372_036_854_775_807,
+                sending,
+                rest,
+                sink,
+            ),
+            Sending::Copy => self.pass_signed(
+                templates,
+                limits,
+                number,
+                Kind::Int64,
+                -9_223_372_036_854_775_808,
+                9_223_372_036_854_775_807,
+                sending,
+                rest,
+                sink,
+            ),
+            Sending::Increment => self.pass_signed(
+                templates,
+                limits,
+                number,
+                Kind::Int64,
+                -9_223_372_036_854_775_808,
+                9_223_372_036_854_775_807,
+                sending,
+                rest,
+                sink,
+            ),
+            Sending::Delta => self.pass_delta(
+                templates,
+                limits,
+                number,
+                Kind::Int64,
+                sending,
+                rest,
+                sink,
+            ),
+            Sending::NullableDelta => self.pass_delta(
+                templates,
+                limits,
+                number,
+                Kind::Int64,
+                sending,
+                rest,
+                sink,
+            ),
+            Sending::Default
+            | Sending::NullablePlain
+            | Sending::NullableDefault
+            | Sending::NullableCopy
+            | Sending::NullableIncrement => self.pass_signed(
+                templates,
+                limits,
+                number,
+                Kind::Int64,
+                -9_223_372_036_854_775_808,
+                9_223_372_036_854_775_807,
+                sending,
+                rest,
+                sink,
             ),
         }
     }
@@ -250,56 +538,18 @@ impl<'t> Machine<'t> {
     {
         let number = self.cursor.next()?;
         match templates.opcode(number) {
-            Opcode::UInt32(sending) => {
-                self.pass_by_unsigned(
-                    templates,
-                    limits,
-                    number,
-                    Kind::UInt32,
-                    4_294_967_295,
-                    sending,
-                    rest,
-                    sink,
-                )
-            }
-            Opcode::Int32(sending) => {
-                self.pass_by_signed(
-                    templates,
-                    limits,
-                    number,
-                    Kind::Int32,
-                    -2_147_483_648,
-                    2_147_483_647,
-                    sending,
-                    rest,
-                    sink,
-                )
-            }
-            Opcode::UInt64(sending) => {
-                self.pass_by_unsigned(
-                    templates,
-                    limits,
-                    number,
-                    Kind::UInt64,
-                    18_446_744_073_709_551_615,
-                    sending,
-                    rest,
-                    sink,
-                )
-            }
-            Opcode::Int64(sending) => {
-                self.pass_by_signed(
-                    templates,
-                    limits,
-                    number,
-                    Kind::Int64,
-                    -9_223_372_036_854_775_808,
-                    9_223_372_036_854_775_807,
-                    sending,
-                    rest,
-                    sink,
-                )
-            }
+            Opcode::UInt32(sending) => self.pass_uint32(
+                templates, limits, number, sending, rest, sink,
+            ),
+            Opcode::Int32(sending) => self.pass_int32(
+                templates, limits, number, sending, rest, sink,
+            ),
+            Opcode::UInt64(sending) => self.pass_uint64(
+                templates, limits, number, sending, rest, sink,
+            ),
+            Opcode::Int64(sending) => self.pass_int64(
+                templates, limits, number, sending, rest, sink,
+            ),
             Opcode::Other => None,
         }
     }

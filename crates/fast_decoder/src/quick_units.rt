@@ -72,7 +72,7 @@ pub fn operator_of(sending: Sending) -> Operator
 
 /// Whether a field that stands so is sent as a delta.
 #[inline(always)]
-fn is_delta(sending: Sending) -> bool
+pub fn is_delta(sending: Sending) -> bool
     ensures delta { result ≡ true → sending_operator sending ≡ Operator.Delta }
     ensures other { result ≡ false → sending_operator sending ≢ Operator.Delta }
 {
@@ -161,6 +161,7 @@ impl<'t> Machine<'t> {
     ) -> Option<Quick>
         requires range { unsigned_up_to top ≡ range_of kind }
         requires unsigned { (n : ℕ) → value_of_integer kind (pos n) ≡ U n }
+        requires no_delta { sending_operator sending ≢ Operator.Delta }
         requires waits { self.old.waiting ≡ Waiting.Field }
         requires ready { IsReady (set_of templates.now) limits self.old }
         requires none { self.old.entity ≡ [] }
@@ -184,10 +185,6 @@ impl<'t> Machine<'t> {
         let entity = short_entity(rest)?;
         let strict = limits.strict;
         let slots = &mut self.slots;
-        if is_delta(sending) {
-            let item = delta_item(slots, field, kind, nullable(sending), rest, entity, strict)?;
-            return Some(self.sent(number, field, false, item, entity.len, sink));
-        }
         let operator = operator_of(sending);
         // Two calls that differ in a constant, which the compiler folds: most fields are mandatory.
         if nullable(sending) {
@@ -218,6 +215,7 @@ impl<'t> Machine<'t> {
     ) -> Option<Quick>
         requires range { signed_between low top ≡ range_of kind }
         requires signed { (x : ℤ) → value_of_integer kind x ≡ I x }
+        requires no_delta { sending_operator sending ≢ Operator.Delta }
         requires waits { self.old.waiting ≡ Waiting.Field }
         requires ready { IsReady (set_of templates.now) limits self.old }
         requires none { self.old.entity ≡ [] }
@@ -241,10 +239,6 @@ impl<'t> Machine<'t> {
         let entity = short_entity(rest)?;
         let strict = limits.strict;
         let slots = &mut self.slots;
-        if is_delta(sending) {
-            let item = delta_item(slots, field, kind, nullable(sending), rest, entity, strict)?;
-            return Some(self.sent(number, field, false, item, entity.len, sink));
-        }
         let operator = operator_of(sending);
         let item = signed_item(
             slots,
@@ -259,6 +253,46 @@ impl<'t> Machine<'t> {
             top,
         )?;
         Some(self.sent(number, field, has_bit(sending), item, entity.len, sink))
+    }
+
+    /// Takes the unit of the next instruction, a field of integers under delta.
+    #[inline(always)]
+    pub fn take_delta<S: Sink>(
+        &mut self,
+        templates: &'t Templates,
+        limits: Limits,
+        number: u32,
+        kind: Kind,
+        sending: Sending,
+        rest: &[u8],
+        sink: &mut S,
+    ) -> Option<Quick>
+        requires delta { sending_operator sending ≡ Operator.Delta }
+        requires waits { self.old.waiting ≡ Waiting.Field }
+        requires ready { IsReady (set_of templates.now) limits self.old }
+        requires none { self.old.entity ≡ [] }
+        requires next { first_node self.old.cursor.left ≡ Some number }
+        requires within { number < length (set_of templates.now).nodes }
+        requires integers { family kind ≡ integers (range_of kind) }
+        requires field { (x : Node) → slice_get (set_of templates.now).nodes number ≡ Some x
+            → (f : FieldInstruction) × (x.shape ≡ Shape.Field f) × IsSentAs f kind sending }
+        ensures none { IfNone result ((self.new ≡ self.old) × (sink.new ≡ sink.old)) }
+        ensures taken { IfSome result
+            (λ q. IsTakenTo S.takes S.stops (set_of templates.now) limits
+            (meaning (set_of templates.now) limits self.old) rest.now sink.old q.bytes q.turn sink.new self.new) }
+        ensures on { IfSome result (λ q. q.turn ≢ Ok Turn.Waits) }
+        ensures waits { IfSome result (λ _. self.new.waiting ≡ self.old.waiting) }
+        ensures turns { (way : Way) (n : ℕ) → HasTurns way (set_of templates.now) limits 1 n self.old
+            → IfSome result (λ q. HasTurnsBehind q.turn way (set_of templates.now) limits (1 + n) self.new) }
+    {
+        let Shape::Field(field) = &templates.node(number).shape else {
+            unreachable!()
+        };
+        let entity = short_entity(rest)?;
+        let strict = limits.strict;
+        let slots = &mut self.slots;
+        let item = delta_item(slots, field, kind, nullable(sending), rest, entity, strict)?;
+        Some(self.sent(number, field, false, item, entity.len, sink))
     }
 
     /// Takes the unit that the machine waits for, if it is a mantissa or a map for the quick way.

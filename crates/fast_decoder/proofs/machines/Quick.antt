@@ -1,6 +1,6 @@
 -- What a machine takes of a unit, and the turn behind it.
 use Rattle.std.proofs.Common.{refl, sym, ap, ◌∙◌, subst, arith}
-use Rattle.std.specs.Prelude.{◌≡◌, ℕ, ◌+◌, ◌<◌, ◌≤◌, List, [], ◌++◌, length, take, Result, Ok, Err}
+use Rattle.std.specs.Prelude.{◌≡◌, ℕ, ◌<◌, ◌≤◌, List, [], ◌++◌, length, take, Result, Ok, Err}
 use Rattle.std.proofs.lemmas.List.{length-take-le}
 use Rattle.fast_wire.specs.meaning.Entities.{IsEntity}
 use Rattle.fast_value.specs.declared.codes.Code.{Code}
@@ -13,14 +13,12 @@ use Rattle.fast_stream.specs.device.GrammarReaders.{reader_of}
 use Rattle.fast_stream.specs.device.Continuations.{message_then}
 use Rattle.fast_stream.specs.device.Readers.{Reader, Done}
 use Rattle.fast_stream.specs.device.Machine.{after_bytes}
-use Rattle.fast_decoder.specs.device.Handing.{due, Hands, IsTaken}
+use Rattle.fast_decoder.specs.device.Handing.{due, IsTaken}
 use Rattle.fast_units.specs.device.Taking.{Waits, Quiet, Turns}
-use Rattle.fast_decoder.specs.device.Moving.{Moves}
 use Rattle.fast_decoder.specs.device.Quick.{IsTakenTo}
-use Rattle.fast_decoder.specs.device.Positions.{Set, tree_in, CanTake, CanTurn, GoesOn, IsReady, IsSupplied, IsTurn, turning, meaning}
-use Rattle.fast_decoder.specs.device.TurnsLeft.{Way, HasTurns, HasTurnsBehind, HasTurnsWaiting, turns_begun_at}
+use Rattle.fast_decoder.specs.device.Positions.{Set, tree_in, CanTake, CanTurn, GoesOn, IsReady, IsSupplied, IsTurn, meaning}
+use Rattle.fast_decoder.specs.device.TurnsLeft.{Way, HasTurns, HasTurnsBehind}
 use Rattle.fast_decoder.specs.declared.machine.Machine.{Machine}
-use Rattle.fast_decoder.specs.declared.quick_units.Quick.{Quick}
 use Rattle.fast_decoder.specs.declared.machine.Waiting.{Waiting}
 use Rattle.fast_decoder.specs.declared.machine.Waiting.TheVariants.{Field}
 use Rattle.fast_decoder.specs.declared.machine.Turn.{Turn}
@@ -29,7 +27,6 @@ use Rattle.fast_decoder.proofs.units.Takes.{quiet_behind, waits_first}
 use Rattle.fast_decoder.proofs.units.InHand.{entity_then, open_in_entity, whole_gives, takes_quietly}
 use Rattle.fast_decoder.proofs.units.Takings.{after-append, due-waits}
 use Rattle.fast_units.proofs.Turning.{after_run}
-use Rattle.fast_decoder.proofs.steps.Moves.{hands_turned}
 
 module _ {S : Type 0} (takes stops : S → EventData → S → Type 0) (set : Set) (l : Limits) where
   -- Some bytes lead the reader to another one, of which a turn is taken.
@@ -91,51 +88,6 @@ module _ {S : Type 0} (takes stops : S → EventData → S → Type 0) (set : Se
         quiet = (h (meaning set l m)).quiet;
         turn = record { moves = λ q. (h q).hands; supplied = supplied; goes_on = tt };
       }))
-
-  -- Behind a turn that goes on comes one at whose end the machine waits.
-  pub turn_behind : (r on waits : Reader Dictionary) (s s' : S) (turn : Turn) (m' : Machine) → (turn ≡ TurnWaits → ⊥) → Moves takes stops r s (Ok turn) s' on waits → IsTurn takes stops set l on s' (Ok TurnWaits) s' m'
-      → IsTurn takes stops set l r s (Ok TurnWaits) s' m'
-  turn_behind r on waits s s' turn m' go h i = record {
-    moves = hands_turned takes stops r on waits s turn s' (Ok tt) s' (meaning set l m') go h i.moves;
-    supplied = i.supplied;
-    goes_on = i.goes_on;
-  }
-
-  -- A machine takes a unit, and a turn behind it, with the turns that are left.
-  abbrev pub IsUnitTo : Machine → List ℕ → S → Quick → S → Machine → Type 0
-  IsUnitTo m rest s q s' m' = IsTakenTo takes stops set l (meaning set l m) rest s q.bytes q.turn s' m'
-      × ((way : Way) (n : ℕ) → HasTurnsWaiting way set l n m → HasTurnsBehind q.turn way set l (1 + n + turns_begun_at m.waiting m.cursor.map way (tree_in set) l) m')
-
-  -- The same by other names of what was there before, of the unit, and of what is there behind it.
-  pub unit_as : (m n : Machine) {m' n' : Machine} {s t s' t' : S} {q r : Quick} (rest : List ℕ) → m ≡ n → s ≡ t → q ≡ r → s' ≡ t' → m' ≡ n' → IsUnitTo n rest t r t' n' → IsUnitTo m rest s q s' m'
-  unit_as m n {m'} {n'} {s} {t} {s'} {t'} {q} {r} rest e f g h i u =
-      subst (λ (x : Machine). IsUnitTo x rest s q s' m') (sym e)
-      (subst (λ (x : S). IsUnitTo n rest x q s' m') (sym f)
-      (subst (λ (x : Quick). IsUnitTo n rest t x s' m') (sym g)
-      (subst (λ (x : S). IsUnitTo n rest t r x m') (sym h)
-      (subst (λ (x : Machine). IsUnitTo n rest t r t' x) (sym i) u))))
-
-  -- What was taken, and all that needs no byte behind it.
-  pub taken_on : (from : Reader Dictionary) (rest : List ℕ) (s : S) (n : ℕ) (result : Result Turn FaultCode) (s' : S) (m : Machine) (o : Result Unit FaultCode) (s'' : S) (to : Reader Dictionary)
-      → IsTakenTo takes stops set l from rest s n result s' m
-      → ((r : Reader Dictionary) (t : S) → Moves takes stops r t result s' (turning set l m) (meaning set l m) → Hands takes stops r t o s'' to)
-      → IsTaken takes stops (tree_in set) l from rest s n o s'' to
-  taken_on from rest s n result s' m o s'' to h on = record {
-    some = h.some;
-    within = h.within;
-    quiet = h.quiet;
-    hands = on (after_bytes (due (tree_in set) l from) (take n rest)) s h.turn.moves;
-  }
-
-  -- The same behind a unit after which the machine waits.
-  pub taken_waits : (from : Reader Dictionary) (rest : List ℕ) (s : S) (n : ℕ) (result : Result Turn FaultCode) (s' : S) (m : Machine) → result ≡ Ok TurnWaits
-      → IsTakenTo takes stops set l from rest s n result s' m → IsTaken takes stops (tree_in set) l from rest s n (Ok tt) s' (meaning set l m)
-  taken_waits from rest s n result s' m e h = record {
-    some = h.some;
-    within = h.within;
-    quiet = h.quiet;
-    hands = subst (λ (t : Result Turn FaultCode). Moves takes stops (after_bytes (due (tree_in set) l from) (take n rest)) s t s' (turning set l m) (meaning set l m)) e h.turn.moves;
-  }
 
 -- A machine that waits for the first integer of a field, none of whose bytes has come, stands between two units.
 pub can_take_field : (set : Set) (l : Limits) (m : Machine) → m.waiting ≡ Field → IsReady set l m → CanTake Field set l m

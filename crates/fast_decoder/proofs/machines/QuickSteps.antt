@@ -1,17 +1,17 @@
 -- Fields of integers as steps of a machine.
-use Rattle.std.proofs.Common.{refl, sym, ap, ◌∙◌, subst, inl, inr, arith}
-use Rattle.std.specs.Prelude.{◌≡◌, ◌≢◌, ◌⊎◌, ℕ, ◌+◌, ◌<◌, Bool, true, false, List, [], length, drop, slice_get, Option, Some, None, Result, Ok, Err, OnOk, option_map, if◌then◌else◌}
+use Rattle.std.proofs.Common.{refl, sym, ap, ◌∙◌, subst, arith}
+use Rattle.std.specs.Prelude.{◌≡◌, ◌≢◌, ◌⊎◌, ℕ, ◌+◌, true, false, List, [], drop, slice_get, Some, Result, Ok, Err, OnOk, option_map, if◌then◌else◌}
 use Rattle.fast_wire.specs.meaning.Maps.{first_bit}
 use Rattle.fast_value.specs.declared.kinds.Kind.{Kind}
 use Rattle.fast_value.specs.declared.kinds.Kind.TheVariants.{UInt32, Int32, UInt64, Int64, Decimal, Ascii, Unicode, Bytes}
-use Rattle.fast_value.specs.meaning.Kinds.{ScalarData, family, integers}
-use Rattle.fast_value.specs.meaning.Limits.{Bounds, bounds}
+use Rattle.fast_value.specs.meaning.Kinds.{family, integers}
+use Rattle.fast_value.specs.meaning.Limits.{bounds}
 use Rattle.fast_value.specs.declared.settings.Limits.{Limits}
 use Rattle.fast_tree.specs.device.Nodes.{field_data}
 use Rattle.fast_tree.specs.meaning.Tree.{FieldData, operator_uses_bit, uses_bit}
 use Rattle.fast_tree.specs.declared.instructions.FieldInstruction.{FieldInstruction}
 use Rattle.fast_tree.specs.declared.instructions.Node.{Node}
-use Rattle.fast_tree.specs.declared.operators.Operator.TheVariants.{Constant}
+use Rattle.fast_tree.specs.declared.operators.Operator.TheVariants.{Constant, Delta}
 use Rattle.fast_tree.specs.declared.instructions.Shape.TheVariants as Shape
 use Rattle.fast_template.specs.declared.sets.Templates.{Templates}
 use Rattle.fast_template.specs.declared.opcodes.Sending.{Sending}
@@ -32,7 +32,7 @@ use Rattle.fast_units.specs.device.Deciding.{needs_bytes, number_data, source_of
 use Rattle.fast_units.proofs.Deciding.{item_value, stands_unsent}
 use Rattle.fast_decoder.specs.declared.machine.Machine.{Machine}
 use Rattle.fast_decoder.specs.declared.machine.Turn.{Turn}
-use Rattle.fast_decoder.specs.declared.machine.Turn.TheVariants.{Silent, Handed, Waits as TurnWaits}
+use Rattle.fast_decoder.specs.declared.machine.Turn.TheVariants.{Silent, Waits as TurnWaits}
 use Rattle.fast_decoder.specs.declared.machine.Waiting.TheVariants.{Field}
 use Rattle.fast_decoder.specs.declared.quick_units.Quick.{Quick}
 use Rattle.fast_decoder.specs.declared.turns.Turns.{Turns}
@@ -72,6 +72,10 @@ none_needed As.Increment h = refl
 none_needed As.NullableIncrement h = refl
 none_needed As.Delta h = absurd (cc h)
 none_needed As.NullableDelta h = absurd (cc h)
+
+-- Under delta it uses none.
+pub delta_unmarked : (s : Sending) → sending_operator s ≡ Delta → operator_uses_bit (sending_operator s) (is_nullable s) ≡ false
+delta_unmarked s e = ap (λ o. operator_uses_bit o (is_nullable s)) e
 
 -- It is the field at the node.
 pub field_at : (set : Set) (n : ℕ) (k : Kind) (s : Sending) (x : Node) (field : FieldInstruction) → IsAtInteger set n k s → slice_get set.nodes n ≡ Some x → x.shape ≡ Shape.Field field → IsSentAs field k s

@@ -1,7 +1,7 @@
 -- From what a machine takes of a piece to what the stream says of these bytes.
 use Rattle.std.proofs.Common.{refl, sym, ap, ◌∙◌, subst, arith, inl, inr, append_assoc, append-nil, length-append}
 use Rattle.std.specs.Prelude.{◌≡◌, ℕ, suc, ◌+◌, ◌-◌, ◌<◌, ◌≤◌, List, [], ◌∷◌, ◌++◌, length, take, drop, false, Result, Ok, Err, is_err, OnOk}
-use Rattle.std.proofs.lemmas.List.{length-take-le, take_rest, length-drop}
+use Rattle.std.proofs.lemmas.List.{take_rest, length-drop}
 use Rattle.std.proofs.Math.Seq.{take-add}
 use Rattle.fast_value.specs.declared.settings.Limits.{Limits}
 use Rattle.fast_value.specs.declared.codes.Code.{Code}
@@ -14,7 +14,7 @@ use Rattle.fast_stream.specs.meaning.Sinks.{Takes, TakesUpTo}
 use Rattle.fast_stream.specs.device.Readers.{Reader, Done, Emit, Stop, Byte}
 use Rattle.fast_stream.specs.device.Machine.{after_bytes}
 use Rattle.fast_stream.specs.device.Running.{Position, at_fault, settle, step, run, after_byte, message_begun}
-use Rattle.fast_decoder.specs.device.Handing.{Hands, due, Waits, Quiet, IsTaken, waiting_at, Leads, TookEvents, Failed, Stopped, Fed}
+use Rattle.fast_decoder.specs.device.Handing.{Hands, due, Waits, Quiet, waiting_at, Leads, TookEvents, Failed, Stopped, Fed}
 use Rattle.fast_stream.proofs.streams.Streams.{run-append}
 use Rattle.fast_decoder.proofs.units.Takings.{due-waits, last_of}
 

@@ -4,7 +4,6 @@ use Rattle.std.specs.Prelude.{◌≡◌, ℕ, ◌+◌, ◌*◌, ◌-◌, ◌<◌
 use Rattle.std.proofs.lemmas.List.{length-take-le, take_rest, length-drop, drop-drop}
 use Rattle.std.proofs.Math.Seq.{take-add}
 use Rattle.fast_value.specs.declared.settings.Limits.{Limits}
-use Rattle.fast_tree.specs.meaning.Tree.{Tree}
 use Rattle.fast_dict.specs.meaning.Dictionary.{Dictionary}
 use Rattle.fast_stream.specs.meaning.Events.{EventData}
 use Rattle.fast_stream.specs.declared.faults.FaultCode.{FaultCode}
@@ -13,12 +12,12 @@ use Rattle.fast_stream.specs.device.Machine.{after_bytes}
 use Rattle.fast_decoder.specs.declared.machine.Machine.{Machine}
 use Rattle.fast_decoder.specs.declared.machine.Turn.{Turn}
 use Rattle.fast_decoder.specs.declared.machine.Turn.TheVariants.{Silent, Handed, Waits as TurnWaits}
-use Rattle.fast_decoder.specs.device.Handing.{Hands, due, Quiet, waiting_at, Fed}
-use Rattle.fast_decoder.specs.device.Moving.{Moves, events_due, Onward}
+use Rattle.fast_decoder.specs.device.Handing.{Hands, due, waiting_at, Fed}
+use Rattle.fast_decoder.specs.device.Moving.{Moves, Onward}
 use Rattle.fast_decoder.specs.declared.machine.Waiting.{Waiting}
 use Rattle.fast_decoder.specs.declared.quick_units.Quick.{Quick}
 use Rattle.fast_decoder.specs.device.TurnsLeft.{Way, most_by, HasTurns, HasTurnsWaiting, HasTurnsBehind, HasTurnsAfter, turns_begun_at}
-use Rattle.fast_decoder.specs.device.Positions.{Set, tree_in, CanTurn, GoesOn, IsReady, IsSupplied, IsTurn, turning, meaning}
+use Rattle.fast_decoder.specs.device.Positions.{Set, tree_in, CanTurn, GoesOn, IsReady, IsTurn, turning, meaning}
 use Rattle.fast_decoder.specs.device.Quick.{IsTakenTo}
 use Rattle.fast_decoder.specs.device.Steps.{FedBehind, Runs, IsStep, IsCountedBy}
 use Rattle.fast_decoder.proofs.steps.Moves.{hands_turned, fewer_due}

@@ -1,6 +1,6 @@
 -- What a machine between two units does with bytes behind those that led it there: steps, of which each hands over what is due, takes
 -- a unit, or both.
-use Rattle.std.specs.Prelude.{◌≡◌, ℕ, ◌+◌, ◌*◌, ◌<◌, ◌≤◌, List, [], ◌++◌, length, take, Result, Ok, Err}
+use Rattle.std.specs.Prelude.{◌≡◌, ℕ, ◌+◌, ◌*◌, ◌<◌, ◌≤◌, List, ◌++◌, length, take, Result, Ok, Err}
 use Rattle.fast_value.specs.declared.settings.Limits.{Limits}
 use Rattle.fast_tree.specs.meaning.Tree.{Tree}
 use Rattle.fast_dict.specs.meaning.Dictionary.{Dictionary}

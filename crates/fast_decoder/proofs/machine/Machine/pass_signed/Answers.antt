@@ -10,8 +10,7 @@ take_signed-requires-clause-ready g c =
 
 pub returns-clause-step : goal.returns-clause-step
 returns-clause-step g c =
-    let set = set_of c.args.templates.now in
-    integer_step g.S.Sink.takes g.S.Sink.stops set c.args.limits c.args.self.now c.take_signed.new.self c.args.rest.now c.args.sink.now c.in_ok-quick.quick c.take_signed.new.sink c.requires.waits
+    integer_step g.S.Sink.takes g.S.Sink.stops (set_of c.args.templates.now) c.args.limits c.args.self.now c.take_signed.new.self c.args.rest.now c.args.sink.now c.in_ok-quick.quick c.take_signed.new.sink c.requires.waits
     (integer_waits g.S.Sink.takes g.S.Sink.stops c.args.templates.now c.args.limits c.args.self.now c.args.number c.args.kind c.args.sending c.args.sink.now c.requires.waits c.requires.turn c.requires.next c.requires.at c.requires.integers
     (c.stands.ensures.sent c.if-not-stands.false))
     c.in_ok-quick.ensures.taken c.in_ok-quick.ensures.turns

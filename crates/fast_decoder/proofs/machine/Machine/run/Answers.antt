@@ -1,5 +1,5 @@
 -- Steps, one after the other.
-use Rattle.std.proofs.Common.{◌≡◌, refl, sym, ap, ◌∙◌, arith}
+use Rattle.std.proofs.Common.{◌≡◌, ap, ◌∙◌, arith}
 use Rattle.std.proofs.Math.Nat.{le_trans}
 use Rattle.std.specs.Prelude.{length, Ok, Err}
 use Rattle.fast_decoder.specs.declared.machine.Turn.TheVariants.{Silent, Handed, Waits}

@@ -1,12 +1,11 @@
 -- A turn, and the unit that the machine waits for behind it.
-use Rattle.std.proofs.Common.{refl, sym, ap, ◌∙◌, subst}
-use Rattle.std.specs.Prelude.{Result, Ok, Err}
+use Rattle.std.proofs.Common.{ap, ◌∙◌, subst}
+use Rattle.std.specs.Prelude.{Result, Ok}
 use Rattle.fast_stream.specs.declared.faults.FaultCode.{FaultCode}
 use Rattle.fast_decoder.specs.declared.machine.Turn.{Turn}
-use Rattle.fast_decoder.specs.declared.machine.Turn.TheVariants.{Waits}
 use Rattle.fast_decoder.specs.declared.machine.Waiting.TheVariants.{Field}
 use Rattle.fast_decoder.specs.device.Moving.{Moves}
-use Rattle.fast_decoder.specs.device.Positions.{set_of, GoesOn, turning, meaning}
+use Rattle.fast_decoder.specs.device.Positions.{set_of, turning, meaning}
 use Rattle.fast_decoder.specs.device.TurnsLeft.{HasTurnsBehind}
 use Rattle.fast_decoder.specs.device.Steps.{IsStep}
 use Rattle.fast_decoder.proofs.streams.Running.{turn_step, step_waits}

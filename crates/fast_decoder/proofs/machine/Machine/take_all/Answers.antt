@@ -1,4 +1,4 @@
-use Rattle.std.proofs.Common.{refl, sym, ap, ◌≡◌, ◌+◌, ◌-◌, ◌∙◌, List, ℕ, take, drop, length, subst}
+use Rattle.std.proofs.Common.{sym, ◌≡◌, ◌+◌, ◌∙◌}
 use Rattle.std.specs.Prelude.{false, is_err}
 use Rattle.fast_decoder.specs.device.Positions.{set_of, tree_in, meaning}
 use Rattle.fast_decoder.specs.device.Handing.{waiting_at}

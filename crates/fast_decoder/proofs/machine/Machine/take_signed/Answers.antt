@@ -8,23 +8,6 @@ use Rattle.fast_decoder.proofs.fields.ScalarNodes.{served_node}
 use Rattle.fast_decoder.proofs.machines.SentItems.{sent_item}
 use Rattle.fast_decoder.proofs.machine.Machine.take_signed.Goals as goal
 
-pub delta_item-requires-clause-serves : goal.delta_item-requires-clause-serves
-delta_item-requires-clause-serves g c =
-    serves_here (set_of c.args.templates.now) c.args.limits c.args.self.now (field_data c.in-Field.field) c.requires.ready.supplied
-    (served_node (set_of c.args.templates.now) c.args.limits c.args.self.now c.args.number c.node.result.now (Field c.in-Field.field) c.requires.ready.supplied c.node.ensures.found c.in-Field.is)
-
-pub returns-then-is_delta-clause-taken : goal.returns-then-is_delta-clause-taken
-returns-then-is_delta-clause-taken g c =
-    c.sent.ensures.taken (set_of c.args.templates.now) c.args.limits c.args.self.now c.args.rest.now
-    (sent_item c.args.templates.now c.args.limits c.args.self.now c.delta_item.new.slots c.args.number c.node.result.now c.in-Field.field c.args.rest.now c.in_ok-item.item c.in_ok-entity.entity.len
-    c.requires.waits c.requires.ready c.requires.none c.requires.next c.node.ensures.found c.in-Field.is c.delta_item.ensures.terms (c.in_ok-item.ensures.unit (bounds c.args.limits)))
-
-pub returns-then-is_delta-clause-turns : goal.returns-then-is_delta-clause-turns
-returns-then-is_delta-clause-turns g c way n h =
-    c.sent.ensures.turns (set_of c.args.templates.now) c.args.limits c.args.self.now c.args.rest.now
-    (sent_item c.args.templates.now c.args.limits c.args.self.now c.delta_item.new.slots c.args.number c.node.result.now c.in-Field.field c.args.rest.now c.in_ok-item.item c.in_ok-entity.entity.len
-    c.requires.waits c.requires.ready c.requires.none c.requires.next c.node.ensures.found c.in-Field.is c.delta_item.ensures.terms (c.in_ok-item.ensures.unit (bounds c.args.limits))) way n h
-
 pub signed_item-requires-clause-serves : goal.signed_item-requires-clause-serves
 signed_item-requires-clause-serves g c =
     serves_here (set_of c.args.templates.now) c.args.limits c.args.self.now (field_data c.in-Field.field) c.requires.ready.supplied
@@ -32,12 +15,12 @@ signed_item-requires-clause-serves g c =
 
 pub returns-clause-taken : goal.returns-clause-taken
 returns-clause-taken g c =
-    c.sent-2.ensures.taken (set_of c.args.templates.now) c.args.limits c.args.self.now c.args.rest.now
-    (sent_item c.args.templates.now c.args.limits c.args.self.now c.signed_item.new.slots c.args.number c.node.result.now c.in-Field.field c.args.rest.now c.in_ok-item-2.item c.in_ok-entity.entity.len
-    c.requires.waits c.requires.ready c.requires.none c.requires.next c.node.ensures.found c.in-Field.is c.signed_item.ensures.terms (c.in_ok-item-2.ensures.unit (bounds c.args.limits)))
+    c.sent.ensures.taken (set_of c.args.templates.now) c.args.limits c.args.self.now c.args.rest.now
+    (sent_item c.args.templates.now c.args.limits c.args.self.now c.signed_item.new.slots c.args.number c.node.result.now c.in-Field.field c.args.rest.now c.in_ok-item.item c.in_ok-entity.entity.len
+    c.requires.waits c.requires.ready c.requires.none c.requires.next c.node.ensures.found c.in-Field.is c.signed_item.ensures.terms (c.in_ok-item.ensures.unit (bounds c.args.limits)))
 
 pub returns-clause-turns : goal.returns-clause-turns
 returns-clause-turns g c way n h =
-    c.sent-2.ensures.turns (set_of c.args.templates.now) c.args.limits c.args.self.now c.args.rest.now
-    (sent_item c.args.templates.now c.args.limits c.args.self.now c.signed_item.new.slots c.args.number c.node.result.now c.in-Field.field c.args.rest.now c.in_ok-item-2.item c.in_ok-entity.entity.len
-    c.requires.waits c.requires.ready c.requires.none c.requires.next c.node.ensures.found c.in-Field.is c.signed_item.ensures.terms (c.in_ok-item-2.ensures.unit (bounds c.args.limits))) way n h
+    c.sent.ensures.turns (set_of c.args.templates.now) c.args.limits c.args.self.now c.args.rest.now
+    (sent_item c.args.templates.now c.args.limits c.args.self.now c.signed_item.new.slots c.args.number c.node.result.now c.in-Field.field c.args.rest.now c.in_ok-item.item c.in_ok-entity.entity.len
+    c.requires.waits c.requires.ready c.requires.none c.requires.next c.node.ensures.found c.in-Field.is c.signed_item.ensures.terms (c.in_ok-item.ensures.unit (bounds c.args.limits))) way n h

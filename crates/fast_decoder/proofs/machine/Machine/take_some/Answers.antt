@@ -1,10 +1,10 @@
 -- A unit, and the steps behind it.
 use Rattle.std.proofs.Common.{refl, sym, ap, ◌∙◌, subst, arith}
-use Rattle.std.specs.Prelude.{◌≡◌, ◌+◌, ◌-◌, ◌<◌, ◌≤◌, ℕ, List, length, take, drop, Result, Ok, Err}
+use Rattle.std.specs.Prelude.{◌≡◌, ◌+◌, ◌<◌, Result, Ok, Err}
 use Rattle.fast_stream.specs.declared.faults.FaultCode.{FaultCode}
 use Rattle.fast_decoder.specs.declared.machine.Turn.{Turn}
 use Rattle.fast_decoder.specs.declared.machine.Turn.TheVariants.{Waits}
-use Rattle.fast_decoder.specs.device.Positions.{set_of, tree_in, meaning, GoesOn}
+use Rattle.fast_decoder.specs.device.Positions.{set_of, tree_in, meaning}
 use Rattle.fast_decoder.specs.device.Quick.{IsTakenTo}
 use Rattle.fast_decoder.specs.device.TurnsLeft.{HasTurnsBehind, turns_begun_at}
 use Rattle.fast_decoder.proofs.streams.Feeding.{within_piece}
