@@ -7,6 +7,7 @@ pub mod layout;
 mod machine;
 mod quick_decimals;
 mod quick_fields;
+mod quick_kinds;
 mod quick_starts;
 mod quick_units;
 pub mod recorder;

@@ -1,6 +1,6 @@
 //! What a machine does without a byte: values that the bytes before decide, starts and ends of segments.
 
-ghost use Rattle.std.specs.Prelude.{◌≡◌, ◌≢◌, ◌+◌, ◌<◌, ◌≤◌, ℕ, suc, List, [], true, false, Bool, Ok, drop, length, length as list_length, OnOk, IfOk, MatchResult, slice_index, Some, None, option_map, if◌then◌else◌};
+ghost use Rattle.std.specs.Prelude.{◌≡◌, ◌≢◌, ◌+◌, ◌<◌, ◌≤◌, ℕ, suc, [], false, Bool, Ok, drop, length, length as list_length, OnOk, IfOk, MatchResult, slice_index, Some, None, option_map, if◌then◌else◌};
 ghost use Rattle.fast_wire.specs.meaning.Maps.{later_bits};
 ghost use Rattle.fast_value.specs.meaning.Kinds.{exponent_range, integer_of};
 ghost use Rattle.fast_value.specs.meaning.Values.{scalar_data};
@@ -21,10 +21,10 @@ ghost use Rattle.fast_stream.specs.meaning.Messages.{signed_of, within_limits};
 ghost use Rattle.fast_decoder.specs.device.Moving.{Moves};
 ghost use Rattle.fast_units.specs.device.Settling.{Serves, value_at};
 ghost use Rattle.fast_units.specs.device.Deciding.{needs_bytes, number_data, IsDecided};
-ghost use Rattle.fast_decoder.specs.device.TurnsLeft.{Way, HasTurns, HasTurnsFrom, HasTurnsBehind, HasTurnsAfter};
+ghost use Rattle.fast_decoder.specs.device.TurnsLeft.{Way, HasTurns, HasTurnsFrom, HasTurnsBehind};
 ghost use Rattle.fast_units.specs.device.UnitFronts.{IsAsciiFirst};
 ghost use Rattle.fast_decoder.specs.device.Passing.{IsPast, value_then, exponent_then, decimal_then, length_then, elements_from};
-ghost use Rattle.fast_decoder.specs.device.Positions.{Set, set_of, body_in, frames_in, mantissa_then, IsAtField, IsAtParts, IsAtGroup, IsAtSequence, CanTurn, IsTurn, turning, IsSupplied, IsMapWhole, IsReady, bit_of, state_in, going_on, meaning};
+ghost use Rattle.fast_decoder.specs.device.Positions.{Set, set_of, body_in, frames_in, mantissa_then, IsAtField, IsAtParts, IsAtGroup, IsAtSequence, CanTurn, IsTurn, turning, IsMapWhole, bit_of, state_in, going_on};
 
 use crate::machine::{Machine, Turn, Waiting};
 use crate::turns::Turns;

@@ -1,6 +1,6 @@
 //! The machine's loop: steps from one instruction to the next, with no byte, or with whole units for the quick way.
 
-ghost use Rattle.std.specs.Prelude.{◌≡◌, ◌≢◌, ℕ, Ok, Err, length, take};
+ghost use Rattle.std.specs.Prelude.{◌≡◌, ◌≢◌, ℕ, Ok, Err};
 ghost use Rattle.fast_decoder.specs.declared.machine.Waiting.{Waiting};
 ghost use Rattle.fast_stream.specs.declared.faults.FaultCode.{FaultCode};
 ghost use Rattle.fast_decoder.specs.device.Handing.{Hands};

@@ -1,8 +1,8 @@
 //! What a machine does with the bytes of a piece: it takes units, and all that they decide.
 
-ghost use Rattle.std.specs.Prelude.{◌≡◌, ◌≢◌, ◌⊎◌, ◌+◌, ◌*◌, ◌<◌, ◌≤◌, ◌^◌, ◌&&◌, not, nat_le, true, false, ℕ, List, [], length, length as list_length, slice_get, IfSome, IfNone, Err, drop, take, IsTrue, ◌↔◌, IsOk, IfOk, OnOk, Some, None, Ok, slice_index, option_map, nat_abs, if◌then◌else◌};
-ghost use Rattle.fast_wire.specs.meaning.Entities.{HaveNoStop, IsEntity};
-ghost use Rattle.fast_wire.specs.meaning.Maps.{map_limit, bits, first_bit, bytes_for};
+ghost use Rattle.std.specs.Prelude.{◌≡◌, ◌≢◌, ◌⊎◌, ◌+◌, ◌*◌, ◌<◌, ◌≤◌, ◌&&◌, not, nat_le, true, false, ℕ, [], length, length as list_length, slice_get, IfSome, IfNone, Err, take, IsTrue, ◌↔◌, IsOk, IfOk, OnOk, Some, None, Ok, slice_index, option_map, nat_abs, if◌then◌else◌};
+ghost use Rattle.fast_wire.specs.meaning.Entities.{IsEntity};
+ghost use Rattle.fast_wire.specs.meaning.Maps.{map_limit, bits, bytes_for};
 ghost use Rattle.fast_value.specs.meaning.Kinds.{integer_of};
 ghost use Rattle.fast_value.specs.meaning.Values.{scalar_data};
 ghost use Rattle.fast_value.specs.meaning.Limits.{bounds};
@@ -10,24 +10,22 @@ ghost use Rattle.fast_template.specs.meaning.Flat.{field_data, nodes_of, templat
 ghost use Rattle.fast_tree.specs.device.Numbers.{AreBelow};
 ghost use Rattle.fast_tree.specs.declared.instructions.Template.{Template};
 ghost use Rattle.fast_value.specs.declared.settings.Limits.{Limits};
-ghost use Rattle.fast_tree.specs.meaning.Tree.{FieldData, bits_of, identifier};
+ghost use Rattle.fast_tree.specs.meaning.Tree.{bits_of, identifier};
 ghost use Rattle.fast_dict.specs.meaning.Slots.{slots_dictionary, slots_terms};
 ghost use Rattle.fast_stream.specs.device.GrammarReaders.{spare, reader_of};
-ghost use Rattle.fast_stream.specs.device.Readers.{Reader};
 ghost use Rattle.fast_dict.specs.device.EntryTexts.{HasLongInitial};
 ghost use Rattle.fast_decoder.specs.declared.machine.Machine.{Machine};
-ghost use Rattle.fast_dict.specs.meaning.Dictionary.{Dictionary, reset};
-ghost use Rattle.fast_decoder.specs.device.Handing.{Hands, Fed, waiting_at};
+ghost use Rattle.fast_dict.specs.meaning.Dictionary.{reset};
+ghost use Rattle.fast_decoder.specs.device.Handing.{Fed, waiting_at};
 ghost use Rattle.fast_decoder.specs.device.Steps.{IsCountedBy};
 ghost use Rattle.fast_decoder.specs.device.Words.{TakesUnit, IsServedBy, PaysTurns, PaysMessage};
 ghost use Rattle.fast_units.specs.device.Settling.{value_at};
 ghost use Rattle.fast_decoder.specs.device.Passing.{state_past, identified_then};
 ghost use Rattle.fast_decoder.specs.device.Scalars.{IsOfField, IsOfFieldLater, IsScalarUnit, CanStep, CanProgress, step_then};
 ghost use Rattle.fast_units.specs.device.UnitFronts.{IsNumberStage};
-ghost use Rattle.fast_decoder.specs.device.Moving.{Moves};
 ghost use Rattle.fast_stream.specs.device.Continuations.{message_of_then};
-ghost use Rattle.fast_decoder.specs.device.TurnsLeft.{Way, most_by, HasTurns, HasTurnsWaiting, HasTurnsBehind, HasTurnsAfter, turns_begun_at};
-ghost use Rattle.fast_decoder.specs.device.Positions.{Set, set_of, tree_in, body_in, IsAtField, IsAtParts, IsAtSequence, CanTurn, GoesOn, IsBehindMap, IsSupplied, IsReady, IsTurn, IsFresh, segment_reader, mapped_reader, turning, is_idle, meaning};
+ghost use Rattle.fast_decoder.specs.device.TurnsLeft.{Way, most_by, HasTurns, HasTurnsWaiting, HasTurnsBehind, turns_begun_at};
+ghost use Rattle.fast_decoder.specs.device.Positions.{Set, set_of, tree_in, body_in, IsAtField, IsAtParts, IsAtSequence, CanTurn, GoesOn, IsBehindMap, IsSupplied, IsReady, IsTurn, IsFresh, segment_reader, mapped_reader, is_idle, meaning};
 
 use crate::layout::{make_slots, measure};
 use crate::machine::{Machine, Turn, Waiting};
