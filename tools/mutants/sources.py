@@ -154,18 +154,50 @@ def without_bodies(crate, texts, kept):
     return cut, folders
 
 
-def head_line(lines, fn):
-    """Returns the place of the line that opens a function's body, or None where the body has no line of its own, or is evaluated by the
-    compiler or called from C."""
-    head = next(it for it in range(fn.first - 1, fn.last) if re.match(r"\s*(pub(\(.*?\))? )?((final|const|unsafe|extern \"C\") )*fn ", lines[it]))
-    if re.search(r"\b(const|extern) .*\bfn\b", lines[head].partition("fn")[0] + "fn"):
-        return None
+def users_of_constant(crate, texts, logic, file, at):
+    """Returns the functions that name the constant which a place of a file defines, none where the place is in no constant, or where
+    a contract, a type, a macro or a text of the logic names it, so that more may depend on it than bodies."""
+    line = texts[file][texts[file].rfind("\n", 0, at) + 1 :].partition("\n")[0]
+    named = re.match(r"\s*(?:pub(?:\(.*?\))? )?const (\w+): [^=]* = [^{]*;$", line)
+    if not named or any(re.search(rf"\b{named[1]}\b", text) for text in logic):
+        return set()
+    found = set()
+    for name, text in texts.items():
+        lines = text.split("\n")
+        own = functions_of(crate, name, text)
+        for number, other in enumerate(lines, 1):
+            bare = other.partition("//")[0]
+            if not re.search(rf"\b{named[1]}\b", bare) or name == file and other == line or re.match(r"(pub )?use .*;$", bare):
+                continue
+            fn = next((it for it in own if it.first <= number <= it.last), None)
+            opens = body_line(lines, fn) if fn else None
+            if opens is None or number <= opens + 1:
+                return set()
+            found.add(fn.path)
+    return found
+
+
+def head_of(lines, fn):
+    """Returns the place of the line with a function's name."""
+    return next(it for it in range(fn.first - 1, fn.last) if re.match(r"\s*(pub(\(.*?\))? )?((final|const|unsafe|extern \"C\") )*fn ", lines[it]))
+
+
+def body_line(lines, fn):
+    """Returns the place of the line that opens a function's body, or None where the body has no line of its own."""
+    head = head_of(lines, fn)
     indent = len(lines[head]) - len(lines[head].lstrip())
     for number in range(head, fn.last - 2):
         line = lines[number]
         if line.endswith("{") and len(line) - len(line.lstrip()) == indent:
             return number
     return None
+
+
+def head_line(lines, fn):
+    """Returns the place of the line that opens a function's body, or None where the body has no line of its own, or is evaluated by the
+    compiler or called from C."""
+    is_fixed = re.search(r"\b(const|extern) .*\bfn\b", lines[head_of(lines, fn)].partition("fn")[0] + "fn")
+    return None if is_fixed else body_line(lines, fn)
 
 
 def leave_holes(room, crate, folders):
@@ -182,13 +214,29 @@ def leave_holes(room, crate, folders):
             it.write(HOLE.format(crate=crate, folder=folder.replace("/", "."), name=name))
 
 
+def answers_folder(room, fn, modules_of_types, texts):
+    """Returns the folder of a function's answers below proofs/, that of its cycle where it is in one, or None where it is not known."""
+    module = [it for it in module_of(fn.file).split("::") if it]
+    if fn.cycle:
+        found = [it for it, _, _ in os.walk(f"{room}/proofs/{'/'.join(module)}") if os.path.basename(it) == f"+{fn.cycle}"]
+        return os.path.relpath(found[0], f"{room}/proofs") if len(found) == 1 else None
+    if folder := proof_folder(fn, modules_of_types):
+        return folder
+    # A method of a trait's impl has the folder that its path has, where type and impl stand in one module.
+    names = fn.path.split("::")[1:]
+    own = names[len(module) :]
+    beside = [it[1] for it in TYPE.finditer(texts[fn.file])] + re.findall(r"(?m)^(?:pub )?trait (\w+)", texts[fn.file])
+    return "/".join(names) if len(own) == 2 and any(own[0].startswith(it) for it in beside) else None
+
+
 def leave_unoffered(room, crate, texts, paths):
     """Adds to the answers of each of these functions one that is wrong: of a function with such an answer a check tells which goals are
     open, and does not look for the file to offer, which takes as long as to find the open goals."""
-    modules_of_types = modules_in(texts)
+    modules_of_types, done = modules_in(texts), set()
     for fn in (it for file, text in texts.items() for it in functions_of(crate, file, text)):
-        folder = proof_folder(fn, modules_of_types) if fn.path in paths and not fn.cycle else None
-        if folder and not os.path.isfile(f"{room}/proofs/{folder}/Proof.antt"):
+        folder = answers_folder(room, fn, modules_of_types, texts) if fn.path in paths else None
+        if folder and folder not in done and not os.path.isfile(f"{room}/proofs/{folder}/Proof.antt"):
+            done.add(folder)
             os.makedirs(f"{room}/proofs/{folder}", exist_ok=True)
             with open(f"{room}/proofs/{folder}/Answers.antt", "a", encoding="utf-8") as it:
                 it.write(UNOFFERED.format(name=NO_OFFER))
