@@ -9,7 +9,7 @@ use crate::names::is_name;
 use toml::{Table, Value};
 
 /// Why a part of a template text was not read.
-#[derive(Clone, Copy, Debug, PartialEq, Eq)]
+#[derive(Clone, Copy, PartialEq, Eq)]
 pub(crate) enum Unread {
     /// It is not of the stated shape.
     Shape,

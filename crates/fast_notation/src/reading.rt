@@ -196,7 +196,7 @@ fn own_name_at(alloc: Global, table: &Table) -> Result<Option<String>, Unread>
 }
 
 /// The length of a sequence.
-#[derive(Debug, Drop)]
+#[derive(Drop)]
 struct WrittenLength {
     name: Option<String>,
     operator: WrittenOperator,
