@@ -158,8 +158,8 @@ def users_of_constant(crate, texts, logic, file, at):
     """Returns the functions that name the constant which a place of a file defines, none where the place is in no constant, or where
     a contract, a type, a macro or a text of the logic names it, so that more may depend on it than bodies."""
     line = texts[file][texts[file].rfind("\n", 0, at) + 1 :].partition("\n")[0]
-    named = re.match(r"\s*(?:pub(?:\(.*?\))? )?const (\w+): [^=]* = [^{]*;$", line)
-    if not named or any(re.search(rf"\b{named[1]}\b", text) for text in logic):
+    named = constant_in(line)
+    if not named or any(re.search(rf"\b{named}\b", text) for text in logic):
         return set()
     found = set()
     for name, text in texts.items():
@@ -167,7 +167,7 @@ def users_of_constant(crate, texts, logic, file, at):
         own = functions_of(crate, name, text)
         for number, other in enumerate(lines, 1):
             bare = other.partition("//")[0]
-            if not re.search(rf"\b{named[1]}\b", bare) or name == file and other == line or re.match(r"(pub )?use .*;$", bare):
+            if not re.search(rf"\b{named}\b", bare) or name == file and other == line or re.match(r"(pub )?use .*;$", bare):
                 continue
             fn = next((it for it in own if it.first <= number <= it.last), None)
             opens = body_line(lines, fn) if fn else None
@@ -175,6 +175,87 @@ def users_of_constant(crate, texts, logic, file, at):
                 return set()
             found.add(fn.path)
     return found
+
+
+@dataclass(frozen=True)
+class Copy:
+    """A function that stands beside another as it is, under a name of its own, or with what a mutant changes."""
+
+    fn: Function
+    suffix: str
+    pairs: tuple
+    # The constants that it names by other names, since a mutant changes them.
+    constants: tuple = ()
+
+    @property
+    def path(self):
+        return self.fn.path + self.suffix
+
+    @property
+    def owned(self):
+        return self.fn.owned + self.suffix
+
+
+def can_be_copied(room, fn, modules_of_types, text):
+    """Returns whether a function can stand once more in its crate under another name, with its proof: it is no method of a trait and in no
+    cycle of calls, and all of its proof is its answers and invariants."""
+    folder = None if fn.cycle else proof_folder(fn, modules_of_types)
+    if not folder or body_line(text.split("\n"), fn) is None or re.search(rf"(?m)^(pub )?trait {fn.owned.split('::')[0]}\b", text):
+        return False
+    found = os.listdir(f"{room}/proofs/{folder}") if os.path.isdir(f"{room}/proofs/{folder}") else []
+    return all(it in ("Answers.antt", "Invariants.antt") for it in found) and not os.path.exists(f"{room}/proofs/{folder}.antt")
+
+
+def with_copies(crate, texts, copies):
+    """Returns the texts of a crate's files with these copies, each behind its function, and mutated constants behind theirs."""
+    result = {}
+    for file, text in texts.items():
+        lines, added = text.split("\n"), {}
+        places = {fn.path: fn for fn in functions_of(crate, file, text)}
+        for it in copies:
+            for place, old, new in it.constants:
+                if place == file:
+                    at = text[: text.index(old)].count("\n") + 1
+                    name = constant_in(lines[at - 1])
+                    changed = lines[at - 1].replace(old, new).replace(f"const {name}:", f"const {name}{it.suffix.upper()}:")
+                    added.setdefault(at, {})[changed] = None
+            if it.fn.file != file:
+                continue
+            fn = places[it.fn.path]
+            body = "\n".join(lines[fn.first - 1 : fn.last])
+            for old, new in it.pairs:
+                body = body.replace(old, new)
+            for place, old, _ in it.constants:
+                name = constant_in(next(line for line in texts[place].split("\n") if old in line))
+                body = re.sub(rf"\b{name}\b", f"{name}{it.suffix.upper()}", body)
+            name = fn.path.split("::")[-1]
+            added.setdefault(fn.last, {})[re.sub(rf"\bfn {name}\b", f"fn {name}{it.suffix}", body, count=1)] = None
+        for at in sorted(added, reverse=True):
+            lines[at:at] = list(added[at])
+        if added:
+            result[file] = "\n".join(lines)
+    return result
+
+
+def copy_proofs(room, crate, copies, modules_of_types):
+    """Gives each copy of a function the proof of that function, which speaks of the copy by its name."""
+    for it in copies:
+        folder = proof_folder(it.fn, modules_of_types)
+        for name in os.listdir(f"{room}/proofs/{folder}") if os.path.isdir(f"{room}/proofs/{folder}") else []:
+            with open(f"{room}/proofs/{folder}/{name}", encoding="utf-8") as own:
+                said = own.read()
+            dotted = folder.replace("/", ".")
+            for part in ("proofs", "specs.contracts"):
+                said = said.replace(f"Rattle.{crate}.{part}.{dotted}.", f"Rattle.{crate}.{part}.{dotted}{it.suffix}.")
+            os.makedirs(f"{room}/proofs/{folder}{it.suffix}", exist_ok=True)
+            with open(f"{room}/proofs/{folder}{it.suffix}/{name}", "w", encoding="utf-8") as copy:
+                copy.write(said)
+
+
+def constant_in(line):
+    """Returns the name of the constant that a line defines, if it does."""
+    named = re.match(r"\s*(?:pub(?:\(.*?\))? )?const (\w+): [^=]* = [^{]*;$", line)
+    return named and named[1]
 
 
 def head_of(lines, fn):
