@@ -124,7 +124,6 @@ module _ {S : Type 0} (takes stops : S → EventData → S → Type 0) (set : Se
         supplied = supplied;
         goes_on = record {
           supplied = supplied;
-          entity = (subst HaveNoStop (sym h.unused) below-nil, let none : length m.entity ≡ 0 = ap length h.unused in omega (arith, none));
           takes = (below-nil, omega arith, h.unused, refl, placed_in set m.cursor elements body h.placed h.mapped below nested fit, wide);
         };
       })
@@ -166,7 +165,6 @@ module _ {S : Type 0} (takes stops : S → EventData → S → Type 0) (set : Se
         supplied = supplied;
         goes_on = record {
           supplied = supplied;
-          entity = (subst HaveNoStop (sym h.unused) below-nil, let none : length m.entity ≡ 0 = ap length h.unused in omega (arith, none));
           takes = (below-nil, omega arith, h.unused, refl);
         };
       })
