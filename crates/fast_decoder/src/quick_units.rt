@@ -159,7 +159,7 @@ impl<'t> Machine<'t> {
         requires no_delta { sending_operator sending ≢ Operator.Delta }
         requires waits { self.old.waiting ≡ Waiting.Field }
         requires ready { IsReady (set_of templates.now) limits self.old }
-        requires none { self.old.entity ≡ [] }
+        requires none { self.old.entity.bytes ≡ [] }
         requires next { first_node self.old.cursor.left ≡ Some number }
         requires within { number < length (set_of templates.now).nodes }
         requires integers { family kind ≡ integers (range_of kind) }
@@ -213,7 +213,7 @@ impl<'t> Machine<'t> {
         requires no_delta { sending_operator sending ≢ Operator.Delta }
         requires waits { self.old.waiting ≡ Waiting.Field }
         requires ready { IsReady (set_of templates.now) limits self.old }
-        requires none { self.old.entity ≡ [] }
+        requires none { self.old.entity.bytes ≡ [] }
         requires next { first_node self.old.cursor.left ≡ Some number }
         requires within { number < length (set_of templates.now).nodes }
         requires integers { family kind ≡ integers (range_of kind) }
@@ -265,7 +265,7 @@ impl<'t> Machine<'t> {
         requires delta { sending_operator sending ≡ Operator.Delta }
         requires waits { self.old.waiting ≡ Waiting.Field }
         requires ready { IsReady (set_of templates.now) limits self.old }
-        requires none { self.old.entity ≡ [] }
+        requires none { self.old.entity.bytes ≡ [] }
         requires next { first_node self.old.cursor.left ≡ Some number }
         requires within { number < length (set_of templates.now).nodes }
         requires integers { family kind ≡ integers (range_of kind) }

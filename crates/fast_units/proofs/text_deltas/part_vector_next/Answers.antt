@@ -13,7 +13,7 @@ use Rattle.fast_units.specs.device.Stages.{term_behind}
 use Rattle.fast_units.specs.device.TextDecisions.{IsStepped, behind_part_size}
 use Rattle.fast_units.specs.declared.stages.Stage.TheVariants.{PartVector}
 use Rattle.fast_units.proofs.TextUnits.{part_size_fits, part_size_none, part_vector_here, stepped}
-use Rattle.fast_units.proofs.texts.part_vector_next.Goals as goal
+use Rattle.fast_units.proofs.text_deltas.part_vector_next.Goals as goal
 
 pub returns-then-size-gt0-clause-step : goal.returns-then-size-gt0-clause-step
 returns-then-size-gt0-clause-step c kept e scratch piece =

@@ -9,7 +9,7 @@ use Rattle.fast_stream.specs.device.GrammarReaders.{reader_of}
 use Rattle.fast_units.specs.device.Stages.{term_behind}
 use Rattle.fast_units.specs.declared.stages.Stage.TheVariants.{Part}
 use Rattle.fast_units.proofs.TextUnits.{part_here}
-use Rattle.fast_units.proofs.texts.part_next.Goals as goal
+use Rattle.fast_units.proofs.text_deltas.part_next.Goals as goal
 
 pub returns-clause-step : goal.returns-clause-step
 returns-clause-step c limits scratch piece =

@@ -17,7 +17,7 @@ use Rattle.fast_units.specs.device.TextDecisions.{reader_behind}
 use Rattle.fast_units.specs.declared.stages.Stage.TheVariants.{Part}
 use Rattle.fast_units.proofs.LastUnits.{unit_stops, unit_stays}
 use Rattle.fast_units.proofs.TextUnits.{part_field, text_last, delta_null}
-use Rattle.fast_units.proofs.texts.take_part.Goals as goal
+use Rattle.fast_units.proofs.text_deltas.take_part.Goals as goal
 
 pub next_ascii-requires-clause-open : goal.next_ascii-requires-clause-open
 next_ascii-requires-clause-open c =

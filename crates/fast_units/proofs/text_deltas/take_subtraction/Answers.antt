@@ -17,14 +17,14 @@ use Rattle.fast_units.proofs.LastUnits.{unit_stops, unit_stays, number_within}
 use Rattle.fast_wire.specs.meaning.Integers.{IsWithin}
 use Rattle.fast_units.proofs.TextSizes.{length_again, length_narrow}
 use Rattle.fast_units.proofs.TextUnits.{delta_null, subtraction_field, text_next, text_settled}
-use Rattle.fast_units.proofs.texts.take_subtraction.Goals as goal
+use Rattle.fast_units.proofs.text_deltas.take_subtraction.Goals as goal
 
 pub length_of-requires : goal.length_of-requires
 length_of-requires c =
     let l = c.args.limits in
     let f = field_data c.args.field.now in
     let (some, within, turns) = c.in-Whole-Some-default.ensures.unit in
-    let in_range = number_within l.strict (signed_range 31) (signed_range 31) f.optional D7 (c.args.pending.now ++ take c.in-Whole-Some-default.bytes c.args.rest.now) c.in-Whole-Some-default.field-0 c.in-Whole-Some-default.length refl c.in-Whole-Some-default.field-0-is turns in
+    let in_range = number_within l.strict (signed_range 31) (signed_range 31) f.optional D7 (c.args.pending.now.bytes ++ take c.in-Whole-Some-default.bytes c.args.rest.now) c.in-Whole-Some-default.field-0 c.in-Whole-Some-default.length refl c.in-Whole-Some-default.field-0-is turns in
     subst (λ (z : ℤ). IsWithin (signed_range 31) z) (sym (length_again c.in-Whole-Some-default.length in_range)) in_range
 
 pub returns-in-Whole-Some-default-clause-unit : goal.returns-in-Whole-Some-default-clause-unit
@@ -33,12 +33,12 @@ returns-in-Whole-Some-default-clause-unit c scratch =
     let f = field_data c.args.field.now in
     let old = slots_dictionary c.args.slots.now in
     let p = previous_at f.entry old in
-    let front = c.args.pending.now in
+    let front = c.args.pending.now.bytes in
     let here : first_reader l f old ≡ _ = ap (reader_of l.strict) (subtraction_field (bounds l) f p c.requires.text c.requires.delta) in
     let g = integer (signed_range 31) f.optional D7 give in
     let next : Option ℤ → Grammar _ = text_change (bounds l) f p in
     let (some, within, turns) = c.in-Whole-Some-default.ensures.unit in
-    let in_range = number_within l.strict (signed_range 31) (signed_range 31) f.optional D7 (c.args.pending.now ++ take c.in-Whole-Some-default.bytes c.args.rest.now) c.in-Whole-Some-default.field-0 c.in-Whole-Some-default.length refl c.in-Whole-Some-default.field-0-is turns in
+    let in_range = number_within l.strict (signed_range 31) (signed_range 31) f.optional D7 (c.args.pending.now.bytes ++ take c.in-Whole-Some-default.bytes c.args.rest.now) c.in-Whole-Some-default.field-0 c.in-Whole-Some-default.length refl c.in-Whole-Some-default.field-0-is turns in
     let is = c.length_of.ensures ∙ length_again c.in-Whole-Some-default.length in_range in
     let n = c.in-Whole-Some-default.bytes in
     text_next l g next (first_reader l f old) here f front c.args.rest.now old old scratch n c.in-Whole-Some-default.field-0 c.in-Whole-Some-default.ensures.unit
@@ -52,7 +52,7 @@ returns-in-Whole-None-default-clause-unit c scratch =
     let f = field_data c.args.field.now in
     let old = slots_dictionary c.args.slots.now in
     let p = previous_at f.entry old in
-    let front = c.args.pending.now in
+    let front = c.args.pending.now.bytes in
     let here : first_reader l f old ≡ _ = ap (reader_of l.strict) (subtraction_field (bounds l) f p c.requires.text c.requires.delta) in
     let g = integer (signed_range 31) f.optional D7 give in
     let next : Option ℤ → Grammar _ = text_change (bounds l) f p in
@@ -66,7 +66,7 @@ returns-in-Wrong-clause-unit c scratch =
     let f = field_data c.args.field.now in
     let old = slots_dictionary c.args.slots.now in
     let p = previous_at f.entry old in
-    let front = c.args.pending.now in
+    let front = c.args.pending.now.bytes in
     let here : first_reader l f old ≡ _ = ap (reader_of l.strict) (subtraction_field (bounds l) f p c.requires.text c.requires.delta) in
     let g = integer (signed_range 31) f.optional D7 give in
     let next : Option ℤ → Grammar _ = text_change (bounds l) f p in
@@ -79,7 +79,7 @@ returns-in-Cut-clause-unit c scratch =
     let f = field_data c.args.field.now in
     let old = slots_dictionary c.args.slots.now in
     let p = previous_at f.entry old in
-    let front = c.args.pending.now in
+    let front = c.args.pending.now.bytes in
     let here : first_reader l f old ≡ _ = ap (reader_of l.strict) (subtraction_field (bounds l) f p c.requires.text c.requires.delta) in
     let g = integer (signed_range 31) f.optional D7 give in
     let next : Option ℤ → Grammar _ = text_change (bounds l) f p in

@@ -6,7 +6,7 @@ use Rattle.fast_dict.specs.meaning.Operators.{keeps, mantissa_step}
 use Rattle.fast_dict.specs.meaning.Slots.{slots_dictionary}
 use Rattle.fast_units.specs.device.Deciding.{number_data}
 use Rattle.fast_units.proofs.Deciding.{decided_as, keep_decided}
-use Rattle.fast_units.proofs.numbers.change_mantissa.Goals as goal
+use Rattle.fast_units.proofs.decimals.change_mantissa.Goals as goal
 
 pub returns-clause-decided : goal.returns-clause-decided
 returns-clause-decided c =

@@ -2,7 +2,7 @@ use Rattle.std.proofs.Common.{ap}
 use Rattle.std.specs.Prelude.{Err}
 use Rattle.std.proofs.lemmas.Result.{err_from_is_err_and}
 use Rattle.fast_units.proofs.NextUnits.{refused_natural}
-use Rattle.fast_units.proofs.units.read_integer.Goals as goal
+use Rattle.fast_units.proofs.pending.read_integer.Goals as goal
 
 pub returns-in_err-read_unsigned-in-Unsigned-clause-refused : goal.returns-in_err-read_unsigned-in-Unsigned-clause-refused
 returns-in_err-read_unsigned-in-Unsigned-clause-refused c =

@@ -17,7 +17,7 @@ use Rattle.fast_stream.specs.device.Machine.{behind_exponent, stage_term}
 use Rattle.fast_units.proofs.Turning.{turns_as}
 use Rattle.fast_stream.proofs.streams.Stepping.{exponent-turn}
 use Rattle.fast_units.proofs.LastUnits.{mantissa_next, exponent_here, last_unit, unit_goes, unit_stops, unit_stays, number_within, again}
-use Rattle.fast_units.proofs.numbers.take_exponent_item.Goals as goal
+use Rattle.fast_units.proofs.decimals.take_exponent_item.Goals as goal
 
 pub exponent-requires-clause-low : goal.exponent-requires-clause-low
 exponent-requires-clause-low c =
@@ -51,7 +51,7 @@ returns-in-Whole-Some-default-clause-unit c scratch =
           ∙ ap (λ e. reader_of c.args.limits.strict (mantissa_next (bounds c.args.limits) f p (Some e))) (sym (c.exponent.ensures ∙ again w128 c.in-Whole-Some-default.integer fits))
           ∙ ap (reader_of c.args.limits.strict) (exponent-turn (bounds c.args.limits) f p c.exponent.result)
           ∙ ap (λ e. reader_of c.args.limits.strict (stage_term (bounds c.args.limits) f p (behind_exponent e))) (sym (again w32 c.exponent.result exponent_fits))))
-          (unit_goes c.args.limits.strict (integer (range_data c.range_on_wire-range.result) f.optional R1 give) (mantissa_next (bounds c.args.limits) f p) (reader_of c.args.limits.strict (field_term (bounds c.args.limits) f p true)) (exponent_here c.args.limits.strict (bounds c.args.limits) f p (range_data c.range_on_wire-range.result) c.range_on_wire-range.ensures c.requires.decimals c.requires.no_delta c.requires.no_constant) (c.args.pending.now ++ take c.in-Whole-Some-default.bytes c.args.rest.now) c.in-Whole-Some-default.field-0 t),
+          (unit_goes c.args.limits.strict (integer (range_data c.range_on_wire-range.result) f.optional R1 give) (mantissa_next (bounds c.args.limits) f p) (reader_of c.args.limits.strict (field_term (bounds c.args.limits) f p true)) (exponent_here c.args.limits.strict (bounds c.args.limits) f p (range_data c.range_on_wire-range.result) c.range_on_wire-range.ensures c.requires.decimals c.requires.no_delta c.requires.no_constant) (c.args.pending.now.bytes ++ take c.in-Whole-Some-default.bytes c.args.rest.now) c.in-Whole-Some-default.field-0 t),
     )
 
 pub returns-in-Whole-None-default-clause-unit : goal.returns-in-Whole-None-default-clause-unit
@@ -60,7 +60,7 @@ returns-in-Whole-None-default-clause-unit c scratch =
     let old = slots_dictionary c.args.slots.now in
     let p = previous_at f.entry old in
     last_unit c.args.limits.strict (integer (range_data c.range_on_wire-range.result) f.optional R1 give) (mantissa_next (bounds c.args.limits) f p) (reader_of c.args.limits.strict (field_term (bounds c.args.limits) f p true)) (exponent_here c.args.limits.strict (bounds c.args.limits) f p (range_data c.range_on_wire-range.result) c.range_on_wire-range.ensures c.requires.decimals c.requires.no_delta c.requires.no_constant)
-    f c.args.pending.now c.args.rest.now old (slots_dictionary c.received.new.slots) scratch c.in-Whole-None-default.field-0 c.in-Whole-None-default.bytes
+    f c.args.pending.now.bytes c.args.rest.now old (slots_dictionary c.received.new.slots) scratch c.in-Whole-None-default.field-0 c.in-Whole-None-default.bytes
     (decide f p true null) (Ok c.received.result)
     (ap (mantissa_next (bounds c.args.limits) f p) c.in-Whole-None-default.field-0-is)
     c.received.ensures.decided c.in-Whole-None-default.ensures.unit
@@ -71,11 +71,11 @@ returns-in-Wrong-clause-unit c scratch =
     let old = slots_dictionary c.args.slots.now in
     let p = previous_at f.entry old in
     let (some, within, t) = c.in-Wrong.ensures.unit in
-    (some, within, unit_stops c.args.limits.strict (integer (range_data c.range_on_wire-range.result) f.optional R1 give) (mantissa_next (bounds c.args.limits) f p) (reader_of c.args.limits.strict (field_term (bounds c.args.limits) f p true)) (exponent_here c.args.limits.strict (bounds c.args.limits) f p (range_data c.range_on_wire-range.result) c.range_on_wire-range.ensures c.requires.decimals c.requires.no_delta c.requires.no_constant) (c.args.pending.now ++ take c.in-Wrong.bytes c.args.rest.now) c.in-Wrong.code t)
+    (some, within, unit_stops c.args.limits.strict (integer (range_data c.range_on_wire-range.result) f.optional R1 give) (mantissa_next (bounds c.args.limits) f p) (reader_of c.args.limits.strict (field_term (bounds c.args.limits) f p true)) (exponent_here c.args.limits.strict (bounds c.args.limits) f p (range_data c.range_on_wire-range.result) c.range_on_wire-range.ensures c.requires.decimals c.requires.no_delta c.requires.no_constant) (c.args.pending.now.bytes ++ take c.in-Wrong.bytes c.args.rest.now) c.in-Wrong.code t)
 
 pub returns-in-Cut-clause-unit : goal.returns-in-Cut-clause-unit
 returns-in-Cut-clause-unit c scratch =
     let f = field_data c.args.field.now in
     let old = slots_dictionary c.args.slots.now in
     let p = previous_at f.entry old in
-    (unit_stays c.args.limits.strict (integer (range_data c.range_on_wire-range.result) f.optional R1 give) (mantissa_next (bounds c.args.limits) f p) (reader_of c.args.limits.strict (field_term (bounds c.args.limits) f p true)) (exponent_here c.args.limits.strict (bounds c.args.limits) f p (range_data c.range_on_wire-range.result) c.range_on_wire-range.ensures c.requires.decimals c.requires.no_delta c.requires.no_constant) (c.args.pending.now ++ c.args.rest.now) c.in-Cut.ensures.unit, refl)
+    (unit_stays c.args.limits.strict (integer (range_data c.range_on_wire-range.result) f.optional R1 give) (mantissa_next (bounds c.args.limits) f p) (reader_of c.args.limits.strict (field_term (bounds c.args.limits) f p true)) (exponent_here c.args.limits.strict (bounds c.args.limits) f p (range_data c.range_on_wire-range.result) c.range_on_wire-range.ensures c.requires.decimals c.requires.no_delta c.requires.no_constant) (c.args.pending.now.bytes ++ c.args.rest.now) c.in-Cut.ensures.unit, refl)

@@ -18,7 +18,7 @@ use Rattle.fast_units.specs.declared.units.Run.{Run}
 use Rattle.fast_units.specs.declared.units.Run.TheVariants.{Piece, Scratch}
 use Rattle.fast_units.proofs.LastUnits.{unit_stays}
 use Rattle.fast_units.proofs.TextUnits.{part_vector_field, text_last, one_kept}
-use Rattle.fast_units.proofs.texts.take_part_vector.Goals as goal
+use Rattle.fast_units.proofs.text_deltas.take_part_vector.Goals as goal
 
 pub slice_bounds-part-end : goal.slice_bounds-part-end
 slice_bounds-part-end c =

@@ -19,7 +19,7 @@ use Rattle.fast_units.specs.declared.source.ValueSource.TheVariants as From
 use Rattle.fast_units.specs.declared.stages.Stage.TheVariants.{MantissaDelta}
 use Rattle.fast_units.proofs.Deciding.{none_decided}
 use Rattle.fast_units.proofs.LastUnits.{mantissa_delta_field, last_unit, unit_stops, unit_stays, again}
-use Rattle.fast_units.proofs.numbers.take_mantissa_delta.Goals as goal
+use Rattle.fast_units.proofs.decimals.take_mantissa_delta.Goals as goal
 
 pub returns-in-Whole-Some-default-clause-unit : goal.returns-in-Whole-Some-default-clause-unit
 returns-in-Whole-Some-default-clause-unit c scratch =
@@ -28,9 +28,9 @@ returns-in-Whole-Some-default-clause-unit c scratch =
     let p = previous_at f.entry old in
     let fits : FitsSigned w128 c.in-Whole-Some-default.delta = search rules in
     let exponent_fits : FitsSigned w32 c.args.exponent = search rules in
-    subst (λ q. IsLastUnit (reader_of c.args.limits.strict (term_behind (bounds c.args.limits) f p (MantissaDelta c.args.exponent))) f c.args.pending.now c.args.rest.now old (slots_dictionary c.change_mantissa.new.slots) scratch q) (sym c.settled.ensures)
+    subst (λ q. IsLastUnit (reader_of c.args.limits.strict (term_behind (bounds c.args.limits) f p (MantissaDelta c.args.exponent))) f c.args.pending.now.bytes c.args.rest.now old (slots_dictionary c.change_mantissa.new.slots) scratch q) (sym c.settled.ensures)
     (last_unit c.args.limits.strict (integer delta_range false D2 give) (mantissa_change f p c.args.exponent) (reader_of c.args.limits.strict (term_behind (bounds c.args.limits) f p (MantissaDelta c.args.exponent))) (ap (reader_of c.args.limits.strict) (mantissa_delta_field (bounds c.args.limits) f p c.args.exponent))
-    f c.args.pending.now c.args.rest.now old (slots_dictionary c.change_mantissa.new.slots) scratch c.in-Whole-Some-default.field-0 c.in-Whole-Some-default.bytes
+    f c.args.pending.now.bytes c.args.rest.now old (slots_dictionary c.change_mantissa.new.slots) scratch c.in-Whole-Some-default.field-0 c.in-Whole-Some-default.bytes
     (mantissa_step f p c.args.exponent c.in-Whole-Some-default.delta) c.change_mantissa.result
     (ap (mantissa_change f p c.args.exponent) c.in-Whole-Some-default.field-0-is)
     (subst (λ e. IsDecided (mantissa_step f p e c.in-Whole-Some-default.delta) f old (slots_dictionary c.change_mantissa.new.slots) c.change_mantissa.result) (again w32 c.args.exponent exponent_fits)
@@ -43,7 +43,7 @@ returns-in-Whole-None-default-clause-unit c scratch =
     let old = slots_dictionary c.args.slots.now in
     let p = previous_at f.entry old in
     last_unit c.args.limits.strict (integer delta_range false D2 give) (mantissa_change f p c.args.exponent) (reader_of c.args.limits.strict (term_behind (bounds c.args.limits) f p (MantissaDelta c.args.exponent))) (ap (reader_of c.args.limits.strict) (mantissa_delta_field (bounds c.args.limits) f p c.args.exponent))
-    f c.args.pending.now c.args.rest.now old old scratch c.in-Whole-None-default.field-0 c.in-Whole-None-default.bytes
+    f c.args.pending.now.bytes c.args.rest.now old old scratch c.in-Whole-None-default.field-0 c.in-Whole-None-default.bytes
     (gives_none p) (Ok From.Absent)
     (ap (mantissa_change f p c.args.exponent) c.in-Whole-None-default.field-0-is)
     (none_decided f old) c.in-Whole-None-default.ensures.unit
@@ -53,10 +53,10 @@ returns-in-Wrong-clause-unit c scratch =
     let f = field_data c.args.field.now in
     let p = previous_at f.entry (slots_dictionary c.args.slots.now) in
     let (some, within, t) = c.in-Wrong.ensures.unit in
-    (some, within, unit_stops c.args.limits.strict (integer delta_range false D2 give) (mantissa_change f p c.args.exponent) (reader_of c.args.limits.strict (term_behind (bounds c.args.limits) f p (MantissaDelta c.args.exponent))) (ap (reader_of c.args.limits.strict) (mantissa_delta_field (bounds c.args.limits) f p c.args.exponent)) (c.args.pending.now ++ take c.in-Wrong.bytes c.args.rest.now) c.in-Wrong.code t)
+    (some, within, unit_stops c.args.limits.strict (integer delta_range false D2 give) (mantissa_change f p c.args.exponent) (reader_of c.args.limits.strict (term_behind (bounds c.args.limits) f p (MantissaDelta c.args.exponent))) (ap (reader_of c.args.limits.strict) (mantissa_delta_field (bounds c.args.limits) f p c.args.exponent)) (c.args.pending.now.bytes ++ take c.in-Wrong.bytes c.args.rest.now) c.in-Wrong.code t)
 
 pub returns-in-Cut-clause-unit : goal.returns-in-Cut-clause-unit
 returns-in-Cut-clause-unit c scratch =
     let f = field_data c.args.field.now in
     let p = previous_at f.entry (slots_dictionary c.args.slots.now) in
-    (unit_stays c.args.limits.strict (integer delta_range false D2 give) (mantissa_change f p c.args.exponent) (reader_of c.args.limits.strict (term_behind (bounds c.args.limits) f p (MantissaDelta c.args.exponent))) (ap (reader_of c.args.limits.strict) (mantissa_delta_field (bounds c.args.limits) f p c.args.exponent)) (c.args.pending.now ++ c.args.rest.now) c.in-Cut.ensures.unit, refl)
+    (unit_stays c.args.limits.strict (integer delta_range false D2 give) (mantissa_change f p c.args.exponent) (reader_of c.args.limits.strict (term_behind (bounds c.args.limits) f p (MantissaDelta c.args.exponent))) (ap (reader_of c.args.limits.strict) (mantissa_delta_field (bounds c.args.limits) f p c.args.exponent)) (c.args.pending.now.bytes ++ c.args.rest.now) c.in-Cut.ensures.unit, refl)

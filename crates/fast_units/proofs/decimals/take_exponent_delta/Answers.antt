@@ -18,7 +18,7 @@ use Rattle.fast_units.proofs.Turning.{turns_as}
 use Rattle.fast_stream.proofs.streams.Stepping.{exponent-delta-turn}
 use Rattle.fast_units.proofs.Deciding.{none_decided}
 use Rattle.fast_units.proofs.LastUnits.{exponent_delta_field, last_unit, unit_goes, unit_stops, unit_stays, again}
-use Rattle.fast_units.proofs.numbers.take_exponent_delta.Goals as goal
+use Rattle.fast_units.proofs.decimals.take_exponent_delta.Goals as goal
 
 pub returns-in-Ok-clause-unit : goal.returns-in-Ok-clause-unit
 returns-in-Ok-clause-unit c scratch =
@@ -38,7 +38,7 @@ returns-in-Ok-clause-unit c scratch =
           ∙ ap (reader_of c.args.limits.strict) (exponent-delta-turn (bounds c.args.limits) f p c.in-Whole-Some-default.delta)
           ∙ ap (λ d. reader_of c.args.limits.strict (of_result d >>= (λ e. stage_term (bounds c.args.limits) f p (behind_exponent_delta e)))) step
           ∙ ap (λ e. reader_of c.args.limits.strict (stage_term (bounds c.args.limits) f p (behind_exponent_delta e))) (sym (again w32 c.in-Ok.exponent exponent_fits))))
-          (unit_goes c.args.limits.strict (integer delta_range f.optional D2 give) (decimal_change f p) (reader_of c.args.limits.strict (field_term (bounds c.args.limits) f p true)) (ap (reader_of c.args.limits.strict) (exponent_delta_field (bounds c.args.limits) f p c.requires.decimals c.requires.delta)) (c.args.pending.now ++ take c.in-Whole-Some-default.bytes c.args.rest.now) c.in-Whole-Some-default.field-0 t),
+          (unit_goes c.args.limits.strict (integer delta_range f.optional D2 give) (decimal_change f p) (reader_of c.args.limits.strict (field_term (bounds c.args.limits) f p true)) (ap (reader_of c.args.limits.strict) (exponent_delta_field (bounds c.args.limits) f p c.requires.decimals c.requires.delta)) (c.args.pending.now.bytes ++ take c.in-Whole-Some-default.bytes c.args.rest.now) c.in-Whole-Some-default.field-0 t),
     )
 
 pub returns-in-Err-clause-unit : goal.returns-in-Err-clause-unit
@@ -55,7 +55,7 @@ returns-in-Err-clause-unit c scratch =
       turns_as refl (sym (ap (λ x. reader_of c.args.limits.strict (decimal_change f p x)) c.in-Whole-Some-default.field-0-is
           ∙ ap (reader_of c.args.limits.strict) (exponent-delta-turn (bounds c.args.limits) f p c.in-Whole-Some-default.delta)
           ∙ ap (λ d. reader_of c.args.limits.strict (of_result d >>= (λ e. stage_term (bounds c.args.limits) f p (behind_exponent_delta e)))) step))
-          (unit_goes c.args.limits.strict (integer delta_range f.optional D2 give) (decimal_change f p) (reader_of c.args.limits.strict (field_term (bounds c.args.limits) f p true)) (ap (reader_of c.args.limits.strict) (exponent_delta_field (bounds c.args.limits) f p c.requires.decimals c.requires.delta)) (c.args.pending.now ++ take c.in-Whole-Some-default.bytes c.args.rest.now) c.in-Whole-Some-default.field-0 t),
+          (unit_goes c.args.limits.strict (integer delta_range f.optional D2 give) (decimal_change f p) (reader_of c.args.limits.strict (field_term (bounds c.args.limits) f p true)) (ap (reader_of c.args.limits.strict) (exponent_delta_field (bounds c.args.limits) f p c.requires.decimals c.requires.delta)) (c.args.pending.now.bytes ++ take c.in-Whole-Some-default.bytes c.args.rest.now) c.in-Whole-Some-default.field-0 t),
     )
 
 pub returns-in-Whole-None-default-clause-unit : goal.returns-in-Whole-None-default-clause-unit
@@ -64,7 +64,7 @@ returns-in-Whole-None-default-clause-unit c scratch =
     let old = slots_dictionary c.args.slots.now in
     let p = previous_at f.entry old in
     last_unit c.args.limits.strict (integer delta_range f.optional D2 give) (decimal_change f p) (reader_of c.args.limits.strict (field_term (bounds c.args.limits) f p true)) (ap (reader_of c.args.limits.strict) (exponent_delta_field (bounds c.args.limits) f p c.requires.decimals c.requires.delta))
-    f c.args.pending.now c.args.rest.now old old scratch c.in-Whole-None-default.field-0 c.in-Whole-None-default.bytes
+    f c.args.pending.now.bytes c.args.rest.now old old scratch c.in-Whole-None-default.field-0 c.in-Whole-None-default.bytes
     (gives_none p) (Ok From.Absent)
     (ap (decimal_change f p) c.in-Whole-None-default.field-0-is)
     (none_decided f old) c.in-Whole-None-default.ensures.unit
@@ -75,11 +75,11 @@ returns-in-Wrong-clause-unit c scratch =
     let old = slots_dictionary c.args.slots.now in
     let p = previous_at f.entry old in
     let (some, within, t) = c.in-Wrong.ensures.unit in
-    (some, within, unit_stops c.args.limits.strict (integer delta_range f.optional D2 give) (decimal_change f p) (reader_of c.args.limits.strict (field_term (bounds c.args.limits) f p true)) (ap (reader_of c.args.limits.strict) (exponent_delta_field (bounds c.args.limits) f p c.requires.decimals c.requires.delta)) (c.args.pending.now ++ take c.in-Wrong.bytes c.args.rest.now) c.in-Wrong.code t)
+    (some, within, unit_stops c.args.limits.strict (integer delta_range f.optional D2 give) (decimal_change f p) (reader_of c.args.limits.strict (field_term (bounds c.args.limits) f p true)) (ap (reader_of c.args.limits.strict) (exponent_delta_field (bounds c.args.limits) f p c.requires.decimals c.requires.delta)) (c.args.pending.now.bytes ++ take c.in-Wrong.bytes c.args.rest.now) c.in-Wrong.code t)
 
 pub returns-in-Cut-clause-unit : goal.returns-in-Cut-clause-unit
 returns-in-Cut-clause-unit c scratch =
     let f = field_data c.args.field.now in
     let old = slots_dictionary c.args.slots.now in
     let p = previous_at f.entry old in
-    (unit_stays c.args.limits.strict (integer delta_range f.optional D2 give) (decimal_change f p) (reader_of c.args.limits.strict (field_term (bounds c.args.limits) f p true)) (ap (reader_of c.args.limits.strict) (exponent_delta_field (bounds c.args.limits) f p c.requires.decimals c.requires.delta)) (c.args.pending.now ++ c.args.rest.now) c.in-Cut.ensures.unit, refl)
+    (unit_stays c.args.limits.strict (integer delta_range f.optional D2 give) (decimal_change f p) (reader_of c.args.limits.strict (field_term (bounds c.args.limits) f p true)) (ap (reader_of c.args.limits.strict) (exponent_delta_field (bounds c.args.limits) f p c.requires.decimals c.requires.delta)) (c.args.pending.now.bytes ++ c.args.rest.now) c.in-Cut.ensures.unit, refl)

@@ -18,13 +18,13 @@ use Rattle.fast_units.proofs.LastUnits.{unit_stops, unit_stays, number_within}
 use Rattle.fast_wire.specs.meaning.Integers.{IsWithin}
 use Rattle.fast_units.proofs.TextSizes.{size_again}
 use Rattle.fast_units.proofs.TextUnits.{part_size_field, text_next}
-use Rattle.fast_units.proofs.texts.take_part_size.Goals as goal
+use Rattle.fast_units.proofs.text_deltas.take_part_size.Goals as goal
 
 pub size_of-size-requires : goal.size_of-size-requires
 size_of-size-requires c =
     let l = c.args.limits in
     let (some, within, turns) = c.in-Whole.ensures.unit in
-    let in_range = number_within l.strict (unsigned_range 32) (unsigned_range 32) false D2 (c.args.pending.now ++ take c.in-Whole.bytes c.args.rest.now) (Some (pos c.in-Whole.size)) (pos c.in-Whole.size) refl refl turns in
+    let in_range = number_within l.strict (unsigned_range 32) (unsigned_range 32) false D2 (c.args.pending.now.bytes ++ take c.in-Whole.bytes c.args.rest.now) (Some (pos c.in-Whole.size)) (pos c.in-Whole.size) refl refl turns in
     let same = ap (λ (z : ℤ). to_z w128 (of_z w128 z)) c.from.ensures ∙ size_again (pos c.in-Whole.size) in_range in
     subst (λ (z : ℤ). IsWithin (unsigned_range 32) z) (sym same) in_range
 
@@ -37,12 +37,12 @@ returns-in-Whole-clause-unit c scratch =
     let k = c.args.subtraction in
     let (is_text, delta, found) = c.requires.stage in
     let (kept, step) = found in
-    let front = c.args.pending.now in
+    let front = c.args.pending.now.bytes in
     let here : reader_behind l f old (Part k) ≡ _ = ap (reader_of l.strict) (part_size_field (bounds l) f p k kept step c.requires.kind) in
     let g = integer (unsigned_range 32) false D2 give in
     let next : Option ℤ → Grammar _ = behind_part_size (bounds l) f p kept in
     let (some, within, turns) = c.in-Whole.ensures.unit in
-    let in_range = number_within l.strict (unsigned_range 32) (unsigned_range 32) false D2 (c.args.pending.now ++ take c.in-Whole.bytes c.args.rest.now) (Some (pos c.in-Whole.size)) (pos c.in-Whole.size) refl refl turns in
+    let in_range = number_within l.strict (unsigned_range 32) (unsigned_range 32) false D2 (c.args.pending.now.bytes ++ take c.in-Whole.bytes c.args.rest.now) (Some (pos c.in-Whole.size)) (pos c.in-Whole.size) refl refl turns in
     let same = ap (λ (z : ℤ). to_z w128 (of_z w128 z)) c.from.ensures ∙ size_again (pos c.in-Whole.size) in_range in
     let n = c.in-Whole.bytes in
     text_next l g next (reader_behind l f old (Part k)) here f front c.args.rest.now old (slots_dictionary c.part_vector_next.new.slots) scratch n (Some (pos c.in-Whole.size)) c.in-Whole.ensures.unit
@@ -60,7 +60,7 @@ returns-in-Wrong-clause-unit c scratch =
     let k = c.args.subtraction in
     let (is_text, delta, found) = c.requires.stage in
     let (kept, step) = found in
-    let front = c.args.pending.now in
+    let front = c.args.pending.now.bytes in
     let here : reader_behind l f old (Part k) ≡ _ = ap (reader_of l.strict) (part_size_field (bounds l) f p k kept step c.requires.kind) in
     let g = integer (unsigned_range 32) false D2 give in
     let next : Option ℤ → Grammar _ = behind_part_size (bounds l) f p kept in
@@ -76,7 +76,7 @@ returns-in-Cut-clause-unit c scratch =
     let k = c.args.subtraction in
     let (is_text, delta, found) = c.requires.stage in
     let (kept, step) = found in
-    let front = c.args.pending.now in
+    let front = c.args.pending.now.bytes in
     let here : reader_behind l f old (Part k) ≡ _ = ap (reader_of l.strict) (part_size_field (bounds l) f p k kept step c.requires.kind) in
     let g = integer (unsigned_range 32) false D2 give in
     let next : Option ℤ → Grammar _ = behind_part_size (bounds l) f p kept in

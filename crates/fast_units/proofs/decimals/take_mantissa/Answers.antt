@@ -16,7 +16,7 @@ use Rattle.fast_units.specs.device.Stages.{term_behind}
 use Rattle.fast_units.specs.device.Deciding.{sent_number}
 use Rattle.fast_units.specs.declared.stages.Stage.TheVariants.{Mantissa}
 use Rattle.fast_units.proofs.LastUnits.{behind_mantissa, mantissa_field, last_unit, unit_stops, unit_stays, number_within, again}
-use Rattle.fast_units.proofs.numbers.take_mantissa.Goals as goal
+use Rattle.fast_units.proofs.decimals.take_mantissa.Goals as goal
 
 pub decimal-number-requires-clause-low : goal.decimal-number-requires-clause-low
 decimal-number-requires-clause-low c =
@@ -40,7 +40,7 @@ returns-in-Whole-Some-default-clause-unit c scratch =
     let fits : FitsSigned w128 c.in-Whole-Some-default.mantissa = search rules in
     let exponent_fits : FitsSigned w32 c.args.exponent = search rules in
     last_unit c.args.limits.strict (integer (signed_range 63) false R1 give) (behind_mantissa (bounds c.args.limits) f p c.args.exponent) (reader_of c.args.limits.strict (term_behind (bounds c.args.limits) f p (Mantissa c.args.exponent))) (ap (reader_of c.args.limits.strict) (mantissa_field (bounds c.args.limits) f p c.args.exponent))
-    f c.args.pending.now c.args.rest.now old (slots_dictionary c.received.new.slots) scratch c.in-Whole-Some-default.field-0 c.in-Whole-Some-default.bytes
+    f c.args.pending.now.bytes c.args.rest.now old (slots_dictionary c.received.new.slots) scratch c.in-Whole-Some-default.field-0 c.in-Whole-Some-default.bytes
     (decide f p true (sent_number (Some c.decimal-number.result))) (Ok c.received.result)
     (ap (behind_mantissa (bounds c.args.limits) f p c.args.exponent) c.in-Whole-Some-default.field-0-is
     ∙ ap (λ x. of_result (decide f p true (value (Dec c.args.exponent x)))) (sym (again w128 c.in-Whole-Some-default.mantissa fits))
@@ -54,7 +54,7 @@ returns-in-Whole-None-default-clause-unit c scratch =
     let old = slots_dictionary c.args.slots.now in
     let p = previous_at f.entry old in
     last_unit c.args.limits.strict (integer (signed_range 63) false R1 give) (behind_mantissa (bounds c.args.limits) f p c.args.exponent) (reader_of c.args.limits.strict (term_behind (bounds c.args.limits) f p (Mantissa c.args.exponent))) (ap (reader_of c.args.limits.strict) (mantissa_field (bounds c.args.limits) f p c.args.exponent))
-    f c.args.pending.now c.args.rest.now old (slots_dictionary c.received-in-Whole-None-default.new.slots) scratch c.in-Whole-None-default.field-0 c.in-Whole-None-default.bytes
+    f c.args.pending.now.bytes c.args.rest.now old (slots_dictionary c.received-in-Whole-None-default.new.slots) scratch c.in-Whole-None-default.field-0 c.in-Whole-None-default.bytes
     (decide f p true null) (Ok c.received-in-Whole-None-default.result)
     (ap (behind_mantissa (bounds c.args.limits) f p c.args.exponent) c.in-Whole-None-default.field-0-is)
     c.received-in-Whole-None-default.ensures.decided c.in-Whole-None-default.ensures.unit
@@ -64,10 +64,10 @@ returns-in-Wrong-clause-unit c scratch =
     let f = field_data c.args.field.now in
     let p = previous_at f.entry (slots_dictionary c.args.slots.now) in
     let (some, within, t) = c.in-Wrong.ensures.unit in
-    (some, within, unit_stops c.args.limits.strict (integer (signed_range 63) false R1 give) (behind_mantissa (bounds c.args.limits) f p c.args.exponent) (reader_of c.args.limits.strict (term_behind (bounds c.args.limits) f p (Mantissa c.args.exponent))) (ap (reader_of c.args.limits.strict) (mantissa_field (bounds c.args.limits) f p c.args.exponent)) (c.args.pending.now ++ take c.in-Wrong.bytes c.args.rest.now) c.in-Wrong.code t)
+    (some, within, unit_stops c.args.limits.strict (integer (signed_range 63) false R1 give) (behind_mantissa (bounds c.args.limits) f p c.args.exponent) (reader_of c.args.limits.strict (term_behind (bounds c.args.limits) f p (Mantissa c.args.exponent))) (ap (reader_of c.args.limits.strict) (mantissa_field (bounds c.args.limits) f p c.args.exponent)) (c.args.pending.now.bytes ++ take c.in-Wrong.bytes c.args.rest.now) c.in-Wrong.code t)
 
 pub returns-in-Cut-clause-unit : goal.returns-in-Cut-clause-unit
 returns-in-Cut-clause-unit c scratch =
     let f = field_data c.args.field.now in
     let p = previous_at f.entry (slots_dictionary c.args.slots.now) in
-    (unit_stays c.args.limits.strict (integer (signed_range 63) false R1 give) (behind_mantissa (bounds c.args.limits) f p c.args.exponent) (reader_of c.args.limits.strict (term_behind (bounds c.args.limits) f p (Mantissa c.args.exponent))) (ap (reader_of c.args.limits.strict) (mantissa_field (bounds c.args.limits) f p c.args.exponent)) (c.args.pending.now ++ c.args.rest.now) c.in-Cut.ensures.unit, refl)
+    (unit_stays c.args.limits.strict (integer (signed_range 63) false R1 give) (behind_mantissa (bounds c.args.limits) f p c.args.exponent) (reader_of c.args.limits.strict (term_behind (bounds c.args.limits) f p (Mantissa c.args.exponent))) (ap (reader_of c.args.limits.strict) (mantissa_field (bounds c.args.limits) f p c.args.exponent)) (c.args.pending.now.bytes ++ c.args.rest.now) c.in-Cut.ensures.unit, refl)
