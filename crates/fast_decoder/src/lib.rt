@@ -9,6 +9,7 @@ mod quick_decimals;
 mod quick_fields;
 mod quick_kinds;
 mod quick_starts;
+mod quick_texts;
 mod quick_units;
 pub mod recorder;
 mod settling;

@@ -316,6 +316,7 @@ impl<'t> Machine<'t> {
             }
             Waiting::Map => self.begin_quickly(templates, limits, rest, sink),
             Waiting::SegmentMap(_) => self.open_quickly(templates, limits, rest, sink),
+            Waiting::Text => self.take_block_text(templates, limits, rest, sink),
             _ => None,
         }
     }

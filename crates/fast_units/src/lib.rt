@@ -7,6 +7,7 @@ pub mod progress;
 pub mod scalars;
 pub mod scratch;
 pub mod short_integers;
+pub mod short_texts;
 pub mod source;
 pub mod stages;
 pub mod text_outcomes;
