@@ -11,6 +11,7 @@ mod quick_kinds;
 mod quick_starts;
 mod quick_texts;
 mod quick_units;
+mod quick_wholes;
 pub mod recorder;
 mod settling;
 mod stepping;

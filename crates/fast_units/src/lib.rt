@@ -6,6 +6,7 @@ pub mod numbers;
 pub mod progress;
 pub mod scalars;
 pub mod scratch;
+pub mod short_decimals;
 pub mod short_integers;
 pub mod short_texts;
 pub mod source;
