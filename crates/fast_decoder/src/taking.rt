@@ -792,7 +792,7 @@ impl<'t> Machine<'t> {
                     outcome: Ok(()),
                 },
                 _ => {
-                    let run = self.run(templates, limits, &rest[unit.bytes..], sink);
+                    let run = self.go_on(templates, limits, &rest[unit.bytes..], sink);
                     PieceTaken {
                         bytes: unit.bytes + run.bytes,
                         outcome: run.outcome(),

@@ -173,7 +173,7 @@ pub fn take_mantissa(
 
 /// A decimal.
 #[inline]
-fn decimal(exponent: i32, mantissa: i128) -> Number
+pub fn decimal(exponent: i32, mantissa: i128) -> Number
     requires low { (signed_range 63).low ≤ℤ mantissa }
     requires high { mantissa ≤ℤ (signed_range 63).high }
     ensures { number_data result ≡ Dec exponent mantissa }
