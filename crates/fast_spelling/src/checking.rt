@@ -101,8 +101,14 @@ pub fn try_body(plan: &Plan<'_>, body: &[u32], slots: &[Option<Item>], work: &mu
     }
     for (i, slot) in slots.iter().enumerate() {
         let node = body[i];
-        let Some(Item::One(value)) = slot else {
-            if !try_other_slot(plan, node, slot, work) {
+        let Some(item) = slot else {
+            if try_none(plan, node, work).is_err() {
+                return false;
+            }
+            continue;
+        };
+        let Item::One(value) = item else {
+            if !try_item(plan, node, item, work) {
                 return false;
             }
             continue;
@@ -166,26 +172,6 @@ pub fn try_body(plan: &Plan<'_>, body: &[u32], slots: &[Option<Item>], work: &mu
         }
     }
     true
-}
-
-/// Writes what stands in the slot of the instruction of a node, where that is no value.
-#[cycle(check)]
-#[inline(always)]
-fn try_other_slot(plan: &Plan<'_>, node: u32, slot: &Option<Item>, work: &mut Work) -> bool
-    requires node { node < length (nodes_of plan.now.templates.now) }
-    requires ready { IsReady plan.now.templates.now plan.now.limits work.old.ledger }
-    ensures accepted { IsTrue result
-        → (IsAccepted plan.now.limits (instruction_in (nodes_of plan.now.templates.now) node)
-        (option_map item_data slot.now) work.old.room work.new.room) }
-    ensures ok { IsTrue result
-        → (Wrote (Encodes plan.now.limits (instruction_in (nodes_of plan.now.templates.now) node) work.old.ledger.now
-        (option_map item_data slot.now)) work.old.draft work.new.draft work.new.ledger.now) }
-    ensures keeps { Keeps work.old.ledger work.new.ledger }
-{
-    match slot {
-        Some(item) => try_item(plan, node, item, work),
-        None => try_none(plan, node, work).is_ok(),
-    }
 }
 
 /// The form of a node.

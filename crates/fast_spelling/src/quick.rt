@@ -441,10 +441,7 @@ fn decimal_delta(base: Scalar<'_>, value: Scalar<'_>) -> Sent<'static>
         (exponent_of (scalar_data value.entry) -ℤ exponent_of (scalar_data base.entry))
         (mantissa_of (scalar_data value.entry) -ℤ mantissa_of (scalar_data base.entry)) }
 {
-    Sent::DecimalDelta(
-        exponent_of(value) - exponent_of(base),
-        mantissa_of(value) - mantissa_of(base),
-    )
+    Sent::DecimalDelta(exponents_apart(value, base), mantissas_apart(value, base))
 }
 
 /// Writes a field that has an ASCII string.
@@ -1000,6 +997,24 @@ fn is_same_long_text(a: &[u8], b: &[u8]) -> bool
     ensures { IsTrue result ↔ (a.now ≡ b.now) }
 {
     a == b
+}
+
+/// How much greater one exponent is than another.
+#[inline(always)]
+fn exponents_apart(a: Scalar<'_>, b: Scalar<'_>) -> i128
+    ensures value { result ≡ exponent_of (scalar_data a.entry) -ℤ exponent_of (scalar_data b.entry) }
+    ensures small { IsWithin (signed_range 68) result }
+{
+    exponent_of(a) - exponent_of(b)
+}
+
+/// How much greater one mantissa is than another.
+#[inline(always)]
+fn mantissas_apart(a: Scalar<'_>, b: Scalar<'_>) -> i128
+    ensures value { result ≡ mantissa_of (scalar_data a.entry) -ℤ mantissa_of (scalar_data b.entry) }
+    ensures small { IsWithin (signed_range 68) result }
+{
+    mantissa_of(a) - mantissa_of(b)
 }
 
 /// How much greater one integer is than another.

@@ -34,9 +34,6 @@ invariant-try_item-loop-row l = record {
 abbrev pub decreases-try_body : goal.decreases-try_body
 decreases-try_body l = 4 * slots_depth (slots_data l.slots.now) + 2
 
-abbrev pub decreases-try_slot : goal.decreases-try_slot
-decreases-try_slot l = 4 * option_depth (option_map item_data l.slot.now) + 1
-
 abbrev pub decreases-try_item : goal.decreases-try_item
 decreases-try_item l = 4 * item_depth (item_data l.item.now)
 
