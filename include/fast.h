@@ -1,5 +1,5 @@
 // A decoder and an encoder of FAST 1.1 streams, proved in Rattle. For C11 and C++11 on x86-64 and other machines of 64 bits, the least
-// byte first. Link with libfast_c.a, which `rt lib` makes in crates/fast_c, and with heap.c or another heap (below).
+// byte first. Link with libfast_c.a, which `tools/library fast_c` makes, and with heap.c or another heap (below).
 //
 // A set is made of a template text; decoders and encoders are made of a set. What is behind a pointer is the library's: it is never
 // looked into, copied or moved. Nobody calls with one pointer from two threads at once, nor gives one to another thread: the proofs

@@ -154,18 +154,131 @@ def without_bodies(crate, texts, kept):
     return cut, folders
 
 
-def head_line(lines, fn):
-    """Returns the place of the line that opens a function's body, or None where the body has no line of its own, or is evaluated by the
-    compiler or called from C."""
-    head = next(it for it in range(fn.first - 1, fn.last) if re.match(r"\s*(pub(\(.*?\))? )?((final|const|unsafe|extern \"C\") )*fn ", lines[it]))
-    if re.search(r"\b(const|extern) .*\bfn\b", lines[head].partition("fn")[0] + "fn"):
-        return None
+def users_of_constant(crate, texts, logic, file, at):
+    """Returns the functions that name the constant which a place of a file defines, none where the place is in no constant, or where
+    a contract, a type, a macro or a text of the logic names it, so that more may depend on it than bodies."""
+    line = texts[file][texts[file].rfind("\n", 0, at) + 1 :].partition("\n")[0]
+    named = constant_in(line)
+    if not named or any(re.search(rf"\b{named}\b", text) for text in logic):
+        return set()
+    found = set()
+    for name, text in texts.items():
+        lines = text.split("\n")
+        own = functions_of(crate, name, text)
+        for number, other in enumerate(lines, 1):
+            bare = other.partition("//")[0]
+            if not re.search(rf"\b{named}\b", bare) or name == file and other == line or re.match(r"(pub )?use .*;$", bare):
+                continue
+            fn = next((it for it in own if it.first <= number <= it.last), None)
+            opens = body_line(lines, fn) if fn else None
+            if opens is None or number <= opens + 1:
+                return set()
+            found.add(fn.path)
+    return found
+
+
+@dataclass(frozen=True)
+class Copy:
+    """A function that stands beside another as it is, under a name of its own, or with what a mutant changes."""
+
+    fn: Function
+    suffix: str
+    pairs: tuple
+    # The constants that it names by other names, since a mutant changes them.
+    constants: tuple = ()
+
+    @property
+    def path(self):
+        return self.fn.path + self.suffix
+
+    @property
+    def owned(self):
+        return self.fn.owned + self.suffix
+
+
+def can_be_copied(room, fn, modules_of_types, text):
+    """Returns whether a function can stand once more in its crate under another name, with its proof: it is no method of a trait and in no
+    cycle of calls, and all of its proof is its answers and invariants."""
+    folder = None if fn.cycle else proof_folder(fn, modules_of_types)
+    if not folder or body_line(text.split("\n"), fn) is None or re.search(rf"(?m)^(pub )?trait {fn.owned.split('::')[0]}\b", text):
+        return False
+    found = os.listdir(f"{room}/proofs/{folder}") if os.path.isdir(f"{room}/proofs/{folder}") else []
+    return all(it in ("Answers.antt", "Invariants.antt") for it in found) and not os.path.exists(f"{room}/proofs/{folder}.antt")
+
+
+def with_copies(crate, texts, copies):
+    """Returns the texts of a crate's files with these copies, each behind its function, and mutated constants behind theirs."""
+    result = {}
+    for file, text in texts.items():
+        lines, added = text.split("\n"), {}
+        places = {fn.path: fn for fn in functions_of(crate, file, text)}
+        for it in copies:
+            for place, old, new in it.constants:
+                if place == file:
+                    at = text[: text.index(old)].count("\n") + 1
+                    name = constant_in(lines[at - 1])
+                    changed = lines[at - 1].replace(old, new).replace(f"const {name}:", f"const {name}{it.suffix.upper()}:")
+                    added.setdefault(at, {})[changed] = None
+            if it.fn.file != file:
+                continue
+            fn = places[it.fn.path]
+            body = "\n".join(lines[fn.first - 1 : fn.last])
+            for old, new in it.pairs:
+                body = body.replace(old, new)
+            for place, old, _ in it.constants:
+                name = constant_in(next(line for line in texts[place].split("\n") if old in line))
+                body = re.sub(rf"\b{name}\b", f"{name}{it.suffix.upper()}", body)
+            name = fn.path.split("::")[-1]
+            added.setdefault(fn.last, {})[re.sub(rf"\bfn {name}\b", f"fn {name}{it.suffix}", body, count=1)] = None
+        for at in sorted(added, reverse=True):
+            lines[at:at] = list(added[at])
+        if added:
+            result[file] = "\n".join(lines)
+    return result
+
+
+def copy_proofs(room, crate, copies, modules_of_types):
+    """Gives each copy of a function the proof of that function, which speaks of the copy by its name."""
+    for it in copies:
+        folder = proof_folder(it.fn, modules_of_types)
+        for name in os.listdir(f"{room}/proofs/{folder}") if os.path.isdir(f"{room}/proofs/{folder}") else []:
+            with open(f"{room}/proofs/{folder}/{name}", encoding="utf-8") as own:
+                said = own.read()
+            dotted = folder.replace("/", ".")
+            for part in ("proofs", "specs.contracts"):
+                said = said.replace(f"Rattle.{crate}.{part}.{dotted}.", f"Rattle.{crate}.{part}.{dotted}{it.suffix}.")
+            os.makedirs(f"{room}/proofs/{folder}{it.suffix}", exist_ok=True)
+            with open(f"{room}/proofs/{folder}{it.suffix}/{name}", "w", encoding="utf-8") as copy:
+                copy.write(said)
+
+
+def constant_in(line):
+    """Returns the name of the constant that a line defines, if it does."""
+    named = re.match(r"\s*(?:pub(?:\(.*?\))? )?const (\w+): [^=]* = [^{]*;$", line)
+    return named and named[1]
+
+
+def head_of(lines, fn):
+    """Returns the place of the line with a function's name."""
+    return next(it for it in range(fn.first - 1, fn.last) if re.match(r"\s*(pub(\(.*?\))? )?((final|const|unsafe|extern \"C\") )*fn ", lines[it]))
+
+
+def body_line(lines, fn):
+    """Returns the place of the line that opens a function's body, or None where the body has no line of its own."""
+    head = head_of(lines, fn)
     indent = len(lines[head]) - len(lines[head].lstrip())
     for number in range(head, fn.last - 2):
         line = lines[number]
         if line.endswith("{") and len(line) - len(line.lstrip()) == indent:
             return number
     return None
+
+
+def head_line(lines, fn):
+    """Returns the place of the line that opens a function's body, or None where the body has no line of its own, or is evaluated by the
+    compiler or called from C."""
+    is_fixed = re.search(r"\b(const|extern) .*\bfn\b", lines[head_of(lines, fn)].partition("fn")[0] + "fn")
+    return None if is_fixed else body_line(lines, fn)
 
 
 def leave_holes(room, crate, folders):
@@ -182,13 +295,29 @@ def leave_holes(room, crate, folders):
             it.write(HOLE.format(crate=crate, folder=folder.replace("/", "."), name=name))
 
 
+def answers_folder(room, fn, modules_of_types, texts):
+    """Returns the folder of a function's answers below proofs/, that of its cycle where it is in one, or None where it is not known."""
+    module = [it for it in module_of(fn.file).split("::") if it]
+    if fn.cycle:
+        found = [it for it, _, _ in os.walk(f"{room}/proofs/{'/'.join(module)}") if os.path.basename(it) == f"+{fn.cycle}"]
+        return os.path.relpath(found[0], f"{room}/proofs") if len(found) == 1 else None
+    if folder := proof_folder(fn, modules_of_types):
+        return folder
+    # A method of a trait's impl has the folder that its path has, where type and impl stand in one module.
+    names = fn.path.split("::")[1:]
+    own = names[len(module) :]
+    beside = [it[1] for it in TYPE.finditer(texts[fn.file])] + re.findall(r"(?m)^(?:pub )?trait (\w+)", texts[fn.file])
+    return "/".join(names) if len(own) == 2 and any(own[0].startswith(it) for it in beside) else None
+
+
 def leave_unoffered(room, crate, texts, paths):
     """Adds to the answers of each of these functions one that is wrong: of a function with such an answer a check tells which goals are
     open, and does not look for the file to offer, which takes as long as to find the open goals."""
-    modules_of_types = modules_in(texts)
+    modules_of_types, done = modules_in(texts), set()
     for fn in (it for file, text in texts.items() for it in functions_of(crate, file, text)):
-        folder = proof_folder(fn, modules_of_types) if fn.path in paths and not fn.cycle else None
-        if folder and not os.path.isfile(f"{room}/proofs/{folder}/Proof.antt"):
+        folder = answers_folder(room, fn, modules_of_types, texts) if fn.path in paths else None
+        if folder and folder not in done and not os.path.isfile(f"{room}/proofs/{folder}/Proof.antt"):
+            done.add(folder)
             os.makedirs(f"{room}/proofs/{folder}", exist_ok=True)
             with open(f"{room}/proofs/{folder}/Answers.antt", "a", encoding="utf-8") as it:
                 it.write(UNOFFERED.format(name=NO_OFFER))

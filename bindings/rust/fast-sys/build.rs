@@ -1,4 +1,4 @@
-// FAST_C_DIR is the folder of libfast_c.a, which `rt lib` makes (crates/fast_c/out).
+// FAST_C_DIR is the folder of libfast_c.a, which `tools/library fast_c` makes (crates/fast_c/out).
 fn main() {
     println!("cargo:rerun-if-env-changed=FAST_C_DIR");
     let dir = std::env::var("FAST_C_DIR").expect("FAST_C_DIR names the folder of libfast_c.a");

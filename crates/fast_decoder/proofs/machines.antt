@@ -1,4 +1,5 @@
 -- What the machine's functions do with each kind of unit.
+pub mod BlockTexts
 pub mod CutMaps
 pub mod Quick
 pub mod QuickSteps

@@ -10,9 +10,9 @@ use crate::turns::Turns;
 use fast_cursor::cursor::Cursor;
 use fast_dict::Slots;
 use fast_template::FieldInstruction;
+use fast_units::pending::Pending;
 use fast_units::scratch::Scratch;
 use fast_units::stages::Stage;
-use fast_wire::Entity;
 
 /// Which unit a machine waits for.
 #[derive(Clone, Copy, Debug, PartialEq, Eq)]
@@ -56,7 +56,7 @@ pub struct Machine<'t> {
     /// The previous values.
     pub slots: Slots,
     /// The bytes of an integer that a piece has cut.
-    pub entity: Entity,
+    pub entity: Pending,
     /// The bytes of a text that a piece has cut, and the last text that was not lent from the piece.
     pub text: Scratch,
     /// The last text that was joined of two parts.

@@ -142,17 +142,6 @@ impl<'t> Machine<'t> {
                 rest,
                 sink,
             ),
-            Sending::Increment => self.pass_signed(
-                templates,
-                limits,
-                number,
-                Kind::Int32,
-                -2_147_483_648,
-                2_147_483_647,
-                sending,
-                rest,
-                sink,
-            ),
             Sending::Delta => self.pass_delta(
                 templates,
                 limits,
@@ -175,6 +164,7 @@ impl<'t> Machine<'t> {
             | Sending::NullablePlain
             | Sending::NullableDefault
             | Sending::NullableCopy
+            | Sending::Increment
             | Sending::NullableIncrement => self.pass_signed(
                 templates,
                 limits,
@@ -318,17 +308,6 @@ impl<'t> Machine<'t> {
                 rest,
                 sink,
             ),
-            Sending::Increment => self.pass_signed(
-                templates,
-                limits,
-                number,
-                Kind::Int64,
-                -9_223_372_036_854_775_808,
-                9_223_372_036_854_775_807,
-                sending,
-                rest,
-                sink,
-            ),
             Sending::Delta => self.pass_delta(
                 templates,
                 limits,
@@ -351,6 +330,7 @@ impl<'t> Machine<'t> {
             | Sending::NullablePlain
             | Sending::NullableDefault
             | Sending::NullableCopy
+            | Sending::Increment
             | Sending::NullableIncrement => self.pass_signed(
                 templates,
                 limits,

@@ -115,7 +115,7 @@ impl<'t> Machine<'t> {
     /// Behind the entity of the next instruction, a field of integers, whose number or NULL the dictionary has kept: hands a number
     /// over, and goes past the field.
     #[inline(always)]
-    fn sent<S: Sink>(
+    pub fn sent<S: Sink>(
         &mut self,
         number: u32,
         field: &FieldInstruction,
@@ -159,7 +159,7 @@ impl<'t> Machine<'t> {
         requires no_delta { sending_operator sending ≢ Operator.Delta }
         requires waits { self.old.waiting ≡ Waiting.Field }
         requires ready { IsReady (set_of templates.now) limits self.old }
-        requires none { self.old.entity ≡ [] }
+        requires none { self.old.entity.bytes ≡ [] }
         requires next { first_node self.old.cursor.left ≡ Some number }
         requires within { number < length (set_of templates.now).nodes }
         requires integers { family kind ≡ integers (range_of kind) }
@@ -213,7 +213,7 @@ impl<'t> Machine<'t> {
         requires no_delta { sending_operator sending ≢ Operator.Delta }
         requires waits { self.old.waiting ≡ Waiting.Field }
         requires ready { IsReady (set_of templates.now) limits self.old }
-        requires none { self.old.entity ≡ [] }
+        requires none { self.old.entity.bytes ≡ [] }
         requires next { first_node self.old.cursor.left ≡ Some number }
         requires within { number < length (set_of templates.now).nodes }
         requires integers { family kind ≡ integers (range_of kind) }
@@ -265,7 +265,7 @@ impl<'t> Machine<'t> {
         requires delta { sending_operator sending ≡ Operator.Delta }
         requires waits { self.old.waiting ≡ Waiting.Field }
         requires ready { IsReady (set_of templates.now) limits self.old }
-        requires none { self.old.entity ≡ [] }
+        requires none { self.old.entity.bytes ≡ [] }
         requires next { first_node self.old.cursor.left ≡ Some number }
         requires within { number < length (set_of templates.now).nodes }
         requires integers { family kind ≡ integers (range_of kind) }
@@ -316,6 +316,8 @@ impl<'t> Machine<'t> {
             }
             Waiting::Map => self.begin_quickly(templates, limits, rest, sink),
             Waiting::SegmentMap(_) => self.open_quickly(templates, limits, rest, sink),
+            Waiting::Text => self.take_block_text(templates, limits, rest, sink),
+            Waiting::Field => self.take_short_decimal(templates, limits, rest, sink),
             _ => None,
         }
     }

@@ -257,7 +257,7 @@ impl<'t> Machine<'t> {
 
     /// Waits for the first unit of a field.
     #[inline]
-    fn wait_first(&mut self, field: &FieldInstruction)
+    pub fn wait_first(&mut self, field: &FieldInstruction)
         ensures text { IsAsciiFirst (field_data field.now)
             → (self.new.waiting ≡ Waiting.Text) × (self.new.text.text ≡ []) }
         ensures number { ¬ (IsAsciiFirst (field_data field.now)) → self.new.waiting ≡ Waiting.Field }

@@ -1,6 +1,6 @@
 //! The machine's loop: steps from one instruction to the next, with no byte, or with whole units for the quick way.
 
-ghost use Rattle.std.specs.Prelude.{◌≡◌, ◌≢◌, ℕ, Ok, Err};
+ghost use Rattle.std.specs.Prelude.{◌≡◌, ◌≢◌, ℕ, List, true, false, Ok, Err};
 ghost use Rattle.fast_decoder.specs.declared.machine.Waiting.{Waiting};
 ghost use Rattle.fast_stream.specs.declared.faults.FaultCode.{FaultCode};
 ghost use Rattle.fast_decoder.specs.device.Handing.{Hands};
@@ -13,7 +13,8 @@ ghost use Rattle.fast_decoder.specs.declared.machine.Turn.{Turn};
 use crate::machine::{Machine, Turn, Waiting};
 use crate::quick_units::Quick;
 use fast_stream::{FaultCode, Sink};
-use fast_template::Templates;
+use fast_template::{Shape, Templates};
+use fast_units::fields::needs_bytes;
 use fast_value::Limits;
 
 impl Quick {
@@ -83,6 +84,57 @@ impl<'t> Machine<'t> {
                 }
             }
         }
+    }
+
+    /// Takes steps as [`Machine::run`] does. Where there is no byte, and the next instruction waits for one, that is all.
+    #[inline(always)]
+    pub fn go_on<S: Sink>(
+        &mut self,
+        templates: &'t Templates,
+        limits: Limits,
+        piece: &[u8],
+        sink: &mut S,
+    ) -> Quick
+        requires turn { CanTurn (set_of templates.now) limits self.old }
+        ensures step { IsStep S.takes S.stops (set_of templates.now) limits self.old piece.now sink.old result sink.new
+            self.new }
+        ensures ends { (t : Turn) → result.turn ≡ Ok t → t ≡ Turn.Waits }
+    {
+        if piece.is_empty() && self.waits_at_once(templates, limits, sink) {
+            return Quick {
+                bytes: 0,
+                turn: Ok(Turn::Waits),
+            };
+        }
+        self.run(templates, limits, piece, sink)
+    }
+
+    /// Whether the next instruction is a field that stands in the stream: the machine then waits for its first unit. Nothing is handed
+    /// over; the sink is there for what the clauses say of the step.
+    #[inline(always)]
+    fn waits_at_once<S: Sink>(
+        &mut self,
+        templates: &'t Templates,
+        limits: Limits,
+        sink: &mut S,
+    ) -> bool
+        requires turn { CanTurn (set_of templates.now) limits self.old }
+        ensures none { result ≡ false → self.new ≡ self.old }
+        ensures step { (rest : List ℕ) → result ≡ true → IsStep S.takes S.stops (set_of templates.now) limits self.old
+            rest sink.old (record { bytes = 0; turn = Ok Turn.Waits }) sink.old self.new }
+        ensures same { sink.new ≡ sink.old }
+    {
+        let Some(number) = self.cursor.next() else {
+            return false;
+        };
+        let Shape::Field(field) = &templates.node(number).shape else {
+            return false;
+        };
+        if !needs_bytes(field, self.presence(field)) {
+            return false;
+        }
+        self.wait_first(field);
+        true
     }
 
     /// A step: the next instruction, or the end of the innermost segment.

@@ -40,13 +40,14 @@ use fast_stream::{Event, FaultCode, Sink};
 use fast_template::{FieldInstruction, Operator, Shape, Template, Templates};
 use fast_units::fields::{unsent, value_at};
 use fast_units::numbers::take_integer;
+use fast_units::pending::Pending;
 use fast_units::progress::Progress;
 use fast_units::scalars::{take_bytes, take_first, take_first_text, take_number};
 use fast_units::scratch::Scratch;
 use fast_units::source::ValueSource;
 use fast_units::stages::{FieldStep, Stage};
 use fast_value::{Code, Kind, Limits, Scalar};
-use fast_wire::{Entity, map_overlong};
+use fast_wire::map_overlong;
 use std::alloc::{AllocError, Global};
 
 /// How many bytes of a piece were taken, and why the machine stopped behind them, if it did.
@@ -791,7 +792,7 @@ impl<'t> Machine<'t> {
                     outcome: Ok(()),
                 },
                 _ => {
-                    let run = self.run(templates, limits, &rest[unit.bytes..], sink);
+                    let run = self.go_on(templates, limits, &rest[unit.bytes..], sink);
                     PieceTaken {
                         bytes: unit.bytes + run.bytes,
                         outcome: run.outcome(),
@@ -860,7 +861,7 @@ impl<'t> Machine<'t> {
             waiting: Waiting::Map,
             cursor: Cursor::new(alloc, templates.depth() as usize)?,
             slots: make_slots(alloc, templates, limits.max_text)?,
-            entity: Entity::new(),
+            entity: Pending::new(),
             text: Scratch::new(alloc, limits.max_text)?,
             joined: Scratch::new(alloc, limits.max_text)?,
             counted: 0,

@@ -106,14 +106,14 @@ fn template_of(
 }
 
 /// Where instructions stand: in the text of a template, from which so many references may still lead on.
-#[derive(Clone, Copy, Debug)]
+#[derive(Clone, Copy)]
 pub(crate) struct BuildContext<'a> {
     pub(crate) scope: TextScope<'a>,
     pub(crate) chain: usize,
 }
 
 /// Templates with their nodes, and the number of entries.
-#[derive(Debug, Drop)]
+#[derive(Drop)]
 pub(crate) struct BuiltSet {
     pub(crate) templates: Vec<Template>,
     pub(crate) nodes: Vec<Node>,
@@ -121,7 +121,7 @@ pub(crate) struct BuiltSet {
 }
 
 /// A set whose nodes are built, with its entries.
-#[derive(Clone, Copy, Debug)]
+#[derive(Clone, Copy)]
 pub(crate) struct Builder<'a> {
     pub(crate) alloc: Global,
     pub(crate) set: &'a WrittenSet,

@@ -6,7 +6,7 @@ ghost use Rattle.fast_notation.specs.device.Cycles.{AreWithin};
 use std::alloc::{AllocError, Global};
 
 /// What a walk finds.
-#[derive(Debug, Drop)]
+#[derive(Drop)]
 pub(crate) struct Components {
     /// The first template that was found to refer to itself, by way of others or not.
     pub(crate) first: Option<usize>,
@@ -15,7 +15,7 @@ pub(crate) struct Components {
 }
 
 /// A template on the path from where the walk began.
-#[derive(Clone, Copy, Debug)]
+#[derive(Clone, Copy)]
 struct Step {
     template: usize,
     /// The place of the template on the stack, from 1 on.
@@ -26,7 +26,7 @@ struct Step {
 
 /// A depth-first walk along all references that finds the strongly connected components (Tarjan's algorithm, without
 /// recursion).
-#[derive(Debug, Drop)]
+#[derive(Drop)]
 struct Walk<'a> {
     graph: &'a [Vec<u32>],
     /// For each template the first place on the stack that it is known to lead to; 0 where it was not met, and the number

@@ -12,8 +12,8 @@ ghost use Rattle.fast_notation.specs.device.WrittenReading.{IsUnread};
 ghost use Rattle.fast_notation.specs.device.WrittenSets.{written_data, templates_data};
 
 use crate::codes::{StaticCode, StaticFault};
-use crate::keys::{Unread, flag_at, has_only, name_at, text_at, value_at};
-use crate::reading::{is_dictionary, nested_fields, owned};
+use crate::keys::{Unread, flag_at, has_only, is_dictionary, name_at, owned, text_at, value_at};
+use crate::reading::nested_fields;
 use crate::written::WrittenTemplate;
 use std::alloc::Global;
 use std::mem;

@@ -16,7 +16,7 @@ use indexmap::IndexSet;
 use std::alloc::{AllocError, Global};
 
 /// The dictionary of an entry: the global one, that of a template, or one with a name.
-#[derive(Debug, PartialEq, Eq, Hash, Drop)]
+#[derive(PartialEq, Eq, Hash, Drop)]
 pub(crate) enum EntryPlace {
     Global,
     Template(u32),
@@ -25,7 +25,7 @@ pub(crate) enum EntryPlace {
 
 /// An entry: its dictionary, and its key there. Parts of decimals and lengths without a name have entries of their own
 /// beside that of the name.
-#[derive(Debug, PartialEq, Eq, Hash, Drop)]
+#[derive(PartialEq, Eq, Hash, Drop)]
 pub(crate) struct EntryKey {
     pub(crate) place: EntryPlace,
     pub(crate) key: String,
@@ -33,7 +33,7 @@ pub(crate) struct EntryKey {
 }
 
 /// The entries of a set in the order of its text, but that of the template identifier, which comes first.
-#[derive(Debug, Drop)]
+#[derive(Drop)]
 pub(crate) struct Entries {
     pub(crate) keys: IndexSet<EntryKey>,
 }

@@ -9,7 +9,7 @@ use crate::written::WrittenInstruction;
 use std::collections::HashMap;
 
 /// What instructions come to with their references in place. Numbers that a `u32` does not hold stay at its greatest.
-#[derive(Clone, Copy, Debug, PartialEq, Eq)]
+#[derive(Clone, Copy, PartialEq, Eq)]
 pub(crate) struct Extent {
     /// The nodes.
     pub(crate) nodes: u32,

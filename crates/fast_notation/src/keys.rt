@@ -1,15 +1,16 @@
 //! What stands at the keys of a table of a template text.
 
-ghost use Rattle.std.specs.Prelude.{◌≡◌, map, option_map, Some, None, Err, IfOk, string_bytes};
+ghost use Rattle.std.specs.Prelude.{◌≡◌, map, option_map, Some, None, Err, IfOk, IfErr, string_bytes};
 ghost use Rattle.toml.specs.Data.{get_member};
 ghost use Rattle.toml.specs.View.{view, items_view, table_view};
-ghost use Rattle.fast_notation.specs.device.Reading.{is_one_of, has_only, text_of, flag_of, name_of, items_of};
+ghost use Rattle.fast_notation.specs.device.Reading.{is_one_of, has_only, text_of, flag_of, name_of, items_of, name_or_none, is_dictionary};
 
 use crate::names::is_name;
+use std::alloc::Global;
 use toml::{Table, Value};
 
 /// Why a part of a template text was not read.
-#[derive(Clone, Copy, Debug, PartialEq, Eq)]
+#[derive(Clone, Copy, PartialEq, Eq)]
 pub(crate) enum Unread {
     /// It is not of the stated shape.
     Shape,
@@ -104,4 +105,47 @@ pub(crate) fn name_at<'a>(table: &'a Table, key: &str) -> Result<&'a str, Unread
         return Err(Unread::Shape);
     }
     Ok(name)
+}
+
+/// The text at a key in memory of its own, if there is something.
+pub(crate) fn string_at(alloc: Global, table: &Table, key: &str) -> Result<Option<String>, Unread>
+    ensures text { IfOk result (λ o. text_of (get_member key.now (table_view table.now))
+        ≡ Some (option_map string_bytes o)) }
+    ensures shape { result ≡ Err Unread.Shape → text_of (get_member key.now (table_view table.now)) ≡ None }
+{
+    let Some(text) = text_at(table, key)? else {
+        return Ok(None);
+    };
+    match String::from_str(alloc, text) {
+        Ok(text) => Ok(Some(text)),
+        Err(_) => Err(Unread::Memory),
+    }
+}
+
+/// Whether a name stands there, if something does.
+pub(crate) fn is_name_or_none(text: Option<&String>) -> bool
+    ensures { result ≡ name_or_none (option_map (λ s. string_bytes s.now) text.entry) }
+{
+    match text {
+        Some(name) => is_name(name.as_str()),
+        None => true,
+    }
+}
+
+/// Whether the text names a dictionary.
+pub(crate) fn is_dictionary(name: &str) -> bool
+    ensures { result ≡ is_dictionary name.now }
+{
+    is_name(name) && name != "type"
+}
+
+/// A text in memory of its own.
+pub(crate) fn owned(alloc: Global, text: &str) -> Result<String, Unread>
+    ensures text { IfOk result (λ s. string_bytes s ≡ text.now) }
+    ensures memory { IfErr result (λ e. e ≡ Unread.Memory) }
+{
+    match String::from_str(alloc, text) {
+        Ok(text) => Ok(text),
+        Err(_) => Err(Unread::Memory),
+    }
 }

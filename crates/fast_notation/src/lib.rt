@@ -13,6 +13,7 @@ mod extents;
 mod keys;
 mod limits;
 mod names;
+mod operators;
 mod passes;
 mod read;
 mod reading;
@@ -24,5 +25,5 @@ mod written;
 
 pub use codes::{StaticCode, StaticFault};
 pub use limits::{NESTING_LIMIT, NODE_LIMIT, SEGMENT_LIMIT};
-pub use reading::operator_named;
+pub use operators::operator_named;
 pub use sets::CheckedSet;

@@ -16,7 +16,7 @@ use std::alloc::Global;
 use std::collections::HashMap;
 
 /// A set as it is written, with the number of each template by its name and by its identifier.
-#[derive(Debug, Drop)]
+#[derive(Drop)]
 pub(crate) struct WrittenSet {
     pub(crate) templates: Vec<WrittenTemplate>,
     pub(crate) names: HashMap<String, u32>,

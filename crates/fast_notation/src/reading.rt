@@ -1,16 +1,17 @@
 //! From the tables of a template text to template sets as they are written.
 
-ghost use Rattle.std.specs.Prelude.{◌≡◌, codes, option_map, Some, None, Err, IfOk, IfErr, string_bytes};
+ghost use Rattle.std.specs.Prelude.{◌≡◌, codes, option_map, Some, None, Err, IfOk, string_bytes};
 ghost use Rattle.toml.specs.Data.{get_member};
 ghost use Rattle.toml.specs.View.{view, items_view, table_view};
-ghost use Rattle.fast_notation.specs.device.Reading.{kind_named, operator_named, operator_of, text_of, name_or_none, dictionary_or_none, is_dictionary, takes, written_of, operator_keys, part_of, own_name_of, length_of, scalar_of, parts_of, group_of, sequence_of, reference_of, field_of, has_part, all_fields, fields_of, declared_of};
+ghost use Rattle.fast_notation.specs.device.Reading.{kind_named, own_name_of, length_of, scalar_of, parts_of, group_of, sequence_of, reference_of, field_of, has_part, all_fields, fields_of, declared_of};
 ghost use Rattle.fast_notation.specs.device.WrittenSets.{operator_data, instruction_data, fields_data};
-ghost use Rattle.fast_tree.specs.meaning.AsWritten.{plain};
 
-use crate::keys::{Unread, flag_at, has_only, items_at, name_at, text_at, value_at};
-use crate::names::is_name;
+use crate::keys::{
+    Unread, flag_at, has_only, is_name_or_none, items_at, name_at, owned, string_at, text_at,
+    value_at,
+};
+use crate::operators::{operator_in, part_at, plain};
 use crate::written::{WrittenInstruction, WrittenOperator};
-use fast_tree::Operator;
 use fast_value::Kind;
 use std::alloc::Global;
 use toml::{Table, Value};
@@ -32,156 +33,6 @@ fn kind_named(name: &str) -> Option<Kind>
     }
 }
 
-/// The operator of a name in a template text.
-pub fn operator_named(name: &str) -> Option<Operator>
-    ensures { result ≡ operator_named name.now }
-{
-    match name {
-        "none" => Some(Operator::None),
-        "constant" => Some(Operator::Constant),
-        "default" => Some(Operator::Default),
-        "copy" => Some(Operator::Copy),
-        "increment" => Some(Operator::Increment),
-        "delta" => Some(Operator::Delta),
-        "tail" => Some(Operator::Tail),
-        _ => None,
-    }
-}
-
-/// The operator of a table, which is none where nothing is written.
-fn operator_at(table: &Table) -> Result<Operator, Unread>
-    ensures operator { IfOk result (λ o. operator_of (get_member (codes "op") (table_view table.now)) ≡ Some o) }
-    ensures shape { result ≡ Err Unread.Shape → operator_of (get_member (codes "op") (table_view table.now)) ≡ None }
-{
-    let Some(name) = text_at(table, "op")? else {
-        return Ok(Operator::None);
-    };
-    match operator_named(name) {
-        Some(operator) => Ok(operator),
-        None => Err(Unread::Shape),
-    }
-}
-
-/// The text at a key in memory of its own, if there is something.
-fn string_at(alloc: Global, table: &Table, key: &str) -> Result<Option<String>, Unread>
-    ensures text { IfOk result (λ o. text_of (get_member key.now (table_view table.now))
-        ≡ Some (option_map string_bytes o)) }
-    ensures shape { result ≡ Err Unread.Shape → text_of (get_member key.now (table_view table.now)) ≡ None }
-{
-    let Some(text) = text_at(table, key)? else {
-        return Ok(None);
-    };
-    match String::from_str(alloc, text) {
-        Ok(text) => Ok(Some(text)),
-        Err(_) => Err(Unread::Memory),
-    }
-}
-
-/// Whether a name stands there, if something does.
-fn is_name_or_none(text: Option<&String>) -> bool
-    ensures { result ≡ name_or_none (option_map (λ s. string_bytes s.now) text.entry) }
-{
-    match text {
-        Some(name) => is_name(name.as_str()),
-        None => true,
-    }
-}
-
-/// Whether the name of a dictionary stands there, if something does.
-fn is_dictionary_or_none(text: Option<&String>) -> bool
-    ensures { result ≡ dictionary_or_none (option_map (λ s. string_bytes s.now) text.entry) }
-{
-    match text {
-        Some(name) => is_dictionary(name.as_str()),
-        None => true,
-    }
-}
-
-/// Whether the text names a dictionary.
-pub(crate) fn is_dictionary(name: &str) -> bool
-    ensures { result ≡ is_dictionary name.now }
-{
-    is_name(name) && name != "type"
-}
-
-/// Whether the operator takes what is written beside it.
-fn is_in_use(written: &WrittenOperator) -> bool
-    ensures { result ≡ takes written.now.operator (operator_data written.now) }
-{
-    match written.operator {
-        Operator::None => written.value.is_none()
-            && written.key.is_none()
-            && written.dictionary.is_none(),
-        Operator::Constant | Operator::Default => written.key.is_none()
-            && written.dictionary.is_none(),
-        _ => is_name_or_none(written.key.as_ref())
-            && is_dictionary_or_none(written.dictionary.as_ref()),
-    }
-}
-
-/// The operator that the four keys of a table write.
-fn operator_in(alloc: Global, table: &Table) -> Result<WrittenOperator, Unread>
-    ensures written { IfOk result (λ w. written_of (table_view table.now) ≡ Some (operator_data w)) }
-    ensures shape { result ≡ Err Unread.Shape → written_of (table_view table.now) ≡ None }
-{
-    let operator = operator_at(table)?;
-    let value = string_at(alloc, table, "value")?;
-    let key = string_at(alloc, table, "key")?;
-    let dictionary = string_at(alloc, table, "dictionary")?;
-    let written = WrittenOperator {
-        operator,
-        value,
-        key,
-        dictionary,
-    };
-    if !is_in_use(&written) {
-        return Err(Unread::Shape);
-    }
-    Ok(written)
-}
-
-/// A text in memory of its own.
-pub(crate) fn owned(alloc: Global, text: &str) -> Result<String, Unread>
-    ensures text { IfOk result (λ s. string_bytes s ≡ text.now) }
-    ensures memory { IfErr result (λ e. e ≡ Unread.Memory) }
-{
-    match String::from_str(alloc, text) {
-        Ok(text) => Ok(text),
-        Err(_) => Err(Unread::Memory),
-    }
-}
-
-/// The operator of the part at a key, which has none where nothing is written.
-fn part_at(alloc: Global, table: &Table, key: &str) -> Result<WrittenOperator, Unread>
-    ensures part { IfOk result (λ w. part_of operator_keys (get_member key.now (table_view table.now))
-        ≡ Some (operator_data w)) }
-    ensures shape { result ≡ Err Unread.Shape
-        → part_of operator_keys (get_member key.now (table_view table.now)) ≡ None }
-{
-    let Some(value) = value_at(table, key) else {
-        return Ok(plain());
-    };
-    let Some(part) = value.as_table() else {
-        return Err(Unread::Shape);
-    };
-    if !has_only(part, &["op", "value", "key", "dictionary"]) {
-        return Err(Unread::Shape);
-    }
-    operator_in(alloc, part)
-}
-
-/// No operator.
-fn plain() -> WrittenOperator
-    ensures { operator_data result ≡ plain }
-{
-    WrittenOperator {
-        operator: Operator::None,
-        value: None,
-        key: None,
-        dictionary: None,
-    }
-}
-
 /// The name of a length, if it has one.
 fn own_name_at(alloc: Global, table: &Table) -> Result<Option<String>, Unread>
     ensures name { IfOk result (λ o. own_name_of (get_member (codes "name") (table_view table.now))
@@ -196,7 +47,7 @@ fn own_name_at(alloc: Global, table: &Table) -> Result<Option<String>, Unread>
 }
 
 /// The length of a sequence.
-#[derive(Debug, Drop)]
+#[derive(Drop)]
 struct WrittenLength {
     name: Option<String>,
     operator: WrittenOperator,

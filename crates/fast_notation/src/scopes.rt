@@ -10,14 +10,14 @@ use crate::written::WrittenOperator;
 use fast_value::Kind;
 
 /// The text of a template: its number, and the dictionary of the operators that name none.
-#[derive(Clone, Copy, Debug)]
+#[derive(Clone, Copy)]
 pub(crate) struct TextScope<'a> {
     pub(crate) template: u32,
     pub(crate) dictionary: &'a str,
 }
 
 /// An operator where it is used, with the key that it has if none is written.
-#[derive(Clone, Copy, Debug)]
+#[derive(Clone, Copy)]
 pub(crate) struct OperatorUse<'a> {
     pub(crate) kind: Kind,
     pub(crate) optional: bool,

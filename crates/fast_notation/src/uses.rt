@@ -16,7 +16,7 @@ use fast_value::{InitialFault, Kind, Value, parse_initial};
 use std::alloc::Global;
 
 /// What an operator is used on: a scalar, the exponent or the mantissa of a decimal, or the length of a sequence.
-#[derive(Clone, Copy, Debug, PartialEq, Eq, Hash)]
+#[derive(Clone, Copy, PartialEq, Eq, Hash)]
 pub(crate) enum OperatorPart {
     /// A scalar, or a length with a name of its own.
     Whole,

@@ -4,7 +4,7 @@ use fast_tree::Operator;
 use fast_value::Kind;
 
 /// An operator with its initial value, key and dictionary, each only where it is written.
-#[derive(Debug, Drop)]
+#[derive(Drop)]
 pub(crate) struct WrittenOperator {
     pub(crate) operator: Operator,
     pub(crate) value: Option<String>,
@@ -13,7 +13,7 @@ pub(crate) struct WrittenOperator {
 }
 
 /// An instruction, or a reference to the instructions of another template.
-#[derive(Debug, Drop)]
+#[derive(Drop)]
 pub(crate) enum WrittenInstruction {
     /// A field.
     Scalar {
@@ -48,7 +48,7 @@ pub(crate) enum WrittenInstruction {
 }
 
 /// A template.
-#[derive(Debug, Drop)]
+#[derive(Drop)]
 pub(crate) struct WrittenTemplate {
     pub(crate) name: String,
     pub(crate) id: Option<u32>,

@@ -1,14 +1,19 @@
 //! The units of FAST streams and the fields that stand in them, from the bytes of a piece to a value.
 #![tactic(auto)]
 
+pub mod decimals;
 pub mod fields;
 pub mod numbers;
+pub mod pending;
 pub mod progress;
 pub mod scalars;
 pub mod scratch;
+pub mod short_decimals;
 pub mod short_integers;
+pub mod short_texts;
 pub mod source;
 pub mod stages;
+pub mod text_deltas;
 pub mod text_outcomes;
 pub mod texts;
 pub mod units;

@@ -1,46 +1,42 @@
-//! Fields of numbers: what their units give, and what they leave in the dictionary.
+//! Fields of integers: what their unit gives, and what it leaves in the dictionary; and what decimals share with them.
 
-ghost use Rattle.std.specs.Prelude.{false, Some, IfSome, ◌≡◌, ◌≢◌, ℕ, ◌<◌, ◌≤◌, true, List, [], ℤ, pos, neg_ℤ, ◌≤ℤ◌, Ok};
+ghost use Rattle.std.specs.Prelude.{false, Some, IfSome, ◌≡◌, ◌≢◌, ℕ, ◌<◌, true, List, [], pos, Ok};
 ghost use Rattle.fast_wire.specs.meaning.Integers.{unsigned_up_to};
-ghost use Rattle.fast_value.specs.meaning.Kinds.{U, Dec, value_of_integer, integers, decimals, texts, family, signed_range};
-ghost use Rattle.fast_value.specs.meaning.Limits.{Bounds, bounds};
+ghost use Rattle.fast_value.specs.meaning.Kinds.{U, value_of_integer, integers, decimals, texts, family};
+ghost use Rattle.fast_value.specs.meaning.Limits.{Bounds};
 ghost use Rattle.fast_tree.specs.device.Nodes.{field_data};
-ghost use Rattle.fast_dict.specs.meaning.Operators.{decide, integer_step, mantissa_step, range_of};
+ghost use Rattle.fast_dict.specs.meaning.Operators.{decide, integer_step, range_of};
 ghost use Rattle.fast_dict.specs.meaning.Slots.{slots_terms};
-ghost use Rattle.fast_stream.specs.device.GrammarReaders.{reader_of};
-ghost use Rattle.fast_units.specs.device.Stages.{term_behind, IsStageOf};
 ghost use Rattle.fast_units.specs.device.NextUnits.{range_data};
-ghost use Rattle.fast_units.specs.device.Deciding.{number_data, sent_number, base_integer, progress_of};
-ghost use Rattle.fast_units.specs.device.Words.{IsOpenEntity, ServesField, HasEntryOf, previous_of, sent_reader, IsLastUnitOf, IsUnitOf, IsDecidedIn, IsKeptCut};
+ghost use Rattle.fast_units.specs.device.Deciding.{sent_number, base_integer, progress_of};
+ghost use Rattle.fast_units.specs.device.Words.{ServesField, HasEntryOf, previous_of, sent_reader, IsLastUnitOf, IsDecidedIn, IsKeptCut};
 
 use crate::fields::{Number, assign_empty, keep, own_number, previous};
+use crate::pending::Pending;
 use crate::progress::Progress;
 use crate::source::ValueSource;
-use crate::stages::{FieldStep, Stage};
 use crate::units::{IntegerRange, next_integer, next_unsigned};
 use fast_dict::Slots;
-use fast_dict::operators::decimals::{exponent_delta, mantissa_of};
 use fast_dict::operators::delta_base;
 use fast_dict::operators::integers::{integer_of, range_of, sum_in};
 use fast_tree::{FieldInstruction, Operator};
-use fast_value::{Code, Kind, Limits};
-use fast_wire::Entity;
+use fast_value::{Code, Kind};
 
 /// All that an entity of ten bytes holds, also after the nullable form has taken its one away.
-const DELTA: IntegerRange = IntegerRange::Signed(
+pub(crate) const DELTA: IntegerRange = IntegerRange::Signed(
     -590_295_810_358_705_651_712,
     590_295_810_358_705_651_711,
 );
 
 /// The mantissas of decimals.
-const MANTISSA: IntegerRange = IntegerRange::Signed(
+pub(crate) const MANTISSA: IntegerRange = IntegerRange::Signed(
     -9_223_372_036_854_775_808,
     9_223_372_036_854_775_807,
 );
 
 /// The integers of a kind of integers, and the exponents of decimals.
 #[inline]
-fn range_on_wire(kind: Kind) -> IntegerRange
+pub(crate) fn range_on_wire(kind: Kind) -> IntegerRange
     ensures { range_data result ≡ range_of kind }
 {
     match kind {
@@ -55,7 +51,11 @@ fn range_on_wire(kind: Kind) -> IntegerRange
 /// A number that is sent, or NULL, without an operator and under default, copy and increment: copy and increment keep it at the
 /// field's entry, the others have none.
 #[inline(always)]
-fn received(slots: &mut Slots, field: &FieldInstruction, item: Option<Number>) -> ValueSource
+pub(crate) fn received(
+    slots: &mut Slots,
+    field: &FieldInstruction,
+    item: Option<Number>,
+) -> ValueSource
     requires serves { ServesField slots.old field.now }
     requires numbers { family field.now.kind ≢ texts }
     requires no_delta { field.now.operator ≢ Operator.Delta }
@@ -103,51 +103,9 @@ fn change_integer(
     Ok(keep(slots, field, Number::of_integer(field.kind, sum)))
 }
 
-/// A decimal behind the delta of its mantissa, which the entry then holds.
-#[inline]
-fn change_mantissa(
-    slots: &mut Slots,
-    field: &FieldInstruction,
-    exponent: i32,
-    delta: i128,
-) -> Result<ValueSource, Code>
-    requires serves { ServesField slots.old field.now }
-    ensures decided { IsDecidedIn (mantissa_step (field_data field.now) (previous_of slots.old field.now) exponent
-        delta) field.now slots.old slots.new result }
-    ensures terms { slots_terms slots.new ≡ slots_terms slots.old }
-{
-    let base = mantissa_of(delta_base(field, previous(slots, field))?);
-    let (low, high) = range_of(Kind::Int64);
-    let sum = sum_in(low, high, Code::R1, base, delta)?;
-    Ok(keep(slots, field, decimal(exponent, sum)))
-}
-
-/// A decimal.
-#[inline]
-fn decimal(exponent: i32, mantissa: i128) -> Number
-    requires low { (signed_range 63).low ≤ℤ mantissa }
-    requires high { mantissa ≤ℤ (signed_range 63).high }
-    ensures { number_data result ≡ Dec exponent mantissa }
-{
-    Number::Decimal {
-        exponent,
-        mantissa: mantissa as i64,
-    }
-}
-
-/// An exponent in range.
-#[inline]
-fn exponent(exponent: i128) -> i32
-    requires low { neg_ℤ (pos 63) ≤ℤ exponent }
-    requires high { exponent ≤ℤ pos 63 }
-    ensures { result ≡ exponent }
-{
-    exponent as i32
-}
-
 /// What is decided behind so many bytes.
 #[inline(always)]
-fn settled(answer: Result<ValueSource, Code>, bytes: usize) -> Progress<ValueSource>
+pub(crate) fn settled(answer: Result<ValueSource, Code>, bytes: usize) -> Progress<ValueSource>
     ensures { result ≡ progress_of answer bytes }
 {
     match answer {
@@ -162,19 +120,18 @@ fn settled(answer: Result<ValueSource, Code>, bytes: usize) -> Progress<ValueSou
 #[inline(always)]
 pub fn take_integer(
     slots: &mut Slots,
-    pending: &mut Entity,
+    pending: &mut Pending,
     field: &FieldInstruction,
     rest: &[u8],
     strict: bool,
 ) -> Progress<ValueSource>
-    requires open { IsOpenEntity pending.old }
     requires serves { ServesField slots.old field.now }
     requires integers { family field.now.kind ≡ integers (range_of field.now.kind) }
     requires sent { field.now.operator ≢ Operator.Constant }
     ensures unit { (l : Bounds) (scratch : List ℕ) → IsLastUnitOf (sent_reader strict l slots.old field.now) field.now
-        pending.old rest.now slots.old slots.new scratch result }
-    ensures whole { (s : ValueSource) (n : ℕ) → result ≡ Progress.Whole s n → pending.new ≡ [] }
-    ensures cut { IsKeptCut pending.old rest.now pending.new result }
+        pending.old.bytes rest.now slots.old slots.new scratch result }
+    ensures whole { (s : ValueSource) (n : ℕ) → result ≡ Progress.Whole s n → pending.new.bytes ≡ [] }
+    ensures cut { IsKeptCut pending.old.bytes rest.now pending.new.bytes result }
     ensures terms { slots_terms slots.new ≡ slots_terms slots.old }
 {
     match field.operator {
@@ -187,20 +144,19 @@ pub fn take_integer(
 #[inline(always)]
 fn take_integer_item(
     slots: &mut Slots,
-    pending: &mut Entity,
+    pending: &mut Pending,
     field: &FieldInstruction,
     rest: &[u8],
     strict: bool,
 ) -> Progress<ValueSource>
-    requires open { IsOpenEntity pending.old }
     requires serves { ServesField slots.old field.now }
     requires integers { family field.now.kind ≡ integers (range_of field.now.kind) }
     requires no_delta { field.now.operator ≢ Operator.Delta }
     requires no_constant { field.now.operator ≢ Operator.Constant }
     ensures unit { (l : Bounds) (scratch : List ℕ) → IsLastUnitOf (sent_reader strict l slots.old field.now) field.now
-        pending.old rest.now slots.old slots.new scratch result }
-    ensures whole { (s : ValueSource) (n : ℕ) → result ≡ Progress.Whole s n → pending.new ≡ [] }
-    ensures cut { IsKeptCut pending.old rest.now pending.new result }
+        pending.old.bytes rest.now slots.old slots.new scratch result }
+    ensures whole { (s : ValueSource) (n : ℕ) → result ≡ Progress.Whole s n → pending.new.bytes ≡ [] }
+    ensures cut { IsKeptCut pending.old.bytes rest.now pending.new.bytes result }
     ensures terms { slots_terms slots.new ≡ slots_terms slots.old }
 {
     if let Some(top) = mandatory_top(field) {
@@ -238,13 +194,12 @@ fn mandatory_top(field: &FieldInstruction) -> Option<u64>
 #[inline(always)]
 fn take_unsigned(
     slots: &mut Slots,
-    pending: &mut Entity,
+    pending: &mut Pending,
     field: &FieldInstruction,
     rest: &[u8],
     strict: bool,
     top: u64,
 ) -> Progress<ValueSource>
-    requires open { IsOpenEntity pending.old }
     requires serves { ServesField slots.old field.now }
     requires integers { family field.now.kind ≡ integers (range_of field.now.kind) }
     requires no_delta { field.now.operator ≢ Operator.Delta }
@@ -253,9 +208,9 @@ fn take_unsigned(
     requires range { unsigned_up_to top ≡ range_of field.now.kind }
     requires unsigned { (n : ℕ) → value_of_integer field.now.kind (pos n) ≡ U n }
     ensures unit { (l : Bounds) (scratch : List ℕ) → IsLastUnitOf (sent_reader strict l slots.old field.now) field.now
-        pending.old rest.now slots.old slots.new scratch result }
-    ensures whole { (s : ValueSource) (n : ℕ) → result ≡ Progress.Whole s n → pending.new ≡ [] }
-    ensures cut { IsKeptCut pending.old rest.now pending.new result }
+        pending.old.bytes rest.now slots.old slots.new scratch result }
+    ensures whole { (s : ValueSource) (n : ℕ) → result ≡ Progress.Whole s n → pending.new.bytes ≡ [] }
+    ensures cut { IsKeptCut pending.old.bytes rest.now pending.new.bytes result }
     ensures terms { slots_terms slots.new ≡ slots_terms slots.old }
 {
     match next_unsigned(pending, rest, strict, top) {
@@ -272,193 +227,22 @@ fn take_unsigned(
 #[inline(always)]
 fn take_integer_delta(
     slots: &mut Slots,
-    pending: &mut Entity,
+    pending: &mut Pending,
     field: &FieldInstruction,
     rest: &[u8],
     strict: bool,
 ) -> Progress<ValueSource>
-    requires open { IsOpenEntity pending.old }
     requires serves { ServesField slots.old field.now }
     requires integers { family field.now.kind ≡ integers (range_of field.now.kind) }
     requires delta { field.now.operator ≡ Operator.Delta }
     ensures unit { (l : Bounds) (scratch : List ℕ) → IsLastUnitOf (sent_reader strict l slots.old field.now) field.now
-        pending.old rest.now slots.old slots.new scratch result }
-    ensures whole { (s : ValueSource) (n : ℕ) → result ≡ Progress.Whole s n → pending.new ≡ [] }
-    ensures cut { IsKeptCut pending.old rest.now pending.new result }
+        pending.old.bytes rest.now slots.old slots.new scratch result }
+    ensures whole { (s : ValueSource) (n : ℕ) → result ≡ Progress.Whole s n → pending.new.bytes ≡ [] }
+    ensures cut { IsKeptCut pending.old.bytes rest.now pending.new.bytes result }
     ensures terms { slots_terms slots.new ≡ slots_terms slots.old }
 {
     match next_integer(pending, rest, strict, DELTA, field.optional, Code::D2) {
         Progress::Whole(Some(delta), bytes) => settled(change_integer(slots, field, delta), bytes),
-        Progress::Whole(None, bytes) => Progress::Whole(ValueSource::Absent, bytes),
-        Progress::Wrong(code, bytes) => Progress::Wrong(code, bytes),
-        Progress::Cut => Progress::Cut,
-    }
-}
-
-/// The first unit of a decimal that stands in the stream: its exponent, or the delta of its exponent. Where there is none the
-/// decimal is absent.
-#[inline(always)]
-pub fn take_exponent(
-    slots: &mut Slots,
-    pending: &mut Entity,
-    field: &FieldInstruction,
-    rest: &[u8],
-    limits: Limits,
-) -> Progress<FieldStep>
-    requires open { IsOpenEntity pending.old }
-    requires serves { ServesField slots.old field.now }
-    requires decimals { family field.now.kind ≡ decimals }
-    requires sent { field.now.operator ≢ Operator.Constant }
-    ensures unit { (scratch : List ℕ) → IsUnitOf limits (sent_reader limits.strict (bounds limits) slots.old field.now)
-        field.now pending.old rest.now slots.old slots.new scratch result }
-    ensures whole { (s : FieldStep) (n : ℕ) → result ≡ Progress.Whole s n → pending.new ≡ [] }
-    ensures cut { IsKeptCut pending.old rest.now pending.new result }
-    ensures terms { slots_terms slots.new ≡ slots_terms slots.old }
-{
-    match field.operator {
-        Operator::Delta => take_exponent_delta(slots, pending, field, rest, limits),
-        _ => take_exponent_item(slots, pending, field, rest, limits),
-    }
-}
-
-/// The exponent of a decimal, or NULL, under no delta.
-fn take_exponent_item(
-    slots: &mut Slots,
-    pending: &mut Entity,
-    field: &FieldInstruction,
-    rest: &[u8],
-    limits: Limits,
-) -> Progress<FieldStep>
-    requires open { IsOpenEntity pending.old }
-    requires serves { ServesField slots.old field.now }
-    requires decimals { family field.now.kind ≡ decimals }
-    requires no_delta { field.now.operator ≢ Operator.Delta }
-    requires no_constant { field.now.operator ≢ Operator.Constant }
-    ensures unit { (scratch : List ℕ) → IsUnitOf limits (sent_reader limits.strict (bounds limits) slots.old field.now)
-        field.now pending.old rest.now slots.old slots.new scratch result }
-    ensures whole { (s : FieldStep) (n : ℕ) → result ≡ Progress.Whole s n → pending.new ≡ [] }
-    ensures cut { IsKeptCut pending.old rest.now pending.new result }
-    ensures terms { slots_terms slots.new ≡ slots_terms slots.old }
-{
-    let range = range_on_wire(field.kind);
-    match next_integer(
-        pending,
-        rest,
-        limits.strict,
-        range,
-        field.optional,
-        Code::R1,
-    ) {
-        Progress::Whole(Some(integer), bytes) => {
-            Progress::Whole(FieldStep::Next(Stage::Mantissa(exponent(integer))), bytes)
-        }
-        Progress::Whole(None, bytes) => {
-            Progress::Whole(FieldStep::Settled(received(slots, field, None)), bytes)
-        }
-        Progress::Wrong(code, bytes) => Progress::Wrong(code, bytes),
-        Progress::Cut => Progress::Cut,
-    }
-}
-
-/// The delta of a decimal's exponent, or NULL, which leaves the entry as it is and does not look at it.
-fn take_exponent_delta(
-    slots: &mut Slots,
-    pending: &mut Entity,
-    field: &FieldInstruction,
-    rest: &[u8],
-    limits: Limits,
-) -> Progress<FieldStep>
-    requires open { IsOpenEntity pending.old }
-    requires serves { ServesField slots.old field.now }
-    requires decimals { family field.now.kind ≡ decimals }
-    requires delta { field.now.operator ≡ Operator.Delta }
-    ensures unit { (scratch : List ℕ) → IsUnitOf limits (sent_reader limits.strict (bounds limits) slots.old field.now)
-        field.now pending.old rest.now slots.old slots.new scratch result }
-    ensures whole { (s : FieldStep) (n : ℕ) → result ≡ Progress.Whole s n → pending.new ≡ [] }
-    ensures cut { IsKeptCut pending.old rest.now pending.new result }
-    ensures terms { slots_terms slots.new ≡ slots_terms slots.old }
-{
-    match next_integer(
-        pending,
-        rest,
-        limits.strict,
-        DELTA,
-        field.optional,
-        Code::D2,
-    ) {
-        Progress::Whole(Some(delta), bytes) => {
-            match exponent_delta(field, previous(slots, field), delta) {
-                Ok(exponent) => Progress::Whole(
-                    FieldStep::Next(Stage::MantissaDelta(exponent)),
-                    bytes,
-                ),
-                Err(code) => Progress::Wrong(code, bytes),
-            }
-        }
-        Progress::Whole(None, bytes) => Progress::Whole(
-            FieldStep::Settled(ValueSource::Absent),
-            bytes,
-        ),
-        Progress::Wrong(code, bytes) => Progress::Wrong(code, bytes),
-        Progress::Cut => Progress::Cut,
-    }
-}
-
-/// The second unit of a decimal, behind its exponent: the mantissa.
-pub fn take_mantissa(
-    slots: &mut Slots,
-    pending: &mut Entity,
-    field: &FieldInstruction,
-    exponent: i32,
-    rest: &[u8],
-    limits: Limits,
-) -> Progress<ValueSource>
-    requires open { IsOpenEntity pending.old }
-    requires serves { ServesField slots.old field.now }
-    requires stage { IsStageOf (bounds limits) (field_data field.now) (previous_of slots.old field.now)
-        (Stage.Mantissa exponent) }
-    ensures unit { (scratch : List ℕ) → IsLastUnitOf (reader_of limits.strict
-        (term_behind (bounds limits) (field_data field.now) (previous_of slots.old field.now)
-        (Stage.Mantissa exponent))) field.now pending.old rest.now slots.old slots.new scratch result }
-    ensures whole { (s : ValueSource) (n : ℕ) → result ≡ Progress.Whole s n → pending.new ≡ [] }
-    ensures cut { IsKeptCut pending.old rest.now pending.new result }
-    ensures terms { slots_terms slots.new ≡ slots_terms slots.old }
-{
-    match next_integer(pending, rest, limits.strict, MANTISSA, false, Code::R1) {
-        Progress::Whole(Some(mantissa), bytes) => {
-            let number = decimal(exponent, mantissa);
-            Progress::Whole(received(slots, field, Some(number)), bytes)
-        }
-        Progress::Whole(None, bytes) => Progress::Whole(received(slots, field, None), bytes),
-        Progress::Wrong(code, bytes) => Progress::Wrong(code, bytes),
-        Progress::Cut => Progress::Cut,
-    }
-}
-
-/// The second unit of a decimal under a delta, of which this is the exponent: the delta of the mantissa.
-pub fn take_mantissa_delta(
-    slots: &mut Slots,
-    pending: &mut Entity,
-    field: &FieldInstruction,
-    exponent: i32,
-    rest: &[u8],
-    limits: Limits,
-) -> Progress<ValueSource>
-    requires open { IsOpenEntity pending.old }
-    requires serves { ServesField slots.old field.now }
-    requires stage { IsStageOf (bounds limits) (field_data field.now) (previous_of slots.old field.now)
-        (Stage.MantissaDelta exponent) }
-    ensures unit { (scratch : List ℕ) → IsLastUnitOf (reader_of limits.strict
-        (term_behind (bounds limits) (field_data field.now) (previous_of slots.old field.now)
-        (Stage.MantissaDelta exponent))) field.now pending.old rest.now slots.old slots.new scratch result }
-    ensures whole { (s : ValueSource) (n : ℕ) → result ≡ Progress.Whole s n → pending.new ≡ [] }
-    ensures cut { IsKeptCut pending.old rest.now pending.new result }
-    ensures terms { slots_terms slots.new ≡ slots_terms slots.old }
-{
-    match next_integer(pending, rest, limits.strict, DELTA, false, Code::D2) {
-        Progress::Whole(Some(delta), bytes) => {
-            settled(change_mantissa(slots, field, exponent, delta), bytes)
-        }
         Progress::Whole(None, bytes) => Progress::Whole(ValueSource::Absent, bytes),
         Progress::Wrong(code, bytes) => Progress::Wrong(code, bytes),
         Progress::Cut => Progress::Cut,

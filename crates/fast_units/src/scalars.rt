@@ -11,39 +11,37 @@ ghost use Rattle.fast_units.specs.device.Stages.{term_behind, IsStageOf};
 ghost use Rattle.fast_stream.specs.meaning.Units.{ascii_text};
 ghost use Rattle.fast_stream.specs.meaning.Phrases.{cut};
 ghost use Rattle.fast_units.specs.device.UnitFronts.{IsAsciiFirst, IsNumberStage, IsBytesStage, IsEntityKept, IsNextOf, settled, SettlesOnly};
-ghost use Rattle.fast_units.specs.device.Words.{IsOpenEntity, HasTextLimit, HasRoomFor, ServesField, previous_of, sent_reader, IsUnitOf};
+ghost use Rattle.fast_units.specs.device.Words.{HasTextLimit, HasRoomFor, ServesField, previous_of, sent_reader, IsUnitOf};
 
-use crate::numbers::{take_exponent, take_integer, take_mantissa, take_mantissa_delta};
+use crate::decimals::{take_exponent, take_mantissa, take_mantissa_delta};
+use crate::numbers::take_integer;
+use crate::pending::Pending;
 use crate::progress::Progress;
 use crate::scratch::Scratch;
 use crate::source::ValueSource;
 use crate::stages::{FieldStep, Stage};
-use crate::texts::{
-    take_part, take_part_size, take_part_vector, take_size, take_subtraction, take_text,
-    take_vector,
-};
+use crate::text_deltas::{take_part, take_part_size, take_part_vector, take_subtraction};
+use crate::texts::{take_size, take_text, take_vector};
 use fast_dict::Slots;
 use fast_tree::{FieldInstruction, Operator};
 use fast_value::{Kind, Limits};
-use fast_wire::Entity;
 
 /// The only unit of a field of integers.
 #[inline(always)]
 pub fn take_only(
     slots: &mut Slots,
-    pending: &mut Entity,
+    pending: &mut Pending,
     field: &FieldInstruction,
     rest: &[u8],
     limits: Limits,
 ) -> Progress<FieldStep>
     requires serves { ServesField slots.old field.now }
-    requires open { IsOpenEntity pending.old }
     requires integers { family field.now.kind ≡ integers (range_of field.now.kind) }
     requires varies { field.now.operator ≢ Operator.Constant }
     ensures unit { (scratch : List ℕ) → IsUnitOf limits (sent_reader limits.strict (bounds limits) slots.old field.now)
-        field.now pending.old rest.now slots.old slots.new scratch result }
+        field.now pending.old.bytes rest.now slots.old slots.new scratch result }
     ensures next { IsNextOf (bounds limits) (field_data field.now) (previous_of slots.old field.now) result }
-    ensures pending { IsEntityKept pending.old rest.now pending.new result }
+    ensures pending { IsEntityKept pending.old.bytes rest.now pending.new.bytes result }
     ensures terms { slots_terms slots.new ≡ slots_terms slots.old }
 {
     settled(take_integer(slots, pending, field, rest, limits.strict))
@@ -52,7 +50,7 @@ pub fn take_only(
 /// The first unit of a field that begins with an integer.
 pub fn take_first(
     slots: &mut Slots,
-    pending: &mut Entity,
+    pending: &mut Pending,
     scratch: &mut Scratch,
     joined: &mut Scratch,
     field: &FieldInstruction,
@@ -62,13 +60,12 @@ pub fn take_first(
     requires serves { ServesField slots.old field.now }
     requires limit { HasTextLimit slots.old limits }
     requires joined { HasRoomFor slots.old joined.old }
-    requires open { IsOpenEntity pending.old }
     requires number { ¬ (IsAsciiFirst (field_data field.now)) }
     requires varies { field.now.operator ≢ Operator.Constant }
-    ensures unit { IsUnitOf limits (sent_reader limits.strict (bounds limits) slots.old field.now) field.now pending.old
-        rest.now slots.old slots.new scratch.new.text result }
+    ensures unit { IsUnitOf limits (sent_reader limits.strict (bounds limits) slots.old field.now) field.now
+        pending.old.bytes rest.now slots.old slots.new scratch.new.text result }
     ensures next { IsNextOf (bounds limits) (field_data field.now) (previous_of slots.old field.now) result }
-    ensures pending { IsEntityKept pending.old rest.now pending.new result }
+    ensures pending { IsEntityKept pending.old.bytes rest.now pending.new.bytes result }
     ensures terms { slots_terms slots.new ≡ slots_terms slots.old }
     ensures capacity { (scratch.new.capacity ≡ scratch.old.capacity) × (joined.new.capacity ≡ joined.old.capacity) }
 {
@@ -120,7 +117,7 @@ pub fn take_first_text(
 #[inline(always)]
 pub fn take_number(
     slots: &mut Slots,
-    pending: &mut Entity,
+    pending: &mut Pending,
     joined: &mut Scratch,
     field: &FieldInstruction,
     stage: Stage,
@@ -130,14 +127,13 @@ pub fn take_number(
     requires serves { ServesField slots.old field.now }
     requires limit { HasTextLimit slots.old limits }
     requires joined { HasRoomFor slots.old joined.old }
-    requires open { IsOpenEntity pending.old }
     requires stage { IsStageOf (bounds limits) (field_data field.now) (previous_of slots.old field.now) stage }
     requires number { IsNumberStage (field_data field.now) stage }
     ensures unit { (text : List ℕ) → IsUnitOf limits (reader_of limits.strict
         (term_behind (bounds limits) (field_data field.now) (previous_of slots.old field.now) stage)) field.now
-        pending.old rest.now slots.old slots.new text result }
+        pending.old.bytes rest.now slots.old slots.new text result }
     ensures next { IsNextOf (bounds limits) (field_data field.now) (previous_of slots.old field.now) result }
-    ensures pending { IsEntityKept pending.old rest.now pending.new result }
+    ensures pending { IsEntityKept pending.old.bytes rest.now pending.new.bytes result }
     ensures terms { slots_terms slots.new ≡ slots_terms slots.old }
     ensures capacity { joined.new.capacity ≡ joined.old.capacity }
 {

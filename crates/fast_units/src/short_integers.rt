@@ -203,7 +203,7 @@ pub fn signed_item(
 
 /// The delta that an entity is, or NULL where it may be.
 #[inline(always)]
-fn quick_change(
+pub fn quick_change(
     optional: bool,
     rest: &[u8],
     entity: ShortEntity,

@@ -1,43 +1,39 @@
-//! Fields of texts that stand in the stream: ASCII and Unicode strings and byte vectors, whole, as tails and as deltas.
+//! Fields of texts that stand in the stream: ASCII and Unicode strings and byte vectors, whole and as tails.
 //!
-//! A unit at a time: an ASCII text, or the size of a vector and then its bytes; before the part of a delta its subtraction length.
-//! Of a unit that a piece cuts the bytes are in hand, in the entity or in the scratch, and nothing else changes.
+//! A unit at a time: an ASCII text, or the size of a vector and then its bytes. Of a unit that a piece cuts the bytes are in hand, in
+//! the pending integer or in the scratch, and nothing else changes.
 
-ghost use Rattle.std.specs.Prelude.{◌≡◌, ◌≢◌, ◌-◌, ◌<◌, ◌++◌, ℕ, List, [], length, false, Ok, Some, pos, IfOk};
-ghost use Rattle.fast_wire.specs.meaning.Integers.{IsWithin, unsigned_range, signed_range};
+ghost use Rattle.std.specs.Prelude.{◌≡◌, ◌≢◌, ◌<◌, ◌++◌, ℕ, List, [], length, false, Ok, Some, pos, IfOk};
+ghost use Rattle.fast_wire.specs.meaning.Integers.{IsWithin, unsigned_range};
 ghost use Rattle.fast_value.specs.meaning.Kinds.{texts, family};
 ghost use Rattle.fast_value.specs.meaning.Limits.{bounds};
 ghost use Rattle.fast_tree.specs.device.Nodes.{field_data};
-ghost use Rattle.fast_dict.specs.meaning.Operators.{Kept as KeptData, subtraction_step, kept_length};
 ghost use Rattle.fast_dict.specs.meaning.Slots.{slots_dictionary, slots_terms};
 ghost use Rattle.fast_stream.specs.meaning.Phrases.{cut};
-ghost use Rattle.fast_stream.specs.meaning.Fields.{text_change};
 ghost use Rattle.fast_stream.specs.meaning.Units.{ascii_text as ascii_phrase};
 ghost use Rattle.fast_stream.specs.device.GrammarReaders.{reader_of};
 ghost use Rattle.fast_units.specs.device.Stages.{IsStageOf};
-ghost use Rattle.fast_units.specs.device.TextDecisions.{IsStepped, first_reader, reader_behind, behind_size, behind_part_size, answered, settled, HasBytes};
-ghost use Rattle.fast_units.specs.device.Words.{IsOpenEntity, HasTextLimit, HasRoomFor, ServesField, previous_of, IsLastUnitOf, IsUnitOf, IsKeptCut};
+ghost use Rattle.fast_units.specs.device.TextDecisions.{IsStepped, first_reader, reader_behind, behind_size, answered, settled, HasBytes};
+ghost use Rattle.fast_units.specs.device.Words.{HasTextLimit, HasRoomFor, ServesField, previous_of, IsLastUnitOf, IsUnitOf, IsKeptCut};
 
+use crate::pending::Pending;
 use crate::progress::Progress;
 use crate::scratch::Scratch;
 use crate::source::ValueSource;
 use crate::stages::{FieldStep, Stage};
-use crate::text_outcomes::{
-    finish_absent, finish_ascii, finish_part, finish_text, kept, part_room,
-};
-use crate::units::{IntegerRange, Run, next_ascii, next_integer, next_raw, next_unsigned};
+use crate::text_outcomes::{finish_absent, finish_ascii, finish_text};
+use crate::units::{IntegerRange, Run, next_ascii, next_integer, next_raw};
 use fast_dict::Slots;
 use fast_dict::operators::sized;
 use fast_tree::{FieldInstruction, Operator};
 use fast_value::{Code, Kind, Limits};
-use fast_wire::Entity;
 
 /// The greatest size of a vector that its bytes can say.
-const TOP_SIZE: u64 = 4_294_967_295;
+pub(crate) const TOP_SIZE: u64 = 4_294_967_295;
 
 /// An answer behind so many bytes.
 #[inline]
-fn answered<T>(answer: Result<T, Code>, bytes: usize) -> Progress<T>
+pub(crate) fn answered<T>(answer: Result<T, Code>, bytes: usize) -> Progress<T>
     ensures { result ≡ answered answer bytes }
 {
     match answer {
@@ -48,7 +44,7 @@ fn answered<T>(answer: Result<T, Code>, bytes: usize) -> Progress<T>
 
 /// The last answer of a field as that of a unit.
 #[inline(always)]
-fn settled(answer: Result<ValueSource, Code>) -> Result<FieldStep, Code>
+pub(crate) fn settled(answer: Result<ValueSource, Code>) -> Result<FieldStep, Code>
     ensures { result ≡ settled answer }
 {
     answer.map(FieldStep::Settled)
@@ -56,20 +52,11 @@ fn settled(answer: Result<ValueSource, Code>) -> Result<FieldStep, Code>
 
 /// A size, of which it is known that it is a uInt32.
 #[inline]
-fn size_of(integer: i128) -> u32
+pub(crate) fn size_of(integer: i128) -> u32
     requires { IsWithin (unsigned_range 32) integer }
     ensures { pos result ≡ integer }
 {
     integer as u32
-}
-
-/// A subtraction length, of which it is known that it is an int32.
-#[inline]
-fn length_of(integer: i128) -> i32
-    requires { IsWithin (signed_range 31) integer }
-    ensures { result ≡ integer }
-{
-    integer as i32
 }
 
 /// Takes bytes of an ASCII text that is no delta: the first unit of its field, and the last.
@@ -115,7 +102,7 @@ pub fn take_text(
 /// Takes bytes of the size of a vector that is no delta: the first unit of its field. An empty vector has no bytes behind it.
 pub fn take_size(
     slots: &mut Slots,
-    pending: &mut Entity,
+    pending: &mut Pending,
     joined: &mut Scratch,
     field: &FieldInstruction,
     rest: &[u8],
@@ -127,13 +114,12 @@ pub fn take_size(
     requires kind { field.now.kind ≢ Kind.Ascii }
     requires sent { field.now.operator ≢ Operator.Constant }
     requires whole { field.now.operator ≢ Operator.Delta }
-    requires open { IsOpenEntity pending.old }
     requires joined { HasRoomFor slots.old joined.old }
     ensures unit { IsUnitOf limits (first_reader limits (field_data field.now) (slots_dictionary slots.old)) field.now
-        pending.old rest.now slots.old slots.new [] result }
+        pending.old.bytes rest.now slots.old slots.new [] result }
     ensures more { (step : FieldStep) (n : ℕ) → result ≡ Progress.Whole step n → HasBytes step }
-    ensures whole { (step : FieldStep) (n : ℕ) → result ≡ Progress.Whole step n → pending.new ≡ [] }
-    ensures cut { IsKeptCut pending.old rest.now pending.new result }
+    ensures whole { (step : FieldStep) (n : ℕ) → result ≡ Progress.Whole step n → pending.new.bytes ≡ [] }
+    ensures cut { IsKeptCut pending.old.bytes rest.now pending.new.bytes result }
     ensures terms { slots_terms slots.new ≡ slots_terms slots.old }
     ensures joined { joined.new.capacity ≡ joined.old.capacity }
 {
@@ -228,213 +214,6 @@ pub fn take_vector(
                 finish_text(slots, joined, field, text, ValueSource::Scratch),
                 bytes,
             )
-        }
-        Progress::Wrong(code, bytes) => Progress::Wrong(code, bytes),
-        Progress::Cut => Progress::Cut,
-    }
-}
-
-/// Takes bytes of the subtraction length of a delta: the first unit of its field.
-pub fn take_subtraction(
-    slots: &mut Slots,
-    pending: &mut Entity,
-    field: &FieldInstruction,
-    rest: &[u8],
-    limits: Limits,
-) -> Progress<FieldStep>
-    requires serves { ServesField slots.old field.now }
-    requires limit { HasTextLimit slots.old limits }
-    requires text { family field.now.kind ≡ texts }
-    requires delta { field.now.operator ≡ Operator.Delta }
-    requires open { IsOpenEntity pending.old }
-    ensures unit { (scratch : List ℕ) → IsUnitOf limits (first_reader limits (field_data field.now)
-        (slots_dictionary slots.old)) field.now pending.old rest.now slots.old slots.new scratch result }
-    ensures more { (step : FieldStep) (n : ℕ) → result ≡ Progress.Whole step n → HasBytes step }
-    ensures whole { (step : FieldStep) (n : ℕ) → result ≡ Progress.Whole step n → pending.new ≡ [] }
-    ensures cut { IsKeptCut pending.old rest.now pending.new result }
-    ensures terms { slots_terms slots.new ≡ slots_terms slots.old }
-{
-    let range = IntegerRange::Signed(-2_147_483_648, 2_147_483_647);
-    match next_integer(
-        pending,
-        rest,
-        limits.strict,
-        range,
-        field.optional,
-        Code::D7,
-    ) {
-        Progress::Whole(Some(length), bytes) => {
-            answered(part_next(slots, field, length_of(length)), bytes)
-        }
-        Progress::Whole(None, bytes) => {
-            Progress::Whole(FieldStep::Settled(finish_absent(slots, field)), bytes)
-        }
-        Progress::Wrong(code, bytes) => Progress::Wrong(code, bytes),
-        Progress::Cut => Progress::Cut,
-    }
-}
-
-/// What follows the subtraction length of a delta.
-fn part_next(slots: &Slots, field: &FieldInstruction, subtraction: i32) -> Result<FieldStep, Code>
-    requires serves { ServesField slots.now field.now }
-    requires text { family field.now.kind ≡ texts }
-    requires delta { field.now.operator ≡ Operator.Delta }
-    ensures step { (limits : Limits) (scratch piece : List ℕ)
-        → IsStepped limits (reader_of limits.strict (text_change (bounds limits) (field_data field.now)
-        (previous_of slots.now field.now) (Some subtraction))) (field_data field.now) (slots_dictionary slots.now)
-        (slots_dictionary slots.now) scratch piece result }
-    ensures more { IfOk result HasBytes }
-{
-    kept(slots, field, subtraction)?;
-    Ok(FieldStep::Next(Stage::Part(subtraction)))
-}
-
-/// Takes bytes of the part of an ASCII delta, behind the subtraction length.
-pub fn take_part(
-    slots: &mut Slots,
-    scratch: &mut Scratch,
-    joined: &mut Scratch,
-    field: &FieldInstruction,
-    subtraction: i32,
-    rest: &[u8],
-    limits: Limits,
-) -> Progress<ValueSource>
-    requires serves { ServesField slots.old field.now }
-    requires limit { HasTextLimit slots.old limits }
-    requires stage { IsStageOf (bounds limits) (field_data field.now) (previous_of slots.old field.now)
-        (Stage.Part subtraction) }
-    requires kind { field.now.kind ≡ Kind.Ascii }
-    requires open { (kept : KeptData) → subtraction_step (field_data field.now) (previous_of slots.old field.now)
-        subtraction ≡ Ok kept → ascii_phrase false (limits.max_text - kept_length kept) scratch.old.text [] cut }
-    requires scratch { HasRoomFor slots.old scratch.old }
-    requires joined { HasRoomFor slots.old joined.old }
-    ensures unit { IsLastUnitOf (reader_behind limits (field_data field.now) (slots_dictionary slots.old)
-        (Stage.Part subtraction)) field.now scratch.old.text rest.now slots.old slots.new scratch.new.text result }
-    ensures cut { result ≡ Progress.Cut → (scratch.new.text ≡ scratch.old.text ++ rest.now)
-        × ((kept : KeptData) → subtraction_step (field_data field.now) (previous_of slots.old field.now) subtraction
-        ≡ Ok kept → ascii_phrase false (limits.max_text - kept_length kept) scratch.new.text [] cut) }
-    ensures terms { slots_terms slots.new ≡ slots_terms slots.old }
-    ensures scratch { scratch.new.capacity ≡ scratch.old.capacity }
-    ensures joined { joined.new.capacity ≡ joined.old.capacity }
-{
-    let room = part_room(slots, field, subtraction, limits.max_text);
-    match next_ascii(scratch, rest, room, false) {
-        Progress::Whole(true, bytes) => {
-            let part = scratch.as_slice();
-            answered(finish_part(slots, joined, field, subtraction, part), bytes)
-        }
-        Progress::Whole(false, bytes) => Progress::Whole(finish_absent(slots, field), bytes),
-        Progress::Wrong(code, bytes) => Progress::Wrong(code, bytes),
-        Progress::Cut => Progress::Cut,
-    }
-}
-
-/// Takes bytes of the size of a vector delta's part, behind the subtraction length. An empty part has no bytes behind it.
-pub fn take_part_size(
-    slots: &mut Slots,
-    pending: &mut Entity,
-    joined: &mut Scratch,
-    field: &FieldInstruction,
-    subtraction: i32,
-    rest: &[u8],
-    limits: Limits,
-) -> Progress<FieldStep>
-    requires serves { ServesField slots.old field.now }
-    requires limit { HasTextLimit slots.old limits }
-    requires stage { IsStageOf (bounds limits) (field_data field.now) (previous_of slots.old field.now)
-        (Stage.Part subtraction) }
-    requires kind { field.now.kind ≢ Kind.Ascii }
-    requires open { IsOpenEntity pending.old }
-    requires joined { HasRoomFor slots.old joined.old }
-    ensures unit { (scratch : List ℕ) → IsUnitOf limits (reader_behind limits (field_data field.now)
-        (slots_dictionary slots.old) (Stage.Part subtraction)) field.now pending.old rest.now slots.old slots.new
-        scratch result }
-    ensures more { (step : FieldStep) (n : ℕ) → result ≡ Progress.Whole step n → HasBytes step }
-    ensures whole { (step : FieldStep) (n : ℕ) → result ≡ Progress.Whole step n → pending.new ≡ [] }
-    ensures cut { IsKeptCut pending.old rest.now pending.new result }
-    ensures terms { slots_terms slots.new ≡ slots_terms slots.old }
-    ensures joined { joined.new.capacity ≡ joined.old.capacity }
-{
-    match next_unsigned(pending, rest, limits.strict, TOP_SIZE) {
-        Progress::Whole(size, bytes) => {
-            let size = size_of(i128::from(size));
-            answered(
-                part_vector_next(slots, joined, field, subtraction, size, limits),
-                bytes,
-            )
-        }
-        Progress::Wrong(code, bytes) => Progress::Wrong(code, bytes),
-        Progress::Cut => Progress::Cut,
-    }
-}
-
-/// What follows the size of a vector delta's part.
-fn part_vector_next(
-    slots: &mut Slots,
-    joined: &mut Scratch,
-    field: &FieldInstruction,
-    subtraction: i32,
-    size: u32,
-    limits: Limits,
-) -> Result<FieldStep, Code>
-    requires serves { ServesField slots.old field.now }
-    requires limit { HasTextLimit slots.old limits }
-    requires stage { IsStageOf (bounds limits) (field_data field.now) (previous_of slots.old field.now)
-        (Stage.Part subtraction) }
-    requires kind { field.now.kind ≢ Kind.Ascii }
-    requires joined { HasRoomFor slots.old joined.old }
-    ensures step { (kept : KeptData) → subtraction_step (field_data field.now) (previous_of slots.old field.now)
-        subtraction ≡ Ok kept → (scratch piece : List ℕ)
-        → IsStepped limits (reader_of limits.strict (behind_part_size (bounds limits) (field_data field.now)
-        (previous_of slots.old field.now) kept (Some (pos size)))) (field_data field.now) (slots_dictionary slots.old)
-        (slots_dictionary slots.new) scratch piece result }
-    ensures more { IfOk result HasBytes }
-    ensures terms { slots_terms slots.new ≡ slots_terms slots.old }
-    ensures joined { joined.new.capacity ≡ joined.old.capacity }
-{
-    let room = part_room(slots, field, subtraction, limits.max_text);
-    let size = sized(size, room)?;
-    if size > 0 {
-        return Ok(FieldStep::Next(Stage::PartVector(subtraction, size)));
-    }
-    settled(finish_part(slots, joined, field, subtraction, &[]))
-}
-
-/// Takes bytes of a vector delta's part, behind its size.
-pub fn take_part_vector(
-    slots: &mut Slots,
-    scratch: &mut Scratch,
-    joined: &mut Scratch,
-    field: &FieldInstruction,
-    subtraction: i32,
-    size: usize,
-    rest: &[u8],
-    limits: Limits,
-) -> Progress<ValueSource>
-    requires serves { ServesField slots.old field.now }
-    requires limit { HasTextLimit slots.old limits }
-    requires stage { IsStageOf (bounds limits) (field_data field.now) (previous_of slots.old field.now)
-        (Stage.PartVector subtraction size) }
-    requires more { length scratch.old.text < size }
-    requires scratch { HasRoomFor slots.old scratch.old }
-    requires joined { HasRoomFor slots.old joined.old }
-    ensures unit { IsLastUnitOf (reader_behind limits (field_data field.now) (slots_dictionary slots.old)
-        (Stage.PartVector subtraction size)) field.now scratch.old.text rest.now slots.old slots.new scratch.new.text
-        result }
-    ensures cut { result ≡ Progress.Cut
-        → (scratch.new.text ≡ scratch.old.text ++ rest.now) × (length scratch.new.text < size) }
-    ensures terms { slots_terms slots.new ≡ slots_terms slots.old }
-    ensures scratch { scratch.new.capacity ≡ scratch.old.capacity }
-    ensures joined { joined.new.capacity ≡ joined.old.capacity }
-{
-    match next_raw(scratch, rest, size) {
-        Progress::Whole(Run::Piece, bytes) => {
-            let part = &rest[..bytes];
-            answered(finish_part(slots, joined, field, subtraction, part), bytes)
-        }
-        Progress::Whole(Run::Scratch, bytes) => {
-            let part = scratch.as_slice();
-            answered(finish_part(slots, joined, field, subtraction, part), bytes)
         }
         Progress::Wrong(code, bytes) => Progress::Wrong(code, bytes),
         Progress::Cut => Progress::Cut,

@@ -1,25 +1,25 @@
 //! The units of fields: an integer, an ASCII text, a run of bytes. Of a unit that a piece cuts the bytes are kept, and nothing
 //! else changes before it is whole.
 
-ghost use Rattle.std.specs.Prelude.{◌≡◌, ℕ, ◌<◌, ◌≤◌, Bool, true, false, [], ◌∷◌, ◌++◌, length, ℤ, Option, Some, pos, option_map, IfSome, IfNone, IfOk, IfErr};
-ghost use Rattle.fast_wire.specs.meaning.Entities.{HaveNoStop, IsEntity};
-ghost use Rattle.fast_wire.specs.meaning.Integers.{Range, unsigned_up_to, SpellsInt};
+ghost use Rattle.std.specs.Prelude.{◌≡◌, ℕ, ◌<◌, ◌≤◌, Bool, true, false, [], ◌∷◌, ◌++◌, length, ℤ, Option, Some, pos, option_map, IfSome, IfNone};
+ghost use Rattle.fast_wire.specs.meaning.Entities.{HaveNoStop};
+ghost use Rattle.fast_wire.specs.meaning.Integers.{Range, unsigned_up_to};
 ghost use Rattle.fast_wire.specs.device.Fronts.{IsFirstInt, IsWrongInt};
 ghost use Rattle.fast_stream.specs.meaning.Phrases.{cut};
 ghost use Rattle.fast_stream.specs.meaning.Units.{WrongInt, BeginsWithZero, ascii_text as ascii_phrase};
 ghost use Rattle.fast_stream.specs.meaning.Grammar.{give, integer, ascii_text, raw};
 ghost use Rattle.fast_stream.specs.device.GrammarReaders.{reader_of};
 ghost use Rattle.fast_units.specs.device.Taking.{IsUnit};
-ghost use Rattle.fast_units.specs.device.NextUnits.{range_data, first_mapped, IsRefusedInt, IsGathered, IsNextInteger, text_or_null, BeginsWithCharacter, IsNextText, IsNextRun};
-ghost use Rattle.fast_units.specs.device.Words.{IsOpenEntity, IsKeptCut};
+ghost use Rattle.fast_units.specs.device.NextUnits.{range_data, first_mapped, text_or_null, BeginsWithCharacter, IsNextText, IsNextRun};
+ghost use Rattle.fast_units.specs.device.Words.{IsKeptCut};
 
+use crate::pending::Pending;
 use crate::progress::Progress;
 use crate::scratch::Scratch;
 use fast_value::Code;
 use fast_wire::{
-    Entity, First, Step, WireFault, find_stop, first_nullable_signed, first_nullable_unsigned,
-    first_signed, first_unsigned, read_nullable_signed, read_nullable_unsigned, read_signed,
-    read_unsigned,
+    First, WireFault, find_stop, first_nullable_signed, first_nullable_unsigned, first_signed,
+    first_unsigned,
 };
 
 /// The integers that an entity may stand for, and whether it is read in two's complement.
@@ -35,18 +35,17 @@ pub enum IntegerRange {
 /// range is the fault that is named.
 #[inline(always)]
 pub fn next_integer(
-    pending: &mut Entity,
+    pending: &mut Pending,
     rest: &[u8],
     strict: bool,
     range: IntegerRange,
     nullable: bool,
     outside: Code,
 ) -> Progress<Option<i128>>
-    requires open { IsOpenEntity pending.old }
-    ensures unit { IsUnit (reader_of strict (integer (range_data range) nullable outside give)) (λ x. x) pending.old
-        rest.now result }
-    ensures whole { (x : Option ℤ) (n : ℕ) → result ≡ Progress.Whole x n → pending.new ≡ [] }
-    ensures cut { IsKeptCut pending.old rest.now pending.new result }
+    ensures unit { IsUnit (reader_of strict (integer (range_data range) nullable outside give)) (λ x. x)
+        pending.old.bytes rest.now result }
+    ensures whole { (x : Option ℤ) (n : ℕ) → result ≡ Progress.Whole x n → pending.new.bytes ≡ [] }
+    ensures cut { IsKeptCut pending.old.bytes rest.now pending.new.bytes result }
 {
     if pending.is_empty() {
         match first_integer(rest, strict, range, nullable) {
@@ -57,17 +56,16 @@ pub fn next_integer(
             First::Cut => {}
         }
     }
-    complete_integer(pending, rest, strict, range, nullable, outside)
+    pending.complete_integer(rest, strict, range, nullable, outside)
 }
 
 /// The mandatory integer from 0 to `top` that begins with the bytes in hand and goes on with the rest.
 #[inline(always)]
-pub fn next_unsigned(pending: &mut Entity, rest: &[u8], strict: bool, top: u64) -> Progress<u64>
-    requires open { IsOpenEntity pending.old }
+pub fn next_unsigned(pending: &mut Pending, rest: &[u8], strict: bool, top: u64) -> Progress<u64>
     ensures unit { IsUnit (reader_of strict (integer (unsigned_up_to top) false Code.D2 give)) (λ x. Some (pos x))
-        pending.old rest.now result }
-    ensures whole { (x n : ℕ) → result ≡ Progress.Whole x n → pending.new ≡ [] }
-    ensures cut { IsKeptCut pending.old rest.now pending.new result }
+        pending.old.bytes rest.now result }
+    ensures whole { (x n : ℕ) → result ≡ Progress.Whole x n → pending.new.bytes ≡ [] }
+    ensures cut { IsKeptCut pending.old.bytes rest.now pending.new.bytes result }
 {
     if pending.is_empty() {
         match first_unsigned(rest, strict, top) {
@@ -78,7 +76,7 @@ pub fn next_unsigned(pending: &mut Entity, rest: &[u8], strict: bool, top: u64) 
             First::Cut => {}
         }
     }
-    complete_unsigned(pending, rest, strict, top)
+    pending.complete_unsigned(rest, strict, top)
 }
 
 /// The ASCII text of at most `room` characters, or NULL where it may be, that begins with the bytes in the scratch and goes on
@@ -214,104 +212,6 @@ fn stream_fault(fault: WireFault, bytes: &[u8], outside: Code) -> Code
         WireFault::R6 => Code::R6,
         WireFault::D2 if bytes[bytes.len() - 1] < 0x80 => Code::D2,
         WireFault::D2 => outside,
-    }
-}
-
-/// Takes bytes until the entity is whole.
-fn gather(pending: &mut Entity, rest: &[u8]) -> Progress<()>
-    requires open { IsOpenEntity pending.old }
-    ensures { IsGathered pending.old rest.now pending.new result }
-{
-    for (i, byte) in rest.iter().enumerate() {
-        match pending.push(*byte) {
-            Step::More => {}
-            Step::Whole => return Progress::Whole((), i + 1),
-            Step::TooLong => return Progress::Wrong(Code::D2, i + 1),
-        }
-    }
-    Progress::Cut
-}
-
-/// `next_integer` byte by byte.
-#[cold]
-#[inline(never)]
-fn complete_integer(
-    pending: &mut Entity,
-    rest: &[u8],
-    strict: bool,
-    range: IntegerRange,
-    nullable: bool,
-    outside: Code,
-) -> Progress<Option<i128>>
-    requires open { IsOpenEntity pending.old }
-    ensures { IsNextInteger (λ x. x) strict (range_data range) nullable outside pending.old rest.now pending.new
-        result }
-{
-    match gather(pending, rest) {
-        Progress::Whole((), len) => {
-            let read = read_integer(pending.as_slice(), strict, range, nullable);
-            pending.clear();
-            match read {
-                Ok(x) => Progress::Whole(x, len),
-                Err(WireFault::R6) => Progress::Wrong(Code::R6, len),
-                Err(WireFault::D2) => Progress::Wrong(outside, len),
-            }
-        }
-        Progress::Wrong(code, len) => Progress::Wrong(code, len),
-        Progress::Cut => Progress::Cut,
-    }
-}
-
-/// `next_unsigned` byte by byte.
-#[cold]
-#[inline(never)]
-fn complete_unsigned(pending: &mut Entity, rest: &[u8], strict: bool, top: u64) -> Progress<u64>
-    requires open { IsOpenEntity pending.old }
-    ensures { IsNextInteger (λ x. Some (pos x)) strict (unsigned_up_to top) false Code.D2 pending.old rest.now
-        pending.new result }
-{
-    match gather(pending, rest) {
-        Progress::Whole((), len) => {
-            let read = read_unsigned(pending.as_slice(), strict, top);
-            pending.clear();
-            match read {
-                Ok(x) => Progress::Whole(x, len),
-                Err(WireFault::R6) => Progress::Wrong(Code::R6, len),
-                Err(WireFault::D2) => Progress::Wrong(Code::D2, len),
-            }
-        }
-        Progress::Wrong(code, len) => Progress::Wrong(code, len),
-        Progress::Cut => Progress::Cut,
-    }
-}
-
-/// A whole entity as an integer in the range, or NULL where it may be.
-fn read_integer(
-    w: &[u8],
-    strict: bool,
-    range: IntegerRange,
-    nullable: bool,
-) -> Result<Option<i128>, WireFault>
-    requires entity { IsEntity w.now }
-    requires short { length w.now ≤ 10 }
-    ensures value { IfOk result (λ x. SpellsInt strict (range_data range) nullable x w.now) }
-    ensures refused { IfErr result (λ fault. IsRefusedInt strict (range_data range) nullable fault w.now) }
-{
-    match range {
-        IntegerRange::Unsigned(top) => {
-            if nullable {
-                Ok(read_nullable_unsigned(w, strict, top)?.map(i128::from))
-            } else {
-                Ok(Some(i128::from(read_unsigned(w, strict, top)?)))
-            }
-        }
-        IntegerRange::Signed(low, top) => {
-            if nullable {
-                read_nullable_signed(w, strict, low, top)
-            } else {
-                Ok(Some(read_signed(w, strict, low, top)?))
-            }
-        }
     }
 }
 

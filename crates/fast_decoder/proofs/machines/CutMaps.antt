@@ -23,7 +23,7 @@ module _ (set : Set) (l : Limits) (m : Machine) (c : CursorData) (ready : IsRead
     pub map_ready : m.waiting ≡ Map → IsReady set l (record m { cursor = c })
     map_ready waits =
         let (no_stop_yet, room, unused, place) = subst (λ (v : Waiting). CanTake v set l m) waits ready.takes in
-        ready_at set l (record m { cursor = c }) Map map_supplied waits unused (
+        ready_at set l (record m { cursor = c }) Map map_supplied waits (
           subst HaveNoStop (sym map) no_stop,
           subst (λ (v : List ℕ). length v < map_limit) (sym map) short,
           unused,
@@ -34,7 +34,7 @@ module _ (set : Set) (l : Limits) (m : Machine) (c : CursorData) (ready : IsRead
     pub segment_map_ready : (width : ℕ) → m.waiting ≡ SegmentMap width → IsReady set l (record m { cursor = c })
     segment_map_ready width waits =
         let (no_stop_yet, room, unused, none, placed, wide) = subst (λ (v : Waiting). CanTake v set l m) waits ready.takes in
-        ready_at set l (record m { cursor = c }) (SegmentMap width) map_supplied waits unused (
+        ready_at set l (record m { cursor = c }) (SegmentMap width) map_supplied waits (
           subst HaveNoStop (sym map) no_stop,
           subst (λ (v : List ℕ). length v < map_limit) (sym map) short,
           unused,

@@ -93,7 +93,7 @@ module _ {S : Type 0} (takes stops : S → EventData → S → Type 0) (set : Se
 pub can_take_field : (set : Set) (l : Limits) (m : Machine) → m.waiting ≡ Field → IsReady set l m → CanTake Field set l m
 can_take_field set l m waits ready = subst (λ (w : Waiting). CanTake w set l m) waits ready.takes
 
-pub can_turn_field : (set : Set) (l : Limits) (m : Machine) → m.waiting ≡ Field → IsReady set l m → m.entity ≡ [] → CanTurn set l m
+pub can_turn_field : (set : Set) (l : Limits) (m : Machine) → m.waiting ≡ Field → IsReady set l m → m.entity.bytes ≡ [] → CanTurn set l m
 can_turn_field set l m waits ready none =
     let can = can_take_field set l m waits ready in
     record { supplied = ready.supplied; placed = can.0; mapped = can.1; unused = none }

@@ -1,7 +1,6 @@
 -- A machine that takes the units of its next instruction, a field.
 use Rattle.std.proofs.Common.{refl, sym, ap, ◌∙◌, subst}
 use Rattle.std.specs.Prelude.{◌≡◌, ℕ, ◌<◌, ◌≤◌, true, List, [], ◌++◌, length, take, drop, Option, Result, Ok, Err}
-use Rattle.fast_wire.specs.declared.entities.Entity.{Entity}
 use Rattle.fast_value.specs.declared.codes.Code.{Code}
 use Rattle.fast_value.specs.declared.settings.Limits.{Limits}
 use Rattle.fast_value.specs.meaning.Kinds.{ScalarData}
@@ -25,7 +24,7 @@ use Rattle.fast_decoder.specs.device.Handing.{IsTaken}
 use Rattle.fast_decoder.specs.device.Quick.{IsTakenTo}
 use Rattle.fast_units.specs.device.Settling.{IsSettled, value_at}
 use Rattle.fast_units.specs.device.Stages.{term_behind, IsStageOf, IsFieldUnit}
-use Rattle.fast_units.specs.device.Words.{IsOpenEntity}
+use Rattle.fast_units.specs.declared.pending.Pending.{Pending}
 use Rattle.fast_units.specs.device.UnitFronts.{IsSent, IsBytesStage, IsEntityKept, IsNextOf, IsNextStage, SettlesOnly}
 use Rattle.fast_stream.specs.meaning.Phrases.{cut}
 use Rattle.fast_stream.specs.meaning.Units.{ascii_text}
@@ -54,11 +53,11 @@ use Rattle.fast_decoder.proofs.units.Takes.{taken_fault, taken_stays}
 use Rattle.fast_decoder.proofs.machines.Quick.{taken_to}
 
 -- the machine with other values, and other bytes in hand
-abbrev pub with_units : Machine → Slots → Entity → Scratch → Scratch → Machine
+abbrev pub with_units : Machine → Slots → Pending → Scratch → Scratch → Machine
 with_units m s e t j = record m { slots = s; entity = e; text = t; joined = j }
 
 -- It is still supplied.
-pub still_supplied : (set : Set) (l : Limits) (m : Machine) (s : Slots) (e : Entity) (t j : Scratch) → slots_terms s ≡ slots_terms m.slots → t.capacity ≡ m.text.capacity → j.capacity ≡ m.joined.capacity
+pub still_supplied : (set : Set) (l : Limits) (m : Machine) (s : Slots) (e : Pending) (t j : Scratch) → slots_terms s ≡ slots_terms m.slots → t.capacity ≡ m.text.capacity → j.capacity ≡ m.joined.capacity
     → IsSupplied set l m → IsSupplied set l (with_units m s e t j)
 still_supplied set l m s e t j terms text joined h =
     supplied_like set l m (with_units m s e t j) h (record { terms = terms; text = text; joined = joined; widths = refl; identifier = refl; depth = refl }) h.counted
@@ -130,7 +129,7 @@ module _ (set : Set) (l : Limits) (m : Machine) (f : FieldData) (n : ℕ) where
       ap (λ (v : Option ScalarData). handed_then n behind v (state_past f (write_at f.entry o.next (slots_dictionary m.slots)) m.counted m.cursor)) h.value
       ∙ ap (λ (d : Dictionary). handed_then n behind (value_at source f new scratch piece) (state_past f d m.counted m.cursor)) (sym h.dictionary)
 
-  module _ (w : Waiting) (of : IsOfField w) (can : CanTake w set l m) (at : IsAtField set m.cursor n f) (s : Slots) (e : Entity) (t j : Scratch) (front rest : List ℕ) where
+  module _ (w : Waiting) (of : IsOfField w) (can : CanTake w set l m) (at : IsAtField set m.cursor n f) (s : Slots) (e : Pending) (t j : Scratch) (front rest : List ℕ) where
     -- A unit is whole.
     pub whole_here : (q : FieldStep) (b : ℕ)
         → IsFieldUnit l (reader_of l.strict (scalar_term w (bounds l) f (previous_at f.entry (slots_dictionary m.slots)))) f front rest (slots_dictionary m.slots) (slots_dictionary s) t.text (Whole q b)
@@ -172,7 +171,7 @@ unit_within l r f front rest old new scratch Cut h x b e = absurd cc
 cut_same : (l : Limits) (r : Reader Outcome) (f : FieldData) (front rest : List ℕ) (old new : Dictionary) (scratch : List ℕ) (q : Progress FieldStep) → q ≡ Cut → IsFieldUnit l r f front rest old new scratch q → new ≡ old
 cut_same l r f front rest old new scratch q e h = (subst (λ x. IsFieldUnit l r f front rest old new scratch x) e h).1
 
-module _ (set : Set) (l : Limits) (m : Machine) (f : FieldData) (n : ℕ) (rest : List ℕ) (s : Slots) (e : Entity) (t j : Scratch) (ready : IsReady set l m) (at : IsAtField set m.cursor n f) (supplied : IsSupplied set l (with_units m s e t j)) (q : Progress FieldStep) where
+module _ (set : Set) (l : Limits) (m : Machine) (f : FieldData) (n : ℕ) (rest : List ℕ) (s : Slots) (e : Pending) (t j : Scratch) (ready : IsReady set l m) (at : IsAtField set m.cursor n f) (supplied : IsSupplied set l (with_units m s e t j)) (q : Progress FieldStep) where
   -- What bytes of a unit were taken, by the unit.
   scalar_unit : (w : Waiting) → m.waiting ≡ w
       → IsFieldUnit l (reader_of l.strict (scalar_term w (bounds l) f (previous_at f.entry (slots_dictionary m.slots)))) f (front_at w m) rest (slots_dictionary m.slots) (slots_dictionary s) t.text q
@@ -183,16 +182,15 @@ module _ (set : Set) (l : Limits) (m : Machine) (f : FieldData) (n : ℕ) (rest 
     same = refl;
   }
 
-  again : (w : Waiting) → m.waiting ≡ w → IsOpenEntity e → CanTake w set l (with_units m s e t j) → IsReady set l (with_units m s e t j)
-  again w is is_open can = record {
+  again : (w : Waiting) → m.waiting ≡ w → CanTake w set l (with_units m s e t j) → IsReady set l (with_units m s e t j)
+  again w is can = record {
     supplied = supplied;
-    entity = is_open;
     takes = subst (λ (v : Waiting). CanTake v set l (with_units m s e t j)) (sym is) can;
   }
 
   -- It can go on.
   progress_by : (w : Waiting) → IsOfField w → CanTake w set l m → (r : Reader Outcome) (front : List ℕ) (p : Progress FieldStep) → IsFieldUnit l r f front rest (slots_dictionary m.slots) (slots_dictionary s) t.text p
-      → IsNextOf (bounds l) f (previous_at f.entry (slots_dictionary m.slots)) p → ((x : FieldStep) (b : ℕ) → p ≡ Whole x b → e ≡ []) → (p ≡ Cut → IsReady set l (with_units m s e t j)) → CanProgress set l (with_units m s e t j) f p
+      → IsNextOf (bounds l) f (previous_at f.entry (slots_dictionary m.slots)) p → ((x : FieldStep) (b : ℕ) → p ≡ Whole x b → e.bytes ≡ []) → (p ≡ Cut → IsReady set l (with_units m s e t j)) → CanProgress set l (with_units m s e t j) f p
   progress_by w of can r front (Whole (Settled source) b) h next emptied c = record {
     supplied = supplied;
     placed = (placed_by w set l m of can).0;
@@ -213,19 +211,19 @@ module _ (set : Set) (l : Limits) (m : Machine) (f : FieldData) (n : ℕ) (rest 
   progress_by w of can r front (Wrong c b) h next emptied k = supplied
   progress_by w of can r front Cut h next emptied k = k refl
 
-  emptied_by : (front : List ℕ) (p : Progress FieldStep) → IsEntityKept front rest e p → (x : FieldStep) (b : ℕ) → p ≡ Whole x b → e ≡ []
+  emptied_by : (front : List ℕ) (p : Progress FieldStep) → IsEntityKept front rest e.bytes p → (x : FieldStep) (b : ℕ) → p ≡ Whole x b → e.bytes ≡ []
   emptied_by front (Whole y k) h x b i = h
   emptied_by front (Wrong c k) h x b i = absurd cc
   emptied_by front Cut h x b i = absurd cc
 
-  cut_by : (front : List ℕ) → IsEntityKept front rest e q → q ≡ Cut → (e ≡ front ++ rest) × IsOpenEntity e
-  cut_by front h i = subst (λ (p : Progress FieldStep). IsEntityKept front rest e p) i h
+  cut_by : (front : List ℕ) → IsEntityKept front rest e.bytes q → q ≡ Cut → e.bytes ≡ front ++ rest
+  cut_by front h i = subst (λ (p : Progress FieldStep). IsEntityKept front rest e.bytes p) i h
 
   can_by : (w : Waiting) → m.waiting ≡ w → CanTake w set l m
   can_by w is = subst (λ (v : Waiting). CanTake v set l m) is ready.takes
 
   -- The unit was the text of the field.
-  pub text_taken : e ≡ m.entity → m.waiting ≡ Text → IsFieldUnit l (reader_of l.strict (field_term (bounds l) f (previous_at f.entry (slots_dictionary m.slots)) true)) f m.text.text rest (slots_dictionary m.slots) (slots_dictionary s) t.text q
+  pub text_taken : e.bytes ≡ m.entity.bytes → m.waiting ≡ Text → IsFieldUnit l (reader_of l.strict (field_term (bounds l) f (previous_at f.entry (slots_dictionary m.slots)) true)) f m.text.text rest (slots_dictionary m.slots) (slots_dictionary s) t.text q
       → SettlesOnly q → (q ≡ Cut → (t.text ≡ m.text.text ++ rest) × ascii_text f.optional l.max_text t.text [] cut)
       → IsScalarUnit l m (with_units m s e t j) f rest q × CanProgress set l (with_units m s e t j) f q
   text_taken held is h settles kept =
@@ -234,37 +232,37 @@ module _ (set : Set) (l : Limits) (m : Machine) (f : FieldData) (n : ℕ) (rest 
       let (sent, first, front) = subst (λ (b : Body). BeginsWithText l b (state_of m) m.text.text) body can.3 in (
         scalar_unit Text is h (λ i. (kept i).0),
         progress_by Text tt can (reader_of l.strict (field_term (bounds l) f (previous_at f.entry (slots_dictionary m.slots)) true)) m.text.text q h (next_of_settled (bounds l) f (previous_at f.entry (slots_dictionary m.slots)) q settles) (λ x b i. held ∙ can.2)
-            (λ i. again Text is (subst (λ (x : Entity). IsOpenEntity x) (sym held) ready.entity)
+            (λ i. again Text is
             (can.0, can.1, held ∙ can.2, subst (λ (b : Body). BeginsWithText l b (state_of (with_units m s e t j)) t.text) (sym body) (sent, first, (kept i).1))),
       )
 
   -- The unit was an integer, the first one of the field.
-  pub first_taken : m.waiting ≡ Field → IsFieldUnit l (reader_of l.strict (field_term (bounds l) f (previous_at f.entry (slots_dictionary m.slots)) true)) f m.entity rest (slots_dictionary m.slots) (slots_dictionary s) t.text q
-      → IsNextOf (bounds l) f (previous_at f.entry (slots_dictionary m.slots)) q → IsEntityKept m.entity rest e q
+  pub first_taken : m.waiting ≡ Field → IsFieldUnit l (reader_of l.strict (field_term (bounds l) f (previous_at f.entry (slots_dictionary m.slots)) true)) f m.entity.bytes rest (slots_dictionary m.slots) (slots_dictionary s) t.text q
+      → IsNextOf (bounds l) f (previous_at f.entry (slots_dictionary m.slots)) q → IsEntityKept m.entity.bytes rest e.bytes q
       → IsScalarUnit l m (with_units m s e t j) f rest q × CanProgress set l (with_units m s e t j) f q
   first_taken is h next kept =
       let can = can_by Field is in (
-        scalar_unit Field is h (λ i. (cut_by m.entity kept i).0),
-        progress_by Field tt can (reader_of l.strict (field_term (bounds l) f (previous_at f.entry (slots_dictionary m.slots)) true)) m.entity q h next (emptied_by m.entity q kept)
-            (λ i. again Field is (cut_by m.entity kept i).1
-            (can.0, can.1, subst (λ (d : Dictionary). BeginsWithInteger (body_in set m.cursor.left) (state_in d m.counted m.cursor)) (sym (cut_same l (reader_of l.strict (field_term (bounds l) f (previous_at f.entry (slots_dictionary m.slots)) true)) f m.entity rest (slots_dictionary m.slots) (slots_dictionary s) t.text q i h)) can.2)),
+        scalar_unit Field is h (cut_by m.entity.bytes kept),
+        progress_by Field tt can (reader_of l.strict (field_term (bounds l) f (previous_at f.entry (slots_dictionary m.slots)) true)) m.entity.bytes q h next (emptied_by m.entity.bytes q kept)
+            (λ i. again Field is
+            (can.0, can.1, subst (λ (d : Dictionary). BeginsWithInteger (body_in set m.cursor.left) (state_in d m.counted m.cursor)) (sym (cut_same l (reader_of l.strict (field_term (bounds l) f (previous_at f.entry (slots_dictionary m.slots)) true)) f m.entity.bytes rest (slots_dictionary m.slots) (slots_dictionary s) t.text q i h)) can.2)),
       )
 
   -- The unit was an integer, a later one of the field.
-  pub number_taken : (stage : Stage) → m.waiting ≡ Number stage → IsFieldUnit l (reader_of l.strict (term_behind (bounds l) f (previous_at f.entry (slots_dictionary m.slots)) stage)) f m.entity rest (slots_dictionary m.slots) (slots_dictionary s) t.text q
-      → IsNextOf (bounds l) f (previous_at f.entry (slots_dictionary m.slots)) q → IsEntityKept m.entity rest e q
+  pub number_taken : (stage : Stage) → m.waiting ≡ Number stage → IsFieldUnit l (reader_of l.strict (term_behind (bounds l) f (previous_at f.entry (slots_dictionary m.slots)) stage)) f m.entity.bytes rest (slots_dictionary m.slots) (slots_dictionary s) t.text q
+      → IsNextOf (bounds l) f (previous_at f.entry (slots_dictionary m.slots)) q → IsEntityKept m.entity.bytes rest e.bytes q
       → IsScalarUnit l m (with_units m s e t j) f rest q × CanProgress set l (with_units m s e t j) f q
   number_taken stage is h next kept =
       let can = can_by (Number stage) is in
       let r = reader_of l.strict (term_behind (bounds l) f (previous_at f.entry (slots_dictionary m.slots)) stage) in (
-        scalar_unit (Number stage) is h (λ i. (cut_by m.entity kept i).0),
-        progress_by (Number stage) tt can r m.entity q h next (emptied_by m.entity q kept)
-            (λ i. again (Number stage) is (cut_by m.entity kept i).1
-            (can.0, can.1, subst (λ (d : Dictionary). GoesOnWithNumber l (body_in set m.cursor.left) (state_in d m.counted m.cursor) stage) (sym (cut_same l r f m.entity rest (slots_dictionary m.slots) (slots_dictionary s) t.text q i h)) can.2)),
+        scalar_unit (Number stage) is h (cut_by m.entity.bytes kept),
+        progress_by (Number stage) tt can r m.entity.bytes q h next (emptied_by m.entity.bytes q kept)
+            (λ i. again (Number stage) is
+            (can.0, can.1, subst (λ (d : Dictionary). GoesOnWithNumber l (body_in set m.cursor.left) (state_in d m.counted m.cursor) stage) (sym (cut_same l r f m.entity.bytes rest (slots_dictionary m.slots) (slots_dictionary s) t.text q i h)) can.2)),
       )
 
   -- The unit was a text or a run of bytes, a later one of the field.
-  pub bytes_taken : (stage : Stage) → e ≡ m.entity → m.waiting ≡ Bytes stage → IsFieldUnit l (reader_of l.strict (term_behind (bounds l) f (previous_at f.entry (slots_dictionary m.slots)) stage)) f m.text.text rest (slots_dictionary m.slots) (slots_dictionary s) t.text q
+  pub bytes_taken : (stage : Stage) → e.bytes ≡ m.entity.bytes → m.waiting ≡ Bytes stage → IsFieldUnit l (reader_of l.strict (term_behind (bounds l) f (previous_at f.entry (slots_dictionary m.slots)) stage)) f m.text.text rest (slots_dictionary m.slots) (slots_dictionary s) t.text q
       → SettlesOnly q → (q ≡ Cut → (t.text ≡ m.text.text ++ rest) × IsBytesStage (bounds l) f (previous_at f.entry (slots_dictionary m.slots)) stage t.text)
       → IsScalarUnit l m (with_units m s e t j) f rest q × CanProgress set l (with_units m s e t j) f q
   bytes_taken stage held is h settles kept =
@@ -274,7 +272,7 @@ module _ (set : Set) (l : Limits) (m : Machine) (f : FieldData) (n : ℕ) (rest 
       let (sent, is_stage, front) = subst (λ (b : Body). GoesOnWithBytes l b (state_of m) stage m.text.text) body can.3 in (
         scalar_unit (Bytes stage) is h (λ i. (kept i).0),
         progress_by (Bytes stage) tt can r m.text.text q h (next_of_settled (bounds l) f (previous_at f.entry (slots_dictionary m.slots)) q settles) (λ x b i. held ∙ can.2)
-            (λ i. again (Bytes stage) is (subst (λ (x : Entity). IsOpenEntity x) (sym held) ready.entity) (
+            (λ i. again (Bytes stage) is (
               can.0,
               can.1,
               held ∙ can.2,
@@ -295,7 +293,7 @@ meaning_of (Bytes stage) set l m of = refl
 meaning_of (Mantissa x) set l m of = absurd of
 
 -- It is the same, as long as the dictionary is.
-term_same : (w : Waiting) (set : Set) (l : Bounds) (m : Machine) (s : Slots) (e : Entity) (t j : Scratch) → IsOfField w → slots_dictionary s ≡ slots_dictionary m.slots → term_at w set l (with_units m s e t j) ≡ term_at w set l m
+term_same : (w : Waiting) (set : Set) (l : Bounds) (m : Machine) (s : Slots) (e : Pending) (t j : Scratch) → IsOfField w → slots_dictionary s ≡ slots_dictionary m.slots → term_at w set l (with_units m s e t j) ≡ term_at w set l m
 term_same Map set l m s e t j of same = absurd of
 term_same Identifier set l m s e t j of same = absurd of
 term_same (SegmentMap width) set l m s e t j of same = absurd of

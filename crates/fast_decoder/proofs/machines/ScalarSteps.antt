@@ -94,12 +94,12 @@ module _ (set : Set) (l : Limits) (m : Machine) (f : FieldData) (n : ℕ) (stage
   module _ (t : Scratch) (w : Waiting) (room : t.capacity ≡ m.text.capacity) where
     ready_by : (w ≡ Awaits.Number stage) × IsNumberStage f stage ⊎ (w ≡ Awaits.Bytes stage) × (t.text ≡ []) × ¬ (IsNumberStage f stage) → IsReady set l (record m { waiting = w; text = t }) × (from_stage ≡ meaning set l (record m { waiting = w; text = t }))
     ready_by (inl (e, number)) = (
-      ready_at set l (record m { waiting = w; text = t }) (Awaits.Number stage) (can_turn_waits set l m w t step.0 room).supplied e step.0.unused
+      ready_at set l (record m { waiting = w; text = t }) (Awaits.Number stage) (can_turn_waits set l m w t step.0 room).supplied e
           (step.0.placed, step.0.mapped, subst (λ (b : Body). GoesOnWithNumber l b (state_of m) stage) (sym at.3) (step.1, step.2, number)),
       sym (ap (λ (v : Waiting). meaning_at v set l (record m { waiting = w; text = t })) e ∙ ap (λ front. after_bytes from_stage front) step.0.unused),
     )
     ready_by (inr (e, none, other)) = (
-      ready_at set l (record m { waiting = w; text = t }) (Awaits.Bytes stage) (can_turn_waits set l m w t step.0 room).supplied e step.0.unused (
+      ready_at set l (record m { waiting = w; text = t }) (Awaits.Bytes stage) (can_turn_waits set l m w t step.0 room).supplied e (
         step.0.placed,
         step.0.mapped,
         step.0.unused,

@@ -70,7 +70,7 @@ module _ {S : Type 0} (takes stops : S → EventData → S → Type 0) (set : Se
 
 -- The item of the field at the next node, which the dictionary has kept.
 pub sent_item : (t : Templates) (l : Limits) (m : Machine) (slots : Slots) (node : ℕ) (v : Node) (field : FieldInstruction) (rest : List ℕ) (item : Option Number) (n : ℕ)
-    → m.waiting ≡ Waiting.Field → IsReady (set_of t) l m → m.entity ≡ [] → first_node m.cursor.left ≡ Some node → slice_get t.nodes.items node ≡ Some v → v.shape ≡ Shape.Field field
+    → m.waiting ≡ Waiting.Field → IsReady (set_of t) l m → m.entity.bytes ≡ [] → first_node m.cursor.left ≡ Some node → slice_get t.nodes.items node ≡ Some v → v.shape ≡ Shape.Field field
     → slots_terms slots ≡ slots_terms m.slots
     → ((scratch : List ℕ) → IsLastUnit (reader_of l.strict (field_term (bounds l) (field_data field) (previous_at (field_data field).entry (slots_dictionary m.slots)) true)) (field_data field) [] rest (slots_dictionary m.slots) (slots_dictionary slots) scratch (Whole (source_of item) n))
     → IsSentItem (set_of t) l m (record m { slots = slots }) node (field_data field) rest item n

@@ -37,6 +37,7 @@ use Rattle.fast_stream.specs.device.Continuations.{handed_then, mantissa_after_t
 use Rattle.fast_stream.specs.device.Frames.{resume}
 use Rattle.fast_units.specs.device.Deciding.{IsDecided}
 use Rattle.fast_units.specs.declared.source.ValueSource.{ValueSource}
+use Rattle.fast_units.specs.declared.pending.Pending.{Pending}
 use Rattle.fast_stream.specs.device.Readers.{Reader, Stop}
 use Rattle.fast_stream.specs.device.Machine.{after_bytes}
 use Rattle.fast_stream.specs.device.GrammarReaders.{reader_of}
@@ -115,7 +116,7 @@ can_turn_past set l m m' h i counted entity past = record {
   supplied = supplied_like set l m m' h.supplied i counted;
   placed = placed_past set m.cursor m'.cursor h.placed past;
   mapped = rw past.same h.mapped;
-  unused = entity ∙ h.unused;
+  unused = ap (λ (x : Pending). x.bytes) entity ∙ h.unused;
 }
 
 -- The machine goes on, where its turn is no end.
@@ -154,7 +155,7 @@ module _ {S : Type 0} (takes stops : S → EventData → S → Type 0) (set : Se
   }
 
 -- A machine that waits for an integer, none of whose bytes is there, has all of the next instruction to read.
-pub meaning_field : (set : Set) (l : Limits) (m : Machine) → m.waiting ≡ Field → m.entity ≡ [] → meaning set l m ≡ turning set l m
+pub meaning_field : (set : Set) (l : Limits) (m : Machine) → m.waiting ≡ Field → m.entity.bytes ≡ [] → meaning set l m ≡ turning set l m
 meaning_field set l m e i = ap (λ w. meaning_at w set l m) e ∙ ap (λ front. after_bytes (turning set l m) front) i
 
 -- So has one that waits for a text.
@@ -162,15 +163,14 @@ pub meaning_text : (set : Set) (l : Limits) (m : Machine) → m.waiting ≡ Text
 meaning_text set l m e i = ap (λ w. meaning_at w set l m) e ∙ ap (λ front. after_bytes (turning set l m) front) i
 
 -- So has one that waits for a mantissa, from there on.
-pub meaning_mantissa : (set : Set) (l : Limits) (m : Machine) (x : ℤ) → m.waiting ≡ Mantissa x → m.entity ≡ []
+pub meaning_mantissa : (set : Set) (l : Limits) (m : Machine) (x : ℤ) → m.waiting ≡ Mantissa x → m.entity.bytes ≡ []
     → meaning set l m ≡ reader_of l.strict (mantissa_then (bounds l) (frames_in set m.cursor.frames) (body_in set m.cursor.left) (state_in (slots_dictionary m.slots) m.counted m.cursor) x)
 meaning_mantissa set l m x e i = ap (λ w. meaning_at w set l m) e ∙ ap (λ front. after_bytes (reader_of l.strict (term_at (Mantissa x) set (bounds l) m)) front) i
 
 -- A machine with no byte of an integer in hand is ready, if it can take the unit that it waits for.
-pub ready_at : (set : Set) (l : Limits) (m : Machine) (w : Waiting) → IsSupplied set l m → m.waiting ≡ w → m.entity ≡ [] → CanTake w set l m → IsReady set l m
-ready_at set l m w supplied e i h = record {
+pub ready_at : (set : Set) (l : Limits) (m : Machine) (w : Waiting) → IsSupplied set l m → m.waiting ≡ w → CanTake w set l m → IsReady set l m
+ready_at set l m w supplied e h = record {
   supplied = supplied;
-  entity = (rw i (λ k d below. absurd (omega (arith, below))), rw i (omega arith));
   takes = subst (λ (x : Waiting). CanTake x set l m) (sym e) h;
 }
 
@@ -367,17 +367,17 @@ module _ {S : Type 0} (takes stops : S → EventData → S → Type 0) (set : Se
 
   -- The machine waits for an integer, with which the next instruction begins.
   pub turn_number : (s : S) (m : Machine) → CanTurn set l m → m.waiting ≡ Field → BeginsWithInteger (body_in set m.cursor.left) (state_of m) → Waits (turning set l m) → IsTurn takes stops set l (turning set l m) s (Ok TurnWaits) s m
-  turn_number s m h waiting begins waits = turn_waits takes stops set l (turning set l m) s m (sym (meaning_field set l m waiting h.unused)) waits (ready_at set l m Field h.supplied waiting h.unused (h.placed, h.mapped, begins))
+  turn_number s m h waiting begins waits = turn_waits takes stops set l (turning set l m) s m (sym (meaning_field set l m waiting h.unused)) waits (ready_at set l m Field h.supplied waiting (h.placed, h.mapped, begins))
 
   -- The machine waits for a mantissa.
   pub turn_mantissa : (s : S) (m : Machine) (x : ℤ) (r : Reader Dictionary) → CanTurn set l m → m.waiting ≡ Mantissa x → GoesOnWithMantissa (body_in set m.cursor.left) (state_of m)
       → r ≡ reader_of l.strict (mantissa_then (bounds l) (frames_in set m.cursor.frames) (body_in set m.cursor.left) (state_of m) x) → Waits r → IsTurn takes stops set l r s (Ok TurnWaits) s m
-  turn_mantissa s m x r h waiting begins e waits = turn_waits takes stops set l r s m (e ∙ sym (meaning_mantissa set l m x waiting h.unused)) waits (ready_at set l m (Mantissa x) h.supplied waiting h.unused (h.placed, h.mapped, begins))
+  turn_mantissa s m x r h waiting begins e waits = turn_waits takes stops set l r s m (e ∙ sym (meaning_mantissa set l m x waiting h.unused)) waits (ready_at set l m (Mantissa x) h.supplied waiting (h.placed, h.mapped, begins))
 
   -- The machine waits for a text, which is the next instruction.
   turn_text : (s : S) (m : Machine) → CanTurn set l m → m.waiting ≡ Text → m.text.text ≡ [] → BeginsWithText l (body_in set m.cursor.left) (state_of m) [] → Waits (turning set l m) → IsTurn takes stops set l (turning set l m) s (Ok TurnWaits) s m
   turn_text s m h waiting none begins waits = turn_waits takes stops set l (turning set l m) s m (sym (meaning_text set l m waiting none)) waits
-      (ready_at set l m Text h.supplied waiting h.unused (h.placed, h.mapped, h.unused, subst (λ w. BeginsWithText l (body_in set m.cursor.left) (state_of m) w) (sym none) begins))
+      (ready_at set l m Text h.supplied waiting (h.placed, h.mapped, h.unused, subst (λ w. BeginsWithText l (body_in set m.cursor.left) (state_of m) w) (sym none) begins))
 
   first_by : (s : S) (m : Machine) (n : ℕ) (f : FieldData) → CanTurn set l m → IsAtField set m.cursor n f → IsSent f (bit_of f (state_of m)) → Waits (turning set l m)
       → (IsAsciiFirst f → (m.waiting ≡ Text) × (m.text.text ≡ [])) → (¬ (IsAsciiFirst f) → m.waiting ≡ Field) → IsAsciiFirst f ⊎ ¬ (IsAsciiFirst f)

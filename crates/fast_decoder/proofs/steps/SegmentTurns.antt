@@ -4,7 +4,6 @@ use Rattle.std.specs.Prelude.{◌≡◌, ◌≢◌, ℕ, zero, suc, ◌+◌, ◌
 use Rattle.std.proofs.Math.Nat.{le-max_left}
 use Rattle.std.proofs.lemmas.Bool.{lt-ltb}
 use Rattle.std.proofs.lemmas.Grind.{get_or_default_zero}
-use Rattle.fast_wire.specs.meaning.Entities.{HaveNoStop}
 use Rattle.fast_wire.specs.meaning.Maps.{bits, first_bit, later_bits}
 use Rattle.fast_value.specs.declared.settings.Limits.{Limits}
 use Rattle.fast_value.specs.declared.codes.Code.{Code}
@@ -124,7 +123,6 @@ module _ {S : Type 0} (takes stops : S → EventData → S → Type 0) (set : Se
         supplied = supplied;
         goes_on = record {
           supplied = supplied;
-          entity = (subst HaveNoStop (sym h.unused) below-nil, let none : length m.entity ≡ 0 = ap length h.unused in omega (arith, none));
           takes = (below-nil, omega arith, h.unused, refl, placed_in set m.cursor elements body h.placed h.mapped below nested fit, wide);
         };
       })
@@ -166,7 +164,6 @@ module _ {S : Type 0} (takes stops : S → EventData → S → Type 0) (set : Se
         supplied = supplied;
         goes_on = record {
           supplied = supplied;
-          entity = (subst HaveNoStop (sym h.unused) below-nil, let none : length m.entity ≡ 0 = ap length h.unused in omega (arith, none));
           takes = (below-nil, omega arith, h.unused, refl);
         };
       })

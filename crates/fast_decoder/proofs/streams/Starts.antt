@@ -31,7 +31,6 @@ ready_fresh set l m supplied f =
     let rest : m.cursor ≡ record (at_rest m.cursor.depth) { map = m.cursor.map } = f.cursor ∙ ap (λ (w : List ℕ). record (at_rest m.cursor.depth) { map = w }) (sym map) in
     record {
       supplied = supplied;
-      entity = (none_open m.entity f.entity, none_short m.entity 10 f.entity (omega arith));
       takes = subst (λ (w : Waiting). CanTake w set l m) (sym f.waiting) (none_open m.cursor.map map, none_short m.cursor.map map_limit map (omega arith), f.entity, rest);
     }
 

@@ -124,8 +124,8 @@ first_of nodes n ns later below =
     ]
 
 module _ (set : Set) (l : Limits) (m : Machine) (later : NameLaterNodes set.nodes) (ready : IsReady set l m) where
-  open_here : IsOpen m.entity
-  open_here = record { no_stop = ready.entity.0; short = ready.entity.1 }
+  open_here : IsOpen m.entity.bytes
+  open_here = record { no_stop = m.entity.no_stop; short = m.entity.short }
 
   abbrev st : State
   st = state_in (slots_dictionary m.slots) m.counted m.cursor
@@ -133,14 +133,14 @@ module _ (set : Set) (l : Limits) (m : Machine) (later : NameLaterNodes set.node
   abbrev fs : List Frame
   fs = frames_in set m.cursor.frames
 
-  identifier_waits : CanTake Identifier set l m → Stays (reader_of l.strict (term_at Identifier set (bounds l) m)) m.entity
+  identifier_waits : CanTake Identifier set l m → Stays (reader_of l.strict (term_at Identifier set (bounds l) m)) m.entity.bytes
   identifier_waits h =
       let d : Dictionary = slots_dictionary m.slots in
       let at : State = begin d (bits m.cursor.map) in
       let k = message_behind_then (tree_in set) (bounds l) m.cursor.map in
       let sent : bit_of identifier at ≡ true = h.1 in
       stays_as (field_then l.strict (bounds l) identifier at k ∙ ap (λ b. bind (reader_of l.strict (field_term (bounds l) identifier (before identifier at) b)) (λ o. reader_of l.strict (k (found identifier at o)))) sent)
-      (stays_on (λ o. reader_of l.strict (k (found identifier at o))) (field_open l.strict (bounds l) identifier (before identifier at) m.entity (no_ascii identifier UInt32 refl (λ i. absurd (cc i))) (λ i. absurd (cc i)) open_here))
+      (stays_on (λ o. reader_of l.strict (k (found identifier at o))) (field_open l.strict (bounds l) identifier (before identifier at) m.entity.bytes (no_ascii identifier UInt32 refl (λ i. absurd (cc i))) (λ i. absurd (cc i)) open_here))
 
   with_left : (P : List ℕ → Type 0) → AreBelow (length set.nodes) m.cursor.left → P [] → ((n : ℕ) (ns : List ℕ) → First set.nodes (n ∷ ns) → P (n ∷ ns)) → P m.cursor.left
   with_left P below none some = by m.cursor.left below
@@ -155,9 +155,9 @@ module _ (set : Set) (l : Limits) (m : Machine) (later : NameLaterNodes set.node
   waits_at Identifier h c = identifier_waits c
   waits_at (SegmentMap width) h c = map_open l.strict (λ w. narrow width w (resume (bounds l) fs (body_in set m.cursor.left) (record { context = record { dictionary = slots_dictionary m.slots; counted = m.counted }; bits = bits w }))) m.cursor.map c.0 c.1
   waits_at Field h c =
-      with_left (λ ns. BeginsWithInteger (body_in set ns) st → Stays (reader_of l.strict (resume (bounds l) fs (body_in set ns) st)) m.entity) c.0.below
+      with_left (λ ns. BeginsWithInteger (body_in set ns) st → Stays (reader_of l.strict (resume (bounds l) fs (body_in set ns) st)) m.entity.bytes) c.0.below
       (λ b. absurd b)
-      (λ n ns x. λ b. by_number l.strict (bounds l) fs set.nodes set.entries (slots_terms m.slots) (label_of x.number x.node) (body_among set.nodes (drop 1 (n ∷ ns))) (body_in set (n ∷ ns)) st x.node.shape m.entity x.body (ready.supplied.serves x.number x.node x.found) b open_here)
+      (λ n ns x. λ b. by_number l.strict (bounds l) fs set.nodes set.entries (slots_terms m.slots) (label_of x.number x.node) (body_among set.nodes (drop 1 (n ∷ ns))) (body_in set (n ∷ ns)) st x.node.shape m.entity.bytes x.body (ready.supplied.serves x.number x.node x.found) b open_here)
       c.2
   waits_at Text h c =
       with_left (λ ns. BeginsWithText l (body_in set ns) st m.text.text → Stays (reader_of l.strict (resume (bounds l) fs (body_in set ns) st)) m.text.text) c.0.below
@@ -165,9 +165,9 @@ module _ (set : Set) (l : Limits) (m : Machine) (later : NameLaterNodes set.node
       (λ n ns x. λ b. by_ascii l.strict (bounds l) fs set.nodes set.entries (slots_terms m.slots) (label_of x.number x.node) (body_among set.nodes (drop 1 (n ∷ ns))) (body_in set (n ∷ ns)) st l x.node.shape m.text.text refl x.body b)
       c.3
   waits_at (Number stage) h c =
-      with_left (λ ns. GoesOnWithNumber l (body_in set ns) st stage → Stays (reader_of l.strict (unit_then (bounds l) fs (body_in set ns) st stage)) m.entity) c.0.below
+      with_left (λ ns. GoesOnWithNumber l (body_in set ns) st stage → Stays (reader_of l.strict (unit_then (bounds l) fs (body_in set ns) st stage)) m.entity.bytes) c.0.below
       (λ b. absurd b)
-      (λ n ns x. λ b. by_later l.strict (bounds l) fs set.nodes set.entries (slots_terms m.slots) (label_of x.number x.node) (body_among set.nodes (drop 1 (n ∷ ns))) (body_in set (n ∷ ns)) st l x.node.shape stage m.entity refl x.body b open_here)
+      (λ n ns x. λ b. by_later l.strict (bounds l) fs set.nodes set.entries (slots_terms m.slots) (label_of x.number x.node) (body_among set.nodes (drop 1 (n ∷ ns))) (body_in set (n ∷ ns)) st l x.node.shape stage m.entity.bytes refl x.body b open_here)
       c.2
   waits_at (Bytes stage) h c =
       with_left (λ ns. GoesOnWithBytes l (body_in set ns) st stage m.text.text → Stays (reader_of l.strict (unit_then (bounds l) fs (body_in set ns) st stage)) m.text.text) c.0.below
@@ -175,9 +175,9 @@ module _ (set : Set) (l : Limits) (m : Machine) (later : NameLaterNodes set.node
       (λ n ns x. λ b. by_bytes l.strict (bounds l) fs set.nodes set.entries (slots_terms m.slots) (label_of x.number x.node) (body_among set.nodes (drop 1 (n ∷ ns))) (body_in set (n ∷ ns)) st l x.node.shape stage m.text.text refl x.body b)
       c.3
   waits_at (Mantissa x) h c =
-      with_left (λ ns. GoesOnWithMantissa (body_in set ns) st → Stays (reader_of l.strict (mantissa_then (bounds l) fs (body_in set ns) st x)) m.entity) c.0.below
+      with_left (λ ns. GoesOnWithMantissa (body_in set ns) st → Stays (reader_of l.strict (mantissa_then (bounds l) fs (body_in set ns) st x)) m.entity.bytes) c.0.below
       (λ b. absurd b)
-      (λ n ns y. λ b. by_mantissa l.strict (bounds l) fs set.nodes set.entries (slots_terms m.slots) (label_of y.number y.node) (body_among set.nodes (drop 1 (n ∷ ns))) (body_in set (n ∷ ns)) st y.node.shape x m.entity y.body (ready.supplied.serves y.number y.node y.found) b open_here)
+      (λ n ns y. λ b. by_mantissa l.strict (bounds l) fs set.nodes set.entries (slots_terms m.slots) (label_of y.number y.node) (body_among set.nodes (drop 1 (n ∷ ns))) (body_in set (n ∷ ns)) st y.node.shape x m.entity.bytes y.body (ready.supplied.serves y.number y.node y.found) b open_here)
       c.2
 
   unit_waits : (w : Waiting) → w ≢ Map → m.waiting ≡ w → Waits (unit_reader w set l m)

@@ -33,7 +33,6 @@ use Rattle.fast_cursor.specs.device.Cursors.{ElementsData, FrameData, CursorData
 use Rattle.fast_decoder.specs.device.Serving.{ServesNodes}
 use Rattle.fast_tree.specs.device.Bodies.{body_among, AreNodeWidths, AreTemplateWidths}
 use Rattle.fast_units.specs.device.Stages.{term_behind, IsStageOf}
-use Rattle.fast_units.specs.device.Words.{IsOpenEntity}
 use Rattle.fast_units.specs.device.UnitFronts.{IsSent, IsAsciiFirst, IsNumberStage, IsBytesStage}
 use Rattle.fast_units.specs.declared.stages.Stage.{Stage}
 use Rattle.fast_decoder.specs.declared.machine.Machine.{Machine}
@@ -117,13 +116,13 @@ term_at (Mantissa x) set l m = mantissa_then l (frames_in set m.cursor.frames) (
 -- the bytes of the unit in hand that have come
 abbrev pub front_at : Waiting → Machine → List ℕ
 front_at Map m = m.cursor.map
-front_at Identifier m = m.entity
+front_at Identifier m = m.entity.bytes
 front_at (SegmentMap width) m = m.cursor.map
-front_at Field m = m.entity
+front_at Field m = m.entity.bytes
 front_at Text m = m.text.text
-front_at (Number stage) m = m.entity
+front_at (Number stage) m = m.entity.bytes
 front_at (Bytes stage) m = m.text.text
-front_at (Mantissa x) m = m.entity
+front_at (Mantissa x) m = m.entity.bytes
 
 -- the reader of a message whose map begins with these bytes; without any no message is begun
 abbrev pub map_reader : Set → Limits → Dictionary → List ℕ → Reader Dictionary
@@ -224,19 +223,18 @@ GoesOnWithBytes l body s stage front = ⊥
 
 -- The machine can take the unit that it waits for.
 abbrev pub CanTake : Waiting → Set → Limits → Machine → Type 0
-CanTake Map set l m = HaveNoStop m.cursor.map × (length m.cursor.map < map_limit) × (m.entity ≡ []) × (m.cursor ≡ record (at_rest m.cursor.depth) { map = m.cursor.map })
+CanTake Map set l m = HaveNoStop m.cursor.map × (length m.cursor.map < map_limit) × (m.entity.bytes ≡ []) × (m.cursor ≡ record (at_rest m.cursor.depth) { map = m.cursor.map })
 CanTake Identifier set l m = IsEntity m.cursor.map × (first_bit (bits m.cursor.map) ≡ true) × (m.cursor ≡ record (at_rest m.cursor.depth) { map = m.cursor.map })
-CanTake (SegmentMap width) set l m = HaveNoStop m.cursor.map × (length m.cursor.map < map_limit) × (m.entity ≡ []) × (m.cursor.used ≡ 0) × IsPlaced set m.cursor × (width ≡ bits_of (body_in set m.cursor.left))
+CanTake (SegmentMap width) set l m = HaveNoStop m.cursor.map × (length m.cursor.map < map_limit) × (m.entity.bytes ≡ []) × (m.cursor.used ≡ 0) × IsPlaced set m.cursor × (width ≡ bits_of (body_in set m.cursor.left))
 CanTake Field set l m = IsPlaced set m.cursor × IsMapWhole m.cursor.map × BeginsWithInteger (body_in set m.cursor.left) (state_in (slots_dictionary m.slots) m.counted m.cursor)
-CanTake Text set l m = IsPlaced set m.cursor × IsMapWhole m.cursor.map × (m.entity ≡ []) × BeginsWithText l (body_in set m.cursor.left) (state_in (slots_dictionary m.slots) m.counted m.cursor) m.text.text
+CanTake Text set l m = IsPlaced set m.cursor × IsMapWhole m.cursor.map × (m.entity.bytes ≡ []) × BeginsWithText l (body_in set m.cursor.left) (state_in (slots_dictionary m.slots) m.counted m.cursor) m.text.text
 CanTake (Number stage) set l m = IsPlaced set m.cursor × IsMapWhole m.cursor.map × GoesOnWithNumber l (body_in set m.cursor.left) (state_in (slots_dictionary m.slots) m.counted m.cursor) stage
-CanTake (Bytes stage) set l m = IsPlaced set m.cursor × IsMapWhole m.cursor.map × (m.entity ≡ []) × GoesOnWithBytes l (body_in set m.cursor.left) (state_in (slots_dictionary m.slots) m.counted m.cursor) stage m.text.text
+CanTake (Bytes stage) set l m = IsPlaced set m.cursor × IsMapWhole m.cursor.map × (m.entity.bytes ≡ []) × GoesOnWithBytes l (body_in set m.cursor.left) (state_in (slots_dictionary m.slots) m.counted m.cursor) stage m.text.text
 CanTake (Mantissa x) set l m = IsPlaced set m.cursor × IsMapWhole m.cursor.map × GoesOnWithMantissa (body_in set m.cursor.left) (state_in (slots_dictionary m.slots) m.counted m.cursor)
 
 -- The machine can go on.
 pub record IsReady (set : Set) (l : Limits) (m : Machine) : Type 0 where
   pub supplied : IsSupplied set l m
-  pub entity : IsOpenEntity m.entity
   pub takes : CanTake m.waiting set l m
 
 -- The next instruction is a field, and so on.
@@ -261,7 +259,7 @@ pub record CanTurn (set : Set) (l : Limits) (m : Machine) : Type 0 where
   pub supplied : IsSupplied set l m
   pub placed : IsPlaced set m.cursor
   pub mapped : IsMapWhole m.cursor.map
-  pub unused : m.entity ≡ []
+  pub unused : m.entity.bytes ≡ []
 
 -- what is to be read by a machine between two units
 abbrev pub turning : Set → Limits → Machine → Reader Dictionary
@@ -285,7 +283,7 @@ pub record IsBehindMap (set : Set) (l : Limits) (m : Machine) : Type 0 where
   pub supplied : IsSupplied set l m
   pub map : IsEntity m.cursor.map
   pub outermost : m.cursor ≡ record (at_rest m.cursor.depth) { map = m.cursor.map }
-  pub unused : m.entity ≡ []
+  pub unused : m.entity.bytes ≡ []
 
 -- what is read of a segment at its whole map
 abbrev pub segment_reader : Set → Limits → Machine → ℕ → Reader Dictionary
@@ -304,5 +302,5 @@ pub record IsFresh (set : Set) (m : Machine) : Type 0 where
   pub waiting : m.waiting ≡ Map
   pub cursor : m.cursor ≡ at_rest m.cursor.depth
   pub dictionary : slots_dictionary m.slots ≡ fresh set.entries
-  pub entity : m.entity ≡ []
+  pub entity : m.entity.bytes ≡ []
   pub turns : m.turns.count ≡ 0

@@ -37,6 +37,6 @@ pub record IsSentItem (set : Set) (l : Limits) (m m' : Machine) (node : ℕ) (f 
   pub terms : slots_terms m'.slots ≡ slots_terms m.slots
   pub waits : m.waiting ≡ Field
   pub ready : IsReady set l m
-  pub none : m.entity ≡ []
+  pub none : m.entity.bytes ≡ []
   pub next : IsAtField set m.cursor node f
   pub unit : (scratch : List ℕ) → IsLastUnit (reader_of l.strict (field_term (bounds l) f (previous_at f.entry (slots_dictionary m.slots)) true)) f [] rest (slots_dictionary m.slots) (slots_dictionary m'.slots) scratch (Whole (source_of item) n)

@@ -9,7 +9,6 @@ use Rattle.fast_dict.specs.meaning.Operators.{Kept, kept_length, subtraction_ste
 use Rattle.fast_stream.specs.meaning.Phrases.{cut}
 use Rattle.fast_stream.specs.meaning.Units.{ascii_text}
 use Rattle.fast_stream.specs.meaning.Fields.{field_term}
-use Rattle.fast_units.specs.device.Words.{IsOpenEntity}
 use Rattle.fast_units.specs.declared.stages.Stage.{Stage}
 use Rattle.fast_units.specs.declared.stages.Stage.TheVariants.{Mantissa, MantissaDelta, Vector, Part, PartVector}
 use Rattle.fast_units.specs.declared.stages.FieldStep.{FieldStep}
@@ -59,7 +58,7 @@ IsNextStage l f p (PartVector k n) = 0 < n
 abbrev pub IsEntityKept : {T : Type 0} → List ℕ → List ℕ → List ℕ → Progress T → Type 0
 IsEntityKept front rest after (Whole x n) = after ≡ []
 IsEntityKept front rest after (Wrong c n) = Unit {0}
-IsEntityKept front rest after Cut = (after ≡ front ++ rest) × IsOpenEntity after
+IsEntityKept front rest after Cut = after ≡ front ++ rest
 
 -- a stage that comes next begins
 abbrev pub IsNextOf : Bounds → FieldData → PreviousData → Progress FieldStep → Type 0

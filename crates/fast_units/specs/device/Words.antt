@@ -1,6 +1,5 @@
 -- Words for what clauses on fields say again and again: of a dictionary in memory, of an instruction, and of bytes in hand.
 use Rattle.std.specs.Prelude.{◌≡◌, ℕ, ◌<◌, ◌≤◌, Bool, true, List, ◌++◌, length, Some, Result}
-use Rattle.fast_wire.specs.meaning.Entities.{HaveNoStop}
 use Rattle.fast_value.specs.declared.codes.Code.{Code}
 use Rattle.fast_value.specs.meaning.Limits.{Bounds}
 use Rattle.fast_value.specs.declared.settings.Limits.{Limits}
@@ -58,10 +57,6 @@ HasTextLimit slots limits = ((slots_terms slots).max_text ≡ limits.max_text) �
 abbrev pub HasRoomFor : Slots → Held → Type 0
 HasRoomFor slots scratch = (slots_terms slots).max_text ≤ scratch.capacity
 
--- The bytes are those of an entity that is not whole: they have no stop, and there is room for one more.
-abbrev pub IsOpenEntity : List ℕ → Type 0
-IsOpenEntity w = HaveNoStop w × (length w < 10)
-
 -- Where an entity is cut, its bytes are kept.
 abbrev pub IsKeptCut : {T : Type 0} → List ℕ → List ℕ → List ℕ → Progress T → Type 0
-IsKeptCut front rest kept p = p ≡ Cut → (kept ≡ front ++ rest) × IsOpenEntity kept
+IsKeptCut front rest kept p = p ≡ Cut → kept ≡ front ++ rest

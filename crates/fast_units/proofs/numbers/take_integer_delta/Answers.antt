@@ -24,9 +24,9 @@ returns-in-Whole-Some-default-clause-unit c l scratch =
     let old = slots_dictionary c.args.slots.now in
     let p = previous_at f.entry old in
     let fits : FitsSigned w128 c.in-Whole-Some-default.delta = search rules in
-    subst (λ q. IsLastUnit (reader_of c.args.strict (field_term l f p true)) f c.args.pending.now c.args.rest.now old (slots_dictionary c.change_integer.new.slots) scratch q) (sym c.settled.ensures)
+    subst (λ q. IsLastUnit (reader_of c.args.strict (field_term l f p true)) f c.args.pending.now.bytes c.args.rest.now old (slots_dictionary c.change_integer.new.slots) scratch q) (sym c.settled.ensures)
     (last_unit c.args.strict (integer delta_range f.optional D2 give) (integer_change f p) (reader_of c.args.strict (field_term l f p true)) (ap (reader_of c.args.strict) (integer_delta_field l f p (range_of f.kind) c.requires.integers c.requires.delta))
-    f c.args.pending.now c.args.rest.now old (slots_dictionary c.change_integer.new.slots) scratch c.in-Whole-Some-default.field-0 c.in-Whole-Some-default.bytes
+    f c.args.pending.now.bytes c.args.rest.now old (slots_dictionary c.change_integer.new.slots) scratch c.in-Whole-Some-default.field-0 c.in-Whole-Some-default.bytes
     (integer_step f p c.in-Whole-Some-default.delta) c.change_integer.result
     (ap (integer_change f p) c.in-Whole-Some-default.field-0-is)
     (subst (λ d. IsDecided (integer_step f p d) f old (slots_dictionary c.change_integer.new.slots) c.change_integer.result) (again w128 c.in-Whole-Some-default.delta fits) c.change_integer.ensures.decided)
@@ -38,7 +38,7 @@ returns-in-Whole-None-default-clause-unit c l scratch =
     let old = slots_dictionary c.args.slots.now in
     let p = previous_at f.entry old in
     last_unit c.args.strict (integer delta_range f.optional D2 give) (integer_change f p) (reader_of c.args.strict (field_term l f p true)) (ap (reader_of c.args.strict) (integer_delta_field l f p (range_of f.kind) c.requires.integers c.requires.delta))
-    f c.args.pending.now c.args.rest.now old old scratch c.in-Whole-None-default.field-0 c.in-Whole-None-default.bytes
+    f c.args.pending.now.bytes c.args.rest.now old old scratch c.in-Whole-None-default.field-0 c.in-Whole-None-default.bytes
     (gives_none p) (Ok From.Absent)
     (ap (integer_change f p) c.in-Whole-None-default.field-0-is)
     (none_decided f old) c.in-Whole-None-default.ensures.unit
@@ -48,10 +48,10 @@ returns-in-Wrong-clause-unit c l scratch =
     let f = field_data c.args.field.now in
     let p = previous_at f.entry (slots_dictionary c.args.slots.now) in
     let (some, within, t) = c.in-Wrong.ensures.unit in
-    (some, within, unit_stops c.args.strict (integer delta_range f.optional D2 give) (integer_change f p) (reader_of c.args.strict (field_term l f p true)) (ap (reader_of c.args.strict) (integer_delta_field l f p (range_of f.kind) c.requires.integers c.requires.delta)) (c.args.pending.now ++ take c.in-Wrong.bytes c.args.rest.now) c.in-Wrong.code t)
+    (some, within, unit_stops c.args.strict (integer delta_range f.optional D2 give) (integer_change f p) (reader_of c.args.strict (field_term l f p true)) (ap (reader_of c.args.strict) (integer_delta_field l f p (range_of f.kind) c.requires.integers c.requires.delta)) (c.args.pending.now.bytes ++ take c.in-Wrong.bytes c.args.rest.now) c.in-Wrong.code t)
 
 pub returns-in-Cut-clause-unit : goal.returns-in-Cut-clause-unit
 returns-in-Cut-clause-unit c l scratch =
     let f = field_data c.args.field.now in
     let p = previous_at f.entry (slots_dictionary c.args.slots.now) in
-    (unit_stays c.args.strict (integer delta_range f.optional D2 give) (integer_change f p) (reader_of c.args.strict (field_term l f p true)) (ap (reader_of c.args.strict) (integer_delta_field l f p (range_of f.kind) c.requires.integers c.requires.delta)) (c.args.pending.now ++ c.args.rest.now) c.in-Cut.ensures.unit, refl)
+    (unit_stays c.args.strict (integer delta_range f.optional D2 give) (integer_change f p) (reader_of c.args.strict (field_term l f p true)) (ap (reader_of c.args.strict) (integer_delta_field l f p (range_of f.kind) c.requires.integers c.requires.delta)) (c.args.pending.now.bytes ++ c.args.rest.now) c.in-Cut.ensures.unit, refl)

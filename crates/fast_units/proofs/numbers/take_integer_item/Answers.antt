@@ -44,7 +44,7 @@ returns-in-Whole-Some-default-clause-unit c l scratch =
     let fits : FitsSigned w128 c.in-Whole-Some-default.integer = search rules in
     last_unit c.args.strict (integer wire f.optional D2 give) (behind_integer l f p) (reader_of c.args.strict (field_term l f p true))
     (integer_here c.args.strict l f p wire c.range_on_wire-range.ensures c.requires.integers c.requires.no_delta c.requires.no_constant)
-    f c.args.pending.now c.args.rest.now old (slots_dictionary c.received.new.slots) scratch c.in-Whole-Some-default.field-0 c.in-Whole-Some-default.bytes
+    f c.args.pending.now.bytes c.args.rest.now old (slots_dictionary c.received.new.slots) scratch c.in-Whole-Some-default.field-0 c.in-Whole-Some-default.bytes
     (decide f p true (sent_number (Some c.of_integer-number.result))) (Ok c.received.result)
     (ap (behind_integer l f p) c.in-Whole-Some-default.field-0-is
     ∙ ap (λ x. of_result (decide f p true (value (value_of_integer f.kind x)))) (sym (again w128 c.in-Whole-Some-default.integer fits))
@@ -59,7 +59,7 @@ returns-in-Whole-None-default-clause-unit c l scratch =
     let wire = range_data c.range_on_wire-range.result in
     last_unit c.args.strict (integer wire f.optional D2 give) (behind_integer l f p) (reader_of c.args.strict (field_term l f p true))
     (integer_here c.args.strict l f p wire c.range_on_wire-range.ensures c.requires.integers c.requires.no_delta c.requires.no_constant)
-    f c.args.pending.now c.args.rest.now old (slots_dictionary c.received-in-Whole-None-default.new.slots) scratch c.in-Whole-None-default.field-0 c.in-Whole-None-default.bytes
+    f c.args.pending.now.bytes c.args.rest.now old (slots_dictionary c.received-in-Whole-None-default.new.slots) scratch c.in-Whole-None-default.field-0 c.in-Whole-None-default.bytes
     (decide f p true (sent_number None)) (Ok c.received-in-Whole-None-default.result)
     (ap (behind_integer l f p) c.in-Whole-None-default.field-0-is)
     c.received-in-Whole-None-default.ensures.decided c.in-Whole-None-default.ensures.unit
@@ -74,7 +74,7 @@ returns-in-Wrong-clause-unit c l scratch =
       within,
       unit_stops c.args.strict (integer wire f.optional D2 give) (behind_integer l f p) (reader_of c.args.strict (field_term l f p true))
           (integer_here c.args.strict l f p wire c.range_on_wire-range.ensures c.requires.integers c.requires.no_delta c.requires.no_constant)
-          (c.args.pending.now ++ take c.in-Wrong.bytes c.args.rest.now) c.in-Wrong.code t,
+          (c.args.pending.now.bytes ++ take c.in-Wrong.bytes c.args.rest.now) c.in-Wrong.code t,
     )
 
 pub returns-in-Cut-clause-unit : goal.returns-in-Cut-clause-unit
@@ -84,6 +84,6 @@ returns-in-Cut-clause-unit c l scratch =
     let wire = range_data c.range_on_wire-range.result in (
       unit_stays c.args.strict (integer wire f.optional D2 give) (behind_integer l f p) (reader_of c.args.strict (field_term l f p true))
           (integer_here c.args.strict l f p wire c.range_on_wire-range.ensures c.requires.integers c.requires.no_delta c.requires.no_constant)
-          (c.args.pending.now ++ c.args.rest.now) c.in-Cut.ensures.unit,
+          (c.args.pending.now.bytes ++ c.args.rest.now) c.in-Cut.ensures.unit,
       refl,
     )

@@ -22,7 +22,7 @@ returns-in-Whole-clause-unit c l scratch =
     let p = previous_at f.entry old in
     last_unit c.args.strict (integer (unsigned_up_to c.args.top) false D2 give) (behind_integer l f p) (reader_of c.args.strict (field_term l f p true))
     (mandatory_here c.args.strict l f p (unsigned_up_to c.args.top) c.requires.range c.requires.integers c.requires.no_delta c.requires.no_constant c.requires.mandatory)
-    f c.args.pending.now c.args.rest.now old (slots_dictionary c.received.new.slots) scratch (Some (pos c.in-Whole.number)) c.in-Whole.bytes
+    f c.args.pending.now.bytes c.args.rest.now old (slots_dictionary c.received.new.slots) scratch (Some (pos c.in-Whole.number)) c.in-Whole.bytes
     (decide f p true (sent_number (Some (Unsigned c.in-Whole.number)))) (Ok c.received.result)
     (ap (λ v. of_result (decide f p true (value v))) (c.requires.unsigned c.in-Whole.number))
     c.received.ensures.decided c.in-Whole.ensures.unit
@@ -36,7 +36,7 @@ returns-in-Wrong-clause-unit c l scratch =
       within,
       unit_stops c.args.strict (integer (unsigned_up_to c.args.top) false D2 give) (behind_integer l f p) (reader_of c.args.strict (field_term l f p true))
           (mandatory_here c.args.strict l f p (unsigned_up_to c.args.top) c.requires.range c.requires.integers c.requires.no_delta c.requires.no_constant c.requires.mandatory)
-          (c.args.pending.now ++ take c.in-Wrong.bytes c.args.rest.now) c.in-Wrong.code t,
+          (c.args.pending.now.bytes ++ take c.in-Wrong.bytes c.args.rest.now) c.in-Wrong.code t,
     )
 
 pub returns-in-Cut-clause-unit : goal.returns-in-Cut-clause-unit
@@ -45,6 +45,6 @@ returns-in-Cut-clause-unit c l scratch =
     let p = previous_at f.entry (slots_dictionary c.args.slots.now) in (
       unit_stays c.args.strict (integer (unsigned_up_to c.args.top) false D2 give) (behind_integer l f p) (reader_of c.args.strict (field_term l f p true))
           (mandatory_here c.args.strict l f p (unsigned_up_to c.args.top) c.requires.range c.requires.integers c.requires.no_delta c.requires.no_constant c.requires.mandatory)
-          (c.args.pending.now ++ c.args.rest.now) c.in-Cut.ensures.unit,
+          (c.args.pending.now.bytes ++ c.args.rest.now) c.in-Cut.ensures.unit,
       refl,
     )

@@ -29,8 +29,8 @@ returns-in-Cut-clause-taken g c =
     let a = record m { slots = c.take_integer.new.slots; entity = c.take_integer.new.pending } in
     let (stays, same) = c.in-Cut.ensures.unit (bounds l) [] in
     cut_to takes stops set l (meaning set l m) c.args.rest.now c.args.sink.now a c.cut.ensures.bytes c.cut.ensures.turn
-    (first_ready set l m c.take_integer.new.slots c.take_integer.new.pending c.requires.ready c.take_integer.ensures.terms c.requires.waits same (c.in-Cut.ensures.cut refl).1)
-    (integer_cut takes stops set l m f k (turning set l m) c.args.rest.now sent next is a c.take_integer.new.pending (first_cut set l m c.take_integer.new.slots c.take_integer.new.pending c.requires.waits same) (c.in-Cut.ensures.cut refl).0 c.requires.some stays c.args.sink.now)
+    (first_ready set l m c.take_integer.new.slots c.take_integer.new.pending c.requires.ready c.take_integer.ensures.terms c.requires.waits same)
+    (integer_cut takes stops set l m f k (turning set l m) c.args.rest.now sent next is a c.take_integer.new.pending (first_cut set l m c.take_integer.new.slots c.take_integer.new.pending c.requires.waits same) (c.in-Cut.ensures.cut refl) c.requires.some stays c.args.sink.now)
 
 pub returns-in-Wrong-clause-taken : goal.returns-in-Wrong-clause-taken
 returns-in-Wrong-clause-taken g c =

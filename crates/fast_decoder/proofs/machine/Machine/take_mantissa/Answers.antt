@@ -83,8 +83,8 @@ returns-in-Cut-clause-taken g c =
     let a = record m { slots = c.take_integer.new.slots; entity = c.take_integer.new.pending } in
     let (stays, same) = c.in-Cut.ensures.unit (bounds l) [] in
     cut_to takes stops set l (meaning set l m) c.args.rest.now c.args.sink.now a c.cut-in-Cut.ensures.bytes c.cut-in-Cut.ensures.turn
-    (second_ready set l m c.take_integer.new.slots c.take_integer.new.pending c.requires.ready c.take_integer.ensures.terms x c.requires.waits same (c.in-Cut.ensures.cut refl).1)
-    (integer_cut takes stops set l m f k (mantissa_from set l m x) c.args.rest.now sent next is a c.take_integer.new.pending (second_cut set l m c.take_integer.new.slots c.take_integer.new.pending x c.requires.waits same) (c.in-Cut.ensures.cut refl).0 c.requires.some stays c.args.sink.now)
+    (second_ready set l m c.take_integer.new.slots c.take_integer.new.pending c.requires.ready c.take_integer.ensures.terms x c.requires.waits same)
+    (integer_cut takes stops set l m f k (mantissa_from set l m x) c.args.rest.now sent next is a c.take_integer.new.pending (second_cut set l m c.take_integer.new.slots c.take_integer.new.pending x c.requires.waits same) (c.in-Cut.ensures.cut refl) c.requires.some stays c.args.sink.now)
 
 pub returns-in-Wrong-clause-taken : goal.returns-in-Wrong-clause-taken
 returns-in-Wrong-clause-taken g c =

@@ -60,7 +60,7 @@ returns-clause-taken g c =
     let sent = mantissa_sent set l m n (field_data c.in-Decimal.exponent) f x c.requires.ready c.requires.waits at in
     let k : Found → Grammar Dictionary = λ r. handed_then n (behind set l m) (decimal_with x r.0) r.1 in
     let a = record m { slots = slots } in
-    let can : CanTurn set l a = second_turn set l m slots m.entity c.requires.ready c.mantissa_item.ensures.terms x c.requires.waits (none_in_hand m.entity c.if-not-is_empty.ensures) in
+    let can : CanTurn set l a = second_turn set l m slots m.entity c.requires.ready c.mantissa_item.ensures.terms x c.requires.waits (none_in_hand m.entity.bytes c.if-not-is_empty.ensures) in
     let from : CanTurn set l (record a { turns = c.after-self.result }) = record { supplied = supplied-turns set l a c.after-self.result can.supplied; placed = can.placed; mapped = can.mapped; unused = can.unused } in
     let b = c.finish_decimal-turn.new.self in
     let turn = c.finish_decimal-turn.result in
@@ -73,7 +73,7 @@ returns-clause-taken g c =
       goes_on = goes_on_moved set l (record a { turns = c.after-self.result }) b turn from ends.same ends.depth ends.past ends.on;
     } in
     integer_at_once takes stops set l m f k (mantissa_from set l m x) c.args.rest.now sent (mantissa_next set l m n (field_data c.in-Decimal.exponent) f x at) (meaning_second set l m x c.requires.waits)
-    (none_in_hand m.entity c.if-not-is_empty.ensures) (mantissa_sees n x (behind set l m)) slots m.text.text source c.in_ok-entity.entity.len (c.in_ok-item.ensures.unit (bounds l) m.text.text)
+    (none_in_hand m.entity.bytes c.if-not-is_empty.ensures) (mantissa_sees n x (behind set l m)) slots m.text.text source c.in_ok-entity.entity.len (c.in_ok-item.ensures.unit (bounds l) m.text.text)
     c.args.sink.now turn c.finish_decimal-turn.new.sink b
     (subst (λ (y : ℤ). IsTurn takes stops set l (reader_of l.strict (decimal_then set (bounds l) n y (value_at source f (slots_dictionary slots) m.text.text []) f (slots_dictionary slots) m.counted m.cursor)) c.args.sink.now turn c.finish_decimal-turn.new.sink b)
     (to_z-of_z w32 x c.ranges.exponent)

@@ -46,7 +46,7 @@ returns-in_default g c =
     let m = c.args.self.now in
     let rest = c.args.rest.now in
     let unit = c.take_unit-unit in
-    let run = c.run-run in
+    let run = c.go_on-run in
     let taken : IsTakenTo takes stops set l (meaning set l m) rest c.args.sink.now unit.result.bytes (Ok c.in-Ok.turn) unit.new.sink unit.new.self =
     subst (λ (t : Result Turn FaultCode). IsTakenTo takes stops set l (meaning set l m) rest c.args.sink.now unit.result.bytes t unit.new.sink unit.new.self) c.in-Ok.is unit.ensures.taken in
     let some : 0 < unit.result.bytes = unit.ensures.taken.some in

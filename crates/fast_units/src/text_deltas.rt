@@ -1,0 +1,243 @@
+//! Deltas of texts: the subtraction length, and then the part, an ASCII text or a vector's size and its bytes.
+
+ghost use Rattle.std.specs.Prelude.{◌≡◌, ◌≢◌, ◌-◌, ◌<◌, ◌++◌, ℕ, List, [], length, false, Ok, Some, pos, IfOk};
+ghost use Rattle.fast_wire.specs.meaning.Integers.{IsWithin, signed_range};
+ghost use Rattle.fast_value.specs.meaning.Kinds.{texts, family};
+ghost use Rattle.fast_value.specs.meaning.Limits.{bounds};
+ghost use Rattle.fast_tree.specs.device.Nodes.{field_data};
+ghost use Rattle.fast_dict.specs.meaning.Operators.{Kept as KeptData, subtraction_step, kept_length};
+ghost use Rattle.fast_dict.specs.meaning.Slots.{slots_dictionary, slots_terms};
+ghost use Rattle.fast_stream.specs.meaning.Phrases.{cut};
+ghost use Rattle.fast_stream.specs.meaning.Fields.{text_change};
+ghost use Rattle.fast_stream.specs.meaning.Units.{ascii_text as ascii_phrase};
+ghost use Rattle.fast_stream.specs.device.GrammarReaders.{reader_of};
+ghost use Rattle.fast_units.specs.device.Stages.{IsStageOf};
+ghost use Rattle.fast_units.specs.device.TextDecisions.{IsStepped, first_reader, reader_behind, behind_part_size, answered, settled, HasBytes};
+ghost use Rattle.fast_units.specs.device.Words.{HasTextLimit, HasRoomFor, ServesField, previous_of, IsLastUnitOf, IsUnitOf, IsKeptCut};
+
+use crate::pending::Pending;
+use crate::progress::Progress;
+use crate::scratch::Scratch;
+use crate::source::ValueSource;
+use crate::stages::{FieldStep, Stage};
+use crate::text_outcomes::{finish_absent, finish_part, kept, part_room};
+use crate::texts::{TOP_SIZE, answered, settled, size_of};
+use crate::units::{IntegerRange, Run, next_ascii, next_integer, next_raw, next_unsigned};
+use fast_dict::Slots;
+use fast_dict::operators::sized;
+use fast_tree::{FieldInstruction, Operator};
+use fast_value::{Code, Kind, Limits};
+
+/// Takes bytes of the subtraction length of a delta: the first unit of its field.
+pub fn take_subtraction(
+    slots: &mut Slots,
+    pending: &mut Pending,
+    field: &FieldInstruction,
+    rest: &[u8],
+    limits: Limits,
+) -> Progress<FieldStep>
+    requires serves { ServesField slots.old field.now }
+    requires limit { HasTextLimit slots.old limits }
+    requires text { family field.now.kind ≡ texts }
+    requires delta { field.now.operator ≡ Operator.Delta }
+    ensures unit { (scratch : List ℕ) → IsUnitOf limits (first_reader limits (field_data field.now)
+        (slots_dictionary slots.old)) field.now pending.old.bytes rest.now slots.old slots.new scratch result }
+    ensures more { (step : FieldStep) (n : ℕ) → result ≡ Progress.Whole step n → HasBytes step }
+    ensures whole { (step : FieldStep) (n : ℕ) → result ≡ Progress.Whole step n → pending.new.bytes ≡ [] }
+    ensures cut { IsKeptCut pending.old.bytes rest.now pending.new.bytes result }
+    ensures terms { slots_terms slots.new ≡ slots_terms slots.old }
+{
+    let range = IntegerRange::Signed(-2_147_483_648, 2_147_483_647);
+    match next_integer(
+        pending,
+        rest,
+        limits.strict,
+        range,
+        field.optional,
+        Code::D7,
+    ) {
+        Progress::Whole(Some(length), bytes) => {
+            answered(part_next(slots, field, length_of(length)), bytes)
+        }
+        Progress::Whole(None, bytes) => {
+            Progress::Whole(FieldStep::Settled(finish_absent(slots, field)), bytes)
+        }
+        Progress::Wrong(code, bytes) => Progress::Wrong(code, bytes),
+        Progress::Cut => Progress::Cut,
+    }
+}
+
+/// A subtraction length, of which it is known that it is an int32.
+#[inline]
+fn length_of(integer: i128) -> i32
+    requires { IsWithin (signed_range 31) integer }
+    ensures { result ≡ integer }
+{
+    integer as i32
+}
+
+/// What follows the subtraction length of a delta.
+fn part_next(slots: &Slots, field: &FieldInstruction, subtraction: i32) -> Result<FieldStep, Code>
+    requires serves { ServesField slots.now field.now }
+    requires text { family field.now.kind ≡ texts }
+    requires delta { field.now.operator ≡ Operator.Delta }
+    ensures step { (limits : Limits) (scratch piece : List ℕ)
+        → IsStepped limits (reader_of limits.strict (text_change (bounds limits) (field_data field.now)
+        (previous_of slots.now field.now) (Some subtraction))) (field_data field.now) (slots_dictionary slots.now)
+        (slots_dictionary slots.now) scratch piece result }
+    ensures more { IfOk result HasBytes }
+{
+    kept(slots, field, subtraction)?;
+    Ok(FieldStep::Next(Stage::Part(subtraction)))
+}
+
+/// Takes bytes of the part of an ASCII delta, behind the subtraction length.
+pub fn take_part(
+    slots: &mut Slots,
+    scratch: &mut Scratch,
+    joined: &mut Scratch,
+    field: &FieldInstruction,
+    subtraction: i32,
+    rest: &[u8],
+    limits: Limits,
+) -> Progress<ValueSource>
+    requires serves { ServesField slots.old field.now }
+    requires limit { HasTextLimit slots.old limits }
+    requires stage { IsStageOf (bounds limits) (field_data field.now) (previous_of slots.old field.now)
+        (Stage.Part subtraction) }
+    requires kind { field.now.kind ≡ Kind.Ascii }
+    requires open { (kept : KeptData) → subtraction_step (field_data field.now) (previous_of slots.old field.now)
+        subtraction ≡ Ok kept → ascii_phrase false (limits.max_text - kept_length kept) scratch.old.text [] cut }
+    requires scratch { HasRoomFor slots.old scratch.old }
+    requires joined { HasRoomFor slots.old joined.old }
+    ensures unit { IsLastUnitOf (reader_behind limits (field_data field.now) (slots_dictionary slots.old)
+        (Stage.Part subtraction)) field.now scratch.old.text rest.now slots.old slots.new scratch.new.text result }
+    ensures cut { result ≡ Progress.Cut → (scratch.new.text ≡ scratch.old.text ++ rest.now)
+        × ((kept : KeptData) → subtraction_step (field_data field.now) (previous_of slots.old field.now) subtraction
+        ≡ Ok kept → ascii_phrase false (limits.max_text - kept_length kept) scratch.new.text [] cut) }
+    ensures terms { slots_terms slots.new ≡ slots_terms slots.old }
+    ensures scratch { scratch.new.capacity ≡ scratch.old.capacity }
+    ensures joined { joined.new.capacity ≡ joined.old.capacity }
+{
+    let room = part_room(slots, field, subtraction, limits.max_text);
+    match next_ascii(scratch, rest, room, false) {
+        Progress::Whole(true, bytes) => {
+            let part = scratch.as_slice();
+            answered(finish_part(slots, joined, field, subtraction, part), bytes)
+        }
+        Progress::Whole(false, bytes) => Progress::Whole(finish_absent(slots, field), bytes),
+        Progress::Wrong(code, bytes) => Progress::Wrong(code, bytes),
+        Progress::Cut => Progress::Cut,
+    }
+}
+
+/// Takes bytes of the size of a vector delta's part, behind the subtraction length. An empty part has no bytes behind it.
+pub fn take_part_size(
+    slots: &mut Slots,
+    pending: &mut Pending,
+    joined: &mut Scratch,
+    field: &FieldInstruction,
+    subtraction: i32,
+    rest: &[u8],
+    limits: Limits,
+) -> Progress<FieldStep>
+    requires serves { ServesField slots.old field.now }
+    requires limit { HasTextLimit slots.old limits }
+    requires stage { IsStageOf (bounds limits) (field_data field.now) (previous_of slots.old field.now)
+        (Stage.Part subtraction) }
+    requires kind { field.now.kind ≢ Kind.Ascii }
+    requires joined { HasRoomFor slots.old joined.old }
+    ensures unit { (scratch : List ℕ) → IsUnitOf limits (reader_behind limits (field_data field.now)
+        (slots_dictionary slots.old) (Stage.Part subtraction)) field.now pending.old.bytes rest.now slots.old slots.new
+        scratch result }
+    ensures more { (step : FieldStep) (n : ℕ) → result ≡ Progress.Whole step n → HasBytes step }
+    ensures whole { (step : FieldStep) (n : ℕ) → result ≡ Progress.Whole step n → pending.new.bytes ≡ [] }
+    ensures cut { IsKeptCut pending.old.bytes rest.now pending.new.bytes result }
+    ensures terms { slots_terms slots.new ≡ slots_terms slots.old }
+    ensures joined { joined.new.capacity ≡ joined.old.capacity }
+{
+    match next_unsigned(pending, rest, limits.strict, TOP_SIZE) {
+        Progress::Whole(size, bytes) => {
+            let size = size_of(i128::from(size));
+            answered(
+                part_vector_next(slots, joined, field, subtraction, size, limits),
+                bytes,
+            )
+        }
+        Progress::Wrong(code, bytes) => Progress::Wrong(code, bytes),
+        Progress::Cut => Progress::Cut,
+    }
+}
+
+/// What follows the size of a vector delta's part.
+fn part_vector_next(
+    slots: &mut Slots,
+    joined: &mut Scratch,
+    field: &FieldInstruction,
+    subtraction: i32,
+    size: u32,
+    limits: Limits,
+) -> Result<FieldStep, Code>
+    requires serves { ServesField slots.old field.now }
+    requires limit { HasTextLimit slots.old limits }
+    requires stage { IsStageOf (bounds limits) (field_data field.now) (previous_of slots.old field.now)
+        (Stage.Part subtraction) }
+    requires kind { field.now.kind ≢ Kind.Ascii }
+    requires joined { HasRoomFor slots.old joined.old }
+    ensures step { (kept : KeptData) → subtraction_step (field_data field.now) (previous_of slots.old field.now)
+        subtraction ≡ Ok kept → (scratch piece : List ℕ)
+        → IsStepped limits (reader_of limits.strict (behind_part_size (bounds limits) (field_data field.now)
+        (previous_of slots.old field.now) kept (Some (pos size)))) (field_data field.now) (slots_dictionary slots.old)
+        (slots_dictionary slots.new) scratch piece result }
+    ensures more { IfOk result HasBytes }
+    ensures terms { slots_terms slots.new ≡ slots_terms slots.old }
+    ensures joined { joined.new.capacity ≡ joined.old.capacity }
+{
+    let room = part_room(slots, field, subtraction, limits.max_text);
+    let size = sized(size, room)?;
+    if size > 0 {
+        return Ok(FieldStep::Next(Stage::PartVector(subtraction, size)));
+    }
+    settled(finish_part(slots, joined, field, subtraction, &[]))
+}
+
+/// Takes bytes of a vector delta's part, behind its size.
+pub fn take_part_vector(
+    slots: &mut Slots,
+    scratch: &mut Scratch,
+    joined: &mut Scratch,
+    field: &FieldInstruction,
+    subtraction: i32,
+    size: usize,
+    rest: &[u8],
+    limits: Limits,
+) -> Progress<ValueSource>
+    requires serves { ServesField slots.old field.now }
+    requires limit { HasTextLimit slots.old limits }
+    requires stage { IsStageOf (bounds limits) (field_data field.now) (previous_of slots.old field.now)
+        (Stage.PartVector subtraction size) }
+    requires more { length scratch.old.text < size }
+    requires scratch { HasRoomFor slots.old scratch.old }
+    requires joined { HasRoomFor slots.old joined.old }
+    ensures unit { IsLastUnitOf (reader_behind limits (field_data field.now) (slots_dictionary slots.old)
+        (Stage.PartVector subtraction size)) field.now scratch.old.text rest.now slots.old slots.new scratch.new.text
+        result }
+    ensures cut { result ≡ Progress.Cut
+        → (scratch.new.text ≡ scratch.old.text ++ rest.now) × (length scratch.new.text < size) }
+    ensures terms { slots_terms slots.new ≡ slots_terms slots.old }
+    ensures scratch { scratch.new.capacity ≡ scratch.old.capacity }
+    ensures joined { joined.new.capacity ≡ joined.old.capacity }
+{
+    match next_raw(scratch, rest, size) {
+        Progress::Whole(Run::Piece, bytes) => {
+            let part = &rest[..bytes];
+            answered(finish_part(slots, joined, field, subtraction, part), bytes)
+        }
+        Progress::Whole(Run::Scratch, bytes) => {
+            let part = scratch.as_slice();
+            answered(finish_part(slots, joined, field, subtraction, part), bytes)
+        }
+        Progress::Wrong(code, bytes) => Progress::Wrong(code, bytes),
+        Progress::Cut => Progress::Cut,
+    }
+}

@@ -1,0 +1,6 @@
+-- The goal that a wrong body would leave: `search` proves it of this one, and a named one says at once what is missing.
+use Rattle.std.proofs.Common.{rules}
+use Rattle.fast_wire.proofs.maps.map_push.Goals as goal
+
+pub returns-then-len-eq-MAP_LIMIT-clause-too_long : goal.returns-then-len-eq-MAP_LIMIT-clause-too_long
+returns-then-len-eq-MAP_LIMIT-clause-too_long c = search rules
