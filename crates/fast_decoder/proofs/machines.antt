@@ -1,7 +1,7 @@
 -- What the machine's functions do with each kind of unit.
 pub mod BlockTexts
 pub mod CutMaps
-pub mod Quick
+pub mod UnitTaken
 pub mod QuickSteps
 pub mod ShortMaps
 pub mod StartMaps

@@ -1,7 +1,7 @@
 -- Devices of contracts within the crates and of proofs: invariants, models of state, relations in between.
 pub mod Handing
 pub mod Positions
-pub mod Quick
+pub mod UnitTaken
 pub mod Moving
 pub mod Passing
 pub mod Scalars

@@ -10,12 +10,12 @@ ghost use Rattle.fast_stream.specs.meaning.Fields.{field_term};
 ghost use Rattle.fast_stream.specs.device.GrammarReaders.{reader_of};
 ghost use Rattle.fast_units.specs.device.Settling.{Serves, IsLastUnit};
 ghost use Rattle.fast_units.specs.device.Deciding.{source_of};
-ghost use Rattle.fast_decoder.specs.device.Quick.{IsTakenTo};
+ghost use Rattle.fast_decoder.specs.device.UnitTaken.{IsTakenTo};
 ghost use Rattle.fast_decoder.specs.device.Positions.{set_of, IsReady, meaning};
 ghost use Rattle.fast_decoder.specs.device.TurnsLeft.{Way, HasTurns, HasTurnsBehind};
 
 use crate::machine::{Machine, Turn, Waiting};
-use crate::quick_units::Quick;
+use crate::quick_units::UnitTaken;
 use crate::turns::Turns;
 use fast_dict::Slots;
 use fast_stream::Sink;
@@ -79,7 +79,7 @@ impl<'t> Machine<'t> {
         exponent: i32,
         rest: &[u8],
         sink: &mut S,
-    ) -> Option<Quick>
+    ) -> Option<UnitTaken>
         requires waits { self.old.waiting ≡ Waiting.Mantissa exponent }
         requires ready { IsReady (set_of templates.now) limits self.old }
         ensures none { IfNone result ((self.new ≡ self.old) × (sink.new ≡ sink.old)) }
@@ -101,7 +101,7 @@ impl<'t> Machine<'t> {
         let item = mantissa_item(&mut self.slots, mantissa, rest, entity, limits.strict)?;
         self.turns = Turns::after(&self.turns);
         let turn = self.finish_decimal(number, mantissa, exponent, source_of(item), sink);
-        Some(Quick {
+        Some(UnitTaken {
             bytes: entity.len,
             turn,
         })

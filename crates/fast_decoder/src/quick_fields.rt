@@ -15,7 +15,7 @@ ghost use Rattle.fast_decoder.specs.device.Positions.{set_of, CanTurn, IsAtInteg
 ghost use Rattle.fast_decoder.specs.device.Steps.{IsStep};
 
 use crate::machine::{Machine, Waiting};
-use crate::quick_units::{Quick, has_bit, is_delta, operator_of};
+use crate::quick_units::{UnitTaken, has_bit, is_delta, operator_of};
 use crate::turns::Turns;
 use fast_stream::Sink;
 use fast_template::{Sending, Shape, Templates};
@@ -44,7 +44,7 @@ impl<'t> Machine<'t> {
         kind: Kind,
         sending: Sending,
         sink: &mut S,
-    ) -> Option<Quick>
+    ) -> Option<UnitTaken>
         requires turn { CanTurn (set_of templates.now) limits self.old }
         requires next { first_node self.old.cursor.left ≡ Some number }
         requires at { IsAtInteger (set_of templates.now) number kind sending }
@@ -61,7 +61,7 @@ impl<'t> Machine<'t> {
         let item = unsent_number(&mut self.slots, field, kind, operator_of(sending))?;
         self.turns = Turns::after(&self.turns);
         let turn = self.finish_item(number, field, true, Some(item), sink);
-        Some(Quick { bytes: 0, turn })
+        Some(UnitTaken { bytes: 0, turn })
     }
 
     /// The next instruction, a field of unsigned integers, under no delta.
@@ -76,7 +76,7 @@ impl<'t> Machine<'t> {
         sending: Sending,
         rest: &[u8],
         sink: &mut S,
-    ) -> Option<Quick>
+    ) -> Option<UnitTaken>
         requires range { unsigned_up_to top ≡ range_of kind }
         requires unsigned { (n : ℕ) → value_of_integer kind (pos n) ≡ U n }
         requires waits { self.old.waiting ≡ Waiting.Field }
@@ -112,7 +112,7 @@ impl<'t> Machine<'t> {
         sending: Sending,
         rest: &[u8],
         sink: &mut S,
-    ) -> Option<Quick>
+    ) -> Option<UnitTaken>
         requires range { signed_between low top ≡ range_of kind }
         requires signed { (x : ℤ) → value_of_integer kind x ≡ I x }
         requires waits { self.old.waiting ≡ Waiting.Field }
@@ -148,7 +148,7 @@ impl<'t> Machine<'t> {
         sending: Sending,
         rest: &[u8],
         sink: &mut S,
-    ) -> Option<Quick>
+    ) -> Option<UnitTaken>
         requires waits { self.old.waiting ≡ Waiting.Field }
         requires turn { CanTurn (set_of templates.now) limits self.old }
         requires next { first_node self.old.cursor.left ≡ Some number }

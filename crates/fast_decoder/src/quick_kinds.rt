@@ -7,7 +7,7 @@ ghost use Rattle.fast_decoder.specs.device.Positions.{set_of, CanTurn, IsAtInteg
 ghost use Rattle.fast_decoder.specs.device.Steps.{IsStep};
 
 use crate::machine::{Machine, Waiting};
-use crate::quick_units::Quick;
+use crate::quick_units::UnitTaken;
 use fast_stream::Sink;
 use fast_template::{Opcode, Sending, Templates};
 use fast_value::{Kind, Limits};
@@ -23,7 +23,7 @@ impl<'t> Machine<'t> {
         sending: Sending,
         rest: &[u8],
         sink: &mut S,
-    ) -> Option<Quick>
+    ) -> Option<UnitTaken>
         requires waits { self.old.waiting ≡ Waiting.Field }
         requires turn { CanTurn (set_of templates.now) limits self.old }
         requires next { first_node self.old.cursor.left ≡ Some number }
@@ -109,7 +109,7 @@ impl<'t> Machine<'t> {
         sending: Sending,
         rest: &[u8],
         sink: &mut S,
-    ) -> Option<Quick>
+    ) -> Option<UnitTaken>
         requires waits { self.old.waiting ≡ Waiting.Field }
         requires turn { CanTurn (set_of templates.now) limits self.old }
         requires next { first_node self.old.cursor.left ≡ Some number }
@@ -189,7 +189,7 @@ impl<'t> Machine<'t> {
         sending: Sending,
         rest: &[u8],
         sink: &mut S,
-    ) -> Option<Quick>
+    ) -> Option<UnitTaken>
         requires waits { self.old.waiting ≡ Waiting.Field }
         requires turn { CanTurn (set_of templates.now) limits self.old }
         requires next { first_node self.old.cursor.left ≡ Some number }
@@ -275,7 +275,7 @@ impl<'t> Machine<'t> {
         sending: Sending,
         rest: &[u8],
         sink: &mut S,
-    ) -> Option<Quick>
+    ) -> Option<UnitTaken>
         requires waits { self.old.waiting ≡ Waiting.Field }
         requires turn { CanTurn (set_of templates.now) limits self.old }
         requires next { first_node self.old.cursor.left ≡ Some number }
@@ -353,7 +353,7 @@ impl<'t> Machine<'t> {
         limits: Limits,
         rest: &[u8],
         sink: &mut S,
-    ) -> Option<Quick>
+    ) -> Option<UnitTaken>
         requires waits { self.old.waiting ≡ Waiting.Field }
         requires turn { CanTurn (set_of templates.now) limits self.old }
         ensures none { IfNone result ((self.new ≡ self.old) × (sink.new ≡ sink.old)) }

@@ -7,12 +7,12 @@ ghost use Rattle.fast_template.specs.meaning.Flat.{templates_of};
 ghost use Rattle.fast_tree.specs.declared.instructions.Template.{Template};
 ghost use Rattle.fast_dict.specs.meaning.Dictionary.{assigned, previous_at};
 ghost use Rattle.fast_dict.specs.meaning.Slots.{slots_dictionary};
-ghost use Rattle.fast_decoder.specs.device.Quick.{IsTakenTo};
+ghost use Rattle.fast_decoder.specs.device.UnitTaken.{IsTakenTo};
 ghost use Rattle.fast_decoder.specs.device.Positions.{set_of, tree_in, IsReady, meaning};
 ghost use Rattle.fast_decoder.specs.device.TurnsLeft.{Way, HasTurns, HasTurnsInMap, HasTurnsBehind, turns_begun};
 
 use crate::machine::{Machine, Turn, Waiting};
-use crate::quick_units::Quick;
+use crate::quick_units::UnitTaken;
 use crate::turns::Turns;
 use fast_dict::Entry;
 use fast_stream::Sink;
@@ -29,7 +29,7 @@ impl<'t> Machine<'t> {
         limits: Limits,
         rest: &[u8],
         sink: &mut S,
-    ) -> Option<Quick>
+    ) -> Option<UnitTaken>
         requires waits { (width : ℕ) × (self.old.waiting ≡ Waiting.SegmentMap width) }
         requires ready { IsReady (set_of templates.now) limits self.old }
         ensures none { IfNone result ((self.new ≡ self.old) × (sink.new ≡ sink.old)) }
@@ -44,7 +44,7 @@ impl<'t> Machine<'t> {
             return None;
         }
         self.turns = Turns::after(&self.turns);
-        Some(Quick {
+        Some(UnitTaken {
             bytes: 1,
             turn: Ok(Turn::Silent),
         })
@@ -80,7 +80,7 @@ impl<'t> Machine<'t> {
         limits: Limits,
         rest: &[u8],
         sink: &mut S,
-    ) -> Option<Quick>
+    ) -> Option<UnitTaken>
         requires waits { self.old.waiting ≡ Waiting.Map }
         requires ready { IsReady (set_of templates.now) limits self.old }
         ensures none { IfNone result ((self.new ≡ self.old) × (sink.new ≡ sink.old)) }
@@ -102,6 +102,6 @@ impl<'t> Machine<'t> {
         }
         self.turns = Turns::after(&self.turns);
         let turn = self.start_message(templates, limits, number, sink);
-        Some(Quick { bytes: 1, turn })
+        Some(UnitTaken { bytes: 1, turn })
     }
 }

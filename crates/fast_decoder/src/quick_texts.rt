@@ -2,12 +2,12 @@
 //! are no tails.
 
 ghost use Rattle.std.specs.Prelude.{◌≡◌, ◌≢◌, ◌+◌, ℕ, Ok, IfSome, IfNone};
-ghost use Rattle.fast_decoder.specs.device.Quick.{IsTakenTo};
+ghost use Rattle.fast_decoder.specs.device.UnitTaken.{IsTakenTo};
 ghost use Rattle.fast_decoder.specs.device.Positions.{set_of, IsReady, meaning};
 ghost use Rattle.fast_decoder.specs.device.TurnsLeft.{Way, HasTurns, HasTurnsBehind};
 
 use crate::machine::{Machine, Turn, Waiting};
-use crate::quick_units::Quick;
+use crate::quick_units::UnitTaken;
 use crate::turns::Turns;
 use fast_stream::Sink;
 use fast_template::{Operator, Shape, Templates};
@@ -25,7 +25,7 @@ impl<'t> Machine<'t> {
         limits: Limits,
         rest: &[u8],
         sink: &mut S,
-    ) -> Option<Quick>
+    ) -> Option<UnitTaken>
         requires waits { self.old.waiting ≡ Waiting.Text }
         requires ready { IsReady (set_of templates.now) limits self.old }
         ensures none { IfNone result ((self.new ≡ self.old) × (sink.new ≡ sink.old)) }
@@ -50,6 +50,6 @@ impl<'t> Machine<'t> {
         self.turns = Turns::after(&self.turns);
         let piece = &rest[..bytes];
         let turn = self.finish(number, field, ValueSource::Scratch, piece, sink);
-        Some(Quick { bytes, turn })
+        Some(UnitTaken { bytes, turn })
     }
 }

@@ -13,7 +13,7 @@ ghost use Rattle.fast_dict.specs.meaning.Operators.{range_of};
 ghost use Rattle.fast_value.specs.declared.settings.Limits.{Limits};
 ghost use Rattle.fast_decoder.specs.declared.machine.Machine.{Machine};
 ghost use Rattle.fast_cursor.specs.device.Segments.{first_node};
-ghost use Rattle.fast_decoder.specs.device.Quick.{IsTakenTo, IsSentItem};
+ghost use Rattle.fast_decoder.specs.device.UnitTaken.{IsTakenTo, IsSentItem};
 ghost use Rattle.fast_decoder.specs.device.Positions.{Set, set_of, tree_in, IsReady, meaning};
 ghost use Rattle.fast_decoder.specs.device.TurnsLeft.{Way, HasTurns, HasTurnsBehind, HasTurnsWaiting, turns_begun_at};
 
@@ -28,7 +28,7 @@ use fast_wire::short_entity;
 
 /// A unit that was taken, or as much of it as there is, and the turn behind it.
 #[derive(Clone, Copy, Debug)]
-pub struct Quick {
+pub struct UnitTaken {
     /// The bytes that were taken.
     pub bytes: usize,
     /// How the turn ended. Behind a unit that is cut the machine waits.
@@ -123,7 +123,7 @@ impl<'t> Machine<'t> {
         item: Option<Number>,
         bytes: usize,
         sink: &mut S,
-    ) -> Quick
+    ) -> UnitTaken
         requires bit { has_bit ≡ uses_bit (field_data field.now) }
         requires left { 0 < length self.old.cursor.left }
         ensures taken { (set : Set) (l : Limits) (m : Machine) (rest : List ℕ)
@@ -138,7 +138,7 @@ impl<'t> Machine<'t> {
     {
         self.turns = Turns::after(&self.turns);
         let turn = self.finish_item(number, field, has_bit, item, sink);
-        Quick { bytes, turn }
+        UnitTaken { bytes, turn }
     }
 
     /// Takes the unit of the next instruction, a field of unsigned integers that stands in the stream so.
@@ -153,7 +153,7 @@ impl<'t> Machine<'t> {
         sending: Sending,
         rest: &[u8],
         sink: &mut S,
-    ) -> Option<Quick>
+    ) -> Option<UnitTaken>
         requires range { unsigned_up_to top ≡ range_of kind }
         requires unsigned { (n : ℕ) → value_of_integer kind (pos n) ≡ U n }
         requires no_delta { sending_operator sending ≢ Operator.Delta }
@@ -207,7 +207,7 @@ impl<'t> Machine<'t> {
         sending: Sending,
         rest: &[u8],
         sink: &mut S,
-    ) -> Option<Quick>
+    ) -> Option<UnitTaken>
         requires range { signed_between low top ≡ range_of kind }
         requires signed { (x : ℤ) → value_of_integer kind x ≡ I x }
         requires no_delta { sending_operator sending ≢ Operator.Delta }
@@ -261,7 +261,7 @@ impl<'t> Machine<'t> {
         sending: Sending,
         rest: &[u8],
         sink: &mut S,
-    ) -> Option<Quick>
+    ) -> Option<UnitTaken>
         requires delta { sending_operator sending ≡ Operator.Delta }
         requires waits { self.old.waiting ≡ Waiting.Field }
         requires ready { IsReady (set_of templates.now) limits self.old }
@@ -298,7 +298,7 @@ impl<'t> Machine<'t> {
         limits: Limits,
         rest: &[u8],
         sink: &mut S,
-    ) -> Option<Quick>
+    ) -> Option<UnitTaken>
         requires ready { IsReady (set_of templates.now) limits self.old }
         ensures none { IfNone result ((self.new ≡ self.old) × (sink.new ≡ sink.old)) }
         ensures taken { IfSome result

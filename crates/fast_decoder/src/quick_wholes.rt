@@ -1,12 +1,12 @@
 //! The quick way of whole decimals, behind a turn at whose end the machine waits for one: those under delta, both units at once.
 
 ghost use Rattle.std.specs.Prelude.{◌≡◌, ◌≢◌, ◌+◌, ℕ, Ok, IfSome, IfNone};
-ghost use Rattle.fast_decoder.specs.device.Quick.{IsTakenTo};
+ghost use Rattle.fast_decoder.specs.device.UnitTaken.{IsTakenTo};
 ghost use Rattle.fast_decoder.specs.device.Positions.{set_of, IsReady, meaning};
 ghost use Rattle.fast_decoder.specs.device.TurnsLeft.{Way, HasTurns, HasTurnsBehind};
 
 use crate::machine::{Machine, Turn, Waiting};
-use crate::quick_units::Quick;
+use crate::quick_units::UnitTaken;
 use fast_stream::Sink;
 use fast_template::{Operator, Shape, Templates};
 use fast_units::short_decimals::delta_decimal;
@@ -21,7 +21,7 @@ impl<'t> Machine<'t> {
         limits: Limits,
         rest: &[u8],
         sink: &mut S,
-    ) -> Option<Quick>
+    ) -> Option<UnitTaken>
         requires waits { self.old.waiting ≡ Waiting.Field }
         requires ready { IsReady (set_of templates.now) limits self.old }
         ensures none { IfNone result ((self.new ≡ self.old) × (sink.new ≡ sink.old)) }

@@ -11,13 +11,13 @@ ghost use Rattle.fast_decoder.specs.device.Steps.{IsStep};
 ghost use Rattle.fast_decoder.specs.declared.machine.Turn.{Turn};
 
 use crate::machine::{Machine, Turn, Waiting};
-use crate::quick_units::Quick;
+use crate::quick_units::UnitTaken;
 use fast_stream::{FaultCode, Sink};
 use fast_template::{Shape, Templates};
 use fast_units::fields::needs_bytes;
 use fast_value::Limits;
 
-impl Quick {
+impl UnitTaken {
     /// Whether the machine goes on, and why not.
     #[inline(always)]
     pub fn outcome(&self) -> Result<(), FaultCode>
@@ -40,7 +40,7 @@ impl<'t> Machine<'t> {
         limits: Limits,
         piece: &[u8],
         sink: &mut S,
-    ) -> Quick
+    ) -> UnitTaken
         requires turn { CanTurn (set_of templates.now) limits self.old }
         ensures step { IsStep S.takes S.stops (set_of templates.now) limits self.old piece.now sink.old result sink.new
             self.new }
@@ -56,14 +56,14 @@ impl<'t> Machine<'t> {
                     let bytes = piece.len() - rest.len();
                     match step.turn {
                         Err(code) => {
-                            return Quick {
+                            return UnitTaken {
                                 bytes,
                                 turn: Err(code),
                             };
                         }
                         Ok(turn) => match turn {
                             Turn::Waits => {
-                                return Quick {
+                                return UnitTaken {
                                     bytes,
                                     turn: Ok(Turn::Waits),
                                 };
@@ -94,14 +94,14 @@ impl<'t> Machine<'t> {
         limits: Limits,
         piece: &[u8],
         sink: &mut S,
-    ) -> Quick
+    ) -> UnitTaken
         requires turn { CanTurn (set_of templates.now) limits self.old }
         ensures step { IsStep S.takes S.stops (set_of templates.now) limits self.old piece.now sink.old result sink.new
             self.new }
         ensures ends { (t : Turn) → result.turn ≡ Ok t → t ≡ Turn.Waits }
     {
         if piece.is_empty() && self.waits_at_once(templates, limits, sink) {
-            return Quick {
+            return UnitTaken {
                 bytes: 0,
                 turn: Ok(Turn::Waits),
             };
@@ -145,7 +145,7 @@ impl<'t> Machine<'t> {
         limits: Limits,
         rest: &[u8],
         sink: &mut S,
-    ) -> Quick
+    ) -> UnitTaken
         requires waits { self.old.waiting ≡ Waiting.Field }
         requires turn { CanTurn (set_of templates.now) limits self.old }
         ensures step { IsStep S.takes S.stops (set_of templates.now) limits self.old rest.now sink.old result sink.new
@@ -166,7 +166,7 @@ impl<'t> Machine<'t> {
         limits: Limits,
         rest: &[u8],
         sink: &mut S,
-    ) -> Quick
+    ) -> UnitTaken
         requires turn { CanTurn (set_of templates.now) limits self.old }
         ensures step { IsStep S.takes S.stops (set_of templates.now) limits self.old rest.now sink.old result sink.new
             self.new }
@@ -174,7 +174,7 @@ impl<'t> Machine<'t> {
     {
         let turn = self.turn(templates, limits, sink);
         match turn {
-            Err(code) => Quick {
+            Err(code) => UnitTaken {
                 bytes: 0,
                 turn: Err(code),
             },
@@ -182,7 +182,7 @@ impl<'t> Machine<'t> {
                 Turn::Waits => self.take_behind(templates, limits, rest, sink),
                 _ => {
                     self.wait_for_field();
-                    Quick {
+                    UnitTaken {
                         bytes: 0,
                         turn: Ok(next),
                     }
@@ -199,7 +199,7 @@ impl<'t> Machine<'t> {
         limits: Limits,
         rest: &[u8],
         sink: &mut S,
-    ) -> Quick
+    ) -> UnitTaken
         requires ready { IsReady (set_of templates.now) limits self.old }
         ensures step { (m : Machine) (s : S)
             → Hands S.takes S.stops (turning (set_of templates.now) limits m) s (Ok tt) sink.old
@@ -214,7 +214,7 @@ impl<'t> Machine<'t> {
                 self.wait_for_field();
                 quick
             }
-            None => Quick {
+            None => UnitTaken {
                 bytes: 0,
                 turn: Ok(Turn::Waits),
             },

@@ -29,7 +29,7 @@ ghost use Rattle.fast_decoder.specs.device.Positions.{Set, set_of, tree_in, body
 
 use crate::layout::{make_slots, measure};
 use crate::machine::{Machine, Turn, Waiting};
-use crate::quick_units::Quick;
+use crate::quick_units::UnitTaken;
 use crate::settling::hand;
 use crate::turns::Turns;
 use fast_cursor::cursor::Cursor;
@@ -59,14 +59,14 @@ pub struct PieceTaken {
     pub outcome: Result<(), FaultCode>,
 }
 
-impl Quick {
+impl UnitTaken {
     /// All bytes of the rest, and the unit is cut.
     #[inline]
-    fn cut(rest: &[u8]) -> Quick
+    fn cut(rest: &[u8]) -> UnitTaken
         ensures bytes { result.bytes ≡ length rest.now }
         ensures turn { result.turn ≡ Ok Turn.Waits }
     {
-        Quick {
+        UnitTaken {
             bytes: rest.len(),
             turn: Ok(Turn::Waits),
         }
@@ -74,11 +74,11 @@ impl Quick {
 
     /// So many bytes, of which the last decides a fault.
     #[inline]
-    fn wrong(code: Code, bytes: usize) -> Quick
+    fn wrong(code: Code, bytes: usize) -> UnitTaken
         ensures bytes { result.bytes ≡ bytes }
         ensures turn { result.turn ≡ Err (FaultCode.Stream code) }
     {
-        Quick {
+        UnitTaken {
             bytes,
             turn: Err(FaultCode::Stream(code)),
         }
@@ -183,7 +183,7 @@ impl<'t> Machine<'t> {
         limits: Limits,
         rest: &[u8],
         sink: &mut S,
-    ) -> Quick
+    ) -> UnitTaken
         requires waits { self.old.waiting ≡ Waiting.Map }
         requires ready { IsReady (set_of templates.now) limits self.old }
         requires some { 0 < length rest.now }
@@ -192,11 +192,11 @@ impl<'t> Machine<'t> {
         ensures turns { PaysMessage (set_of templates.now) limits self.old result.turn self.new }
     {
         match self.cursor.take_map(rest) {
-            MapFront::Cut => Quick::cut(rest),
-            MapFront::TooLong(bytes) => Quick::wrong(Code::L3, bytes),
+            MapFront::Cut => UnitTaken::cut(rest),
+            MapFront::TooLong(bytes) => UnitTaken::wrong(Code::L3, bytes),
             MapFront::Whole(bytes) => {
                 let turn = self.mapped(templates, limits, sink);
-                Quick { bytes, turn }
+                UnitTaken { bytes, turn }
             }
         }
     }
@@ -298,7 +298,7 @@ impl<'t> Machine<'t> {
         limits: Limits,
         rest: &[u8],
         sink: &mut S,
-    ) -> Quick
+    ) -> UnitTaken
         requires waits { self.old.waiting ≡ Waiting.Identifier }
         requires ready { IsReady (set_of templates.now) limits self.old }
         requires some { 0 < length rest.now }
@@ -313,12 +313,12 @@ impl<'t> Machine<'t> {
             rest,
             limits.strict,
         ) {
-            Progress::Cut => Quick::cut(rest),
-            Progress::Wrong(code, bytes) => Quick::wrong(code, bytes),
+            Progress::Cut => UnitTaken::cut(rest),
+            Progress::Wrong(code, bytes) => UnitTaken::wrong(code, bytes),
             Progress::Whole(source, bytes) => {
                 let piece = &rest[..bytes];
                 let turn = self.identified(templates, limits, source, piece, sink);
-                Quick { bytes, turn }
+                UnitTaken { bytes, turn }
             }
         }
     }
@@ -331,7 +331,7 @@ impl<'t> Machine<'t> {
         width: usize,
         rest: &[u8],
         sink: &mut S,
-    ) -> Quick
+    ) -> UnitTaken
         requires waits { self.old.waiting ≡ Waiting.SegmentMap width }
         requires ready { IsReady (set_of templates.now) limits self.old }
         requires some { 0 < length rest.now }
@@ -340,11 +340,11 @@ impl<'t> Machine<'t> {
         ensures turns { PaysTurns (set_of templates.now) limits 0 self.old result.turn self.new }
     {
         match self.cursor.take_map(rest) {
-            MapFront::Cut => Quick::cut(rest),
-            MapFront::TooLong(bytes) => Quick::wrong(Code::L3, bytes),
+            MapFront::Cut => UnitTaken::cut(rest),
+            MapFront::TooLong(bytes) => UnitTaken::wrong(Code::L3, bytes),
             MapFront::Whole(bytes) => {
                 let turn = self.segment_mapped(templates, limits, width, sink);
-                Quick { bytes, turn }
+                UnitTaken { bytes, turn }
             }
         }
     }
@@ -382,7 +382,7 @@ impl<'t> Machine<'t> {
         limits: Limits,
         rest: &[u8],
         sink: &mut S,
-    ) -> Quick
+    ) -> UnitTaken
         requires waits { self.old.waiting ≡ Waiting.Field }
         requires ready { IsReady (set_of templates.now) limits self.old }
         requires some { 0 < length rest.now }
@@ -391,7 +391,7 @@ impl<'t> Machine<'t> {
         ensures turns { PaysTurns (set_of templates.now) limits 1 self.old result.turn self.new }
     {
         let Some(number) = self.cursor.next() else {
-            return Quick::cut(rest);
+            return UnitTaken::cut(rest);
         };
         match &templates.node(number).shape {
             Shape::Field(field) => {
@@ -420,7 +420,7 @@ impl<'t> Machine<'t> {
                     sink,
                 )
             }
-            Shape::Group { .. } => Quick::cut(rest),
+            Shape::Group { .. } => UnitTaken::cut(rest),
         }
     }
 
@@ -435,7 +435,7 @@ impl<'t> Machine<'t> {
         mantissa: &FieldInstruction,
         rest: &[u8],
         sink: &mut S,
-    ) -> Quick
+    ) -> UnitTaken
         requires waits { self.old.waiting ≡ Waiting.Field }
         requires ready { IsReady (set_of templates.now) limits self.old }
         requires some { 0 < length rest.now }
@@ -455,13 +455,13 @@ impl<'t> Machine<'t> {
             rest,
             limits.strict,
         ) {
-            Progress::Cut => Quick::cut(rest),
-            Progress::Wrong(code, bytes) => Quick::wrong(code, bytes),
+            Progress::Cut => UnitTaken::cut(rest),
+            Progress::Wrong(code, bytes) => UnitTaken::wrong(code, bytes),
             Progress::Whole(source, bytes) => {
                 let turn = self.exponent_known(
                     templates, limits, node, exponent, mantissa, source, sink,
                 );
-                Quick { bytes, turn }
+                UnitTaken { bytes, turn }
             }
         }
     }
@@ -476,7 +476,7 @@ impl<'t> Machine<'t> {
         body: &'t [u32],
         rest: &[u8],
         sink: &mut S,
-    ) -> Quick
+    ) -> UnitTaken
         requires waits { self.old.waiting ≡ Waiting.Field }
         requires ready { IsReady (set_of templates.now) limits self.old }
         requires some { 0 < list_length rest.now }
@@ -498,11 +498,11 @@ impl<'t> Machine<'t> {
             rest,
             limits.strict,
         ) {
-            Progress::Cut => Quick::cut(rest),
-            Progress::Wrong(code, bytes) => Quick::wrong(code, bytes),
+            Progress::Cut => UnitTaken::cut(rest),
+            Progress::Wrong(code, bytes) => UnitTaken::wrong(code, bytes),
             Progress::Whole(source, bytes) => {
                 let turn = self.length_known(templates, limits, node, length, body, source, sink);
-                Quick { bytes, turn }
+                UnitTaken { bytes, turn }
             }
         }
     }
@@ -515,7 +515,7 @@ impl<'t> Machine<'t> {
         exponent: i32,
         rest: &[u8],
         sink: &mut S,
-    ) -> Quick
+    ) -> UnitTaken
         requires waits { self.old.waiting ≡ Waiting.Mantissa exponent }
         requires ready { IsReady (set_of templates.now) limits self.old }
         requires some { 0 < length rest.now }
@@ -524,10 +524,10 @@ impl<'t> Machine<'t> {
         ensures turns { PaysTurns (set_of templates.now) limits 1 self.old result.turn self.new }
     {
         let Some(number) = self.cursor.next() else {
-            return Quick::cut(rest);
+            return UnitTaken::cut(rest);
         };
         let Shape::Decimal { mantissa, .. } = &templates.node(number).shape else {
-            return Quick::cut(rest);
+            return UnitTaken::cut(rest);
         };
         match take_integer(
             &mut self.slots,
@@ -536,11 +536,11 @@ impl<'t> Machine<'t> {
             rest,
             limits.strict,
         ) {
-            Progress::Cut => Quick::cut(rest),
-            Progress::Wrong(code, bytes) => Quick::wrong(code, bytes),
+            Progress::Cut => UnitTaken::cut(rest),
+            Progress::Wrong(code, bytes) => UnitTaken::wrong(code, bytes),
             Progress::Whole(source, bytes) => {
                 let turn = self.finish_decimal(number, mantissa, exponent, source, sink);
-                Quick { bytes, turn }
+                UnitTaken { bytes, turn }
             }
         }
     }
@@ -552,7 +552,7 @@ impl<'t> Machine<'t> {
         limits: Limits,
         rest: &[u8],
         sink: &mut S,
-    ) -> Quick
+    ) -> UnitTaken
         requires waits { IsOfFieldLater self.old.waiting }
         requires ready { IsReady (set_of templates.now) limits self.old }
         requires some { 0 < length rest.now }
@@ -561,10 +561,10 @@ impl<'t> Machine<'t> {
         ensures turns { PaysTurns (set_of templates.now) limits 1 self.old result.turn self.new }
     {
         let Some(number) = self.cursor.next() else {
-            return Quick::cut(rest);
+            return UnitTaken::cut(rest);
         };
         let Shape::Field(field) = &templates.node(number).shape else {
-            return Quick::cut(rest);
+            return UnitTaken::cut(rest);
         };
         let progress = self.take_scalar(templates, limits, field, rest);
         self.scalar_taken(templates, limits, number, field, progress, rest, sink)
@@ -629,7 +629,7 @@ impl<'t> Machine<'t> {
         progress: Progress<FieldStep>,
         rest: &[u8],
         sink: &mut S,
-    ) -> Quick
+    ) -> UnitTaken
         requires next { IsAtField (set_of templates.now) self.old.cursor node (field_data field.now) }
         requires serves { IsServedBy (set_of templates.now) self.old (field_data field.now) }
         requires progress { CanProgress (set_of templates.now) limits self.old (field_data field.now) progress }
@@ -642,12 +642,12 @@ impl<'t> Machine<'t> {
             → HasTurnsBehind result.turn way (set_of templates.now) limits n self.new }
     {
         match progress {
-            Progress::Cut => Quick::cut(rest),
-            Progress::Wrong(code, bytes) => Quick::wrong(code, bytes),
+            Progress::Cut => UnitTaken::cut(rest),
+            Progress::Wrong(code, bytes) => UnitTaken::wrong(code, bytes),
             Progress::Whole(step, bytes) => {
                 let piece = &rest[..bytes];
                 let turn = self.step_on(templates, limits, node, field, step, piece, sink);
-                Quick { bytes, turn }
+                UnitTaken { bytes, turn }
             }
         }
     }
@@ -711,7 +711,7 @@ impl<'t> Machine<'t> {
         limits: Limits,
         rest: &[u8],
         sink: &mut S,
-    ) -> Quick
+    ) -> UnitTaken
         requires ready { IsReady (set_of templates.now) limits self.old }
         requires some { 0 < length rest.now }
         ensures taken { TakesUnit S.takes S.stops (set_of templates.now) limits self.old rest.now sink.old result
@@ -733,7 +733,7 @@ impl<'t> Machine<'t> {
         limits: Limits,
         rest: &[u8],
         sink: &mut S,
-    ) -> Quick
+    ) -> UnitTaken
         requires ready { IsReady (set_of templates.now) limits self.old }
         requires some { 0 < length rest.now }
         ensures taken { TakesUnit S.takes S.stops (set_of templates.now) limits self.old rest.now sink.old result

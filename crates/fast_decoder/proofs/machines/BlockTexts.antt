@@ -25,7 +25,7 @@ use Rattle.fast_decoder.specs.declared.machine.Waiting.TheVariants.{Text}
 use Rattle.fast_decoder.specs.declared.turns.Turns.{Turns}
 use Rattle.fast_decoder.specs.device.Moving.{Moves}
 use Rattle.fast_decoder.specs.device.Passing.{IsPast, value_then}
-use Rattle.fast_decoder.specs.device.Quick.{IsTakenTo}
+use Rattle.fast_decoder.specs.device.UnitTaken.{IsTakenTo}
 use Rattle.fast_decoder.specs.device.Scalars.{IsOfField, IsScalarUnit, CanProgress}
 use Rattle.fast_units.specs.device.UnitFronts.{IsAsciiFirst, IsSent}
 use Rattle.fast_decoder.specs.device.Positions.{Set, CanTake, CanTurn, BeginsWithText, IsAtField, IsReady, bit_of, turning, meaning}

@@ -38,9 +38,9 @@ use Rattle.fast_decoder.specs.declared.machine.Waiting.{Waiting}
 use Rattle.fast_decoder.specs.declared.machine.Waiting.TheVariants.{Field, Mantissa}
 use Rattle.fast_decoder.proofs.fields.SentFields.{field_sent}
 use Rattle.fast_units.proofs.Turning.{turns_as, turns_done, turns_stop, stays_on, stays_as}
-use Rattle.fast_decoder.specs.device.Quick.{IsTakenTo}
+use Rattle.fast_decoder.specs.device.UnitTaken.{IsTakenTo}
 use Rattle.fast_decoder.specs.declared.machine.Turn.{Turn}
-use Rattle.fast_decoder.proofs.machines.Quick.{taken_to}
+use Rattle.fast_decoder.proofs.machines.UnitTaken.{taken_to}
 use Rattle.fast_decoder.proofs.units.Takes.{taken_fault, taken_stays}
 use Rattle.fast_decoder.proofs.steps.FieldTurns.{state_of, behind, mantissa_from}
 use Rattle.fast_decoder.proofs.machines.ScalarMachines.{still_supplied}

@@ -34,11 +34,11 @@ use Rattle.fast_decoder.specs.declared.machine.Machine.{Machine}
 use Rattle.fast_decoder.specs.declared.machine.Turn.{Turn}
 use Rattle.fast_decoder.specs.declared.machine.Turn.TheVariants.{Silent, Waits as TurnWaits}
 use Rattle.fast_decoder.specs.declared.machine.Waiting.TheVariants.{Field}
-use Rattle.fast_decoder.specs.declared.quick_units.Quick.{Quick}
+use Rattle.fast_decoder.specs.declared.quick_units.UnitTaken.{UnitTaken}
 use Rattle.fast_decoder.specs.declared.turns.Turns.{Turns}
 use Rattle.fast_decoder.specs.device.Moving.{Moves}
 use Rattle.fast_decoder.specs.device.Passing.{IsPast, value_then}
-use Rattle.fast_decoder.specs.device.Quick.{IsTakenTo}
+use Rattle.fast_decoder.specs.device.UnitTaken.{IsTakenTo}
 use Rattle.fast_decoder.specs.device.Positions.{Set, set_of, CanTurn, IsAtField, IsAtInteger, IsTurn, turning, meaning, state_in, bit_of}
 use Rattle.fast_decoder.specs.device.Steps.{IsStep}
 use Rattle.fast_decoder.specs.device.TurnsLeft.{Way, HasTurns, HasTurnsBehind, turns_begun_at}
@@ -121,7 +121,7 @@ module _ {S : Type 0} (takes stops : S → EventData → S → Type 0) (set : Se
       (λ way k h. finished way set l k b a _ result at.3 same past on (one_turn way set l k m.turns.count t.count m.counted m.cursor turns h))
 
   -- A unit of it that was taken.
-  pub integer_step : (m m' : Machine) (rest : List ℕ) (s : S) (q : Quick) (s' : S) → m.waiting ≡ Field → IsTurn takes stops set l (turning set l m) s (Ok TurnWaits) s m
+  pub integer_step : (m m' : Machine) (rest : List ℕ) (s : S) (q : UnitTaken) (s' : S) → m.waiting ≡ Field → IsTurn takes stops set l (turning set l m) s (Ok TurnWaits) s m
       → IsTakenTo takes stops set l (meaning set l m) rest s q.bytes q.turn s' m'
       → ((way : Way) (n : ℕ) → HasTurns way set l 1 n m → HasTurnsBehind q.turn way set l (1 + n) m')
       → IsStep takes stops set l m rest s q s' m'

@@ -21,7 +21,7 @@ use Rattle.fast_stream.specs.device.Frames.{resume}
 use Rattle.fast_stream.specs.device.Machine.{after_bytes}
 use Rattle.fast_units.specs.device.Taking.{Turns, Stays}
 use Rattle.fast_decoder.specs.device.Handing.{IsTaken}
-use Rattle.fast_decoder.specs.device.Quick.{IsTakenTo}
+use Rattle.fast_decoder.specs.device.UnitTaken.{IsTakenTo}
 use Rattle.fast_units.specs.device.Settling.{IsSettled, value_at}
 use Rattle.fast_units.specs.device.Stages.{term_behind, IsStageOf, IsFieldUnit}
 use Rattle.fast_units.specs.declared.pending.Pending.{Pending}
@@ -50,7 +50,7 @@ use Rattle.fast_decoder.proofs.fields.SentFields.{field_sent}
 use Rattle.fast_decoder.proofs.steps.FieldTurns.{state_of, supplied_like}
 use Rattle.fast_units.proofs.Turning.{turns_as, turns_on, turns_done, turns_stop, stays_on, stays_as}
 use Rattle.fast_decoder.proofs.units.Takes.{taken_fault, taken_stays}
-use Rattle.fast_decoder.proofs.machines.Quick.{taken_to}
+use Rattle.fast_decoder.proofs.machines.UnitTaken.{taken_to}
 
 -- the machine with other values, and other bytes in hand
 abbrev pub with_units : Machine → Slots → Pending → Scratch → Scratch → Machine

@@ -21,7 +21,7 @@ use Rattle.fast_stream.specs.device.GrammarReaders.{reader_of}
 use Rattle.fast_decoder.specs.device.Moving.{Moves}
 use Rattle.fast_decoder.specs.device.Passing.{IsPast, value_then}
 use Rattle.fast_decoder.specs.device.Positions.{Set, set_of, CanTurn, IsReady, meaning, turning}
-use Rattle.fast_decoder.specs.device.Quick.{IsTakenTo, IsSentItem}
+use Rattle.fast_decoder.specs.device.UnitTaken.{IsTakenTo, IsSentItem}
 use Rattle.fast_stream.specs.device.Readers.{Reader}
 use Rattle.fast_units.specs.device.Settling.{IsLastUnit, value_at}
 use Rattle.fast_stream.specs.declared.faults.FaultCode.{FaultCode}
@@ -37,7 +37,7 @@ use Rattle.fast_decoder.proofs.streams.Carrying.{supplied-turns}
 use Rattle.fast_units.proofs.Deciding.{item_value}
 use Rattle.fast_decoder.proofs.steps.FieldTurns.{can_turn_slots, meaning_field}
 use Rattle.fast_decoder.proofs.fields.Heads.{field_head}
-use Rattle.fast_decoder.proofs.machines.Quick.{taken_to, can_take_field, can_turn_field}
+use Rattle.fast_decoder.proofs.machines.UnitTaken.{taken_to, can_take_field, can_turn_field}
 use Rattle.fast_decoder.proofs.machines.ScalarMachines.{whole_here}
 use Rattle.fast_decoder.proofs.machines.ScalarSteps.{goes_on_moved, supplied_moved}
 

@@ -15,15 +15,15 @@ use Rattle.fast_decoder.specs.declared.machine.Turn.TheVariants.{Silent, Handed,
 use Rattle.fast_decoder.specs.device.Handing.{Hands, due, waiting_at, Fed}
 use Rattle.fast_decoder.specs.device.Moving.{Moves, Onward}
 use Rattle.fast_decoder.specs.declared.machine.Waiting.{Waiting}
-use Rattle.fast_decoder.specs.declared.quick_units.Quick.{Quick}
+use Rattle.fast_decoder.specs.declared.quick_units.UnitTaken.{UnitTaken}
 use Rattle.fast_decoder.specs.device.TurnsLeft.{Way, most_by, HasTurns, HasTurnsWaiting, HasTurnsBehind, HasTurnsAfter, turns_begun_at}
 use Rattle.fast_decoder.specs.device.Positions.{Set, tree_in, CanTurn, GoesOn, IsReady, IsTurn, turning, meaning}
-use Rattle.fast_decoder.specs.device.Quick.{IsTakenTo}
+use Rattle.fast_decoder.specs.device.UnitTaken.{IsTakenTo}
 use Rattle.fast_decoder.specs.device.Steps.{FedBehind, Runs, IsStep, IsCountedBy}
 use Rattle.fast_decoder.proofs.steps.Moves.{hands_turned, fewer_due}
 use Rattle.fast_decoder.proofs.steps.TurnCounts.{more_behind, unit_covers}
 use Rattle.fast_decoder.proofs.steps.FieldTurns.{supplied_like, can_turn_waits}
-use Rattle.fast_decoder.proofs.machines.Quick.{can_turn_on, has_turns_on}
+use Rattle.fast_decoder.proofs.machines.UnitTaken.{can_turn_on, has_turns_on}
 use Rattle.std.proofs.Math.Nat.{add-mul}
 use Rattle.fast_decoder.proofs.streams.Feeding.{by_list, fed_both}
 
@@ -129,7 +129,7 @@ module _ {S : Type 0} (takes stops : S → EventData → S → Type 0) (set : Se
   }
 
   -- A unit, behind a turn at whose end the machine waits for it, is a step.
-  pub unit_step : (m b : Machine) (rest : List ℕ) (s mid : S) (q : Quick) (s' : S) (m' : Machine) → Hands takes stops (turning set l m) s (Ok tt) mid (meaning set l b)
+  pub unit_step : (m b : Machine) (rest : List ℕ) (s mid : S) (q : UnitTaken) (s' : S) (m' : Machine) → Hands takes stops (turning set l m) s (Ok tt) mid (meaning set l b)
       → IsTakenTo takes stops set l (meaning set l b) rest mid q.bytes q.turn s' m'
       → ((way : Way) (n : ℕ) → HasTurns way set l 0 n m → HasTurnsBehind q.turn way set l (1 + n + turns_begun_at b.waiting b.cursor.map way (tree_in set) l) m')
       → IsStep takes stops set l m rest s q s' m'
@@ -220,7 +220,7 @@ module _ {S : Type 0} (takes stops : S → EventData → S → Type 0) (set : Se
       )
 
   -- a step more
-  pub so_far_step : (m : Machine) (piece : List ℕ) (s : S) (rest : List ℕ) (mid : S) (b : Machine) (q : Quick) (turn : Turn) (s' : S) (m' : Machine) → q.turn ≡ Ok turn → (turn ≡ TurnWaits → ⊥)
+  pub so_far_step : (m : Machine) (piece : List ℕ) (s : S) (rest : List ℕ) (mid : S) (b : Machine) (q : UnitTaken) (turn : Turn) (s' : S) (m' : Machine) → q.turn ≡ Ok turn → (turn ≡ TurnWaits → ⊥)
       → IsSoFar m piece s rest mid b → IsStep takes stops set l b rest mid q s' m' → IsSoFar m piece s (take (length rest - q.bytes) (drop q.bytes rest)) s' m'
   so_far_step m piece s rest mid b q turn s' m' is_turn on h step =
       let (size, is, joined) = left_behind piece rest q.bytes h.within h.is step.within in
@@ -246,7 +246,7 @@ module _ {S : Type 0} (takes stops : S → EventData → S → Type 0) (set : Se
       runs_on m s w TurnWaits s' m' on h = absurd (on refl)
 
   -- the last one
-  pub so_far_end : (m : Machine) (piece : List ℕ) (s : S) (rest : List ℕ) (mid : S) (b : Machine) (q : Quick) (turn : Result Turn FaultCode) (s' : S) (m' : Machine) → q.turn ≡ turn → ((t : Turn) → turn ≡ Ok t → t ≡ TurnWaits)
+  pub so_far_end : (m : Machine) (piece : List ℕ) (s : S) (rest : List ℕ) (mid : S) (b : Machine) (q : UnitTaken) (turn : Result Turn FaultCode) (s' : S) (m' : Machine) → q.turn ≡ turn → ((t : Turn) → turn ≡ Ok t → t ≡ TurnWaits)
       → IsSoFar m piece s rest mid b → IsStep takes stops set l b rest mid q s' m'
       → IsStep takes stops set l m piece s (record { bytes = length piece - length (take (length rest - q.bytes) (drop q.bytes rest)); turn = turn }) s' m'
   so_far_end m piece s rest mid b q turn s' m' is_turn ends h step =
@@ -277,7 +277,7 @@ module _ {S : Type 0} (takes stops : S → EventData → S → Type 0) (set : Se
       never_handed e = cc e
 
   -- Steps behind a unit: what was fed.
-  pub unit_and_steps : (m b : Machine) (rest : List ℕ) (s mid : S) (n : ℕ) (turn : Turn) (q : Quick) (o : Result Unit FaultCode) (s' : S) (m' : Machine) → (turn ≡ TurnWaits → ⊥)
+  pub unit_and_steps : (m b : Machine) (rest : List ℕ) (s mid : S) (n : ℕ) (turn : Turn) (q : UnitTaken) (o : Result Unit FaultCode) (s' : S) (m' : Machine) → (turn ≡ TurnWaits → ⊥)
       → IsTakenTo takes stops set l (meaning set l m) rest s n (Ok turn) mid b → IsStep takes stops set l b (take (length rest - n) (drop n rest)) mid q s' m'
       → ((t : Turn) → q.turn ≡ Ok t → t ≡ TurnWaits) → ((t : Turn) → q.turn ≡ Ok t → o ≡ Ok tt) → ((c : FaultCode) → q.turn ≡ Err c → o ≡ Err c)
       → Fed takes stops (tree_in set) l (waiting_at (meaning set l m)) (take (n + q.bytes) rest) s o s' (waiting_at (meaning set l m'))
@@ -332,7 +332,7 @@ module _ {S : Type 0} (takes stops : S → EventData → S → Type 0) (set : Se
       by (Err c) ends ok err moves = rw (err c refl) (fed (Err c) (meaning set l m') (moves (meaning set l m')))
 
 -- The turns of a unit and of steps behind it.
-pub counted_both : (set : Set) (l : Limits) (m b m' : Machine) (n : ℕ) (turn : Turn) (q : Quick) (o : Result Unit FaultCode) (way : Way) → 0 < n → (turn ≡ TurnWaits → ⊥)
+pub counted_both : (set : Set) (l : Limits) (m b m' : Machine) (n : ℕ) (turn : Turn) (q : UnitTaken) (o : Result Unit FaultCode) (way : Way) → 0 < n → (turn ≡ TurnWaits → ⊥)
     → ((k : ℕ) → HasTurnsWaiting way set l k m → HasTurnsBehind (Ok turn) way set l (1 + k + turns_begun_at m.waiting m.cursor.map way (tree_in set) l) b)
     → ((k : ℕ) → HasTurns way set l 0 k b → HasTurnsBehind q.turn way set l (k + q.bytes * (1 + most_by way (tree_in set) l)) m')
     → ((t : Turn) → q.turn ≡ Ok t → t ≡ TurnWaits) → ((t : Turn) → q.turn ≡ Ok t → o ≡ Ok tt) → ((c : FaultCode) → q.turn ≡ Err c → o ≡ Err c)

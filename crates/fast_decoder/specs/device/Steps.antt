@@ -11,7 +11,7 @@ use Rattle.fast_stream.specs.device.Machine.{after_bytes}
 use Rattle.fast_decoder.specs.declared.machine.Machine.{Machine}
 use Rattle.fast_decoder.specs.declared.machine.Turn.{Turn}
 use Rattle.fast_decoder.specs.declared.machine.Turn.TheVariants.{Silent, Handed, Waits}
-use Rattle.fast_decoder.specs.declared.quick_units.Quick.{Quick}
+use Rattle.fast_decoder.specs.declared.quick_units.UnitTaken.{UnitTaken}
 use Rattle.fast_decoder.specs.device.Handing.{due, Quiet, waiting_at, Fed}
 use Rattle.fast_decoder.specs.device.Moving.{events_due, Onward}
 use Rattle.fast_decoder.specs.device.Positions.{Set, tree_in, GoesOn, IsSupplied, turning, meaning}
@@ -33,7 +33,7 @@ Runs takes stops set l m s w (Err c) s' m' = (to : Reader Dictionary) → FedBeh
 
 -- A machine between two units takes so many of the bytes. Without a byte it goes on with fewer events due, or with fewer instructions left.
 -- Each byte pays for a turn, and for those of a message that it begins.
-pub record IsStep {S : Type 0} (takes stops : S → EventData → S → Type 0) (set : Set) (l : Limits) (m : Machine) (rest : List ℕ) (s : S) (q : Quick) (s' : S) (m' : Machine) : Type 0 where
+pub record IsStep {S : Type 0} (takes stops : S → EventData → S → Type 0) (set : Set) (l : Limits) (m : Machine) (rest : List ℕ) (s : S) (q : UnitTaken) (s' : S) (m' : Machine) : Type 0 where
   pub within : q.bytes ≤ length rest
   pub runs : Runs takes stops set l m s (take q.bytes rest) q.turn s' m'
   pub supplied : IsSupplied set l m'

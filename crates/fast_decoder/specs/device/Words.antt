@@ -8,13 +8,13 @@ use Rattle.fast_stream.specs.declared.faults.FaultCode.{FaultCode}
 use Rattle.fast_units.specs.device.Settling.{Serves}
 use Rattle.fast_decoder.specs.declared.machine.Machine.{Machine}
 use Rattle.fast_decoder.specs.declared.machine.Turn.{Turn}
-use Rattle.fast_decoder.specs.declared.quick_units.Quick.{Quick}
+use Rattle.fast_decoder.specs.declared.quick_units.UnitTaken.{UnitTaken}
 use Rattle.fast_decoder.specs.device.Positions.{Set, tree_in, meaning}
-use Rattle.fast_decoder.specs.device.Quick.{IsTakenTo}
+use Rattle.fast_decoder.specs.device.UnitTaken.{IsTakenTo}
 use Rattle.fast_decoder.specs.device.TurnsLeft.{Way, most_by, HasTurns, HasTurnsBehind}
 
 -- From the one machine to the other some of the bytes are taken, of which only the last hands something over, and a turn behind them.
-abbrev pub TakesUnit : {S : Type 0} → (S → EventData → S → Type 0) → (S → EventData → S → Type 0) → Set → Limits → Machine → List ℕ → S → Quick → S → Machine → Type 0
+abbrev pub TakesUnit : {S : Type 0} → (S → EventData → S → Type 0) → (S → EventData → S → Type 0) → Set → Limits → Machine → List ℕ → S → UnitTaken → S → Machine → Type 0
 TakesUnit takes stops set l m rest s q s' m' = IsTakenTo takes stops set l (meaning set l m) rest s q.bytes q.turn s' m'
 
 -- The machine's dictionary serves the field.

@@ -13,7 +13,7 @@ use Rattle.fast_stream.specs.device.Readers.{Reader, Done}
 use Rattle.fast_decoder.specs.device.Positions.{set_of, map_reader, meaning, meaning_at}
 use Rattle.fast_decoder.specs.declared.machine.Waiting.{Waiting}
 use Rattle.fast_decoder.proofs.steps.FieldTurns.{entries_here}
-use Rattle.fast_decoder.proofs.machines.Quick.{begun_to}
+use Rattle.fast_decoder.proofs.machines.UnitTaken.{begun_to}
 use Rattle.fast_decoder.proofs.machines.StartMaps.{first_clear, message_short}
 use Rattle.fast_decoder.proofs.machine.Machine.begin_quickly.Goals as goal
 

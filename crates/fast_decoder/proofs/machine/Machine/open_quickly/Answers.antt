@@ -7,11 +7,11 @@ use Rattle.fast_dict.specs.meaning.Slots.{slots_dictionary}
 use Rattle.fast_stream.specs.device.GrammarReaders.{reader_of}
 use Rattle.fast_stream.specs.device.Readers.{Reader}
 use Rattle.fast_decoder.specs.device.Positions.{set_of, segment_behind, meaning_at, turning}
-use Rattle.fast_decoder.specs.device.Quick.{IsTakenTo}
+use Rattle.fast_decoder.specs.device.UnitTaken.{IsTakenTo}
 use Rattle.fast_decoder.specs.declared.machine.Machine.{Machine}
 use Rattle.fast_decoder.specs.declared.machine.Turn.TheVariants as Turn
 use Rattle.fast_decoder.specs.declared.machine.Waiting.{Waiting}
-use Rattle.fast_decoder.proofs.machines.Quick.{taken_to}
+use Rattle.fast_decoder.proofs.machines.UnitTaken.{taken_to}
 use Rattle.fast_decoder.proofs.machines.ShortMaps.{segment_short, segment_turns}
 use Rattle.fast_decoder.proofs.machine.Machine.open_quickly.Goals as goal
 

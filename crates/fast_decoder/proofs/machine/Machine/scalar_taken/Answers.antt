@@ -5,7 +5,7 @@ use Rattle.fast_decoder.specs.device.Positions.{set_of, meaning}
 use Rattle.fast_stream.specs.declared.faults.FaultCode.TheVariants as Why
 use Rattle.fast_units.specs.declared.stages.FieldStep.{FieldStep}
 use Rattle.fast_units.specs.declared.progress.Progress.{Progress}
-use Rattle.fast_decoder.proofs.machines.Quick.{cut_to, wrong_to}
+use Rattle.fast_decoder.proofs.machines.UnitTaken.{cut_to, wrong_to}
 use Rattle.fast_decoder.proofs.machines.ScalarMachines.{scalar_whole, scalar_wrong, scalar_cut}
 use Rattle.fast_decoder.proofs.machine.Machine.scalar_taken.Goals as goal
 

@@ -6,7 +6,7 @@ use Rattle.fast_stream.specs.device.Continuations.{mantissa_after_then}
 use Rattle.fast_decoder.specs.device.Positions.{set_of, turning, meaning}
 use Rattle.fast_stream.specs.declared.faults.FaultCode.TheVariants as Why
 use Rattle.fast_decoder.proofs.machines.PartTakes.{integer_whole, integer_wrong, integer_cut, exponent_sees, exponent_sent, meaning_first, first_cut, first_ready, part_supplied}
-use Rattle.fast_decoder.proofs.machines.Quick.{cut_to, wrong_to}
+use Rattle.fast_decoder.proofs.machines.UnitTaken.{cut_to, wrong_to}
 use Rattle.fast_decoder.proofs.steps.FieldTurns.{serves_here, behind, parts_next}
 use Rattle.fast_decoder.proofs.machine.Machine.take_exponent.Goals as goal
 

@@ -11,14 +11,14 @@ use Rattle.fast_stream.specs.device.Machine.{after_bytes}
 use Rattle.fast_stream.specs.device.Readers.{Reader, Stop}
 use Rattle.fast_units.specs.device.Settling.{GivesField}
 use Rattle.fast_units.specs.device.Taking.{Turns, Stays}
-use Rattle.fast_decoder.specs.device.Quick.{IsTakenTo}
+use Rattle.fast_decoder.specs.device.UnitTaken.{IsTakenTo}
 use Rattle.fast_stream.specs.declared.faults.FaultCode.TheVariants as Why
 use Rattle.fast_decoder.specs.declared.machine.Waiting.{Waiting}
 use Rattle.fast_decoder.specs.declared.machine.Machine.{Machine}
 use Rattle.fast_decoder.specs.device.Positions.{set_of, tree_in, behind_map, meaning, meaning_at, CanTake, IsReady}
 use Rattle.fast_decoder.proofs.steps.FieldTurns.{turn_as}
 use Rattle.fast_decoder.proofs.machines.PartTakes.{part_supplied}
-use Rattle.fast_decoder.proofs.machines.Quick.{taken_to, cut_to, wrong_to}
+use Rattle.fast_decoder.proofs.machines.UnitTaken.{taken_to, cut_to, wrong_to}
 use Rattle.fast_decoder.proofs.units.Takes.{taken_fault, taken_stays}
 use Rattle.fast_decoder.proofs.units.Takings.{taken_as}
 use Rattle.fast_decoder.proofs.fields.Identifiers.{identifier_served, identified_by, sent_turns, sent_stops, sent_stays}

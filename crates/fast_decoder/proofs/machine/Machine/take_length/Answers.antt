@@ -6,7 +6,7 @@ use Rattle.fast_stream.specs.device.Continuations.{sequence_from_then, segment_t
 use Rattle.fast_decoder.specs.device.Positions.{set_of, body_in, turning, meaning}
 use Rattle.fast_stream.specs.declared.faults.FaultCode.TheVariants as Why
 use Rattle.fast_decoder.proofs.machines.PartTakes.{integer_whole, integer_wrong, integer_cut, length_sees, length_sent, sequence_next, meaning_first, first_cut, first_ready, part_supplied}
-use Rattle.fast_decoder.proofs.machines.Quick.{cut_to, wrong_to}
+use Rattle.fast_decoder.proofs.machines.UnitTaken.{cut_to, wrong_to}
 use Rattle.fast_decoder.proofs.steps.FieldTurns.{serves_here, behind}
 use Rattle.fast_decoder.proofs.machine.Machine.take_length.Goals as goal
 

@@ -17,7 +17,7 @@ use Rattle.fast_decoder.specs.device.Passing.{decimal_then}
 use Rattle.fast_stream.specs.meaning.Messages.{Found, decimal_with}
 use Rattle.fast_decoder.specs.device.Positions.{set_of, meaning, CanTake, IsTurn}
 use Rattle.fast_decoder.specs.declared.machine.Waiting.{Waiting}
-use Rattle.fast_decoder.proofs.machines.Quick.{cut_to, wrong_to}
+use Rattle.fast_decoder.proofs.machines.UnitTaken.{cut_to, wrong_to}
 use Rattle.fast_decoder.proofs.steps.FieldTurns.{serves_here, behind, mantissa_from, mantissa_next, serves_known, entry_here, turn_moved}
 use Rattle.fast_decoder.proofs.fields.ScalarNodes.{at_parts_node, mantissa_parts, not_decimal, served_node}
 use Rattle.fast_decoder.proofs.machines.PartTakes.{integer_whole, integer_wrong, integer_cut, mantissa_sees, mantissa_sent, meaning_second, second_cut, second_ready, second_turn, part_supplied}

@@ -11,7 +11,7 @@ use Rattle.fast_decoder.specs.declared.machine.Machine.{Machine}
 use Rattle.fast_decoder.specs.device.Positions.{set_of, tree_in, mapped_reader, map_reader, meaning, meaning_at, CanTake, IsTurn}
 use Rattle.fast_decoder.proofs.units.Takings.{taken_as, taken_cut, taken_full, due-map, map_reader-some}
 use Rattle.fast_decoder.proofs.machines.CutMaps.{map_supplied, map_ready}
-use Rattle.fast_decoder.proofs.machines.Quick.{whole_to, cut_to, wrong_to}
+use Rattle.fast_decoder.proofs.machines.UnitTaken.{whole_to, cut_to, wrong_to}
 use Rattle.fast_decoder.proofs.machine.Machine.take_map.Goals as goal
 
 pub returns-in-Cut-clause-taken : goal.returns-in-Cut-clause-taken

@@ -19,7 +19,7 @@ use Rattle.fast_decoder.proofs.steps.FieldTurns.{turn_as}
 use Rattle.fast_decoder.proofs.units.Takings.{taken_as, taken_cut, taken_full, due-entity}
 use Rattle.fast_decoder.proofs.units.SegmentMaps.{segment_judged, segment-reader, segment_same, segment_of}
 use Rattle.fast_decoder.proofs.machines.CutMaps.{map_supplied, segment_map_ready}
-use Rattle.fast_decoder.proofs.machines.Quick.{whole_to, cut_to, wrong_to}
+use Rattle.fast_decoder.proofs.machines.UnitTaken.{whole_to, cut_to, wrong_to}
 use Rattle.fast_decoder.proofs.machine.Machine.take_segment_map.Goals as goal
 
 pub returns-in-Cut-clause-taken : goal.returns-in-Cut-clause-taken

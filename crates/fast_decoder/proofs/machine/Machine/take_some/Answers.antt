@@ -5,7 +5,7 @@ use Rattle.fast_stream.specs.declared.faults.FaultCode.{FaultCode}
 use Rattle.fast_decoder.specs.declared.machine.Turn.{Turn}
 use Rattle.fast_decoder.specs.declared.machine.Turn.TheVariants.{Waits}
 use Rattle.fast_decoder.specs.device.Positions.{set_of, tree_in, meaning}
-use Rattle.fast_decoder.specs.device.Quick.{IsTakenTo}
+use Rattle.fast_decoder.specs.device.UnitTaken.{IsTakenTo}
 use Rattle.fast_decoder.specs.device.TurnsLeft.{HasTurnsBehind, turns_begun_at}
 use Rattle.fast_decoder.proofs.streams.Feeding.{within_piece}
 use Rattle.fast_decoder.proofs.streams.Running.{unit_alone, unit_and_steps, counted_one, counted_both, ready_end}

@@ -15,7 +15,7 @@ use Rattle.fast_stream.specs.device.Readers.{Reader, Done}
 use Rattle.fast_stream.specs.device.Machine.{after_bytes}
 use Rattle.fast_decoder.specs.device.Handing.{due, IsTaken}
 use Rattle.fast_units.specs.device.Taking.{Waits, Quiet, Turns}
-use Rattle.fast_decoder.specs.device.Quick.{IsTakenTo}
+use Rattle.fast_decoder.specs.device.UnitTaken.{IsTakenTo}
 use Rattle.fast_decoder.specs.device.Positions.{Set, tree_in, CanTake, CanTurn, GoesOn, IsReady, IsSupplied, IsTurn, meaning}
 use Rattle.fast_decoder.specs.device.TurnsLeft.{Way, HasTurns, HasTurnsBehind}
 use Rattle.fast_decoder.specs.declared.machine.Machine.{Machine}
