@@ -1,5 +1,5 @@
 -- Slots, groups and sequences are written as they are encoded, and suit and fit.
-use Rattle.std.proofs.Common.{◌≡◌, ◌<◌, ◌≤◌, ◌+◌, ◌*◌, ℕ, List, inl, inr, length, refl, ap, sym, subst, ◌∙◌, arith}
+use Rattle.std.proofs.Common.{◌≡◌, ◌<◌, ◌≤◌, ◌+◌, ◌*◌, ℕ, List, length, refl, ap, sym, subst, ◌∙◌, arith}
 use Rattle.std.specs.Prelude.{◌^◌, nat_lt, true, Option, Some, None, option_map, Result, Ok, Err, OnOk, is_ok}
 use Rattle.std.proofs.lemmas.Grind.{get_or_default_zero}
 use Rattle.fast_value.specs.declared.messages.Item.{Item}
@@ -9,7 +9,7 @@ use Rattle.fast_value.specs.meaning.Messages.{ItemData, one, group as group_item
 use Rattle.fast_value.specs.meaning.Values.{value_data}
 use Rattle.fast_value.specs.meaning.Views.{item_data, slots_data, elements_data}
 use Rattle.fast_value.proofs.ItemViews.{item_data-One, item_data-Group, item_data-Sequence, count-elements_data}
-use Rattle.fast_tree.specs.declared.instructions.Shape.TheVariants.{Field, Decimal, Group, Sequence}
+use Rattle.fast_tree.specs.declared.instructions.Shape.TheVariants.{Group, Sequence}
 use Rattle.fast_tree.specs.declared.instructions.Shape.{Shape}
 use Rattle.fast_tree.specs.device.Nodes.{label_of}
 use Rattle.fast_tree.specs.meaning.Tree.{FieldData}
@@ -22,10 +22,10 @@ use Rattle.fast_spelling.specs.device.Nodes.{instruction_in, Keeps}
 use Rattle.fast_spelling.specs.meaning.Encoding.{EncodesField, EncodesBody, EncodesSegment, EncodesElements}
 use Rattle.fast_spelling.specs.device.Fields.{Wrote}
 use Rattle.fast_spelling.specs.meaning.Suiting.{SuitsBody}
-use Rattle.fast_spelling.proofs.encodings.Instructions.{at_shape, usable_at, short_at, served, encodes_as, field_encodes, decimal_encodes, group_encodes, sequence_encodes}
+use Rattle.fast_spelling.proofs.encodings.Instructions.{at_shape, usable_at, short_at, served, encodes_as, group_encodes, sequence_encodes}
 use Rattle.fast_spelling.proofs.limits.Depths.{item_depth, option_depth, slots_depth, rows_depth, option_depth_at, row_depth}
 use Rattle.fast_spelling.proofs.encodings.Progress.{written_start, more_at, all_written, IsClosed, ready_kept, keeps_on, keeps_all, row_more, rows_start, rows_done, has_width}
-use Rattle.fast_spelling.proofs.limits.Suited.{one_suits, no_slot_suits, no_row_suits, decimal_right}
+use Rattle.fast_spelling.proofs.limits.Suited.{one_suits, no_slot_suits, no_row_suits}
 use Rattle.fast_spelling.proofs.limits.Checked.{accepted_as, one_fits, one_total, one_row_right, one_row_fits, one_row_total, no_row_fits, no_row_total}
 use Rattle.fast_spelling.proofs.encodings.Sealed.{sealed}
 use Rattle.fast_spelling.specs.declared.faults.EncodeFault.{EncodeFault}

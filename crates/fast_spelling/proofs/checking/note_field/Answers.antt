@@ -1,5 +1,5 @@
 -- The field of a node whose form tells that it is one.
-use Rattle.std.proofs.Common.{◌≡◌, ◌∙◌, ap, sym, subst, refl, ℕ, length}
+use Rattle.std.proofs.Common.{◌≡◌, ◌∙◌, ap, sym, refl, ℕ, length}
 use Rattle.std.specs.Prelude.{Some, slice_get}
 use Rattle.fast_value.specs.declared.kinds.Kind.{Kind}
 use Rattle.fast_tree.specs.declared.instructions.FieldInstruction.{FieldInstruction}

@@ -1,9 +1,9 @@
 -- A clear bit is the field, where the operator gives its value.
-use Rattle.std.proofs.Common.{◌≡◌, ◌++◌, ◌∷◌, [], List, refl, ap, sym, subst, ◌∙◌, ℕ}
-use Rattle.std.specs.Prelude.{Bool, true, false, if◌then◌else◌, Some}
+use Rattle.std.proofs.Common.{◌∷◌, [], refl, ap, sym, subst, ◌∙◌, ℕ}
+use Rattle.std.specs.Prelude.{Bool, false, if◌then◌else◌, Some}
 use Rattle.std.proofs.lemmas.List.{append-nil}
 use Rattle.fast_value.specs.meaning.Values.{scalar_data}
-use Rattle.fast_tree.specs.meaning.Tree.{FieldData, uses_bit}
+use Rattle.fast_tree.specs.meaning.Tree.{FieldData}
 use Rattle.fast_tree.specs.device.Nodes.{field_data}
 use Rattle.fast_dict.specs.meaning.Dictionary.{previous_at}
 use Rattle.fast_dict.specs.meaning.Operators.{nothing}

@@ -1,5 +1,5 @@
 -- One more than the entry holds is not sent.
-use Rattle.std.proofs.Common.{◌≡◌, refl, ap, sym, subst, ◌∙◌}
+use Rattle.std.proofs.Common.{refl, ap, ◌∙◌}
 use Rattle.fast_value.specs.declared.kinds.Kind.{Kind}
 use Rattle.fast_value.specs.meaning.Kinds.{integer_of, value_of_integer}
 use Rattle.fast_value.specs.meaning.Values.{scalar_data}
