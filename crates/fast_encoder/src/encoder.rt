@@ -45,7 +45,11 @@ impl<'t> Model for Encoder<'t> {
 
     ghost Value = { EncoderData };
 
-    ghost view = { λ e. record { set = set_of e.plan.templates.now; limits = e.plan.limits; dictionary = e.work.ledger.now } };
+    ghost view = { λ e. record {
+      set = set_of e.plan.templates.now;
+      limits = e.plan.limits;
+      dictionary = e.work.ledger.now;
+    } };
 
     ghost invariant = { λ e. IsSound e.plan.templates.now e.plan.limits e.work.ledger };
 }

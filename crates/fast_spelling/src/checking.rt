@@ -12,7 +12,8 @@ ghost use Rattle.fast_spelling.specs.meaning.Encoding.{Encodes, EncodesBody, Enc
 ghost use Rattle.fast_spelling.specs.device.Fields.{Wrote, WroteSegment};
 ghost use Rattle.fast_spelling.specs.device.Forms.{Says, IsFieldAt};
 ghost use Rattle.fast_spelling.specs.device.Usual.{IsOfNumbers};
-ghost use Rattle.fast_spelling.specs.device.Nodes.{instruction_in, IsReady, Keeps};
+ghost use Rattle.fast_spelling.specs.device.Nodes.{instruction_in, IsReady, IsThatField, Keeps};
+ghost use Rattle.fast_tree.specs.declared.instructions.FieldInstruction.{FieldInstruction};
 ghost use Rattle.fast_spelling.specs.meaning.Suiting.{IsKnownAs, Suits, SuitsTemplate, SuitsBody, FitsLimits, AreWithinLimits, IsRight};
 ghost use Rattle.fast_tree.specs.declared.instructions.Node.{Node};
 ghost use Rattle.fast_tree.specs.declared.instructions.Shape.TheVariants.{Field};
@@ -27,6 +28,7 @@ ghost use Rattle.fast_value.specs.meaning.Values.{value_data, scalar_data};
 use crate::faults::EncodeFault;
 use crate::fields::{keeps, write_field};
 use crate::forms::Form;
+use crate::integers::write_unsigned_as;
 use crate::known::Known;
 use crate::measuring::text_len;
 use crate::messages::{reset_if, write_identifier};
@@ -98,32 +100,78 @@ pub fn try_body(plan: &Plan<'_>, body: &[u32], slots: &[Option<Item>], work: &mu
         return false;
     }
     for (i, slot) in slots.iter().enumerate() {
-        if !try_slot(plan, body[i], slot, work) {
+        let node = body[i];
+        let Some(item) = slot else {
+            if try_none(plan, node, work).is_err() {
+                return false;
+            }
+            continue;
+        };
+        let Item::One(value) = item else {
+            if !try_item(plan, node, item, work) {
+                return false;
+            }
+            continue;
+        };
+        let done = match form_at(plan, node) {
+            Form::PlainUInt32 => try_plain_unsigned(plan, node, Kind::UInt32, value, work),
+            Form::PlainInt32 => try_plain(plan, node, Kind::Int32, value, work),
+            Form::PlainUInt64 => try_plain_unsigned(plan, node, Kind::UInt64, value, work),
+            Form::PlainInt64 => try_plain(plan, node, Kind::Int64, value, work),
+            Form::ConstantUInt32 => try_constant(plan, node, Kind::UInt32, value, work),
+            Form::ConstantInt32 => try_constant(plan, node, Kind::Int32, value, work),
+            Form::ConstantUInt64 => try_constant(plan, node, Kind::UInt64, value, work),
+            Form::ConstantInt64 => try_constant(plan, node, Kind::Int64, value, work),
+            Form::DefaultUInt32 => try_default(plan, node, Kind::UInt32, value, work),
+            Form::DefaultInt32 => try_default(plan, node, Kind::Int32, value, work),
+            Form::DefaultUInt64 => try_default(plan, node, Kind::UInt64, value, work),
+            Form::DefaultInt64 => try_default(plan, node, Kind::Int64, value, work),
+            Form::CopyUInt32 => try_copied(plan, node, Kind::UInt32, value, work),
+            Form::CopyInt32 => try_copied(plan, node, Kind::Int32, value, work),
+            Form::CopyUInt64 => try_copied(plan, node, Kind::UInt64, value, work),
+            Form::CopyInt64 => try_copied(plan, node, Kind::Int64, value, work),
+            Form::IncrementUInt32 => try_next(plan, node, Kind::UInt32, value, work),
+            Form::IncrementInt32 => try_next(plan, node, Kind::Int32, value, work),
+            Form::IncrementUInt64 => try_next(plan, node, Kind::UInt64, value, work),
+            Form::IncrementInt64 => try_next(plan, node, Kind::Int64, value, work),
+            Form::DeltaUInt32 => try_difference(plan, node, Kind::UInt32, value, work),
+            Form::DeltaInt32 => try_difference(plan, node, Kind::Int32, value, work),
+            Form::DeltaUInt64 => try_difference(plan, node, Kind::UInt64, value, work),
+            Form::DeltaInt64 => try_difference(plan, node, Kind::Int64, value, work),
+            Form::PlainAscii => try_plain(plan, node, Kind::Ascii, value, work),
+            Form::ConstantAscii => try_constant(plan, node, Kind::Ascii, value, work),
+            Form::DefaultAscii => try_default(plan, node, Kind::Ascii, value, work),
+            Form::CopyAscii => try_copied_other(plan, node, Kind::Ascii, value, work),
+            Form::TailAscii => try_chosen(plan, node, Kind::Ascii, Operator::Tail, value, work),
+            Form::DeltaAscii => try_chosen(plan, node, Kind::Ascii, Operator::Delta, value, work),
+            Form::PlainUnicode => try_plain(plan, node, Kind::Unicode, value, work),
+            Form::DeltaUnicode => try_chosen(
+                plan,
+                node,
+                Kind::Unicode,
+                Operator::Delta,
+                value,
+                work,
+            ),
+            Form::PlainBytes => try_plain(plan, node, Kind::Bytes, value, work),
+            Form::TailBytes => try_chosen(plan, node, Kind::Bytes, Operator::Tail, value, work),
+            Form::PlainDecimal => try_plain(plan, node, Kind::Decimal, value, work),
+            Form::CopyDecimal => try_copied_other(plan, node, Kind::Decimal, value, work),
+            Form::DeltaDecimal => try_chosen(
+                plan,
+                node,
+                Kind::Decimal,
+                Operator::Delta,
+                value,
+                work,
+            ),
+            Form::Other => try_other(plan, node, value, work),
+        };
+        if done.is_err() {
             return false;
         }
     }
     true
-}
-
-/// Writes what stands in the slot of the instruction of a node.
-#[cycle(check)]
-#[inline(always)]
-fn try_slot(plan: &Plan<'_>, node: u32, slot: &Option<Item>, work: &mut Work) -> bool
-    requires node { node < length (nodes_of plan.now.templates.now) }
-    requires ready { IsReady plan.now.templates.now plan.now.limits work.old.ledger }
-    ensures accepted { IsTrue result
-        → (IsAccepted plan.now.limits (instruction_in (nodes_of plan.now.templates.now) node)
-        (option_map item_data slot.now) work.old.room work.new.room) }
-    ensures ok { IsTrue result
-        → (Wrote (Encodes plan.now.limits (instruction_in (nodes_of plan.now.templates.now) node) work.old.ledger.now
-        (option_map item_data slot.now)) work.old.draft work.new.draft work.new.ledger.now) }
-    ensures keeps { Keeps work.old.ledger work.new.ledger }
-{
-    match slot {
-        Some(Item::One(value)) => try_value(plan, node, value, work).is_ok(),
-        Some(item) => try_item(plan, node, item, work),
-        None => try_none(plan, node, work).is_ok(),
-    }
 }
 
 /// The form of a node.
@@ -156,6 +204,17 @@ fn field_at<'t>(plan: &Plan<'t>, node: u32, kind: Kind, operator: Operator) -> &
     }
 }
 
+/// Notes, for the proof alone, what field the node is.
+#[inline(always)]
+fn note_field(plan: &Plan<'_>, node: u32, kind: Kind, operator: Operator)
+    requires node { node < length (nodes_of plan.now.templates.now) }
+    requires form { IsFieldAt (nodes_of plan.now.templates.now) node kind operator }
+    ensures there { (f : FieldInstruction) × IsThatField plan.now.templates.now node kind operator f }
+{
+    let _ = (kind, operator);
+    plan.templates.node(node);
+}
+
 /// The field of a node that is one, with what its step says of it.
 #[inline(always)]
 fn known_at<'t>(plan: &Plan<'t>, node: u32, kind: Kind, operator: Operator) -> Known<'t>
@@ -182,10 +241,17 @@ fn known_at<'t>(plan: &Plan<'t>, node: u32, kind: Kind, operator: Operator) -> K
     }
 }
 
-/// Writes a value of the instruction of a node. Its form tells the type and the operator, for which there is a way of its own.
+/// Writes an unsigned integer of a field without operator. The field itself is not read.
 #[inline(always)]
-fn try_value(plan: &Plan<'_>, node: u32, value: &Value, work: &mut Work) -> Result<(), EncodeFault>
+fn try_plain_unsigned(
+    plan: &Plan<'_>,
+    node: u32,
+    kind: Kind,
+    value: &Value,
+    work: &mut Work,
+) -> Result<(), EncodeFault>
     requires node { node < length (nodes_of plan.now.templates.now) }
+    requires form { IsFieldAt (nodes_of plan.now.templates.now) node kind no_operator }
     requires ready { IsReady plan.now.templates.now plan.now.limits work.old.ledger }
     ensures suits { OnOk result
         (Suits (instruction_in (nodes_of plan.now.templates.now) node) (Some (one (value_data value.now)))) }
@@ -196,46 +262,16 @@ fn try_value(plan: &Plan<'_>, node: u32, value: &Value, work: &mut Work) -> Resu
     ensures keeps { Keeps work.old.ledger work.new.ledger }
     ensures room { work.new.room ≡ work.old.room }
 {
-    match form_at(plan, node) {
-        Form::PlainUInt32 => try_plain(plan, node, Kind::UInt32, value, work),
-        Form::PlainInt32 => try_plain(plan, node, Kind::Int32, value, work),
-        Form::PlainUInt64 => try_plain(plan, node, Kind::UInt64, value, work),
-        Form::PlainInt64 => try_plain(plan, node, Kind::Int64, value, work),
-        Form::ConstantUInt32 => try_constant(plan, node, Kind::UInt32, value, work),
-        Form::ConstantInt32 => try_constant(plan, node, Kind::Int32, value, work),
-        Form::ConstantUInt64 => try_constant(plan, node, Kind::UInt64, value, work),
-        Form::ConstantInt64 => try_constant(plan, node, Kind::Int64, value, work),
-        Form::DefaultUInt32 => try_default(plan, node, Kind::UInt32, value, work),
-        Form::DefaultInt32 => try_default(plan, node, Kind::Int32, value, work),
-        Form::DefaultUInt64 => try_default(plan, node, Kind::UInt64, value, work),
-        Form::DefaultInt64 => try_default(plan, node, Kind::Int64, value, work),
-        Form::CopyUInt32 => try_copied(plan, node, Kind::UInt32, value, work),
-        Form::CopyInt32 => try_copied(plan, node, Kind::Int32, value, work),
-        Form::CopyUInt64 => try_copied(plan, node, Kind::UInt64, value, work),
-        Form::CopyInt64 => try_copied(plan, node, Kind::Int64, value, work),
-        Form::IncrementUInt32 => try_next(plan, node, Kind::UInt32, value, work),
-        Form::IncrementInt32 => try_next(plan, node, Kind::Int32, value, work),
-        Form::IncrementUInt64 => try_next(plan, node, Kind::UInt64, value, work),
-        Form::IncrementInt64 => try_next(plan, node, Kind::Int64, value, work),
-        Form::DeltaUInt32 => try_difference(plan, node, Kind::UInt32, value, work),
-        Form::DeltaInt32 => try_difference(plan, node, Kind::Int32, value, work),
-        Form::DeltaUInt64 => try_difference(plan, node, Kind::UInt64, value, work),
-        Form::DeltaInt64 => try_difference(plan, node, Kind::Int64, value, work),
-        Form::PlainAscii => try_plain(plan, node, Kind::Ascii, value, work),
-        Form::ConstantAscii => try_constant(plan, node, Kind::Ascii, value, work),
-        Form::DefaultAscii => try_default(plan, node, Kind::Ascii, value, work),
-        Form::CopyAscii => try_copied_other(plan, node, Kind::Ascii, value, work),
-        Form::TailAscii => try_chosen(plan, node, Kind::Ascii, Operator::Tail, value, work),
-        Form::DeltaAscii => try_chosen(plan, node, Kind::Ascii, Operator::Delta, value, work),
-        Form::PlainUnicode => try_plain(plan, node, Kind::Unicode, value, work),
-        Form::DeltaUnicode => try_chosen(plan, node, Kind::Unicode, Operator::Delta, value, work),
-        Form::PlainBytes => try_plain(plan, node, Kind::Bytes, value, work),
-        Form::TailBytes => try_chosen(plan, node, Kind::Bytes, Operator::Tail, value, work),
-        Form::PlainDecimal => try_plain(plan, node, Kind::Decimal, value, work),
-        Form::CopyDecimal => try_copied_other(plan, node, Kind::Decimal, value, work),
-        Form::DeltaDecimal => try_chosen(plan, node, Kind::Decimal, Operator::Delta, value, work),
-        Form::Other => try_other(plan, node, value, work),
-    }
+    note_field(plan, node, kind, Operator::None);
+    let Some(Scalar::U(number)) = right_unsigned(kind, value) else {
+        return Err(EncodeFault::E2);
+    };
+    write_unsigned_as(
+        &mut work.draft.bytes,
+        plan.steps[node as usize].nullable,
+        number,
+    )?;
+    Ok(())
 }
 
 /// Writes a value of a field without operator.
@@ -402,7 +438,7 @@ fn try_next(
     ensures room { work.new.room ≡ work.old.room }
 {
     let at = known_at(plan, node, kind, Operator::Increment);
-    let Some(scalar) = right_value(plan.limits, kind, value) else {
+    let Some(scalar) = right_number(kind, value) else {
         return Err(EncodeFault::E2);
     };
     write_next(&mut work.draft, &mut work.ledger, at, scalar)
@@ -431,7 +467,7 @@ fn try_difference(
     ensures room { work.new.room ≡ work.old.room }
 {
     let at = known_at(plan, node, kind, Operator::Delta);
-    let Some(scalar) = right_value(plan.limits, kind, value) else {
+    let Some(scalar) = right_number(kind, value) else {
         return Err(EncodeFault::E2);
     };
     write_difference(&mut work.draft, &mut work.ledger, at, scalar)
@@ -681,6 +717,18 @@ fn right_value<'a>(limits: Limits, kind: Kind, value: &'a Value) -> Option<Scala
         Kind::Int32 | Kind::Int64 => right_signed(kind, value),
         Kind::Decimal => right_decimal(value),
         Kind::Ascii | Kind::Unicode | Kind::Bytes => right_text(limits, kind, value),
+    }
+}
+
+/// The value, if it is one of a type of integers.
+#[inline(always)]
+fn right_number(kind: Kind, value: &Value) -> Option<Scalar<'static>>
+    ensures { IfSome result (λ v. (scalar_data v ≡ value_data value.now) × IsRight kind (value_data value.now)
+        × (text_of (value_data value.now) ≡ [])) }
+{
+    match kind {
+        Kind::Int32 | Kind::Int64 => right_signed(kind, value),
+        _ => right_unsigned(kind, value),
     }
 }
 

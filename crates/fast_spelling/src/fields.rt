@@ -1,6 +1,6 @@
 //! A field: its presence bit, its item, and the entry behind it.
 
-ghost use Rattle.std.specs.Prelude.{◌≡◌, ℕ, Option, ◌<◌, ◌≤◌, length, option_map, Some, IfSome, OnOk, IfErr, Ok};
+ghost use Rattle.std.specs.Prelude.{◌≡◌, ℕ, Option, false, ◌<◌, ◌≤◌, length, option_map, Some, IfSome, OnOk, IfErr, Ok};
 ghost use Rattle.std.specs.Bool.{IsFalse};
 ghost use Rattle.fast_value.specs.declared.kinds.Kind.{Kind};
 ghost use Rattle.fast_value.specs.declared.settings.Limits.{Limits};
@@ -11,7 +11,7 @@ ghost use Rattle.fast_tree.specs.meaning.Tree.{uses_bit};
 ghost use Rattle.fast_tree.specs.device.Nodes.{field_data};
 ghost use Rattle.fast_dict.specs.meaning.Dictionary.{PreviousData, previous_at, write_at};
 ghost use Rattle.fast_dict.specs.device.Held.{text_size};
-ghost use Rattle.fast_dict.specs.meaning.Operators.{delta_base};
+ghost use Rattle.fast_dict.specs.meaning.Operators.{delta_base, nothing};
 ghost use Rattle.fast_dict.specs.meaning.Previous.{previous_data};
 ghost use Rattle.fast_dict.specs.meaning.Rule.{Rule};
 ghost use Rattle.fast_dict.specs.meaning.Sending.{sent_data};
@@ -168,6 +168,38 @@ pub fn send(
     }
     write_item(&mut draft.bytes, at, item)?;
     keep(ledger, at, operator, value)?;
+    Ok(())
+}
+
+/// Writes a clear bit for a value that its operator gives, and keeps that.
+///
+/// # Errors
+///
+/// Memory was refused. Then the draft is of no use.
+#[inline(always)]
+pub fn leave_out(
+    draft: &mut Draft,
+    ledger: &mut Ledger,
+    at: Known<'_>,
+    operator: Operator,
+    value: Scalar<'_>,
+) -> Result<(), EncodeFault>
+    requires operator { at.field.now.operator ≡ operator }
+    requires served { IsServed ledger.old (field_data at.field.now) }
+    requires suited { IsSuited ledger.old.max_text (field_data at.field.now) (Some (scalar_data value)) }
+    requires ruled { Rule (field_data at.field.now) (previous_at (field_data at.field.now).entry ledger.old.now)
+        (Some (scalar_data value)) false nothing }
+    ensures ok { OnOk result ((l : Limits) → l.max_text ≡ ledger.old.max_text
+        → Wrote (EncodesField l (field_data at.entry.field.now) ledger.old.now (Some (scalar_data value.entry)))
+        draft.old draft.new ledger.new.now) }
+    ensures err { IfErr result
+        (IsTold (RefusesField (field_data at.entry.field.now) ledger.old.now (Some (scalar_data value.entry)))) }
+    ensures before { ledger.new.before ≡ ledger.old.before }
+    ensures max_text { ledger.new.max_text ≡ ledger.old.max_text }
+    ensures length { length ledger.new.now ≡ length ledger.old.now }
+{
+    draft.push_bit(false)?;
+    keep(ledger, at, operator, Some(value))?;
     Ok(())
 }
 

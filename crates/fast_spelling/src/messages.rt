@@ -18,8 +18,9 @@ ghost use Rattle.fast_spelling.specs.meaning.Suiting.{IsKnownAs, SuitsTemplate, 
 
 use crate::draft::Draft;
 use crate::faults::EncodeFault;
+use crate::known::Known;
 use crate::ledger::Ledger;
-use crate::quick::write_integer;
+use crate::quick::write_copied;
 use crate::writing::write_body;
 use fast_template::{FieldInstruction, Operator, Templates};
 use fast_value::{Kind, Limits, Message, Scalar};
@@ -102,7 +103,12 @@ fn write_new_identifier(
     ensures err { IfErr result (λ c. c ≡ Memory) }
     ensures keeps { Keeps ledger.old ledger.new }
 {
-    write_integer(draft, ledger, &identifier(), Scalar::U(u64::from(id)))
+    write_copied(
+        draft,
+        ledger,
+        Known::of(&identifier()),
+        Scalar::U(u64::from(id)),
+    )
 }
 
 /// The instruction of the template identifier: a mandatory uInt32 with the operator copy, at the first entry.

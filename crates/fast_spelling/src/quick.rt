@@ -2,25 +2,27 @@
 
 ghost use Rattle.std.specs.Prelude.{◌≡◌, ◌≤◌, ◌-ℤ◌, ◌↔◌, true, None, Some, length, IsTrue, IfSome, OnOk, IfErr};
 ghost use Rattle.fast_value.specs.declared.settings.Limits.{Limits};
-ghost use Rattle.fast_value.specs.meaning.Kinds.{U, I, Dec, AsciiText, UnicodeText, ByteVector, IsWithin, signed_range, integer_of, text_of, value_of_integer};
+ghost use Rattle.fast_value.specs.meaning.Kinds.{U, I, Dec, AsciiText, UnicodeText, ByteVector, IsWithin, signed_range, integer_of, exponent_of, mantissa_of, text_of, value_of_integer};
 ghost use Rattle.fast_value.specs.meaning.Values.{scalar_data};
 ghost use Rattle.fast_value.specs.declared.kinds.Kind.TheVariants.{UInt32, Int32, UInt64, Int64};
 ghost use Rattle.fast_tree.specs.declared.operators.Operator.TheVariants.{None as no_operator, Constant, Default, Copy, Increment, Delta, Tail};
 ghost use Rattle.fast_tree.specs.device.Nodes.{field_data};
 ghost use Rattle.fast_dict.specs.meaning.Dictionary.{assigned, empty, previous_at};
-ghost use Rattle.fast_dict.specs.meaning.Operators.{incremented, range_of};
+ghost use Rattle.fast_dict.specs.meaning.Operators.{decimal_delta, incremented, range_of};
+ghost use Rattle.fast_dict.specs.meaning.Sending.{sent_data};
 ghost use Rattle.fast_spelling.specs.meaning.Encoding.{EncodesField};
 ghost use Rattle.fast_spelling.specs.device.Drafts.{IsTold};
 ghost use Rattle.fast_spelling.specs.device.Fields.{IsServed, IsSuited, Wrote};
 ghost use Rattle.fast_spelling.specs.device.Nodes.{Keeps};
 ghost use Rattle.fast_spelling.specs.meaning.Refusals.{RefusesField};
-ghost use Rattle.fast_spelling.specs.device.Usual.{IsNumber, IsText};
+ghost use Rattle.fast_spelling.specs.device.Usual.{IsNumber, IsDecimal, IsText};
 
 use crate::draft::Draft;
 use crate::faults::EncodeFault;
-use crate::fields::{note_range, previous_of, send, write_chosen};
+use crate::fields::{leave_out, note_range, previous_of, send, write_chosen};
 use crate::known::Known;
 use crate::ledger::Ledger;
+use fast_dict::operators::decimals::{exponent_of, mantissa_of};
 use fast_dict::operators::integers::integer_of;
 use fast_dict::operators::texts::text_of;
 use fast_dict::operators::unsent::next_integer;
@@ -71,7 +73,15 @@ fn write_kept_unsigned(
     ensures err { IfErr result (IsTold (RefusesField (field_data field.now) ledger.old.now (Some (U number)))) }
     ensures keeps { Keeps ledger.old ledger.new }
 {
-    write_integer(draft, ledger, field, Scalar::U(number))
+    match field.operator {
+        Operator::None => write_plain(draft, ledger, Known::of(field), Scalar::U(number)),
+        Operator::Copy => write_copied(draft, ledger, Known::of(field), Scalar::U(number)),
+        Operator::Increment => write_next(draft, ledger, Known::of(field), Scalar::U(number)),
+        Operator::Delta => write_difference(draft, ledger, Known::of(field), Scalar::U(number)),
+        Operator::Default => write_default(draft, ledger, Known::of(field), Scalar::U(number)),
+        Operator::Constant => write_constant(draft, ledger, Known::of(field), Scalar::U(number)),
+        Operator::Tail => choose_value(draft, ledger, field, Scalar::U(number)),
+    }
 }
 
 /// Writes a field that has a signed integer.
@@ -93,7 +103,15 @@ pub fn write_signed(
     ensures err { IfErr result (IsTold (RefusesField (field_data field.now) ledger.old.now (Some (I number)))) }
     ensures keeps { Keeps ledger.old ledger.new }
 {
-    write_integer(draft, ledger, field, Scalar::I(number))
+    match field.operator {
+        Operator::None => write_plain(draft, ledger, Known::of(field), Scalar::I(number)),
+        Operator::Copy => write_copied(draft, ledger, Known::of(field), Scalar::I(number)),
+        Operator::Increment => write_next(draft, ledger, Known::of(field), Scalar::I(number)),
+        Operator::Delta => write_difference(draft, ledger, Known::of(field), Scalar::I(number)),
+        Operator::Default => write_default(draft, ledger, Known::of(field), Scalar::I(number)),
+        Operator::Constant => write_constant(draft, ledger, Known::of(field), Scalar::I(number)),
+        Operator::Tail => choose_value(draft, ledger, field, Scalar::I(number)),
+    }
 }
 
 /// Writes a field without operator.
@@ -247,18 +265,10 @@ pub fn write_next(
         (IsTold (RefusesField (field_data at.entry.field.now) ledger.old.now (Some (scalar_data value.entry)))) }
     ensures keeps { Keeps ledger.old ledger.new }
 {
-    match held_in(ledger, at, value) {
+    match held_number_in(ledger, at, value) {
         None => choose_value(draft, ledger, at.field, value),
         Some(held) if is_next(at.kind, held, value) => {
-            send(
-                draft,
-                ledger,
-                at,
-                Operator::Increment,
-                Some(value),
-                false,
-                Sent::Nothing,
-            )
+            leave_out(draft, ledger, at, Operator::Increment, value)
         }
         Some(_) => send(
             draft,
@@ -291,7 +301,7 @@ pub fn write_difference(
         (IsTold (RefusesField (field_data at.entry.field.now) ledger.old.now (Some (scalar_data value.entry)))) }
     ensures keeps { Keeps ledger.old ledger.new }
 {
-    match held_in(ledger, at, value) {
+    match held_number_in(ledger, at, value) {
         None => choose_value(draft, ledger, at.field, value),
         Some(held) => {
             let delta = Sent::IntegerDelta(difference(value, held));
@@ -395,37 +405,43 @@ fn write_text_delta(
     }
 }
 
-/// Writes a field that has an integer.
-///
-/// # Errors
-///
-/// E3; memory was refused. Then the draft is of no use.
+/// Writes a decimal under delta: what its exponent and its mantissa are more than those that the entry holds.
 #[inline(always)]
-pub fn write_integer(
+fn write_decimal_delta(
     draft: &mut Draft,
     ledger: &mut Ledger,
-    field: &FieldInstruction,
+    at: Known<'_>,
     value: Scalar<'_>,
 ) -> Result<(), EncodeFault>
-    requires served { IsServed ledger.old (field_data field.now) }
-    requires suited { IsSuited ledger.old.max_text (field_data field.now) (Some (scalar_data value)) }
-    requires number { IsNumber (scalar_data value) }
+    requires operator { at.field.now.operator ≡ Delta }
+    requires served { IsServed ledger.old (field_data at.field.now) }
+    requires suited { IsSuited ledger.old.max_text (field_data at.field.now) (Some (scalar_data value)) }
+    requires decimal { IsDecimal (scalar_data value) }
     ensures ok { OnOk result ((l : Limits) → l.max_text ≡ ledger.old.max_text
-        → Wrote (EncodesField l (field_data field.now) ledger.old.now (Some (scalar_data value.entry)))
+        → Wrote (EncodesField l (field_data at.entry.field.now) ledger.old.now (Some (scalar_data value.entry)))
         draft.old draft.new ledger.new.now) }
     ensures err { IfErr result
-        (IsTold (RefusesField (field_data field.now) ledger.old.now (Some (scalar_data value.entry)))) }
+        (IsTold (RefusesField (field_data at.entry.field.now) ledger.old.now (Some (scalar_data value.entry)))) }
     ensures keeps { Keeps ledger.old ledger.new }
 {
-    match field.operator {
-        Operator::None => write_plain(draft, ledger, Known::of(field), value),
-        Operator::Copy => write_copied(draft, ledger, Known::of(field), value),
-        Operator::Increment => write_next(draft, ledger, Known::of(field), value),
-        Operator::Delta => write_difference(draft, ledger, Known::of(field), value),
-        Operator::Default => write_default(draft, ledger, Known::of(field), value),
-        Operator::Constant => write_constant(draft, ledger, Known::of(field), value),
-        Operator::Tail => choose_value(draft, ledger, field, value),
+    match held_in(ledger, at, value) {
+        None => write_chosen(draft, ledger, at.field, Some(value)),
+        Some(held) => {
+            note_range(held);
+            let delta = decimal_delta(held, value);
+            send(draft, ledger, at, Operator::Delta, Some(value), true, delta)
+        }
     }
+}
+
+/// What is sent from one decimal to another.
+#[inline(always)]
+fn decimal_delta(base: Scalar<'_>, value: Scalar<'_>) -> Sent<'static>
+    ensures { sent_data result ≡ decimal_delta
+        (exponent_of (scalar_data value.entry) -ℤ exponent_of (scalar_data base.entry))
+        (mantissa_of (scalar_data value.entry) -ℤ mantissa_of (scalar_data base.entry)) }
+{
+    Sent::DecimalDelta(exponents_apart(value, base), mantissas_apart(value, base))
 }
 
 /// Writes a field that has an ASCII string.
@@ -718,8 +734,7 @@ fn choose_signed(
     write_chosen(draft, ledger, field, Some(Scalar::I(number)))
 }
 
-/// The same for a decimal.
-#[cold]
+/// The same for a decimal: one under delta has a way of its own.
 fn choose_decimal(
     draft: &mut Draft,
     ledger: &mut Ledger,
@@ -736,12 +751,11 @@ fn choose_decimal(
         (IsTold (RefusesField (field_data field.now) ledger.old.now (Some (Dec exponent mantissa)))) }
     ensures keeps { Keeps ledger.old ledger.new }
 {
-    write_chosen(
-        draft,
-        ledger,
-        field,
-        Some(Scalar::Dec { exponent, mantissa }),
-    )
+    let value = Scalar::Dec { exponent, mantissa };
+    if field.operator == Operator::Delta {
+        return write_decimal_delta(draft, ledger, Known::of(field), value);
+    }
+    write_chosen(draft, ledger, field, Some(value))
 }
 
 /// The same for an ASCII string.
@@ -760,7 +774,11 @@ fn choose_ascii(
         (IsTold (RefusesField (field_data field.now) ledger.old.now (Some (AsciiText text.now)))) }
     ensures keeps { Keeps ledger.old ledger.new }
 {
-    write_text(draft, ledger, field, Scalar::Ascii(text))
+    match field.operator {
+        Operator::Tail => write_tail(draft, ledger, Known::of(field), Scalar::Ascii(text)),
+        Operator::Delta => write_text_delta(draft, ledger, Known::of(field), Scalar::Ascii(text)),
+        _ => write_chosen(draft, ledger, field, Some(Scalar::Ascii(text))),
+    }
 }
 
 /// The same for a Unicode string.
@@ -779,7 +797,11 @@ fn choose_unicode(
         (IsTold (RefusesField (field_data field.now) ledger.old.now (Some (UnicodeText text.now)))) }
     ensures keeps { Keeps ledger.old ledger.new }
 {
-    write_text(draft, ledger, field, Scalar::Unicode(text))
+    match field.operator {
+        Operator::Tail => write_tail(draft, ledger, Known::of(field), Scalar::Unicode(text)),
+        Operator::Delta => write_text_delta(draft, ledger, Known::of(field), Scalar::Unicode(text)),
+        _ => write_chosen(draft, ledger, field, Some(Scalar::Unicode(text))),
+    }
 }
 
 /// The same for a byte vector.
@@ -798,31 +820,10 @@ fn choose_bytes(
         (IsTold (RefusesField (field_data field.now) ledger.old.now (Some (ByteVector text.now)))) }
     ensures keeps { Keeps ledger.old ledger.new }
 {
-    write_text(draft, ledger, field, Scalar::Bytes(text))
-}
-
-/// Writes a field that has a text: those under tail and delta have ways of their own.
-#[inline(always)]
-fn write_text(
-    draft: &mut Draft,
-    ledger: &mut Ledger,
-    field: &FieldInstruction,
-    value: Scalar<'_>,
-) -> Result<(), EncodeFault>
-    requires served { IsServed ledger.old (field_data field.now) }
-    requires suited { IsSuited ledger.old.max_text (field_data field.now) (Some (scalar_data value)) }
-    requires text { IsText (scalar_data value) }
-    ensures ok { OnOk result ((l : Limits) → l.max_text ≡ ledger.old.max_text
-        → Wrote (EncodesField l (field_data field.now) ledger.old.now (Some (scalar_data value.entry)))
-        draft.old draft.new ledger.new.now) }
-    ensures err { IfErr result
-        (IsTold (RefusesField (field_data field.now) ledger.old.now (Some (scalar_data value.entry)))) }
-    ensures keeps { Keeps ledger.old ledger.new }
-{
     match field.operator {
-        Operator::Tail => write_tail(draft, ledger, Known::of(field), value),
-        Operator::Delta => write_text_delta(draft, ledger, Known::of(field), value),
-        _ => write_chosen(draft, ledger, field, Some(value)),
+        Operator::Tail => write_tail(draft, ledger, Known::of(field), Scalar::Bytes(text)),
+        Operator::Delta => write_text_delta(draft, ledger, Known::of(field), Scalar::Bytes(text)),
+        _ => write_chosen(draft, ledger, field, Some(Scalar::Bytes(text))),
     }
 }
 
@@ -870,18 +871,44 @@ fn held_in<'a>(ledger: &'a Ledger, at: Known<'_>, value: Scalar<'_>) -> Option<S
     }
 }
 
+/// The same for the value of an integer.
+#[inline(always)]
+fn held_number_in(ledger: &Ledger, at: Known<'_>, value: Scalar<'_>) -> Option<Scalar<'static>>
+    requires { IsServed ledger.now (field_data at.field.now) }
+    ensures value { IfSome result (λ held. previous_at (field_data at.entry.field.now).entry ledger.now.now
+        ≡ assigned (field_data at.entry.field.now).kind (scalar_data held)) }
+    ensures short { IfSome result (λ held. length (text_of (scalar_data held)) ≤ ledger.now.max_text) }
+{
+    let Some(entry) = at.entry else {
+        return None;
+    };
+    match value {
+        Scalar::U(_) => ledger.unsigned_at(entry as usize, at.kind),
+        Scalar::I(_) => ledger.signed_at(entry as usize, at.kind),
+        Scalar::Dec { .. } | Scalar::Ascii(_) | Scalar::Unicode(_) | Scalar::Bytes(_) => None,
+    }
+}
+
 /// Whether a value is the one behind the one that is held.
 #[inline(always)]
 fn is_next(kind: Kind, held: Scalar<'_>, value: Scalar<'_>) -> bool
     ensures { IsTrue result ↔ (value_of_integer kind (incremented (range_of kind) (integer_of (scalar_data held.entry)))
         ≡ scalar_data value.entry) }
 {
+    is_same(next_of(kind, held), value)
+}
+
+/// The integer behind one that is held.
+#[inline(always)]
+fn next_of<'a>(kind: Kind, held: Scalar<'a>) -> Scalar<'a>
+    ensures { scalar_data result ≡ value_of_integer kind (incremented (range_of kind) (integer_of (scalar_data held.entry))) }
+{
     match (kind, held) {
-        (Kind::UInt32, Scalar::U(number)) => is_same(next_uint32(number), value),
-        (Kind::Int32, Scalar::I(number)) => is_same(next_int32(number), value),
-        (Kind::UInt64, Scalar::U(number)) => is_same(next_uint64(number), value),
-        (Kind::Int64, Scalar::I(number)) => is_same(next_int64(number), value),
-        _ => is_same(next_integer(kind, held), value),
+        (Kind::UInt32, Scalar::U(number)) => next_uint32(number),
+        (Kind::Int32, Scalar::I(number)) => next_int32(number),
+        (Kind::UInt64, Scalar::U(number)) => next_uint64(number),
+        (Kind::Int64, Scalar::I(number)) => next_int64(number),
+        _ => next_integer(kind, held),
     }
 }
 
@@ -970,6 +997,24 @@ fn is_same_long_text(a: &[u8], b: &[u8]) -> bool
     ensures { IsTrue result ↔ (a.now ≡ b.now) }
 {
     a == b
+}
+
+/// How much greater one exponent is than another.
+#[inline(always)]
+fn exponents_apart(a: Scalar<'_>, b: Scalar<'_>) -> i128
+    ensures value { result ≡ exponent_of (scalar_data a.entry) -ℤ exponent_of (scalar_data b.entry) }
+    ensures small { IsWithin (signed_range 68) result }
+{
+    exponent_of(a) - exponent_of(b)
+}
+
+/// How much greater one mantissa is than another.
+#[inline(always)]
+fn mantissas_apart(a: Scalar<'_>, b: Scalar<'_>) -> i128
+    ensures value { result ≡ mantissa_of (scalar_data a.entry) -ℤ mantissa_of (scalar_data b.entry) }
+    ensures small { IsWithin (signed_range 68) result }
+{
+    mantissa_of(a) - mantissa_of(b)
 }
 
 /// How much greater one integer is than another.

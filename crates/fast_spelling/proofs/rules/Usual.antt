@@ -7,18 +7,18 @@ use Rattle.fast_value.specs.declared.kinds.Kind.TheVariants.{UInt32, Int32, UInt
 use Rattle.fast_value.specs.declared.settings.Limits.{Limits}
 use Rattle.fast_value.specs.declared.codes.Code.{Code}
 use Rattle.fast_value.specs.declared.codes.Code.TheVariants.{D4, D6}
-use Rattle.fast_value.specs.meaning.Kinds.{ScalarData, U, I, Dec, AsciiText, UnicodeText, ByteVector, text_of, Family, texts, family, value_of_integer, value_of_text, integer_of, same_kind}
+use Rattle.fast_value.specs.meaning.Kinds.{ScalarData, U, I, Dec, AsciiText, UnicodeText, ByteVector, text_of, Family, texts, family, value_of_integer, value_of_text, integer_of, exponent_of, mantissa_of, same_kind}
 use Rattle.fast_tree.specs.declared.operators.Operator.{Operator}
 use Rattle.fast_tree.specs.declared.operators.Operator.TheVariants.{None as no_operator, Constant, Default, Copy, Increment, Delta, Tail}
 use Rattle.fast_tree.specs.meaning.Tree.{FieldData, operator_uses_bit, uses_bit}
 use Rattle.fast_dict.specs.meaning.Dictionary.{Dictionary, PreviousData, undefined, empty, assigned, previous_at, write_at}
-use Rattle.fast_dict.specs.meaning.Operators.{◌>>=◌, Outcome, Sent, nothing, null, value, integer_delta, keeps, from_initial, fixed, incremented, range_of, next_value, unsent, delta_base, tail_base, decide_by, IsItemBy}
+use Rattle.fast_dict.specs.meaning.Operators.{◌>>=◌, Outcome, Sent, nothing, null, value, integer_delta, decimal_delta, keeps, from_initial, fixed, incremented, range_of, next_value, unsent, delta_base, tail_base, decide_by, IsItemBy}
 use Rattle.fast_dict.specs.meaning.Rule.{GoesUnsent, IsDelta, IsTail, IsTextDelta, SentBy, Rule}
 use Rattle.fast_spelling.specs.device.Drafts.{IsSendable, IsSendableValue}
 use Rattle.fast_spelling.specs.meaning.Encoding.{EncodesField}
 use Rattle.fast_spelling.specs.device.Fields.{IsSuited, IsNarrow, next_by, next_of}
 use Rattle.fast_spelling.specs.meaning.Suiting.{IsRight}
-use Rattle.fast_spelling.specs.device.Usual.{IsNumber, IsText, IsOfNumbers}
+use Rattle.fast_spelling.specs.device.Usual.{IsNumber, IsDecimal, IsText, IsOfNumbers}
 use Rattle.fast_spelling.proofs.rules.OneItem.{one_ok}
 use Rattle.fast_spelling.proofs.rules.FieldsWritten.{field_done}
 use Rattle.fast_spelling.proofs.rules.Sendable.{IsBase, rule_sendable}
@@ -269,6 +269,28 @@ tail_other f p u v part is held differs tail = (not, subst (λ (z : Operator). S
 -- the delta of a text is sent
 pub text_delta_ruled : (f : FieldData) (p : PreviousData) (b v : ScalarData) (x : Sent) → f.operator ≡ Delta → p ≡ assigned f.kind b → family f.kind ≡ texts → IsTextDelta (text_of b) (text_of v) x → Rule f p (Some v) true x
 text_delta_ruled f p b v x is held kind delta = (not, subst (λ (z : Operator). SentBy z f p (Some v) x) (sym is) (b, delta_at f p b held, subst (λ (w : Family). IsDelta w b v x) (sym kind) delta))
+  where
+    not : ¬ (GoesUnsent f p (Some v))
+    not (m, u, _) =
+        let clash : false ≡ true = subst (λ (z : Operator). operator_uses_bit z f.optional ≡ true) is u in
+        absurd (cc clash)
+
+-- the delta of a decimal is sent
+decimal_delta_is : (kind : Kind) (b v : ScalarData) → IsRight kind v → IsDecimal v → IsDelta (family kind) b v (decimal_delta (exponent_of v -ℤ exponent_of b) (mantissa_of v -ℤ mantissa_of b))
+decimal_delta_is Decimal b v h t = refl
+decimal_delta_is UInt32 b (Dec e m) (room, h) t = absurd h
+decimal_delta_is Int32 b (Dec e m) (room, h) t = absurd h
+decimal_delta_is UInt64 b (Dec e m) (room, h) t = absurd h
+decimal_delta_is Int64 b (Dec e m) (room, h) t = absurd h
+decimal_delta_is Ascii b (Dec e m) (room, h) t = absurd h
+decimal_delta_is Unicode b (Dec e m) (room, h) t = absurd h
+decimal_delta_is Bytes b (Dec e m) (room, h) t = absurd h
+decimal_delta_is kind b v h t = absurd t
+
+pub decimal_delta_ruled : (f : FieldData) (p : PreviousData) (b v : ScalarData) → f.operator ≡ Delta → p ≡ assigned f.kind b → IsRight f.kind v → IsDecimal v
+    → Rule f p (Some v) true (decimal_delta (exponent_of v -ℤ exponent_of b) (mantissa_of v -ℤ mantissa_of b))
+decimal_delta_ruled f p b v is held right decimal =
+    (not, subst (λ (z : Operator). SentBy z f p (Some v) (decimal_delta (exponent_of v -ℤ exponent_of b) (mantissa_of v -ℤ mantissa_of b))) (sym is) (b, delta_at f p b held, decimal_delta_is f.kind b v right decimal))
   where
     not : ¬ (GoesUnsent f p (Some v))
     not (m, u, _) =

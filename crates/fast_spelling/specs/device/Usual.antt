@@ -1,13 +1,18 @@
--- Integers and texts among the values, and integers among the types.
+-- Integers, decimals and texts among the values, and integers among the types.
 use Rattle.fast_value.specs.declared.kinds.Kind.{Kind}
 use Rattle.fast_value.specs.declared.kinds.Kind.TheVariants.{UInt32, Int32, UInt64, Int64}
-use Rattle.fast_value.specs.meaning.Kinds.{ScalarData, U, I, AsciiText, UnicodeText, ByteVector}
+use Rattle.fast_value.specs.meaning.Kinds.{ScalarData, U, I, Dec, AsciiText, UnicodeText, ByteVector}
 
 -- the value is an integer
 abbrev pub IsNumber : ScalarData → Type 0
 IsNumber (U n) = Unit {0}
 IsNumber (I x) = Unit {0}
 IsNumber v = ⊥
+
+-- the value is a decimal
+abbrev pub IsDecimal : ScalarData → Type 0
+IsDecimal (Dec e m) = Unit {0}
+IsDecimal v = ⊥
 
 -- the value is a text
 abbrev pub IsText : ScalarData → Type 0

@@ -1,14 +1,15 @@
 -- Slots, groups and sequences are written as they are encoded, and suit and fit.
-use Rattle.std.proofs.Common.{◌≡◌, ◌<◌, ◌≤◌, ◌+◌, ◌*◌, ℕ, List, inl, inr, length, refl, ap, sym, subst, ◌∙◌, arith}
-use Rattle.std.specs.Prelude.{◌^◌, nat_lt, true, Option, Some, option_map, Result, Ok, Err, OnOk, is_ok}
+use Rattle.std.proofs.Common.{◌≡◌, ◌<◌, ◌≤◌, ◌+◌, ◌*◌, ℕ, List, length, refl, ap, sym, subst, ◌∙◌, arith}
+use Rattle.std.specs.Prelude.{◌^◌, nat_lt, true, Option, Some, None, option_map, Result, Ok, Err, OnOk, is_ok}
 use Rattle.std.proofs.lemmas.Grind.{get_or_default_zero}
 use Rattle.fast_value.specs.declared.messages.Item.{Item}
-use Rattle.fast_value.specs.meaning.Kinds.{ScalarData, U}
+use Rattle.fast_value.specs.declared.settings.Limits.{Limits}
+use Rattle.fast_value.specs.meaning.Kinds.{ScalarData, U, text_of}
 use Rattle.fast_value.specs.meaning.Messages.{ItemData, one, group as group_item, sequence as sequence_item, count, rows_total}
 use Rattle.fast_value.specs.meaning.Values.{value_data}
 use Rattle.fast_value.specs.meaning.Views.{item_data, slots_data, elements_data}
 use Rattle.fast_value.proofs.ItemViews.{item_data-One, item_data-Group, item_data-Sequence, count-elements_data}
-use Rattle.fast_tree.specs.declared.instructions.Shape.TheVariants.{Field, Decimal, Group, Sequence}
+use Rattle.fast_tree.specs.declared.instructions.Shape.TheVariants.{Group, Sequence}
 use Rattle.fast_tree.specs.declared.instructions.Shape.{Shape}
 use Rattle.fast_tree.specs.device.Nodes.{label_of}
 use Rattle.fast_tree.specs.meaning.Tree.{FieldData}
@@ -21,13 +22,21 @@ use Rattle.fast_spelling.specs.device.Nodes.{instruction_in, Keeps}
 use Rattle.fast_spelling.specs.meaning.Encoding.{EncodesField, EncodesBody, EncodesSegment, EncodesElements}
 use Rattle.fast_spelling.specs.device.Fields.{Wrote}
 use Rattle.fast_spelling.specs.meaning.Suiting.{SuitsBody}
-use Rattle.fast_spelling.proofs.encodings.Instructions.{at_shape, usable_at, short_at, served, encodes_as, field_encodes, decimal_encodes, group_encodes, sequence_encodes}
+use Rattle.fast_spelling.proofs.encodings.Instructions.{at_shape, usable_at, short_at, served, encodes_as, group_encodes, sequence_encodes}
 use Rattle.fast_spelling.proofs.limits.Depths.{item_depth, option_depth, slots_depth, rows_depth, option_depth_at, row_depth}
 use Rattle.fast_spelling.proofs.encodings.Progress.{written_start, more_at, all_written, IsClosed, ready_kept, keeps_on, keeps_all, row_more, rows_start, rows_done, has_width}
-use Rattle.fast_spelling.proofs.limits.Suited.{one_suits, no_slot_suits, no_row_suits, decimal_right}
+use Rattle.fast_spelling.proofs.limits.Suited.{one_suits, no_slot_suits, no_row_suits}
 use Rattle.fast_spelling.proofs.limits.Checked.{accepted_as, one_fits, one_total, one_row_right, one_row_fits, one_row_total, no_row_fits, no_row_total}
 use Rattle.fast_spelling.proofs.encodings.Sealed.{sealed}
+use Rattle.fast_spelling.specs.declared.faults.EncodeFault.{EncodeFault}
+use Rattle.fast_spelling.specs.declared.plan.Work.{Work}
+use Rattle.fast_spelling.specs.device.Checked.{IsAccepted}
+use Rattle.fast_spelling.specs.meaning.Encoding.{Encodes}
+use Rattle.fast_spelling.specs.meaning.Suiting.{Suits}
+use Rattle.fast_tree.specs.meaning.Tree.{Instruction}
+use Rattle.std.specs.Prelude.{get_or}
 use Rattle.fast_spelling.proofs.checking.+check.Goals as goal
+use Rattle.fast_spelling.proofs.checking.+check.Goals.{try_body-in-PlainUInt32, try_body-in-PlainInt32, try_body-in-PlainUInt64, try_body-in-PlainInt64, try_body-in-ConstantUInt32, try_body-in-ConstantInt32, try_body-in-ConstantUInt64, try_body-in-ConstantInt64, try_body-in-DefaultUInt32, try_body-in-DefaultInt32, try_body-in-DefaultUInt64, try_body-in-DefaultInt64, try_body-in-CopyUInt32, try_body-in-CopyInt32, try_body-in-CopyUInt64, try_body-in-CopyInt64, try_body-in-IncrementUInt32, try_body-in-IncrementInt32, try_body-in-IncrementUInt64, try_body-in-IncrementInt64, try_body-in-DeltaUInt32, try_body-in-DeltaInt32, try_body-in-DeltaUInt64, try_body-in-DeltaInt64, try_body-in-PlainAscii, try_body-in-ConstantAscii, try_body-in-DefaultAscii, try_body-in-CopyAscii, try_body-in-TailAscii, try_body-in-DeltaAscii, try_body-in-PlainUnicode, try_body-in-DeltaUnicode, try_body-in-PlainBytes, try_body-in-TailBytes, try_body-in-PlainDecimal, try_body-in-CopyDecimal, try_body-in-DeltaDecimal, try_body-in-Other}
 
 pub try_body-loop-i-init : goal.try_body-loop-i-init
 try_body-loop-i-init t c =
@@ -40,41 +49,15 @@ try_body-loop-i-init t c =
       keeps = keeps_all c.args.work.now.ledger;
     }
 
-pub try_body-try_slot-requires : goal.try_body-try_slot-requires
-try_body-try_slot-requires t c =
+pub try_body-try_item-requires : goal.try_body-try_item-requires
+try_body-try_item-requires t c =
     let i = c.loop-i.i in
     let x = c.index-slots-i.result in
     let inside : i < length c.args.body.now = omega (arith, c.if-body-slots.false, c.loop-i-test.true) in
     let d : 4 * slots_depth (slots_data c.args.slots.now) + 2 ≡ t = c.decreases in
-    let deep : option_depth (option_map item_data x) ≤ slots_depth (slots_data c.args.slots.now) = option_depth_at c.args.slots.now i x c.loop-i-test.true c.index-slots-i.is in
-    let smaller : 4 * option_depth (option_map item_data x) + 1 < t = omega (arith, d, deep) in
+    let deep : item_depth (item_data c.in-Some.item) ≤ slots_depth (slots_data c.args.slots.now) = subst (λ (z : Option Item). option_depth (option_map item_data z) ≤ slots_depth (slots_data c.args.slots.now)) c.in-Some.is (option_depth_at c.args.slots.now i x c.loop-i-test.true c.index-slots-i.is) in
+    let smaller : 4 * item_depth (item_data c.in-Some.item) < t = omega (arith, d, deep) in
     (smaller, (c.requires.nodes i inside, c.loop-i.invariant.ready))
-
-pub try_body-loop-i-preserved : goal.try_body-loop-i-preserved
-try_body-loop-i-preserved t c =
-    let nodes = nodes_of c.args.plan.now.templates.now in
-    let l = c.args.plan.now.limits in
-    let i = c.loop-i.i in
-    let x = c.index-slots-i.result in
-    let inv = c.loop-i.invariant in
-    let inside : i < length c.args.body.now = omega (arith, c.if-body-slots.false, c.loop-i-test.true) in
-    let k = c.if-not-try_slot.ensures in
-    let a = k.accepted refl in
-    let count = one_total l c.args.slots.now i x c.loop-i-test.true c.index-slots-i.is c.loop-i.work.room c.try_slot.new.work.room a.1 in
-    record {
-      written = more_at l nodes c.args.body.now c.args.slots.now i x inside c.loop-i-test.true c.index-slots-i.is c.args.work.now.ledger.now c.args.work.now.draft c.loop-i.work.ledger.now c.try_slot.new.work.ledger.now c.loop-i.work.draft c.try_slot.new.work.draft inv.written (k.ok refl);
-      suits = λ h. inv.suits (one_suits nodes c.args.body.now c.args.slots.now i x inside c.loop-i-test.true c.index-slots-i.is a.0 h);
-      fits = λ h. inv.fits (one_fits l c.args.slots.now i x c.loop-i-test.true c.index-slots-i.is c.loop-i.work.room c.try_slot.new.work.room a.1 h);
-      sum = let before = inv.sum in omega (arith, count, before);
-      ready = ready_kept c.args.plan.now.templates.now l c.loop-i.work.ledger c.try_slot.new.work.ledger inv.ready c.try_slot.ensures.keeps;
-      keeps = keeps_on c.args.work.now.ledger c.loop-i.work.ledger c.try_slot.new.work.ledger inv.keeps c.try_slot.ensures.keeps;
-    }
-
-pub try_body-returns-clause-ok : goal.try_body-returns-clause-ok
-try_body-returns-clause-ok t c = λ _.
-    let past : length c.args.body.now ≤ c.loop-i.i = omega (arith, c.if-body-slots.false, c.loop-i-test.false) in
-    all_written c.args.plan.now.limits (nodes_of c.args.plan.now.templates.now) c.args.body.now c.args.slots.now c.loop-i.i c.args.work.now.ledger.now c.args.work.now.draft c.loop-i.work.ledger.now c.loop-i.work.draft c.loop-i-test.false
-    (no_slot_suits (nodes_of c.args.plan.now.templates.now) c.args.body.now c.args.slots.now c.loop-i.i past c.loop-i-test.false) c.loop-i.invariant.written
 
 on_both : {R E : Type 0} {P Q S : Type 0} (r : Result R E) → OnOk r P → OnOk r Q → (P → Q → S) → OnOk r S
 on_both (Ok x) p q f = f p q
@@ -83,6 +66,200 @@ on_both (Err x) p q f = tt
 of_ok : {R E : Type 0} {P : Type 0} (r : Result R E) → OnOk r P → is_ok r ≡ true → P
 of_ok (Ok x) h e = h
 of_ok (Err x) h e = absurd (cc e)
+
+-- What is so where a value was tried.
+record Tried (l : Limits) (i : Instruction) (old : Work) (v : ScalarData) (new : Work) (r : Result (Unit {0}) EncodeFault) : Type 0 where
+  pub suits : OnOk r (Suits i (Some (one v)))
+  pub fits : OnOk r (length (text_of v) ≤ l.max_text)
+  pub ok : OnOk r (Wrote (Encodes l i old.ledger.now (Some (one v))) old.draft new.draft new.ledger.now)
+  pub keeps : Keeps old.ledger new.ledger
+  pub room : new.room ≡ old.room
+
+moved : (l : Limits) (i : Instruction) (old : Work) (v : ScalarData) (new new' : Work) (r r' : Result (Unit {0}) EncodeFault) → new' ≡ new → r' ≡ r → Tried l i old v new r → Tried l i old v new' r'
+moved l i old v new new' r r' e f h = subst (λ (z : Work). Tried l i old v z r') (sym e) (subst (λ (z : Result (Unit {0}) EncodeFault). Tried l i old v new z) (sym f) h)
+
+pub try_body-loop-i-preserved-in_default : goal.try_body-loop-i-preserved-in_default
+try_body-loop-i-preserved-in_default t c =
+    let l = c.args.plan.now.limits in
+    let nodes = nodes_of c.args.plan.now.templates.now in
+    let i = c.loop-i.i in
+    let here = instruction_in nodes (get_or c.args.body.now i 0) in
+    let old = c.loop-i.work in
+    let new = c.try_none.new.work in
+    let x = c.index-slots-i.result in
+    let inv = c.loop-i.invariant in
+    let inside : i < length c.args.body.now = omega (arith, c.if-body-slots.false, c.loop-i-test.true) in
+    let good : is_ok c.try_none.result ≡ true = c.if-is_err.ensures.negation in
+    let keeps : Keeps old.ledger new.ledger = c.try_none.ensures.keeps in
+    let item : option_map item_data x ≡ None = ap (option_map item_data) c.in_default.is in
+    let accepted : IsAccepted l here None old.room new.room = (of_ok c.try_none.result c.try_none.ensures.suits good, c.try_none.ensures.room) in
+    let wrote = of_ok c.try_none.result c.try_none.ensures.ok good in
+    let a : IsAccepted l here (option_map item_data x) old.room new.room = subst (λ (y : Option ItemData). IsAccepted l here y old.room new.room) (sym item) accepted in
+    let ok : Wrote (Encodes l here old.ledger.now (option_map item_data x)) old.draft new.draft new.ledger.now = subst (λ (y : Option ItemData). Wrote (Encodes l here old.ledger.now y) old.draft new.draft new.ledger.now) (sym item) wrote in
+    let count = one_total l c.args.slots.now i x c.loop-i-test.true c.index-slots-i.is old.room new.room a.1 in
+    record {
+      written = more_at l nodes c.args.body.now c.args.slots.now i x inside c.loop-i-test.true c.index-slots-i.is c.args.work.now.ledger.now c.args.work.now.draft old.ledger.now new.ledger.now old.draft new.draft inv.written ok;
+      suits = λ h. inv.suits (one_suits nodes c.args.body.now c.args.slots.now i x inside c.loop-i-test.true c.index-slots-i.is a.0 h);
+      fits = λ h. inv.fits (one_fits l c.args.slots.now i x c.loop-i-test.true c.index-slots-i.is old.room new.room a.1 h);
+      sum = let before = inv.sum in omega (arith, count, before);
+      ready = ready_kept c.args.plan.now.templates.now l old.ledger new.ledger inv.ready keeps;
+      keeps = keeps_on c.args.work.now.ledger old.ledger new.ledger inv.keeps keeps;
+    }
+
+pub try_body-loop-i-preserved-in_default-item : goal.try_body-loop-i-preserved-in_default-item
+try_body-loop-i-preserved-in_default-item t c =
+    let l = c.args.plan.now.limits in
+    let nodes = nodes_of c.args.plan.now.templates.now in
+    let i = c.loop-i.i in
+    let here = instruction_in nodes (get_or c.args.body.now i 0) in
+    let old = c.loop-i.work in
+    let new = c.try_item.new.work in
+    let x = c.index-slots-i.result in
+    let inv = c.loop-i.invariant in
+    let inside : i < length c.args.body.now = omega (arith, c.if-body-slots.false, c.loop-i-test.true) in
+    let k = c.if-not-try_item.ensures in
+    let keeps : Keeps old.ledger new.ledger = c.try_item.ensures.keeps in
+    let item : option_map item_data x ≡ Some (item_data c.in-Some.item) = ap (option_map item_data) c.in-Some.is in
+    let accepted : IsAccepted l here (Some (item_data c.in-Some.item)) old.room new.room = k.accepted refl in
+    let wrote = k.ok refl in
+    let a : IsAccepted l here (option_map item_data x) old.room new.room = subst (λ (y : Option ItemData). IsAccepted l here y old.room new.room) (sym item) accepted in
+    let ok : Wrote (Encodes l here old.ledger.now (option_map item_data x)) old.draft new.draft new.ledger.now = subst (λ (y : Option ItemData). Wrote (Encodes l here old.ledger.now y) old.draft new.draft new.ledger.now) (sym item) wrote in
+    let count = one_total l c.args.slots.now i x c.loop-i-test.true c.index-slots-i.is old.room new.room a.1 in
+    record {
+      written = more_at l nodes c.args.body.now c.args.slots.now i x inside c.loop-i-test.true c.index-slots-i.is c.args.work.now.ledger.now c.args.work.now.draft old.ledger.now new.ledger.now old.draft new.draft inv.written ok;
+      suits = λ h. inv.suits (one_suits nodes c.args.body.now c.args.slots.now i x inside c.loop-i-test.true c.index-slots-i.is a.0 h);
+      fits = λ h. inv.fits (one_fits l c.args.slots.now i x c.loop-i-test.true c.index-slots-i.is old.room new.room a.1 h);
+      sum = let before = inv.sum in omega (arith, count, before);
+      ready = ready_kept c.args.plan.now.templates.now l old.ledger new.ledger inv.ready keeps;
+      keeps = keeps_on c.args.work.now.ledger old.ledger new.ledger inv.keeps keeps;
+    }
+
+pub try_body-returns-then-is_err-2-clause-keeps : goal.try_body-returns-then-is_err-2-clause-keeps
+try_body-returns-then-is_err-2-clause-keeps t c =
+    let l = c.args.plan.now.limits in
+    let i = c.loop-i.i in
+    let here = instruction_in (nodes_of c.args.plan.now.templates.now) (get_or c.args.body.now i 0) in
+    let old = c.loop-i.work in
+    let new = c.match-form_at.work in
+    let done = c.match-form_at.done in
+    let v = value_data c.in-One.value in
+    let tried : Tried l here old v new done = elim c.match-form_at.branch [
+      | try_body-in-PlainUInt32 w ↦ moved l here old v w.try_plain_unsigned-done.new.work new w.try_plain_unsigned-done.result done w.work-is w.done-is (record { suits = w.try_plain_unsigned-done.ensures.suits; fits = w.try_plain_unsigned-done.ensures.fits; ok = w.try_plain_unsigned-done.ensures.ok; keeps = w.try_plain_unsigned-done.ensures.keeps; room = w.try_plain_unsigned-done.ensures.room })
+      | try_body-in-PlainInt32 w ↦ moved l here old v w.try_plain-done.new.work new w.try_plain-done.result done w.work-is w.done-is (record { suits = w.try_plain-done.ensures.suits; fits = w.try_plain-done.ensures.fits; ok = w.try_plain-done.ensures.ok; keeps = w.try_plain-done.ensures.keeps; room = w.try_plain-done.ensures.room })
+      | try_body-in-PlainUInt64 w ↦ moved l here old v w.try_plain_unsigned-done-in-PlainUInt64.new.work new w.try_plain_unsigned-done-in-PlainUInt64.result done w.work-is w.done-is (record { suits = w.try_plain_unsigned-done-in-PlainUInt64.ensures.suits; fits = w.try_plain_unsigned-done-in-PlainUInt64.ensures.fits; ok = w.try_plain_unsigned-done-in-PlainUInt64.ensures.ok; keeps = w.try_plain_unsigned-done-in-PlainUInt64.ensures.keeps; room = w.try_plain_unsigned-done-in-PlainUInt64.ensures.room })
+      | try_body-in-PlainInt64 w ↦ moved l here old v w.try_plain-done-in-PlainInt64.new.work new w.try_plain-done-in-PlainInt64.result done w.work-is w.done-is (record { suits = w.try_plain-done-in-PlainInt64.ensures.suits; fits = w.try_plain-done-in-PlainInt64.ensures.fits; ok = w.try_plain-done-in-PlainInt64.ensures.ok; keeps = w.try_plain-done-in-PlainInt64.ensures.keeps; room = w.try_plain-done-in-PlainInt64.ensures.room })
+      | try_body-in-ConstantUInt32 w ↦ moved l here old v w.try_constant-done.new.work new w.try_constant-done.result done w.work-is w.done-is (record { suits = w.try_constant-done.ensures.suits; fits = w.try_constant-done.ensures.fits; ok = w.try_constant-done.ensures.ok; keeps = w.try_constant-done.ensures.keeps; room = w.try_constant-done.ensures.room })
+      | try_body-in-ConstantInt32 w ↦ moved l here old v w.try_constant-done-in-ConstantInt32.new.work new w.try_constant-done-in-ConstantInt32.result done w.work-is w.done-is (record { suits = w.try_constant-done-in-ConstantInt32.ensures.suits; fits = w.try_constant-done-in-ConstantInt32.ensures.fits; ok = w.try_constant-done-in-ConstantInt32.ensures.ok; keeps = w.try_constant-done-in-ConstantInt32.ensures.keeps; room = w.try_constant-done-in-ConstantInt32.ensures.room })
+      | try_body-in-ConstantUInt64 w ↦ moved l here old v w.try_constant-done-in-ConstantUInt64.new.work new w.try_constant-done-in-ConstantUInt64.result done w.work-is w.done-is (record { suits = w.try_constant-done-in-ConstantUInt64.ensures.suits; fits = w.try_constant-done-in-ConstantUInt64.ensures.fits; ok = w.try_constant-done-in-ConstantUInt64.ensures.ok; keeps = w.try_constant-done-in-ConstantUInt64.ensures.keeps; room = w.try_constant-done-in-ConstantUInt64.ensures.room })
+      | try_body-in-ConstantInt64 w ↦ moved l here old v w.try_constant-done-in-ConstantInt64.new.work new w.try_constant-done-in-ConstantInt64.result done w.work-is w.done-is (record { suits = w.try_constant-done-in-ConstantInt64.ensures.suits; fits = w.try_constant-done-in-ConstantInt64.ensures.fits; ok = w.try_constant-done-in-ConstantInt64.ensures.ok; keeps = w.try_constant-done-in-ConstantInt64.ensures.keeps; room = w.try_constant-done-in-ConstantInt64.ensures.room })
+      | try_body-in-DefaultUInt32 w ↦ moved l here old v w.try_default-done.new.work new w.try_default-done.result done w.work-is w.done-is (record { suits = w.try_default-done.ensures.suits; fits = w.try_default-done.ensures.fits; ok = w.try_default-done.ensures.ok; keeps = w.try_default-done.ensures.keeps; room = w.try_default-done.ensures.room })
+      | try_body-in-DefaultInt32 w ↦ moved l here old v w.try_default-done-in-DefaultInt32.new.work new w.try_default-done-in-DefaultInt32.result done w.work-is w.done-is (record { suits = w.try_default-done-in-DefaultInt32.ensures.suits; fits = w.try_default-done-in-DefaultInt32.ensures.fits; ok = w.try_default-done-in-DefaultInt32.ensures.ok; keeps = w.try_default-done-in-DefaultInt32.ensures.keeps; room = w.try_default-done-in-DefaultInt32.ensures.room })
+      | try_body-in-DefaultUInt64 w ↦ moved l here old v w.try_default-done-in-DefaultUInt64.new.work new w.try_default-done-in-DefaultUInt64.result done w.work-is w.done-is (record { suits = w.try_default-done-in-DefaultUInt64.ensures.suits; fits = w.try_default-done-in-DefaultUInt64.ensures.fits; ok = w.try_default-done-in-DefaultUInt64.ensures.ok; keeps = w.try_default-done-in-DefaultUInt64.ensures.keeps; room = w.try_default-done-in-DefaultUInt64.ensures.room })
+      | try_body-in-DefaultInt64 w ↦ moved l here old v w.try_default-done-in-DefaultInt64.new.work new w.try_default-done-in-DefaultInt64.result done w.work-is w.done-is (record { suits = w.try_default-done-in-DefaultInt64.ensures.suits; fits = w.try_default-done-in-DefaultInt64.ensures.fits; ok = w.try_default-done-in-DefaultInt64.ensures.ok; keeps = w.try_default-done-in-DefaultInt64.ensures.keeps; room = w.try_default-done-in-DefaultInt64.ensures.room })
+      | try_body-in-CopyUInt32 w ↦ moved l here old v w.try_copied-done.new.work new w.try_copied-done.result done w.work-is w.done-is (record { suits = w.try_copied-done.ensures.suits; fits = w.try_copied-done.ensures.fits; ok = w.try_copied-done.ensures.ok; keeps = w.try_copied-done.ensures.keeps; room = w.try_copied-done.ensures.room })
+      | try_body-in-CopyInt32 w ↦ moved l here old v w.try_copied-done-in-CopyInt32.new.work new w.try_copied-done-in-CopyInt32.result done w.work-is w.done-is (record { suits = w.try_copied-done-in-CopyInt32.ensures.suits; fits = w.try_copied-done-in-CopyInt32.ensures.fits; ok = w.try_copied-done-in-CopyInt32.ensures.ok; keeps = w.try_copied-done-in-CopyInt32.ensures.keeps; room = w.try_copied-done-in-CopyInt32.ensures.room })
+      | try_body-in-CopyUInt64 w ↦ moved l here old v w.try_copied-done-in-CopyUInt64.new.work new w.try_copied-done-in-CopyUInt64.result done w.work-is w.done-is (record { suits = w.try_copied-done-in-CopyUInt64.ensures.suits; fits = w.try_copied-done-in-CopyUInt64.ensures.fits; ok = w.try_copied-done-in-CopyUInt64.ensures.ok; keeps = w.try_copied-done-in-CopyUInt64.ensures.keeps; room = w.try_copied-done-in-CopyUInt64.ensures.room })
+      | try_body-in-CopyInt64 w ↦ moved l here old v w.try_copied-done-in-CopyInt64.new.work new w.try_copied-done-in-CopyInt64.result done w.work-is w.done-is (record { suits = w.try_copied-done-in-CopyInt64.ensures.suits; fits = w.try_copied-done-in-CopyInt64.ensures.fits; ok = w.try_copied-done-in-CopyInt64.ensures.ok; keeps = w.try_copied-done-in-CopyInt64.ensures.keeps; room = w.try_copied-done-in-CopyInt64.ensures.room })
+      | try_body-in-IncrementUInt32 w ↦ moved l here old v w.try_next-done.new.work new w.try_next-done.result done w.work-is w.done-is (record { suits = w.try_next-done.ensures.suits; fits = w.try_next-done.ensures.fits; ok = w.try_next-done.ensures.ok; keeps = w.try_next-done.ensures.keeps; room = w.try_next-done.ensures.room })
+      | try_body-in-IncrementInt32 w ↦ moved l here old v w.try_next-done-in-IncrementInt32.new.work new w.try_next-done-in-IncrementInt32.result done w.work-is w.done-is (record { suits = w.try_next-done-in-IncrementInt32.ensures.suits; fits = w.try_next-done-in-IncrementInt32.ensures.fits; ok = w.try_next-done-in-IncrementInt32.ensures.ok; keeps = w.try_next-done-in-IncrementInt32.ensures.keeps; room = w.try_next-done-in-IncrementInt32.ensures.room })
+      | try_body-in-IncrementUInt64 w ↦ moved l here old v w.try_next-done-in-IncrementUInt64.new.work new w.try_next-done-in-IncrementUInt64.result done w.work-is w.done-is (record { suits = w.try_next-done-in-IncrementUInt64.ensures.suits; fits = w.try_next-done-in-IncrementUInt64.ensures.fits; ok = w.try_next-done-in-IncrementUInt64.ensures.ok; keeps = w.try_next-done-in-IncrementUInt64.ensures.keeps; room = w.try_next-done-in-IncrementUInt64.ensures.room })
+      | try_body-in-IncrementInt64 w ↦ moved l here old v w.try_next-done-in-IncrementInt64.new.work new w.try_next-done-in-IncrementInt64.result done w.work-is w.done-is (record { suits = w.try_next-done-in-IncrementInt64.ensures.suits; fits = w.try_next-done-in-IncrementInt64.ensures.fits; ok = w.try_next-done-in-IncrementInt64.ensures.ok; keeps = w.try_next-done-in-IncrementInt64.ensures.keeps; room = w.try_next-done-in-IncrementInt64.ensures.room })
+      | try_body-in-DeltaUInt32 w ↦ moved l here old v w.try_difference-done.new.work new w.try_difference-done.result done w.work-is w.done-is (record { suits = w.try_difference-done.ensures.suits; fits = w.try_difference-done.ensures.fits; ok = w.try_difference-done.ensures.ok; keeps = w.try_difference-done.ensures.keeps; room = w.try_difference-done.ensures.room })
+      | try_body-in-DeltaInt32 w ↦ moved l here old v w.try_difference-done-in-DeltaInt32.new.work new w.try_difference-done-in-DeltaInt32.result done w.work-is w.done-is (record { suits = w.try_difference-done-in-DeltaInt32.ensures.suits; fits = w.try_difference-done-in-DeltaInt32.ensures.fits; ok = w.try_difference-done-in-DeltaInt32.ensures.ok; keeps = w.try_difference-done-in-DeltaInt32.ensures.keeps; room = w.try_difference-done-in-DeltaInt32.ensures.room })
+      | try_body-in-DeltaUInt64 w ↦ moved l here old v w.try_difference-done-in-DeltaUInt64.new.work new w.try_difference-done-in-DeltaUInt64.result done w.work-is w.done-is (record { suits = w.try_difference-done-in-DeltaUInt64.ensures.suits; fits = w.try_difference-done-in-DeltaUInt64.ensures.fits; ok = w.try_difference-done-in-DeltaUInt64.ensures.ok; keeps = w.try_difference-done-in-DeltaUInt64.ensures.keeps; room = w.try_difference-done-in-DeltaUInt64.ensures.room })
+      | try_body-in-DeltaInt64 w ↦ moved l here old v w.try_difference-done-in-DeltaInt64.new.work new w.try_difference-done-in-DeltaInt64.result done w.work-is w.done-is (record { suits = w.try_difference-done-in-DeltaInt64.ensures.suits; fits = w.try_difference-done-in-DeltaInt64.ensures.fits; ok = w.try_difference-done-in-DeltaInt64.ensures.ok; keeps = w.try_difference-done-in-DeltaInt64.ensures.keeps; room = w.try_difference-done-in-DeltaInt64.ensures.room })
+      | try_body-in-PlainAscii w ↦ moved l here old v w.try_plain-done-in-PlainAscii.new.work new w.try_plain-done-in-PlainAscii.result done w.work-is w.done-is (record { suits = w.try_plain-done-in-PlainAscii.ensures.suits; fits = w.try_plain-done-in-PlainAscii.ensures.fits; ok = w.try_plain-done-in-PlainAscii.ensures.ok; keeps = w.try_plain-done-in-PlainAscii.ensures.keeps; room = w.try_plain-done-in-PlainAscii.ensures.room })
+      | try_body-in-ConstantAscii w ↦ moved l here old v w.try_constant-done-in-ConstantAscii.new.work new w.try_constant-done-in-ConstantAscii.result done w.work-is w.done-is (record { suits = w.try_constant-done-in-ConstantAscii.ensures.suits; fits = w.try_constant-done-in-ConstantAscii.ensures.fits; ok = w.try_constant-done-in-ConstantAscii.ensures.ok; keeps = w.try_constant-done-in-ConstantAscii.ensures.keeps; room = w.try_constant-done-in-ConstantAscii.ensures.room })
+      | try_body-in-DefaultAscii w ↦ moved l here old v w.try_default-done-in-DefaultAscii.new.work new w.try_default-done-in-DefaultAscii.result done w.work-is w.done-is (record { suits = w.try_default-done-in-DefaultAscii.ensures.suits; fits = w.try_default-done-in-DefaultAscii.ensures.fits; ok = w.try_default-done-in-DefaultAscii.ensures.ok; keeps = w.try_default-done-in-DefaultAscii.ensures.keeps; room = w.try_default-done-in-DefaultAscii.ensures.room })
+      | try_body-in-CopyAscii w ↦ moved l here old v w.try_copied_other-done.new.work new w.try_copied_other-done.result done w.work-is w.done-is (record { suits = w.try_copied_other-done.ensures.suits; fits = w.try_copied_other-done.ensures.fits; ok = w.try_copied_other-done.ensures.ok; keeps = w.try_copied_other-done.ensures.keeps; room = w.try_copied_other-done.ensures.room })
+      | try_body-in-TailAscii w ↦ moved l here old v w.try_chosen-done.new.work new w.try_chosen-done.result done w.work-is w.done-is (record { suits = w.try_chosen-done.ensures.suits; fits = w.try_chosen-done.ensures.fits; ok = w.try_chosen-done.ensures.ok; keeps = w.try_chosen-done.ensures.keeps; room = w.try_chosen-done.ensures.room })
+      | try_body-in-DeltaAscii w ↦ moved l here old v w.try_chosen-done-in-DeltaAscii.new.work new w.try_chosen-done-in-DeltaAscii.result done w.work-is w.done-is (record { suits = w.try_chosen-done-in-DeltaAscii.ensures.suits; fits = w.try_chosen-done-in-DeltaAscii.ensures.fits; ok = w.try_chosen-done-in-DeltaAscii.ensures.ok; keeps = w.try_chosen-done-in-DeltaAscii.ensures.keeps; room = w.try_chosen-done-in-DeltaAscii.ensures.room })
+      | try_body-in-PlainUnicode w ↦ moved l here old v w.try_plain-done-in-PlainUnicode.new.work new w.try_plain-done-in-PlainUnicode.result done w.work-is w.done-is (record { suits = w.try_plain-done-in-PlainUnicode.ensures.suits; fits = w.try_plain-done-in-PlainUnicode.ensures.fits; ok = w.try_plain-done-in-PlainUnicode.ensures.ok; keeps = w.try_plain-done-in-PlainUnicode.ensures.keeps; room = w.try_plain-done-in-PlainUnicode.ensures.room })
+      | try_body-in-DeltaUnicode w ↦ moved l here old v w.try_chosen-done-in-DeltaUnicode.new.work new w.try_chosen-done-in-DeltaUnicode.result done w.work-is w.done-is (record { suits = w.try_chosen-done-in-DeltaUnicode.ensures.suits; fits = w.try_chosen-done-in-DeltaUnicode.ensures.fits; ok = w.try_chosen-done-in-DeltaUnicode.ensures.ok; keeps = w.try_chosen-done-in-DeltaUnicode.ensures.keeps; room = w.try_chosen-done-in-DeltaUnicode.ensures.room })
+      | try_body-in-PlainBytes w ↦ moved l here old v w.try_plain-done-in-PlainBytes.new.work new w.try_plain-done-in-PlainBytes.result done w.work-is w.done-is (record { suits = w.try_plain-done-in-PlainBytes.ensures.suits; fits = w.try_plain-done-in-PlainBytes.ensures.fits; ok = w.try_plain-done-in-PlainBytes.ensures.ok; keeps = w.try_plain-done-in-PlainBytes.ensures.keeps; room = w.try_plain-done-in-PlainBytes.ensures.room })
+      | try_body-in-TailBytes w ↦ moved l here old v w.try_chosen-done-in-TailBytes.new.work new w.try_chosen-done-in-TailBytes.result done w.work-is w.done-is (record { suits = w.try_chosen-done-in-TailBytes.ensures.suits; fits = w.try_chosen-done-in-TailBytes.ensures.fits; ok = w.try_chosen-done-in-TailBytes.ensures.ok; keeps = w.try_chosen-done-in-TailBytes.ensures.keeps; room = w.try_chosen-done-in-TailBytes.ensures.room })
+      | try_body-in-PlainDecimal w ↦ moved l here old v w.try_plain-done-in-PlainDecimal.new.work new w.try_plain-done-in-PlainDecimal.result done w.work-is w.done-is (record { suits = w.try_plain-done-in-PlainDecimal.ensures.suits; fits = w.try_plain-done-in-PlainDecimal.ensures.fits; ok = w.try_plain-done-in-PlainDecimal.ensures.ok; keeps = w.try_plain-done-in-PlainDecimal.ensures.keeps; room = w.try_plain-done-in-PlainDecimal.ensures.room })
+      | try_body-in-CopyDecimal w ↦ moved l here old v w.try_copied_other-done-in-CopyDecimal.new.work new w.try_copied_other-done-in-CopyDecimal.result done w.work-is w.done-is (record { suits = w.try_copied_other-done-in-CopyDecimal.ensures.suits; fits = w.try_copied_other-done-in-CopyDecimal.ensures.fits; ok = w.try_copied_other-done-in-CopyDecimal.ensures.ok; keeps = w.try_copied_other-done-in-CopyDecimal.ensures.keeps; room = w.try_copied_other-done-in-CopyDecimal.ensures.room })
+      | try_body-in-DeltaDecimal w ↦ moved l here old v w.try_chosen-done-in-DeltaDecimal.new.work new w.try_chosen-done-in-DeltaDecimal.result done w.work-is w.done-is (record { suits = w.try_chosen-done-in-DeltaDecimal.ensures.suits; fits = w.try_chosen-done-in-DeltaDecimal.ensures.fits; ok = w.try_chosen-done-in-DeltaDecimal.ensures.ok; keeps = w.try_chosen-done-in-DeltaDecimal.ensures.keeps; room = w.try_chosen-done-in-DeltaDecimal.ensures.room })
+      | try_body-in-Other w ↦ moved l here old v w.try_other-done.new.work new w.try_other-done.result done w.work-is w.done-is (record { suits = w.try_other-done.ensures.suits; fits = w.try_other-done.ensures.fits; ok = w.try_other-done.ensures.ok; keeps = w.try_other-done.ensures.keeps; room = w.try_other-done.ensures.room })
+    ] in
+    keeps_on c.args.work.now.ledger old.ledger new.ledger c.loop-i.invariant.keeps tried.keeps
+
+pub try_body-loop-i-preserved : goal.try_body-loop-i-preserved
+try_body-loop-i-preserved t c =
+    let l = c.args.plan.now.limits in
+    let nodes = nodes_of c.args.plan.now.templates.now in
+    let i = c.loop-i.i in
+    let here = instruction_in nodes (get_or c.args.body.now i 0) in
+    let old = c.loop-i.work in
+    let new = c.match-form_at.work in
+    let x = c.index-slots-i.result in
+    let inv = c.loop-i.invariant in
+    let inside : i < length c.args.body.now = omega (arith, c.if-body-slots.false, c.loop-i-test.true) in
+    let done = c.match-form_at.done in
+    let v = value_data c.in-One.value in
+    let tried : Tried l here old v new done = elim c.match-form_at.branch [
+      | try_body-in-PlainUInt32 w ↦ moved l here old v w.try_plain_unsigned-done.new.work new w.try_plain_unsigned-done.result done w.work-is w.done-is (record { suits = w.try_plain_unsigned-done.ensures.suits; fits = w.try_plain_unsigned-done.ensures.fits; ok = w.try_plain_unsigned-done.ensures.ok; keeps = w.try_plain_unsigned-done.ensures.keeps; room = w.try_plain_unsigned-done.ensures.room })
+      | try_body-in-PlainInt32 w ↦ moved l here old v w.try_plain-done.new.work new w.try_plain-done.result done w.work-is w.done-is (record { suits = w.try_plain-done.ensures.suits; fits = w.try_plain-done.ensures.fits; ok = w.try_plain-done.ensures.ok; keeps = w.try_plain-done.ensures.keeps; room = w.try_plain-done.ensures.room })
+      | try_body-in-PlainUInt64 w ↦ moved l here old v w.try_plain_unsigned-done-in-PlainUInt64.new.work new w.try_plain_unsigned-done-in-PlainUInt64.result done w.work-is w.done-is (record { suits = w.try_plain_unsigned-done-in-PlainUInt64.ensures.suits; fits = w.try_plain_unsigned-done-in-PlainUInt64.ensures.fits; ok = w.try_plain_unsigned-done-in-PlainUInt64.ensures.ok; keeps = w.try_plain_unsigned-done-in-PlainUInt64.ensures.keeps; room = w.try_plain_unsigned-done-in-PlainUInt64.ensures.room })
+      | try_body-in-PlainInt64 w ↦ moved l here old v w.try_plain-done-in-PlainInt64.new.work new w.try_plain-done-in-PlainInt64.result done w.work-is w.done-is (record { suits = w.try_plain-done-in-PlainInt64.ensures.suits; fits = w.try_plain-done-in-PlainInt64.ensures.fits; ok = w.try_plain-done-in-PlainInt64.ensures.ok; keeps = w.try_plain-done-in-PlainInt64.ensures.keeps; room = w.try_plain-done-in-PlainInt64.ensures.room })
+      | try_body-in-ConstantUInt32 w ↦ moved l here old v w.try_constant-done.new.work new w.try_constant-done.result done w.work-is w.done-is (record { suits = w.try_constant-done.ensures.suits; fits = w.try_constant-done.ensures.fits; ok = w.try_constant-done.ensures.ok; keeps = w.try_constant-done.ensures.keeps; room = w.try_constant-done.ensures.room })
+      | try_body-in-ConstantInt32 w ↦ moved l here old v w.try_constant-done-in-ConstantInt32.new.work new w.try_constant-done-in-ConstantInt32.result done w.work-is w.done-is (record { suits = w.try_constant-done-in-ConstantInt32.ensures.suits; fits = w.try_constant-done-in-ConstantInt32.ensures.fits; ok = w.try_constant-done-in-ConstantInt32.ensures.ok; keeps = w.try_constant-done-in-ConstantInt32.ensures.keeps; room = w.try_constant-done-in-ConstantInt32.ensures.room })
+      | try_body-in-ConstantUInt64 w ↦ moved l here old v w.try_constant-done-in-ConstantUInt64.new.work new w.try_constant-done-in-ConstantUInt64.result done w.work-is w.done-is (record { suits = w.try_constant-done-in-ConstantUInt64.ensures.suits; fits = w.try_constant-done-in-ConstantUInt64.ensures.fits; ok = w.try_constant-done-in-ConstantUInt64.ensures.ok; keeps = w.try_constant-done-in-ConstantUInt64.ensures.keeps; room = w.try_constant-done-in-ConstantUInt64.ensures.room })
+      | try_body-in-ConstantInt64 w ↦ moved l here old v w.try_constant-done-in-ConstantInt64.new.work new w.try_constant-done-in-ConstantInt64.result done w.work-is w.done-is (record { suits = w.try_constant-done-in-ConstantInt64.ensures.suits; fits = w.try_constant-done-in-ConstantInt64.ensures.fits; ok = w.try_constant-done-in-ConstantInt64.ensures.ok; keeps = w.try_constant-done-in-ConstantInt64.ensures.keeps; room = w.try_constant-done-in-ConstantInt64.ensures.room })
+      | try_body-in-DefaultUInt32 w ↦ moved l here old v w.try_default-done.new.work new w.try_default-done.result done w.work-is w.done-is (record { suits = w.try_default-done.ensures.suits; fits = w.try_default-done.ensures.fits; ok = w.try_default-done.ensures.ok; keeps = w.try_default-done.ensures.keeps; room = w.try_default-done.ensures.room })
+      | try_body-in-DefaultInt32 w ↦ moved l here old v w.try_default-done-in-DefaultInt32.new.work new w.try_default-done-in-DefaultInt32.result done w.work-is w.done-is (record { suits = w.try_default-done-in-DefaultInt32.ensures.suits; fits = w.try_default-done-in-DefaultInt32.ensures.fits; ok = w.try_default-done-in-DefaultInt32.ensures.ok; keeps = w.try_default-done-in-DefaultInt32.ensures.keeps; room = w.try_default-done-in-DefaultInt32.ensures.room })
+      | try_body-in-DefaultUInt64 w ↦ moved l here old v w.try_default-done-in-DefaultUInt64.new.work new w.try_default-done-in-DefaultUInt64.result done w.work-is w.done-is (record { suits = w.try_default-done-in-DefaultUInt64.ensures.suits; fits = w.try_default-done-in-DefaultUInt64.ensures.fits; ok = w.try_default-done-in-DefaultUInt64.ensures.ok; keeps = w.try_default-done-in-DefaultUInt64.ensures.keeps; room = w.try_default-done-in-DefaultUInt64.ensures.room })
+      | try_body-in-DefaultInt64 w ↦ moved l here old v w.try_default-done-in-DefaultInt64.new.work new w.try_default-done-in-DefaultInt64.result done w.work-is w.done-is (record { suits = w.try_default-done-in-DefaultInt64.ensures.suits; fits = w.try_default-done-in-DefaultInt64.ensures.fits; ok = w.try_default-done-in-DefaultInt64.ensures.ok; keeps = w.try_default-done-in-DefaultInt64.ensures.keeps; room = w.try_default-done-in-DefaultInt64.ensures.room })
+      | try_body-in-CopyUInt32 w ↦ moved l here old v w.try_copied-done.new.work new w.try_copied-done.result done w.work-is w.done-is (record { suits = w.try_copied-done.ensures.suits; fits = w.try_copied-done.ensures.fits; ok = w.try_copied-done.ensures.ok; keeps = w.try_copied-done.ensures.keeps; room = w.try_copied-done.ensures.room })
+      | try_body-in-CopyInt32 w ↦ moved l here old v w.try_copied-done-in-CopyInt32.new.work new w.try_copied-done-in-CopyInt32.result done w.work-is w.done-is (record { suits = w.try_copied-done-in-CopyInt32.ensures.suits; fits = w.try_copied-done-in-CopyInt32.ensures.fits; ok = w.try_copied-done-in-CopyInt32.ensures.ok; keeps = w.try_copied-done-in-CopyInt32.ensures.keeps; room = w.try_copied-done-in-CopyInt32.ensures.room })
+      | try_body-in-CopyUInt64 w ↦ moved l here old v w.try_copied-done-in-CopyUInt64.new.work new w.try_copied-done-in-CopyUInt64.result done w.work-is w.done-is (record { suits = w.try_copied-done-in-CopyUInt64.ensures.suits; fits = w.try_copied-done-in-CopyUInt64.ensures.fits; ok = w.try_copied-done-in-CopyUInt64.ensures.ok; keeps = w.try_copied-done-in-CopyUInt64.ensures.keeps; room = w.try_copied-done-in-CopyUInt64.ensures.room })
+      | try_body-in-CopyInt64 w ↦ moved l here old v w.try_copied-done-in-CopyInt64.new.work new w.try_copied-done-in-CopyInt64.result done w.work-is w.done-is (record { suits = w.try_copied-done-in-CopyInt64.ensures.suits; fits = w.try_copied-done-in-CopyInt64.ensures.fits; ok = w.try_copied-done-in-CopyInt64.ensures.ok; keeps = w.try_copied-done-in-CopyInt64.ensures.keeps; room = w.try_copied-done-in-CopyInt64.ensures.room })
+      | try_body-in-IncrementUInt32 w ↦ moved l here old v w.try_next-done.new.work new w.try_next-done.result done w.work-is w.done-is (record { suits = w.try_next-done.ensures.suits; fits = w.try_next-done.ensures.fits; ok = w.try_next-done.ensures.ok; keeps = w.try_next-done.ensures.keeps; room = w.try_next-done.ensures.room })
+      | try_body-in-IncrementInt32 w ↦ moved l here old v w.try_next-done-in-IncrementInt32.new.work new w.try_next-done-in-IncrementInt32.result done w.work-is w.done-is (record { suits = w.try_next-done-in-IncrementInt32.ensures.suits; fits = w.try_next-done-in-IncrementInt32.ensures.fits; ok = w.try_next-done-in-IncrementInt32.ensures.ok; keeps = w.try_next-done-in-IncrementInt32.ensures.keeps; room = w.try_next-done-in-IncrementInt32.ensures.room })
+      | try_body-in-IncrementUInt64 w ↦ moved l here old v w.try_next-done-in-IncrementUInt64.new.work new w.try_next-done-in-IncrementUInt64.result done w.work-is w.done-is (record { suits = w.try_next-done-in-IncrementUInt64.ensures.suits; fits = w.try_next-done-in-IncrementUInt64.ensures.fits; ok = w.try_next-done-in-IncrementUInt64.ensures.ok; keeps = w.try_next-done-in-IncrementUInt64.ensures.keeps; room = w.try_next-done-in-IncrementUInt64.ensures.room })
+      | try_body-in-IncrementInt64 w ↦ moved l here old v w.try_next-done-in-IncrementInt64.new.work new w.try_next-done-in-IncrementInt64.result done w.work-is w.done-is (record { suits = w.try_next-done-in-IncrementInt64.ensures.suits; fits = w.try_next-done-in-IncrementInt64.ensures.fits; ok = w.try_next-done-in-IncrementInt64.ensures.ok; keeps = w.try_next-done-in-IncrementInt64.ensures.keeps; room = w.try_next-done-in-IncrementInt64.ensures.room })
+      | try_body-in-DeltaUInt32 w ↦ moved l here old v w.try_difference-done.new.work new w.try_difference-done.result done w.work-is w.done-is (record { suits = w.try_difference-done.ensures.suits; fits = w.try_difference-done.ensures.fits; ok = w.try_difference-done.ensures.ok; keeps = w.try_difference-done.ensures.keeps; room = w.try_difference-done.ensures.room })
+      | try_body-in-DeltaInt32 w ↦ moved l here old v w.try_difference-done-in-DeltaInt32.new.work new w.try_difference-done-in-DeltaInt32.result done w.work-is w.done-is (record { suits = w.try_difference-done-in-DeltaInt32.ensures.suits; fits = w.try_difference-done-in-DeltaInt32.ensures.fits; ok = w.try_difference-done-in-DeltaInt32.ensures.ok; keeps = w.try_difference-done-in-DeltaInt32.ensures.keeps; room = w.try_difference-done-in-DeltaInt32.ensures.room })
+      | try_body-in-DeltaUInt64 w ↦ moved l here old v w.try_difference-done-in-DeltaUInt64.new.work new w.try_difference-done-in-DeltaUInt64.result done w.work-is w.done-is (record { suits = w.try_difference-done-in-DeltaUInt64.ensures.suits; fits = w.try_difference-done-in-DeltaUInt64.ensures.fits; ok = w.try_difference-done-in-DeltaUInt64.ensures.ok; keeps = w.try_difference-done-in-DeltaUInt64.ensures.keeps; room = w.try_difference-done-in-DeltaUInt64.ensures.room })
+      | try_body-in-DeltaInt64 w ↦ moved l here old v w.try_difference-done-in-DeltaInt64.new.work new w.try_difference-done-in-DeltaInt64.result done w.work-is w.done-is (record { suits = w.try_difference-done-in-DeltaInt64.ensures.suits; fits = w.try_difference-done-in-DeltaInt64.ensures.fits; ok = w.try_difference-done-in-DeltaInt64.ensures.ok; keeps = w.try_difference-done-in-DeltaInt64.ensures.keeps; room = w.try_difference-done-in-DeltaInt64.ensures.room })
+      | try_body-in-PlainAscii w ↦ moved l here old v w.try_plain-done-in-PlainAscii.new.work new w.try_plain-done-in-PlainAscii.result done w.work-is w.done-is (record { suits = w.try_plain-done-in-PlainAscii.ensures.suits; fits = w.try_plain-done-in-PlainAscii.ensures.fits; ok = w.try_plain-done-in-PlainAscii.ensures.ok; keeps = w.try_plain-done-in-PlainAscii.ensures.keeps; room = w.try_plain-done-in-PlainAscii.ensures.room })
+      | try_body-in-ConstantAscii w ↦ moved l here old v w.try_constant-done-in-ConstantAscii.new.work new w.try_constant-done-in-ConstantAscii.result done w.work-is w.done-is (record { suits = w.try_constant-done-in-ConstantAscii.ensures.suits; fits = w.try_constant-done-in-ConstantAscii.ensures.fits; ok = w.try_constant-done-in-ConstantAscii.ensures.ok; keeps = w.try_constant-done-in-ConstantAscii.ensures.keeps; room = w.try_constant-done-in-ConstantAscii.ensures.room })
+      | try_body-in-DefaultAscii w ↦ moved l here old v w.try_default-done-in-DefaultAscii.new.work new w.try_default-done-in-DefaultAscii.result done w.work-is w.done-is (record { suits = w.try_default-done-in-DefaultAscii.ensures.suits; fits = w.try_default-done-in-DefaultAscii.ensures.fits; ok = w.try_default-done-in-DefaultAscii.ensures.ok; keeps = w.try_default-done-in-DefaultAscii.ensures.keeps; room = w.try_default-done-in-DefaultAscii.ensures.room })
+      | try_body-in-CopyAscii w ↦ moved l here old v w.try_copied_other-done.new.work new w.try_copied_other-done.result done w.work-is w.done-is (record { suits = w.try_copied_other-done.ensures.suits; fits = w.try_copied_other-done.ensures.fits; ok = w.try_copied_other-done.ensures.ok; keeps = w.try_copied_other-done.ensures.keeps; room = w.try_copied_other-done.ensures.room })
+      | try_body-in-TailAscii w ↦ moved l here old v w.try_chosen-done.new.work new w.try_chosen-done.result done w.work-is w.done-is (record { suits = w.try_chosen-done.ensures.suits; fits = w.try_chosen-done.ensures.fits; ok = w.try_chosen-done.ensures.ok; keeps = w.try_chosen-done.ensures.keeps; room = w.try_chosen-done.ensures.room })
+      | try_body-in-DeltaAscii w ↦ moved l here old v w.try_chosen-done-in-DeltaAscii.new.work new w.try_chosen-done-in-DeltaAscii.result done w.work-is w.done-is (record { suits = w.try_chosen-done-in-DeltaAscii.ensures.suits; fits = w.try_chosen-done-in-DeltaAscii.ensures.fits; ok = w.try_chosen-done-in-DeltaAscii.ensures.ok; keeps = w.try_chosen-done-in-DeltaAscii.ensures.keeps; room = w.try_chosen-done-in-DeltaAscii.ensures.room })
+      | try_body-in-PlainUnicode w ↦ moved l here old v w.try_plain-done-in-PlainUnicode.new.work new w.try_plain-done-in-PlainUnicode.result done w.work-is w.done-is (record { suits = w.try_plain-done-in-PlainUnicode.ensures.suits; fits = w.try_plain-done-in-PlainUnicode.ensures.fits; ok = w.try_plain-done-in-PlainUnicode.ensures.ok; keeps = w.try_plain-done-in-PlainUnicode.ensures.keeps; room = w.try_plain-done-in-PlainUnicode.ensures.room })
+      | try_body-in-DeltaUnicode w ↦ moved l here old v w.try_chosen-done-in-DeltaUnicode.new.work new w.try_chosen-done-in-DeltaUnicode.result done w.work-is w.done-is (record { suits = w.try_chosen-done-in-DeltaUnicode.ensures.suits; fits = w.try_chosen-done-in-DeltaUnicode.ensures.fits; ok = w.try_chosen-done-in-DeltaUnicode.ensures.ok; keeps = w.try_chosen-done-in-DeltaUnicode.ensures.keeps; room = w.try_chosen-done-in-DeltaUnicode.ensures.room })
+      | try_body-in-PlainBytes w ↦ moved l here old v w.try_plain-done-in-PlainBytes.new.work new w.try_plain-done-in-PlainBytes.result done w.work-is w.done-is (record { suits = w.try_plain-done-in-PlainBytes.ensures.suits; fits = w.try_plain-done-in-PlainBytes.ensures.fits; ok = w.try_plain-done-in-PlainBytes.ensures.ok; keeps = w.try_plain-done-in-PlainBytes.ensures.keeps; room = w.try_plain-done-in-PlainBytes.ensures.room })
+      | try_body-in-TailBytes w ↦ moved l here old v w.try_chosen-done-in-TailBytes.new.work new w.try_chosen-done-in-TailBytes.result done w.work-is w.done-is (record { suits = w.try_chosen-done-in-TailBytes.ensures.suits; fits = w.try_chosen-done-in-TailBytes.ensures.fits; ok = w.try_chosen-done-in-TailBytes.ensures.ok; keeps = w.try_chosen-done-in-TailBytes.ensures.keeps; room = w.try_chosen-done-in-TailBytes.ensures.room })
+      | try_body-in-PlainDecimal w ↦ moved l here old v w.try_plain-done-in-PlainDecimal.new.work new w.try_plain-done-in-PlainDecimal.result done w.work-is w.done-is (record { suits = w.try_plain-done-in-PlainDecimal.ensures.suits; fits = w.try_plain-done-in-PlainDecimal.ensures.fits; ok = w.try_plain-done-in-PlainDecimal.ensures.ok; keeps = w.try_plain-done-in-PlainDecimal.ensures.keeps; room = w.try_plain-done-in-PlainDecimal.ensures.room })
+      | try_body-in-CopyDecimal w ↦ moved l here old v w.try_copied_other-done-in-CopyDecimal.new.work new w.try_copied_other-done-in-CopyDecimal.result done w.work-is w.done-is (record { suits = w.try_copied_other-done-in-CopyDecimal.ensures.suits; fits = w.try_copied_other-done-in-CopyDecimal.ensures.fits; ok = w.try_copied_other-done-in-CopyDecimal.ensures.ok; keeps = w.try_copied_other-done-in-CopyDecimal.ensures.keeps; room = w.try_copied_other-done-in-CopyDecimal.ensures.room })
+      | try_body-in-DeltaDecimal w ↦ moved l here old v w.try_chosen-done-in-DeltaDecimal.new.work new w.try_chosen-done-in-DeltaDecimal.result done w.work-is w.done-is (record { suits = w.try_chosen-done-in-DeltaDecimal.ensures.suits; fits = w.try_chosen-done-in-DeltaDecimal.ensures.fits; ok = w.try_chosen-done-in-DeltaDecimal.ensures.ok; keeps = w.try_chosen-done-in-DeltaDecimal.ensures.keeps; room = w.try_chosen-done-in-DeltaDecimal.ensures.room })
+      | try_body-in-Other w ↦ moved l here old v w.try_other-done.new.work new w.try_other-done.result done w.work-is w.done-is (record { suits = w.try_other-done.ensures.suits; fits = w.try_other-done.ensures.fits; ok = w.try_other-done.ensures.ok; keeps = w.try_other-done.ensures.keeps; room = w.try_other-done.ensures.room })
+    ] in
+    let good : is_ok done ≡ true = c.if-is_err-2.ensures.negation in
+    let keeps = tried.keeps in
+    let item : option_map item_data x ≡ Some (one v) = ap (option_map item_data) c.in-Some.is ∙ ap (λ (z : Item). Some (item_data z)) c.in-One.is ∙ ap Some (item_data-One c.in-One.value) in
+    let accepted : IsAccepted l here (Some (one v)) old.room new.room = (of_ok done tried.suits good, (of_ok done tried.fits good, let same = tried.room in omega (arith, same))) in
+    let wrote = of_ok done tried.ok good in
+    let a : IsAccepted l here (option_map item_data x) old.room new.room = subst (λ (y : Option ItemData). IsAccepted l here y old.room new.room) (sym item) accepted in
+    let ok : Wrote (Encodes l here old.ledger.now (option_map item_data x)) old.draft new.draft new.ledger.now = subst (λ (y : Option ItemData). Wrote (Encodes l here old.ledger.now y) old.draft new.draft new.ledger.now) (sym item) wrote in
+    let count = one_total l c.args.slots.now i x c.loop-i-test.true c.index-slots-i.is old.room new.room a.1 in
+    record {
+      written = more_at l nodes c.args.body.now c.args.slots.now i x inside c.loop-i-test.true c.index-slots-i.is c.args.work.now.ledger.now c.args.work.now.draft old.ledger.now new.ledger.now old.draft new.draft inv.written ok;
+      suits = λ h. inv.suits (one_suits nodes c.args.body.now c.args.slots.now i x inside c.loop-i-test.true c.index-slots-i.is a.0 h);
+      fits = λ h. inv.fits (one_fits l c.args.slots.now i x c.loop-i-test.true c.index-slots-i.is old.room new.room a.1 h);
+      sum = let before = inv.sum in omega (arith, count, before);
+      ready = ready_kept c.args.plan.now.templates.now l old.ledger new.ledger inv.ready keeps;
+      keeps = keeps_on c.args.work.now.ledger old.ledger new.ledger inv.keeps keeps;
+    }
+
+pub try_body-returns-clause-ok : goal.try_body-returns-clause-ok
+try_body-returns-clause-ok t c = λ _.
+    let past : length c.args.body.now ≤ c.loop-i.i = omega (arith, c.if-body-slots.false, c.loop-i-test.false) in
+    all_written c.args.plan.now.limits (nodes_of c.args.plan.now.templates.now) c.args.body.now c.args.slots.now c.loop-i.i c.args.work.now.ledger.now c.args.work.now.draft c.loop-i.work.ledger.now c.loop-i.work.draft c.loop-i-test.false
+    (no_slot_suits (nodes_of c.args.plan.now.templates.now) c.args.body.now c.args.slots.now c.loop-i.i past c.loop-i-test.false) c.loop-i.invariant.written
 
 pub try_item-try_segment-requires : goal.try_item-try_segment-requires
 try_item-try_segment-requires t c =

@@ -1,6 +1,5 @@
 -- What is written of the slots, and of the elements, so far; the whole suits and fits if the rest does.
 use Rattle.std.proofs.Common.{◌≡◌, ◌+◌, ◌*◌, drop}
-use Rattle.std.specs.Prelude.{option_map}
 use Rattle.fast_value.specs.meaning.Messages.{count, total, rows_total}
 use Rattle.fast_value.specs.meaning.Views.{item_data, slots_data, elements_data}
 use Rattle.fast_template.specs.meaning.Flat.{nodes_of}
@@ -8,7 +7,7 @@ use Rattle.fast_tree.specs.device.Bodies.{body_among}
 use Rattle.fast_spelling.specs.device.Nodes.{IsReady, Keeps}
 use Rattle.fast_spelling.specs.device.Progress.{IsWritten, AreWritten}
 use Rattle.fast_spelling.specs.meaning.Suiting.{SuitsBody, AreRight, AreWithinLimits, RowsWithinLimits}
-use Rattle.fast_spelling.proofs.limits.Depths.{item_depth, option_depth, slots_depth}
+use Rattle.fast_spelling.proofs.limits.Depths.{item_depth, slots_depth}
 use Rattle.fast_spelling.proofs.checking.+check.Given as goal
 
 abbrev pub invariant-try_body-loop-i : goal.invariant-try_body-loop-i
@@ -33,9 +32,6 @@ invariant-try_item-loop-row l = record {
 
 abbrev pub decreases-try_body : goal.decreases-try_body
 decreases-try_body l = 4 * slots_depth (slots_data l.slots.now) + 2
-
-abbrev pub decreases-try_slot : goal.decreases-try_slot
-decreases-try_slot l = 4 * option_depth (option_map item_data l.slot.now) + 1
 
 abbrev pub decreases-try_item : goal.decreases-try_item
 decreases-try_item l = 4 * item_depth (item_data l.item.now)

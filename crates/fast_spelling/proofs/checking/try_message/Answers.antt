@@ -1,5 +1,5 @@
 -- A whole message, by its parts: it suits and fits as they do.
-use Rattle.std.proofs.Common.{ℕ, List, refl, ap, subst, ◌∙◌, ◌≤◌, arith}
+use Rattle.std.proofs.Common.{ℕ, List, refl, ap, subst, ◌≤◌, arith}
 use Rattle.fast_value.specs.meaning.Messages.{Slots, total}
 use Rattle.fast_value.specs.meaning.Views.{message_data, slots_data}
 use Rattle.fast_tree.specs.device.Bodies.{body_among}

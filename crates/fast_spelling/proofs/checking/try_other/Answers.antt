@@ -1,5 +1,5 @@
 -- A value is written as it is encoded, and suits.
-use Rattle.std.proofs.Common.{◌≡◌, ◌<◌, ◌≤◌, ◌+◌, ◌*◌, ℕ, inl, inr, refl, sym, subst}
+use Rattle.std.proofs.Common.{◌≡◌, inl, inr, refl, sym, subst}
 use Rattle.std.specs.Prelude.{Option, Some}
 use Rattle.fast_value.specs.meaning.Kinds.{ScalarData}
 use Rattle.fast_value.specs.meaning.Messages.{ItemData, one}

@@ -1,10 +1,6 @@
 -- The step of one node more.
 use Rattle.std.proofs.Common.{rules}
-use Rattle.std.specs.Prelude.{map}
-use Rattle.fast_tree.specs.declared.instructions.Node.{Node}
 use Rattle.fast_template.specs.meaning.Flat.{nodes_of}
-use Rattle.fast_spelling.specs.declared.forms.Step.{Step}
-use Rattle.fast_spelling.specs.device.Forms.{step_of, steps_of}
 use Rattle.fast_spelling.proofs.rules.FormsTold.{steps_more}
 use Rattle.fast_spelling.proofs.forms.steps_of.Goals as goal
 

@@ -1,5 +1,5 @@
 -- By 64 bits, where they are enough.
-use Rattle.std.proofs.Common.{◌≡◌, ◌∙◌, sym, subst, rules}
+use Rattle.std.proofs.Common.{◌≡◌, ◌∙◌, subst, rules}
 use Rattle.std.specs.Prelude.{ℤ, true, Some}
 use Rattle.std.specs.Int.{w64, w128}
 use Rattle.std.proofs.lemmas.Int.{to_z-of_z}

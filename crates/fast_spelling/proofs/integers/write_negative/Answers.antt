@@ -1,7 +1,6 @@
 -- One group, or as many as the complement takes.
-use Rattle.std.proofs.Common.{ℕ, ◌-◌, arith, subst, refl, ◌≡◌}
-use Rattle.std.specs.Prelude.{negsuc, ◌^◌}
-use Rattle.fast_spelling.specs.device.Groups.{IsGroups}
+use Rattle.std.proofs.Common.{arith}
+use Rattle.std.specs.Prelude.{negsuc}
 use Rattle.fast_spelling.proofs.bytes.Groups.{signed_means, negative_least, negative_means}
 use Rattle.fast_spelling.proofs.bytes.Spelling.{on_ok}
 use Rattle.fast_spelling.proofs.integers.write_negative.Goals as goal

@@ -1,5 +1,5 @@
 -- The characters, with the stop bit on the last.
-use Rattle.std.proofs.Common.{◌≡◌, ◌≢◌, ◌+◌, ◌-◌, ◌≤◌, ◌<◌, ◌++◌, ◌∷◌, [], suc, List, ℕ, refl, ◌∙◌, ap, sym, arith, length, take, get_or}
+use Rattle.std.proofs.Common.{◌≡◌, ◌≢◌, ◌+◌, ◌-◌, ◌≤◌, ◌<◌, ◌++◌, ◌∷◌, [], suc, List, ℕ, refl, ◌∙◌, ap, arith, length, take, get_or}
 use Rattle.std.specs.Prelude.{slice_set}
 use Rattle.std.proofs.lemmas.List.{set_split, set-append_right, drop_all, length-append}
 use Rattle.fast_spelling.proofs.bytes.Spelling.{ascii_spelled, some_left}

@@ -1,5 +1,5 @@
 -- The initial value is not sent.
-use Rattle.std.proofs.Common.{ℕ, [], ◌∷◌, refl, ap, sym, subst, ◌∙◌}
+use Rattle.std.proofs.Common.{ℕ, [], ◌∷◌, refl, sym, subst, ◌∙◌}
 use Rattle.std.specs.Prelude.{false, Some}
 use Rattle.std.proofs.lemmas.List.{append-nil}
 use Rattle.fast_value.specs.meaning.Values.{scalar_data}

@@ -1,5 +1,5 @@
 -- One more than the entry holds is not sent.
-use Rattle.std.proofs.Common.{◌≡◌, refl, ap, sym, subst, ◌∙◌}
+use Rattle.std.proofs.Common.{refl, ap, ◌∙◌}
 use Rattle.fast_value.specs.declared.kinds.Kind.{Kind}
 use Rattle.fast_value.specs.meaning.Kinds.{integer_of, value_of_integer}
 use Rattle.fast_value.specs.meaning.Values.{scalar_data}
@@ -9,8 +9,8 @@ use Rattle.fast_dict.specs.meaning.Operators.{incremented, range_of}
 use Rattle.fast_spelling.proofs.rules.Usual.{step_same}
 use Rattle.fast_spelling.proofs.quick.write_next.Goals as goal
 
-pub send-requires-clause-ruled : goal.send-requires-clause-ruled
-send-requires-clause-ruled c =
+pub leave_out-requires-clause-ruled : goal.leave_out-requires-clause-ruled
+leave_out-requires-clause-ruled c =
     let f = field_data c.args.at.field.now in
     let u = scalar_data c.in-Some.held in
     step_same f (previous_at f.entry c.args.ledger.now.now) u (scalar_data c.args.value) c.requires.operator c.in-Some.ensures.value

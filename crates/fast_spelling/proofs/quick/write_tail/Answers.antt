@@ -1,13 +1,13 @@
 -- What the entry holds is not sent, and of another text its tail.
 use Rattle.std.proofs.Common.{◌≡◌, ℕ, List, [], ◌∷◌, refl, ap, sym, subst, ◌∙◌}
-use Rattle.std.specs.Prelude.{Bool, true, false, Some}
+use Rattle.std.specs.Prelude.{true, false, Some}
 use Rattle.std.proofs.lemmas.List.{append-nil}
 use Rattle.fast_value.specs.declared.kinds.Kind.{Kind}
 use Rattle.fast_value.specs.meaning.Kinds.{ScalarData, text_of, value_of_text}
 use Rattle.fast_value.specs.meaning.Values.{scalar_data}
 use Rattle.fast_tree.specs.device.Nodes.{field_data}
 use Rattle.fast_dict.specs.meaning.Dictionary.{assigned, previous_at}
-use Rattle.fast_dict.specs.meaning.Operators.{Sent, value}
+use Rattle.fast_dict.specs.meaning.Operators.{value}
 use Rattle.fast_dict.specs.meaning.Rule.{Rule, IsTail}
 use Rattle.fast_spelling.specs.device.Fields.{IsSuited}
 use Rattle.fast_spelling.proofs.rules.Usual.{held_sendable, tail_other, tail_passed}

@@ -1,6 +1,6 @@
 -- The delta from what the entry holds is sent.
 use Rattle.std.proofs.Common.{List, ℕ, subst}
-use Rattle.std.specs.Prelude.{true, Some}
+use Rattle.std.specs.Prelude.{true}
 use Rattle.fast_value.specs.meaning.Kinds.{text_of}
 use Rattle.fast_value.specs.meaning.Values.{scalar_data}
 use Rattle.fast_tree.specs.device.Nodes.{field_data}
