@@ -20,10 +20,10 @@ pub returns-clause-taken : goal.returns-clause-taken
 returns-clause-taken g c =
     c.sent.ensures.taken (set_of c.args.templates.now) c.args.limits c.args.self.now c.args.rest.now
     (sent_item c.args.templates.now c.args.limits c.args.self.now c.delta_decimal.new.slots c.in_ok-number.number c.node.result.now c.in-Field.field c.args.rest.now (Some c.in_ok-decimal.decimal.number) c.in_ok-decimal.decimal.bytes
-    c.requires.waits c.requires.ready (none_in_hand c.args.self.now.entity c.if-not-is_empty.ensures) (sym c.next.ensures ∙ c.in_ok-number.was) c.node.ensures.found c.in-Field.is c.delta_decimal.ensures.terms (c.in_ok-decimal.ensures.unit (bounds c.args.limits)))
+    c.requires.waits c.requires.ready (none_in_hand c.args.self.now.entity.bytes c.if-not-is_empty.ensures) (sym c.next.ensures ∙ c.in_ok-number.was) c.node.ensures.found c.in-Field.is c.delta_decimal.ensures.terms (c.in_ok-decimal.ensures.unit (bounds c.args.limits)))
 
 pub returns-clause-turns : goal.returns-clause-turns
 returns-clause-turns g c way n h =
     c.sent.ensures.turns (set_of c.args.templates.now) c.args.limits c.args.self.now c.args.rest.now
     (sent_item c.args.templates.now c.args.limits c.args.self.now c.delta_decimal.new.slots c.in_ok-number.number c.node.result.now c.in-Field.field c.args.rest.now (Some c.in_ok-decimal.decimal.number) c.in_ok-decimal.decimal.bytes
-    c.requires.waits c.requires.ready (none_in_hand c.args.self.now.entity c.if-not-is_empty.ensures) (sym c.next.ensures ∙ c.in_ok-number.was) c.node.ensures.found c.in-Field.is c.delta_decimal.ensures.terms (c.in_ok-decimal.ensures.unit (bounds c.args.limits))) way n h
+    c.requires.waits c.requires.ready (none_in_hand c.args.self.now.entity.bytes c.if-not-is_empty.ensures) (sym c.next.ensures ∙ c.in_ok-number.was) c.node.ensures.found c.in-Field.is c.delta_decimal.ensures.terms (c.in_ok-decimal.ensures.unit (bounds c.args.limits))) way n h
