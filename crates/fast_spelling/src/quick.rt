@@ -901,7 +901,8 @@ fn is_next(kind: Kind, held: Scalar<'_>, value: Scalar<'_>) -> bool
 /// The integer behind one that is held.
 #[inline(always)]
 fn next_of<'a>(kind: Kind, held: Scalar<'a>) -> Scalar<'a>
-    ensures { scalar_data result ≡ value_of_integer kind (incremented (range_of kind) (integer_of (scalar_data held.entry))) }
+    ensures { scalar_data result
+        ≡ value_of_integer kind (incremented (range_of kind) (integer_of (scalar_data held.entry))) }
 {
     match (kind, held) {
         (Kind::UInt32, Scalar::U(number)) => next_uint32(number),
