@@ -1,6 +1,6 @@
-//! The quick way of presence maps of one byte.
+//! The quick way of presence maps of one byte, and of the identifiers behind them.
 
-ghost use Rattle.std.specs.Prelude.{◌≡◌, ◌≢◌, ◌+◌, ◌<◌, ℕ, length, slice_get, Ok, Some, IfSome, IfNone};
+ghost use Rattle.std.specs.Prelude.{◌≡◌, ◌≢◌, ◌+◌, ◌<◌, ◌≤◌, ℕ, length, slice_get, slice_index, Ok, Some, IfSome, IfNone};
 ghost use Rattle.fast_value.specs.declared.kinds.Kind.{Kind};
 ghost use Rattle.fast_value.specs.meaning.Kinds.{U};
 ghost use Rattle.fast_template.specs.meaning.Flat.{templates_of};
@@ -13,11 +13,13 @@ ghost use Rattle.fast_decoder.specs.device.TurnsLeft.{Way, HasTurns, HasTurnsInM
 
 use crate::machine::{Machine, Turn, Waiting};
 use crate::quick_units::UnitTaken;
+use crate::taking::template_of;
 use crate::turns::Turns;
 use fast_dict::Entry;
 use fast_stream::Sink;
 use fast_template::Templates;
 use fast_value::Limits;
+use fast_wire::{quick_unsigned, short_entity};
 
 impl<'t> Machine<'t> {
     /// Takes the presence map of a group or an element, if it is one byte: of one byte none is too many. It hands nothing over; set,
@@ -72,7 +74,8 @@ impl<'t> Machine<'t> {
         }
     }
 
-    /// Takes the presence map of a message, if it is one byte, no identifier stands behind it, and the template is the latest one.
+    /// Takes the presence map of a message, if it is one byte, and the identifier, if one stands behind it. Without one the template has
+    /// to be the latest one.
     #[inline(always)]
     pub fn begin_quickly<S: Sink>(
         &mut self,
@@ -93,8 +96,11 @@ impl<'t> Machine<'t> {
             → IfSome result (λ q. HasTurnsBehind q.turn way (set_of templates.now) limits
             (1 + n + turns_begun self.old.cursor.map way (tree_in (set_of templates.now)) limits) self.new) }
     {
-        if rest.is_empty() || rest[0] < 0x80 || rest[0] >= 0xc0 {
+        if rest.is_empty() || rest[0] < 0x80 {
             return None;
+        }
+        if rest[0] >= 0xc0 {
+            return self.begin_identified(templates, limits, rest, sink);
         }
         let number = self.latest_again(templates)?;
         if !self.cursor.take_byte(rest) {
@@ -103,5 +109,45 @@ impl<'t> Machine<'t> {
         self.turns = Turns::after(&self.turns);
         let turn = self.start_message(templates, limits, number, sink);
         Some(UnitTaken { bytes: 1, turn })
+    }
+
+    /// Takes the presence map of a message, one byte whose first bit is set, and the identifier behind it, if that stands whole in the
+    /// piece and is a template's.
+    #[inline(always)]
+    fn begin_identified<S: Sink>(
+        &mut self,
+        templates: &'t Templates,
+        limits: Limits,
+        rest: &[u8],
+        sink: &mut S,
+    ) -> Option<UnitTaken>
+        requires waits { self.old.waiting ≡ Waiting.Map }
+        requires ready { IsReady (set_of templates.now) limits self.old }
+        requires some { 0 < length rest.now }
+        requires first { 192 ≤ slice_index rest.now 0 }
+        ensures none { IfNone result ((self.new ≡ self.old) × (sink.new ≡ sink.old)) }
+        ensures taken { IfSome result
+            (λ q. IsTakenTo S.takes S.stops (set_of templates.now) limits
+            (meaning (set_of templates.now) limits self.old) rest.now sink.old q.bytes q.turn sink.new self.new) }
+        ensures on { IfSome result (λ q. q.turn ≢ Ok Turn.Waits) }
+        ensures turns { (way : Way) (n : ℕ)
+            → HasTurnsInMap self.old.cursor.map way (set_of templates.now) limits n self.old.turns.count
+            → IfSome result (λ q. HasTurnsBehind q.turn way (set_of templates.now) limits
+            (1 + n + turns_begun self.old.cursor.map way (tree_in (set_of templates.now)) limits) self.new) }
+    {
+        let behind = &rest[1..];
+        let entity = short_entity(behind)?;
+        let id = quick_unsigned(behind, entity, limits.strict, 4_294_967_295)?;
+        let number = template_of(templates, Some(u128::from(id)), self.latest)?;
+        if !self.cursor.take_byte(rest) {
+            return None;
+        }
+        self.slots.set_number(0, Entry::UInt32(id));
+        self.turns = Turns::after(&self.turns);
+        let turn = self.start_message(templates, limits, number, sink);
+        Some(UnitTaken {
+            bytes: 1 + entity.len,
+            turn,
+        })
     }
 }

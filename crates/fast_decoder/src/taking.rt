@@ -127,7 +127,7 @@ fn id_of(value: Option<Scalar<'_>>) -> Option<u128>
 
 /// The number of the template with an identifier, which is most likely the latest one's.
 #[inline]
-fn template_of(templates: &Templates, identifier: Option<u128>, latest: u32) -> Option<u32>
+pub fn template_of(templates: &Templates, identifier: Option<u128>, latest: u32) -> Option<u32>
     ensures some { IfSome result
         (λ i. (id : ℕ) × (t : Template) × (identifier ≡ Some id) × (slice_get (templates_of templates.now) i ≡ Some t)
         × (t.id ≡ Some id)

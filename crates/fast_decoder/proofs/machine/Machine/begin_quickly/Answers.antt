@@ -47,5 +47,5 @@ returns-clause-taken g c =
     let low : 128 ≤ get_or rest 0 0 = search rules in
     let high : get_or rest 0 0 < 192 = search rules in
     begun_to g.S.Sink.takes g.S.Sink.stops set l (meaning set l m) d rest 1 r c.args.sink.now c.start_message-turn.result c.start_message-turn.new.sink c.start_message-turn.new.self from taken.0 taken.1
-    (message_short set l m c.take_byte.new.self c.after-self.result rest c.requires.waits c.requires.ready (c.take_byte.ensures.none c.if-not-take_byte.false) (c.take_byte.ensures.map c.if-not-take_byte.false) c.take_byte.ensures.same id i t held found own first (first_clear rest low high))
+    (message_short set l m c.take_byte.new.self rest c.requires.waits c.requires.ready (c.take_byte.ensures.none c.if-not-take_byte.false) (c.take_byte.ensures.map c.if-not-take_byte.false) c.take_byte.ensures.same id i t found own first held (first_clear rest low high))
     (c.start_message-turn.ensures.turn t found)
