@@ -8,6 +8,7 @@ mod machine;
 mod quick_decimals;
 mod quick_fields;
 mod quick_kinds;
+mod quick_plains;
 mod quick_starts;
 mod quick_texts;
 mod quick_units;

@@ -60,7 +60,7 @@ impl<'t> Machine<'t> {
         };
         let item = unsent_number(&mut self.slots, field, kind, operator_of(sending))?;
         self.turns = Turns::after(&self.turns);
-        let turn = self.finish_item(number, field, true, Some(item), sink);
+        let turn = self.finish_item(number, true, Some(item), sink);
         Some(UnitTaken { bytes: 0, turn })
     }
 

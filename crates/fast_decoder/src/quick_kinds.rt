@@ -34,13 +34,12 @@ impl<'t> Machine<'t> {
         ensures waits { IfSome result (λ _. self.new.waiting ≡ Waiting.Field) }
     {
         match sending {
-            Sending::Plain => self.pass_unsigned(
+            Sending::Plain => self.take_plain_unsigned(
                 templates,
                 limits,
                 number,
                 Kind::UInt32,
                 4_294_967_295,
-                sending,
                 rest,
                 sink,
             ),
@@ -120,14 +119,13 @@ impl<'t> Machine<'t> {
         ensures waits { IfSome result (λ _. self.new.waiting ≡ Waiting.Field) }
     {
         match sending {
-            Sending::Plain => self.pass_signed(
+            Sending::Plain => self.take_plain_signed(
                 templates,
                 limits,
                 number,
                 Kind::Int32,
                 -2_147_483_648,
                 2_147_483_647,
-                sending,
                 rest,
                 sink,
             ),
@@ -200,13 +198,12 @@ impl<'t> Machine<'t> {
         ensures waits { IfSome result (λ _. self.new.waiting ≡ Waiting.Field) }
     {
         match sending {
-            Sending::Plain => self.pass_unsigned(
+            Sending::Plain => self.take_plain_unsigned(
                 templates,
                 limits,
                 number,
                 Kind::UInt64,
                 18_446_744_073_709_551_615,
-                sending,
                 rest,
                 sink,
             ),
@@ -286,14 +283,13 @@ impl<'t> Machine<'t> {
         ensures waits { IfSome result (λ _. self.new.waiting ≡ Waiting.Field) }
     {
         match sending {
-            Sending::Plain => self.pass_signed(
+            Sending::Plain => self.take_plain_signed(
                 templates,
                 limits,
                 number,
                 Kind::Int64,
                 -9_223_372_036_854_775_808,
                 9_223_372_036_854_775_807,
-                sending,
                 rest,
                 sink,
             ),

@@ -5,8 +5,7 @@ ghost use Rattle.std.specs.Prelude.{◌≡◌, ◌≢◌, ◌+◌, ◌<◌, ℕ,
 ghost use Rattle.fast_wire.specs.meaning.Integers.{unsigned_up_to, signed_between};
 ghost use Rattle.fast_value.specs.meaning.Kinds.{U, I, family, integers, value_of_integer};
 ghost use Rattle.fast_template.specs.device.Opcodes.{sending_operator, is_nullable, IsSentAs};
-ghost use Rattle.fast_tree.specs.device.Nodes.{field_data};
-ghost use Rattle.fast_tree.specs.meaning.Tree.{operator_uses_bit, uses_bit};
+ghost use Rattle.fast_tree.specs.meaning.Tree.{FieldData, operator_uses_bit, uses_bit};
 ghost use Rattle.fast_tree.specs.declared.instructions.FieldInstruction.{FieldInstruction};
 ghost use Rattle.fast_tree.specs.declared.instructions.Node.{Node};
 ghost use Rattle.fast_dict.specs.meaning.Operators.{range_of};
@@ -118,26 +117,24 @@ impl<'t> Machine<'t> {
     pub fn sent<S: Sink>(
         &mut self,
         number: u32,
-        field: &FieldInstruction,
         has_bit: bool,
         item: Option<Number>,
         bytes: usize,
         sink: &mut S,
     ) -> UnitTaken
-        requires bit { has_bit ≡ uses_bit (field_data field.now) }
         requires left { 0 < length self.old.cursor.left }
-        ensures taken { (set : Set) (l : Limits) (m : Machine) (rest : List ℕ)
-            → IsSentItem set l m self.old number (field_data field.now) rest item bytes
+        ensures taken { (set : Set) (l : Limits) (m : Machine) (rest : List ℕ) (f : FieldData) → has_bit ≡ uses_bit f
+            → IsSentItem set l m self.old number f rest item bytes
             → IsTakenTo S.takes S.stops set l (meaning set l m) rest sink.old result.bytes result.turn sink.new
             self.new }
         ensures on { result.turn ≢ Ok Turn.Waits }
         ensures waits { self.new.waiting ≡ self.old.waiting }
-        ensures turns { (set : Set) (l : Limits) (m : Machine) (rest : List ℕ)
-            → IsSentItem set l m self.old number (field_data field.now) rest item bytes
+        ensures turns { (set : Set) (l : Limits) (m : Machine) (rest : List ℕ) (f : FieldData)
+            → IsSentItem set l m self.old number f rest item bytes
             → (way : Way) (n : ℕ) → HasTurns way set l 1 n m → HasTurnsBehind result.turn way set l (1 + n) self.new }
     {
         self.turns = Turns::after(&self.turns);
-        let turn = self.finish_item(number, field, has_bit, item, sink);
+        let turn = self.finish_item(number, has_bit, item, sink);
         UnitTaken { bytes, turn }
     }
 
@@ -186,12 +183,12 @@ impl<'t> Machine<'t> {
             let item = unsigned_item(
                 slots, field, kind, true, operator, rest, entity, strict, top,
             )?;
-            return Some(self.sent(number, field, has_bit(sending), item, entity.len, sink));
+            return Some(self.sent(number, has_bit(sending), item, entity.len, sink));
         }
         let item = unsigned_item(
             slots, field, kind, false, operator, rest, entity, strict, top,
         )?;
-        Some(self.sent(number, field, has_bit(sending), item, entity.len, sink))
+        Some(self.sent(number, has_bit(sending), item, entity.len, sink))
     }
 
     /// Takes the unit of the next instruction, a field of signed integers that stands in the stream so.
@@ -247,7 +244,7 @@ impl<'t> Machine<'t> {
             low,
             top,
         )?;
-        Some(self.sent(number, field, has_bit(sending), item, entity.len, sink))
+        Some(self.sent(number, has_bit(sending), item, entity.len, sink))
     }
 
     /// Takes the unit of the next instruction, a field of integers under delta.
@@ -287,7 +284,7 @@ impl<'t> Machine<'t> {
         let strict = limits.strict;
         let slots = &mut self.slots;
         let item = delta_item(slots, field, kind, nullable(sending), rest, entity, strict)?;
-        Some(self.sent(number, field, false, item, entity.len, sink))
+        Some(self.sent(number, false, item, entity.len, sink))
     }
 
     /// Takes the unit that the machine waits for, if it is a mantissa or a map for the quick way.

@@ -44,6 +44,6 @@ impl<'t> Machine<'t> {
         }
         let decimal = delta_decimal(&mut self.slots, field, rest, limits.strict)?;
         let item = Some(decimal.number);
-        Some(self.sent(number, field, false, item, decimal.bytes, sink))
+        Some(self.sent(number, false, item, decimal.bytes, sink))
     }
 }

@@ -151,21 +151,20 @@ impl<'t> Machine<'t> {
         Ok(turn)
     }
 
-    /// Goes past the next instruction, a field of integers whose number is at hand, or NULL, and hands the number over. The field is
-    /// there for what the clauses say.
+    /// Goes past the next instruction, a field of integers whose number is at hand, or NULL, and hands the number over. Of the field
+    /// it is enough to know whether it uses a presence bit.
     #[inline(always)]
     pub fn finish_item<S: Sink>(
         &mut self,
         node: u32,
-        field: &FieldInstruction,
         has_bit: bool,
         item: Option<Number>,
         sink: &mut S,
     ) -> Result<Turn, FaultCode>
-        requires bit { has_bit ≡ uses_bit (field_data field.now) }
         requires left { 0 < length self.old.cursor.left }
-        ensures moves { (set : Set) (l : Bounds) (strict : Bool) (waits : Reader Dictionary) → Moves S.takes S.stops
-            (reader_of strict (value_then set l node (option_map number_data item) (field_data field.now)
+        ensures moves { (set : Set) (l : Bounds) (strict : Bool) (waits : Reader Dictionary) (f : FieldData)
+            → has_bit ≡ uses_bit f → Moves S.takes S.stops
+            (reader_of strict (value_then set l node (option_map number_data item) f
             (slots_dictionary self.old.slots) self.old.counted self.old.cursor))
             sink.old result sink.new
             (reader_of strict (going_on set l (slots_dictionary self.new.slots) self.new.counted self.new.cursor))
@@ -175,7 +174,6 @@ impl<'t> Machine<'t> {
         ensures depth { self.new.cursor.depth ≡ self.old.cursor.depth }
         ensures on { result ≢ Ok Turn.Waits }
     {
-        let _ = field;
         let turn = match item {
             Some(number) => {
                 let value = number.as_scalar();

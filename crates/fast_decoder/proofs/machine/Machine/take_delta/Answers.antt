@@ -1,4 +1,5 @@
 -- The field's item, and what follows it.
+use Rattle.std.proofs.Common.{sym, ◌∙◌}
 use Rattle.fast_value.specs.meaning.Limits.{bounds}
 use Rattle.fast_tree.specs.device.Nodes.{field_data}
 use Rattle.fast_tree.specs.declared.instructions.Shape.TheVariants.{Field}
@@ -6,6 +7,7 @@ use Rattle.fast_decoder.specs.device.Positions.{set_of}
 use Rattle.fast_decoder.proofs.steps.FieldTurns.{serves_here}
 use Rattle.fast_decoder.proofs.fields.ScalarNodes.{served_node}
 use Rattle.fast_decoder.proofs.machines.SentItems.{sent_item}
+use Rattle.fast_decoder.proofs.machines.QuickSteps.{bit_as, delta_unmarked, field_at}
 use Rattle.fast_decoder.proofs.machine.Machine.take_delta.Goals as goal
 
 pub delta_item-requires-clause-serves : goal.delta_item-requires-clause-serves
@@ -15,12 +17,13 @@ delta_item-requires-clause-serves g c =
 
 pub returns-clause-taken : goal.returns-clause-taken
 returns-clause-taken g c =
-    c.sent.ensures.taken (set_of c.args.templates.now) c.args.limits c.args.self.now c.args.rest.now
+    c.sent.ensures.taken (set_of c.args.templates.now) c.args.limits c.args.self.now c.args.rest.now (field_data c.in-Field.field)
+    (sym (bit_as c.in-Field.field c.args.kind c.args.sending (field_at (set_of c.args.templates.now) c.args.number c.args.kind c.args.sending c.node.result.now c.in-Field.field (c.requires.within, c.requires.field) c.node.ensures.found c.in-Field.is) ∙ delta_unmarked c.args.sending c.requires.delta))
     (sent_item c.args.templates.now c.args.limits c.args.self.now c.delta_item.new.slots c.args.number c.node.result.now c.in-Field.field c.args.rest.now c.in_ok-item.item c.in_ok-entity.entity.len
     c.requires.waits c.requires.ready c.requires.none c.requires.next c.node.ensures.found c.in-Field.is c.delta_item.ensures.terms (c.in_ok-item.ensures.unit (bounds c.args.limits)))
 
 pub returns-clause-turns : goal.returns-clause-turns
 returns-clause-turns g c way n h =
-    c.sent.ensures.turns (set_of c.args.templates.now) c.args.limits c.args.self.now c.args.rest.now
+    c.sent.ensures.turns (set_of c.args.templates.now) c.args.limits c.args.self.now c.args.rest.now (field_data c.in-Field.field)
     (sent_item c.args.templates.now c.args.limits c.args.self.now c.delta_item.new.slots c.args.number c.node.result.now c.in-Field.field c.args.rest.now c.in_ok-item.item c.in_ok-entity.entity.len
     c.requires.waits c.requires.ready c.requires.none c.requires.next c.node.ensures.found c.in-Field.is c.delta_item.ensures.terms (c.in_ok-item.ensures.unit (bounds c.args.limits))) way n h
