@@ -3,16 +3,16 @@
 //!
 //! `None` stands for all else, faults included: nothing has changed then, and the general way finds out.
 
-ghost use Rattle.std.specs.Prelude.{◌≡◌, ◌≢◌, ◌<◌, true, ℕ, List, [], ℤ, pos, ◌+ℤ◌, Option, Some, Ok, IfSome, IfNone};
+ghost use Rattle.std.specs.Prelude.{◌≡◌, ◌≢◌, ◌<◌, true, ℕ, List, [], ℤ, pos, Option, Some, Ok, IfSome, IfNone};
 ghost use Rattle.fast_wire.specs.device.Fronts.{IsFirstInt};
 ghost use Rattle.fast_wire.specs.meaning.Integers.{unsigned_up_to, signed_between, delta_range};
 ghost use Rattle.fast_wire.specs.device.Words.{IsShortEntity};
 ghost use Rattle.fast_wire.specs.declared.fronts.First.TheVariants.{Whole};
-ghost use Rattle.fast_value.specs.meaning.Kinds.{U, I, family, integers, integer_of, value_of_integer};
+ghost use Rattle.fast_value.specs.meaning.Kinds.{U, I, family, integers, value_of_integer};
 ghost use Rattle.fast_value.specs.meaning.Limits.{Bounds};
 ghost use Rattle.fast_tree.specs.device.Nodes.{field_data};
 ghost use Rattle.fast_dict.specs.meaning.Dictionary.{assigned, write_at};
-ghost use Rattle.fast_dict.specs.meaning.Operators.{decide, integer_step, range_of, ranged};
+ghost use Rattle.fast_dict.specs.meaning.Operators.{decide, integer_step, range_of};
 ghost use Rattle.fast_dict.specs.meaning.Slots.{slots_dictionary, slots_terms};
 ghost use Rattle.fast_stream.specs.meaning.Fields.{sent_integer};
 ghost use Rattle.fast_units.specs.device.Deciding.{number_data, sent_number, source_of};
@@ -20,6 +20,7 @@ ghost use Rattle.fast_units.specs.device.Words.{ServesField, HasEntryOf, previou
 
 use crate::fields::{Number, assign_empty, number_under};
 use crate::progress::Progress;
+use fast_dict::operators::integers::{integer_of, range_of, sum_in};
 use fast_dict::{Entry, Slots};
 use fast_tree::{FieldInstruction, Operator};
 use fast_value::{Code, Kind};
@@ -218,40 +219,6 @@ pub fn quick_change(
     Some(Some(delta))
 }
 
-/// An integer behind its delta: where it is one of the kind, and so is the sum.
-#[inline(always)]
-fn sum_of(kind: Kind, number: Number, delta: i64) -> Option<Number>
-    ensures { IfSome result (λ n. (x : ℤ)
-        × (ranged (range_of kind) Code.D2 (integer_of (number_data number) +ℤ delta) ≡ Ok x)
-        × (number_data n ≡ value_of_integer kind x)) }
-{
-    match (kind, number) {
-        (Kind::UInt32, Number::Unsigned(base)) => {
-            let sum = base.checked_add_signed(delta)?;
-            if sum > 4_294_967_295 {
-                return None;
-            }
-            Some(Number::Unsigned(sum))
-        }
-        (Kind::UInt64, Number::Unsigned(base)) => {
-            let sum = base.checked_add_signed(delta)?;
-            Some(Number::Unsigned(sum))
-        }
-        (Kind::Int32, Number::Signed(base)) => {
-            let sum = base.checked_add(delta)?;
-            if sum < -2_147_483_648 || sum > 2_147_483_647 {
-                return None;
-            }
-            Some(Number::Signed(sum))
-        }
-        (Kind::Int64, Number::Signed(base)) => {
-            let sum = base.checked_add(delta)?;
-            Some(Number::Signed(sum))
-        }
-        _ => None,
-    }
-}
-
 /// An integer behind its delta, which the entry then holds: where the entry holds one of the field's own kind, and the sum is one.
 #[inline(always)]
 fn changed(slots: &mut Slots, field: &FieldInstruction, kind: Kind, delta: i64) -> Option<Number>
@@ -264,9 +231,16 @@ fn changed(slots: &mut Slots, field: &FieldInstruction, kind: Kind, delta: i64) 
 {
     let entry = field.entry?;
     let number = number_under(kind, slots.held(entry as usize))?;
-    let sum = sum_of(kind, number, delta)?;
-    keep_integer(slots, field, kind, sum);
-    Some(sum)
+    let base = integer_of(number.as_scalar());
+    let (low, high) = range_of(kind);
+    match sum_in(low, high, Code::D2, base, i128::from(delta)) {
+        Ok(sum) => {
+            let number = Number::of_integer(kind, sum);
+            keep_integer(slots, field, kind, number);
+            Some(number)
+        }
+        Err(_) => None,
+    }
 }
 
 /// An integer under delta, or NULL.
