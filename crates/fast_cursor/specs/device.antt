@@ -2,5 +2,6 @@
 pub mod Cursors
 pub mod MapPlaces
 pub mod Segments
+pub mod Places
 pub mod MapTaking
 pub mod Pending

@@ -5,10 +5,12 @@ ghost use Rattle.fast_wire.specs.meaning.Entities.{HaveNoStop};
 ghost use Rattle.fast_wire.specs.meaning.Maps.{map_limit, first_bit, later_bits};
 ghost use Rattle.fast_cursor.specs.device.Cursors.{CursorData, FrameData, bits_left, at_rest, entered, left_to};
 ghost use Rattle.fast_cursor.specs.device.Segments.{elements_data, first_node};
+ghost use Rattle.fast_cursor.specs.device.Places.{at_place, IsPlaceOf};
 ghost use Rattle.fast_cursor.specs.device.MapTaking.{IsMapTaken};
 
 use crate::map_place::{MapPlace, NO_MAP};
 use crate::pending::{MapFront, next_map};
+use crate::place::Place;
 use fast_wire::MAP_LIMIT;
 use std::alloc::{AllocError, Global};
 use std::marker::Model;
@@ -102,6 +104,28 @@ impl<'t> Cursor<'t> {
         ensures { self.new ≡ record self.old { left = body.entry.now } }
     {
         self.left = body;
+    }
+
+    /// Where it is in the innermost segment.
+    #[inline(always)]
+    pub fn place(&self) -> Place<'t>
+        ensures same { at_place self.now result ≡ self.now }
+        ensures place { IsPlaceOf self.now result }
+    {
+        Place {
+            left: self.left,
+            map: self.map,
+        }
+    }
+
+    /// Goes to a place in the innermost segment.
+    #[inline(always)]
+    pub fn set_place(&mut self, place: Place<'t>)
+        requires { IsPlaceOf self.old place }
+        ensures { self.new ≡ at_place self.old place.entry }
+    {
+        self.left = place.left;
+        self.map = place.map;
     }
 
     /// Takes the bytes of the innermost segment's map that a piece goes on with.

@@ -4,3 +4,4 @@
 pub mod cursor;
 pub mod map_place;
 pub mod pending;
+pub mod place;

@@ -1,0 +1,79 @@
+//! Where a cursor is in the innermost segment, apart from the cursor.
+
+ghost use Rattle.std.specs.Prelude.{◌≡◌, ◌<◌, ◌≤◌, length, drop, true, false};
+ghost use Rattle.fast_wire.specs.meaning.Maps.{first_bit, later_bits};
+ghost use Rattle.fast_cursor.specs.device.Cursors.{CursorData, bits_left};
+ghost use Rattle.fast_cursor.specs.device.Segments.{first_node};
+ghost use Rattle.fast_cursor.specs.device.Places.{at_place, IsPlaceOf};
+
+use crate::map_place::MapPlace;
+
+/// Where a cursor is in the innermost segment. It stands apart from the cursor, so that a loop can keep it in registers.
+#[derive(Clone, Copy)]
+pub struct Place<'t> {
+    /// The nodes left.
+    pub left: &'t [u32],
+    /// The place in the segment's map.
+    pub map: MapPlace,
+}
+
+impl<'t> Place<'t> {
+    /// The next instruction's node, if one is left.
+    #[inline(always)]
+    pub fn next(&self) -> Option<u32>
+        ensures { (c : CursorData) → result ≡ first_node (at_place c self.now).left }
+    {
+        self.left.first().copied()
+    }
+
+    /// The next instruction is whole.
+    #[inline(always)]
+    pub fn advance(&mut self)
+        requires { 0 < length self.old.left.now }
+        ensures left { (c : CursorData)
+            → at_place c self.new ≡ record (at_place c self.old) { left = drop 1 (at_place c self.old).left } }
+        ensures place { (c : CursorData) → IsPlaceOf c self.old → IsPlaceOf c self.new }
+    {
+        self.left = &self.left[1..];
+    }
+
+    /// These instructions are to come.
+    #[inline(always)]
+    pub fn begin(&mut self, body: &'t [u32])
+        ensures left { (c : CursorData) → at_place c self.new ≡ record (at_place c self.old) { left = body.entry.now } }
+        ensures place { (c : CursorData) → IsPlaceOf c self.old → IsPlaceOf c self.new }
+    {
+        self.left = body;
+    }
+
+    /// The next bit. Behind the last one stand zeros for ever.
+    #[inline(always)]
+    pub fn bit(&self) -> bool
+        ensures { (c : CursorData) → IsPlaceOf c self.now → result ≡ first_bit (bits_left (at_place c self.now)) }
+    {
+        self.map.word >= 0x8000_0000_0000_0000
+    }
+
+    /// Whether the next bit is the last one in the word: then the cursor has to use it, for other bytes of the map may be behind.
+    #[inline(always)]
+    pub fn is_spent(&self) -> bool
+        ensures spent { result ≡ true → self.now.map.left ≤ 1 }
+        ensures more { result ≡ false → 1 < self.now.map.left }
+    {
+        self.map.left < 2
+    }
+
+    /// Uses the next bit, where it is not the last one in the word.
+    #[inline(always)]
+    pub fn use_bit(&mut self)
+        requires more { 1 < self.old.map.left }
+        ensures bits { (c : CursorData) → IsPlaceOf c self.old
+            → bits_left (at_place c self.new) ≡ later_bits (bits_left (at_place c self.old)) }
+        ensures same { (c : CursorData)
+            → at_place c self.new ≡ record (at_place c self.old) { used = (at_place c self.new).used } }
+        ensures place { (c : CursorData) → IsPlaceOf c self.old → IsPlaceOf c self.new }
+    {
+        self.map.word <<= 1;
+        self.map.left -= 1;
+    }
+}
