@@ -6,4 +6,5 @@ pub mod Packing
 pub mod Signs
 pub mod SignExtension
 pub mod Writing
+pub mod Whole
 pub mod Spellings

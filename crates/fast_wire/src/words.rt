@@ -3,7 +3,7 @@
 ghost use Rattle.std.specs.Prelude.{◌≡◌, ℕ, ◌<◌, ◌≤◌, true, All, List, IfSome, pos, option_map, length, take};
 ghost use Rattle.fast_wire.specs.meaning.Entities.{IsEntity, number, signed};
 ghost use Rattle.fast_wire.specs.meaning.Integers.{Means};
-ghost use Rattle.fast_wire.specs.device.Words.{word_of, IsShortEntity};
+ghost use Rattle.fast_wire.specs.device.Words.{word_of, IsShortEntity, IsWordInFront};
 
 /// The stop bits of eight bytes.
 const STOP_BITS: u64 = 0x8080_8080_8080_8080;
@@ -29,10 +29,7 @@ pub fn short_entity(bytes: &[u8]) -> Option<ShortEntity>
         return Some(ShortEntity { number, len: 1 });
     }
     if let Some((number, len)) = four_bytes(bytes) {
-        return Some(ShortEntity {
-            number: u64::from(number),
-            len,
-        });
+        return Some(ShortEntity { number, len });
     }
     let (number, len) = eight_bytes(bytes)?;
     Some(ShortEntity { number, len })
@@ -53,8 +50,9 @@ pub(crate) fn one_byte(bytes: &[u8]) -> Option<u64>
 /// The number and the length of the first entity, if four bytes are there and it ends among them. Most do: so their number is made of
 /// 32 bits, which leaves no question of its range.
 #[inline(always)]
-fn four_bytes(bytes: &[u8]) -> Option<(u32, usize)>
-    ensures { IfSome result (λ e. IsShortEntity e.0 e.1 bytes.now) }
+pub(crate) fn four_bytes(bytes: &[u8]) -> Option<(u64, usize)>
+    ensures entity { IfSome result (λ e. IsShortEntity e.0 e.1 bytes.now) }
+    ensures few { IfSome result (λ e. e.1 ≤ 4) }
 {
     let chunk = *bytes.first_chunk::<4>()?;
     let stops = u32::from_le_bytes(chunk) & SHORT_STOP_BITS;
@@ -63,13 +61,31 @@ fn four_bytes(bytes: &[u8]) -> Option<(u32, usize)>
     }
     let bits = stops.trailing_zeros() + 1;
     let word = u32::from_be_bytes(chunk) >> (32 - bits);
-    Some((packed_short(word), bits as usize / 8))
+    Some((u64::from(packed_short(word)), bits as usize / 8))
 }
 
 /// The number and the length of the first entity, if eight bytes are there and it ends among them.
 #[inline(always)]
 pub(crate) fn eight_bytes(bytes: &[u8]) -> Option<(u64, usize)>
     ensures { IfSome result (λ e. IsShortEntity e.0 e.1 bytes.now) }
+{
+    let (word, len) = word_in_front(bytes)?;
+    Some((packed(word), len))
+}
+
+/// The same where more than four bytes are expected.
+#[inline(always)]
+pub(crate) fn long_eight_bytes(bytes: &[u8]) -> Option<(u64, usize)>
+    ensures { IfSome result (λ e. IsShortEntity e.0 e.1 bytes.now) }
+{
+    let (word, len) = word_in_front(bytes)?;
+    Some((packed_whole(word), len))
+}
+
+/// The first entity as the lower bytes of a word, and its length, if eight bytes are there and it ends among them.
+#[inline(always)]
+fn word_in_front(bytes: &[u8]) -> Option<(u64, usize)>
+    ensures { IfSome result (λ e. IsWordInFront e.0 e.1 bytes.now) }
 {
     let chunk = *bytes.first_chunk::<8>()?;
     let stops = u64::from_le_bytes(chunk) & STOP_BITS;
@@ -78,7 +94,7 @@ pub(crate) fn eight_bytes(bytes: &[u8]) -> Option<(u64, usize)>
     }
     let bits = stops.trailing_zeros() + 1;
     let word = u64::from_be_bytes(chunk) >> (64 - bits);
-    Some((packed(word), bits as usize / 8))
+    Some((word, bits as usize / 8))
 }
 
 /// The lower seven bits of each of eight bytes, side by side. Most entities have four bytes at most.

@@ -1,11 +1,15 @@
 -- Which entities are overlong.
-use Rattle.std.proofs.Common.{◌≡◌, ℕ, zero, suc, ◌+◌, ◌*◌, ◌%◌, ◌^◌, ◌<◌, ◌≤◌, List, [], ◌∷◌, refl, ap, sym, ◌∙◌, length, length-append, get_or, arith, lit<, eqb, leb}
-use Rattle.std.specs.Prelude.{ℤ, pos, ◌-ℤ◌, ◌↔◌, Bool, true, false, if◌then◌else◌}
+use Rattle.std.proofs.Common.{◌≡◌, ℕ, zero, suc, ◌+◌, ◌*◌, ◌%◌, ◌^◌, ◌<◌, ◌≤◌, List, [], ◌∷◌, refl, ap, sym, ◌∙◌, ◌⊎◌, inl, inr, length, length-append, take, get_or, arith, lit<, eqb, leb}
+use Rattle.std.specs.Prelude.{ℤ, pos, ◌-ℤ◌, ◌↔◌, Bool, true, false, if◌then◌else◌, bit_and}
 use Rattle.std.proofs.Math.Nat.{one-le-pow, mul-le-mul_right, pow-suc, le_of_mul-le-mul_right}
 use Rattle.std.proofs.lemmas.Int.{ints}
-use Rattle.std.proofs.lemmas.Bool.Decides.{Decides-eqb}
+use Rattle.std.proofs.Math.Bool.{not}
+use Rattle.std.proofs.lemmas.Bool.{cases_Bool}
+use Rattle.std.proofs.lemmas.Bool.Decides.{Decides-eqb, not_from_Decides}
+use Rattle.std.proofs.lemmas.List.{length-take, get_or-take}
 use Rattle.fast_wire.specs.meaning.Entities.{IsEntity, number, has_sign, signed, IsOverlong}
-use Rattle.fast_wire.proofs.numbers.Signs.{signed_clear, signed_set}
+use Rattle.fast_wire.specs.device.Fronts.{NoneIsOverlong}
+use Rattle.fast_wire.proofs.numbers.Signs.{sign_clear, sign_set, signed_clear, signed_set}
 
 no_factor : (a p : ℕ) → 1 ≤ p → a * p ≡ 0 → a ≡ 0
 no_factor zero p h e = refl
@@ -123,3 +127,39 @@ overlong_by_sign w s entity l e = (
   λ t. sign_is_overlong w l ((Decides-eqb (get_or w 0 0) s).0 t ∙ e),
   λ o. (Decides-eqb (get_or w 0 0) s).1 (overlong_is_sign w entity o ∙ sym e),
 )
+
+-- No entity in front of the bytes is overlong where their own front says so.
+take_is_short : (n : ℕ) (bytes : List ℕ) → length (take n bytes) ≤ n
+take_is_short n bytes = omega (arith, length-take n bytes)
+
+pub none_by_first : (bytes : List ℕ) → eqb (get_or bytes 0 0) 0 ≡ false → NoneIsOverlong (λ v. pos (number v)) bytes
+none_by_first bytes some n entity o =
+    let long : 1 < length (take n bytes) = overlong_is_long (λ v. pos (number v)) (take n bytes) o in
+    let first : get_or (take n bytes) 0 0 ≡ get_or bytes 0 0 = get_or-take n bytes 0 0 (omega (arith, take_is_short n bytes)) in
+    not_from_Decides (eqb (get_or bytes 0 0) 0) (Decides-eqb (get_or bytes 0 0) 0) some (sym first ∙ overlong_is_zero (take n bytes) entity o)
+
+pub none_by_sign : (bytes : List ℕ) → (get_or bytes 0 0 ≡ (if has_sign (get_or bytes 1 0 ∷ []) then 127 else 0) → ⊥) → NoneIsOverlong signed bytes
+none_by_sign bytes other n entity o =
+    let long : 1 < length (take n bytes) = overlong_is_long signed (take n bytes) o in
+    let first : get_or (take n bytes) 0 0 ≡ get_or bytes 0 0 = get_or-take n bytes 0 0 (omega (arith, take_is_short n bytes)) in
+    let second : get_or (take n bytes) 1 0 ≡ get_or bytes 1 0 = get_or-take n bytes 1 0 (omega (arith, take_is_short n bytes)) in
+    other (sym first ∙ overlong_is_sign (take n bytes) entity o ∙ ap (λ (b : ℕ). if has_sign (b ∷ []) then 127 else 0) second)
+
+-- seven bits without the sign of the byte behind, and with it
+pub clear_repeats : (first second : ℕ) → first ≡ 0 → (eqb (bit_and second 64) 0 ≡ true) ↔ (first ≡ (if has_sign (second ∷ []) then 127 else 0))
+clear_repeats first second is = by (cases_Bool (eqb (bit_and second 64) 0))
+  where
+    by : (eqb (bit_and second 64) 0 ≡ true) ⊎ (eqb (bit_and second 64) 0 ≡ false) → (eqb (bit_and second 64) 0 ≡ true) ↔ (first ≡ sevens_of (has_sign (second ∷ [])))
+    by (inl t) = (λ u. is ∙ sym (ap sevens_of (sign_clear (second ∷ []) ((Decides-eqb (bit_and second 64) 0).0 t))), λ e. t)
+    by (inr f) =
+        let s : sevens_of (has_sign (second ∷ [])) ≡ 127 = ap sevens_of (sign_set (second ∷ []) (not_from_Decides (eqb (bit_and second 64) 0) (Decides-eqb (bit_and second 64) 0) f)) in
+        (λ t. absurd (cc (sym f ∙ t)), λ e. absurd (omega (arith, is, e, s)))
+
+pub set_repeats : (first second : ℕ) → first ≡ 127 → (not (eqb (bit_and second 64) 0) ≡ true) ↔ (first ≡ (if has_sign (second ∷ []) then 127 else 0))
+set_repeats first second is = by (cases_Bool (eqb (bit_and second 64) 0))
+  where
+    by : (eqb (bit_and second 64) 0 ≡ true) ⊎ (eqb (bit_and second 64) 0 ≡ false) → (not (eqb (bit_and second 64) 0) ≡ true) ↔ (first ≡ sevens_of (has_sign (second ∷ [])))
+    by (inl t) =
+        let s : sevens_of (has_sign (second ∷ [])) ≡ 0 = ap sevens_of (sign_clear (second ∷ []) ((Decides-eqb (bit_and second 64) 0).0 t)) in
+        (λ u. absurd (cc (sym (ap not t) ∙ u)), λ e. absurd (omega (arith, is, e, s)))
+    by (inr f) = (λ u. is ∙ sym (ap sevens_of (sign_set (second ∷ []) (not_from_Decides (eqb (bit_and second 64) 0) (Decides-eqb (bit_and second 64) 0) f))), λ e. ap not f)

@@ -22,3 +22,7 @@ IsFirstInt meant strict range nullable Cut bytes = HaveNoStop bytes × (length b
 abbrev pub first_of : {T : Type 0} → Result T WireFault → ℕ → First T
 first_of (Ok x) len = Whole x len
 first_of (Err fault) len = Wrong fault len
+
+-- no entity that the bytes begin with is overlong
+abbrev pub NoneIsOverlong : (List ℕ → ℤ) → List ℕ → Type 0
+NoneIsOverlong value bytes = (n : ℕ) → IsEntity (take n bytes) → ¬ (IsOverlong value (take n bytes))

@@ -1,5 +1,5 @@
 -- Entities as words of eight bytes.
-use Rattle.std.specs.Prelude.{◌≡◌, ℕ, ◌+◌, ◌*◌, ◌^◌, ◌≤◌, List, [], ◌∷◌, length, take}
+use Rattle.std.specs.Prelude.{◌≡◌, ℕ, ◌+◌, ◌*◌, ◌^◌, ◌<◌, ◌≤◌, List, [], ◌∷◌, length, take, All}
 use Rattle.fast_wire.specs.meaning.Entities.{IsEntity, number}
 
 -- the bytes as the digits of one number to the base 256
@@ -13,3 +13,7 @@ pub record IsShortEntity (sum len : ℕ) (w : List ℕ) : Type 0 where
   pub short : len ≤ 8
   pub entity : IsEntity (take len w)
   pub value : sum ≡ number (take len w)
+
+-- The bytes begin with an entity of this length, whose number is that of eight bytes that make up the word.
+abbrev pub IsWordInFront : ℕ → ℕ → List ℕ → Type 0
+IsWordInFront word len bytes = (n : ℕ) → ((w : List ℕ) → length w ≡ 8 → All (λ byte. byte < 256) w → word ≡ word_of w → n ≡ number w) → IsShortEntity n len bytes

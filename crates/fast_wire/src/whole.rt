@@ -1,0 +1,183 @@
+//! Integers that stand whole in the bytes, taken at one go. That is all but every integer of a stream.
+//!
+//! The functions answer `None` where they don't take the integer, which [`first_unsigned`](crate::first_unsigned) and
+//! its kin then tell. At most calls all arguments but the bytes are constants, by which the answers fold, and nothing
+//! here calls out of line.
+
+ghost use Rattle.std.specs.Prelude.{◌≡◌, ◌≤◌, ◌≤ℤ◌, ◌↔◌, ◌∷◌, [], ℕ, List, length, true, false, IsTrue, if◌then◌else◌, pos, neg_ℤ, option_map, IfSome};
+ghost use Rattle.fast_wire.specs.meaning.Entities.{number, has_sign, signed};
+ghost use Rattle.fast_wire.specs.meaning.Integers.{Means, IsWithin, unsigned_up_to, signed_between, delta_range};
+ghost use Rattle.fast_wire.specs.device.Fronts.{IsFirstInt, NoneIsOverlong};
+ghost use Rattle.fast_wire.specs.declared.fronts.First.TheVariants.{Whole};
+
+use crate::words::{four_bytes, long_eight_bytes, lowered, one_byte};
+
+/// The first entity as an integer from 0 to `top`, or NULL where it may be, and its length: one byte, or up to eight
+/// where eight bytes are there. One of up to four bytes is within any `top`.
+#[inline(always)]
+pub fn whole_unsigned(
+    bytes: &[u8],
+    nullable: bool,
+    strict: bool,
+    top: u64,
+) -> Option<(Option<u64>, usize)>
+    requires top { 268435455 ≤ top }
+    ensures { IfSome result (λ r. IsFirstInt (λ y. option_map pos y) strict (unsigned_up_to top) nullable
+        (Whole r.0 r.1) bytes.now) }
+{
+    if bytes.len() < 8 {
+        let sum = one_byte(bytes)?;
+        return Some((meant(sum, nullable), 1));
+    }
+    if let Some(sum) = one_byte(bytes) {
+        return Some((meant(sum, nullable), 1));
+    }
+    if is_refused_front(bytes, strict) {
+        return None;
+    }
+    if let Some((sum, len)) = four_bytes(bytes) {
+        return Some((meant(sum, nullable), len));
+    }
+    let (sum, len) = long_eight_bytes(bytes)?;
+    let number = meant(sum, nullable);
+    if !is_up_to(number, top) {
+        return None;
+    }
+    Some((number, len))
+}
+
+/// The first entity as an integer in two's complement, from `low` to `top`, or NULL where it may be, and its length: one
+/// byte, or up to eight where eight bytes are there. One of up to four bytes is within any such range.
+#[inline(always)]
+pub fn whole_signed(
+    bytes: &[u8],
+    nullable: bool,
+    strict: bool,
+    low: i64,
+    top: i64,
+) -> Option<(Option<i64>, usize)>
+    requires low { low ≤ℤ neg_ℤ (pos 134217728) }
+    requires top { pos 134217727 ≤ℤ top }
+    ensures { IfSome result (λ r. IsFirstInt (λ y. y) strict (signed_between low top) nullable
+        (Whole r.0 r.1) bytes.now) }
+{
+    if bytes.len() < 8 {
+        let sum = one_byte(bytes)?;
+        return Some((meant_signed(sum, 1, nullable), 1));
+    }
+    if let Some(sum) = one_byte(bytes) {
+        return Some((meant_signed(sum, 1, nullable), 1));
+    }
+    if is_refused_signed_front(bytes, strict) {
+        return None;
+    }
+    if let Some((sum, len)) = four_bytes(bytes) {
+        return Some((meant_signed(sum, len, nullable), len));
+    }
+    let (sum, len) = long_eight_bytes(bytes)?;
+    let number = meant_signed(sum, len, nullable);
+    if !is_between(number, low, top) {
+        return None;
+    }
+    Some((number, len))
+}
+
+/// The first entity as a delta, or NULL where it may be, and its length: one byte, or up to eight where eight bytes are
+/// there. All of these are within its range.
+#[inline(always)]
+pub fn whole_delta(bytes: &[u8], nullable: bool, strict: bool) -> Option<(Option<i64>, usize)>
+    ensures { IfSome result (λ r. IsFirstInt (λ y. y) strict delta_range nullable (Whole r.0 r.1) bytes.now) }
+{
+    whole_signed(bytes, nullable, strict, i64::MIN, i64::MAX)
+}
+
+/// What is sent as `n`: `None` is NULL, where that may be.
+#[inline(always)]
+fn meant(n: u64, nullable: bool) -> Option<u64>
+    ensures { Means nullable (pos n) (option_map pos result) }
+{
+    if !nullable {
+        return Some(n);
+    }
+    if n == 0 {
+        return None;
+    }
+    Some(n - 1)
+}
+
+/// The same of an entity of so many bytes in two's complement.
+#[inline(always)]
+fn meant_signed(sum: u64, len: usize, nullable: bool) -> Option<i64>
+    requires some { 1 ≤ len }
+    requires short { len ≤ 8 }
+    ensures { (w : List ℕ) → length w ≡ len → sum ≡ number w → Means nullable (signed w) result }
+{
+    let n = extended(sum, len);
+    if !nullable {
+        return Some(n);
+    }
+    lowered(n)
+}
+
+/// The number of that entity.
+#[inline(always)]
+fn extended(sum: u64, len: usize) -> i64
+    requires some { 1 ≤ len }
+    requires short { len ≤ 8 }
+    ensures { (w : List ℕ) → length w ≡ len → sum ≡ number w → result ≡ signed w }
+{
+    let spare = 64 - 7 * len;
+    (sum << spare).cast_signed() >> spare
+}
+
+/// Whether an entity in front, of two bytes and more, has a byte too many, in strict mode: a zero in front.
+#[inline(always)]
+fn is_refused_front(bytes: &[u8], strict: bool) -> bool
+    requires { 2 ≤ length bytes.now }
+    ensures { result ≡ false → IsTrue strict → NoneIsOverlong (λ v. pos (number v)) bytes.now }
+{
+    strict && bytes[0] == 0
+}
+
+/// The same of a signed integer: seven bits in front that repeat the sign behind them.
+#[inline(always)]
+fn is_refused_signed_front(bytes: &[u8], strict: bool) -> bool
+    requires { 2 ≤ length bytes.now }
+    ensures { result ≡ false → IsTrue strict → NoneIsOverlong signed bytes.now }
+{
+    strict && repeats_sign(bytes[0], bytes[1])
+}
+
+/// Whether the seven bits of a byte are all like the sign of the byte behind it.
+#[inline(always)]
+fn repeats_sign(first: u8, second: u8) -> bool
+    ensures { IsTrue result ↔ (first ≡ (if has_sign (second ∷ []) then 127 else 0)) }
+{
+    match first {
+        0x00 => second & 0x40 == 0,
+        0x7f => second & 0x40 != 0,
+        _ => false,
+    }
+}
+
+/// Whether an integer is at most `top`. NULL has no range.
+#[inline(always)]
+fn is_up_to(number: Option<u64>, top: u64) -> bool
+    ensures { IsTrue result → IfSome number (λ n. n ≤ top) }
+{
+    match number {
+        Some(n) => n <= top,
+        None => true,
+    }
+}
+
+/// Whether an integer lies in a range. NULL has none.
+#[inline(always)]
+fn is_between(number: Option<i64>, low: i64, top: i64) -> bool
+    ensures { IsTrue result → IfSome number (IsWithin (signed_between low top)) }
+{
+    match number {
+        Some(n) => low <= n && n <= top,
+        None => true,
+    }
+}
