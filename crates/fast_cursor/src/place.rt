@@ -1,6 +1,6 @@
 //! Where a cursor is in the innermost segment, apart from the cursor.
 
-ghost use Rattle.std.specs.Prelude.{◌≡◌, ◌<◌, ◌≤◌, length, drop, true, false};
+ghost use Rattle.std.specs.Prelude.{◌≡◌, ◌<◌, ◌≤◌, length, drop, true, false, if◌then◌else◌};
 ghost use Rattle.fast_wire.specs.meaning.Maps.{first_bit, later_bits};
 ghost use Rattle.fast_cursor.specs.device.Cursors.{CursorData, bits_left};
 ghost use Rattle.fast_cursor.specs.device.Segments.{first_node};
@@ -71,9 +71,29 @@ impl<'t> Place<'t> {
             → bits_left (at_place c self.new) ≡ later_bits (bits_left (at_place c self.old)) }
         ensures same { (c : CursorData)
             → at_place c self.new ≡ record (at_place c self.old) { used = (at_place c self.new).used } }
+        ensures left { self.new.left.now ≡ self.old.left.now }
         ensures place { (c : CursorData) → IsPlaceOf c self.old → IsPlaceOf c self.new }
     {
         self.map.word <<= 1;
         self.map.left -= 1;
+    }
+
+    /// Goes past the next instruction, which uses a bit or none. The bit is not the last one in the word.
+    #[inline(always)]
+    pub fn pass(&mut self, has_bit: bool)
+        requires left { 0 < length self.old.left.now }
+        requires more { has_bit ≡ true → 1 < self.old.map.left }
+        ensures past { (c : CursorData) → at_place c self.new ≡ record (at_place c self.old) {
+            left = drop 1 (at_place c self.old).left; used = (at_place c self.new).used } }
+        ensures bits { (c : CursorData) → IsPlaceOf c self.old → bits_left (at_place c self.new)
+            ≡ if has_bit then later_bits (bits_left (at_place c self.old)) else bits_left (at_place c self.old) }
+        ensures place { (c : CursorData) → IsPlaceOf c self.old → IsPlaceOf c self.new }
+    {
+        if has_bit {
+            self.use_bit();
+            self.advance();
+            return;
+        }
+        self.advance();
     }
 }

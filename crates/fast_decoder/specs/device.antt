@@ -10,3 +10,4 @@ pub mod Serving
 pub mod AtHand
 pub mod Words
 pub mod Steps
+pub mod Arms

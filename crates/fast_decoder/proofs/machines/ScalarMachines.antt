@@ -89,7 +89,7 @@ abbrev pub behind_field : Set → Bounds → Machine → FieldData → ℕ → O
 behind_field set l m f n o = handed_then n (resume l (frames_in set m.cursor.frames) (body_in set (drop 1 m.cursor.left))) (found f (state_of m) o).0 (found f (state_of m) o).1
 
 module _ (set : Set) (l : Limits) (m : Machine) (f : FieldData) (n : ℕ) where
-  field_here : IsSent f (bit_of f (state_of m)) → IsAtField set m.cursor n f
+  pub field_here : IsSent f (bit_of f (state_of m)) → IsAtField set m.cursor n f
       → reader_of l.strict (going_on set (bounds l) (slots_dictionary m.slots) m.counted m.cursor) ≡ bind (reader_of l.strict (field_term (bounds l) f (previous_at f.entry (slots_dictionary m.slots)) true)) (λ o. reader_of l.strict (behind_field set (bounds l) m f n o))
   field_here sent (at, num, some, body) =
       let fs = frames_in set m.cursor.frames in

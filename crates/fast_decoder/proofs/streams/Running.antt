@@ -75,31 +75,31 @@ module _ {S : Type 0} (takes stops : S → EventData → S → Type 0) (set : Se
       fed_both (tree_in set) l takes stops (waiting_at p) (waiting_at q) (waiting_at to) v w from mid s' o
       (by_list (tree_in set) l takes stops p v from (Ok tt) mid q some quiet (on (Ok tt) mid q h)) fed
 
-  -- A unit, behind a turn at whose end the machine waits for it.
-  pub unit_runs : (m b : Machine) (s mid : S) (rest : List ℕ) (n : ℕ) (result : Result Turn FaultCode) (s' : S) (m' : Machine) → Hands takes stops (turning set l m) s (Ok tt) mid (meaning set l b)
-      → IsTakenTo takes stops set l (meaning set l b) rest mid n result s' m' → Runs takes stops set l m s (take n rest) result s' m'
-  unit_runs m b s mid rest n result s' m' h taken = by result taken.turn.moves
+  -- A unit, behind a turn at whose end this reader waits for it.
+  pub unit_runs : (m : Machine) (p : Reader Dictionary) (s mid : S) (rest : List ℕ) (n : ℕ) (result : Result Turn FaultCode) (s' : S) (m' : Machine) → Hands takes stops (turning set l m) s (Ok tt) mid p
+      → IsTakenTo takes stops set l p rest mid n result s' m' → Runs takes stops set l m s (take n rest) result s' m'
+  unit_runs m p s mid rest n result s' m' h taken = by result taken.turn.moves
     where
       size : 0 < length (take n rest)
       size = let len = length-take-le n rest taken.within in let some = taken.some in omega (arith, len, some)
 
       gone : Reader Dictionary
-      gone = after_bytes (due (tree_in set) l (meaning set l b)) (take n rest)
+      gone = after_bytes (due (tree_in set) l p) (take n rest)
 
       more : (turn : Turn) → (turn ≡ TurnWaits → ⊥) → Moves takes stops gone mid (Ok turn) s' (turning set l m') (meaning set l m')
           → (u : List ℕ) (o : Result Unit FaultCode) (t : S) (to : Reader Dictionary) → FedBehind takes stops (tree_in set) l (turning set l m') s' u o t to
           → FedBehind takes stops (tree_in set) l (turning set l m) s (take n rest ++ u) o t to
       more turn go moves u o t to fed =
-          waits_fed (turning set l m) (meaning set l b) s mid (take n rest ++ u) o t to h
-          (fed (meaning set l b) (take n rest) mid size taken.quiet (turn_onward gone (turning set l m') (meaning set l m') mid turn s' go moves))
+          waits_fed (turning set l m) p s mid (take n rest ++ u) o t to h
+          (fed p (take n rest) mid size taken.quiet (turn_onward gone (turning set l m') (meaning set l m') mid turn s' go moves))
 
       by : (result : Result Turn FaultCode) → Moves takes stops gone mid result s' (turning set l m') (meaning set l m') → Runs takes stops set l m s (take n rest) result s' m'
       by (Ok Silent) moves = more Silent (λ e. absurd (cc e)) moves
       by (Ok Handed) moves = more Handed (λ e. absurd (cc e)) moves
       by (Ok TurnWaits) moves =
-          waits_fed (turning set l m) (meaning set l b) s mid (take n rest) (Ok tt) s' (meaning set l m') h (by_list (tree_in set) l takes stops (meaning set l b) (take n rest) mid (Ok tt) s' (meaning set l m') size taken.quiet moves)
+          waits_fed (turning set l m) p s mid (take n rest) (Ok tt) s' (meaning set l m') h (by_list (tree_in set) l takes stops p (take n rest) mid (Ok tt) s' (meaning set l m') size taken.quiet moves)
       by (Err c) moves = λ to.
-          waits_fed (turning set l m) (meaning set l b) s mid (take n rest) (Err c) s' to h (by_list (tree_in set) l takes stops (meaning set l b) (take n rest) mid (Err c) s' to size taken.quiet (moves to))
+          waits_fed (turning set l m) p s mid (take n rest) (Err c) s' to h (by_list (tree_in set) l takes stops p (take n rest) mid (Err c) s' to size taken.quiet (moves to))
 
   -- Steps behind others.
   pub runs_both : (m b : Machine) (s mid : S) (v w : List ℕ) (result : Result Turn FaultCode) (s' : S) (m' : Machine) → Runs takes stops set l m s v (Ok Silent) mid b → Runs takes stops set l b mid w result s' m' → Runs takes stops set l m s (v ++ w) result s' m'
@@ -135,7 +135,7 @@ module _ {S : Type 0} (takes stops : S → EventData → S → Type 0) (set : Se
       → IsStep takes stops set l m rest s q s' m'
   unit_step m b rest s mid q s' m' h taken turns = record {
     within = taken.within;
-    runs = unit_runs m b s mid rest q.bytes q.turn s' m' h taken;
+    runs = unit_runs m (meaning set l b) s mid rest q.bytes q.turn s' m' h taken;
     supplied = taken.turn.supplied;
     goes_on = taken.turn.goes_on;
     silent = λ none e. absurd (let some = taken.some in omega (arith, some, none));

@@ -1,0 +1,3 @@
+-- What the arms of the machine's loop do.
+pub mod Passed
+pub mod Taken

@@ -1,0 +1,85 @@
+-- What an arm of the machine's loop does: the place in the innermost segment, and the rest of the piece, stand apart from the machine.
+use Rattle.std.specs.Prelude.{◌≡◌, ℕ, ◌<◌, ◌≤◌, Bool, true, List, length, take, drop, Option, Result, Ok, Err}
+use Rattle.fast_value.specs.declared.settings.Limits.{Limits}
+use Rattle.fast_value.specs.meaning.Limits.{bounds}
+use Rattle.fast_value.specs.meaning.Kinds.{ScalarData}
+use Rattle.fast_tree.specs.meaning.Tree.{FieldData}
+use Rattle.fast_dict.specs.meaning.Dictionary.{previous_at, write_at}
+use Rattle.fast_dict.specs.meaning.Operators.{Outcome, decide, nothing}
+use Rattle.fast_dict.specs.meaning.Slots.{slots_dictionary, slots_terms}
+use Rattle.fast_stream.specs.meaning.Events.{EventData}
+use Rattle.fast_stream.specs.meaning.Fields.{field_term}
+use Rattle.fast_stream.specs.meaning.Grammar.{of_result}
+use Rattle.fast_stream.specs.declared.faults.FaultCode.TheVariants.{SinkStopped}
+use Rattle.fast_stream.specs.device.Readers.{Done}
+use Rattle.fast_stream.specs.device.GrammarReaders.{reader_of}
+use Rattle.fast_units.specs.device.Taking.{Turns}
+use Rattle.fast_units.specs.device.UnitFronts.{IsSent}
+use Rattle.fast_cursor.specs.device.Places.{at_place, IsPlaceOf}
+use Rattle.fast_cursor.specs.declared.place.Place.{Place}
+use Rattle.fast_decoder.specs.declared.machine.Machine.{Machine}
+use Rattle.fast_decoder.specs.declared.machine.Turn.{Turn}
+use Rattle.fast_decoder.specs.declared.machine.Turn.TheVariants.{Silent, Handed, Waits}
+use Rattle.fast_decoder.specs.declared.machine.Waiting.TheVariants.{Field}
+use Rattle.fast_decoder.specs.declared.spot.Spot.{Spot}
+use Rattle.fast_decoder.specs.declared.spot.Went.{Went}
+use Rattle.fast_decoder.specs.declared.spot.Went.TheVariants as Went
+use Rattle.fast_decoder.specs.device.Positions.{Set, state_in, bit_of, IsAtField, CanTurn}
+use Rattle.fast_decoder.specs.device.Steps.{IsStep}
+
+-- the machine, at the place
+abbrev pub placed : Machine → Place → Machine
+placed m p = record m { cursor = at_place m.cursor p }
+
+-- The machine stands there between two units.
+pub record IsAtSpot (set : Set) (l : Limits) (m : Machine) (p : Place) : Type 0 where
+  pub waits : m.waiting ≡ Field
+  pub place : IsPlaceOf m.cursor p
+  pub can : CanTurn set l (placed m p)
+
+-- A step from there on, which takes so many bytes, and ends so.
+pub record WentBy {S : Type 0} (takes stops : S → EventData → S → Type 0) (set : Set) (l : Limits) (m : Machine) (from : Spot) (s : S) (n : ℕ) (turn : Turn) (s' : S) (m' : Machine) (to : Spot) : Type 0 where
+  pub rest : to.rest.now ≡ drop n from.rest.now
+  pub waits : m'.waiting ≡ Field
+  pub place : IsPlaceOf m'.cursor to.place
+  pub step : IsStep takes stops set l (placed m from.place) from.rest.now s (record { bytes = n; turn = Ok turn }) s' (placed m' to.place)
+
+-- What an arm did, by its answer.
+abbrev pub HasWent : {S : Type 0} → (S → EventData → S → Type 0) → (S → EventData → S → Type 0) → Set → Limits → Machine → Spot → S → Went → S → Machine → Spot → Type 0
+HasWent takes stops set l m from s Went.Took s' m' to = (n : ℕ) × (0 < n) × WentBy takes stops set l m from s n Handed s' m' to
+HasWent takes stops set l m from s Went.Handed s' m' to = WentBy takes stops set l m from s 0 Handed s' m' to
+HasWent takes stops set l m from s Went.Silent s' m' to = WentBy takes stops set l m from s 0 Silent s' m' to
+HasWent takes stops set l m from s Went.Declined s' m' to = (m' ≡ m) × (to ≡ from) × (s' ≡ s)
+HasWent takes stops set l m from s Went.Stopped s' m' to =
+    (n : ℕ) × (to.rest.now ≡ drop n from.rest.now) × IsPlaceOf m'.cursor to.place × IsStep takes stops set l (placed m from.place) from.rest.now s (record { bytes = n; turn = Err SinkStopped }) s' (placed m' to.place)
+HasWent takes stops set l m from s Went.Waits s' m' to =
+    (n : ℕ) × (to.rest.now ≡ drop n from.rest.now) × IsPlaceOf m'.cursor to.place × IsStep takes stops set l (placed m from.place) from.rest.now s (record { bytes = n; turn = Ok Waits }) s' (placed m' to.place)
+
+-- The field at the next node stood whole in so many bytes, and has this value, or none: the second machine has kept what the field
+-- keeps, and perhaps a text, and is the first otherwise.
+pub record IsFieldTaken (set : Set) (l : Limits) (m m' : Machine) (from : Spot) (node : ℕ) (f : FieldData) (value : Option ScalarData) (n : ℕ) : Type 0 where
+  pub spot : IsAtSpot set l m from.place
+  pub kept : m' ≡ record m { slots = m'.slots; text = m'.text }
+  pub terms : slots_terms m'.slots ≡ slots_terms m.slots
+  pub room : m'.text.capacity ≡ m.text.capacity
+  pub at : IsAtField set (at_place m.cursor from.place) node f
+  pub sent : IsSent f (bit_of f (state_in (slots_dictionary m.slots) m.counted (at_place m.cursor from.place)))
+  pub some : 0 < n
+  pub within : n ≤ length from.rest.now
+  pub outcome : Outcome
+  pub turns : Turns (reader_of l.strict (field_term (bounds l) f (previous_at f.entry (slots_dictionary m.slots)) true)) (take n from.rest.now) (Done outcome)
+  pub is_value : outcome.value ≡ value
+  pub next : slots_dictionary m'.slots ≡ write_at f.entry outcome.next (slots_dictionary m.slots)
+
+-- Nothing is sent of the field at the next node, and it has this value, or none.
+pub record IsFieldUnsent (set : Set) (l : Limits) (m m' : Machine) (p : Place) (node : ℕ) (f : FieldData) (bit : Bool) (value : Option ScalarData) : Type 0 where
+  pub spot : IsAtSpot set l m p
+  pub kept : m' ≡ record m { slots = m'.slots }
+  pub terms : slots_terms m'.slots ≡ slots_terms m.slots
+  pub at : IsAtField set (at_place m.cursor p) node f
+  pub is_bit : bit ≡ bit_of f (state_in (slots_dictionary m.slots) m.counted (at_place m.cursor p))
+  pub unsent : field_term (bounds l) f (previous_at f.entry (slots_dictionary m.slots)) bit ≡ of_result (decide f (previous_at f.entry (slots_dictionary m.slots)) bit nothing)
+  pub outcome : Outcome
+  pub decided : decide f (previous_at f.entry (slots_dictionary m.slots)) bit nothing ≡ Ok outcome
+  pub is_value : outcome.value ≡ value
+  pub next : slots_dictionary m'.slots ≡ write_at f.entry outcome.next (slots_dictionary m.slots)

@@ -1,0 +1,113 @@
+//! Where the machine's loop stands, apart from the machine, so that the compiler keeps it in registers.
+
+ghost use Rattle.std.specs.Prelude.{◌≡◌, ◌≢◌, ◌<◌, ◌≤◌, ℕ, Bool, true, length, OnOk, Ok, IfErr, option_map};
+ghost use Rattle.fast_value.specs.meaning.Limits.{Bounds};
+ghost use Rattle.fast_value.specs.meaning.Values.{scalar_data};
+ghost use Rattle.fast_tree.specs.meaning.Tree.{FieldData, uses_bit};
+ghost use Rattle.fast_dict.specs.meaning.Dictionary.{Dictionary};
+ghost use Rattle.fast_cursor.specs.device.Cursors.{CursorData};
+ghost use Rattle.fast_cursor.specs.device.Places.{at_place, IsPlaceOf};
+ghost use Rattle.fast_stream.specs.device.GrammarReaders.{reader_of};
+ghost use Rattle.fast_stream.specs.device.Readers.{Reader};
+ghost use Rattle.fast_stream.specs.declared.faults.FaultCode.{FaultCode};
+ghost use Rattle.fast_decoder.specs.device.Moving.{Moves};
+ghost use Rattle.fast_decoder.specs.device.Passing.{IsPast, value_then};
+ghost use Rattle.fast_decoder.specs.device.Positions.{Set, going_on};
+ghost use Rattle.fast_decoder.specs.declared.machine.Turn.{Turn};
+ghost use Rattle.fast_decoder.specs.declared.machine.Machine.{Machine};
+ghost use Rattle.fast_value.specs.declared.settings.Limits.{Limits};
+ghost use Rattle.fast_decoder.specs.device.Arms.{HasWent, IsFieldTaken};
+
+use crate::machine::Turn;
+use crate::turns::Turns;
+use crate::settling::hand;
+use fast_cursor::place::Place;
+use fast_stream::{Event, FaultCode, Sink};
+use fast_value::Scalar;
+
+/// The place in the message, and what is left of the piece.
+#[derive(Clone, Copy)]
+pub struct Spot<'t, 'p> {
+    /// The place in the innermost segment.
+    pub place: Place<'t>,
+    /// The bytes that are left of the piece.
+    pub rest: &'p [u8],
+}
+
+/// What an arm of the loop did with the next instruction, or with the end of the innermost segment.
+#[derive(Clone, Copy, Debug, PartialEq, Eq)]
+pub enum Went {
+    /// It took bytes.
+    Took,
+    /// It took no byte, and handed something over.
+    Handed,
+    /// It took no byte, and handed nothing over: the instruction is absent.
+    Silent,
+    /// It did nothing: this is for the general way.
+    Declined,
+    /// The sink stopped.
+    Stopped,
+    /// The machine waits for a byte.
+    Waits,
+}
+
+/// Goes past the next instruction, a field whose value is at hand, or absent, and hands the value over.
+#[inline(always)]
+pub fn pass_value<S: Sink>(
+    place: &mut Place<'_>,
+    node: u32,
+    has_bit: bool,
+    value: Option<Scalar<'_>>,
+    sink: &mut S,
+) -> Result<Turn, FaultCode>
+    requires left { 0 < length place.old.left.now }
+    requires bit { has_bit ≡ true → 1 < place.old.map.left }
+    ensures moves { (set : Set) (l : Bounds) (strict : Bool) (waits : Reader Dictionary) (d : Dictionary) (counted : ℕ)
+        (c : CursorData) (f : FieldData) → IsPlaceOf c place.old → has_bit ≡ uses_bit f → Moves S.takes S.stops
+        (reader_of strict (value_then set l node (option_map scalar_data value.entry) f d counted
+        (at_place c place.old)))
+        sink.old result sink.new (reader_of strict (going_on set l d counted (at_place c place.new))) waits }
+    ensures past { (c : CursorData) → OnOk result (IsPast (at_place c place.old) (at_place c place.new)) }
+    ensures place { (c : CursorData) → IsPlaceOf c place.old → IsPlaceOf c place.new }
+    ensures on { result ≢ Ok Turn.Waits }
+    ensures stopped { IfErr result (λ code. code ≡ FaultCode.SinkStopped) }
+{
+    match value {
+        Some(value) => {
+            hand(sink, Event::Field { node, value })?;
+            place.pass(has_bit);
+            Ok(Turn::Handed)
+        }
+        None => {
+            place.pass(has_bit);
+            Ok(Turn::Silent)
+        }
+    }
+}
+
+/// Behind a field that stood whole in the piece: its value, if it has one, is handed over, and the spot is behind it.
+#[inline(always)]
+pub fn hand_taken<S: Sink>(
+    turns: &mut Turns,
+    spot: &mut Spot<'_, '_>,
+    node: u32,
+    has_bit: bool,
+    value: Option<Scalar<'_>>,
+    bytes: usize,
+    sink: &mut S,
+) -> Went
+    requires left { 0 < length spot.old.place.left.now }
+    requires bit { has_bit ≡ true → 1 < spot.old.place.map.left }
+    requires within { bytes ≤ length spot.old.rest.now }
+    ensures went { (set : Set) (l : Limits) (m m1 : Machine) (f : FieldData) → has_bit ≡ uses_bit f
+        → turns.old ≡ m.turns → IsFieldTaken set l m m1 spot.old node f (option_map scalar_data value.entry) bytes
+        → HasWent S.takes S.stops set l m spot.old sink.old result sink.new (record m1 { turns = turns.new })
+        spot.new }
+{
+    *turns = Turns::after(turns);
+    spot.rest = &spot.rest[bytes..];
+    match pass_value(&mut spot.place, node, has_bit, value, sink) {
+        Ok(_) => Went::Took,
+        Err(_) => Went::Stopped,
+    }
+}
