@@ -1,3 +1,4 @@
 -- What the arms of the machine's loop do.
 pub mod Passed
 pub mod Taken
+pub mod Unsent

@@ -16,7 +16,7 @@ ghost use Rattle.fast_decoder.specs.device.Positions.{Set, going_on};
 ghost use Rattle.fast_decoder.specs.declared.machine.Turn.{Turn};
 ghost use Rattle.fast_decoder.specs.declared.machine.Machine.{Machine};
 ghost use Rattle.fast_value.specs.declared.settings.Limits.{Limits};
-ghost use Rattle.fast_decoder.specs.device.Arms.{HasWent, IsFieldTaken};
+ghost use Rattle.fast_decoder.specs.device.Arms.{HasWent, IsFieldTaken, IsFieldUnsent};
 
 use crate::machine::Turn;
 use crate::turns::Turns;
@@ -108,6 +108,34 @@ pub fn hand_taken<S: Sink>(
     spot.rest = &spot.rest[bytes..];
     match pass_value(&mut spot.place, node, has_bit, value, sink) {
         Ok(_) => Went::Took,
+        Err(_) => Went::Stopped,
+    }
+}
+
+/// Behind a field of which nothing is sent: its value, if it has one, is handed over, and the spot is past it.
+#[inline(always)]
+pub fn hand_unsent<S: Sink>(
+    turns: &mut Turns,
+    spot: &mut Spot<'_, '_>,
+    node: u32,
+    has_bit: bool,
+    value: Option<Scalar<'_>>,
+    sink: &mut S,
+) -> Went
+    requires left { 0 < length spot.old.place.left.now }
+    requires bit { has_bit ≡ true → 1 < spot.old.place.map.left }
+    ensures went { (set : Set) (l : Limits) (m m1 : Machine) (f : FieldData) (bit : Bool) → has_bit ≡ uses_bit f
+        → turns.old ≡ m.turns
+        → IsFieldUnsent set l m m1 spot.old.place node f bit (option_map scalar_data value.entry)
+        → HasWent S.takes S.stops set l m spot.old sink.old result sink.new (record m1 { turns = turns.new })
+        spot.new }
+{
+    *turns = Turns::after(turns);
+    match pass_value(&mut spot.place, node, has_bit, value, sink) {
+        Ok(turn) => match turn {
+            Turn::Handed => Went::Handed,
+            _ => Went::Silent,
+        },
         Err(_) => Went::Stopped,
     }
 }
