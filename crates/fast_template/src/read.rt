@@ -1,6 +1,6 @@
 //! From the text of a template set to the set.
 
-ghost use Rattle.std.specs.Prelude.{◌≡◌, ◌≢◌, Some, IfOk, IfErr};
+ghost use Rattle.std.specs.Prelude.{◌≡◌, ◌≢◌, None, Some, IfOk, IfErr};
 ghost use Rattle.toml.specs.Data.{Members};
 ghost use Rattle.toml.specs.Parse.{parse_document};
 ghost use Rattle.fast_notation.specs.meaning.Checked.{IsTree};
@@ -12,7 +12,19 @@ ghost use Rattle.fast_tree.specs.meaning.Tree.{Tree};
 use crate::opcodes::opcodes_of;
 use crate::sets::Templates;
 use fast_notation::{CheckedSet, StaticCode, StaticFault};
+use fast_program::ops_of;
 use std::alloc::Global;
+
+/// That there was no memory left.
+fn no_memory() -> StaticFault
+    ensures code { result.code ≡ StaticCode.Memory }
+    ensures template { result.template ≡ None }
+{
+    StaticFault {
+        code: StaticCode::Memory,
+        template: None,
+    }
+}
 
 impl Templates {
     /// Reads a template set from its TOML text: the array `template` of tables, one for each template.
@@ -31,15 +43,16 @@ impl Templates {
     {
         let set = CheckedSet::read(alloc, text)?;
         let Ok(opcodes) = opcodes_of(alloc, &set.nodes) else {
-            return Err(StaticFault {
-                code: StaticCode::Memory,
-                template: None,
-            });
+            return Err(no_memory());
+        };
+        let Ok(ops) = ops_of(alloc, &set.nodes) else {
+            return Err(no_memory());
         };
         Ok(Templates {
             templates: set.templates,
             nodes: set.nodes,
             opcodes,
+            ops,
             entries: set.entries,
             names: set.names,
             ids: set.ids,

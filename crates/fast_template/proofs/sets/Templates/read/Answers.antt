@@ -1,9 +1,13 @@
-use Rattle.std.proofs.Common.{rules, ◌∙◌, ap}
+use Rattle.std.proofs.Common.{rules, ◌∙◌, ap, subst}
+use Rattle.fast_program.specs.device.Ops.{AreOpsFrom}
 use Rattle.fast_template.specs.device.Opcodes.{opcodes_of}
 use Rattle.fast_template.proofs.sets.Templates.read.Goals as goal
 
 pub invariant_of-result-clause-nodes_have_opcodes : goal.invariant_of-result-clause-nodes_have_opcodes
 invariant_of-result-clause-nodes_have_opcodes c = c.in-Ok.ensures ∙ ap opcodes_of c.deref.ensures.value
+
+pub invariant_of-result-clause-nodes_have_ops : goal.invariant_of-result-clause-nodes_have_ops
+invariant_of-result-clause-nodes_have_ops c = ∣ subst (AreOpsFrom 0 c.in-Ok-ops_of.ops.items) c.deref-2.ensures.value c.in-Ok-ops_of.ensures ∣₁
 
 pub invariant_of-result-clause-nodes_usable : goal.invariant_of-result-clause-nodes_usable
 invariant_of-result-clause-nodes_usable c = search rules

@@ -1,0 +1,8 @@
+//! Template sets as programs: what a decoder's loop has to know of each node, in the fewest bytes.
+#![tactic(auto)]
+
+pub mod codes;
+pub mod ops;
+
+pub use codes::Code;
+pub use ops::{Op, ops_of};

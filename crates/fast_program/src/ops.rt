@@ -1,0 +1,109 @@
+//! What a decoder's loop has to know of a node.
+
+ghost use Rattle.std.specs.Prelude.{◌≡◌, ◌≤◌, IfOk, length};
+ghost use Rattle.fast_tree.specs.declared.instructions.Shape.TheVariants.{Field};
+ghost use Rattle.fast_tree.specs.meaning.Entries.{keeps_value};
+ghost use Rattle.fast_program.specs.device.Codes.{IsGroupCode, IsSequenceCode};
+ghost use Rattle.fast_program.specs.device.Ops.{IsOpOf, AreOpsFrom};
+
+use crate::codes::Code;
+use fast_tree::{FieldInstruction, Node, Operator, Shape};
+use std::alloc::{AllocError, Global};
+
+/// All that a decoder's loop has to know of a node, in eight bytes.
+#[derive(Clone, Copy, Debug)]
+pub struct Op {
+    /// What there is to do.
+    pub code: Code,
+    /// The number of the node.
+    pub node: u16,
+    /// The number of the field's entry, where it has one and its operator keeps a value there, else 0.
+    pub entry: u32,
+}
+
+/// Whether an operator keeps a value in the dictionary.
+fn keeps_value(operator: Operator) -> bool
+    ensures { result ≡ keeps_value operator }
+{
+    match operator {
+        Operator::Copy | Operator::Increment | Operator::Delta | Operator::Tail => true,
+        Operator::None | Operator::Constant | Operator::Default => false,
+    }
+}
+
+impl Op {
+    /// That of a field.
+    #[tactic(auto, unfolding(crate::specs::device::Codes::IsCoded))]
+    fn of_field(node: u16, field: &FieldInstruction) -> Op
+        ensures { IsOpOf result node (Field field.now) }
+    {
+        let code = Code::of_field(field.kind, field.operator, field.optional);
+        match field.entry {
+            Some(entry) => Op { code, node, entry },
+            None if keeps_value(field.operator) => Op {
+                code: Code::General,
+                node,
+                entry: 0,
+            },
+            None => Op {
+                code,
+                node,
+                entry: 0,
+            },
+        }
+    }
+
+    /// The code of a group.
+    #[tactic(auto, unfolding(crate::specs::device::Codes::IsCoded))]
+    fn group_code(optional: bool) -> Code
+        ensures { IsGroupCode optional result }
+    {
+        if optional {
+            Code::OptionalGroup
+        } else {
+            Code::Group
+        }
+    }
+
+    /// The code of a sequence, by its length.
+    #[tactic(auto, unfolding(crate::specs::device::Codes::IsCoded))]
+    fn sequence_code(length: &FieldInstruction) -> Code
+        ensures { IsSequenceCode length.now result }
+    {
+        match (length.operator, length.optional) {
+            (Operator::None, false) => Code::Sequence,
+            (Operator::None, true) => Code::OptionalSequence,
+            _ => Code::General,
+        }
+    }
+
+    /// That of a node with this number and shape.
+    #[tactic(auto, unfolding(crate::specs::device::Codes::IsCoded))]
+    pub fn of(node: u16, shape: &Shape) -> Op
+        ensures { IsOpOf result node shape.now }
+    {
+        let code = match shape {
+            Shape::Field(field) => return Op::of_field(node, field),
+            Shape::Decimal { .. } => Code::Parts,
+            Shape::Group { optional, .. } => Op::group_code(*optional),
+            Shape::Sequence { length, .. } => Op::sequence_code(length),
+        };
+        Op {
+            code,
+            node,
+            entry: 0,
+        }
+    }
+}
+
+/// Those of nodes, in order.
+pub fn ops_of(alloc: Global, nodes: &[Node]) -> Result<Vec<Op>, AllocError>
+    requires { length nodes.now ≤ 65536 }
+    ensures { IfOk result (λ ops. AreOpsFrom 0 ops.items nodes.now) }
+{
+    let mut ops = Vec::with_capacity(alloc, nodes.len())?;
+    for (n, node) in nodes.iter().enumerate() {
+        ops.push(Op::of(n as u16, &node.shape))?;
+    }
+    Ok(ops)
+}
