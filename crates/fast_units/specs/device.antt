@@ -8,3 +8,5 @@ pub mod UnitFronts
 pub mod Deciding
 pub mod TextDecisions
 pub mod Words
+pub mod FieldsAs
+pub mod IntegerItems

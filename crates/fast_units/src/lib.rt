@@ -3,6 +3,7 @@
 
 pub mod decimals;
 pub mod fields;
+pub mod integer_items;
 pub mod numbers;
 pub mod pending;
 pub mod progress;
@@ -13,8 +14,10 @@ pub mod short_integers;
 pub mod short_texts;
 pub mod source;
 pub mod stages;
+pub mod taken;
 pub mod text_deltas;
 pub mod text_outcomes;
 pub mod texts;
 pub mod units;
 pub mod unsent_integers;
+pub mod unsent_items;

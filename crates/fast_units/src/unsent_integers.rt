@@ -56,7 +56,7 @@ fn integer_in(value: &Value) -> Option<Number>
 
 /// The integer of a value that is lent, if it is one.
 #[inline(always)]
-fn integer_lent(value: Scalar<'_>) -> Option<Number>
+pub fn integer_lent(value: Scalar<'_>) -> Option<Number>
     ensures { IfSome result (λ n. number_data n ≡ scalar_data value.entry) }
 {
     match value {

@@ -1,0 +1,276 @@
+//! Fields of integers that stand in the piece whole. Entry, kind, operator and presence are arguments: constants at the calls,
+//! which fold by them.
+//!
+//! `None` stands for all else, faults included: nothing has changed then, and the general way finds out.
+
+ghost use Rattle.std.specs.Prelude.{◌≡◌, ◌≢◌, ◌<◌, ◌≤◌, ◌≤ℤ◌, neg_ℤ, ℕ, length, ℤ, pos, ◌+ℤ◌, Option, Some, Ok, IfSome, IfNone, option_map};
+ghost use Rattle.fast_wire.specs.device.Fronts.{IsFirstInt};
+ghost use Rattle.fast_wire.specs.meaning.Integers.{unsigned_up_to, signed_between, delta_range};
+ghost use Rattle.fast_wire.specs.declared.fronts.First.TheVariants.{Whole};
+ghost use Rattle.fast_value.specs.meaning.Kinds.{U, I, family, integers, integer_of, value_of_integer};
+ghost use Rattle.fast_dict.specs.meaning.Dictionary.{assigned, write_at};
+ghost use Rattle.fast_dict.specs.meaning.Operators.{range_of, ranged};
+ghost use Rattle.fast_dict.specs.meaning.Slots.{slots_dictionary, slots_terms};
+ghost use Rattle.fast_stream.specs.meaning.Fields.{sent_integer};
+ghost use Rattle.fast_units.specs.device.Deciding.{number_data, sent_number};
+ghost use Rattle.fast_units.specs.device.FieldsAs.{IsEntryFor, IsSentItem};
+ghost use Rattle.fast_units.specs.device.IntegerItems.{KeepsItem, IsBehindDelta};
+
+use crate::fields::{Number, number_under};
+use crate::taken::TakenItem;
+use fast_dict::{Entry, Slots, Store};
+use fast_tree::Operator;
+use fast_value::{Code, Kind};
+use fast_wire::{
+    quick_nullable_signed, quick_nullable_unsigned, quick_signed, quick_unsigned, short_entity,
+};
+
+#[inline(always)]
+fn whole_unsigned(
+    bytes: &[u8],
+    nullable: bool,
+    strict: bool,
+    top: u64,
+) -> Option<(Option<u64>, usize)>
+    requires top { 268435455 ≤ top }
+    ensures { IfSome result (λ r. IsFirstInt (λ y. option_map pos y) strict (unsigned_up_to top) nullable (Whole r.0 r.1)
+        bytes.now) }
+{
+    let entity = short_entity(bytes)?;
+    if nullable {
+        let number = quick_nullable_unsigned(bytes, entity, strict, top)?;
+        return Some((number, entity.len));
+    }
+    let number = quick_unsigned(bytes, entity, strict, top)?;
+    Some((Some(number), entity.len))
+}
+
+#[inline(always)]
+fn whole_signed(
+    bytes: &[u8],
+    nullable: bool,
+    strict: bool,
+    low: i64,
+    top: i64,
+) -> Option<(Option<i64>, usize)>
+    requires low { low ≤ℤ neg_ℤ (pos 134217728) }
+    requires top { pos 134217727 ≤ℤ top }
+    ensures { IfSome result (λ r. IsFirstInt (λ y. y) strict (signed_between low top) nullable (Whole r.0 r.1) bytes.now) }
+{
+    let entity = short_entity(bytes)?;
+    if nullable {
+        let number = quick_nullable_signed(
+            bytes,
+            entity,
+            strict,
+            i128::from(low),
+            i128::from(top),
+        )?;
+        return Some((number, entity.len));
+    }
+    let number = quick_signed(bytes, entity, strict, i128::from(low), i128::from(top))?;
+    Some((Some(number), entity.len))
+}
+
+/// The least delta that an entity of ten bytes holds.
+const LEAST_DELTA: i128 = -590_295_810_358_705_651_712;
+
+/// The greatest delta that an entity of ten bytes holds.
+const GREATEST_DELTA: i128 = 590_295_810_358_705_651_711;
+
+#[inline(always)]
+fn whole_delta(bytes: &[u8], nullable: bool, strict: bool) -> Option<(Option<i64>, usize)>
+    ensures { IfSome result (λ r. IsFirstInt (λ y. y) strict delta_range nullable (Whole r.0 r.1) bytes.now) }
+{
+    let entity = short_entity(bytes)?;
+    if nullable {
+        let number = quick_nullable_signed(bytes, entity, strict, LEAST_DELTA, GREATEST_DELTA)?;
+        return Some((number, entity.len));
+    }
+    let number = quick_signed(bytes, entity, strict, LEAST_DELTA, GREATEST_DELTA)?;
+    Some((Some(number), entity.len))
+}
+
+/// Keeps a number at the entry, under the kind.
+#[inline(always)]
+pub fn keep_at(slots: &mut Slots, entry: u32, kind: Kind, number: Number)
+    requires within { entry < length (slots_dictionary slots.old) }
+    ensures entry { slots_dictionary slots.new
+        ≡ write_at (Some entry) (assigned kind (number_data number)) (slots_dictionary slots.old) }
+    ensures terms { slots_terms slots.new ≡ slots_terms slots.old }
+{
+    slots.set_number(entry as usize, Entry::of(kind, number.as_scalar()));
+}
+
+/// Keeps a number that is sent at the entry, or makes this empty behind NULL, if the operator keeps a value.
+#[inline(always)]
+fn keep_item_at(slots: &mut Slots, entry: u32, kind: Kind, operator: Operator, item: Option<Number>)
+    requires within { IsEntryFor slots.old operator entry }
+    ensures entry { KeepsItem kind operator entry slots.old slots.new item }
+    ensures terms { slots_terms slots.new ≡ slots_terms slots.old }
+{
+    match operator {
+        Operator::None | Operator::Constant | Operator::Default => {}
+        Operator::Copy | Operator::Increment | Operator::Delta | Operator::Tail => match item {
+            Some(number) => keep_at(slots, entry, kind, number),
+            None => slots.set_empty(entry as usize),
+        },
+    }
+}
+
+/// An unsigned integer, or NULL, as an item.
+#[inline(always)]
+fn unsigned_number(number: Option<u64>) -> Option<Number>
+    ensures { (kind : Kind) → ((n : ℕ) → value_of_integer kind (pos n) ≡ U n)
+        → sent_number result ≡ sent_integer kind (option_map pos number) }
+{
+    match number {
+        Some(number) => Some(Number::Unsigned(number)),
+        None => None,
+    }
+}
+
+/// A signed integer, or NULL, as an item.
+#[inline(always)]
+fn signed_number(number: Option<i64>) -> Option<Number>
+    ensures { (kind : Kind) → ((x : ℤ) → value_of_integer kind x ≡ I x) → sent_number result ≡ sent_integer kind number }
+{
+    match number {
+        Some(number) => Some(Number::Signed(number)),
+        None => None,
+    }
+}
+
+/// An unsigned integer, or NULL, under no delta: copy and increment keep it.
+#[inline(always)]
+pub fn sent_unsigned(
+    slots: &mut Slots,
+    entry: u32,
+    kind: Kind,
+    optional: bool,
+    operator: Operator,
+    rest: &[u8],
+    strict: bool,
+    top: u64,
+) -> Option<TakenItem>
+    requires range { unsigned_up_to top ≡ range_of kind }
+    requires unsigned { (n : ℕ) → value_of_integer kind (pos n) ≡ U n }
+    requires integers { family kind ≡ integers (range_of kind) }
+    requires no_delta { operator ≢ Operator.Delta }
+    requires no_constant { operator ≢ Operator.Constant }
+    requires within { IsEntryFor slots.old operator entry }
+    ensures unit { IfSome result (IsSentItem kind optional operator entry strict rest.now slots.old slots.new) }
+    ensures none { IfNone result (slots.new ≡ slots.old) }
+    ensures terms { slots_terms slots.new ≡ slots_terms slots.old }
+{
+    let (number, bytes) = whole_unsigned(rest, optional, strict, top)?;
+    let item = unsigned_number(number);
+    keep_item_at(slots, entry, kind, operator, item);
+    Some(TakenItem { item, bytes })
+}
+
+/// A signed integer, or NULL, under no delta: copy and increment keep it.
+#[inline(always)]
+pub fn sent_signed(
+    slots: &mut Slots,
+    entry: u32,
+    kind: Kind,
+    optional: bool,
+    operator: Operator,
+    rest: &[u8],
+    strict: bool,
+    low: i64,
+    top: i64,
+) -> Option<TakenItem>
+    requires range { signed_between low top ≡ range_of kind }
+    requires signed { (x : ℤ) → value_of_integer kind x ≡ I x }
+    requires integers { family kind ≡ integers (range_of kind) }
+    requires no_delta { operator ≢ Operator.Delta }
+    requires no_constant { operator ≢ Operator.Constant }
+    requires within { IsEntryFor slots.old operator entry }
+    ensures unit { IfSome result (IsSentItem kind optional operator entry strict rest.now slots.old slots.new) }
+    ensures none { IfNone result (slots.new ≡ slots.old) }
+    ensures terms { slots_terms slots.new ≡ slots_terms slots.old }
+{
+    let (number, bytes) = whole_signed(rest, optional, strict, low, top)?;
+    let item = signed_number(number);
+    keep_item_at(slots, entry, kind, operator, item);
+    Some(TakenItem { item, bytes })
+}
+
+/// An integer behind its delta: where it is one of the kind, and so is the sum.
+#[inline(always)]
+fn sum_of(kind: Kind, number: Number, delta: i64) -> Option<Number>
+    ensures { IfSome result (λ n. (x : ℤ)
+        × (ranged (range_of kind) Code.D2 (integer_of (number_data number) +ℤ delta) ≡ Ok x)
+        × (number_data n ≡ value_of_integer kind x)) }
+{
+    match (kind, number) {
+        (Kind::UInt32, Number::Unsigned(base)) => {
+            let sum = base.checked_add_signed(delta)?;
+            if sum > 4_294_967_295 {
+                return None;
+            }
+            Some(Number::Unsigned(sum))
+        }
+        (Kind::UInt64, Number::Unsigned(base)) => {
+            let sum = base.checked_add_signed(delta)?;
+            Some(Number::Unsigned(sum))
+        }
+        (Kind::Int32, Number::Signed(base)) => {
+            let sum = base.checked_add(delta)?;
+            if sum < -2_147_483_648 || sum > 2_147_483_647 {
+                return None;
+            }
+            Some(Number::Signed(sum))
+        }
+        (Kind::Int64, Number::Signed(base)) => {
+            let sum = base.checked_add(delta)?;
+            Some(Number::Signed(sum))
+        }
+        _ => None,
+    }
+}
+
+/// The entry's number behind a delta, which the entry then holds: where it holds one of the kind, and the sum is one.
+#[inline(always)]
+fn change_at(slots: &mut Slots, entry: u32, kind: Kind, delta: i64) -> Option<Number>
+    requires within { entry < length (slots_dictionary slots.old) }
+    ensures decided { IfSome result (IsBehindDelta kind entry delta slots.old slots.new) }
+    ensures none { IfNone result (slots.new ≡ slots.old) }
+    ensures terms { slots_terms slots.new ≡ slots_terms slots.old }
+{
+    let number = number_under(kind, slots.held(entry as usize))?;
+    let sum = sum_of(kind, number, delta)?;
+    keep_at(slots, entry, kind, sum);
+    Some(sum)
+}
+
+/// An integer under delta, or NULL, which changes nothing.
+#[inline(always)]
+pub fn sent_delta(
+    slots: &mut Slots,
+    entry: u32,
+    kind: Kind,
+    optional: bool,
+    rest: &[u8],
+    strict: bool,
+) -> Option<TakenItem>
+    requires integers { family kind ≡ integers (range_of kind) }
+    requires within { IsEntryFor slots.old Operator.Delta entry }
+    ensures unit { IfSome result (IsSentItem kind optional Operator.Delta entry strict rest.now slots.old slots.new) }
+    ensures none { IfNone result (slots.new ≡ slots.old) }
+    ensures terms { slots_terms slots.new ≡ slots_terms slots.old }
+{
+    let (change, bytes) = whole_delta(rest, optional, strict)?;
+    match change {
+        Some(delta) => {
+            let number = change_at(slots, entry, kind, delta)?;
+            Some(TakenItem {
+                item: Some(number),
+                bytes,
+            })
+        }
+        None => Some(TakenItem { item: None, bytes }),
+    }
+}
