@@ -3,10 +3,8 @@
 //!
 //! `None` stands for all else, faults included: nothing has changed then, and the general way finds out.
 
-ghost use Rattle.std.specs.Prelude.{◌≡◌, ◌≢◌, ◌<◌, ◌≤◌, ◌≤ℤ◌, neg_ℤ, ℕ, length, ℤ, pos, ◌+ℤ◌, Option, Some, Ok, IfSome, IfNone, option_map};
-ghost use Rattle.fast_wire.specs.device.Fronts.{IsFirstInt};
-ghost use Rattle.fast_wire.specs.meaning.Integers.{unsigned_up_to, signed_between, delta_range};
-ghost use Rattle.fast_wire.specs.declared.fronts.First.TheVariants.{Whole};
+ghost use Rattle.std.specs.Prelude.{◌≡◌, ◌≢◌, ◌<◌, ℕ, length, ℤ, pos, ◌+ℤ◌, Some, Ok, IfSome, IfNone, option_map};
+ghost use Rattle.fast_wire.specs.meaning.Integers.{unsigned_up_to, signed_between};
 ghost use Rattle.fast_value.specs.meaning.Kinds.{U, I, family, integers, integer_of, value_of_integer};
 ghost use Rattle.fast_dict.specs.meaning.Dictionary.{assigned, write_at};
 ghost use Rattle.fast_dict.specs.meaning.Operators.{range_of, ranged};
@@ -21,75 +19,7 @@ use crate::taken::TakenItem;
 use fast_dict::{Entry, Slots, Store};
 use fast_tree::Operator;
 use fast_value::{Code, Kind};
-use fast_wire::{
-    quick_nullable_signed, quick_nullable_unsigned, quick_signed, quick_unsigned, short_entity,
-};
-
-#[inline(always)]
-fn whole_unsigned(
-    bytes: &[u8],
-    nullable: bool,
-    strict: bool,
-    top: u64,
-) -> Option<(Option<u64>, usize)>
-    requires top { 268435455 ≤ top }
-    ensures { IfSome result (λ r. IsFirstInt (λ y. option_map pos y) strict (unsigned_up_to top) nullable (Whole r.0 r.1)
-        bytes.now) }
-{
-    let entity = short_entity(bytes)?;
-    if nullable {
-        let number = quick_nullable_unsigned(bytes, entity, strict, top)?;
-        return Some((number, entity.len));
-    }
-    let number = quick_unsigned(bytes, entity, strict, top)?;
-    Some((Some(number), entity.len))
-}
-
-#[inline(always)]
-fn whole_signed(
-    bytes: &[u8],
-    nullable: bool,
-    strict: bool,
-    low: i64,
-    top: i64,
-) -> Option<(Option<i64>, usize)>
-    requires low { low ≤ℤ neg_ℤ (pos 134217728) }
-    requires top { pos 134217727 ≤ℤ top }
-    ensures { IfSome result (λ r. IsFirstInt (λ y. y) strict (signed_between low top) nullable (Whole r.0 r.1) bytes.now) }
-{
-    let entity = short_entity(bytes)?;
-    if nullable {
-        let number = quick_nullable_signed(
-            bytes,
-            entity,
-            strict,
-            i128::from(low),
-            i128::from(top),
-        )?;
-        return Some((number, entity.len));
-    }
-    let number = quick_signed(bytes, entity, strict, i128::from(low), i128::from(top))?;
-    Some((Some(number), entity.len))
-}
-
-/// The least delta that an entity of ten bytes holds.
-const LEAST_DELTA: i128 = -590_295_810_358_705_651_712;
-
-/// The greatest delta that an entity of ten bytes holds.
-const GREATEST_DELTA: i128 = 590_295_810_358_705_651_711;
-
-#[inline(always)]
-fn whole_delta(bytes: &[u8], nullable: bool, strict: bool) -> Option<(Option<i64>, usize)>
-    ensures { IfSome result (λ r. IsFirstInt (λ y. y) strict delta_range nullable (Whole r.0 r.1) bytes.now) }
-{
-    let entity = short_entity(bytes)?;
-    if nullable {
-        let number = quick_nullable_signed(bytes, entity, strict, LEAST_DELTA, GREATEST_DELTA)?;
-        return Some((number, entity.len));
-    }
-    let number = quick_signed(bytes, entity, strict, LEAST_DELTA, GREATEST_DELTA)?;
-    Some((Some(number), entity.len))
-}
+use fast_wire::{whole_delta, whole_signed, whole_unsigned};
 
 /// Keeps a number at the entry, under the kind.
 #[inline(always)]
@@ -198,6 +128,19 @@ pub fn sent_signed(
     Some(TakenItem { item, bytes })
 }
 
+/// An unsigned integer behind a delta, if that is one: where nothing wraps, the sum is less exactly for a delta below zero.
+#[inline(always)]
+fn unsigned_sum(base: u64, delta: i64) -> Option<u64>
+    ensures { IfSome result (λ n. pos n ≡ pos base +ℤ delta) }
+{
+    let sum = base.wrapping_add_signed(delta);
+    if (sum < base) == (delta < 0) {
+        Some(sum)
+    } else {
+        None
+    }
+}
+
 /// An integer behind its delta: where it is one of the kind, and so is the sum.
 #[inline(always)]
 fn sum_of(kind: Kind, number: Number, delta: i64) -> Option<Number>
@@ -207,14 +150,14 @@ fn sum_of(kind: Kind, number: Number, delta: i64) -> Option<Number>
 {
     match (kind, number) {
         (Kind::UInt32, Number::Unsigned(base)) => {
-            let sum = base.checked_add_signed(delta)?;
+            let sum = unsigned_sum(base, delta)?;
             if sum > 4_294_967_295 {
                 return None;
             }
             Some(Number::Unsigned(sum))
         }
         (Kind::UInt64, Number::Unsigned(base)) => {
-            let sum = base.checked_add_signed(delta)?;
+            let sum = unsigned_sum(base, delta)?;
             Some(Number::Unsigned(sum))
         }
         (Kind::Int32, Number::Signed(base)) => {
