@@ -3,8 +3,8 @@
 //!
 //! `None` stands for all else, faults included: nothing has changed then, and the general way finds out.
 
-ghost use Rattle.std.specs.Prelude.{◌≡◌, ◌≢◌, ◌<◌, ℕ, length, ℤ, pos, ◌+ℤ◌, Some, Ok, IfSome, IfNone, option_map};
-ghost use Rattle.fast_wire.specs.meaning.Integers.{unsigned_up_to, signed_between};
+ghost use Rattle.std.specs.Prelude.{◌≡◌, ◌≢◌, ◌<◌, ◌^◌, IsTrue, ℕ, length, ℤ, pos, ◌+ℤ◌, Some, Ok, IfSome, IfNone, option_map};
+ghost use Rattle.fast_wire.specs.meaning.Integers.{IsWithin, signed_range, unsigned_up_to, signed_between};
 ghost use Rattle.fast_value.specs.meaning.Kinds.{U, I, family, integers, integer_of, value_of_integer};
 ghost use Rattle.fast_dict.specs.meaning.Dictionary.{assigned, write_at};
 ghost use Rattle.fast_dict.specs.meaning.Operators.{range_of, ranged};
@@ -128,9 +128,22 @@ pub fn sent_signed(
     Some(TakenItem { item, bytes })
 }
 
-/// An unsigned integer behind a delta, if that is one: where nothing wraps, the sum is less exactly for a delta below zero.
+/// An integer of 32 bits behind a delta, if that is one. Where both are, nothing has wrapped.
 #[inline(always)]
-fn unsigned_sum(base: u64, delta: i64) -> Option<u64>
+fn unsigned_sum_32(base: u64, delta: i64) -> Option<u64>
+    ensures sum { IfSome result (λ n. pos n ≡ pos base +ℤ delta) }
+    ensures small { IfSome result (λ n. n < 2 ^ 32) }
+{
+    let sum = base.wrapping_add_signed(delta);
+    if base > 4_294_967_295 || sum > 4_294_967_295 {
+        return None;
+    }
+    Some(sum)
+}
+
+/// The same of 64 bits: where nothing wraps, the sum is less exactly for a delta below zero.
+#[inline(always)]
+fn unsigned_sum_64(base: u64, delta: i64) -> Option<u64>
     ensures { IfSome result (λ n. pos n ≡ pos base +ℤ delta) }
 {
     let sum = base.wrapping_add_signed(delta);
@@ -139,6 +152,27 @@ fn unsigned_sum(base: u64, delta: i64) -> Option<u64>
     } else {
         None
     }
+}
+
+/// The same of signed integers of 32 bits.
+#[inline(always)]
+fn signed_sum_32(base: i64, delta: i64) -> Option<i64>
+    ensures sum { IfSome result (λ x. x ≡ base +ℤ delta) }
+    ensures within { IfSome result (λ x. IsWithin (signed_range 31) x) }
+{
+    let sum = base.wrapping_add(delta);
+    if !is_32_bits(base) || !is_32_bits(sum) {
+        return None;
+    }
+    Some(sum)
+}
+
+/// Whether a number has 32 bits.
+#[inline(always)]
+fn is_32_bits(number: i64) -> bool
+    ensures { IsTrue result → IsWithin (signed_range 31) number }
+{
+    -2_147_483_648 <= number && number <= 2_147_483_647
 }
 
 /// An integer behind its delta: where it is one of the kind, and so is the sum.
@@ -150,21 +184,15 @@ fn sum_of(kind: Kind, number: Number, delta: i64) -> Option<Number>
 {
     match (kind, number) {
         (Kind::UInt32, Number::Unsigned(base)) => {
-            let sum = unsigned_sum(base, delta)?;
-            if sum > 4_294_967_295 {
-                return None;
-            }
+            let sum = unsigned_sum_32(base, delta)?;
             Some(Number::Unsigned(sum))
         }
         (Kind::UInt64, Number::Unsigned(base)) => {
-            let sum = unsigned_sum(base, delta)?;
+            let sum = unsigned_sum_64(base, delta)?;
             Some(Number::Unsigned(sum))
         }
         (Kind::Int32, Number::Signed(base)) => {
-            let sum = base.checked_add(delta)?;
-            if sum < -2_147_483_648 || sum > 2_147_483_647 {
-                return None;
-            }
+            let sum = signed_sum_32(base, delta)?;
             Some(Number::Signed(sum))
         }
         (Kind::Int64, Number::Signed(base)) => {
