@@ -10,3 +10,4 @@ pub mod TextSizes
 pub mod OpenUnits
 pub mod ScalarTakes
 pub mod IntegerItems
+pub mod DecimalItems

@@ -1,0 +1,228 @@
+//! Decimals of one field, both of whose units stand in the piece whole. Entry, operator and presence are arguments: constants at
+//! the calls, which fold by them.
+//!
+//! `None` stands for all else, faults included: nothing has changed then, and the general way finds out.
+
+ghost use Rattle.std.specs.Prelude.{◌≡◌, ◌<◌, ◌+ℤ◌, ◌≤ℤ◌, false, [], ℤ, pos, neg_ℤ, Some, Ok, IfSome, IfNone, length};
+ghost use Rattle.fast_wire.specs.device.Fronts.{IsFirstInt};
+ghost use Rattle.fast_wire.specs.meaning.Integers.{signed_range, delta_range, exponent_range};
+ghost use Rattle.fast_wire.specs.declared.fronts.First.TheVariants.{Whole};
+ghost use Rattle.fast_value.specs.meaning.Kinds.{Dec};
+ghost use Rattle.fast_dict.specs.meaning.Dictionary.{assigned, previous_at};
+ghost use Rattle.fast_dict.specs.meaning.Operators.{ranged};
+ghost use Rattle.fast_dict.specs.meaning.Slots.{slots_dictionary, slots_terms};
+ghost use Rattle.fast_stream.specs.meaning.Grammar.{integer};
+ghost use Rattle.fast_stream.specs.meaning.Fields.{decimal_from};
+ghost use Rattle.fast_stream.specs.device.GrammarReaders.{reader_of};
+ghost use Rattle.fast_units.specs.device.Taking.{IsUnit};
+ghost use Rattle.fast_units.specs.device.Deciding.{sent_number};
+ghost use Rattle.fast_units.specs.device.FieldsAs.{IsEntryFor, IsSentItem, IsUnsentItem};
+
+use crate::fields::Number;
+use crate::integer_items::keep_at;
+use crate::progress::Progress;
+use crate::taken::TakenItem;
+use crate::unsent_items::copied_at;
+use fast_dict::{Entry, Slots, Store};
+use fast_tree::Operator;
+use fast_value::{Code, Kind};
+use fast_wire::{whole_delta, whole_signed};
+
+/// An exponent in range.
+#[inline(always)]
+fn exponent_in(exponent: i64) -> i32
+    requires low { neg_ℤ (pos 63) ≤ℤ exponent }
+    requires high { exponent ≤ℤ pos 63 }
+    ensures { result ≡ exponent }
+{
+    exponent as i32
+}
+
+/// An exponent, or NULL where it may be, and its length.
+#[inline(always)]
+fn whole_exponent(rest: &[u8], optional: bool, strict: bool) -> Option<(Option<i32>, usize)>
+    ensures { IfSome result (λ r. IsFirstInt (λ y. y) strict exponent_range optional (Whole r.0 r.1) rest.now) }
+{
+    match whole_delta(rest, optional, strict)? {
+        (Some(exponent), bytes) => {
+            if exponent < -63 || exponent > 63 {
+                return None;
+            }
+            Some((Some(exponent_in(exponent)), bytes))
+        }
+        (None, bytes) => Some((None, bytes)),
+    }
+}
+
+/// A mantissa and its length.
+#[inline(always)]
+fn whole_mantissa(rest: &[u8], strict: bool) -> Option<(i64, usize)>
+    ensures { IfSome result (λ r. IsFirstInt (λ y. Some y) strict (signed_range 63) false (Whole r.0 r.1) rest.now) }
+{
+    match whole_signed(rest, false, strict, i64::MIN, i64::MAX)? {
+        (Some(mantissa), bytes) => Some((mantissa, bytes)),
+        (None, _) => None,
+    }
+}
+
+/// A decimal as it is, or NULL where it may be.
+#[inline(always)]
+fn whole_decimal(rest: &[u8], optional: bool, strict: bool) -> Option<TakenItem>
+    ensures { IfSome result (λ r. IsUnit (reader_of strict (integer exponent_range optional Code.R1 decimal_from))
+        sent_number [] rest.now (Progress.Whole r.item r.bytes)) }
+{
+    let (item, used) = whole_exponent(rest, optional, strict)?;
+    match item {
+        Some(exponent) => {
+            let (mantissa, bytes) = whole_mantissa(&rest[used..], strict)?;
+            Some(TakenItem {
+                item: Some(Number::Decimal { exponent, mantissa }),
+                bytes: used + bytes,
+            })
+        }
+        None => Some(TakenItem {
+            item: None,
+            bytes: used,
+        }),
+    }
+}
+
+/// The decimal that the entry holds, if it is one of the kind of decimals.
+#[inline(always)]
+fn held_decimal(slots: &Slots, entry: u32) -> Option<(i32, i64)>
+    requires within { entry < length (slots_dictionary slots.now) }
+    ensures { IfSome result (λ d. previous_at (Some entry) (slots_dictionary slots.now)
+        ≡ assigned Kind.Decimal (Dec d.0 d.1)) }
+{
+    match slots.held(entry as usize) {
+        Entry::Decimal(exponent, mantissa) => Some((exponent, mantissa)),
+        _ => None,
+    }
+}
+
+/// A decimal under copy, which the entry then holds, or NULL, which makes it empty.
+#[inline(always)]
+fn copied_decimal(
+    slots: &mut Slots,
+    entry: u32,
+    optional: bool,
+    rest: &[u8],
+    strict: bool,
+) -> Option<TakenItem>
+    requires within { entry < length (slots_dictionary slots.old) }
+    ensures unit { IfSome result (IsSentItem Kind.Decimal optional Operator.Copy entry strict rest.now slots.old
+        slots.new) }
+    ensures none { IfNone result (slots.new ≡ slots.old) }
+    ensures terms { slots_terms slots.new ≡ slots_terms slots.old }
+{
+    let taken = whole_decimal(rest, optional, strict)?;
+    match taken.item {
+        Some(number) => keep_at(slots, entry, Kind::Decimal, number),
+        None => slots.set_empty(entry as usize),
+    }
+    Some(taken)
+}
+
+/// The exponent behind its delta.
+#[inline(always)]
+fn changed_exponent(exponent: i32, delta: i64) -> Option<i32>
+    ensures { IfSome result (λ e. ranged exponent_range Code.R1 (exponent +ℤ delta) ≡ Ok e) }
+{
+    let least = -63 - i64::from(exponent);
+    if delta < least || delta > least + 126 {
+        return None;
+    }
+    Some(exponent_in(i64::from(exponent) + delta))
+}
+
+/// The mantissa behind its delta, and the length of that.
+#[inline(always)]
+fn changed_mantissa(mantissa: i64, rest: &[u8], strict: bool) -> Option<(i64, usize)>
+    ensures { IfSome result (λ r. (j : ℤ) × IsFirstInt (λ y. y) strict delta_range false (Whole (Some j) r.1) rest.now
+        × (ranged (signed_range 63) Code.R1 (mantissa +ℤ j) ≡ Ok r.0)) }
+{
+    match whole_delta(rest, false, strict)? {
+        (Some(delta), bytes) => {
+            let sum = mantissa.checked_add(delta)?;
+            Some((sum, bytes))
+        }
+        (None, _) => None,
+    }
+}
+
+/// A decimal under delta, which the entry then holds in the place of another, or NULL, which leaves the entry as it is.
+#[inline(always)]
+fn changed_decimal(
+    slots: &mut Slots,
+    entry: u32,
+    optional: bool,
+    rest: &[u8],
+    strict: bool,
+) -> Option<TakenItem>
+    requires within { entry < length (slots_dictionary slots.old) }
+    ensures unit { IfSome result (IsSentItem Kind.Decimal optional Operator.Delta entry strict rest.now slots.old
+        slots.new) }
+    ensures none { IfNone result (slots.new ≡ slots.old) }
+    ensures terms { slots_terms slots.new ≡ slots_terms slots.old }
+{
+    let (item, used) = whole_delta(rest, optional, strict)?;
+    match item {
+        Some(delta) => {
+            let (exponent, mantissa) = held_decimal(slots, entry)?;
+            let exponent = changed_exponent(exponent, delta)?;
+            let (mantissa, bytes) = changed_mantissa(mantissa, &rest[used..], strict)?;
+            let number = Number::Decimal { exponent, mantissa };
+            keep_at(slots, entry, Kind::Decimal, number);
+            Some(TakenItem {
+                item: Some(number),
+                bytes: used + bytes,
+            })
+        }
+        None => Some(TakenItem {
+            item: None,
+            bytes: used,
+        }),
+    }
+}
+
+/// A decimal that is sent, or NULL: without an operator and under default, copy and delta. Under delta the entry has to hold a
+/// decimal.
+#[inline(always)]
+pub fn sent_decimal(
+    slots: &mut Slots,
+    entry: u32,
+    optional: bool,
+    operator: Operator,
+    rest: &[u8],
+    strict: bool,
+) -> Option<TakenItem>
+    requires within { IsEntryFor slots.old operator entry }
+    ensures unit { IfSome result (IsSentItem Kind.Decimal optional operator entry strict rest.now slots.old slots.new) }
+    ensures none { IfNone result (slots.new ≡ slots.old) }
+    ensures terms { slots_terms slots.new ≡ slots_terms slots.old }
+{
+    match operator {
+        Operator::None | Operator::Default => {
+            let taken = whole_decimal(rest, optional, strict)?;
+            Some(taken)
+        }
+        Operator::Copy => {
+            let taken = copied_decimal(slots, entry, optional, rest, strict)?;
+            Some(taken)
+        }
+        Operator::Delta => {
+            let taken = changed_decimal(slots, entry, optional, rest, strict)?;
+            Some(taken)
+        }
+        _ => None,
+    }
+}
+
+/// A decimal under copy that is not sent: the one that the entry holds; absent where the field may be and the entry is empty.
+#[inline(always)]
+pub fn unsent_decimal(slots: &Slots, entry: u32, optional: bool) -> Option<Option<Number>>
+    requires within { entry < length (slots_dictionary slots.now) }
+    ensures { IfSome result (IsUnsentItem Kind.Decimal optional Operator.Copy entry slots.now slots.now) }
+{
+    copied_at(slots, entry, Kind::Decimal, optional)
+}
