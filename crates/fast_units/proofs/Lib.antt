@@ -11,3 +11,4 @@ pub mod OpenUnits
 pub mod ScalarTakes
 pub mod IntegerItems
 pub mod DecimalItems
+pub mod TextItems

@@ -10,3 +10,4 @@ pub mod TextDecisions
 pub mod Words
 pub mod FieldsAs
 pub mod IntegerItems
+pub mod TextItems

@@ -2,6 +2,7 @@
 #![tactic(auto)]
 
 pub mod decimal_items;
+pub mod ascii_items;
 pub mod decimals;
 pub mod fields;
 pub mod integer_items;

@@ -7,7 +7,8 @@ ghost use Rattle.std.specs.Simd.Lanes.{chunk};
 use std::simd::prelude::*;
 
 /// How many of the 16 bytes from `at` come before the first stop bit: 16 if there is none.
-fn stop_in_block(s: &[u8], at: usize) -> u32
+#[inline(always)]
+pub fn stop_in_block(s: &[u8], at: usize) -> u32
     requires { at + 16 ≤ length s.now }
     ensures within { result ≤ 16 }
     ensures before { (k : ℕ) → at ≤ k → k < at + result → slice_index s.now k < 128 }
