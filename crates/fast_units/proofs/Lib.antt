@@ -12,3 +12,4 @@ pub mod ScalarTakes
 pub mod IntegerItems
 pub mod DecimalItems
 pub mod TextItems
+pub mod ShortTexts

@@ -1,19 +1,34 @@
 -- Fields of texts of a kind, an operator and an entry that are known.
-use Rattle.std.proofs.Common.{sym, ap, ◌∙◌, inl, inr}
-use Rattle.std.specs.Prelude.{◌≡◌, ◌≢◌, ◌⊎◌, ℕ, Bool, true, false, Some, Ok}
+use Rattle.std.proofs.Common.{refl, sym, ap, ◌∙◌, subst, inl, inr}
+use Rattle.std.specs.Prelude.{◌≡◌, ◌≢◌, ◌⊎◌, ℕ, ◌<◌, Bool, true, false, List, [], length, take, Some, is_some, Ok}
 use Rattle.fast_value.specs.declared.kinds.Kind.{Kind}
+use Rattle.fast_value.specs.declared.kinds.Kind.TheVariants.{Ascii}
 use Rattle.fast_value.specs.declared.codes.Code.TheVariants.{D6}
-use Rattle.fast_value.specs.meaning.Kinds.{ScalarData}
+use Rattle.fast_value.specs.meaning.Kinds.{ScalarData, AsciiText, value_of_text}
 use Rattle.fast_tree.specs.declared.operators.Operator.{Operator}
 use Rattle.fast_tree.specs.declared.operators.Operator.TheVariants as Op
 use Rattle.fast_tree.specs.meaning.Tree.{FieldData}
 use Rattle.fast_tree.specs.meaning.Entries.{keeps_value}
-use Rattle.fast_dict.specs.meaning.Dictionary.{Dictionary, PreviousData, empty, assigned, previous_at}
-use Rattle.fast_dict.specs.meaning.Operators.{decide, decide_by, nothing, unsent}
+use Rattle.fast_dict.specs.declared.slots.Slots.{Slots}
+use Rattle.fast_dict.specs.meaning.Answers.{kept_text}
+use Rattle.fast_dict.specs.meaning.Dictionary.{Dictionary, PreviousData, empty, assigned, previous_at, write_at}
+use Rattle.fast_dict.specs.meaning.Operators.{decide, decide_by, nothing, unsent, tail_base, of_kind, with_tail}
+use Rattle.fast_dict.specs.meaning.Slots.{slots_dictionary}
+use Rattle.fast_stream.specs.meaning.Fields.{sent_text}
+use Rattle.fast_stream.specs.meaning.Grammar.{give, ascii_text}
+use Rattle.fast_stream.specs.device.GrammarReaders.{reader_of}
 use Rattle.fast_units.specs.device.Deciding.{IsDecided}
-use Rattle.fast_units.specs.device.FieldsAs.{IsFieldAs}
+use Rattle.fast_units.specs.device.FieldsAs.{IsFieldAs, reader_in}
+use Rattle.fast_units.specs.device.NextUnits.{IsNextText, text_or_null}
+use Rattle.fast_units.specs.device.TextDecisions.{is_emptied, IsTextDecided}
+use Rattle.fast_units.specs.device.TextItems.{SendsText, IsPutText, IsSentText}
+use Rattle.fast_units.specs.declared.progress.Progress.TheVariants.{Whole}
+use Rattle.fast_units.specs.declared.source.ValueSource.{ValueSource}
 use Rattle.fast_units.specs.declared.source.ValueSource.TheVariants as From
 use Rattle.fast_units.proofs.Deciding.{decided_as, copy_decided, absent_decided, write_same}
+use Rattle.fast_units.proofs.NextUnits.{text_unit}
+use Rattle.fast_units.proofs.TextOutcomes.{ascii_is_text, checked_ascii, checked_is, decided_as as text_as, decided_copy, decided_plain, decided_tail-ok, text_given, text_kept}
+use Rattle.fast_units.proofs.TextUnits.{text_field, text_last, behind_text}
 
 -- Nothing is sent under copy or tail.
 module _ (f : FieldData) (d : Dictionary) (kind : Kind) (optional : Bool) (operator : Operator) (entry : ℕ) (which : (operator ≡ Op.Copy) ⊎ (operator ≡ Op.Tail)) (said : IsFieldAs f kind optional operator entry) where
@@ -41,3 +56,91 @@ module _ (f : FieldData) (d : Dictionary) (kind : Kind) (optional : Bool) (opera
   unsent_empty o h =
       let p = at_entry empty h in
       decided_as f d d (Ok From.Absent) (goes_unsent (previous_at f.entry d) which ∙ ap (unsent f) p) (absent_decided f d d D6 (said.optional ∙ o) (sym (write_same f.entry empty d p)))
+
+-- The kinds of operators under which a text is sent as it is, or as a tail.
+sends_other : (operator : Operator) → SendsText operator → (operator ≢ Op.Delta) × (operator ≢ Op.Constant)
+sends_other Op.None h = (λ e. absurd (cc e), λ e. absurd (cc e))
+sends_other Op.Constant h = absurd h
+sends_other Op.Default h = (λ e. absurd (cc e), λ e. absurd (cc e))
+sends_other Op.Copy h = (λ e. absurd (cc e), λ e. absurd (cc e))
+sends_other Op.Increment h = absurd h
+sends_other Op.Delta h = absurd h
+sends_other Op.Tail h = (λ e. absurd (cc e), λ e. absurd (cc e))
+
+-- A text, or NULL, stands whole in the bytes, and is put where it stays.
+pub sent_whole : (optional : Bool) (operator : Operator) (entry room : ℕ) (rest : List ℕ) (old new : Slots) (scratch : List ℕ) (source : ValueSource) (text : List ℕ) (is_text : Bool) (n : ℕ)
+    → IsNextText optional room [] rest text (Whole is_text n) → IsPutText operator entry (text_or_null text is_text) old new scratch source
+    → IsSentText Ascii optional operator entry room rest old new scratch (record { source = source; from = 0; bytes = n })
+sent_whole optional operator entry room rest old new scratch source text is_text n next (sends, stands, put) f strict l e said serves =
+    let p = previous_at f.entry (slots_dictionary old) in
+    let (no_delta, no_constant) = sends_other operator sends in
+    let here : reader_in old strict l f ≡ _ = ap (reader_of strict) (text_field l f p said.kind (λ h. no_delta (sym said.operator ∙ h)) (λ h. no_constant (sym said.operator ∙ h))) in
+    let g = ascii_text f.optional l.max_text give in
+    let x = text_or_null text is_text in
+    let unit : IsNextText f.optional l.max_text [] rest text (Whole is_text n) =
+    subst (λ b. IsNextText b l.max_text [] rest text (Whole is_text n)) (sym said.optional) (subst (λ m. IsNextText optional m [] rest text (Whole is_text n)) (sym e) next) in
+    text_last strict g (behind_text l f p) (reader_in old strict l f) here f [] rest (slots_dictionary old) (slots_dictionary new) scratch n x
+    (text_unit strict f.optional l.max_text [] rest text (Whole is_text n) unit)
+    (decide f p true (sent_text f.kind x)) (Ok source) _ refl refl
+    (put f optional (take n rest) said serves)
+
+-- What is decided of a text that was sent.
+module _ (f : FieldData) (optional : Bool) (operator : Operator) (entry : ℕ) (old new : Dictionary) (scratch piece text : List ℕ) (said : IsFieldAs f Ascii optional operator entry) where
+  -- It stands in the scratch, and the entry, if there is one, is as it was.
+  pub scratch_decided : operator ≢ Op.Constant → operator ≢ Op.Delta → is_emptied operator ≡ false → new ≡ old → scratch ≡ text
+      → IsTextDecided (decide f (previous_at f.entry old) true (sent_text f.kind (Some text))) f old new scratch piece (Ok From.Scratch)
+  scratch_decided no_constant no_delta left same h =
+      let e = checked_ascii f.kind text said.kind in
+      text_as f old new scratch piece (Ok From.Scratch)
+      (decided_plain f (previous_at f.entry old) text (ascii_is_text f.kind said.kind) (λ i. no_constant (sym said.operator ∙ i)) (λ i. no_delta (sym said.operator ∙ i)) (ap is_emptied said.operator ∙ left))
+      (text_given f old new scratch piece From.Scratch text (AsciiText text) e (checked_is f.kind text (AsciiText text) e) (ap (λ t. Some (value_of_text f.kind t)) h) same)
+
+  kept_at : keeps_value operator ≡ true → entry < length old → new ≡ write_at (Some entry) (assigned Ascii (AsciiText text)) old
+      → IsTextDecided (kept_text f.kind text) f old new scratch piece (Ok From.Entry)
+  kept_at keeps within written =
+      let e = said.entry keeps in
+      text_kept f old new scratch piece text (AsciiText text) (checked_ascii f.kind text said.kind) (ap is_some e)
+      (λ i h. let k : Some entry ≡ Some i = sym e ∙ h in let j : entry ≡ i = cc k in subst (λ m. m < length old) j within)
+      (written ∙ ap (λ k. write_at (Some entry) (assigned k (AsciiText text)) old) (sym said.kind) ∙ ap (λ o. write_at o (assigned f.kind (AsciiText text)) old) (sym e))
+
+  -- Under copy the entry keeps it.
+  pub copy_kept : operator ≡ Op.Copy → entry < length old → new ≡ write_at (Some entry) (assigned Ascii (AsciiText text)) old
+      → IsTextDecided (decide f (previous_at f.entry old) true (sent_text f.kind (Some text))) f old new scratch piece (Ok From.Entry)
+  copy_kept is within written =
+      text_as f old new scratch piece (Ok From.Entry) (decided_copy f (previous_at f.entry old) text (ascii_is_text f.kind said.kind) (said.operator ∙ is)) (kept_at (ap keeps_value is) within written)
+
+  -- It is a tail behind what the entry held, whose text the entry keeps then.
+  pub tail_kept : (base part : List ℕ) → operator ≡ Op.Tail → entry < length old → previous_at (Some entry) old ≡ assigned Ascii (AsciiText base) → text ≡ with_tail base part
+      → new ≡ write_at (Some entry) (assigned Ascii (AsciiText text)) old
+      → IsTextDecided (decide f (previous_at f.entry old) true (sent_text f.kind (Some part))) f old new scratch piece (Ok From.Entry)
+  tail_kept base part is within held joined written =
+      let p : previous_at f.entry old ≡ assigned Ascii (AsciiText base) = ap (λ e. previous_at e old) (said.entry (ap keeps_value is)) ∙ held in
+      let found : tail_base f (previous_at f.entry old) ≡ Ok (AsciiText base) = ap (tail_base f) p ∙ ap (λ k. of_kind k Ascii (AsciiText base)) said.kind in
+      text_as f old new scratch piece (Ok From.Entry)
+      (decided_tail-ok f (previous_at f.entry old) part (ascii_is_text f.kind said.kind) (AsciiText base) (said.operator ∙ is) found ∙ ap (kept_text f.kind) (sym joined))
+      (kept_at (ap keeps_value is) within written)
+
+-- The text is put where it stays.
+module _ (operator : Operator) (entry : ℕ) (old new : Slots) (scratch : List ℕ) where
+  pub scratch_put : (text : List ℕ) → (operator ≡ Op.None) ⊎ (operator ≡ Op.Default) → new ≡ old → scratch ≡ text → IsPutText operator entry (Some text) old new scratch From.Scratch
+  scratch_put text (inl e) same h = (
+    subst SendsText (sym e) tt,
+    tt,
+    λ f optional piece said serves. scratch_decided f optional operator entry (slots_dictionary old) (slots_dictionary new) scratch piece text said
+        (λ i. let k : Op.None ≡ Op.Constant = sym e ∙ i in absurd (cc k)) (λ i. let k : Op.None ≡ Op.Delta = sym e ∙ i in absurd (cc k)) (ap is_emptied e) (ap slots_dictionary same) h,
+  )
+  scratch_put text (inr e) same h = (
+    subst SendsText (sym e) tt,
+    tt,
+    λ f optional piece said serves. scratch_decided f optional operator entry (slots_dictionary old) (slots_dictionary new) scratch piece text said
+        (λ i. let k : Op.Default ≡ Op.Constant = sym e ∙ i in absurd (cc k)) (λ i. let k : Op.Default ≡ Op.Delta = sym e ∙ i in absurd (cc k)) (ap is_emptied e) (ap slots_dictionary same) h,
+  )
+
+  pub copy_put : (text : List ℕ) → operator ≡ Op.Copy → entry < length (slots_dictionary old) → slots_dictionary new ≡ write_at (Some entry) (assigned Ascii (AsciiText text)) (slots_dictionary old)
+      → IsPutText operator entry (Some text) old new scratch From.Entry
+  copy_put text e within written = (subst SendsText (sym e) tt, ap keeps_value e, λ f optional piece said serves. copy_kept f optional operator entry (slots_dictionary old) (slots_dictionary new) scratch piece text said e within written)
+
+  pub tail_put : (base part text : List ℕ) → operator ≡ Op.Tail → entry < length (slots_dictionary old) → previous_at (Some entry) (slots_dictionary old) ≡ assigned Ascii (AsciiText base) → text ≡ with_tail base part
+      → slots_dictionary new ≡ write_at (Some entry) (assigned Ascii (AsciiText text)) (slots_dictionary old) → IsPutText operator entry (Some part) old new scratch From.Entry
+  tail_put base part text e within held joined written =
+      (subst SendsText (sym e) tt, ap keeps_value e, λ f optional piece said serves. tail_kept f optional operator entry (slots_dictionary old) (slots_dictionary new) scratch piece text said base part e within held joined written)

@@ -3,20 +3,25 @@
 //!
 //! `None` stands for all else, faults included: nothing has changed then, and the general way finds out.
 
-ghost use Rattle.std.specs.Prelude.{◌≡◌, ◌<◌, ◌≤◌, ℕ, Bool, true, List, Some, length, option_map, IfSome};
+ghost use Rattle.std.specs.Prelude.{◌≡◌, ◌<◌, ◌≤◌, ℕ, Bool, true, List, Some, length, take, option_map, IfSome, IfNone};
 ghost use Rattle.fast_value.specs.meaning.Values.{scalar_data};
 ghost use Rattle.fast_tree.specs.meaning.Tree.{FieldData};
 ghost use Rattle.fast_tree.specs.meaning.Entries.{keeps_value};
 ghost use Rattle.fast_dict.specs.meaning.Dictionary.{previous_at};
-ghost use Rattle.fast_dict.specs.meaning.Slots.{slots_dictionary};
-ghost use Rattle.fast_units.specs.device.FieldsAs.{IsFieldAs};
+ghost use Rattle.fast_dict.specs.meaning.Slots.{slots_dictionary, slots_terms};
+ghost use Rattle.fast_units.specs.device.FieldsAs.{IsFieldAs, IsEntryFor};
+ghost use Rattle.fast_units.specs.device.NextUnits.{BeginsWithCharacter};
 ghost use Rattle.fast_units.specs.device.Settling.{value_at, value_in};
-ghost use Rattle.fast_units.specs.device.TextItems.{IsTextSource, IsUnsentText};
+ghost use Rattle.fast_units.specs.device.TextItems.{without_stops, IsTextSource, IsShortText, IsPutText, IsSentText, IsUnsentText};
+ghost use Rattle.fast_units.specs.device.Words.{HasRoomFor};
 
+use crate::scratch::Scratch;
 use crate::source::ValueSource;
 use fast_dict::{Entry, Previous, Slots, Store};
 use fast_tree::Operator;
 use fast_value::{Kind, Scalar};
+use fast_wire::stop_in_block;
+use std::simd::prelude::*;
 
 /// A text that stands whole in the piece, or NULL.
 #[derive(Clone, Copy)]
@@ -27,6 +32,117 @@ pub struct TakenText {
     pub from: usize,
     /// The bytes that it takes.
     pub bytes: usize,
+}
+
+/// The 16 bytes in front, without their stop bits.
+#[inline(always)]
+fn stripped(rest: &[u8]) -> [u8; 16]
+    requires { 16 ≤ length rest.now }
+    ensures { result ≡ without_stops (take 16 rest.now) }
+{
+    (u8x16::from_slice(rest) & u8x16::splat(0x7f)).to_array()
+}
+
+/// The number of characters of a text that ends within 16 bytes.
+#[inline(always)]
+fn block_length(rest: &[u8]) -> Option<usize>
+    requires begins { BeginsWithCharacter rest.now }
+    ensures { IfSome result (λ n. IsShortText rest.now n) }
+{
+    if rest.len() < 16 {
+        return None;
+    }
+    let last = stop_in_block(rest, 0) as usize;
+    if last == 16 {
+        return None;
+    }
+    Some(last + 1)
+}
+
+/// The same, whatever the text begins with: NULL and what begins with zero are none.
+#[inline(always)]
+fn short_length(rest: &[u8]) -> Option<usize>
+    ensures { IfSome result (λ n. IsShortText rest.now n) }
+{
+    match rest.first() {
+        None => None,
+        Some(0x00) => None,
+        Some(0x80) => None,
+        Some(_) => block_length(rest),
+    }
+}
+
+/// Puts a short text, the first characters of a block, where it stays: into the scratch, or into the slot of the entry that keeps it.
+#[inline(always)]
+fn put_short(
+    slots: &mut Slots,
+    scratch: &mut Scratch,
+    entry: u32,
+    operator: Operator,
+    block: &[u8],
+    count: usize,
+) -> Option<ValueSource>
+    requires within { IsEntryFor slots.old operator entry }
+    requires least { 16 ≤ (slots_terms slots.old).max_text }
+    requires room { HasRoomFor slots.old scratch.old }
+    requires block { length block.now ≡ 16 }
+    requires count { count ≤ 16 }
+    ensures put { IfSome result (λ s. IsPutText operator entry (Some (take count block.now)) slots.old slots.new
+        scratch.new.text s) }
+    ensures none { IfNone result ((slots.new ≡ slots.old) × (scratch.new ≡ scratch.old)) }
+    ensures terms { slots_terms slots.new ≡ slots_terms slots.old }
+    ensures capacity { scratch.new.capacity ≡ scratch.old.capacity }
+{
+    match operator {
+        Operator::None | Operator::Default => {
+            scratch.clear();
+            scratch.append_front(block, count);
+            Some(ValueSource::Scratch)
+        }
+        Operator::Copy => {
+            if !slots.takes_text(entry as usize) {
+                return None;
+            }
+            slots.set_ascii(entry as usize, block, count);
+            Some(ValueSource::Entry)
+        }
+        Operator::Tail => {
+            if !slots.set_ascii_tail(entry as usize, block, count) {
+                return None;
+            }
+            Some(ValueSource::Entry)
+        }
+        _ => None,
+    }
+}
+
+/// A short text that was sent. A tail is left out where the slot has no room for a block behind what it keeps.
+#[inline(always)]
+fn sent_short(
+    slots: &mut Slots,
+    scratch: &mut Scratch,
+    entry: u32,
+    operator: Operator,
+    rest: &[u8],
+) -> Option<TakenText>
+    requires within { IsEntryFor slots.old operator entry }
+    requires least { 16 ≤ (slots_terms slots.old).max_text }
+    requires room { HasRoomFor slots.old scratch.old }
+    ensures unit { IfSome result (λ r. (optional : Bool) → IsSentText Kind.Ascii optional operator entry
+        (slots_terms slots.old).max_text rest.now slots.old slots.new scratch.new.text r) }
+    ensures source { IfSome result (λ r. IsTextSource operator r.source) }
+    ensures none { IfNone result ((slots.new ≡ slots.old) × (scratch.new ≡ scratch.old)) }
+    ensures terms { slots_terms slots.new ≡ slots_terms slots.old }
+    ensures capacity { scratch.new.capacity ≡ scratch.old.capacity }
+{
+    let count = short_length(rest)?;
+    let block = stripped(rest);
+    let source = put_short(slots, scratch, entry, operator, &block, count)?;
+    Some(TakenText {
+        source,
+        from: 0,
+        bytes: count,
+    })
 }
 
 /// Copy and tail where nothing is sent: the ASCII text that the entry holds, or absent where it is empty.
