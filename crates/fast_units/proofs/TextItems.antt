@@ -1,6 +1,6 @@
 -- Fields of texts of a kind, an operator and an entry that are known.
-use Rattle.std.proofs.Common.{refl, sym, ap, ◌∙◌, subst, inl, inr}
-use Rattle.std.specs.Prelude.{◌≡◌, ◌≢◌, ◌⊎◌, ℕ, ◌<◌, Bool, true, false, List, [], length, take, Some, is_some, Ok}
+use Rattle.std.proofs.Common.{refl, sym, ap, ◌∙◌, subst, inl, inr, arith, length-append}
+use Rattle.std.specs.Prelude.{◌≡◌, ◌≢◌, ◌⊎◌, ℕ, ◌+◌, ◌<◌, ◌≤◌, Bool, true, false, List, [], ◌++◌, length, take, Some, None, is_some, Ok}
 use Rattle.fast_value.specs.declared.kinds.Kind.{Kind}
 use Rattle.fast_value.specs.declared.kinds.Kind.TheVariants.{Ascii}
 use Rattle.fast_value.specs.declared.codes.Code.TheVariants.{D6}
@@ -13,7 +13,8 @@ use Rattle.fast_dict.specs.declared.slots.Slots.{Slots}
 use Rattle.fast_dict.specs.meaning.Answers.{kept_text}
 use Rattle.fast_dict.specs.meaning.Dictionary.{Dictionary, PreviousData, empty, assigned, previous_at, write_at}
 use Rattle.fast_dict.specs.meaning.Operators.{decide, decide_by, nothing, unsent, tail_base, of_kind, with_tail}
-use Rattle.fast_dict.specs.meaning.Slots.{slots_dictionary}
+use Rattle.fast_dict.specs.device.Held.{text_size}
+use Rattle.fast_dict.specs.meaning.Slots.{slots_dictionary, slots_texts_fit}
 use Rattle.fast_stream.specs.meaning.Fields.{sent_text}
 use Rattle.fast_stream.specs.meaning.Grammar.{give, ascii_text}
 use Rattle.fast_stream.specs.device.GrammarReaders.{reader_of}
@@ -27,7 +28,7 @@ use Rattle.fast_units.specs.declared.source.ValueSource.{ValueSource}
 use Rattle.fast_units.specs.declared.source.ValueSource.TheVariants as From
 use Rattle.fast_units.proofs.Deciding.{decided_as, copy_decided, absent_decided, write_same}
 use Rattle.fast_units.proofs.NextUnits.{text_unit}
-use Rattle.fast_units.proofs.TextOutcomes.{ascii_is_text, checked_ascii, checked_is, decided_as as text_as, decided_copy, decided_plain, decided_tail-ok, text_given, text_kept}
+use Rattle.fast_units.proofs.TextOutcomes.{absent_emptied, absent_left, ascii_is_text, checked_ascii, checked_is, decided_as as text_as, decided_copy, decided_plain, decided_tail-ok, length-with_tail, text_given, text_kept}
 use Rattle.fast_units.proofs.TextUnits.{text_field, text_last, behind_text}
 
 -- Nothing is sent under copy or tail.
@@ -144,3 +145,43 @@ module _ (operator : Operator) (entry : ℕ) (old new : Slots) (scratch : List �
       → slots_dictionary new ≡ write_at (Some entry) (assigned Ascii (AsciiText text)) (slots_dictionary old) → IsPutText operator entry (Some part) old new scratch From.Entry
   tail_put base part text e within held joined written =
       (subst SendsText (sym e) tt, ap keeps_value e, λ f optional piece said serves. tail_kept f optional operator entry (slots_dictionary old) (slots_dictionary new) scratch piece text said base part e within held joined written)
+
+  -- NULL leaves the entry as it is, or makes it empty.
+  pub null_left : (operator ≡ Op.None) ⊎ (operator ≡ Op.Default) → new ≡ old → IsPutText operator entry None old new scratch From.Absent
+  null_left (inl e) same = (
+    subst SendsText (sym e) tt,
+    tt,
+    λ f optional piece said serves. absent_left f (slots_dictionary old) (slots_dictionary new) scratch piece
+        (λ i. let k : Op.None ≡ Op.Constant = sym e ∙ sym said.operator ∙ i in absurd (cc k)) (ap is_emptied (said.operator ∙ e)) (ap slots_dictionary same),
+  )
+  null_left (inr e) same = (
+    subst SendsText (sym e) tt,
+    tt,
+    λ f optional piece said serves. absent_left f (slots_dictionary old) (slots_dictionary new) scratch piece
+        (λ i. let k : Op.Default ≡ Op.Constant = sym e ∙ sym said.operator ∙ i in absurd (cc k)) (ap is_emptied (said.operator ∙ e)) (ap slots_dictionary same),
+  )
+
+  pub null_emptied : (operator ≡ Op.Copy) ⊎ (operator ≡ Op.Tail) → slots_dictionary new ≡ write_at (Some entry) empty (slots_dictionary old) → IsPutText operator entry None old new scratch From.Absent
+  null_emptied (inl e) written = (
+    subst SendsText (sym e) tt,
+    tt,
+    λ f optional piece said serves. absent_emptied f (slots_dictionary old) (slots_dictionary new) scratch piece
+        (λ i. let k : Op.Copy ≡ Op.Constant = sym e ∙ sym said.operator ∙ i in absurd (cc k)) (ap is_emptied (said.operator ∙ e))
+        (written ∙ ap (λ o. write_at o empty (slots_dictionary old)) (sym (said.entry (ap keeps_value e)))),
+  )
+  null_emptied (inr e) written = (
+    subst SendsText (sym e) tt,
+    tt,
+    λ f optional piece said serves. absent_emptied f (slots_dictionary old) (slots_dictionary new) scratch piece
+        (λ i. let k : Op.Tail ≡ Op.Constant = sym e ∙ sym said.operator ∙ i in absurd (cc k)) (ap is_emptied (said.operator ∙ e))
+        (written ∙ ap (λ o. write_at o empty (slots_dictionary old)) (sym (said.entry (ap keeps_value e)))),
+  )
+
+-- A tail that fits has room behind what it keeps of a text that is held.
+pub tail_fits : (s : Slots) (entry : ℕ) (base kept part : List ℕ) → previous_at (Some entry) (slots_dictionary s) ≡ assigned Ascii (AsciiText base) → with_tail base part ≡ kept ++ part → length part ≤ s.max_text
+    → length kept + length part ≤ s.max_text
+tail_fits s entry base kept part held joined fits =
+    let b : length base ≤ s.max_text = subst (λ q. text_size q ≤ s.max_text) held (slots_texts_fit s entry) in
+    let m : length (with_tail base part) ≤ s.max_text = length-with_tail base part s.max_text b fits in
+    let n : length (with_tail base part) ≡ length kept + length part = ap length joined ∙ length-append kept part in
+    omega (arith, m, n)

@@ -197,7 +197,7 @@ of_kind_is kind found v w true e h = cc h
 of_kind_is kind found v w false e h = absurd (cc h)
 
 -- the length of a tail behind what it keeps
-length-with_tail : (base part : List ℕ) (most : ℕ) → length base ≤ most → length part ≤ most → length (with_tail base part) ≤ most
+pub length-with_tail : (base part : List ℕ) (most : ℕ) → length base ≤ most → length part ≤ most → length (with_tail base part) ≤ most
 length-with_tail base part most h l = by (leb_tells (length part) (length base))
   where
     by : ((nat_le (length part) (length base) ≡ true) × (length part ≤ length base)) ⊎ ((nat_le (length part) (length base) ≡ false) × (length base < length part))

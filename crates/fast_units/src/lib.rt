@@ -6,6 +6,7 @@ pub mod ascii_items;
 pub mod decimals;
 pub mod fields;
 pub mod integer_items;
+mod long_ascii;
 pub mod numbers;
 pub mod pending;
 pub mod progress;
