@@ -162,8 +162,8 @@ pub fn sent_ascii(
     requires limit { (slots_terms slots.old).max_text ≡ max_text }
     requires least { 16 ≤ max_text }
     requires room { HasRoomFor slots.old scratch.old }
-    ensures unit { IfSome result (λ r. IsSentText Kind.Ascii optional operator entry max_text rest.now slots.old slots.new
-        scratch.new.text r) }
+    ensures unit { IfSome result (λ r. IsSentText Kind.Ascii optional operator entry max_text rest.now slots.old
+        slots.new scratch.new.text r) }
     ensures source { IfSome result (λ r. IsTextSource operator r.source) }
     ensures none { IfNone result ((slots.new ≡ slots.old) × (scratch.new ≡ scratch.old)) }
     ensures terms { slots_terms slots.new ≡ slots_terms slots.old }
@@ -180,7 +180,8 @@ pub fn sent_ascii(
 pub fn unsent_ascii(slots: &Slots, entry: u32, optional: bool) -> Option<ValueSource>
     requires within { entry < length (slots_dictionary slots.now) }
     ensures decided { IfSome result (λ s. IsUnsentText Kind.Ascii optional entry slots.now s) }
-    ensures source { IfSome result (λ s. (operator : Operator) → keeps_value operator ≡ true → IsTextSource operator s) }
+    ensures source { IfSome result (λ s. (operator : Operator) → keeps_value operator ≡ true
+        → IsTextSource operator s) }
 {
     match slots.held(entry as usize) {
         Entry::Ascii(_) => Some(ValueSource::Entry),

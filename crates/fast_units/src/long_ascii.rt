@@ -196,8 +196,8 @@ fn sent_characters(
     requires limit { (slots_terms slots.old).max_text ≡ max_text }
     requires room { HasRoomFor slots.old scratch.old }
     requires begins { BeginsWithCharacter rest.now }
-    ensures unit { IfSome result (λ r. (optional : Bool) → IsSentText Kind.Ascii optional operator entry max_text rest.now
-        slots.old slots.new scratch.new.text r) }
+    ensures unit { IfSome result (λ r. (optional : Bool) → IsSentText Kind.Ascii optional operator entry max_text
+        rest.now slots.old slots.new scratch.new.text r) }
     ensures source { IfSome result (λ r. IsTextSource operator r.source) }
     ensures none { IfNone result ((slots.new ≡ slots.old) × (scratch.new ≡ scratch.old)) }
     ensures terms { slots_terms slots.new ≡ slots_terms slots.old }
@@ -228,8 +228,8 @@ pub(crate) fn sent_long(
     requires within { IsEntryFor slots.old operator entry }
     requires limit { (slots_terms slots.old).max_text ≡ max_text }
     requires room { HasRoomFor slots.old scratch.old }
-    ensures unit { IfSome result (λ r. IsSentText Kind.Ascii optional operator entry max_text rest.now slots.old slots.new
-        scratch.new.text r) }
+    ensures unit { IfSome result (λ r. IsSentText Kind.Ascii optional operator entry max_text rest.now slots.old
+        slots.new scratch.new.text r) }
     ensures source { IfSome result (λ r. IsTextSource operator r.source) }
     ensures none { IfNone result ((slots.new ≡ slots.old) × (scratch.new ≡ scratch.old)) }
     ensures terms { slots_terms slots.new ≡ slots_terms slots.old }
