@@ -2,6 +2,7 @@ pub mod Changes
 pub mod Placing
 pub mod Slotted
 pub mod Blocks
+pub mod Extended
 pub mod Clearing
 pub mod Listed
 pub mod Utf8

@@ -1,5 +1,7 @@
 //! A dictionary in memory that is taken at once.
 
+mod texts;
+
 ghost use Rattle.std.specs.Prelude.{◌≡◌, ℕ, ◌+◌, ◌*◌, ◌<◌, ◌≤◌, ◌^◌, ◌-◌, ◌++◌, length, take, drop, count_by, replicate, slice_index_or, vec_len, Some, None, IfOk};
 ghost use Rattle.fast_value.specs.meaning.Kinds.{text_of};
 ghost use Rattle.fast_value.specs.meaning.Values.{scalar_data};

@@ -13,3 +13,4 @@ pub mod IntegerItems
 pub mod DecimalItems
 pub mod TextItems
 pub mod ShortTexts
+pub mod WholeTexts

@@ -11,3 +11,4 @@ pub mod Words
 pub mod FieldsAs
 pub mod IntegerItems
 pub mod TextItems
+pub mod TextsAs

@@ -24,3 +24,4 @@ pub mod texts;
 pub mod units;
 pub mod unsent_integers;
 pub mod unsent_items;
+pub mod vector_items;

@@ -1,0 +1,109 @@
+//! Fields of Unicode strings and byte vectors of which all units stand whole in the piece: the size and the bytes at one go.
+//!
+//! `None` stands for all else, faults included: nothing has changed then, and the general way finds out.
+
+ghost use Rattle.std.specs.Prelude.{◌≡◌, ◌≢◌, ◌≤◌, ℕ, length, take, true, false, Some, Ok, option_map, pos, IfSome};
+ghost use Rattle.std.specs.Str.{is_utf8};
+ghost use Rattle.fast_wire.specs.meaning.Integers.{unsigned_range};
+ghost use Rattle.fast_wire.specs.device.Fronts.{IsFirstInt};
+ghost use Rattle.fast_wire.specs.declared.fronts.First.TheVariants.{Whole};
+ghost use Rattle.fast_value.specs.meaning.Kinds.{family, texts, value_of_text};
+ghost use Rattle.fast_tree.specs.meaning.Entries.{keeps_value};
+ghost use Rattle.fast_dict.specs.declared.slots.Slots.{Slots};
+ghost use Rattle.fast_dict.specs.meaning.Operators.{checked_text};
+ghost use Rattle.fast_units.specs.device.TextsAs.{IsSentText};
+
+use crate::source::ValueSource;
+use crate::texts::TOP_SIZE;
+use fast_tree::Operator;
+use fast_value::{Kind, Limits};
+use fast_wire::whole_unsigned;
+
+/// A text that stands whole in the piece, or NULL, and the bytes that the field takes.
+#[derive(Clone, Copy)]
+pub struct TakenText {
+    /// Where the text stands.
+    pub source: ValueSource,
+    /// Where it begins in the bytes that the field takes, if it is lent from them.
+    pub from: usize,
+    /// The bytes that the field takes.
+    pub bytes: usize,
+}
+
+/// The size of a vector, or NULL where it may be, and the bytes that it takes.
+#[inline(always)]
+pub(crate) fn whole_size(rest: &[u8], nullable: bool, strict: bool) -> Option<(Option<u64>, usize)>
+    ensures { IfSome result (λ r. IsFirstInt (λ y. option_map pos y) strict (unsigned_range 32) nullable
+        (Whole r.0 r.1) rest.now) }
+{
+    whole_unsigned(rest, nullable, strict, TOP_SIZE)
+}
+
+/// So many bytes, if there is room for them and they are there.
+#[inline(always)]
+pub(crate) fn whole_run(rest: &[u8], size: u64, room: usize) -> Option<&[u8]>
+    ensures room { IfSome result (λ _. size ≤ room) }
+    ensures within { IfSome result (λ _. size ≤ length rest.now) }
+    ensures run { IfSome result (λ v. v.now ≡ take size rest.now) }
+{
+    if size > room as u64 || size > rest.len() as u64 {
+        return None;
+    }
+    Some(&rest[..size as usize])
+}
+
+/// Whether a text is one of the kind: one of Unicode is UTF-8.
+#[inline(always)]
+pub(crate) fn is_text_of(kind: Kind, text: &[u8]) -> bool
+    ensures { result ≡ true → checked_text kind text.now ≡ Ok (value_of_text kind text.now) }
+{
+    match kind {
+        Kind::Unicode => is_utf8(text),
+        _ => true,
+    }
+}
+
+/// Whether a text is UTF-8. Most texts are short, which this reads in fewer steps than a check by vectors.
+#[inline(never)]
+fn is_utf8(text: &[u8]) -> bool
+    ensures { result ≡ is_utf8 text.now }
+{
+    std::str::from_utf8(text).is_ok()
+}
+
+/// Takes a vector that is not kept, or NULL. It is lent from the piece.
+#[inline(always)]
+pub fn sent_vector(
+    kind: Kind,
+    optional: bool,
+    operator: Operator,
+    rest: &[u8],
+    strict: bool,
+    limits: Limits,
+) -> Option<TakenText>
+    requires text { family kind ≡ texts }
+    requires vector { kind ≢ Kind.Ascii }
+    requires sent { operator ≢ Operator.Constant }
+    requires unkept { keeps_value operator ≡ false }
+    ensures unit { IfSome result (λ r. (entry : ℕ) (slots : Slots)
+        → IsSentText kind optional operator entry strict limits rest.now slots slots r) }
+    ensures within { IfSome result (λ r. (r.from ≤ r.bytes) × (r.bytes ≤ length rest.now)) }
+{
+    let (size, len) = whole_size(rest, optional, strict)?;
+    let Some(size) = size else {
+        return Some(TakenText {
+            source: ValueSource::Absent,
+            from: len,
+            bytes: len,
+        });
+    };
+    let text = whole_run(&rest[len..], size, limits.max_text)?;
+    if !is_text_of(kind, text) {
+        return None;
+    }
+    Some(TakenText {
+        source: ValueSource::Piece,
+        from: len,
+        bytes: len + text.len(),
+    })
+}
