@@ -18,22 +18,12 @@ ghost use Rattle.fast_units.specs.device.Words.{HasRoomFor};
 use crate::long_ascii::sent_long;
 use crate::scratch::Scratch;
 use crate::source::ValueSource;
+use crate::taken::TakenText;
 use fast_dict::{Entry, Previous, Slots, Store};
 use fast_tree::Operator;
 use fast_value::{Kind, Scalar};
 use fast_wire::stop_in_block;
 use std::simd::prelude::*;
-
-/// A text that stands whole in the piece, or NULL.
-#[derive(Clone, Copy)]
-pub struct TakenText {
-    /// Where the value stands.
-    pub source: ValueSource,
-    /// Where a text begins among the bytes that is lent from them.
-    pub from: usize,
-    /// The bytes that it takes.
-    pub bytes: usize,
-}
 
 /// The 16 bytes in front, without their stop bits.
 #[inline(always)]

@@ -1,8 +1,8 @@
 //! The units of FAST streams and the fields that stand in them, from the bytes of a piece to a value.
 #![tactic(auto)]
 
-pub mod decimal_items;
 pub mod ascii_items;
+pub mod decimal_items;
 pub mod decimals;
 pub mod fields;
 pub mod integer_items;

@@ -11,9 +11,9 @@ ghost use Rattle.fast_units.specs.device.NextUnits.{BeginsWithCharacter, text_or
 ghost use Rattle.fast_units.specs.device.TextItems.{with_last, IsTextSource, IsPutText, IsSentText};
 ghost use Rattle.fast_units.specs.device.Words.{HasRoomFor};
 
-use crate::ascii_items::TakenText;
 use crate::scratch::Scratch;
 use crate::source::ValueSource;
+use crate::taken::TakenText;
 use fast_dict::operators::tail_keeps;
 use fast_dict::{Slots, Store};
 use fast_tree::Operator;

@@ -14,21 +14,11 @@ ghost use Rattle.fast_dict.specs.meaning.Operators.{checked_text};
 ghost use Rattle.fast_units.specs.device.TextsAs.{IsSentText};
 
 use crate::source::ValueSource;
+use crate::taken::TakenText;
 use crate::texts::TOP_SIZE;
 use fast_tree::Operator;
 use fast_value::{Kind, Limits};
 use fast_wire::whole_unsigned;
-
-/// A text that stands whole in the piece, or NULL, and the bytes that the field takes.
-#[derive(Clone, Copy)]
-pub struct TakenText {
-    /// Where the text stands.
-    pub source: ValueSource,
-    /// Where it begins in the bytes that the field takes, if it is lent from them.
-    pub from: usize,
-    /// The bytes that the field takes.
-    pub bytes: usize,
-}
 
 /// The size of a vector, or NULL where it may be, and the bytes that it takes.
 #[inline(always)]

@@ -17,7 +17,7 @@ use Rattle.fast_units.specs.device.FieldsAs.{IsFieldAs, GivesWhole, reader_in}
 use Rattle.fast_units.specs.device.NextUnits.{IsNextText}
 use Rattle.fast_units.specs.device.Settling.{Serves}
 use Rattle.fast_units.specs.device.TextDecisions.{IsTextDecided}
-use Rattle.fast_units.specs.declared.ascii_items.TakenText.{TakenText}
+use Rattle.fast_units.specs.declared.taken.TakenText.{TakenText}
 use Rattle.fast_units.specs.declared.progress.Progress.TheVariants.{Whole}
 use Rattle.fast_units.specs.declared.source.ValueSource.{ValueSource}
 use Rattle.fast_units.specs.declared.source.ValueSource.TheVariants as From

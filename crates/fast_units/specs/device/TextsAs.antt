@@ -9,7 +9,7 @@ use Rattle.fast_dict.specs.declared.slots.Slots.{Slots}
 use Rattle.fast_dict.specs.meaning.Slots.{slots_dictionary, slots_terms}
 use Rattle.fast_units.specs.device.Settling.{Serves}
 use Rattle.fast_units.specs.device.FieldsAs.{IsFieldAs, reader_in, GivesWhole}
-use Rattle.fast_units.specs.declared.vector_items.TakenText.{TakenText}
+use Rattle.fast_units.specs.declared.taken.TakenText.{TakenText}
 
 -- Each field that is so, and stands in the stream, is this text, or NULL, whole in these bytes.
 abbrev pub IsSentText : Kind → Bool → Operator → ℕ → Bool → Limits → List ℕ → Slots → Slots → TakenText → Type 0
