@@ -4,7 +4,7 @@ ghost use Rattle.std.specs.Prelude.{◌≡◌, ◌<◌, ◌≤◌, length, drop,
 ghost use Rattle.fast_wire.specs.meaning.Maps.{first_bit, later_bits};
 ghost use Rattle.fast_cursor.specs.device.Cursors.{CursorData, bits_left};
 ghost use Rattle.fast_cursor.specs.device.Segments.{first_node};
-ghost use Rattle.fast_cursor.specs.device.Places.{at_place, IsPlaceOf};
+ghost use Rattle.fast_cursor.specs.device.Places.{place_left, at_place, IsPlaceOf};
 
 use crate::map_place::MapPlace;
 
@@ -29,7 +29,7 @@ impl<'t> Place<'t> {
     /// The next instruction is whole.
     #[inline(always)]
     pub fn advance(&mut self)
-        requires { 0 < length self.old.left.now }
+        requires { 0 < length (place_left self.old) }
         ensures left { (c : CursorData)
             → at_place c self.new ≡ record (at_place c self.old) { left = drop 1 (at_place c self.old).left } }
         ensures place { (c : CursorData) → IsPlaceOf c self.old → IsPlaceOf c self.new }
@@ -71,7 +71,7 @@ impl<'t> Place<'t> {
             → bits_left (at_place c self.new) ≡ later_bits (bits_left (at_place c self.old)) }
         ensures same { (c : CursorData)
             → at_place c self.new ≡ record (at_place c self.old) { used = (at_place c self.new).used } }
-        ensures left { self.new.left.now ≡ self.old.left.now }
+        ensures left { place_left self.new ≡ place_left self.old }
         ensures place { (c : CursorData) → IsPlaceOf c self.old → IsPlaceOf c self.new }
     {
         self.map.word <<= 1;
@@ -81,7 +81,7 @@ impl<'t> Place<'t> {
     /// Goes past the next instruction, which uses a bit or none. The bit is not the last one in the word.
     #[inline(always)]
     pub fn pass(&mut self, has_bit: bool)
-        requires left { 0 < length self.old.left.now }
+        requires left { 0 < length (place_left self.old) }
         requires more { has_bit ≡ true → 1 < self.old.map.left }
         ensures past { (c : CursorData) → at_place c self.new ≡ record (at_place c self.old) {
             left = drop 1 (at_place c self.old).left; used = (at_place c self.new).used } }

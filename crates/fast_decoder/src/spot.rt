@@ -6,7 +6,7 @@ ghost use Rattle.fast_value.specs.meaning.Values.{scalar_data};
 ghost use Rattle.fast_tree.specs.meaning.Tree.{FieldData, uses_bit};
 ghost use Rattle.fast_dict.specs.meaning.Dictionary.{Dictionary};
 ghost use Rattle.fast_cursor.specs.device.Cursors.{CursorData};
-ghost use Rattle.fast_cursor.specs.device.Places.{at_place, IsPlaceOf};
+ghost use Rattle.fast_cursor.specs.device.Places.{place_left, at_place, IsPlaceOf};
 ghost use Rattle.fast_stream.specs.device.GrammarReaders.{reader_of};
 ghost use Rattle.fast_stream.specs.device.Readers.{Reader};
 ghost use Rattle.fast_stream.specs.declared.faults.FaultCode.{FaultCode};
@@ -60,7 +60,7 @@ pub fn pass_value<S: Sink>(
     value: Option<Scalar<'_>>,
     sink: &mut S,
 ) -> Result<Turn, FaultCode>
-    requires left { 0 < length place.old.left.now }
+    requires left { 0 < length (place_left place.old) }
     requires bit { has_bit ≡ true → 1 < place.old.map.left }
     ensures moves { (set : Set) (l : Bounds) (strict : Bool) (waits : Reader Dictionary) (d : Dictionary) (counted : ℕ)
         (c : CursorData) (f : FieldData) → IsPlaceOf c place.old → has_bit ≡ uses_bit f → Moves S.takes S.stops
@@ -96,7 +96,7 @@ pub fn hand_taken<S: Sink>(
     bytes: usize,
     sink: &mut S,
 ) -> Went
-    requires left { 0 < length spot.old.place.left.now }
+    requires left { 0 < length (place_left spot.old.place) }
     requires bit { has_bit ≡ true → 1 < spot.old.place.map.left }
     requires within { bytes ≤ length spot.old.rest.now }
     ensures went { (set : Set) (l : Limits) (m m1 : Machine) (f : FieldData) → has_bit ≡ uses_bit f
@@ -122,7 +122,7 @@ pub fn hand_unsent<S: Sink>(
     value: Option<Scalar<'_>>,
     sink: &mut S,
 ) -> Went
-    requires left { 0 < length spot.old.place.left.now }
+    requires left { 0 < length (place_left spot.old.place) }
     requires bit { has_bit ≡ true → 1 < spot.old.place.map.left }
     ensures went { (set : Set) (l : Limits) (m m1 : Machine) (f : FieldData) (bit : Bool) → has_bit ≡ uses_bit f
         → turns.old ≡ m.turns

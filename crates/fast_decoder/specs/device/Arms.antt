@@ -1,5 +1,5 @@
 -- What an arm of the machine's loop does: the place in the innermost segment, and the rest of the piece, stand apart from the machine.
-use Rattle.std.specs.Prelude.{◌≡◌, ℕ, ◌<◌, ◌≤◌, Bool, true, List, length, take, drop, Option, Result, Ok, Err}
+use Rattle.std.specs.Prelude.{◌≡◌, ℕ, ◌<◌, ◌≤◌, Bool, true, List, length, take, drop, slice_get, Option, Some, Result, Ok, Err}
 use Rattle.fast_value.specs.declared.settings.Limits.{Limits}
 use Rattle.fast_value.specs.meaning.Limits.{bounds}
 use Rattle.fast_value.specs.meaning.Kinds.{ScalarData}
@@ -15,7 +15,13 @@ use Rattle.fast_stream.specs.device.Readers.{Done}
 use Rattle.fast_stream.specs.device.GrammarReaders.{reader_of}
 use Rattle.fast_units.specs.device.Taking.{Turns}
 use Rattle.fast_units.specs.device.UnitFronts.{IsSent}
-use Rattle.fast_cursor.specs.device.Places.{at_place, IsPlaceOf}
+use Rattle.fast_value.specs.declared.kinds.Kind.{Kind}
+use Rattle.fast_tree.specs.declared.operators.Operator.{Operator}
+use Rattle.fast_tree.specs.declared.instructions.Node.{Node}
+use Rattle.fast_program.specs.declared.ops.Op.{Op}
+use Rattle.fast_program.specs.device.Codes.{IsFieldCoded}
+use Rattle.fast_cursor.specs.device.Segments.{first_node}
+use Rattle.fast_cursor.specs.device.Places.{place_left, at_place, IsPlaceOf}
 use Rattle.fast_cursor.specs.declared.place.Place.{Place}
 use Rattle.fast_decoder.specs.declared.machine.Machine.{Machine}
 use Rattle.fast_decoder.specs.declared.machine.Turn.{Turn}
@@ -26,6 +32,14 @@ use Rattle.fast_decoder.specs.declared.spot.Went.{Went}
 use Rattle.fast_decoder.specs.declared.spot.Went.TheVariants as Went
 use Rattle.fast_decoder.specs.device.Positions.{Set, state_in, bit_of, IsAtField, CanTurn}
 use Rattle.fast_decoder.specs.device.Steps.{IsStep}
+
+-- The next instruction is the op's node.
+abbrev pub IsAtOp : Set → Place → Op → Type 0
+IsAtOp set p op = (op.node < length set.nodes) × (first_node (place_left p) ≡ Some op.node)
+
+-- The op's node is a field of the kind, under the operator, absent or not, with the op's entry.
+abbrev pub IsFieldOp : Set → Op → Kind → Operator → Bool → Type 0
+IsFieldOp set op kind operator optional = (x : Node) → slice_get set.nodes op.node ≡ Some x → IsFieldCoded kind operator optional op.entry x.shape
 
 -- the machine, at the place
 abbrev pub placed : Machine → Place → Machine
