@@ -14,6 +14,8 @@ use Rattle.fast_tree.specs.meaning.Entries.{keeps_value}
 use Rattle.fast_program.specs.declared.ops.Op.{Op}
 use Rattle.fast_program.specs.device.Ops.{IsOpOf}
 use Rattle.fast_program.specs.declared.codes.Code.{Code}
+use Rattle.fast_program.specs.declared.codes.Code.TheVariants.{End}
+use Rattle.fast_program.specs.device.Runs.{is_end}
 use Rattle.fast_program.specs.device.Codes.{Claim, says, IsCoded, anything, never, field_of, constant_field, decimal_parts, group_of, sequence_of, IsFieldCoded, IsConstantCoded, IsPartsCoded, IsGroupCoded, IsSequenceCoded, IsClaimed}
 
 -- a field's facts, of the field itself
@@ -91,3 +93,9 @@ op_again op n shape h = (∥∥₁_elim h (hlevel props) (λ x. x.0), claim_agai
 pub claimed : (op : Op) (n : ℕ) (shape : Shape) (code : Code) → IsOpOf op n shape → op.code ≡ code → IsClaimed (says code) op.entry shape
 unfolding IsCoded
 claimed op n shape code is same = subst (λ c. IsClaimed (says c) op.entry shape) same is.1
+
+-- what suits a node is no end
+pub no_end : (code : Code) (entry : ℕ) (shape : Shape) → IsCoded code entry shape → is_end code ≡ false
+unfolding IsCoded
+no_end End entry shape h = absurd h
+no_end code entry shape h = refl

@@ -1,2 +1,5 @@
 pub mod Claims
 pub mod OpLists
+pub mod Runs
+pub mod Starts
+pub mod KeptPrograms

@@ -3,6 +3,8 @@
 
 pub mod codes;
 pub mod ops;
+pub mod programs;
 
 pub use codes::Code;
 pub use ops::{Op, ops_of};
+pub use programs::Program;

@@ -4,3 +4,4 @@ pub mod Counts
 pub mod TextFields
 pub mod Opcodes
 pub mod Presence
+pub mod Programs

@@ -3,6 +3,7 @@
 
 mod caps;
 pub mod opcodes;
+mod programs;
 pub mod queries;
 mod read;
 pub mod sets;

@@ -12,7 +12,7 @@ ghost use Rattle.fast_tree.specs.meaning.Tree.{Tree};
 use crate::opcodes::opcodes_of;
 use crate::sets::Templates;
 use fast_notation::{CheckedSet, StaticCode, StaticFault};
-use fast_program::ops_of;
+use fast_program::{Program, ops_of};
 use std::alloc::Global;
 
 /// That there was no memory left.
@@ -48,11 +48,15 @@ impl Templates {
         let Ok(ops) = ops_of(alloc, &set.nodes) else {
             return Err(no_memory());
         };
+        let Ok(program) = Program::of(alloc, &set.templates, &set.nodes) else {
+            return Err(no_memory());
+        };
         Ok(Templates {
             templates: set.templates,
             nodes: set.nodes,
             opcodes,
             ops,
+            program,
             entries: set.entries,
             names: set.names,
             ids: set.ids,

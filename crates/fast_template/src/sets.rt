@@ -6,10 +6,11 @@ ghost use Rattle.fast_notation.specs.meaning.Labels.{AreInPreorder};
 ghost use Rattle.fast_tree.specs.device.Numbers.{NameNodes, NameLaterNodes, HaveDistinctIds, number_of_name, number_of_id};
 ghost use Rattle.fast_template.specs.device.Opcodes.{opcodes_of};
 ghost use Rattle.fast_program.specs.device.Ops.{AreOpsFrom};
+ghost use Rattle.fast_program.specs.device.Programs.{IsProgramOf};
 ghost use Rattle.fast_tree.specs.device.Usable.{AreUsable};
 
 use crate::opcodes::Opcode;
-use fast_program::Op;
+use fast_program::{Op, Program};
 use fast_tree::{Node, Template};
 use std::collections::HashMap;
 
@@ -21,6 +22,7 @@ pub struct Templates {
     pub(crate) nodes: Vec<Node>,
     pub(crate) opcodes: Vec<Opcode>,
     pub(crate) ops: Vec<Op>,
+    pub(crate) program: Program,
     pub(crate) entries: u32,
     pub(crate) names: HashMap<String, u32>,
     pub(crate) ids: HashMap<u32, u32>,
@@ -33,6 +35,7 @@ pub struct Templates {
     ghost nodes_in_preorder: { AreInPreorder nodes.items templates.items },
     ghost nodes_have_opcodes: { opcodes.items ≡ opcodes_of nodes.items },
     ghost nodes_have_ops: { ∥ AreOpsFrom 0 ops.items nodes.items ∥₁ },
+    ghost program_of_set: { ∥ IsProgramOf program templates.items nodes.items ∥₁ },
     ghost distinct_ids: { HaveDistinctIds templates.items },
     ghost names_index: { (q : List ℕ) → get_by_text names q ≡ number_of_name q templates.items },
     ghost ids_index: { (q : ℕ) → get nat_eq ids q ≡ number_of_id q templates.items },

@@ -1,0 +1,39 @@
+-- Programs: the runs of all bodies of a set.
+use Rattle.std.specs.Prelude.{◌≡◌, ℕ, false, List, [], ◌∷◌, slice_get, Some}
+use Rattle.fast_tree.specs.declared.instructions.Node.{Node}
+use Rattle.fast_tree.specs.declared.instructions.Template.{Template}
+use Rattle.fast_tree.specs.device.Numbers.{numbers_of}
+use Rattle.fast_program.specs.declared.ops.Op.{Op}
+use Rattle.fast_program.specs.declared.programs.Program.{Program}
+use Rattle.fast_program.specs.device.Ops.{IsOpOf}
+use Rattle.fast_program.specs.device.Runs.{is_end, Begins}
+
+-- Each op but an End is of its node.
+abbrev pub SuitNodes : List Op → List Node → Type 0
+SuitNodes ops ns = (i : ℕ) (op : Op) → slice_get ops i ≡ Some op → is_end op.code ≡ false → (x : Node) × (slice_get ns op.node ≡ Some x) × IsOpOf op op.node x.shape
+
+-- Ops behind which others were put: runs are what they were, and what suits the nodes does so still.
+pub record Extends (ns : List Node) (old new : List Op) : Type 0 where
+  pub kept : (at : ℕ) (body : List ℕ) → Begins old at body → Begins new at body
+  pub suit : SuitNodes old ns → SuitNodes new ns
+
+-- At each place the run of its body begins.
+abbrev pub AreStarts : {X : Type 0} → (X → List ℕ) → List Op → List ℕ → List X → Type 0
+AreStarts body ops [] [] = Unit {0}
+AreStarts body ops [] (x ∷ xs) = ⊥
+AreStarts body ops (at ∷ starts) [] = ⊥
+AreStarts body ops (at ∷ starts) (x ∷ xs) = Begins ops at (body x) × AreStarts body ops starts xs
+
+-- the bodies of a template and of a node
+abbrev pub template_body : Template → List ℕ
+template_body t = t.body.items
+
+abbrev pub node_body : Node → List ℕ
+node_body x = numbers_of x.shape
+
+-- A program holds the run of each body of templates and nodes, and first an empty one.
+pub record IsProgramOf (p : Program) (ts : List Template) (ns : List Node) : Type 0 where
+  pub rests : Begins p.ops.items 0 []
+  pub suits : SuitNodes p.ops.items ns
+  pub templates : AreStarts template_body p.ops.items p.template_starts.items ts
+  pub bodies : AreStarts node_body p.ops.items p.body_starts.items ns

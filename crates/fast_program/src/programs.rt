@@ -1,0 +1,121 @@
+//! A template set as one row of ops.
+
+ghost use Rattle.std.specs.Prelude.{◌≡◌, ◌≤◌, [], IfOk, OnOk, length};
+ghost use Rattle.fast_tree.specs.device.Numbers.{numbers_of, AreBelow, NameNodes, NameLaterNodes};
+ghost use Rattle.fast_program.specs.device.Runs.{Begins};
+ghost use Rattle.fast_program.specs.device.Programs.{Extends, AreStarts, template_body, node_body, IsProgramOf};
+
+use crate::codes::Code;
+use crate::ops::Op;
+use fast_tree::{Node, Shape, Template};
+use std::alloc::{AllocError, Global};
+
+/// The bodies of a template set, each a run of its nodes' ops with an end behind it, and where they begin. The first op is
+/// an end: there all empty bodies begin.
+#[derive(Debug, Drop)]
+pub struct Program {
+    /// The runs, one behind the other.
+    pub ops: Vec<Op>,
+    /// Where the body of each template begins.
+    pub template_starts: Vec<usize>,
+    /// Where the body of each node begins: that of a group, of an element of a sequence, or none.
+    pub body_starts: Vec<usize>,
+}
+
+/// The end of a body.
+fn end() -> Op
+    ensures { result.code ≡ Code.End }
+{
+    Op {
+        code: Code::End,
+        node: 0,
+        entry: 0,
+    }
+}
+
+/// The nodes within a node.
+fn body_of(node: &Node) -> &[u32]
+    ensures { result.now ≡ numbers_of node.now.shape }
+{
+    match &node.shape {
+        Shape::Field(_) | Shape::Decimal { .. } => &[],
+        Shape::Group { body, .. } | Shape::Sequence { body, .. } => body.as_slice(),
+    }
+}
+
+/// Puts the run of a body behind the others, and says where it begins.
+fn add_body(ops: &mut Vec<Op>, nodes: &[Node], body: &[u32]) -> Result<usize, AllocError>
+    requires few { length nodes.now ≤ 65536 }
+    requires below { AreBelow (length nodes.now) body.now }
+    requires rests { Begins ops.old.items 0 [] }
+    ensures begins { IfOk result (λ at. Begins ops.new.items at body.now) }
+    ensures extends { OnOk result (Extends nodes.now ops.old.items ops.new.items) }
+{
+    if body.is_empty() {
+        return Ok(0);
+    }
+    let start = ops.len();
+    for number in body {
+        let node = &nodes[*number as usize];
+        ops.push(Op::of(*number as u16, &node.shape))?;
+    }
+    ops.push(end())?;
+    Ok(start)
+}
+
+/// Puts the runs of templates behind the others, and says where they begin.
+fn add_templates(
+    alloc: Global,
+    ops: &mut Vec<Op>,
+    templates: &[Template],
+    nodes: &[Node],
+) -> Result<Vec<usize>, AllocError>
+    requires few { length nodes.now ≤ 65536 }
+    requires below { NameNodes (length nodes.now) templates.now }
+    requires rests { Begins ops.old.items 0 [] }
+    ensures starts { IfOk result (λ starts. AreStarts template_body ops.new.items starts.items templates.now) }
+    ensures extends { OnOk result (Extends nodes.now ops.old.items ops.new.items) }
+{
+    let mut starts = Vec::with_capacity(alloc, templates.len())?;
+    for template in templates {
+        let start = add_body(ops, nodes, &template.body)?;
+        starts.push(start)?;
+    }
+    Ok(starts)
+}
+
+/// Puts the runs of groups and sequences behind the others, and says where they begin.
+fn add_bodies(alloc: Global, ops: &mut Vec<Op>, nodes: &[Node]) -> Result<Vec<usize>, AllocError>
+    requires few { length nodes.now ≤ 65536 }
+    requires later { NameLaterNodes nodes.now }
+    requires rests { Begins ops.old.items 0 [] }
+    ensures starts { IfOk result (λ starts. AreStarts node_body ops.new.items starts.items nodes.now) }
+    ensures extends { OnOk result (Extends nodes.now ops.old.items ops.new.items) }
+{
+    let mut starts = Vec::with_capacity(alloc, nodes.len())?;
+    for node in nodes {
+        let start = add_body(ops, nodes, body_of(node))?;
+        starts.push(start)?;
+    }
+    Ok(starts)
+}
+
+impl Program {
+    /// The program of a template set.
+    pub fn of(alloc: Global, templates: &[Template], nodes: &[Node]) -> Result<Program, AllocError>
+        requires few { length nodes.now ≤ 65536 }
+        requires below { NameNodes (length nodes.now) templates.now }
+        requires later { NameLaterNodes nodes.now }
+        ensures { IfOk result (λ program. IsProgramOf program templates.now nodes.now) }
+    {
+        let mut ops = Vec::with_capacity(alloc, nodes.len())?;
+        ops.push(end())?;
+        let template_starts = add_templates(alloc, &mut ops, templates, nodes)?;
+        let body_starts = add_bodies(alloc, &mut ops, nodes)?;
+        Ok(Program {
+            ops,
+            template_starts,
+            body_starts,
+        })
+    }
+}

@@ -1,0 +1,46 @@
+//! The bodies of a set as a decoder's loop runs through them.
+
+ghost use Rattle.std.specs.Prelude.{◌≡◌, ◌<◌, [], Some, length, slice_get};
+ghost use Rattle.fast_tree.specs.declared.instructions.Node.{Node};
+ghost use Rattle.fast_tree.specs.declared.instructions.Template.{Template};
+ghost use Rattle.fast_tree.specs.device.Numbers.{numbers_of};
+ghost use Rattle.fast_program.specs.device.Runs.{Begins};
+ghost use Rattle.fast_program.specs.device.Programs.{SuitNodes};
+ghost use Rattle.fast_template.specs.meaning.Flat.{templates_of, nodes_of};
+ghost use Rattle.fast_template.specs.device.Programs.{program_of};
+
+use crate::sets::Templates;
+use fast_program::Op;
+
+impl Templates {
+    /// The bodies of all templates, groups and sequences, each a run of its nodes' ops with an end behind it. The first op is
+    /// an end.
+    #[inline(always)]
+    pub fn program(&self) -> &[Op]
+        ensures is { result.now ≡ program_of self.now }
+        ensures rests { Begins result.now 0 [] }
+        ensures suits { SuitNodes result.now (nodes_of self.now) }
+    {
+        &self.program.ops
+    }
+
+    /// Where the body of a template begins in the program.
+    #[inline]
+    pub fn template_start(&self, i: u32) -> usize
+        requires { i < length (templates_of self.now) }
+        ensures { (t : Template) → slice_get (templates_of self.now) i ≡ Some t
+            → Begins (program_of self.now) result t.body.items }
+    {
+        self.program.template_starts[i as usize]
+    }
+
+    /// Where the body of a node begins in the program: that of a group, or of an element of a sequence.
+    #[inline]
+    pub fn body_start(&self, n: u32) -> usize
+        requires { n < length (nodes_of self.now) }
+        ensures { (x : Node) → slice_get (nodes_of self.now) n ≡ Some x
+            → Begins (program_of self.now) result (numbers_of x.shape) }
+    {
+        self.program.body_starts[n as usize]
+    }
+}
