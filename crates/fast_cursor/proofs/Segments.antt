@@ -5,6 +5,8 @@ use Rattle.std.proofs.lemmas.List.{drop-take, take-take, take_more, take_more_se
 use Rattle.std.specs.Vec.{with_items}
 use borrow.Rule.Slice.PartMut.{put_mid, post_of}
 use Rattle.fast_wire.specs.meaning.Maps.{map_limit}
+use Rattle.fast_program.specs.declared.ops.Op.{Op}
+use Rattle.fast_cursor.specs.device.Runs.{run_at}
 use Rattle.fast_cursor.specs.device.Cursors.{FrameData, CursorData, entered, left_to}
 use Rattle.fast_cursor.specs.declared.cursor.Elements.{Elements}
 use Rattle.fast_cursor.specs.declared.cursor.Frame.{Frame}
@@ -13,16 +15,16 @@ use Rattle.fast_cursor.specs.device.MapPlaces.{used_bits, IsPlace}
 use Rattle.fast_cursor.specs.device.Segments.{map_at, frame_data, frames_on, ArePlaces, elements_data, cursor_data, IsCursor}
 
 -- each frame is there
-pub length-frames : (cells : List ℕ) (start : ℕ) (fs : List Frame) (outer : List FrameData) → length (frames_on cells start fs outer) ≡ length fs + length outer
-length-frames cells start [] outer = omega arith
-length-frames cells start (f ∷ fs) outer = let e = length-frames cells (start + map_limit) fs (frame_data cells start f ∷ outer) in omega (arith, e)
+pub length-frames : (ops : List Op) (cells : List ℕ) (start : ℕ) (fs : List Frame) (outer : List FrameData) → length (frames_on ops cells start fs outer) ≡ length fs + length outer
+length-frames ops cells start [] outer = omega arith
+length-frames ops cells start (f ∷ fs) outer = let e = length-frames ops cells (start + map_limit) fs (frame_data ops cells start f ∷ outer) in omega (arith, e)
 
 -- The last frame is the innermost one.
-pub frames-push : (cells : List ℕ) (start : ℕ) (fs : List Frame) (f : Frame) (outer : List FrameData) → frames_on cells start (fs ++ f ∷ []) outer ≡ frame_data cells (start + map_limit * length fs) f ∷ frames_on cells start fs outer
-frames-push cells start [] f outer = let e : start ≡ start + map_limit * 0 = omega arith in ap (λ n. frame_data cells n f ∷ outer) e
-frames-push cells start (g ∷ gs) f outer =
+pub frames-push : (ops : List Op) (cells : List ℕ) (start : ℕ) (fs : List Frame) (f : Frame) (outer : List FrameData) → frames_on ops cells start (fs ++ f ∷ []) outer ≡ frame_data ops cells (start + map_limit * length fs) f ∷ frames_on ops cells start fs outer
+frames-push ops cells start [] f outer = let e : start ≡ start + map_limit * 0 = omega arith in ap (λ n. frame_data ops cells n f ∷ outer) e
+frames-push ops cells start (g ∷ gs) f outer =
     let e : start + map_limit + map_limit * length gs ≡ start + map_limit * suc (length gs) = omega arith in
-    frames-push cells (start + map_limit) gs f (frame_data cells start g ∷ outer) ∙ ap (λ n. frame_data cells n f ∷ frames_on cells (start + map_limit) gs (frame_data cells start g ∷ outer)) e
+    frames-push ops cells (start + map_limit) gs f (frame_data ops cells start g ∷ outer) ∙ ap (λ n. frame_data ops cells n f ∷ frames_on ops cells (start + map_limit) gs (frame_data ops cells start g ∷ outer)) e
 
 -- A map stands in the cells up to its last one.
 pub map-within : (cells others : List ℕ) (start len n : ℕ) → start + len ≤ n → take n cells ≡ take n others → map_at cells start len ≡ map_at others start len
@@ -32,15 +34,15 @@ map-within cells others start len n h e =
     sym (drop-take start len cells) ∙ ap (drop start) same ∙ drop-take start len others
 
 -- Frames don't change with the cells behind theirs.
-pub frames-within : (cells others : List ℕ) (start : ℕ) (fs : List Frame) (outer : List FrameData) (n : ℕ) → ArePlaces cells start fs → start + map_limit * length fs ≤ n → take n cells ≡ take n others
-    → frames_on cells start fs outer ≡ frames_on others start fs outer
-frames-within cells others start [] outer n short h e = refl
-frames-within cells others start (f ∷ fs) outer n short h e =
+pub frames-within : (ops : List Op) (cells others : List ℕ) (start : ℕ) (fs : List Frame) (outer : List FrameData) (n : ℕ) → ArePlaces cells start fs → start + map_limit * length fs ≤ n → take n cells ≡ take n others
+    → frames_on ops cells start fs outer ≡ frames_on ops others start fs outer
+frames-within ops cells others start [] outer n short h e = refl
+frames-within ops cells others start (f ∷ fs) outer n short h e =
     let here : f.map.len ≤ map_limit = short.0.counted.short in
     let same : map_at cells start f.map.len ≡ map_at others start f.map.len = map-within cells others start f.map.len n (omega arith) e in
-    let front : frame_data cells start f ≡ frame_data others start f = cc in
-    ap (λ d. frames_on cells (start + map_limit) fs (d ∷ outer)) front
-    ∙ frames-within cells others (start + map_limit) fs (frame_data others start f ∷ outer) n short.1 (omega arith) e
+    let front : frame_data ops cells start f ≡ frame_data ops others start f = cc in
+    ap (λ d. frames_on ops cells (start + map_limit) fs (d ∷ outer)) front
+    ∙ frames-within ops cells others (start + map_limit) fs (frame_data ops others start f ∷ outer) n short.1 (omega arith) e
 
 -- Nor do their places.
 pub places-within : (cells others : List ℕ) (start : ℕ) (fs : List Frame) (n : ℕ) → ArePlaces cells start fs → start + map_limit * length fs ≤ n → take n cells ≡ take n others → ArePlaces others start fs
@@ -70,7 +72,7 @@ length-map cells start len = let e = length-take len (drop start cells) in omega
 
 -- a frame for each open segment
 pub length-open : (i : Inside) → IsCursor i → length (cursor_data i).frames ≡ i.level
-length-open i s = length-frames i.maps.items 0 (take i.level i.frames.items) [] ∙ (let e = length-take-le i.level i.frames.items s.within in omega (arith, e))
+length-open i s = length-frames i.ops.now i.maps.items 0 (take i.level i.frames.items) [] ∙ (let e = length-take-le i.level i.frames.items s.within in omega (arith, e))
 
 -- A frame is there for one segment more.
 pub has-room : (i : Inside) (d : CursorData) → IsCursor i → cursor_data i ≡ d → length d.frames < d.depth → i.level < length i.frames.items
@@ -80,12 +82,12 @@ has-room i d s e h =
     omega arith
 
 -- The frame that is written stands on those before it.
-pub frames-more : (cells : List ℕ) (fs : List Frame) (n start : ℕ) (f : Frame) → n < length fs → start ≡ map_limit * n
-    → frames_on cells 0 (take (n + 1) (set fs n f)) [] ≡ frame_data cells start f ∷ frames_on cells 0 (take n fs) []
-frames-more cells fs n start f h e =
+pub frames-more : (ops : List Op) (cells : List ℕ) (fs : List Frame) (n start : ℕ) (f : Frame) → n < length fs → start ≡ map_limit * n
+    → frames_on ops cells 0 (take (n + 1) (set fs n f)) [] ≡ frame_data ops cells start f ∷ frames_on ops cells 0 (take n fs) []
+frames-more ops cells fs n start f h e =
     let len : length (take n fs) ≡ n = length-take-le n fs (omega arith) in
     let place : 0 + map_limit * length (take n fs) ≡ start = omega arith in
-    ap (λ l. frames_on cells 0 l []) (take_more_set fs n f h) ∙ frames-push cells 0 (take n fs) f [] ∙ ap (λ k. frame_data cells k f ∷ frames_on cells 0 (take n fs) []) place
+    ap (λ l. frames_on ops cells 0 l []) (take_more_set fs n f h) ∙ frames-push ops cells 0 (take n fs) f [] ∙ ap (λ k. frame_data ops cells k f ∷ frames_on ops cells 0 (take n fs) []) place
 
 pub places-more : (cells : List ℕ) (fs : List Frame) (n start : ℕ) (f : Frame) → n < length fs → start ≡ map_limit * n → ArePlaces cells 0 (take n fs) → IsPlace (map_at cells start f.map.len) f.map → ArePlaces cells 0 (take (n + 1) (set fs n f))
 places-more cells fs n start f h e all here =
@@ -94,24 +96,24 @@ places-more cells fs n start f h e all here =
     subst (ArePlaces cells 0) (sym (take_more_set fs n f h)) (places-push cells 0 (take n fs) f all (subst (λ k. IsPlace (map_at cells k f.map.len) f.map) place here))
 
 -- A segment begins where a frame is written.
-pub entered-is : (i : Inside) (d : CursorData) (elements : Option Elements) (body : List ℕ) (f : Frame) (depth : ℕ) → IsCursor i → cursor_data i ≡ d → i.level < length i.frames.items → depth ≡ length i.frames.items
-    → f ≡ record { after = i.left; map = i.map; elements = elements }
-    → record { frames = frames_on i.maps.items 0 (take (i.level + 1) (set i.frames.items i.level f)) []; left = body; map = []; used = 0; depth = depth } ≡ entered d (option_map elements_data elements) body
-entered-is i d elements body f depth s e h k is =
-    subst (λ (c : CursorData). record { frames = frames_on i.maps.items 0 (take (i.level + 1) (set i.frames.items i.level f)) []; left = body; map = []; used = 0; depth = depth } ≡ entered c (option_map elements_data elements) body) e
-    (let more : frames_on i.maps.items 0 (take (i.level + 1) (set i.frames.items i.level f)) [] ≡ frame_data i.maps.items i.start f ∷ frames_on i.maps.items 0 (take i.level i.frames.items) []
-    = frames-more i.maps.items i.frames.items i.level i.start f h s.starts in
-    let here : frame_data i.maps.items i.start f ≡ frame_data i.maps.items i.start (record { after = i.left; map = i.map; elements = elements }) = ap (frame_data i.maps.items i.start) is in
+pub entered-is : (i : Inside) (d : CursorData) (elements : Option Elements) (start : ℕ) (f : Frame) (depth : ℕ) → IsCursor i → cursor_data i ≡ d → i.level < length i.frames.items → depth ≡ length i.frames.items
+    → f ≡ record { after = i.ip; map = i.map; elements = elements }
+    → record { ops = i.ops.now; frames = frames_on i.ops.now i.maps.items 0 (take (i.level + 1) (set i.frames.items i.level f)) []; left = run_at i.ops.now start; map = []; used = 0; depth = depth } ≡ entered d (option_map (elements_data d.ops) elements) (run_at d.ops start)
+entered-is i d elements start f depth s e h k is =
+    subst (λ (c : CursorData). record { ops = i.ops.now; frames = frames_on i.ops.now i.maps.items 0 (take (i.level + 1) (set i.frames.items i.level f)) []; left = run_at i.ops.now start; map = []; used = 0; depth = depth } ≡ entered c (option_map (elements_data c.ops) elements) (run_at c.ops start)) e
+    (let more : frames_on i.ops.now i.maps.items 0 (take (i.level + 1) (set i.frames.items i.level f)) [] ≡ frame_data i.ops.now i.maps.items i.start f ∷ frames_on i.ops.now i.maps.items 0 (take i.level i.frames.items) []
+    = frames-more i.ops.now i.maps.items i.frames.items i.level i.start f h s.starts in
+    let here : frame_data i.ops.now i.maps.items i.start f ≡ frame_data i.ops.now i.maps.items i.start (record { after = i.ip; map = i.map; elements = elements }) = ap (frame_data i.ops.now i.maps.items i.start) is in
     cc)
 
 -- The frames below the innermost one.
-pub frames-less : (cells : List ℕ) (fs : List Frame) (n start : ℕ) (f : Frame) → n < length fs → start ≡ map_limit * n → f ≡ get_or fs n f
-    → frames_on cells 0 (take (n + 1) fs) [] ≡ frame_data cells start f ∷ frames_on cells 0 (take n fs) []
-frames-less cells fs n start f h e is =
+pub frames-less : (ops : List Op) (cells : List ℕ) (fs : List Frame) (n start : ℕ) (f : Frame) → n < length fs → start ≡ map_limit * n → f ≡ get_or fs n f
+    → frames_on ops cells 0 (take (n + 1) fs) [] ≡ frame_data ops cells start f ∷ frames_on ops cells 0 (take n fs) []
+frames-less ops cells fs n start f h e is =
     let len : length (take n fs) ≡ n = length-take-le n fs (omega arith) in
     let place : 0 + map_limit * length (take n fs) ≡ start = omega arith in
-    ap (λ l. frames_on cells 0 l []) (take_more fs n f h ∙ ap (λ g. take n fs ++ g ∷ []) (sym is))
-    ∙ frames-push cells 0 (take n fs) f [] ∙ ap (λ k. frame_data cells k f ∷ frames_on cells 0 (take n fs) []) place
+    ap (λ l. frames_on ops cells 0 l []) (take_more fs n f h ∙ ap (λ g. take n fs ++ g ∷ []) (sym is))
+    ∙ frames-push ops cells 0 (take n fs) f [] ∙ ap (λ k. frame_data ops cells k f ∷ frames_on ops cells 0 (take n fs) []) place
 
 pub places-less : (cells : List ℕ) (fs : List Frame) (n start : ℕ) (f : Frame) → n < length fs → start ≡ map_limit * n → f ≡ get_or fs n f → ArePlaces cells 0 (take (n + 1) fs) → ArePlaces cells 0 (take n fs) × IsPlace (map_at cells start f.map.len) f.map
 places-less cells fs n start f h e is all =
@@ -122,19 +124,20 @@ places-less cells fs n start f h e is all =
 
 -- The innermost segment is whole, and what its frame says goes on.
 pub left-is : (i : Inside) (d : CursorData) (r : Frame) (n : ℕ) → IsCursor i → cursor_data i ≡ d → i.level ≡ n + 1 → r ≡ get_or i.frames.items n r → (f : FrameData) (fs : List FrameData) → d.frames ≡ f ∷ fs
-    → (record { frames = frames_on i.maps.items 0 (take n i.frames.items) []; left = r.after.now; map = map_at i.maps.items (i.start - map_limit) r.map.len; used = used_bits r.map; depth = length i.frames.items } ≡ left_to d f fs)
-    × (option_map elements_data r.elements ≡ f.elements)
+    → (record { ops = i.ops.now; frames = frames_on i.ops.now i.maps.items 0 (take n i.frames.items) []; left = run_at i.ops.now r.after; map = map_at i.maps.items (i.start - map_limit) r.map.len; used = used_bits r.map; depth = length i.frames.items } ≡ left_to d f fs)
+    × (option_map (elements_data d.ops) r.elements ≡ f.elements)
 left-is i d r n s e one is f fs front =
     let within : i.level ≤ length i.frames.items = s.within in
     let starts : i.start ≡ map_limit * i.level = s.starts in
-    let less : frames_on i.maps.items 0 (take (n + 1) i.frames.items) [] ≡ frame_data i.maps.items (i.start - map_limit) r ∷ frames_on i.maps.items 0 (take n i.frames.items) []
-    = frames-less i.maps.items i.frames.items n (i.start - map_limit) r (omega arith) (omega arith) is in
-    let all : f ∷ fs ≡ frame_data i.maps.items (i.start - map_limit) r ∷ frames_on i.maps.items 0 (take n i.frames.items) []
-    = sym front ∙ ap (λ (c : CursorData). c.frames) (sym e) ∙ ap (λ k. frames_on i.maps.items 0 (take k i.frames.items) []) one ∙ less in
-    let first : f ≡ frame_data i.maps.items (i.start - map_limit) r = cc in
-    let rest : fs ≡ frames_on i.maps.items 0 (take n i.frames.items) [] = cc in
+    let less : frames_on i.ops.now i.maps.items 0 (take (n + 1) i.frames.items) [] ≡ frame_data i.ops.now i.maps.items (i.start - map_limit) r ∷ frames_on i.ops.now i.maps.items 0 (take n i.frames.items) []
+    = frames-less i.ops.now i.maps.items i.frames.items n (i.start - map_limit) r (omega arith) (omega arith) is in
+    let all : f ∷ fs ≡ frame_data i.ops.now i.maps.items (i.start - map_limit) r ∷ frames_on i.ops.now i.maps.items 0 (take n i.frames.items) []
+    = sym front ∙ ap (λ (c : CursorData). c.frames) (sym e) ∙ ap (λ k. frames_on i.ops.now i.maps.items 0 (take k i.frames.items) []) one ∙ less in
+    let first : f ≡ frame_data i.ops.now i.maps.items (i.start - map_limit) r = cc in
+    let rest : fs ≡ frames_on i.ops.now i.maps.items 0 (take n i.frames.items) [] = cc in
     let depth : length i.frames.items ≡ d.depth = ap (λ (c : CursorData). c.depth) e in
-    (cc, ap (λ (g : FrameData). g.elements) (sym first))
+    let ops : i.ops.now ≡ d.ops = ap (λ (c : CursorData). c.ops) e in
+    (cc, ap (λ (o : List Op). option_map (elements_data o) r.elements) (sym ops) ∙ ap (λ (g : FrameData). g.elements) (sym first))
 
 -- In the cells from a place on stand others, and before it the same.
 pub record IsFilled (old : List ℕ) (start : ℕ) (cells now : List ℕ) : Type 0 where
@@ -159,14 +162,14 @@ filled maps old cells start k same size h len =
 
 -- Only the innermost map has changed.
 pub only-map : (i : Inside) (d : CursorData) (now map : List ℕ) (used : ℕ) → IsCursor i → cursor_data i ≡ d → take i.start now ≡ take i.start i.maps.items → used ≡ used_bits i.map
-    → record { frames = frames_on now 0 (take i.level i.frames.items) []; left = i.left.now; map = map; used = used; depth = length i.frames.items } ≡ record d { map = map }
+    → record { ops = i.ops.now; frames = frames_on i.ops.now now 0 (take i.level i.frames.items) []; left = run_at i.ops.now i.ip; map = map; used = used; depth = length i.frames.items } ≡ record d { map = map }
 only-map i d now map used s e before same =
     let len : length (take i.level i.frames.items) ≡ i.level = length-take-le i.level i.frames.items s.within in
     let starts : i.start ≡ map_limit * i.level = s.starts in
-    let frames : frames_on now 0 (take i.level i.frames.items) [] ≡ frames_on i.maps.items 0 (take i.level i.frames.items) []
-    = sym (frames-within i.maps.items now 0 (take i.level i.frames.items) [] i.start s.around (omega arith) (sym before)) in
-    ap (λ n. record { frames = frames_on now 0 (take i.level i.frames.items) []; left = i.left.now; map = map; used = n; depth = length i.frames.items }) same
-    ∙ ap (λ fs. record { frames = fs; left = i.left.now; map = map; used = used_bits i.map; depth = length i.frames.items }) frames
+    let frames : frames_on i.ops.now now 0 (take i.level i.frames.items) [] ≡ frames_on i.ops.now i.maps.items 0 (take i.level i.frames.items) []
+    = sym (frames-within i.ops.now i.maps.items now 0 (take i.level i.frames.items) [] i.start s.around (omega arith) (sym before)) in
+    ap (λ n. record { ops = i.ops.now; frames = frames_on i.ops.now now 0 (take i.level i.frames.items) []; left = run_at i.ops.now i.ip; map = map; used = n; depth = length i.frames.items }) same
+    ∙ ap (λ fs. record { ops = i.ops.now; frames = fs; left = run_at i.ops.now i.ip; map = map; used = used_bits i.map; depth = length i.frames.items }) frames
     ∙ ap (λ (c : CursorData). record c { map = map }) e
 
 -- The places of the frames are the same.

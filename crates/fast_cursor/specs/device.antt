@@ -1,4 +1,5 @@
 -- Devices of contracts within the crates and of proofs: invariants, models of state, relations in between.
+pub mod Runs
 pub mod Cursors
 pub mod MapPlaces
 pub mod Segments

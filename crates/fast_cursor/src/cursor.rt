@@ -1,47 +1,53 @@
 //! Where a decoder is in a message: the open segments, and what is left of each.
 
-ghost use Rattle.std.specs.Prelude.{◌≡◌, ◌↔◌, ◌<◌, true, false, List, [], ◌∷◌, length, drop, IfOk, IsTrue, Some, None, option_map};
+ghost use Rattle.std.specs.Prelude.{◌≡◌, ◌↔◌, ◌<◌, true, false, ℕ, List, [], ◌∷◌, length, drop};
+ghost use Rattle.std.specs.Prelude.{IfOk, IsTrue, Some, None, option_map, slice_get};
 ghost use Rattle.fast_wire.specs.meaning.Entities.{HaveNoStop};
 ghost use Rattle.fast_wire.specs.meaning.Maps.{map_limit, first_bit, later_bits};
+ghost use Rattle.fast_program.specs.device.Runs.{is_end, Begins};
+ghost use Rattle.fast_cursor.specs.device.Runs.{run_at, IsRun};
 ghost use Rattle.fast_cursor.specs.device.Cursors.{CursorData, FrameData, bits_left, at_rest, entered, left_to};
-ghost use Rattle.fast_cursor.specs.device.Segments.{elements_data, first_node};
+ghost use Rattle.fast_cursor.specs.device.Segments.{elements_data, first_node, IsRunOf};
 ghost use Rattle.fast_cursor.specs.device.Places.{at_place, IsPlaceOf};
 ghost use Rattle.fast_cursor.specs.device.MapTaking.{IsMapTaken};
 
 use crate::map_place::{MapPlace, NO_MAP};
 use crate::pending::{MapFront, next_map};
 use crate::place::Place;
+use fast_program::{Code, Op};
 use fast_wire::MAP_LIMIT;
 use std::alloc::{AllocError, Global};
 use std::marker::Model;
 
 /// What is still to come of a sequence behind an element.
 #[derive(Clone, Copy, Debug)]
-pub struct Elements<'t> {
+pub struct Elements {
     /// How many elements.
     pub more: u32,
-    /// The nodes of each.
-    pub body: &'t [u32],
+    /// Where each one's nodes begin in the program.
+    pub start: usize,
     /// The bits that each uses.
     pub width: usize,
 }
 
 /// The segment around an open group or element.
 #[derive(Clone, Copy)]
-struct Frame<'t> {
-    // the nodes behind the group or sequence
-    after: &'t [u32],
+struct Frame {
+    // where in the program it goes on behind the group or sequence
+    after: usize,
     map: MapPlace,
-    elements: Option<Elements<'t>>,
+    elements: Option<Elements>,
 }
 
 /// Where a decoder is in a message. All its memory is taken when it is made.
 #[derive(Drop)]
 pub struct Cursor<'t> {
     // The first `level` frames count, the outermost first.
-    frames: Vec<Frame<'t>>,
+    frames: Vec<Frame>,
     level: usize,
-    left: &'t [u32],
+    ops: &'t [Op],
+    // where the next instruction stands in the program
+    ip: usize,
     // The cells of one map for each level, the outermost first; those of the innermost segment begin at `start`.
     maps: Vec<u8>,
     start: usize,
@@ -49,6 +55,8 @@ pub struct Cursor<'t> {
 }
 
 impl<'t> Model for Cursor<'t> {
+    ghost use Rattle.fast_program.specs.device.Runs.{is_end, Begins};
+    ghost use Rattle.fast_cursor.specs.device.Runs.{run_at, IsRun};
     ghost use Rattle.fast_cursor.specs.device.Cursors.{CursorData};
 
     ghost Value = { CursorData };
@@ -61,18 +69,19 @@ impl<'t> Model for Cursor<'t> {
 }
 
 impl<'t> Cursor<'t> {
-    /// A cursor before a message, for at most so many open groups and elements at once.
+    /// A cursor before a message, for at most so many open groups and elements at once. The program begins with an End.
     ///
     /// # Errors
     ///
     /// Memory was refused.
-    pub fn new(alloc: Global, depth: usize) -> Result<Cursor<'t>, AllocError>
-        ensures { IfOk result (λ c. c ≡ at_rest depth) }
+    pub fn new(alloc: Global, ops: &'t [Op], depth: usize) -> Result<Cursor<'t>, AllocError>
+        requires rest { Begins ops.now 0 [] }
+        ensures { IfOk result (λ c. c ≡ at_rest ops.entry.now depth) }
     {
         let levels = depth.checked_add(1).ok_or(AllocError)?;
         let cells = levels.checked_mul(MAP_LIMIT).ok_or(AllocError)?;
         let empty = Frame {
-            after: &[],
+            after: 0,
             map: NO_MAP,
             elements: None,
         };
@@ -81,7 +90,8 @@ impl<'t> Cursor<'t> {
         Ok(Cursor {
             frames,
             level: 0,
-            left: &[],
+            ops,
+            ip: 0,
             maps,
             start: 0,
             map: NO_MAP,
@@ -90,20 +100,21 @@ impl<'t> Cursor<'t> {
 
     /// Forgets all that was read.
     pub fn reset(&mut self)
-        ensures { self.new ≡ at_rest self.old.depth }
+        ensures { self.new ≡ at_rest self.old.ops self.old.depth }
     {
         self.level = 0;
         self.start = 0;
-        self.left = &[];
+        self.ip = 0;
         self.map = NO_MAP;
     }
 
-    /// The instructions of a message's template are to come.
+    /// The instructions of a message's template are to come, which begin at a place in the program.
     #[inline(always)]
-    pub fn begin(&mut self, body: &'t [u32])
-        ensures { self.new ≡ record self.old { left = body.entry.now } }
+    pub fn begin(&mut self, start: usize)
+        requires run { IsRun self.old.ops start }
+        ensures { self.new ≡ record self.old { left = run_at self.old.ops start } }
     {
-        self.left = body;
+        self.ip = start;
     }
 
     /// Where it is in the innermost segment.
@@ -113,7 +124,8 @@ impl<'t> Cursor<'t> {
         ensures place { IsPlaceOf self.now result }
     {
         Place {
-            left: self.left,
+            ops: self.ops,
+            ip: self.ip,
             map: self.map,
         }
     }
@@ -124,7 +136,7 @@ impl<'t> Cursor<'t> {
         requires { IsPlaceOf self.old place }
         ensures { self.new ≡ at_place self.old place.entry }
     {
-        self.left = place.left;
+        self.ip = place.ip;
         self.map = place.map;
     }
 
@@ -232,7 +244,21 @@ impl<'t> Cursor<'t> {
     pub fn next(&self) -> Option<u32>
         ensures { result ≡ first_node self.now.left }
     {
-        self.left.first().copied()
+        let op = self.op();
+        match op.code {
+            Code::End => None,
+            _ => Some(u32::from(op.node)),
+        }
+    }
+
+    /// What there is to do next.
+    #[inline(always)]
+    pub fn op(&self) -> Op
+        ensures within { (n : ℕ) × (slice_get self.now.ops n ≡ Some result) }
+        ensures end { is_end result.code ≡ true → self.now.left ≡ [] }
+        ensures more { is_end result.code ≡ false → self.now.left ≡ result.node ∷ drop 1 self.now.left }
+    {
+        self.ops[self.ip]
     }
 
     /// The next instruction is whole.
@@ -241,40 +267,46 @@ impl<'t> Cursor<'t> {
         requires { 0 < length self.old.left }
         ensures { self.new ≡ record self.old { left = drop 1 self.old.left } }
     {
-        self.left = &self.left[1..];
+        self.ip += 1;
     }
 
     /// A group begins, behind which the innermost segment goes on.
-    pub fn open_group(&mut self, body: &'t [u32])
+    pub fn open_group(&mut self, start: usize)
         requires room { length self.old.frames < self.old.depth }
-        ensures { self.new ≡ entered self.old None body.entry.now }
+        requires run { IsRun self.old.ops start }
+        ensures { self.new ≡ entered self.old None (run_at self.old.ops start) }
     {
-        self.enter(None, body);
+        self.enter(None, start);
     }
 
     /// An element begins, behind which come others, and then what is left of the innermost segment.
     #[inline(always)]
-    pub fn open_element(&mut self, elements: Elements<'t>)
+    pub fn open_element(&mut self, elements: Elements)
         requires room { length self.old.frames < self.old.depth }
-        ensures { self.new ≡ entered self.old (Some (elements_data elements.entry)) elements.entry.body.now }
+        requires run { IsRun self.old.ops elements.start }
+        ensures { self.new ≡ entered self.old (Some (elements_data self.old.ops elements))
+            (run_at self.old.ops elements.start) }
     {
-        self.enter(Some(elements), elements.body);
+        self.enter(Some(elements), elements.start);
     }
 
     /// A segment begins.
     #[inline(always)]
-    fn enter(&mut self, elements: Option<Elements<'t>>, body: &'t [u32])
+    fn enter(&mut self, elements: Option<Elements>, start: usize)
         requires room { length self.old.frames < self.old.depth }
-        ensures { self.new ≡ entered self.old (option_map elements_data elements.entry) body.entry.now }
+        requires run { IsRun self.old.ops start }
+        requires elements { IsRunOf self.old.ops elements }
+        ensures { self.new ≡ entered self.old (option_map (elements_data self.old.ops) elements)
+            (run_at self.old.ops start) }
     {
         self.frames[self.level] = Frame {
-            after: self.left,
+            after: self.ip,
             map: self.map,
             elements,
         };
         self.level += 1;
         self.start += MAP_LIMIT;
-        self.left = body;
+        self.ip = start;
         self.map = NO_MAP;
     }
 
@@ -288,15 +320,16 @@ impl<'t> Cursor<'t> {
 
     /// The innermost segment is whole, and the one around it goes on. The answer is what is still to come of a sequence.
     #[inline(always)]
-    pub fn close(&mut self) -> Option<Elements<'t>>
+    pub fn close(&mut self) -> Option<Elements>
         requires inner { 0 < length self.old.frames }
-        ensures { (f : FrameData) (fs : List FrameData) → self.old.frames ≡ f ∷ fs
-            → (self.new ≡ left_to self.old f fs) × (option_map elements_data result ≡ f.elements) }
+        ensures left { (f : FrameData) (fs : List FrameData) → self.old.frames ≡ f ∷ fs
+            → (self.new ≡ left_to self.old f fs) × (option_map (elements_data self.old.ops) result ≡ f.elements) }
+        ensures run { IsRunOf self.old.ops result }
     {
         let frame = self.frames[self.level - 1];
         self.level -= 1;
         self.start -= MAP_LIMIT;
-        self.left = frame.after;
+        self.ip = frame.after;
         self.map = frame.map;
         frame.elements
     }

@@ -1,29 +1,52 @@
 //! Where a cursor is in the innermost segment, apart from the cursor.
 
-ghost use Rattle.std.specs.Prelude.{◌≡◌, ◌<◌, ◌≤◌, length, drop, true, false, if◌then◌else◌};
+ghost use Rattle.std.specs.Prelude.{◌≡◌, ◌+◌, ◌<◌, ◌≤◌, [], ◌∷◌, length, drop, true, false, if◌then◌else◌};
+ghost use Rattle.std.specs.Prelude.{Some, slice_get};
 ghost use Rattle.fast_wire.specs.meaning.Maps.{first_bit, later_bits};
+ghost use Rattle.fast_program.specs.device.Runs.{is_end};
+ghost use Rattle.fast_cursor.specs.device.Runs.{run_at, IsRun};
 ghost use Rattle.fast_cursor.specs.device.Cursors.{CursorData, bits_left};
 ghost use Rattle.fast_cursor.specs.device.Segments.{first_node};
 ghost use Rattle.fast_cursor.specs.device.Places.{place_left, at_place, IsPlaceOf};
 
 use crate::map_place::MapPlace;
+use fast_program::{Code, Op};
 
 /// Where a cursor is in the innermost segment. It stands apart from the cursor, so that a loop can keep it in registers.
 #[derive(Clone, Copy)]
 pub struct Place<'t> {
-    /// The nodes left.
-    pub left: &'t [u32],
+    /// The program.
+    pub ops: &'t [Op],
+    /// Where the next instruction stands in it.
+    pub ip: usize,
     /// The place in the segment's map.
     pub map: MapPlace,
 }
 
 impl<'t> Place<'t> {
+    /// What there is to do next.
+    #[inline(always)]
+    pub fn op(&self) -> Op
+        requires run { IsRun self.now.ops.now self.now.ip }
+        ensures here { slice_get self.now.ops.now self.now.ip ≡ Some result }
+        ensures end { is_end result.code ≡ true → place_left self.now ≡ [] }
+        ensures more { is_end result.code ≡ false
+            → place_left self.now ≡ result.node ∷ run_at self.now.ops.now (self.now.ip + 1) }
+    {
+        self.ops[self.ip]
+    }
+
     /// The next instruction's node, if one is left.
     #[inline(always)]
     pub fn next(&self) -> Option<u32>
+        requires run { IsRun self.now.ops.now self.now.ip }
         ensures { (c : CursorData) → result ≡ first_node (at_place c self.now).left }
     {
-        self.left.first().copied()
+        let op = self.op();
+        match op.code {
+            Code::End => None,
+            _ => Some(u32::from(op.node)),
+        }
     }
 
     /// The next instruction is whole.
@@ -34,16 +57,17 @@ impl<'t> Place<'t> {
             → at_place c self.new ≡ record (at_place c self.old) { left = drop 1 (at_place c self.old).left } }
         ensures place { (c : CursorData) → IsPlaceOf c self.old → IsPlaceOf c self.new }
     {
-        self.left = &self.left[1..];
+        self.ip += 1;
     }
 
-    /// These instructions are to come.
+    /// The instructions are to come that begin at a place in the program.
     #[inline(always)]
-    pub fn begin(&mut self, body: &'t [u32])
-        ensures left { (c : CursorData) → at_place c self.new ≡ record (at_place c self.old) { left = body.entry.now } }
-        ensures place { (c : CursorData) → IsPlaceOf c self.old → IsPlaceOf c self.new }
+    pub fn begin(&mut self, start: usize)
+        ensures left { (c : CursorData)
+            → at_place c self.new ≡ record (at_place c self.old) { left = run_at self.old.ops.now start } }
+        ensures place { (c : CursorData) → IsPlaceOf c self.old → IsRun c.ops start → IsPlaceOf c self.new }
     {
-        self.left = body;
+        self.ip = start;
     }
 
     /// The next bit. Behind the last one stand zeros for ever.
@@ -84,7 +108,9 @@ impl<'t> Place<'t> {
         requires left { 0 < length (place_left self.old) }
         requires more { has_bit ≡ true → 1 < self.old.map.left }
         ensures past { (c : CursorData) → at_place c self.new ≡ record (at_place c self.old) {
-            left = drop 1 (at_place c self.old).left; used = (at_place c self.new).used } }
+          left = drop 1 (at_place c self.old).left;
+          used = (at_place c self.new).used;
+        } }
         ensures bits { (c : CursorData) → IsPlaceOf c self.old → bits_left (at_place c self.new)
             ≡ if has_bit then later_bits (bits_left (at_place c self.old)) else bits_left (at_place c self.old) }
         ensures place { (c : CursorData) → IsPlaceOf c self.old → IsPlaceOf c self.new }

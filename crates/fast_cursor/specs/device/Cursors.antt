@@ -1,6 +1,7 @@
 -- Where a decoder is in a message: the open segments, the instructions that are left, and the bits that are left.
 use Rattle.std.specs.Prelude.{ℕ, Bool, List, [], ◌∷◌, drop, Option}
 use Rattle.fast_wire.specs.meaning.Maps.{bits}
+use Rattle.fast_program.specs.declared.ops.Op.{Op}
 
 -- What is still to come of a sequence behind an element: so many elements, the nodes of each, and the bits that each uses.
 pub record ElementsData : Type 0 where
@@ -16,9 +17,10 @@ pub record FrameData : Type 0 where
   pub used : ℕ
   pub elements : Option ElementsData
 
--- The frames of the open segments, the innermost first; the nodes that are left of the innermost segment; the bytes of its
--- map that have come, and how many of its bits are used; and how many frames there can be.
+-- The program; the frames of the open segments, the innermost first; the nodes that are left of the innermost segment; the
+-- bytes of its map that have come, and how many of its bits are used; and how many frames there can be.
 pub record CursorData : Type 0 where
+  pub ops : List Op
   pub frames : List FrameData
   pub left : List ℕ
   pub map : List ℕ
@@ -34,8 +36,8 @@ abbrev pub bits_left : CursorData → List Bool
 bits_left c = bits_behind c.map c.used
 
 -- a cursor before a message
-abbrev pub at_rest : ℕ → CursorData
-at_rest depth = record { frames = []; left = []; map = []; used = 0; depth = depth }
+abbrev pub at_rest : List Op → ℕ → CursorData
+at_rest ops depth = record { ops = ops; frames = []; left = []; map = []; used = 0; depth = depth }
 
 -- the frame of a segment around the one that begins
 abbrev pub frame_here : CursorData → Option ElementsData → FrameData
@@ -43,8 +45,8 @@ frame_here c elements = record { after = c.left; map = c.map; used = c.used; ele
 
 -- a segment begins, whose map has not come
 abbrev pub entered : CursorData → Option ElementsData → List ℕ → CursorData
-entered c elements body = record { frames = frame_here c elements ∷ c.frames; left = body; map = []; used = 0; depth = c.depth }
+entered c elements body = record { ops = c.ops; frames = frame_here c elements ∷ c.frames; left = body; map = []; used = 0; depth = c.depth }
 
 -- the innermost segment is whole, and the one around it goes on
 abbrev pub left_to : CursorData → FrameData → List FrameData → CursorData
-left_to c f fs = record { frames = fs; left = f.after; map = f.map; used = f.used; depth = c.depth }
+left_to c f fs = record { ops = c.ops; frames = fs; left = f.after; map = f.map; used = f.used; depth = c.depth }

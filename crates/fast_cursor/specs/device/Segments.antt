@@ -1,6 +1,9 @@
 -- What the fields of a cursor mean.
 use Rattle.std.specs.Prelude.{◌≡◌, ℕ, ◌+◌, ◌*◌, ◌≤◌, List, [], ◌∷◌, take, drop, length, Option, Some, None, option_map}
 use Rattle.fast_wire.specs.meaning.Maps.{map_limit}
+use Rattle.fast_program.specs.declared.ops.Op.{Op}
+use Rattle.fast_program.specs.device.Runs.{Begins}
+use Rattle.fast_cursor.specs.device.Runs.{run_at, IsRun}
 use Rattle.fast_cursor.specs.device.Cursors.{ElementsData, FrameData, CursorData}
 use Rattle.fast_cursor.specs.device.MapPlaces.{used_bits, IsPlace}
 use Rattle.fast_cursor.specs.declared.cursor.Elements.{Elements}
@@ -8,8 +11,8 @@ use Rattle.fast_cursor.specs.declared.cursor.Frame.{Frame}
 use Rattle.fast_cursor.specs.declared.cursor.Cursor.TheInside.{Inside}
 
 -- what is still to come of a sequence
-abbrev pub elements_data : Elements → ElementsData
-elements_data e = record { more = e.more; body = e.body.now; width = e.width }
+abbrev pub elements_data : List Op → Elements → ElementsData
+elements_data ops e = record { more = e.more; body = run_at ops e.start; width = e.width }
 
 -- the node in front, if one is left
 abbrev pub first_node : List ℕ → Option ℕ
@@ -21,33 +24,52 @@ abbrev pub map_at : List ℕ → ℕ → ℕ → List ℕ
 map_at cells start len = take len (drop start cells)
 
 -- a frame, whose map's cells begin at a place
-abbrev pub frame_data : List ℕ → ℕ → Frame → FrameData
-frame_data cells start f = record { after = f.after.now; map = map_at cells start f.map.len; used = used_bits f.map; elements = option_map elements_data f.elements }
+abbrev pub frame_data : List Op → List ℕ → ℕ → Frame → FrameData
+frame_data ops cells start f = record { after = run_at ops f.after; map = map_at cells start f.map.len; used = used_bits f.map; elements = option_map (elements_data ops) f.elements }
 
 -- Frames that come the outermost first, on those around them: the cells of the first one's map begin at the place.
-abbrev pub frames_on : List ℕ → ℕ → List Frame → List FrameData → List FrameData
-frames_on cells start [] outer = outer
-frames_on cells start (f ∷ fs) outer = frames_on cells (start + map_limit) fs (frame_data cells start f ∷ outer)
+abbrev pub frames_on : List Op → List ℕ → ℕ → List Frame → List FrameData → List FrameData
+frames_on ops cells start [] outer = outer
+frames_on ops cells start (f ∷ fs) outer = frames_on ops cells (start + map_limit) fs (frame_data ops cells start f ∷ outer)
 
 -- The frames' places, the outermost first: the cells of the first one's map begin at the place.
 abbrev pub ArePlaces : List ℕ → ℕ → List Frame → Type 0
 ArePlaces cells start [] = Unit {0}
 ArePlaces cells start (f ∷ fs) = IsPlace (map_at cells start f.map.len) f.map × ArePlaces cells (start + map_limit) fs
 
+-- The run of the elements that are to come, if any are.
+abbrev pub IsRunOf : List Op → Option Elements → Type 0
+IsRunOf ops None = Unit {0}
+IsRunOf ops (Some e) = IsRun ops e.start
+
+-- The run that goes on behind a frame, and that of the elements that are to come.
+pub record IsRunning (ops : List Op) (f : Frame) : Type 0 where
+  pub after : IsRun ops f.after
+  pub elements : IsRunOf ops f.elements
+
+abbrev pub AreRunning : List Op → List Frame → Type 0
+AreRunning ops [] = Unit {0}
+AreRunning ops (f ∷ fs) = IsRunning ops f × AreRunning ops fs
+
 -- the cursor
 abbrev pub cursor_data : Inside → CursorData
 cursor_data c = record {
-  frames = frames_on c.maps.items 0 (take c.level c.frames.items) [];
-  left = c.left.now;
+  ops = c.ops.now;
+  frames = frames_on c.ops.now c.maps.items 0 (take c.level c.frames.items) [];
+  left = run_at c.ops.now c.ip;
   map = map_at c.maps.items c.start c.map.len;
   used = used_bits c.map;
   depth = length c.frames.items;
 }
 
--- The cells are those of one map for each level, and the innermost segment's begin behind those around it.
+-- The cells are those of one map for each level, and the innermost segment's begin behind those around it. Nothing is left at
+-- the program's first op.
 pub record IsCursor (c : Inside) : Type 0 where
   pub within : c.level ≤ length c.frames.items
   pub cells : length c.maps.items ≡ map_limit * (length c.frames.items + 1)
   pub starts : c.start ≡ map_limit * c.level
   pub place : IsPlace (map_at c.maps.items c.start c.map.len) c.map
   pub around : ArePlaces c.maps.items 0 (take c.level c.frames.items)
+  pub rest : Begins c.ops.now 0 []
+  pub run : IsRun c.ops.now c.ip
+  pub behind : AreRunning c.ops.now (take c.level c.frames.items)

@@ -21,6 +21,9 @@ invariant_of-self c =
       starts = c.self.invariant.starts;
       place = subst (λ m. IsPlace m c.of_byte-self-inside.result) here c.of_byte-self-inside.ensures.place;
       around = only-places c.self.inside (set cells start b) c.self.invariant (one-before cells start b (omega arith));
+      rest = c.self.invariant.rest;
+      run = c.self.invariant.run;
+      behind = c.self.invariant.behind;
     }
 
 pub returns-then-byte-ge128-clause-map : goal.returns-then-byte-ge128-clause-map

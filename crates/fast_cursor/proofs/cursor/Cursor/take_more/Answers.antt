@@ -21,6 +21,9 @@ invariant_of-self c =
       starts = c.self.invariant.starts;
       place = subst (λ m. IsPlace m c.in_map-self-inside.result) read c.in_map-self-inside.ensures.place;
       around = only-places c.self.inside now.items c.self.invariant filled.before;
+      rest = c.self.invariant.rest;
+      run = c.self.invariant.run;
+      behind = c.self.invariant.behind;
     }
 
 pub returns-clause-map : goal.returns-clause-map

@@ -17,6 +17,9 @@ invariant_of-self-else-self-eq0 c =
       starts = c.self.invariant.starts;
       place = place-used map c.self.inside.map (length-map c.self.inside.maps.items c.self.inside.start c.self.inside.map.len) c.self.invariant.place more;
       around = c.self.invariant.around;
+      rest = c.self.invariant.rest;
+      run = c.self.invariant.run;
+      behind = c.self.invariant.behind;
     }
 
 pub returns-then-self-eq0-clause-bits : goal.returns-then-self-eq0-clause-bits

@@ -3,7 +3,7 @@ use Rattle.std.proofs.Common.{sym, ap, ◌∙◌}
 use Rattle.std.specs.Prelude.{ℕ, drop, List, if◌then◌else◌}
 use Rattle.fast_wire.specs.meaning.Maps.{later_bits}
 use Rattle.fast_cursor.specs.device.Cursors.{CursorData, bits_left}
-use Rattle.fast_cursor.specs.device.Places.{at_place}
+use Rattle.fast_cursor.specs.device.Places.{place_left, at_place}
 use Rattle.fast_cursor.proofs.place.Place.pass.Goals as goal
 
 pub returns-then-has_bit-clause-past : goal.returns-then-has_bit-clause-past
@@ -12,7 +12,7 @@ returns-then-has_bit-clause-past c d =
     let gone = c.advance.ensures.left d in
     gone
     ∙ ap (λ (ns : List ℕ). record d { left = drop 1 ns; used = (at_place d used).used }) c.use_bit.ensures.left
-    ∙ ap (λ (n : ℕ). record d { left = drop 1 c.args.self.now.left.now; used = n }) (sym (ap (λ (x : CursorData). x.used) gone))
+    ∙ ap (λ (n : ℕ). record d { left = drop 1 (place_left c.args.self.now); used = n }) (sym (ap (λ (x : CursorData). x.used) gone))
 
 pub returns-then-has_bit-clause-bits : goal.returns-then-has_bit-clause-bits
 returns-then-has_bit-clause-bits c d h =
@@ -24,7 +24,7 @@ pub returns-clause-past : goal.returns-clause-past
 returns-clause-past c d =
     let gone = c.advance-2.ensures.left d in
     gone
-    ∙ ap (λ (n : ℕ). record d { left = drop 1 c.args.self.now.left.now; used = n }) (sym (ap (λ (x : CursorData). x.used) gone))
+    ∙ ap (λ (n : ℕ). record d { left = drop 1 (place_left c.args.self.now); used = n }) (sym (ap (λ (x : CursorData). x.used) gone))
 
 pub returns-clause-bits : goal.returns-clause-bits
 returns-clause-bits c d h =

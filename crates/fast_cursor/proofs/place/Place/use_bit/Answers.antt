@@ -11,4 +11,4 @@ pub returns-clause-place : goal.returns-clause-place
 returns-clause-place c d h =
     let len : c.args.self.now.map.len ≡ length d.map = h.len in
     let more : 1 < c.args.self.now.map.left = c.requires.more in
-    record { place = place-used d.map c.args.self.now.map (omega arith) h.place (omega arith); len = len }
+    record { ops = h.ops; run = h.run; place = place-used d.map c.args.self.now.map (omega arith) h.place (omega arith); len = len }
