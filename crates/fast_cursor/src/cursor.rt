@@ -6,7 +6,7 @@ ghost use Rattle.fast_wire.specs.meaning.Entities.{HaveNoStop};
 ghost use Rattle.fast_wire.specs.meaning.Maps.{map_limit, first_bit, later_bits};
 ghost use Rattle.fast_program.specs.device.Runs.{is_end, Begins};
 ghost use Rattle.fast_cursor.specs.device.Runs.{run_at, IsRun};
-ghost use Rattle.fast_cursor.specs.device.Cursors.{CursorData, FrameData, bits_left, at_rest, entered, left_to};
+ghost use Rattle.fast_cursor.specs.device.Cursors.{CursorData, FrameData, bits_left, at_rest, resting, entered, left_to};
 ghost use Rattle.fast_cursor.specs.device.Segments.{elements_data, first_node, IsRunOf};
 ghost use Rattle.fast_cursor.specs.device.Places.{at_place, IsPlaceOf};
 ghost use Rattle.fast_cursor.specs.device.MapTaking.{IsMapTaken};
@@ -100,7 +100,7 @@ impl<'t> Cursor<'t> {
 
     /// Forgets all that was read.
     pub fn reset(&mut self)
-        ensures { self.new ≡ at_rest self.old.ops self.old.depth }
+        ensures { self.new ≡ resting self.old }
     {
         self.level = 0;
         self.start = 0;

@@ -12,7 +12,8 @@ ghost use Rattle.fast_tree.specs.meaning.Tree.{FieldData, uses_bit, bits_of};
 ghost use Rattle.fast_dict.specs.meaning.Dictionary.{Dictionary, previous_at};
 ghost use Rattle.fast_dict.specs.meaning.Operators.{decide, nothing, ranged};
 ghost use Rattle.fast_dict.specs.meaning.Slots.{slots_dictionary, slots_terms};
-ghost use Rattle.fast_cursor.specs.device.Cursors.{bits_left};
+ghost use Rattle.fast_cursor.specs.device.Runs.{IsRun};
+ghost use Rattle.fast_cursor.specs.device.Cursors.{resting, bits_left};
 ghost use Rattle.fast_stream.specs.meaning.Handed.{event_data};
 ghost use Rattle.fast_stream.specs.device.GrammarReaders.{reader_of};
 ghost use Rattle.fast_stream.specs.device.Readers.{Reader};
@@ -24,7 +25,7 @@ ghost use Rattle.fast_units.specs.device.Deciding.{needs_bytes, number_data, IsD
 ghost use Rattle.fast_decoder.specs.device.TurnsLeft.{Way, HasTurns, HasTurnsFrom, HasTurnsBehind};
 ghost use Rattle.fast_units.specs.device.UnitFronts.{IsAsciiFirst};
 ghost use Rattle.fast_decoder.specs.device.Passing.{IsPast, value_then, exponent_then, decimal_then, length_then, elements_from};
-ghost use Rattle.fast_decoder.specs.device.Positions.{Set, set_of, body_in, frames_in, mantissa_then, IsAtField, IsAtParts, IsAtGroup, IsAtSequence, CanTurn, IsTurn, turning, IsMapWhole, bit_of, state_in, going_on};
+ghost use Rattle.fast_decoder.specs.device.Positions.{Set, set_of, run_in, body_in, frames_in, mantissa_then, IsAtField, IsAtParts, IsAtGroup, IsAtSequence, CanTurn, IsTurn, turning, IsMapWhole, bit_of, state_in, going_on};
 
 use crate::machine::{Machine, Turn, Waiting};
 use crate::turns::Turns;
@@ -103,7 +104,7 @@ impl<'t> Machine<'t> {
             waits }
         ensures past { OnOk result (IsPast self.old.cursor self.new.cursor) }
         ensures same { self.new ≡ record self.old { cursor = self.new.cursor } }
-        ensures depth { self.new.cursor.depth ≡ self.old.cursor.depth }
+        ensures rests { resting self.new.cursor ≡ resting self.old.cursor }
         ensures on { result ≢ Ok Turn.Waits }
     {
         self.finish_by(node, field, field.uses_bit(), source, piece, sink)
@@ -133,7 +134,7 @@ impl<'t> Machine<'t> {
             waits }
         ensures past { OnOk result (IsPast self.old.cursor self.new.cursor) }
         ensures same { self.new ≡ record self.old { cursor = self.new.cursor } }
-        ensures depth { self.new.cursor.depth ≡ self.old.cursor.depth }
+        ensures rests { resting self.new.cursor ≡ resting self.old.cursor }
         ensures on { result ≢ Ok Turn.Waits }
     {
         let value = value_at(&self.slots, field, self.text.as_slice(), piece, source);
@@ -171,7 +172,7 @@ impl<'t> Machine<'t> {
             waits }
         ensures past { OnOk result (IsPast self.old.cursor self.new.cursor) }
         ensures same { self.new ≡ record self.old { cursor = self.new.cursor } }
-        ensures depth { self.new.cursor.depth ≡ self.old.cursor.depth }
+        ensures rests { resting self.new.cursor ≡ resting self.old.cursor }
         ensures on { result ≢ Ok Turn.Waits }
     {
         let turn = match item {
@@ -452,7 +453,7 @@ impl<'t> Machine<'t> {
             waits }
         ensures past { OnOk result (IsPast self.old.cursor self.new.cursor) }
         ensures same { self.new ≡ record self.old { cursor = self.new.cursor } }
-        ensures depth { self.new.cursor.depth ≡ self.old.cursor.depth }
+        ensures rests { resting self.new.cursor ≡ resting self.old.cursor }
         ensures on { result ≢ Ok Turn.Waits }
     {
         let value = match self.value_of(mantissa, source) {
@@ -482,14 +483,16 @@ impl<'t> Machine<'t> {
         limits: Limits,
         node: u32,
         optional: bool,
-        body: &'t [u32],
+        start: usize,
         sink: &mut S,
     ) -> Result<Turn, FaultCode>
         requires turn { CanTurn (set_of templates.now) limits self.old }
-        requires next { IsAtGroup (set_of templates.now) self.old.cursor node optional body.now }
-        requires below { AreBelow (length (set_of templates.now).nodes) body.now }
+        requires next { IsAtGroup (set_of templates.now) self.old.cursor node optional
+            (run_in (set_of templates.now) start) }
+        requires run { IsRun (set_of templates.now).program start }
+        requires below { AreBelow (length (set_of templates.now).nodes) (run_in (set_of templates.now) start) }
         requires width { slice_index self.old.widths.nodes.items node
-            ≡ bits_of (body_in (set_of templates.now) body.now) }
+            ≡ bits_of (body_in (set_of templates.now) (run_in (set_of templates.now) start)) }
         requires node { node < length (set_of templates.now).nodes }
         ensures turn { IsTurn S.takes S.stops (set_of templates.now) limits
             (turning (set_of templates.now) limits self.old) sink.old result sink.new self.new }
@@ -508,7 +511,7 @@ impl<'t> Machine<'t> {
         hand(sink, Event::GroupStart { node })?;
         let width = self.widths.nodes[node as usize];
         self.cursor.advance();
-        self.cursor.open_group(body);
+        self.cursor.open_group(start);
         Ok(self.open_segment(width))
     }
 
@@ -535,15 +538,17 @@ impl<'t> Machine<'t> {
         limits: Limits,
         node: u32,
         length: &FieldInstruction,
-        body: &'t [u32],
+        start: usize,
         sink: &mut S,
     ) -> Result<Turn, FaultCode>
         requires turn { CanTurn (set_of templates.now) limits self.old }
-        requires next { IsAtSequence (set_of templates.now) self.old.cursor node (field_data length.now) body.now }
+        requires next { IsAtSequence (set_of templates.now) self.old.cursor node (field_data length.now)
+            (run_in (set_of templates.now) start) }
+        requires run { IsRun (set_of templates.now).program start }
         requires serves { Serves (set_of templates.now).entries (slots_terms self.old.slots) (field_data length.now) }
-        requires below { AreBelow (list_length (set_of templates.now).nodes) body.now }
+        requires below { AreBelow (list_length (set_of templates.now).nodes) (run_in (set_of templates.now) start) }
         requires width { slice_index self.old.widths.nodes.items node
-            ≡ bits_of (body_in (set_of templates.now) body.now) }
+            ≡ bits_of (body_in (set_of templates.now) (run_in (set_of templates.now) start)) }
         requires node { node < list_length (set_of templates.now).nodes }
         ensures turn { IsTurn S.takes S.stops (set_of templates.now) limits
             (turning (set_of templates.now) limits self.old) sink.old result sink.new self.new }
@@ -558,7 +563,7 @@ impl<'t> Machine<'t> {
         }
         match unsent_seldom(&mut self.slots, length, bit) {
             Err(code) => Err(FaultCode::Stream(code)),
-            Ok(source) => self.length_known(templates, limits, node, length, body, source, sink),
+            Ok(source) => self.length_known(templates, limits, node, length, start, source, sink),
         }
     }
 
@@ -570,22 +575,25 @@ impl<'t> Machine<'t> {
         limits: Limits,
         node: u32,
         length: &FieldInstruction,
-        body: &'t [u32],
+        start: usize,
         source: ValueSource,
         sink: &mut S,
     ) -> Result<Turn, FaultCode>
         requires turn { CanTurn (set_of templates.now) limits self.old }
-        requires next { IsAtSequence (set_of templates.now) self.old.cursor node (field_data length.now) body.now }
+        requires next { IsAtSequence (set_of templates.now) self.old.cursor node (field_data length.now)
+            (run_in (set_of templates.now) start) }
+        requires run { IsRun (set_of templates.now).program start }
         requires serves { Serves (set_of templates.now).entries (slots_terms self.old.slots) (field_data length.now) }
-        requires below { AreBelow (list_length (set_of templates.now).nodes) body.now }
+        requires below { AreBelow (list_length (set_of templates.now).nodes) (run_in (set_of templates.now) start) }
         requires width { slice_index self.old.widths.nodes.items node
-            ≡ bits_of (body_in (set_of templates.now) body.now) }
+            ≡ bits_of (body_in (set_of templates.now) (run_in (set_of templates.now) start)) }
         requires node { node < list_length (set_of templates.now).nodes }
         ensures turn { IsTurn S.takes S.stops (set_of templates.now) limits
             (reader_of limits.strict
             (length_then (set_of templates.now) (bounds limits) node
             (value_at source (field_data length.now) (slots_dictionary self.old.slots) self.old.text.text [])
-            (field_data length.now) body.now (slots_dictionary self.old.slots) self.old.counted self.old.cursor))
+            (field_data length.now) (run_in (set_of templates.now) start) (slots_dictionary self.old.slots)
+            self.old.counted self.old.cursor))
             sink.old result sink.new self.new }
         ensures past { result ≡ Ok Turn.Silent → self.new.cursor.left ≡ drop 1 self.old.cursor.left }
         ensures turns { (way : Way) (n : ℕ) → HasTurns way (set_of templates.now) limits 1 n self.old
@@ -603,7 +611,7 @@ impl<'t> Machine<'t> {
                 self.counted += count;
                 hand(sink, Event::SequenceStart { node, count })?;
                 let width = self.widths.nodes[node as usize];
-                self.next_element(templates, limits, count, body, width, sink)
+                self.next_element(templates, limits, count, start, width, sink)
             }
         }
     }
@@ -615,22 +623,25 @@ impl<'t> Machine<'t> {
         templates: &'t Templates,
         limits: Limits,
         count: u32,
-        body: &'t [u32],
+        start: usize,
         width: usize,
         sink: &mut S,
     ) -> Result<Turn, FaultCode>
         requires turn { CanTurn (set_of templates.now) limits self.old }
-        requires below { AreBelow (length (set_of templates.now).nodes) body.now }
-        requires nested { suc (length self.old.cursor.frames) + body_depth (body_in (set_of templates.now) body.now)
+        requires run { IsRun (set_of templates.now).program start }
+        requires below { AreBelow (length (set_of templates.now).nodes) (run_in (set_of templates.now) start) }
+        requires nested { suc (length self.old.cursor.frames)
+            + body_depth (body_in (set_of templates.now) (run_in (set_of templates.now) start))
             ≤ self.old.cursor.depth }
-        requires width { width ≡ bits_of (body_in (set_of templates.now) body.now) }
+        requires width { width ≡ bits_of (body_in (set_of templates.now) (run_in (set_of templates.now) start)) }
         ensures turn { IsTurn S.takes S.stops (set_of templates.now) limits
             (reader_of limits.strict
-            (elements_from (set_of templates.now) (bounds limits) count body.now (slots_dictionary self.old.slots)
-            self.old.counted self.old.cursor))
+            (elements_from (set_of templates.now) (bounds limits) count (run_in (set_of templates.now) start)
+            (slots_dictionary self.old.slots) self.old.counted self.old.cursor))
             sink.old result sink.new self.new }
         ensures on { result ≢ Ok Turn.Silent }
-        ensures turns { (way : Way) (n : ℕ) → HasTurnsFrom way (set_of templates.now) limits n count body.now self.old
+        ensures turns { (way : Way) (n : ℕ)
+            → HasTurnsFrom way (set_of templates.now) limits n count (run_in (set_of templates.now) start) self.old
             → HasTurnsBehind result way (set_of templates.now) limits n self.new }
     {
         if count == 0 {
@@ -640,7 +651,7 @@ impl<'t> Machine<'t> {
         hand(sink, Event::ElementStart)?;
         self.cursor.open_element(Elements {
             more: count - 1,
-            body,
+            start,
             width,
         });
         Ok(self.open_segment(width))
@@ -679,7 +690,7 @@ impl<'t> Machine<'t> {
                     templates,
                     limits,
                     elements.more,
-                    elements.body,
+                    elements.start,
                     elements.width,
                     sink,
                 )
@@ -712,11 +723,13 @@ impl<'t> Machine<'t> {
             Shape::Decimal { exponent, mantissa } => {
                 self.begin_decimal(templates, limits, number, exponent, mantissa, sink)
             }
-            Shape::Group { optional, body } => {
-                self.begin_group(templates, limits, number, *optional, body.as_slice(), sink)
+            Shape::Group { optional, .. } => {
+                let start = templates.body_start(number);
+                self.begin_group(templates, limits, number, *optional, start, sink)
             }
-            Shape::Sequence { length, body } => {
-                self.begin_sequence(templates, limits, number, length, body.as_slice(), sink)
+            Shape::Sequence { length, .. } => {
+                let start = templates.body_start(number);
+                self.begin_sequence(templates, limits, number, length, start, sink)
             }
         }
     }

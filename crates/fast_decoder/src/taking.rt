@@ -14,6 +14,7 @@ ghost use Rattle.fast_tree.specs.meaning.Tree.{bits_of, identifier};
 ghost use Rattle.fast_dict.specs.meaning.Slots.{slots_dictionary, slots_terms};
 ghost use Rattle.fast_stream.specs.device.GrammarReaders.{spare, reader_of};
 ghost use Rattle.fast_dict.specs.device.EntryTexts.{HasLongInitial};
+ghost use Rattle.fast_cursor.specs.device.Runs.{IsRun};
 ghost use Rattle.fast_decoder.specs.declared.machine.Machine.{Machine};
 ghost use Rattle.fast_dict.specs.meaning.Dictionary.{reset};
 ghost use Rattle.fast_decoder.specs.device.Handing.{Fed, waiting_at};
@@ -25,7 +26,7 @@ ghost use Rattle.fast_decoder.specs.device.Scalars.{IsOfField, IsOfFieldLater, I
 ghost use Rattle.fast_units.specs.device.UnitFronts.{IsNumberStage};
 ghost use Rattle.fast_stream.specs.device.Continuations.{message_of_then};
 ghost use Rattle.fast_decoder.specs.device.TurnsLeft.{Way, most_by, HasTurns, HasTurnsWaiting, HasTurnsBehind, turns_begun_at};
-ghost use Rattle.fast_decoder.specs.device.Positions.{Set, set_of, tree_in, body_in, IsAtField, IsAtParts, IsAtSequence, CanTurn, GoesOn, IsBehindMap, IsSupplied, IsReady, IsTurn, IsFresh, segment_reader, mapped_reader, is_idle, meaning};
+ghost use Rattle.fast_decoder.specs.device.Positions.{Set, set_of, tree_in, run_in, body_in, IsAtField, IsAtParts, IsAtSequence, CanTurn, GoesOn, IsBehindMap, IsSupplied, IsReady, IsTurn, IsFresh, segment_reader, mapped_reader, is_idle, meaning};
 
 use crate::layout::{make_slots, measure};
 use crate::machine::{Machine, Turn, Waiting};
@@ -286,7 +287,7 @@ impl<'t> Machine<'t> {
         self.counted = 0;
         self.latest = number;
         self.cursor.use_bit();
-        self.cursor.begin(template.body.as_slice());
+        self.cursor.begin(templates.template_start(number));
         self.turns = Turns::after(&self.turns);
         Ok(Turn::Handed)
     }
@@ -409,16 +410,9 @@ impl<'t> Machine<'t> {
             Shape::Decimal { exponent, mantissa } => {
                 self.take_exponent(templates, limits, number, exponent, mantissa, rest, sink)
             }
-            Shape::Sequence { length, body } => {
-                self.take_length(
-                    templates,
-                    limits,
-                    number,
-                    length,
-                    body.as_slice(),
-                    rest,
-                    sink,
-                )
+            Shape::Sequence { length, .. } => {
+                let start = templates.body_start(number);
+                self.take_length(templates, limits, number, length, start, rest, sink)
             }
             Shape::Group { .. } => UnitTaken::cut(rest),
         }
@@ -473,19 +467,21 @@ impl<'t> Machine<'t> {
         limits: Limits,
         node: u32,
         length: &FieldInstruction,
-        body: &'t [u32],
+        start: usize,
         rest: &[u8],
         sink: &mut S,
     ) -> UnitTaken
         requires waits { self.old.waiting ≡ Waiting.Field }
         requires ready { IsReady (set_of templates.now) limits self.old }
         requires some { 0 < list_length rest.now }
-        requires next { IsAtSequence (set_of templates.now) self.old.cursor node (field_data length.now) body.now }
+        requires next { IsAtSequence (set_of templates.now) self.old.cursor node (field_data length.now)
+            (run_in (set_of templates.now) start) }
+        requires run { IsRun (set_of templates.now).program start }
         requires serves { IsServedBy (set_of templates.now) self.old (field_data length.now) }
         requires kind { length.now.kind ≡ Kind.UInt32 }
-        requires below { AreBelow (list_length (set_of templates.now).nodes) body.now }
+        requires below { AreBelow (list_length (set_of templates.now).nodes) (run_in (set_of templates.now) start) }
         requires width { slice_index self.old.widths.nodes.items node
-            ≡ bits_of (body_in (set_of templates.now) body.now) }
+            ≡ bits_of (body_in (set_of templates.now) (run_in (set_of templates.now) start)) }
         requires node { node < list_length (set_of templates.now).nodes }
         ensures taken { TakesUnit S.takes S.stops (set_of templates.now) limits self.old rest.now sink.old result
             sink.new self.new }
@@ -501,7 +497,7 @@ impl<'t> Machine<'t> {
             Progress::Cut => UnitTaken::cut(rest),
             Progress::Wrong(code, bytes) => UnitTaken::wrong(code, bytes),
             Progress::Whole(source, bytes) => {
-                let turn = self.length_known(templates, limits, node, length, body, source, sink);
+                let turn = self.length_known(templates, limits, node, length, start, source, sink);
                 UnitTaken { bytes, turn }
             }
         }
@@ -859,7 +855,7 @@ impl<'t> Machine<'t> {
     {
         Ok(Machine {
             waiting: Waiting::Map,
-            cursor: Cursor::new(alloc, templates.depth() as usize)?,
+            cursor: Cursor::new(alloc, templates.program(), templates.depth() as usize)?,
             slots: make_slots(alloc, templates, limits.max_text)?,
             entity: Pending::new(),
             text: Scratch::new(alloc, limits.max_text)?,

@@ -39,6 +39,10 @@ bits_left c = bits_behind c.map c.used
 abbrev pub at_rest : List Op → ℕ → CursorData
 at_rest ops depth = record { ops = ops; frames = []; left = []; map = []; used = 0; depth = depth }
 
+-- the cursor, as it was before the message
+abbrev pub resting : CursorData → CursorData
+resting c = at_rest c.ops c.depth
+
 -- the frame of a segment around the one that begins
 abbrev pub frame_here : CursorData → Option ElementsData → FrameData
 frame_here c elements = record { after = c.left; map = c.map; used = c.used; elements = elements }

@@ -15,7 +15,7 @@ use Rattle.fast_dict.specs.meaning.Dictionary.{PreviousData, Dictionary, previou
 use Rattle.fast_dict.specs.meaning.Operators.{Outcome, nothing, decide}
 use Rattle.fast_dict.specs.meaning.Slots.{slots_dictionary, slots_terms, slots_sized}
 use Rattle.fast_dict.specs.meaning.Stores.{Terms}
-use Rattle.fast_cursor.specs.device.Cursors.{CursorData, bits_left, at_rest}
+use Rattle.fast_cursor.specs.device.Cursors.{CursorData, bits_left, resting}
 use Rattle.fast_stream.specs.meaning.Fields.{field_term}
 use Rattle.fast_stream.specs.meaning.Grammar.{Grammar, narrow, ◌>>=◌, of_result}
 use Rattle.fast_stream.specs.device.GrammarReaders.{settles_reader, judged_map, spare, reader_of}
@@ -154,7 +154,7 @@ module _ (set : Set) (l : Limits) (m : Machine) (h : IsSupplied set l m) where
   identifier_served = subst (λ f. Serves (length (slots_dictionary m.slots)) (slots_terms m.slots) f) (sym h.identifier) (serves_identifier (length (slots_dictionary m.slots)) (slots_terms m.slots) entries_there)
 
 -- A cursor whose map is whole has used no bit.
-pub unused_bits : (c : CursorData) → c ≡ record (at_rest c.depth) { map = c.map } → bits_left c ≡ bits c.map
+pub unused_bits : (c : CursorData) → c ≡ record (resting c) { map = c.map } → bits_left c ≡ bits c.map
 unused_bits c e = ap (λ (d : CursorData). drop d.used (bits c.map)) e
 
 -- An identifier that stands in the stream.
@@ -173,7 +173,7 @@ pub decided_unsent : (p : PreviousData) (st : State) (r : Result Outcome Code) �
 decided_unsent p st r h e = ap (λ b. decide identifier p b nothing) h ∙ e
 
 -- What is read behind an identifier, by the outcome of its field and by what the machine keeps.
-pub identified_by : (set : Set) (s : Bool) (l : Bounds) (d d' : Dictionary) (c : CursorData) (o : Outcome) (v : Option ScalarData) → c ≡ record (at_rest c.depth) { map = c.map } → o.value ≡ v → d' ≡ write_at identifier.entry o.next d
+pub identified_by : (set : Set) (s : Bool) (l : Bounds) (d d' : Dictionary) (c : CursorData) (o : Outcome) (v : Option ScalarData) → c ≡ record (resting c) { map = c.map } → o.value ≡ v → d' ≡ write_at identifier.entry o.next d
     → reader_of s (message_behind_then (tree_in set) l c.map (found identifier (begin d (bits c.map)) o)) ≡ reader_of s (identified_then set l v d' c)
 identified_by set s l d d' c o v e value dictionary =
     ap (λ x. reader_of s (message_behind_then (tree_in set) l c.map (x, record { context = record { dictionary = write_at identifier.entry o.next d; counted = 0 }; bits = later_bits (bits c.map) }))) value

@@ -1,6 +1,7 @@
 -- A machine that waits for an ASCII text, none of which has come, takes it at once.
 use Rattle.std.proofs.Common.{refl, sym, subst}
 use Rattle.std.specs.Prelude.{◌≡◌, ◌≢◌, ℕ, List, [], take, Result, Ok, OnOk}
+use Rattle.fast_cursor.specs.device.Cursors.{resting}
 use Rattle.fast_value.specs.declared.settings.Limits.{Limits}
 use Rattle.fast_value.specs.meaning.Limits.{bounds}
 use Rattle.fast_tree.specs.meaning.Tree.{FieldData, Body}
@@ -60,7 +61,7 @@ module _ (set : Set) (l : Limits) (m : Machine) (f : FieldData) (n : ℕ) (rest 
     pub text_to : (source : ValueSource) (b : ℕ) (s : S) (result : Result Turn FaultCode) (s' : S) (a : Machine)
         → IsLastUnit (first_reader l f (slots_dictionary m.slots)) f [] rest (slots_dictionary m.slots) (slots_dictionary slots) text.text (Whole source b)
         → Moves takes stops (reader_of l.strict (value_then set (bounds l) n (value_at source f (slots_dictionary slots) text.text (take b rest)) f (slots_dictionary slots) m.counted m.cursor)) s result s' (turning set l a) (meaning set l a)
-        → a ≡ record (record taken { turns = t }) { cursor = a.cursor } → a.cursor.depth ≡ m.cursor.depth → OnOk result (IsPast m.cursor a.cursor) → result ≢ Ok TurnWaits
+        → a ≡ record (record taken { turns = t }) { cursor = a.cursor } → resting a.cursor ≡ resting m.cursor → OnOk result (IsPast m.cursor a.cursor) → result ≢ Ok TurnWaits
         → IsTakenTo takes stops set l (meaning set l m) rest s b result s' a
     text_to source b s result s' a h moves same depth past on =
         let (unit, can) = whole_unit source b h in

@@ -5,7 +5,7 @@ use Rattle.fast_wire.specs.meaning.Entities.{HaveNoStop}
 use Rattle.fast_wire.specs.meaning.Maps.{map_limit}
 use Rattle.fast_value.specs.declared.settings.Limits.{Limits}
 use Rattle.fast_tree.specs.meaning.Tree.{bits_of}
-use Rattle.fast_cursor.specs.device.Cursors.{CursorData, at_rest}
+use Rattle.fast_cursor.specs.device.Cursors.{CursorData, resting}
 use Rattle.fast_decoder.specs.device.Positions.{Set, body_in, CanTake, IsPlaced, IsSupplied, IsReady}
 use Rattle.fast_decoder.specs.declared.machine.Machine.{Machine}
 use Rattle.fast_decoder.specs.declared.machine.Waiting.{Waiting}
@@ -16,7 +16,7 @@ use Rattle.fast_decoder.proofs.machines.ScalarSteps.{supplied_moved}
 module _ (set : Set) (l : Limits) (m : Machine) (c : CursorData) (ready : IsReady set l m) (same : c ≡ record m.cursor { map = c.map }) where
   -- It is still supplied.
   pub map_supplied : IsSupplied set l (record m { cursor = c })
-  map_supplied = supplied_moved set l m (record m { cursor = c }) ready.supplied refl (ap (λ (x : CursorData). x.depth) same)
+  map_supplied = supplied_moved set l m (record m { cursor = c }) ready.supplied refl (ap resting same)
 
   module _ (w : List ℕ) (short : length w < map_limit) (no_stop : HaveNoStop w) (map : c.map ≡ w) where
     -- It is ready for more of a message's map.
@@ -27,7 +27,7 @@ module _ (set : Set) (l : Limits) (m : Machine) (c : CursorData) (ready : IsRead
           subst HaveNoStop (sym map) no_stop,
           subst (λ (v : List ℕ). length v < map_limit) (sym map) short,
           unused,
-          same ∙ ap (λ (x : CursorData). record x { map = c.map }) place ∙ ap (λ (k : ℕ). record (at_rest k) { map = c.map }) (sym (ap (λ (x : CursorData). x.depth) same)),
+          same ∙ ap (λ (x : CursorData). record x { map = c.map }) place ∙ ap (λ (x : CursorData). record x { map = c.map }) (sym (ap resting same)),
         )
 
     -- It is ready for more of a segment's map.

@@ -25,7 +25,7 @@ use Rattle.fast_stream.specs.meaning.Events.{EventData}
 use Rattle.fast_stream.specs.declared.faults.FaultCode.{FaultCode}
 use Rattle.fast_stream.specs.device.GrammarReaders.{reader_of}
 use Rattle.fast_stream.specs.device.Continuations.{handed_then}
-use Rattle.fast_cursor.specs.device.Cursors.{CursorData, bits_left}
+use Rattle.fast_cursor.specs.device.Cursors.{resting, CursorData, bits_left}
 use Rattle.fast_cursor.specs.device.Segments.{first_node}
 use Rattle.fast_units.specs.declared.fields.Number.{Number}
 use Rattle.fast_units.specs.device.Deciding.{needs_bytes, number_data, source_of, IsDecided}
@@ -104,7 +104,7 @@ module _ {S : Type 0} (takes stops : S → EventData → S → Type 0) (set : Se
       → CanTurn set l m → IsAtField set m.cursor n f → slots_terms slots ≡ slots_terms m.slots → t.count ≡ m.turns.count + 1 → false ≡ bit_of f (state_of m) → needs_bytes f.operator false ≡ false
       → IsDecided (decide f (previous_at f.entry (slots_dictionary m.slots)) false nothing) f (slots_dictionary m.slots) (slots_dictionary slots) (Ok (source_of (Some item)))
       → Moves takes stops (reader_of l.strict (value_then set (bounds l) n (option_map number_data (Some item)) f (slots_dictionary slots) m.counted m.cursor)) s result s' (turning set l a) (meaning set l a)
-      → a ≡ record m { slots = slots; turns = t; cursor = a.cursor } → a.cursor.depth ≡ m.cursor.depth → OnOk result (IsPast m.cursor a.cursor) → result ≢ Ok TurnWaits
+      → a ≡ record m { slots = slots; turns = t; cursor = a.cursor } → resting a.cursor ≡ resting m.cursor → OnOk result (IsPast m.cursor a.cursor) → result ≢ Ok TurnWaits
       → IsStep takes stops set l m rest s (record { bytes = 0; turn = result }) s' a
   number_step m a slots t n f item rest s result s' can at terms turns bit unneeded decided moves same depth past on =
       let b : Machine = record m { slots = slots; turns = t } in

@@ -1,6 +1,7 @@
 -- What a machine does behind a unit of its next instruction, a field: it goes past the field, or waits for another unit.
 use Rattle.std.proofs.Common.{refl, sym, ap, ◌∙◌, subst, inl, inr, arith}
 use Rattle.std.specs.Prelude.{◌≡◌, ◌≢◌, ◌⊎◌, ℕ, zero, suc, ◌-◌, ◌<◌, ◌≤◌, Bool, true, false, List, [], Some, Result, Ok, OnOk}
+use Rattle.fast_cursor.specs.device.Cursors.{resting}
 use Rattle.fast_value.specs.declared.kinds.Kind.{Kind}
 use Rattle.fast_value.specs.declared.kinds.Kind.TheVariants.{UInt32, Int32, UInt64, Int64, Decimal, Ascii, Unicode, Bytes as ByteVector}
 use Rattle.fast_wire.specs.meaning.Integers.{signed_range, delta_range}
@@ -123,11 +124,11 @@ module _ (set : Set) (l : Limits) (m : Machine) (f : FieldData) (n : ℕ) (stage
     stage_waits_on takes stops s = turn_waits takes stops set l from_stage s a both.1 stage_reader_waits both.0
 
 -- A machine whose cursor alone has moved is still supplied.
-pub supplied_moved : (set : Set) (l : Limits) (m a : Machine) → IsSupplied set l m → a ≡ record m { cursor = a.cursor } → a.cursor.depth ≡ m.cursor.depth → IsSupplied set l a
+pub supplied_moved : (set : Set) (l : Limits) (m a : Machine) → IsSupplied set l m → a ≡ record m { cursor = a.cursor } → resting a.cursor ≡ resting m.cursor → IsSupplied set l a
 supplied_moved set l m a h same depth = supplied_like set l m a h (like_moved m a same depth) (subst (λ (x : Machine). x.counted ≤ l.max_total) (sym same) h.counted)
 
 -- It goes on, where its turn is no end.
-pub goes_on_moved : (set : Set) (l : Limits) (m a : Machine) (result : Result Turn FaultCode) → CanTurn set l m → a ≡ record m { cursor = a.cursor } → a.cursor.depth ≡ m.cursor.depth
+pub goes_on_moved : (set : Set) (l : Limits) (m a : Machine) (result : Result Turn FaultCode) → CanTurn set l m → a ≡ record m { cursor = a.cursor } → resting a.cursor ≡ resting m.cursor
     → OnOk result (IsPast m.cursor a.cursor) → result ≢ Ok TurnWaits → GoesOn set l a result
 goes_on_moved set l m a result h same depth past on =
     goes_on_past set l m a result h (like_moved m a same depth) (subst (λ (x : Machine). x.counted ≤ l.max_total) (sym same) h.supplied.counted) (ap (λ (x : Machine). x.entity) same) past on

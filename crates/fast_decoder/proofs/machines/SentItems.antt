@@ -1,6 +1,7 @@
 -- A field of integers whose unit is taken at once, and the turn behind it.
 use Rattle.std.proofs.Common.{sym, subst, refl}
 use Rattle.std.specs.Prelude.{slice_get, ◌≡◌, ◌≢◌, true, ℕ, List, [], take, Option, Some, Result, Ok, OnOk, option_map}
+use Rattle.fast_cursor.specs.device.Cursors.{resting}
 use Rattle.fast_value.specs.meaning.Kinds.{ScalarData}
 use Rattle.fast_value.specs.meaning.Limits.{bounds}
 use Rattle.fast_value.specs.declared.settings.Limits.{Limits}
@@ -52,7 +53,7 @@ module _ {S : Type 0} (takes stops : S → EventData → S → Type 0) (set : Se
   -- What a turn behind the number moves, the field's unit moves.
   pub item_taken : (t : Turns) (s : S) (result : Result Turn FaultCode) (s' : S) (a : Machine)
       → Moves takes stops (reader_of l.strict (value_then set (bounds l) node (option_map number_data item) f (slots_dictionary b.slots) b.counted b.cursor)) s result s' (turning set l a) (meaning set l a)
-      → a ≡ record b { turns = t; cursor = a.cursor } → a.cursor.depth ≡ b.cursor.depth → OnOk result (IsPast b.cursor a.cursor) → result ≢ Ok Waits
+      → a ≡ record b { turns = t; cursor = a.cursor } → resting a.cursor ≡ resting b.cursor → OnOk result (IsPast b.cursor a.cursor) → result ≢ Ok Waits
       → IsTakenTo takes stops set l (meaning set l m) rest s n result s' a
   item_taken t s result s' a moves same depth past on =
       let unit = whole_here set l m f node Waiting.Field tt (can_take_field set l m h.waits h.ready) h.next b.slots m.entity m.text m.joined [] rest (Settled (source_of item)) n (h.unit m.text.text) in

@@ -8,7 +8,7 @@ use Rattle.fast_value.specs.declared.settings.Limits.{Limits}
 use Rattle.fast_value.specs.declared.codes.Code.TheVariants.{L3}
 use Rattle.fast_dict.specs.meaning.Dictionary.{Dictionary}
 use Rattle.fast_dict.specs.meaning.Slots.{slots_dictionary}
-use Rattle.fast_cursor.specs.device.Cursors.{CursorData}
+use Rattle.fast_cursor.specs.device.Cursors.{resting, CursorData}
 use Rattle.fast_stream.specs.meaning.Grammar.{Grammar, narrow}
 use Rattle.fast_stream.specs.device.GrammarReaders.{spare, reader_of}
 use Rattle.fast_cursor.specs.device.MapTaking.{IsMapTaken}
@@ -75,7 +75,7 @@ module _ (set : Set) (l : Limits) (m : Machine) (width : ℕ) (c : CursorData) (
   pub segment_turns : CanTurn set l (record m { cursor = c; turns = turns })
   segment_turns = record {
     supplied = supplied_like set l m (record m { cursor = c; turns = turns }) ready.supplied
-        (record { terms = refl; text = refl; joined = refl; widths = refl; identifier = refl; depth = ap (λ (x : CursorData). x.depth) same }) ready.supplied.counted;
+        (record { terms = refl; text = refl; joined = refl; widths = refl; identifier = refl; rests = ap resting same }) ready.supplied.counted;
     placed = let p : IsPlaced set m.cursor = can.4 in subst (IsPlaced set) (sym same) (record { below = p.below; nested = p.nested; frames = p.frames });
     mapped = inr (rw taken.4 taken.3);
     unused = can.2;

@@ -19,7 +19,7 @@ use Rattle.fast_tree.specs.device.Nodes.{template_data, instructions_from}
 use Rattle.fast_dict.specs.meaning.Dictionary.{Dictionary, PreviousData, assigned, previous_at, write_at}
 use Rattle.fast_dict.specs.meaning.Operators.{Outcome, decide, nothing, value}
 use Rattle.fast_dict.specs.meaning.Slots.{slots_dictionary}
-use Rattle.fast_cursor.specs.device.Cursors.{CursorData, at_rest}
+use Rattle.fast_cursor.specs.device.Cursors.{CursorData, resting}
 use Rattle.fast_stream.specs.device.GrammarReaders.{reader_of}
 use Rattle.fast_cursor.specs.device.MapTaking.{IsMapTaken}
 use Rattle.fast_stream.specs.meaning.Messages.{State, begin}
@@ -70,8 +70,8 @@ module _ (set : Set) (l : Limits) (m : Machine) (c : CursorData) (rest : List �
   can : CanTake Map set l m
   can = subst (λ (w : Waiting). CanTake w set l m) waits ready.takes
 
-  outermost : c ≡ record (at_rest c.depth) { map = c.map }
-  outermost = same ∙ ap (λ (x : CursorData). record x { map = c.map }) can.3 ∙ ap (λ n. record (at_rest n) { map = c.map }) (sym (ap (λ (x : CursorData). x.depth) same))
+  outermost : c ≡ record (resting c) { map = c.map }
+  outermost = same ∙ ap (λ (x : CursorData). record x { map = c.map }) can.3 ∙ ap (λ (x : CursorData). record x { map = c.map }) (sym (ap resting same))
 
   bytes : c.map ≡ take 1 rest
   bytes = taken.4 ∙ ap (λ f. f ++ take 1 rest) none

@@ -13,7 +13,7 @@ use Rattle.fast_tree.specs.device.Nodes.{template_data, instructions_from}
 use Rattle.fast_dict.specs.meaning.Dictionary.{Dictionary, reset}
 use Rattle.fast_dict.specs.meaning.Slots.{slots_terms}
 use Rattle.fast_dict.specs.declared.slots.Slots.{Slots}
-use Rattle.fast_cursor.specs.device.Cursors.{CursorData, bits_left}
+use Rattle.fast_cursor.specs.device.Cursors.{CursorData, resting, bits_left}
 use Rattle.fast_stream.specs.meaning.Events.{MessageStart}
 use Rattle.fast_stream.specs.device.Frames.{resume}
 use Rattle.fast_stream.specs.device.GrammarReaders.{reader_of}
@@ -55,8 +55,9 @@ begun set s l n t d d' c c' dictionary frames left bits =
 
 -- The machine can turn.
 pub begun_turns : (set : Set) (l : Limits) (m : Machine) (n : ℕ) (t : Template) (c : CursorData) (s : Slots) (turns : Turns) (latest : ℕ) → IsBehindMap set l m → slice_get set.templates n ≡ Some t → AreBelow (length set.nodes) t.body.items
-    → slots_terms s ≡ slots_terms m.slots → c.frames ≡ [] → c.left ≡ t.body.items → c.map ≡ m.cursor.map → c.depth ≡ m.cursor.depth → CanTurn set l (record m { cursor = c; slots = s; counted = 0; turns = turns; latest = latest })
-begun_turns set l m n t c s turns latest h found below terms frames left map depth =
+    → slots_terms s ≡ slots_terms m.slots → c.frames ≡ [] → c.left ≡ t.body.items → c.map ≡ m.cursor.map → resting c ≡ resting m.cursor → CanTurn set l (record m { cursor = c; slots = s; counted = 0; turns = turns; latest = latest })
+begun_turns set l m n t c s turns latest h found below terms frames left map rests =
+    let depth : c.depth ≡ m.cursor.depth = ap (λ (x : CursorData). x.depth) rests in
     let deep = no_deeper (instructions_from 0 set.nodes) set.templates n t found in
     let room = h.supplied.depth in
     let none : length c.frames ≡ 0 = ap length frames in
@@ -73,6 +74,7 @@ begun_turns set l m n t c s turns latest h found below terms frames left map dep
         node_widths = h.supplied.node_widths;
         template_widths = h.supplied.template_widths;
         depth = depth ∙ room;
+        program = ap (λ (x : CursorData). x.ops) rests ∙ h.supplied.program;
         identifier = h.supplied.identifier;
         counted = omega arith;
       };

@@ -46,7 +46,7 @@ use Rattle.fast_decoder.specs.device.Moving.{Moves}
 use Rattle.fast_units.specs.device.Settling.{Serves, value_at}
 use Rattle.fast_units.specs.device.UnitFronts.{IsAsciiFirst, IsSent}
 use Rattle.fast_units.specs.device.Scratches.{Held}
-use Rattle.fast_cursor.specs.device.Cursors.{CursorData, bits_left, bits_behind}
+use Rattle.fast_cursor.specs.device.Cursors.{CursorData, resting, bits_left, bits_behind}
 use Rattle.fast_decoder.specs.device.Passing.{IsPast, state_past, exponent_then}
 use Rattle.fast_decoder.specs.device.Positions.{Set, body_in, IsPlaced, IsSupplied, IsReady, CanTurn, CanTake, IsTurn, GoesOn, turning, meaning, meaning_at, state_in, frames_in, bit_of, term_at, mantissa_then, BeginsWithInteger, BeginsWithText, GoesOnWithMantissa, IsAtField, IsAtParts}
 use Rattle.fast_stream.proofs.streams.Frames.{at_field}
@@ -61,7 +61,7 @@ pub record IsLike (m m' : Machine) : Type 0 where
   pub joined : m'.joined.capacity ≡ m.joined.capacity
   pub widths : m'.widths ≡ m.widths
   pub identifier : m'.identifier ≡ m.identifier
-  pub depth : m'.cursor.depth ≡ m.cursor.depth
+  pub rests : resting m'.cursor ≡ resting m.cursor
 
 -- It has then all that it needs.
 pub supplied_like : (set : Set) (l : Limits) (m m' : Machine) → IsSupplied set l m → IsLike m m' → m'.counted ≤ l.max_total → IsSupplied set l m'
@@ -75,7 +75,8 @@ supplied_like set l m m' h i counted = record {
   joined_room = i.joined ∙ h.joined_room;
   node_widths = rw i.widths h.node_widths;
   template_widths = rw i.widths h.template_widths;
-  depth = i.depth ∙ h.depth;
+  depth = ap (λ (c : CursorData). c.depth) i.rests ∙ h.depth;
+  program = ap (λ (c : CursorData). c.ops) i.rests ∙ h.program;
   identifier = rw i.identifier h.identifier;
   counted = counted;
 }
@@ -310,7 +311,7 @@ field_wrong s l f bit st k c e unsent decided =
 -- A machine that waits, or has another text in hand, has all that it had.
 pub can_turn_waits : (set : Set) (l : Limits) (m : Machine) (w : Waiting) (t : Held) → CanTurn set l m → t.capacity ≡ m.text.capacity → CanTurn set l (record m { waiting = w; text = t })
 can_turn_waits set l m w t h room = record {
-  supplied = supplied_like set l m (record m { waiting = w; text = t }) h.supplied (record { terms = refl; text = room; joined = refl; widths = refl; identifier = refl; depth = refl }) h.supplied.counted;
+  supplied = supplied_like set l m (record m { waiting = w; text = t }) h.supplied (record { terms = refl; text = room; joined = refl; widths = refl; identifier = refl; rests = refl }) h.supplied.counted;
   placed = h.placed;
   mapped = h.mapped;
   unused = h.unused;
@@ -319,7 +320,7 @@ can_turn_waits set l m w t h room = record {
 -- So has one with other values in the slots.
 pub can_turn_slots : (set : Set) (l : Limits) (m : Machine) (slots : Slots) → CanTurn set l m → slots_terms slots ≡ slots_terms m.slots → CanTurn set l (record m { slots = slots })
 can_turn_slots set l m slots h terms = record {
-  supplied = supplied_like set l m (record m { slots = slots }) h.supplied (record { terms = terms; text = refl; joined = refl; widths = refl; identifier = refl; depth = refl }) h.supplied.counted;
+  supplied = supplied_like set l m (record m { slots = slots }) h.supplied (record { terms = terms; text = refl; joined = refl; widths = refl; identifier = refl; rests = refl }) h.supplied.counted;
   placed = h.placed;
   mapped = h.mapped;
   unused = h.unused;
@@ -328,7 +329,7 @@ can_turn_slots set l m slots h terms = record {
 -- So has one that has used a bit.
 used_by : (set : Set) (l : Limits) (m : Machine) (u : ℕ) → CanTurn set l m → CanTurn set l (record m { cursor = record m.cursor { used = u } })
 used_by set l m u h = record {
-  supplied = supplied_like set l m (record m { cursor = record m.cursor { used = u } }) h.supplied (record { terms = refl; text = refl; joined = refl; widths = refl; identifier = refl; depth = refl }) h.supplied.counted;
+  supplied = supplied_like set l m (record m { cursor = record m.cursor { used = u } }) h.supplied (record { terms = refl; text = refl; joined = refl; widths = refl; identifier = refl; rests = refl }) h.supplied.counted;
   placed = record { below = h.placed.below; nested = h.placed.nested; frames = h.placed.frames };
   mapped = h.mapped;
   unused = h.unused;
@@ -347,23 +348,23 @@ entry_known set l m slots f h terms serves =
     entry_here set l (record m { slots = slots }) f (can_turn_slots set l m slots h terms).supplied (serves_known set m slots f terms serves)
 
 -- A machine whose cursor alone has moved keeps what it was made with.
-pub like_moved : (m m' : Machine) → m' ≡ record m { cursor = m'.cursor } → m'.cursor.depth ≡ m.cursor.depth → IsLike m m'
-like_moved m m' same depth = record {
+pub like_moved : (m m' : Machine) → m' ≡ record m { cursor = m'.cursor } → resting m'.cursor ≡ resting m.cursor → IsLike m m'
+like_moved m m' same rests = record {
   terms = ap (λ x. slots_terms x.slots) same;
   text = ap (λ x. x.text.capacity) same;
   joined = ap (λ x. x.joined.capacity) same;
   widths = ap (λ x. x.widths) same;
   identifier = ap (λ x. x.identifier) same;
-  depth = depth;
+  rests = rests;
 }
 
 module _ {S : Type 0} (takes stops : S → EventData → S → Type 0) (set : Set) (l : Limits) where
   -- A turn that moves the cursor past the next instruction.
   pub turn_moved : (r p : Reader Dictionary) (s : S) (result : Result Turn FaultCode) (s' : S) (m m' : Machine) → r ≡ p
-      → Moves takes stops p s result s' (turning set l m') (meaning set l m') → CanTurn set l m → m' ≡ record m { cursor = m'.cursor } → m'.cursor.depth ≡ m.cursor.depth
+      → Moves takes stops p s result s' (turning set l m') (meaning set l m') → CanTurn set l m → m' ≡ record m { cursor = m'.cursor } → resting m'.cursor ≡ resting m.cursor
       → OnOk result (IsPast m.cursor m'.cursor) → result ≢ Ok TurnWaits → IsTurn takes stops set l r s result s' m'
-  turn_moved r p s result s' m m' e moves h same depth past on =
-      turn_past takes stops set l r p s result s' m m' e moves h (like_moved m m' same depth) (rw (ap (λ x. x.counted) same) h.supplied.counted) (ap (λ x. x.entity) same) past on
+  turn_moved r p s result s' m m' e moves h same rests past on =
+      turn_past takes stops set l r p s result s' m m' e moves h (like_moved m m' same rests) (rw (ap (λ x. x.counted) same) h.supplied.counted) (ap (λ x. x.entity) same) past on
 
   -- The machine waits for an integer, with which the next instruction begins.
   pub turn_number : (s : S) (m : Machine) → CanTurn set l m → m.waiting ≡ Field → BeginsWithInteger (body_in set m.cursor.left) (state_of m) → Waits (turning set l m) → IsTurn takes stops set l (turning set l m) s (Ok TurnWaits) s m

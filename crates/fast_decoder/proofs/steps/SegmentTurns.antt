@@ -37,7 +37,10 @@ use Rattle.fast_units.specs.device.Deciding.{IsDecided}
 use Rattle.fast_stream.specs.meaning.Fields.{field_term}
 use Rattle.fast_stream.specs.device.Frames.{Frame, open_group, open_element, unwind, resume, opened, elements_turn}
 use Rattle.fast_decoder.specs.device.Passing.{state_past, length_then, elements_from}
-use Rattle.fast_cursor.specs.device.Cursors.{ElementsData, FrameData, CursorData, bits_behind, bits_left, at_rest, frame_here, entered, left_to}
+use Rattle.fast_program.specs.declared.ops.Op.{Op}
+use Rattle.fast_cursor.specs.declared.cursor.Elements.{Elements}
+use Rattle.fast_cursor.specs.device.Segments.{elements_data}
+use Rattle.fast_cursor.specs.device.Cursors.{ElementsData, FrameData, CursorData, bits_behind, bits_left, resting, frame_here, entered, left_to}
 use Rattle.fast_decoder.specs.device.Positions.{Set, body_in, frame_by, frames_in, state_in, IsMapWhole, AreElementsFit, AreFramesFit, IsPlaced, IsSupplied, CanTurn, IsTurn, IsAtGroup, IsAtSequence, BeginsWithInteger, bit_of, turning, meaning}
 use Rattle.fast_stream.proofs.streams.Frames.{sequence-same, counting, at_end, at_group, group_turn, at_optional_group, close_group, close_element, close_message}
 use Rattle.fast_units.proofs.Turning.{result_done, result_stop}
@@ -53,8 +56,8 @@ unfolding presence_map_reader
 map_waits s g = (_, refl)
 
 -- the machine with another cursor is like it, if there are as many frames
-pub like_at : (m : Machine) (c : CursorData) → c.depth ≡ m.cursor.depth → IsLike m (record m { cursor = c })
-like_at m c e = record { terms = refl; text = refl; joined = refl; widths = refl; identifier = refl; depth = e }
+pub like_at : (m : Machine) (c : CursorData) → resting c ≡ resting m.cursor → IsLike m (record m { cursor = c })
+like_at m c e = record { terms = refl; text = refl; joined = refl; widths = refl; identifier = refl; rests = e }
 
 -- The cursor stands in a segment that begins.
 pub placed_in : (set : Set) (c : CursorData) (elements : Option ElementsData) (body : List ℕ) → IsPlaced set c → IsMapWhole c.map → AreBelow (length set.nodes) body
@@ -117,7 +120,7 @@ module _ {S : Type 0} (takes stops : S → EventData → S → Type 0) (set : Se
       let (turn, machine) = waits (omega arith) in
       let k : List Bool → Grammar Dictionary = λ b. resume (bounds l) (frame_by set (frame_here m.cursor elements) elements ∷ frames_in set m.cursor.frames) (body_in set body) (record { context = record { dictionary = slots_dictionary m.slots; counted = m.counted }; bits = b }) in
       let g : List ℕ → Grammar Dictionary = λ w. narrow (suc n) w (k (bits w)) in
-      let supplied = supplied_like set l m (record m { waiting = SegmentMap (suc n); cursor = entered m.cursor elements body }) h.supplied (record { terms = refl; text = refl; joined = refl; widths = refl; identifier = refl; depth = refl }) h.supplied.counted in
+      let supplied = supplied_like set l m (record m { waiting = SegmentMap (suc n); cursor = entered m.cursor elements body }) h.supplied (record { terms = refl; text = refl; joined = refl; widths = refl; identifier = refl; rests = refl }) h.supplied.counted in
       rw (turn, machine, is, same ∙ ap (λ j. Emit e (reader_of l.strict (opened_by j k))) (sym wide) ∙ ap (λ q. Emit e (reader_of l.strict q)) (opened_mapped (suc n) k (omega arith))) (record {
         moves = hands_more takes stops e (reader_of l.strict (presence_map g)) s s' (Ok tt) s' (reader_of l.strict (presence_map g)) taken (hands_waits takes stops (reader_of l.strict (presence_map g)) s' (map_waits l.strict g));
         supplied = supplied;
@@ -157,8 +160,8 @@ module _ {S : Type 0} (takes stops : S → EventData → S → Type 0) (set : Se
       → r ≡ Emit MessageEnd (Done (slots_dictionary m.slots)) → takes s MessageEnd s' → IsTurn takes stops set l r s (Ok TurnWaits) s' (record m { waiting = Map; cursor = c })
   turn_end r s s' m c h end outermost is same taken =
       let m' = record m { waiting = Map; cursor = c } in
-      let rest : c ≡ at_rest m.cursor.depth = is ∙ ap (λ f. record { frames = f; left = m.cursor.left; map = []; used = 0; depth = m.cursor.depth }) outermost ∙ ap (λ ns. record { frames = []; left = ns; map = []; used = 0; depth = m.cursor.depth }) end in
-      let supplied = supplied_like set l m (record m { waiting = Map; cursor = at_rest m.cursor.depth }) h.supplied (record { terms = refl; text = refl; joined = refl; widths = refl; identifier = refl; depth = refl }) h.supplied.counted in
+      let rest : c ≡ resting m.cursor = is ∙ ap (λ f. record m.cursor { frames = f; map = []; used = 0 }) outermost ∙ ap (λ ns. record (resting m.cursor) { left = ns }) end in
+      let supplied = supplied_like set l m (record m { waiting = Map; cursor = resting m.cursor }) h.supplied (record { terms = refl; text = refl; joined = refl; widths = refl; identifier = refl; rests = refl }) h.supplied.counted in
       rw (rest, same) (record {
         moves = hands_last takes stops MessageEnd (slots_dictionary m.slots) s s' (Ok tt) taken;
         supplied = supplied;
@@ -207,6 +210,14 @@ closed set l m c elements h end inner left =
           ∙ ap (λ x. reader_of l.strict (unwind (bounds l) (frame_by set f x ∷ frames_in set fs) context)) some
           ∙ ap (reader_of l.strict) (close_element (bounds l) (frames_in set fs) e.more (body_in set e.body) (body_in set f.after) (bits_behind f.map f.used) context);
     })
+
+-- What is still to come of a sequence, by the set's own program.
+pub closed_in : (set : Set) (l : Limits) (m : Machine) (c : CursorData) (elements : Option Elements) → IsSupplied set l m
+    → ((f : FrameData) (fs : List FrameData) → m.cursor.frames ≡ f ∷ fs → (c ≡ left_to m.cursor f fs) × (option_map (elements_data m.cursor.ops) elements ≡ f.elements))
+    → (f : FrameData) (fs : List FrameData) → m.cursor.frames ≡ f ∷ fs → (c ≡ left_to m.cursor f fs) × (option_map (elements_data set.program) elements ≡ f.elements)
+closed_in set l m c elements h left f fs frames =
+    let (is, same) = left f fs frames in
+    (is, ap (λ (ops : List Op). option_map (elements_data ops) elements) (sym h.program) ∙ same)
 
 -- An instruction nests no deeper than there is room for.
 pub room_inside : (set : Set) (c : CursorData) (i : Instruction) → IsPlaced set c → body_in set c.left ≡ step i (body_in set (drop 1 c.left)) → length c.frames + depth i ≤ c.depth
@@ -340,7 +351,7 @@ pub can_turn_behind : (set : Set) (l : Limits) (f : FieldData) (m m' : Machine) 
 can_turn_behind set l f m m' counted h behind few =
     let past : CursorData = record m.cursor { left = drop 1 m.cursor.left; used = behind.used } in
     subst (CanTurn set l) (sym behind.same)
-    (can_turn_past set l m (record m { cursor = past; counted = counted }) h (record { terms = refl; text = refl; joined = refl; widths = refl; identifier = refl; depth = refl }) few refl (record { same = refl }))
+    (can_turn_past set l m (record m { cursor = past; counted = counted }) h (record { terms = refl; text = refl; joined = refl; widths = refl; identifier = refl; rests = refl }) few refl (record { same = refl }))
 
 -- what is to be read of the next instruction, a sequence, once its length is known
 abbrev pub length_from : Set → Limits → Machine → ℕ → Option ScalarData → FieldData → List ℕ → Reader Dictionary

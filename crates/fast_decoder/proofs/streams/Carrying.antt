@@ -52,6 +52,7 @@ supplied-turns set l m n h = record {
   node_widths = h.node_widths;
   template_widths = h.template_widths;
   depth = h.depth;
+  program = h.program;
   identifier = h.identifier;
   counted = h.counted;
 }

@@ -10,7 +10,7 @@ use Rattle.fast_dict.specs.meaning.Dictionary.{fresh}
 use Rattle.fast_dict.specs.meaning.Slots.{slots_dictionary}
 use Rattle.fast_decoder.specs.declared.machine.Machine.{Machine}
 use Rattle.fast_decoder.specs.declared.machine.Waiting.{Waiting}
-use Rattle.fast_cursor.specs.device.Cursors.{CursorData, at_rest}
+use Rattle.fast_cursor.specs.device.Cursors.{CursorData, resting}
 use Rattle.fast_stream.specs.device.Readers.{Done}
 use Rattle.fast_stream.specs.device.Running.{at_start}
 use Rattle.fast_decoder.specs.device.Handing.{waiting_at}
@@ -28,7 +28,7 @@ none_short m n e h = subst (λ (w : List ℕ). length w < n) (sym e) h
 pub ready_fresh : (set : Set) (l : Limits) (m : Machine) → IsSupplied set l m → IsFresh set m → IsReady set l m
 ready_fresh set l m supplied f =
     let map : m.cursor.map ≡ [] = ap (λ (c : CursorData). c.map) f.cursor in
-    let rest : m.cursor ≡ record (at_rest m.cursor.depth) { map = m.cursor.map } = f.cursor ∙ ap (λ (w : List ℕ). record (at_rest m.cursor.depth) { map = w }) (sym map) in
+    let rest : m.cursor ≡ record (resting m.cursor) { map = m.cursor.map } = f.cursor ∙ ap (λ (w : List ℕ). record (resting m.cursor) { map = w }) (sym map) in
     record {
       supplied = supplied;
       takes = subst (λ (w : Waiting). CanTake w set l m) (sym f.waiting) (none_open m.cursor.map map, none_short m.cursor.map map_limit map (omega arith), f.entity, rest);

@@ -15,6 +15,7 @@ use Rattle.fast_tree.specs.device.Numbers.{AreBelow}
 use Rattle.fast_tree.specs.meaning.Sizes.{body_depth, set_depth}
 use Rattle.fast_tree.specs.meaning.Tree.{Label, FieldData, identifier, uses_bit, field, parts, group, sequence, Body, step, bits_of, Tree}
 use Rattle.fast_template.specs.declared.sets.Templates.{Templates}
+use Rattle.fast_template.specs.device.Programs.{program_of}
 use Rattle.fast_template.specs.meaning.Flat.{field_data, instructions_from, template_data, templates_of, nodes_of}
 use Rattle.fast_dict.specs.meaning.Dictionary.{Dictionary, fresh, previous_at}
 use Rattle.fast_dict.specs.meaning.Slots.{slots_dictionary, slots_terms}
@@ -29,7 +30,9 @@ use Rattle.fast_stream.specs.device.GrammarReaders.{settles_reader, judged_map, 
 use Rattle.fast_stream.specs.device.Continuations.{handed_then, message_behind_then, message_then}
 use Rattle.fast_stream.specs.device.Frames.{Frame, open_group, open_element, resume}
 use Rattle.fast_stream.specs.device.Machine.{after_bytes}
-use Rattle.fast_cursor.specs.device.Cursors.{ElementsData, FrameData, CursorData, bits_behind, bits_left, at_rest}
+use Rattle.fast_program.specs.declared.ops.Op.{Op}
+use Rattle.fast_cursor.specs.device.Runs.{run_at}
+use Rattle.fast_cursor.specs.device.Cursors.{ElementsData, FrameData, CursorData, bits_behind, bits_left, resting}
 use Rattle.fast_decoder.specs.device.Serving.{ServesNodes}
 use Rattle.fast_tree.specs.device.Bodies.{body_among, AreNodeWidths, AreTemplateWidths}
 use Rattle.fast_units.specs.device.Stages.{term_behind, IsStageOf}
@@ -42,10 +45,11 @@ use Rattle.fast_decoder.specs.declared.machine.Turn.TheVariants.{Silent, Handed,
 use Rattle.fast_decoder.specs.declared.machine.Waiting.{Waiting}
 use Rattle.fast_decoder.specs.declared.machine.Waiting.TheVariants.{Map, Identifier, SegmentMap, Field, Text, Number, Bytes, Mantissa}
 
--- A template set as its templates, its nodes and the number of its entries.
+-- A template set as its templates, its nodes, its program and the number of its entries.
 pub record Set : Type 0 where
   pub templates : List Template
   pub nodes : List Node
+  pub program : List Op
   pub entries : ℕ
 
 -- the tree of a set
@@ -54,11 +58,15 @@ tree_in set = record { templates = map (template_data (instructions_from 0 set.n
 
 -- the set of a checked set of the Rust type
 abbrev pub set_of : Templates → Set
-set_of t = record { templates = templates_of t; nodes = nodes_of t; entries = t.entries }
+set_of t = record { templates = templates_of t; nodes = nodes_of t; program = program_of t; entries = t.entries }
 
 -- the body of nodes of a set
 abbrev pub body_in : Set → List ℕ → Body
 body_in set ns = body_among set.nodes ns
+
+-- the nodes of the run that begins at a place in a set's program
+abbrev pub run_in : Set → ℕ → List ℕ
+run_in set start = run_at set.program start
 
 -- an open segment, by what is still to come of a sequence
 abbrev pub frame_by : Set → FrameData → Option ElementsData → Frame
@@ -191,6 +199,7 @@ pub record IsSupplied (set : Set) (l : Limits) (m : Machine) : Type 0 where
   pub node_widths : AreNodeWidths set.nodes m.widths.nodes.items
   pub template_widths : AreTemplateWidths set.nodes set.templates m.widths.templates.items
   pub depth : m.cursor.depth ≡ set_depth (tree_in set)
+  pub program : m.cursor.ops ≡ set.program
   pub identifier : field_data m.identifier ≡ identifier
   pub counted : m.counted ≤ l.max_total
 
@@ -223,8 +232,8 @@ GoesOnWithBytes l body s stage front = ⊥
 
 -- The machine can take the unit that it waits for.
 abbrev pub CanTake : Waiting → Set → Limits → Machine → Type 0
-CanTake Map set l m = HaveNoStop m.cursor.map × (length m.cursor.map < map_limit) × (m.entity.bytes ≡ []) × (m.cursor ≡ record (at_rest m.cursor.depth) { map = m.cursor.map })
-CanTake Identifier set l m = IsEntity m.cursor.map × (first_bit (bits m.cursor.map) ≡ true) × (m.cursor ≡ record (at_rest m.cursor.depth) { map = m.cursor.map })
+CanTake Map set l m = HaveNoStop m.cursor.map × (length m.cursor.map < map_limit) × (m.entity.bytes ≡ []) × (m.cursor ≡ record (resting m.cursor) { map = m.cursor.map })
+CanTake Identifier set l m = IsEntity m.cursor.map × (first_bit (bits m.cursor.map) ≡ true) × (m.cursor ≡ record (resting m.cursor) { map = m.cursor.map })
 CanTake (SegmentMap width) set l m = HaveNoStop m.cursor.map × (length m.cursor.map < map_limit) × (m.entity.bytes ≡ []) × (m.cursor.used ≡ 0) × IsPlaced set m.cursor × (width ≡ bits_of (body_in set m.cursor.left))
 CanTake Field set l m = IsPlaced set m.cursor × IsMapWhole m.cursor.map × BeginsWithInteger (body_in set m.cursor.left) (state_in (slots_dictionary m.slots) m.counted m.cursor)
 CanTake Text set l m = IsPlaced set m.cursor × IsMapWhole m.cursor.map × (m.entity.bytes ≡ []) × BeginsWithText l (body_in set m.cursor.left) (state_in (slots_dictionary m.slots) m.counted m.cursor) m.text.text
@@ -282,7 +291,7 @@ pub record IsTurn {S : Type 0} (takes stops : S → EventData → S → Type 0) 
 pub record IsBehindMap (set : Set) (l : Limits) (m : Machine) : Type 0 where
   pub supplied : IsSupplied set l m
   pub map : IsEntity m.cursor.map
-  pub outermost : m.cursor ≡ record (at_rest m.cursor.depth) { map = m.cursor.map }
+  pub outermost : m.cursor ≡ record (resting m.cursor) { map = m.cursor.map }
   pub unused : m.entity.bytes ≡ []
 
 -- what is read of a segment at its whole map
@@ -300,7 +309,7 @@ is_idle m = is_idle_at m.waiting m.cursor.map
 -- Nothing was read.
 pub record IsFresh (set : Set) (m : Machine) : Type 0 where
   pub waiting : m.waiting ≡ Map
-  pub cursor : m.cursor ≡ at_rest m.cursor.depth
+  pub cursor : m.cursor ≡ resting m.cursor
   pub dictionary : slots_dictionary m.slots ≡ fresh set.entries
   pub entity : m.entity.bytes ≡ []
   pub turns : m.turns.count ≡ 0

@@ -55,4 +55,4 @@ returns-in-Ok-clause-turn g c =
     (c.presence-bit.ensures (slots_dictionary m.slots) m.counted) (c.needs_bytes.ensures.unsent c.if-needs_bytes.false (bounds l) (previous_at f.entry (slots_dictionary m.slots))) c.in-Ok.ensures.decided)
     (c.finish_decimal.ensures.moves set (bounds l) l.strict (meaning set l c.finish_decimal.new.self))
     (can_turn_slots set l m c.unsent_seldom.new.slots c.requires.turn c.unsent_seldom.ensures.terms)
-    c.finish_decimal.ensures.same c.finish_decimal.ensures.depth c.finish_decimal.ensures.past c.finish_decimal.ensures.on
+    c.finish_decimal.ensures.same c.finish_decimal.ensures.rests c.finish_decimal.ensures.past c.finish_decimal.ensures.on

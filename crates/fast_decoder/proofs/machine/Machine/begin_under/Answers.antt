@@ -50,4 +50,4 @@ returns-in-Ok-clause-turn g c =
     (c.presence-bit.ensures (slots_dictionary m.slots) m.counted) (c.needs_bytes.ensures.unsent c.if-needs_bytes.false (bounds l) (previous_at f.entry (slots_dictionary m.slots))) c.in-Ok.ensures.decided)
     (c.finish_by.ensures.moves set (bounds l) l.strict (meaning set l c.finish_by.new.self))
     (can_turn_slots set l m c.unsent.new.slots c.requires.turn c.unsent.ensures.terms)
-    c.finish_by.ensures.same c.finish_by.ensures.depth c.finish_by.ensures.past c.finish_by.ensures.on
+    c.finish_by.ensures.same c.finish_by.ensures.rests c.finish_by.ensures.past c.finish_by.ensures.on

@@ -19,6 +19,7 @@ returns-clause-supplied c =
       node_widths = c.in_ok-measure.ensures.nodes;
       template_widths = c.in_ok-measure.ensures.templates;
       depth = ap (λ (x : CursorData). x.depth) c.in_ok-new.ensures ∙ c.depth.ensures.greatest;
+      program = ap (λ (x : CursorData). x.ops) c.in_ok-new.ensures ∙ c.program.ensures.is;
       identifier = refl;
       counted = omega arith;
     }

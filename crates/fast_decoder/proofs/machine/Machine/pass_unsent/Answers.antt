@@ -33,4 +33,4 @@ returns-clause-step g c rest =
     (clear_bit f (slots_dictionary m.slots) m.counted m.cursor (bit_as field c.args.kind c.args.sending as_sent ∙ c.requires.bit) c.requires.clear)
     (ap (λ o. needs_bytes o false) as_sent.operator ∙ none_needed c.args.sending c.requires.bit)
     c.in_ok-item.ensures.decided
-    (turned.ensures.moves set (bounds l) l.strict (meaning set l turned.new.self) f (sym (bit_as field c.args.kind c.args.sending as_sent ∙ c.requires.bit))) turned.ensures.same turned.ensures.depth turned.ensures.past turned.ensures.on
+    (turned.ensures.moves set (bounds l) l.strict (meaning set l turned.new.self) f (sym (bit_as field c.args.kind c.args.sending as_sent ∙ c.requires.bit))) turned.ensures.same turned.ensures.rests turned.ensures.past turned.ensures.on

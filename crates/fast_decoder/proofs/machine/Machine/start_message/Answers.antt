@@ -1,5 +1,5 @@
 -- The first event of a message.
-use Rattle.std.proofs.Common.{◌≡◌, ap, sym, ◌∙◌, subst}
+use Rattle.std.proofs.Common.{◌≡◌, ap, sym, ◌∙◌, subst, List}
 use Rattle.std.specs.Prelude.{Some, Ok}
 use Rattle.std.proofs.lemmas.Result.{err_from_is_err_and}
 use Rattle.fast_tree.specs.declared.instructions.Template.{Template}
@@ -7,7 +7,9 @@ use Rattle.fast_tree.specs.device.Nodes.{template_data, instructions_from}
 use Rattle.fast_tree.specs.meaning.Tree.{identifier}
 use Rattle.fast_value.specs.meaning.Limits.{bounds}
 use Rattle.fast_dict.specs.meaning.Slots.{slots_dictionary}
-use Rattle.fast_cursor.specs.device.Cursors.{CursorData, bits_left}
+use Rattle.fast_program.specs.declared.ops.Op.{Op}
+use Rattle.fast_cursor.specs.device.Runs.{run_at, IsRun}
+use Rattle.fast_cursor.specs.device.Cursors.{CursorData, resting, bits_left}
 use Rattle.fast_stream.specs.device.GrammarReaders.{reader_of}
 use Rattle.fast_decoder.specs.device.Passing.{state_past}
 use Rattle.fast_stream.specs.device.Continuations.{message_of_then}
@@ -53,16 +55,20 @@ returns-clause-turn g c t found =
     let turns = begun_turns (set_of c.args.templates.now) c.args.limits c.args.self.now c.args.number c.template-template.result.now c.begin.new.self c.reset_if.new.slots c.after-self.result c.args.number c.requires.behind c.template-template.ensures.found c.template-template.ensures.body
     c.reset_if.ensures.terms
     (ap (λ (x : CursorData). x.frames) c.begin.ensures ∙ ap (λ (x : CursorData). x.frames) c.use_bit.ensures.same ∙ ap (λ (x : CursorData). x.frames) c.requires.behind.outermost)
-    (ap (λ (x : CursorData). x.left) c.begin.ensures ∙ c.as_slice.ensures.value)
+    (ap (λ (x : CursorData). x.left) c.begin.ensures
+    ∙ ap (λ (ops : List Op). run_at ops c.template_start.result) (ap (λ (x : CursorData). x.ops) c.use_bit.ensures.same ∙ c.requires.behind.supplied.program)
+    ∙ (c.template_start.ensures c.template-template.result.now c.template-template.ensures.found).nodes)
     (ap (λ (x : CursorData). x.map) c.begin.ensures ∙ ap (λ (x : CursorData). x.map) c.use_bit.ensures.same)
-    (ap (λ (x : CursorData). x.depth) c.begin.ensures ∙ ap (λ (x : CursorData). x.depth) c.use_bit.ensures.same) in
+    (ap resting c.begin.ensures ∙ ap resting c.use_bit.ensures.same) in
     subst (λ (u : Template). IsTurn g.S.Sink.takes g.S.Sink.stops set c.args.limits (reader_of strict (message_of_then l c.args.number (template_data (instructions_from 0 set.nodes) u) (state_past identifier d 0 c.args.self.now.cursor))) c.args.sink.now (Ok Handed) c.hand.new.sink
     (record c.args.self.now { cursor = c.begin.new.self; slots = c.reset_if.new.slots; counted = 0; turns = c.after-self.result; latest = c.args.number })) same
     (record {
       moves = moves_one g.S.Sink.takes g.S.Sink.stops (meaning set c.args.limits (record c.args.self.now { cursor = c.begin.new.self; slots = c.reset_if.new.slots; counted = 0; turns = c.after-self.result; latest = c.args.number })) c.args.sink.now c.hand.new.sink
           (begun set strict l c.args.number c.template-template.result.now d (slots_dictionary c.reset_if.new.slots) c.args.self.now.cursor c.begin.new.self c.reset_if.ensures.entries
           (ap (λ (x : CursorData). x.frames) c.begin.ensures ∙ ap (λ (x : CursorData). x.frames) c.use_bit.ensures.same ∙ ap (λ (x : CursorData). x.frames) c.requires.behind.outermost)
-          (ap (λ (x : CursorData). x.left) c.begin.ensures ∙ c.as_slice.ensures.value)
+          (ap (λ (x : CursorData). x.left) c.begin.ensures
+          ∙ ap (λ (ops : List Op). run_at ops c.template_start.result) (ap (λ (x : CursorData). x.ops) c.use_bit.ensures.same ∙ c.requires.behind.supplied.program)
+          ∙ (c.template_start.ensures c.template-template.result.now c.template-template.ensures.found).nodes)
           (ap (λ (x : CursorData). bits_left x) c.begin.ensures ∙ c.use_bit.ensures.bits))
           c.in_ok-hand.ensures;
       supplied = turns.supplied;
@@ -73,21 +79,34 @@ pub returns-clause-goes_on : goal.returns-clause-goes_on
 returns-clause-goes_on g c = begun_turns (set_of c.args.templates.now) c.args.limits c.args.self.now c.args.number c.template-template.result.now c.begin.new.self c.reset_if.new.slots c.after-self.result c.args.number c.requires.behind c.template-template.ensures.found c.template-template.ensures.body
     c.reset_if.ensures.terms
     (ap (λ (x : CursorData). x.frames) c.begin.ensures ∙ ap (λ (x : CursorData). x.frames) c.use_bit.ensures.same ∙ ap (λ (x : CursorData). x.frames) c.requires.behind.outermost)
-    (ap (λ (x : CursorData). x.left) c.begin.ensures ∙ c.as_slice.ensures.value)
+    (ap (λ (x : CursorData). x.left) c.begin.ensures
+    ∙ ap (λ (ops : List Op). run_at ops c.template_start.result) (ap (λ (x : CursorData). x.ops) c.use_bit.ensures.same ∙ c.requires.behind.supplied.program)
+    ∙ (c.template_start.ensures c.template-template.result.now c.template-template.ensures.found).nodes)
     (ap (λ (x : CursorData). x.map) c.begin.ensures ∙ ap (λ (x : CursorData). x.map) c.use_bit.ensures.same)
-    (ap (λ (x : CursorData). x.depth) c.begin.ensures ∙ ap (λ (x : CursorData). x.depth) c.use_bit.ensures.same)
+    (ap resting c.begin.ensures ∙ ap resting c.use_bit.ensures.same)
 
 pub returns-clause-supplied : goal.returns-clause-supplied
 returns-clause-supplied g c = (begun_turns (set_of c.args.templates.now) c.args.limits c.args.self.now c.args.number c.template-template.result.now c.begin.new.self c.reset_if.new.slots c.after-self.result c.args.number c.requires.behind c.template-template.ensures.found c.template-template.ensures.body
     c.reset_if.ensures.terms
     (ap (λ (x : CursorData). x.frames) c.begin.ensures ∙ ap (λ (x : CursorData). x.frames) c.use_bit.ensures.same ∙ ap (λ (x : CursorData). x.frames) c.requires.behind.outermost)
-    (ap (λ (x : CursorData). x.left) c.begin.ensures ∙ c.as_slice.ensures.value)
+    (ap (λ (x : CursorData). x.left) c.begin.ensures
+    ∙ ap (λ (ops : List Op). run_at ops c.template_start.result) (ap (λ (x : CursorData). x.ops) c.use_bit.ensures.same ∙ c.requires.behind.supplied.program)
+    ∙ (c.template_start.ensures c.template-template.result.now c.template-template.ensures.found).nodes)
     (ap (λ (x : CursorData). x.map) c.begin.ensures ∙ ap (λ (x : CursorData). x.map) c.use_bit.ensures.same)
-    (ap (λ (x : CursorData). x.depth) c.begin.ensures ∙ ap (λ (x : CursorData). x.depth) c.use_bit.ensures.same)).supplied
+    (ap resting c.begin.ensures ∙ ap resting c.use_bit.ensures.same)).supplied
 
 pub returns-clause-turns : goal.returns-clause-turns
 returns-clause-turns g c way n h =
     let m = c.args.self.now in
     message_begun way (set_of c.args.templates.now) c.args.limits n m.turns.count c.after-self.result.count c.args.number c.template-template.result.now c.begin.new.self h c.template-template.ensures.found c.after-self.ensures
-    (ap (λ (x : CursorData). x.left) c.begin.ensures ∙ c.as_slice.ensures.value)
+    (ap (λ (x : CursorData). x.left) c.begin.ensures
+    ∙ ap (λ (ops : List Op). run_at ops c.template_start.result) (ap (λ (x : CursorData). x.ops) c.use_bit.ensures.same ∙ c.requires.behind.supplied.program)
+    ∙ (c.template_start.ensures c.template-template.result.now c.template-template.ensures.found).nodes)
     (ap (λ (x : CursorData). x.frames) c.begin.ensures ∙ ap (λ (x : CursorData). x.frames) c.use_bit.ensures.same ∙ ap (λ (x : CursorData). x.frames) c.requires.behind.outermost)
+
+pub begin-requires : goal.begin-requires
+begin-requires g c = record {
+  run =
+      subst (λ (ops : List Op). IsRun ops c.template_start.result) (sym (ap (λ (x : CursorData). x.ops) c.use_bit.ensures.same ∙ c.requires.behind.supplied.program))
+      (c.template_start.ensures c.template-template.result.now c.template-template.ensures.found).run;
+}

@@ -38,7 +38,7 @@ returns-in-Settled-clause-turn g c =
     let r : Reader Dictionary = reader_of l.strict (value_then set (bounds l) c.args.node (value_at c.in-Settled.source f (slots_dictionary m.slots) m.text.text piece) f (slots_dictionary m.slots) m.counted m.cursor) in
     subst (λ (step : FieldStep). IsTurn g.S.Sink.takes g.S.Sink.stops set l (reader_of l.strict (step_then set l c.args.node f m piece step)) c.args.sink.now c.finish.result c.finish.new.sink a)
     (sym c.in-Settled.is)
-    (turn_moved g.S.Sink.takes g.S.Sink.stops set l r r c.args.sink.now c.finish.result c.finish.new.sink m a refl (ends.moves set (bounds l) l.strict (meaning set l a)) can ends.same ends.depth ends.past ends.on)
+    (turn_moved g.S.Sink.takes g.S.Sink.stops set l r r c.args.sink.now c.finish.result c.finish.new.sink m a refl (ends.moves set (bounds l) l.strict (meaning set l a)) can ends.same ends.rests ends.past ends.on)
 
 pub returns-in-Settled-clause-turns : goal.returns-in-Settled-clause-turns
 returns-in-Settled-clause-turns g c way n h =

@@ -66,7 +66,7 @@ returns-clause-taken g c =
     text_to set l m f n rest slots text m.joined c.requires.ready c.requires.waits (none_in_hand m.text.text c.if-not-is_empty.ensures) at c.take_short_text.ensures.terms c.take_short_text.ensures.scratch refl
     g.S.Sink.takes g.S.Sink.stops c.after-self.result Scratch c.in_ok-bytes.bytes c.args.sink.now turned.result turned.new.sink turned.new.self
     c.in_ok-bytes.ensures.unit
-    (turned.ensures.moves set (bounds l) l.strict (meaning set l turned.new.self)) turned.ensures.same turned.ensures.depth turned.ensures.past turned.ensures.on
+    (turned.ensures.moves set (bounds l) l.strict (meaning set l turned.new.self)) turned.ensures.same turned.ensures.rests turned.ensures.past turned.ensures.on
 
 pub returns-clause-turns : goal.returns-clause-turns
 returns-clause-turns g c way n h =

@@ -1,4 +1,5 @@
-use Rattle.std.proofs.Common.{sym, ◌∙◌, subst}
+use Rattle.std.proofs.Common.{sym, ap, ◌∙◌, subst}
+use Rattle.fast_tree.specs.device.Numbers.{numbers_of}
 use Rattle.fast_tree.specs.device.Nodes.{field_data}
 use Rattle.fast_tree.specs.declared.instructions.Shape.TheVariants.{Field}
 use Rattle.fast_dict.specs.meaning.Slots.{slots_dictionary}
@@ -112,7 +113,8 @@ take_length-requires-clause-next g c =
     let v = c.node.result.now in
     let later = c.args.templates.now.nodes_name_later_nodes in
     let first = sym c.next.ensures ∙ c.in-Some.is in
-    at_sequence_node set m.cursor n v later first c.node.ensures.found c.in-Sequence.length c.in-Sequence.body c.as_slice.result.now c.in-Sequence.is c.as_slice.ensures.value
+    at_sequence_node set m.cursor n v later first c.node.ensures.found c.in-Sequence.length c.in-Sequence.body _ c.in-Sequence.is
+    ((c.body_start-start.ensures v c.node.ensures.found).nodes ∙ ap numbers_of c.in-Sequence.is)
 
 pub take_length-requires-clause-node : goal.take_length-requires-clause-node
 take_length-requires-clause-node g c =

@@ -3,7 +3,7 @@ use Rattle.fast_value.specs.meaning.Limits.{bounds}
 use Rattle.fast_tree.specs.device.Nodes.{field_data}
 use Rattle.fast_dict.specs.meaning.Slots.{slots_dictionary}
 use Rattle.fast_stream.specs.device.Continuations.{sequence_from_then, segment_then, body_then}
-use Rattle.fast_decoder.specs.device.Positions.{set_of, body_in, turning, meaning}
+use Rattle.fast_decoder.specs.device.Positions.{set_of, run_in, body_in, turning, meaning}
 use Rattle.fast_stream.specs.declared.faults.FaultCode.TheVariants as Why
 use Rattle.fast_decoder.proofs.machines.PartTakes.{integer_whole, integer_wrong, integer_cut, length_sees, length_sent, sequence_next, meaning_first, first_cut, first_ready, part_supplied}
 use Rattle.fast_decoder.proofs.machines.UnitTaken.{cut_to, wrong_to}
@@ -22,9 +22,9 @@ returns-in-Cut-clause-taken g c =
     let m = c.args.self.now in
     let f = field_data c.args.length.now in
     let n = c.args.node in
-    let k = sequence_from_then (bounds l) n (segment_then (body_in set c.args.body.now) (body_then (bounds l) (body_in set c.args.body.now))) (behind set l m) in
-    let sent = length_sent set l m n f c.args.body.now c.requires.ready c.requires.waits c.requires.next in
-    let next = sequence_next set l m n f c.args.body.now c.requires.next in
+    let k = sequence_from_then (bounds l) n (segment_then (body_in set (run_in (set_of c.args.templates.now) c.args.start)) (body_then (bounds l) (body_in set (run_in (set_of c.args.templates.now) c.args.start)))) (behind set l m) in
+    let sent = length_sent set l m n f (run_in (set_of c.args.templates.now) c.args.start) c.requires.ready c.requires.waits c.requires.next in
+    let next = sequence_next set l m n f (run_in (set_of c.args.templates.now) c.args.start) c.requires.next in
     let is = meaning_first set l m c.requires.waits in
     let a = record m { slots = c.take_integer.new.slots; entity = c.take_integer.new.pending } in
     let (stays, same) = c.in-Cut.ensures.unit (bounds l) [] in
@@ -41,9 +41,9 @@ returns-in-Wrong-clause-taken g c =
     let m = c.args.self.now in
     let f = field_data c.args.length.now in
     let n = c.args.node in
-    let k = sequence_from_then (bounds l) n (segment_then (body_in set c.args.body.now) (body_then (bounds l) (body_in set c.args.body.now))) (behind set l m) in
-    let sent = length_sent set l m n f c.args.body.now c.requires.ready c.requires.waits c.requires.next in
-    let next = sequence_next set l m n f c.args.body.now c.requires.next in
+    let k = sequence_from_then (bounds l) n (segment_then (body_in set (run_in (set_of c.args.templates.now) c.args.start)) (body_then (bounds l) (body_in set (run_in (set_of c.args.templates.now) c.args.start)))) (behind set l m) in
+    let sent = length_sent set l m n f (run_in (set_of c.args.templates.now) c.args.start) c.requires.ready c.requires.waits c.requires.next in
+    let next = sequence_next set l m n f (run_in (set_of c.args.templates.now) c.args.start) c.requires.next in
     let is = meaning_first set l m c.requires.waits in
     let a = record m { slots = c.take_integer.new.slots; entity = c.take_integer.new.pending } in
     wrong_to takes stops set l (meaning set l m) c.args.rest.now c.args.sink.now a (Why.Stream c.in-Wrong.code) c.wrong.ensures.bytes c.wrong.ensures.turn
@@ -59,9 +59,9 @@ returns-in-Whole-clause-taken g c =
     let m = c.args.self.now in
     let f = field_data c.args.length.now in
     let n = c.args.node in
-    let k = sequence_from_then (bounds l) n (segment_then (body_in set c.args.body.now) (body_then (bounds l) (body_in set c.args.body.now))) (behind set l m) in
-    let sent = length_sent set l m n f c.args.body.now c.requires.ready c.requires.waits c.requires.next in
-    let next = sequence_next set l m n f c.args.body.now c.requires.next in
+    let k = sequence_from_then (bounds l) n (segment_then (body_in set (run_in (set_of c.args.templates.now) c.args.start)) (body_then (bounds l) (body_in set (run_in (set_of c.args.templates.now) c.args.start)))) (behind set l m) in
+    let sent = length_sent set l m n f (run_in (set_of c.args.templates.now) c.args.start) c.requires.ready c.requires.waits c.requires.next in
+    let next = sequence_next set l m n f (run_in (set_of c.args.templates.now) c.args.start) c.requires.next in
     let is = meaning_first set l m c.requires.waits in
-    integer_whole takes stops set l m f k (turning set l m) c.args.rest.now sent next is (length_sees (bounds l) n (body_in set c.args.body.now) (behind set l m)) c.take_integer.new.slots m.text.text c.in-Whole.source c.in-Whole.bytes (c.in-Whole.ensures.unit (bounds l) m.text.text)
+    integer_whole takes stops set l m f k (turning set l m) c.args.rest.now sent next is (length_sees (bounds l) n (body_in set (run_in (set_of c.args.templates.now) c.args.start)) (behind set l m)) c.take_integer.new.slots m.text.text c.in-Whole.source c.in-Whole.bytes (c.in-Whole.ensures.unit (bounds l) m.text.text)
     c.args.sink.now c.length_known-turn.result c.length_known-turn.new.sink c.length_known-turn.new.self c.length_known-turn.ensures.turn

@@ -132,4 +132,4 @@ returns-in-Whole-clause-taken g c =
     c.args.sink.now turn c.finish_decimal-turn.new.sink b
     (subst (λ (y : ℤ). IsTurn takes stops set l (read y) c.args.sink.now turn c.finish_decimal-turn.new.sink b)
     (to_z-of_z w32 x c.ranges.exponent)
-    (turn_moved takes stops set l (read (to_z w32 (of_z w32 x))) (read (to_z w32 (of_z w32 x))) c.args.sink.now turn c.finish_decimal-turn.new.sink a b refl (ends.moves set (bounds l) l.strict (meaning set l b)) can ends.same ends.depth ends.past ends.on))
+    (turn_moved takes stops set l (read (to_z w32 (of_z w32 x))) (read (to_z w32 (of_z w32 x))) c.args.sink.now turn c.finish_decimal-turn.new.sink a b refl (ends.moves set (bounds l) l.strict (meaning set l b)) can ends.same ends.rests ends.past ends.on))

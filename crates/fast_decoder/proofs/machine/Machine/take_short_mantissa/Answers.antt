@@ -69,8 +69,8 @@ returns-clause-taken g c =
     let moved : IsTurn takes stops set l (reader_of l.strict (decimal_then set (bounds l) n (to_z w32 (of_z w32 x)) (value_at c.source_of.result f (slots_dictionary slots) m.text.text []) f (slots_dictionary slots) m.counted m.cursor)) c.args.sink.now turn c.finish_decimal-turn.new.sink b =
     record {
       moves = ends.moves set (bounds l) l.strict (meaning set l b);
-      supplied = supplied_moved set l (record a { turns = c.after-self.result }) b from.supplied ends.same ends.depth;
-      goes_on = goes_on_moved set l (record a { turns = c.after-self.result }) b turn from ends.same ends.depth ends.past ends.on;
+      supplied = supplied_moved set l (record a { turns = c.after-self.result }) b from.supplied ends.same ends.rests;
+      goes_on = goes_on_moved set l (record a { turns = c.after-self.result }) b turn from ends.same ends.rests ends.past ends.on;
     } in
     integer_at_once takes stops set l m f k (mantissa_from set l m x) c.args.rest.now sent (mantissa_next set l m n (field_data c.in-Decimal.exponent) f x at) (meaning_second set l m x c.requires.waits)
     (none_in_hand m.entity.bytes c.if-not-is_empty.ensures) (mantissa_sees n x (behind set l m)) slots m.text.text source c.in_ok-entity.entity.len (c.in_ok-item.ensures.unit (bounds l) m.text.text)
