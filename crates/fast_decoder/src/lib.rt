@@ -3,6 +3,7 @@
 
 pub mod decoder;
 pub mod in_hand;
+mod integer_arms;
 pub mod layout;
 mod machine;
 mod quick_decimals;
@@ -14,8 +15,8 @@ mod quick_texts;
 mod quick_units;
 mod quick_wholes;
 pub mod recorder;
-mod spot;
 mod settling;
+mod spot;
 mod stepping;
 mod taking;
 mod turns;
