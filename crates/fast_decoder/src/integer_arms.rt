@@ -1,6 +1,6 @@
 //! Fields of integers in the machine's loop: kind, operator and presence are known where the arm stands, and the op names the entry.
 
-ghost use Rattle.std.specs.Prelude.{◌≡◌, ◌≢◌, ◌<◌, ℕ, ℤ, true, false, pos, option_map};
+ghost use Rattle.std.specs.Prelude.{◌≡◌, ◌≢◌, ◌<◌, ◌≤ℤ◌, ℕ, ℤ, true, false, pos, neg_ℤ, option_map};
 ghost use Rattle.fast_wire.specs.meaning.Integers.{unsigned_up_to, signed_between};
 ghost use Rattle.fast_value.specs.meaning.Kinds.{U, I, family, integers, value_of_integer};
 ghost use Rattle.fast_value.specs.meaning.Values.{scalar_data};
@@ -89,6 +89,97 @@ impl<'t> Machine<'t> {
                     None => Went::Declined,
                 }
             }
+        }
+    }
+
+    /// A field of signed integers under no delta.
+    #[inline(always)]
+    pub fn signed_arm<S: Sink>(
+        &mut self,
+        templates: &'t Templates,
+        limits: Limits,
+        spot: &mut Spot<'t, '_>,
+        op: Op,
+        kind: Kind,
+        low: i64,
+        top: i64,
+        operator: Operator,
+        optional: bool,
+        sink: &mut S,
+    ) -> Went
+        requires range { signed_between low top ≡ range_of kind }
+        requires signed { (x : ℤ) → value_of_integer kind x ≡ I x }
+        requires least { low ≤ℤ neg_ℤ (pos 134217728) }
+        requires greatest { pos 134217727 ≤ℤ top }
+        requires integers { family kind ≡ integers (range_of kind) }
+        requires no_delta { operator ≢ Operator.Delta }
+        requires no_constant { operator ≢ Operator.Constant }
+        requires spot { IsAtSpot (set_of templates.now) limits self.old spot.old.place }
+        requires at { IsAtOp (set_of templates.now) spot.old.place op }
+        requires field { IsFieldOp (set_of templates.now) op kind operator optional }
+        ensures went { HasWent S.takes S.stops (set_of templates.now) limits self.old spot.old sink.old result sink.new
+            self.new spot.new }
+    {
+        let has_bit = operator.uses_bit(optional);
+        match stands(&spot.place, has_bit) {
+            Standing::Spent => Went::Declined,
+            Standing::Unsent => {
+                self.unsent_integer_arm(templates, limits, spot, op, kind, operator, optional, sink)
+            }
+            Standing::Sent => {
+                match sent_signed(
+                    &mut self.slots,
+                    op.entry,
+                    kind,
+                    optional,
+                    operator,
+                    spot.rest,
+                    limits.strict,
+                    low,
+                    top,
+                ) {
+                    Some(taken) => hand_taken(
+                        &mut self.turns,
+                        spot,
+                        op.node,
+                        has_bit,
+                        scalar_of(taken.item),
+                        taken.bytes,
+                        sink,
+                    ),
+                    None => Went::Declined,
+                }
+            }
+        }
+    }
+
+    /// A field of integers under delta.
+    #[inline(always)]
+    pub fn delta_arm<S: Sink>(
+        &mut self,
+        templates: &'t Templates,
+        limits: Limits,
+        spot: &mut Spot<'t, '_>,
+        op: Op,
+        kind: Kind,
+        optional: bool,
+        sink: &mut S,
+    ) -> Went
+        requires integers { family kind ≡ integers (range_of kind) }
+        requires spot { IsAtSpot (set_of templates.now) limits self.old spot.old.place }
+        requires at { IsAtOp (set_of templates.now) spot.old.place op }
+        requires field { IsFieldOp (set_of templates.now) op kind Operator.Delta optional }
+        ensures went { HasWent S.takes S.stops (set_of templates.now) limits self.old spot.old sink.old result sink.new
+            self.new spot.new }
+    {
+        let _ = templates;
+        let strict = limits.strict;
+        match sent_delta(&mut self.slots, op.entry, kind, optional, spot.rest, strict) {
+            Some(taken) => {
+                let value = scalar_of(taken.item);
+                hand_taken(&mut self.turns, spot, op.node, false, value, taken.bytes, sink)
+            }
+            None => Went::Declined,
         }
     }
 

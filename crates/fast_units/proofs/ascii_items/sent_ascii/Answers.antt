@@ -3,7 +3,7 @@ use Rattle.std.proofs.Common.{◌∙◌, sym, subst}
 use Rattle.fast_value.specs.declared.kinds.Kind.TheVariants.{Ascii}
 use Rattle.fast_dict.specs.declared.slots.Slots.{Slots}
 use Rattle.fast_units.specs.device.TextItems.{IsSentText}
-use Rattle.fast_units.specs.declared.ascii_items.TakenText.{TakenText}
+use Rattle.fast_units.specs.declared.taken.TakenText.{TakenText}
 use Rattle.fast_units.proofs.ascii_items.sent_ascii.Goals as goal
 
 pub returns-in-Some-clause-unit : goal.returns-in-Some-clause-unit
