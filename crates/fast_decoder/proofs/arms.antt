@@ -2,3 +2,4 @@
 pub mod Passed
 pub mod Taken
 pub mod Unsent
+pub mod Fields

@@ -3,6 +3,7 @@
 
 pub mod decoder;
 pub mod in_hand;
+mod integer_arms;
 pub mod layout;
 mod machine;
 mod quick_decimals;

@@ -1,11 +1,12 @@
 //! Where the machine's loop stands, apart from the machine, so that the compiler keeps it in registers.
 
-ghost use Rattle.std.specs.Prelude.{◌≡◌, ◌≢◌, ◌<◌, ◌≤◌, ℕ, Bool, true, length, OnOk, Ok, IfErr, option_map};
+ghost use Rattle.std.specs.Prelude.{◌≡◌, ◌≢◌, ◌⊎◌, ◌<◌, ◌≤◌, ℕ, Bool, true, false, length, OnOk, Ok, IfErr, option_map};
 ghost use Rattle.fast_value.specs.meaning.Limits.{Bounds};
 ghost use Rattle.fast_value.specs.meaning.Values.{scalar_data};
 ghost use Rattle.fast_tree.specs.meaning.Tree.{FieldData, uses_bit};
 ghost use Rattle.fast_dict.specs.meaning.Dictionary.{Dictionary};
-ghost use Rattle.fast_cursor.specs.device.Cursors.{CursorData};
+ghost use Rattle.fast_cursor.specs.device.Cursors.{CursorData, bits_left};
+ghost use Rattle.fast_wire.specs.meaning.Maps.{first_bit};
 ghost use Rattle.fast_cursor.specs.device.Places.{place_left, at_place, IsPlaceOf};
 ghost use Rattle.fast_stream.specs.device.GrammarReaders.{reader_of};
 ghost use Rattle.fast_stream.specs.device.Readers.{Reader};
@@ -51,6 +52,38 @@ pub enum Went {
     Waits,
 }
 
+/// Whether the next instruction, which uses a presence bit or none, stands in the stream.
+#[derive(Clone, Copy, Debug, PartialEq, Eq)]
+pub enum Standing {
+    /// Its bit is set, or it uses none.
+    Sent,
+    /// Its bit is clear.
+    Unsent,
+    /// Its bit is the last one in the word: the general way has to use it.
+    Spent,
+}
+
+/// Whether the next instruction, which uses a presence bit or none, stands in the stream.
+#[inline(always)]
+pub fn stands(place: &Place<'_>, has_bit: bool) -> Standing
+    ensures sent { result ≡ Standing.Sent → (c : CursorData) → IsPlaceOf c place.now
+        → (has_bit ≡ false) ⊎ (first_bit (bits_left (at_place c place.now)) ≡ true) }
+    ensures unsent { result ≡ Standing.Unsent → (has_bit ≡ true) × ((c : CursorData) → IsPlaceOf c place.now
+        → first_bit (bits_left (at_place c place.now)) ≡ false) }
+    ensures more { result ≢ Standing.Spent → has_bit ≡ true → 1 < place.now.map.left }
+{
+    if !has_bit {
+        return Standing::Sent;
+    }
+    if place.is_spent() {
+        return Standing::Spent;
+    }
+    if place.bit() {
+        return Standing::Sent;
+    }
+    Standing::Unsent
+}
+
 /// Goes past the next instruction, a field whose value is at hand, or absent, and hands the value over.
 #[inline(always)]
 pub fn pass_value<S: Sink>(
@@ -90,7 +123,7 @@ pub fn pass_value<S: Sink>(
 pub fn hand_taken<S: Sink>(
     turns: &mut Turns,
     spot: &mut Spot<'_, '_>,
-    node: u32,
+    node: u16,
     has_bit: bool,
     value: Option<Scalar<'_>>,
     bytes: usize,
@@ -106,7 +139,7 @@ pub fn hand_taken<S: Sink>(
 {
     *turns = Turns::after(turns);
     spot.rest = &spot.rest[bytes..];
-    match pass_value(&mut spot.place, node, has_bit, value, sink) {
+    match pass_value(&mut spot.place, u32::from(node), has_bit, value, sink) {
         Ok(_) => Went::Took,
         Err(_) => Went::Stopped,
     }
@@ -117,7 +150,7 @@ pub fn hand_taken<S: Sink>(
 pub fn hand_unsent<S: Sink>(
     turns: &mut Turns,
     spot: &mut Spot<'_, '_>,
-    node: u32,
+    node: u16,
     has_bit: bool,
     value: Option<Scalar<'_>>,
     sink: &mut S,
@@ -131,7 +164,7 @@ pub fn hand_unsent<S: Sink>(
         spot.new }
 {
     *turns = Turns::after(turns);
-    match pass_value(&mut spot.place, node, has_bit, value, sink) {
+    match pass_value(&mut spot.place, u32::from(node), has_bit, value, sink) {
         Ok(turn) => match turn {
             Turn::Handed => Went::Handed,
             _ => Went::Silent,

@@ -19,7 +19,8 @@ text_held : PreviousData → List ℕ
 text_held (assigned kind v) = text_of v
 text_held p = []
 
-text_of_text : (kind : Kind) (v : List ℕ) → text_of (value_of_text kind v) ≡ v
+-- the text of a text
+pub text_of_text : (kind : Kind) (v : List ℕ) → text_of (value_of_text kind v) ≡ v
 text_of_text K.UInt32 v = refl
 text_of_text K.Int32 v = refl
 text_of_text K.UInt64 v = refl

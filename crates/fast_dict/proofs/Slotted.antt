@@ -1,14 +1,16 @@
 -- What the entries of a block store hold, entry by entry.
 use Rattle.std.proofs.Common.{◌≡◌, ℕ, ◌-◌, ◌++◌, ◌<◌, ◌≤◌, List, [], ◌∷◌, length, refl, ap, sym, ◌∙◌, arith}
-use Rattle.std.specs.Prelude.{vec_len, IsTrue, take, drop, zero, suc, ◌≢◌, Option, Some, None, slice_index_or, slice_set, replicate}
+use Rattle.std.specs.Prelude.{vec_len, IsTrue, true, is_some, take, drop, zero, suc, ◌≢◌, Option, Some, None, slice_index_or, slice_set, replicate}
 use native.Mathlib.Numerals.{sub-one}
+use Rattle.std.proofs.lemmas.List.{length-set, get_or-set_same}
+use Rattle.fast_value.specs.declared.kinds.Kind.TheVariants as K
 use Rattle.fast_value.specs.meaning.Kinds.{ScalarData, U, I, Dec, AsciiText, UnicodeText, ByteVector, text_of}
 use Rattle.fast_dict.specs.meaning.Stores.{Terms, IsStorable}
-use Rattle.fast_dict.specs.meaning.Dictionary.{PreviousData, undefined, fresh, reset}
+use Rattle.fast_dict.specs.meaning.Dictionary.{PreviousData, undefined, assigned, fresh, reset}
 use Rattle.fast_dict.specs.declared.entry.Entry.{Entry}
-use Rattle.fast_dict.specs.declared.entry.Entry.TheVariants.{Undefined}
+use Rattle.fast_dict.specs.declared.entry.Entry.TheVariants.{Undefined, Ascii}
 use Rattle.fast_dict.specs.device.Entry.{text_length, with_text}
-use Rattle.fast_dict.specs.meaning.Slots.{text_in, entry_data, entries_data, length-entries, slots_dictionary}
+use Rattle.fast_dict.specs.meaning.Slots.{text_in, entry_data, entries_data, length-entries, get-entries, slots_dictionary, HoldsAscii}
 use Rattle.fast_dict.specs.declared.slots.Slots.{Slots}
 
 -- the block of one store gives each entry what that of the other does
@@ -80,3 +82,20 @@ storable t i (Dec x m) h = (omega arith, λ k. absurd (omega arith))
 storable t i (AsciiText v) h = (h.0, λ _. h.1)
 storable t i (UnicodeText v) h = (h.0, λ _. h.1)
 storable t i (ByteVector v) h = (h.0, λ _. h.1)
+
+-- What an entry holds that is an ASCII text.
+pub ascii_entry : (s : Slots) (i n : ℕ) → slice_index_or s.entries.items i Undefined ≡ Ascii n → slice_index_or (slots_dictionary s) i undefined ≡ assigned K.Ascii (AsciiText (text_in s.block.items (slice_index_or s.places.items i None) n))
+ascii_entry s i n h = get-entries s.block.items s.places.items s.entries.items i ∙ ap (entry_data s.block.items (slice_index_or s.places.items i None)) h
+
+-- An entry with a slot holds the ASCII text that is put there.
+pub set_holds : (s new : Slots) (i n : ℕ) → i < length (slots_dictionary s) → is_some (slice_index_or s.places.items i None) ≡ true → new.entries.items ≡ slice_set s.entries.items i (Ascii n) → new.places.items ≡ s.places.items
+    → HoldsAscii new i
+set_holds s new i n h some entries places =
+    let old : length (slots_dictionary s) ≡ length s.entries.items = length-entries s.block.items s.places.items s.entries.items in
+    let now : length (slots_dictionary new) ≡ length new.entries.items = length-entries new.block.items new.places.items new.entries.items in
+    let same : length new.entries.items ≡ length s.entries.items = ap length entries ∙ length-set s.entries.items i (Ascii n) in
+    let within : i < length s.entries.items = omega (arith, h, old) in (
+      omega (arith, within, now, same),
+      (n, ap (λ es. slice_index_or es i Undefined) entries ∙ get_or-set_same s.entries.items i (Ascii n) Undefined within),
+      ap (λ ps. is_some (slice_index_or ps i None)) places ∙ some,
+    )

@@ -14,3 +14,5 @@ pub mod DecimalItems
 pub mod TextItems
 pub mod ShortTexts
 pub mod WholeTexts
+pub mod JoinedTexts
+pub mod WholeDeltas

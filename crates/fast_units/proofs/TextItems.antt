@@ -14,7 +14,7 @@ use Rattle.fast_dict.specs.meaning.Answers.{kept_text}
 use Rattle.fast_dict.specs.meaning.Dictionary.{Dictionary, PreviousData, empty, assigned, previous_at, write_at}
 use Rattle.fast_dict.specs.meaning.Operators.{decide, decide_by, nothing, unsent, tail_base, of_kind, with_tail}
 use Rattle.fast_dict.specs.device.Held.{text_size}
-use Rattle.fast_dict.specs.meaning.Slots.{slots_dictionary, slots_texts_fit}
+use Rattle.fast_dict.specs.meaning.Slots.{slots_dictionary, slots_texts_fit, HoldsAscii}
 use Rattle.fast_stream.specs.meaning.Fields.{sent_text}
 use Rattle.fast_stream.specs.meaning.Grammar.{give, ascii_text}
 use Rattle.fast_stream.specs.device.GrammarReaders.{reader_of}
@@ -22,7 +22,7 @@ use Rattle.fast_units.specs.device.Deciding.{IsDecided}
 use Rattle.fast_units.specs.device.FieldsAs.{IsFieldAs, reader_in}
 use Rattle.fast_units.specs.device.NextUnits.{IsNextText, text_or_null}
 use Rattle.fast_units.specs.device.TextDecisions.{is_emptied, IsTextDecided}
-use Rattle.fast_units.specs.device.TextItems.{SendsText, IsPutText, IsSentText}
+use Rattle.fast_units.specs.device.TextItems.{SendsText, text_source, IsPutText, IsSentText}
 use Rattle.fast_units.specs.declared.progress.Progress.TheVariants.{Whole}
 use Rattle.fast_units.specs.declared.source.ValueSource.{ValueSource}
 use Rattle.fast_units.specs.declared.source.ValueSource.TheVariants as From
@@ -72,7 +72,7 @@ sends_other Op.Tail h = (λ e. absurd (cc e), λ e. absurd (cc e))
 pub sent_whole : (optional : Bool) (operator : Operator) (entry room : ℕ) (rest : List ℕ) (old new : Slots) (scratch : List ℕ) (source : ValueSource) (text : List ℕ) (is_text : Bool) (n : ℕ)
     → IsNextText optional room [] rest text (Whole is_text n) → IsPutText operator entry (text_or_null text is_text) old new scratch source
     → IsSentText Ascii optional operator entry room rest old new scratch (record { source = source; from = 0; bytes = n })
-sent_whole optional operator entry room rest old new scratch source text is_text n next (sends, stands, put) f strict l e said serves =
+sent_whole optional operator entry room rest old new scratch source text is_text n next (sends, stands, held, put) f strict l e said serves =
     let p = previous_at f.entry (slots_dictionary old) in
     let (no_delta, no_constant) = sends_other operator sends in
     let here : reader_in old strict l f ≡ _ = ap (reader_of strict) (text_field l f p said.kind (λ h. no_delta (sym said.operator ∙ h)) (λ h. no_constant (sym said.operator ∙ h))) in
@@ -123,59 +123,70 @@ module _ (f : FieldData) (optional : Bool) (operator : Operator) (entry : ℕ) (
 
 -- The text is put where it stays.
 module _ (operator : Operator) (entry : ℕ) (old new : Slots) (scratch : List ℕ) where
-  pub scratch_put : (text : List ℕ) → (operator ≡ Op.None) ⊎ (operator ≡ Op.Default) → new ≡ old → scratch ≡ text → IsPutText operator entry (Some text) old new scratch From.Scratch
-  scratch_put text (inl e) same h = (
-    subst SendsText (sym e) tt,
-    tt,
-    λ f optional piece said serves. scratch_decided f optional operator entry (slots_dictionary old) (slots_dictionary new) scratch piece text said
-        (λ i. let k : Op.None ≡ Op.Constant = sym e ∙ i in absurd (cc k)) (λ i. let k : Op.None ≡ Op.Delta = sym e ∙ i in absurd (cc k)) (ap is_emptied e) (ap slots_dictionary same) h,
-  )
-  scratch_put text (inr e) same h = (
-    subst SendsText (sym e) tt,
-    tt,
-    λ f optional piece said serves. scratch_decided f optional operator entry (slots_dictionary old) (slots_dictionary new) scratch piece text said
-        (λ i. let k : Op.Default ≡ Op.Constant = sym e ∙ i in absurd (cc k)) (λ i. let k : Op.Default ≡ Op.Delta = sym e ∙ i in absurd (cc k)) (ap is_emptied e) (ap slots_dictionary same) h,
-  )
+  scratch_by : (text : List ℕ) (o : Operator) → operator ≡ o → SendsText o → is_emptied o ≡ false → text_source o ≡ From.Scratch → o ≢ Op.Constant → o ≢ Op.Delta → new ≡ old → scratch ≡ text
+      → IsPutText operator entry (Some text) old new scratch (text_source operator)
+  scratch_by text o e sends left stands no_constant no_delta same h =
+      let source : text_source operator ≡ From.Scratch = ap text_source e ∙ stands in
+      subst (λ s. IsPutText operator entry (Some text) old new scratch s) (sym source) (
+        subst SendsText (sym e) sends,
+        tt,
+        tt,
+        λ f optional piece said serves. scratch_decided f optional operator entry (slots_dictionary old) (slots_dictionary new) scratch piece text said
+            (λ i. no_constant (sym e ∙ i)) (λ i. no_delta (sym e ∙ i)) (ap is_emptied e ∙ left) (ap slots_dictionary same) h,
+      )
 
-  pub copy_put : (text : List ℕ) → operator ≡ Op.Copy → entry < length (slots_dictionary old) → slots_dictionary new ≡ write_at (Some entry) (assigned Ascii (AsciiText text)) (slots_dictionary old)
-      → IsPutText operator entry (Some text) old new scratch From.Entry
-  copy_put text e within written = (subst SendsText (sym e) tt, ap keeps_value e, λ f optional piece said serves. copy_kept f optional operator entry (slots_dictionary old) (slots_dictionary new) scratch piece text said e within written)
+  pub scratch_put : (text : List ℕ) → (operator ≡ Op.None) ⊎ (operator ≡ Op.Default) → new ≡ old → scratch ≡ text → IsPutText operator entry (Some text) old new scratch (text_source operator)
+  scratch_put text (inl e) same h = scratch_by text Op.None e tt refl refl (λ i. absurd (cc i)) (λ i. absurd (cc i)) same h
+  scratch_put text (inr e) same h = scratch_by text Op.Default e tt refl refl (λ i. absurd (cc i)) (λ i. absurd (cc i)) same h
 
-  pub tail_put : (base part text : List ℕ) → operator ≡ Op.Tail → entry < length (slots_dictionary old) → previous_at (Some entry) (slots_dictionary old) ≡ assigned Ascii (AsciiText base) → text ≡ with_tail base part
-      → slots_dictionary new ≡ write_at (Some entry) (assigned Ascii (AsciiText text)) (slots_dictionary old) → IsPutText operator entry (Some part) old new scratch From.Entry
-  tail_put base part text e within held joined written =
-      (subst SendsText (sym e) tt, ap keeps_value e, λ f optional piece said serves. tail_kept f optional operator entry (slots_dictionary old) (slots_dictionary new) scratch piece text said base part e within held joined written)
+  pub copy_put : (text : List ℕ) → operator ≡ Op.Copy → entry < length (slots_dictionary old) → HoldsAscii new entry → slots_dictionary new ≡ write_at (Some entry) (assigned Ascii (AsciiText text)) (slots_dictionary old)
+      → IsPutText operator entry (Some text) old new scratch (text_source operator)
+  copy_put text e within holds written =
+      subst (λ s. IsPutText operator entry (Some text) old new scratch s) (sym (ap text_source e)) (
+        subst SendsText (sym e) tt,
+        ap keeps_value e,
+        holds,
+        λ f optional piece said serves. copy_kept f optional operator entry (slots_dictionary old) (slots_dictionary new) scratch piece text said e within written,
+      )
+
+  pub tail_put : (base part text : List ℕ) → operator ≡ Op.Tail → entry < length (slots_dictionary old) → HoldsAscii new entry → previous_at (Some entry) (slots_dictionary old) ≡ assigned Ascii (AsciiText base)
+      → text ≡ with_tail base part → slots_dictionary new ≡ write_at (Some entry) (assigned Ascii (AsciiText text)) (slots_dictionary old) → IsPutText operator entry (Some part) old new scratch (text_source operator)
+  tail_put base part text e within holds held joined written =
+      subst (λ s. IsPutText operator entry (Some part) old new scratch s) (sym (ap text_source e)) (
+        subst SendsText (sym e) tt,
+        ap keeps_value e,
+        holds,
+        λ f optional piece said serves. tail_kept f optional operator entry (slots_dictionary old) (slots_dictionary new) scratch piece text said base part e within held joined written,
+      )
 
   -- NULL leaves the entry as it is, or makes it empty.
-  pub null_left : (operator ≡ Op.None) ⊎ (operator ≡ Op.Default) → new ≡ old → IsPutText operator entry None old new scratch From.Absent
-  null_left (inl e) same = (
-    subst SendsText (sym e) tt,
+  left_by : (o : Operator) → operator ≡ o → SendsText o → is_emptied o ≡ false → o ≢ Op.Constant → new ≡ old → IsPutText operator entry None old new scratch From.Absent
+  left_by o e sends left no_constant same = (
+    subst SendsText (sym e) sends,
+    tt,
     tt,
     λ f optional piece said serves. absent_left f (slots_dictionary old) (slots_dictionary new) scratch piece
-        (λ i. let k : Op.None ≡ Op.Constant = sym e ∙ sym said.operator ∙ i in absurd (cc k)) (ap is_emptied (said.operator ∙ e)) (ap slots_dictionary same),
+        (λ i. no_constant (sym e ∙ sym said.operator ∙ i)) (ap is_emptied (said.operator ∙ e) ∙ left) (ap slots_dictionary same),
   )
-  null_left (inr e) same = (
-    subst SendsText (sym e) tt,
+
+  pub null_left : (operator ≡ Op.None) ⊎ (operator ≡ Op.Default) → new ≡ old → IsPutText operator entry None old new scratch From.Absent
+  null_left (inl e) same = left_by Op.None e tt refl (λ i. absurd (cc i)) same
+  null_left (inr e) same = left_by Op.Default e tt refl (λ i. absurd (cc i)) same
+
+  emptied_by : (o : Operator) → operator ≡ o → SendsText o → is_emptied o ≡ true → keeps_value o ≡ true → o ≢ Op.Constant → slots_dictionary new ≡ write_at (Some entry) empty (slots_dictionary old)
+      → IsPutText operator entry None old new scratch From.Absent
+  emptied_by o e sends empties keeps no_constant written = (
+    subst SendsText (sym e) sends,
     tt,
-    λ f optional piece said serves. absent_left f (slots_dictionary old) (slots_dictionary new) scratch piece
-        (λ i. let k : Op.Default ≡ Op.Constant = sym e ∙ sym said.operator ∙ i in absurd (cc k)) (ap is_emptied (said.operator ∙ e)) (ap slots_dictionary same),
+    tt,
+    λ f optional piece said serves. absent_emptied f (slots_dictionary old) (slots_dictionary new) scratch piece
+        (λ i. no_constant (sym e ∙ sym said.operator ∙ i)) (ap is_emptied (said.operator ∙ e) ∙ empties)
+        (written ∙ ap (λ x. write_at x empty (slots_dictionary old)) (sym (said.entry (ap keeps_value e ∙ keeps)))),
   )
 
   pub null_emptied : (operator ≡ Op.Copy) ⊎ (operator ≡ Op.Tail) → slots_dictionary new ≡ write_at (Some entry) empty (slots_dictionary old) → IsPutText operator entry None old new scratch From.Absent
-  null_emptied (inl e) written = (
-    subst SendsText (sym e) tt,
-    tt,
-    λ f optional piece said serves. absent_emptied f (slots_dictionary old) (slots_dictionary new) scratch piece
-        (λ i. let k : Op.Copy ≡ Op.Constant = sym e ∙ sym said.operator ∙ i in absurd (cc k)) (ap is_emptied (said.operator ∙ e))
-        (written ∙ ap (λ o. write_at o empty (slots_dictionary old)) (sym (said.entry (ap keeps_value e)))),
-  )
-  null_emptied (inr e) written = (
-    subst SendsText (sym e) tt,
-    tt,
-    λ f optional piece said serves. absent_emptied f (slots_dictionary old) (slots_dictionary new) scratch piece
-        (λ i. let k : Op.Tail ≡ Op.Constant = sym e ∙ sym said.operator ∙ i in absurd (cc k)) (ap is_emptied (said.operator ∙ e))
-        (written ∙ ap (λ o. write_at o empty (slots_dictionary old)) (sym (said.entry (ap keeps_value e)))),
-  )
+  null_emptied (inl e) written = emptied_by Op.Copy e tt refl refl (λ i. absurd (cc i)) written
+  null_emptied (inr e) written = emptied_by Op.Tail e tt refl refl (λ i. absurd (cc i)) written
 
 -- A tail that fits has room behind what it keeps of a text that is held.
 pub tail_fits : (s : Slots) (entry : ℕ) (base kept part : List ℕ) → previous_at (Some entry) (slots_dictionary s) ≡ assigned Ascii (AsciiText base) → with_tail base part ≡ kept ++ part → length part ≤ s.max_text

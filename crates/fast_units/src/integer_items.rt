@@ -1,5 +1,5 @@
-//! Fields of integers that stand in the piece whole. Entry, kind, operator and presence are arguments: constants at the calls,
-//! which fold by them.
+//! Fields of integers that stand in the piece whole. Entry, kind, operator and presence are arguments: constants at the
+//! calls, which fold by them.
 //!
 //! `None` stands for all else, faults included: nothing has changed then, and the general way finds out.
 
@@ -63,7 +63,8 @@ fn unsigned_number(number: Option<u64>) -> Option<Number>
 /// A signed integer, or NULL, as an item.
 #[inline(always)]
 fn signed_number(number: Option<i64>) -> Option<Number>
-    ensures { (kind : Kind) → ((x : ℤ) → value_of_integer kind x ≡ I x) → sent_number result ≡ sent_integer kind number }
+    ensures { (kind : Kind) → ((x : ℤ) → value_of_integer kind x ≡ I x)
+        → sent_number result ≡ sent_integer kind number }
 {
     match number {
         Some(number) => Some(Number::Signed(number)),

@@ -1,23 +1,21 @@
-//! ASCII texts of the quick loop that are no short ones: longer than a block, near the end of the piece, empty, or NULL. All of them
-//! are taken out of line.
+//! ASCII texts of the quick loop that are no short ones: longer than a block, near the end of the piece, or empty. They are taken out
+//! of line.
 
-ghost use Rattle.std.specs.Prelude.{◌≡◌, ◌+◌, ◌^◌, ◌<◌, ◌≤◌, ◌++◌, ℕ, Bool, true, false, not, List, [], length, Some, None, IfSome, IfNone};
+ghost use Rattle.std.specs.Prelude.{◌≡◌, ◌+◌, ◌^◌, ◌<◌, ◌≤◌, ◌++◌, ℕ, Bool, true, false, List, length, Some, None, IfSome, IfNone};
 ghost use Rattle.fast_value.specs.meaning.Kinds.{AsciiText};
 ghost use Rattle.fast_dict.specs.meaning.Dictionary.{assigned, previous_at, write_at};
 ghost use Rattle.fast_dict.specs.meaning.Operators.{with_tail};
-ghost use Rattle.fast_dict.specs.meaning.Slots.{slots_dictionary, slots_terms};
+ghost use Rattle.fast_dict.specs.meaning.Slots.{slots_dictionary, slots_terms, HoldsAscii};
 ghost use Rattle.fast_units.specs.device.FieldsAs.{IsEntryFor};
-ghost use Rattle.fast_units.specs.device.NextUnits.{BeginsWithCharacter, text_or_null};
-ghost use Rattle.fast_units.specs.device.TextItems.{with_last, IsTextSource, IsPutText, IsSentText};
+ghost use Rattle.fast_units.specs.device.NextUnits.{BeginsWithCharacter};
+ghost use Rattle.fast_units.specs.device.TextItems.{with_last, text_source, text_taken, IsTextSource, IsAsciiAt, IsPutText, IsSentText};
 ghost use Rattle.fast_units.specs.device.Words.{HasRoomFor};
 
 use crate::scratch::Scratch;
-use crate::source::ValueSource;
-use crate::taken::TakenText;
 use fast_dict::operators::tail_keeps;
 use fast_dict::{Slots, Store};
 use fast_tree::Operator;
-use fast_value::{Kind, Scalar};
+use fast_value::Kind;
 use fast_wire::find_stop;
 
 /// Takes a text and the character behind it, if there is one.
@@ -56,6 +54,7 @@ fn copy_long(
     requires room { HasRoomFor slots.old scratch.old }
     ensures kept { result ≡ true → slots_dictionary slots.new ≡ write_at (Some entry)
         (assigned Kind.Ascii (AsciiText (with_last front.now last))) (slots_dictionary slots.old) }
+    ensures holds { result ≡ true → HoldsAscii slots.new entry }
     ensures left { result ≡ false → (slots.new ≡ slots.old) × (scratch.new ≡ scratch.old) }
     ensures terms { slots_terms slots.new ≡ slots_terms slots.old }
     ensures capacity { scratch.new.capacity ≡ scratch.old.capacity }
@@ -65,11 +64,11 @@ fn copy_long(
     }
     scratch.clear();
     append_text(scratch, front, last);
-    let _ = slots.set(entry, Kind::Ascii, Scalar::Ascii(scratch.as_slice()));
+    slots.set_ascii(entry, scratch.as_slice());
     true
 }
 
-/// The same of a tail, joined to the ASCII text that the entry holds. `false` also: it holds none of its own kind.
+/// The same of a tail, joined to the ASCII text that the entry holds. `false`: it holds none of its own kind.
 fn tail_long(
     slots: &mut Slots,
     scratch: &mut Scratch,
@@ -84,20 +83,19 @@ fn tail_long(
         × (previous_at (Some entry) (slots_dictionary slots.old) ≡ assigned Kind.Ascii (AsciiText base))
         × (slots_dictionary slots.new ≡ write_at (Some entry)
         (assigned Kind.Ascii (AsciiText (with_tail base (with_last front.now last)))) (slots_dictionary slots.old)) }
+    ensures holds { result ≡ true → HoldsAscii slots.new entry }
     ensures left { result ≡ false → (slots.new ≡ slots.old) × (scratch.new ≡ scratch.old) }
     ensures terms { slots_terms slots.new ≡ slots_terms slots.old }
     ensures capacity { scratch.new.capacity ≡ scratch.old.capacity }
 {
-    if !slots.takes_text(entry) {
+    if !slots.holds_ascii(entry) {
         return false;
     }
-    let Some(base) = slots.ascii(entry) else {
-        return false;
-    };
+    let base = slots.kept_ascii(entry);
     scratch.clear();
     scratch.append(tail_keeps(base, size_of(front, last)));
     append_text(scratch, front, last);
-    let _ = slots.set(entry, Kind::Ascii, Scalar::Ascii(scratch.as_slice()));
+    slots.set_ascii(entry, scratch.as_slice());
     true
 }
 
@@ -109,13 +107,13 @@ fn put_text(
     operator: Operator,
     front: &[u8],
     last: Option<u8>,
-) -> Option<ValueSource>
+) -> bool
     requires within { IsEntryFor slots.old operator entry }
     requires fits { length (with_last front.now last) ≤ (slots_terms slots.old).max_text }
     requires room { HasRoomFor slots.old scratch.old }
-    ensures put { IfSome result (λ s. IsPutText operator entry (Some (with_last front.now last)) slots.old slots.new
-        scratch.new.text s) }
-    ensures none { IfNone result ((slots.new ≡ slots.old) × (scratch.new ≡ scratch.old)) }
+    ensures put { result ≡ true → IsPutText operator entry (Some (with_last front.now last)) slots.old slots.new
+        scratch.new.text (text_source operator) }
+    ensures left { result ≡ false → (slots.new ≡ slots.old) × (scratch.new ≡ scratch.old) }
     ensures terms { slots_terms slots.new ≡ slots_terms slots.old }
     ensures capacity { scratch.new.capacity ≡ scratch.old.capacity }
 {
@@ -123,67 +121,15 @@ fn put_text(
         Operator::None | Operator::Default => {
             scratch.clear();
             append_text(scratch, front, last);
-            Some(ValueSource::Scratch)
+            true
         }
-        Operator::Copy => {
-            if !copy_long(slots, scratch, entry as usize, front, last) {
-                return None;
-            }
-            Some(ValueSource::Entry)
-        }
-        Operator::Tail => {
-            if !tail_long(slots, scratch, entry as usize, front, last) {
-                return None;
-            }
-            Some(ValueSource::Entry)
-        }
-        _ => None,
+        Operator::Copy => copy_long(slots, scratch, entry as usize, front, last),
+        Operator::Tail => tail_long(slots, scratch, entry as usize, front, last),
+        _ => false,
     }
 }
 
-/// NULL was sent. Under copy and tail the entry is then empty.
-fn put_null(slots: &mut Slots, entry: u32, operator: Operator) -> Option<ValueSource>
-    requires within { IsEntryFor slots.old operator entry }
-    ensures put { IfSome result (λ s. (scratch : List ℕ)
-        → IsPutText operator entry None slots.old slots.new scratch s) }
-    ensures none { IfNone result (slots.new ≡ slots.old) }
-    ensures terms { slots_terms slots.new ≡ slots_terms slots.old }
-{
-    match operator {
-        Operator::None | Operator::Default => Some(ValueSource::Absent),
-        Operator::Copy | Operator::Tail => {
-            slots.set_empty(entry as usize);
-            Some(ValueSource::Absent)
-        }
-        _ => None,
-    }
-}
-
-/// A bare stop bit was sent: NULL if that may be, and else the empty text.
-fn sent_bare(
-    slots: &mut Slots,
-    scratch: &mut Scratch,
-    entry: u32,
-    optional: bool,
-    operator: Operator,
-) -> Option<ValueSource>
-    requires within { IsEntryFor slots.old operator entry }
-    requires room { HasRoomFor slots.old scratch.old }
-    ensures put { IfSome result (λ s. IsPutText operator entry (text_or_null [] (not optional)) slots.old slots.new
-        scratch.new.text s) }
-    ensures none { IfNone result ((slots.new ≡ slots.old) × (scratch.new ≡ scratch.old)) }
-    ensures terms { slots_terms slots.new ≡ slots_terms slots.old }
-    ensures capacity { scratch.new.capacity ≡ scratch.old.capacity }
-{
-    if optional {
-        let source = put_null(slots, entry, operator)?;
-        Some(source)
-    } else {
-        put_text(slots, scratch, entry, operator, &[], None)
-    }
-}
-
-/// A text that begins with a character, of any length, was sent.
+/// The bytes of a text that begins with a character, of any length.
 fn sent_characters(
     slots: &mut Slots,
     scratch: &mut Scratch,
@@ -191,14 +137,15 @@ fn sent_characters(
     operator: Operator,
     rest: &[u8],
     max_text: usize,
-) -> Option<TakenText>
+) -> Option<usize>
     requires within { IsEntryFor slots.old operator entry }
     requires limit { (slots_terms slots.old).max_text ≡ max_text }
     requires room { HasRoomFor slots.old scratch.old }
     requires begins { BeginsWithCharacter rest.now }
-    ensures unit { IfSome result (λ r. (optional : Bool) → IsSentText Kind.Ascii optional operator entry max_text
-        rest.now slots.old slots.new scratch.new.text r) }
-    ensures source { IfSome result (λ r. IsTextSource operator r.source) }
+    ensures unit { IfSome result (λ n. (optional : Bool) → IsSentText Kind.Ascii optional operator entry max_text
+        rest.now slots.old slots.new scratch.new.text (text_taken operator n)) }
+    ensures source { IfSome result (λ _. IsTextSource operator (text_source operator)) }
+    ensures held { IfSome result (λ _. IsAsciiAt slots.new entry (text_source operator)) }
     ensures none { IfNone result ((slots.new ≡ slots.old) × (scratch.new ≡ scratch.old)) }
     ensures terms { slots_terms slots.new ≡ slots_terms slots.old }
     ensures capacity { scratch.new.capacity ≡ scratch.old.capacity }
@@ -206,15 +153,13 @@ fn sent_characters(
     let here = &rest[..rest.len().min(max_text)];
     let last = find_stop(here)?;
     let (front, end) = (&here[..last], here[last] - 0x80);
-    let source = put_text(slots, scratch, entry, operator, front, Some(end))?;
-    Some(TakenText {
-        source,
-        from: 0,
-        bytes: last + 1,
-    })
+    if !put_text(slots, scratch, entry, operator, front, Some(end)) {
+        return None;
+    }
+    Some(last + 1)
 }
 
-/// Any text that stands whole in the piece, but for what begins with zero.
+/// The bytes of a text that stands whole in the piece. NULL is none, and so is what begins with zero.
 #[inline(never)]
 pub(crate) fn sent_long(
     slots: &mut Slots,
@@ -224,13 +169,14 @@ pub(crate) fn sent_long(
     operator: Operator,
     rest: &[u8],
     max_text: usize,
-) -> Option<TakenText>
+) -> Option<usize>
     requires within { IsEntryFor slots.old operator entry }
     requires limit { (slots_terms slots.old).max_text ≡ max_text }
     requires room { HasRoomFor slots.old scratch.old }
-    ensures unit { IfSome result (λ r. IsSentText Kind.Ascii optional operator entry max_text rest.now slots.old
-        slots.new scratch.new.text r) }
-    ensures source { IfSome result (λ r. IsTextSource operator r.source) }
+    ensures unit { IfSome result (λ n. IsSentText Kind.Ascii optional operator entry max_text rest.now slots.old
+        slots.new scratch.new.text (text_taken operator n)) }
+    ensures source { IfSome result (λ _. IsTextSource operator (text_source operator)) }
+    ensures held { IfSome result (λ _. IsAsciiAt slots.new entry (text_source operator)) }
     ensures none { IfNone result ((slots.new ≡ slots.old) × (scratch.new ≡ scratch.old)) }
     ensures terms { slots_terms slots.new ≡ slots_terms slots.old }
     ensures capacity { scratch.new.capacity ≡ scratch.old.capacity }
@@ -239,16 +185,14 @@ pub(crate) fn sent_long(
         None => None,
         Some(0x00) => None,
         Some(0x80) => {
-            let source = sent_bare(slots, scratch, entry, optional, operator)?;
-            Some(TakenText {
-                source,
-                from: 0,
-                bytes: 1,
-            })
+            if optional || !put_text(slots, scratch, entry, operator, &[], None) {
+                return None;
+            }
+            Some(1)
         }
         Some(_) => {
-            let taken = sent_characters(slots, scratch, entry, operator, rest, max_text)?;
-            Some(taken)
+            let bytes = sent_characters(slots, scratch, entry, operator, rest, max_text)?;
+            Some(bytes)
         }
     }
 }

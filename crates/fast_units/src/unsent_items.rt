@@ -1,8 +1,8 @@
-//! Fields of integers of which nothing is sent. Entry, kind, operator and presence are arguments: constants at the calls, which
-//! fold by them.
+//! Fields of integers of which nothing is sent. Entry, kind, operator and presence are arguments: constants at the calls,
+//! which fold by them.
 //!
-//! `None` stands for all else, faults included: nothing has changed then, and the general way finds out. In an answer, `None` is
-//! absent.
+//! `None` stands for all else, faults included: nothing has changed then, and the general way finds out. In an answer,
+//! `None` is absent.
 
 ghost use Rattle.std.specs.Prelude.{◌≡◌, ◌<◌, true, ℕ, List, length, Some, None, IfSome, IfNone};
 ghost use Rattle.fast_dict.specs.device.Entry.{with_text};
@@ -66,8 +66,8 @@ fn increased_at(slots: &mut Slots, entry: u32, kind: Kind, optional: bool) -> Op
     }
 }
 
-/// The item of a field of which nothing is sent, under copy and increment: where its entry holds a number of its kind, that or the
-/// next one, which the entry then holds; absent where the entry is empty.
+/// The item of a field of which nothing is sent, under copy and increment: where its entry holds a number of its kind,
+/// that or the next one, which the entry then holds; absent where the entry is empty and the field may be.
 #[inline(always)]
 pub fn unsent_integer(
     slots: &mut Slots,
@@ -88,8 +88,8 @@ pub fn unsent_integer(
     }
 }
 
-/// The item of a field under default of which nothing is sent: its initial value, if it is an integer of the kind's form; absent
-/// without one, if the field may be.
+/// The item of a field under default of which nothing is sent: its initial value, if it is an integer of the kind's form;
+/// absent without one, if the field may be.
 #[inline(always)]
 pub fn defaulted_integer(
     field: &FieldInstruction,

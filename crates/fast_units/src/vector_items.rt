@@ -2,20 +2,23 @@
 //!
 //! `None` stands for all else, faults included: nothing has changed then, and the general way finds out.
 
-ghost use Rattle.std.specs.Prelude.{◌≡◌, ◌≢◌, ◌≤◌, ℕ, length, take, true, false, Some, Ok, option_map, pos, IfSome};
+ghost use Rattle.std.specs.Prelude.{◌≡◌, ◌≢◌, ◌<◌, ◌≤◌, ℕ, length, take, true, false, Some, Ok, option_map, pos, IfSome, IfNone};
 ghost use Rattle.std.specs.Str.{is_utf8};
 ghost use Rattle.fast_wire.specs.meaning.Integers.{unsigned_range};
 ghost use Rattle.fast_wire.specs.device.Fronts.{IsFirstInt};
 ghost use Rattle.fast_wire.specs.declared.fronts.First.TheVariants.{Whole};
 ghost use Rattle.fast_value.specs.meaning.Kinds.{family, texts, value_of_text};
 ghost use Rattle.fast_tree.specs.meaning.Entries.{keeps_value};
-ghost use Rattle.fast_dict.specs.declared.slots.Slots.{Slots};
 ghost use Rattle.fast_dict.specs.meaning.Operators.{checked_text};
-ghost use Rattle.fast_units.specs.device.TextsAs.{IsSentText};
+ghost use Rattle.fast_dict.specs.meaning.Slots.{slots_dictionary, slots_terms};
+ghost use Rattle.fast_units.specs.device.TextsAs.{IsWholeText};
+ghost use Rattle.fast_units.specs.device.Words.{HasTextLimit};
 
+use crate::joined_parts::put_tail;
 use crate::source::ValueSource;
 use crate::taken::TakenText;
 use crate::texts::TOP_SIZE;
+use fast_dict::{Slots, Store};
 use fast_tree::Operator;
 use fast_value::{Kind, Limits};
 use fast_wire::whole_unsigned;
@@ -76,7 +79,7 @@ pub fn sent_vector(
     requires sent { operator ≢ Operator.Constant }
     requires unkept { keeps_value operator ≡ false }
     ensures unit { IfSome result (λ r. (entry : ℕ) (slots : Slots)
-        → IsSentText kind optional operator entry strict limits rest.now slots slots r) }
+        → IsWholeText kind optional operator entry strict limits rest.now slots slots r) }
     ensures within { IfSome result (λ r. (r.from ≤ r.bytes) × (r.bytes ≤ length rest.now)) }
 {
     let (size, len) = whole_size(rest, optional, strict)?;
@@ -95,5 +98,44 @@ pub fn sent_vector(
         source: ValueSource::Piece,
         from: len,
         bytes: len + text.len(),
+    })
+}
+
+/// Takes a tail of a vector, or NULL, at an entry that holds a text of its kind. The entry then holds the text.
+#[inline(always)]
+pub fn sent_tail(
+    slots: &mut Slots,
+    entry: u32,
+    kind: Kind,
+    optional: bool,
+    rest: &[u8],
+    strict: bool,
+    limits: Limits,
+) -> Option<TakenText>
+    requires there { entry < length (slots_dictionary slots.old) }
+    requires text { family kind ≡ texts }
+    requires vector { kind ≢ Kind.Ascii }
+    requires limit { HasTextLimit slots.old limits }
+    ensures unit { IfSome result (IsWholeText kind optional Operator.Tail entry strict limits rest.now slots.old
+        slots.new) }
+    ensures within { IfSome result (λ r. (r.from ≤ r.bytes) × (r.bytes ≤ length rest.now)) }
+    ensures none { IfNone result (slots.new ≡ slots.old) }
+    ensures terms { slots_terms slots.new ≡ slots_terms slots.old }
+{
+    let (size, len) = whole_size(rest, optional, strict)?;
+    let Some(size) = size else {
+        slots.set_empty(entry as usize);
+        return Some(TakenText {
+            source: ValueSource::Absent,
+            from: len,
+            bytes: len,
+        });
+    };
+    let part = whole_run(&rest[len..], size, limits.max_text)?;
+    put_tail(slots, entry as usize, kind, part)?;
+    Some(TakenText {
+        source: ValueSource::Entry,
+        from: len,
+        bytes: len + part.len(),
     })
 }

@@ -1,5 +1,5 @@
 -- A dictionary whose texts stand in slots of one block.
-use Rattle.std.specs.Prelude.{◌≡◌, ℕ, zero, suc, ◌+◌, ◌*◌, ◌≤◌, refl, false, List, [], ◌∷◌, length, take, drop, slice_index_or, Option, Some, None, is_some, vec_len}
+use Rattle.std.specs.Prelude.{◌≡◌, ℕ, zero, suc, ◌+◌, ◌*◌, ◌<◌, ◌≤◌, refl, true, false, List, [], ◌∷◌, length, take, drop, slice_index_or, Option, Some, None, is_some, vec_len}
 use Rattle.std.proofs.Common.{ap, arith}
 use Rattle.std.proofs.lemmas.List.{length-take}
 use Rattle.fast_dict.specs.meaning.Dictionary.{Dictionary, PreviousData, undefined}
@@ -32,6 +32,10 @@ slots_dictionary s = entries_data s.block.items s.places.items s.entries.items
 -- A text can stand where there is a slot. No memory is wanted.
 abbrev pub slots_terms : Slots → Terms
 slots_terms s = record { entries = length s.entries.items; max_text = s.max_text; takes_text = λ e. is_some (slice_index_or s.places.items e None); can_refuse = false }
+
+-- The entry holds an ASCII text under its own kind, in a slot.
+abbrev pub HoldsAscii : Slots → ℕ → Type 0
+HoldsAscii s e = (e < length (slots_dictionary s)) × ((n : ℕ) × (slice_index_or s.entries.items e Undefined ≡ Ascii n)) × (is_some (slice_index_or s.places.items e None) ≡ true)
 
 -- the whole block, and the entries
 abbrev pub slots_units : Slots → ℕ

@@ -10,7 +10,7 @@ use Rattle.fast_tree.specs.meaning.Entries.{keeps_value}
 use Rattle.fast_dict.specs.declared.slots.Slots.{Slots}
 use Rattle.fast_dict.specs.meaning.Dictionary.{previous_at}
 use Rattle.fast_dict.specs.meaning.Operators.{decide, nothing}
-use Rattle.fast_dict.specs.meaning.Slots.{slots_dictionary, slots_terms}
+use Rattle.fast_dict.specs.meaning.Slots.{slots_dictionary, slots_terms, HoldsAscii}
 use Rattle.fast_stream.specs.meaning.Fields.{sent_text}
 use Rattle.fast_units.specs.device.Deciding.{IsDecided}
 use Rattle.fast_units.specs.device.FieldsAs.{IsFieldAs, GivesWhole, reader_in}
@@ -46,6 +46,23 @@ IsTextSource operator From.Scratch = Unit {0}
 IsTextSource operator From.Entry = keeps_value operator ≡ true
 IsTextSource operator source = ⊥
 
+-- An ASCII text stands in the scratch, or the entry holds it, or there is none.
+abbrev pub IsAsciiAt : Slots → ℕ → ValueSource → Type 0
+IsAsciiAt slots entry From.Absent = Unit {0}
+IsAsciiAt slots entry From.Scratch = Unit {0}
+IsAsciiAt slots entry From.Entry = HoldsAscii slots entry
+IsAsciiAt slots entry source = ⊥
+
+-- where a text stands that was sent under the operator
+abbrev pub text_source : Operator → ValueSource
+text_source Op.None = From.Scratch
+text_source Op.Default = From.Scratch
+text_source operator = From.Entry
+
+-- a text of so many bytes
+abbrev pub text_taken : Operator → ℕ → TakenText
+text_taken operator n = record { source = text_source operator; from = 0; bytes = n }
+
 -- Each field that is so, and stands in the stream, is this text, or absent, whole in these bytes.
 abbrev pub IsSentText : Kind → Bool → Operator → ℕ → ℕ → List ℕ → Slots → Slots → List ℕ → TakenText → Type 0
 IsSentText kind optional operator entry room rest old new scratch r = (f : FieldData) (strict : Bool) (l : Bounds) → l.max_text ≡ room
@@ -60,7 +77,7 @@ IsUnsentText kind optional entry slots source = (f : FieldData) (operator : Oper
 
 -- Of each field that is so, this text, or NULL, is decided where it was sent.
 abbrev pub IsPutText : Operator → ℕ → Option (List ℕ) → Slots → Slots → List ℕ → ValueSource → Type 0
-IsPutText operator entry text old new scratch source = SendsText operator × IsTextSource operator source
+IsPutText operator entry text old new scratch source = SendsText operator × IsTextSource operator source × IsAsciiAt new entry source
     × ((f : FieldData) (optional : Bool) (piece : List ℕ) → IsFieldAs f Ascii optional operator entry → Serves (length (slots_dictionary old)) (slots_terms old) f
     → IsTextDecided (decide f (previous_at f.entry (slots_dictionary old)) true (sent_text f.kind text)) f (slots_dictionary old) (slots_dictionary new) scratch piece (Ok source))
 

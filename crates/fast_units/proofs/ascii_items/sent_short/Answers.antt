@@ -1,7 +1,8 @@
 -- The text stands whole in the bytes.
-use Rattle.std.proofs.Common.{subst, take, List, [], ℕ, sym}
+use Rattle.std.proofs.Common.{subst, take, List, [], ℕ, sym, refl}
 use Rattle.std.specs.Prelude.{true}
 use Rattle.fast_units.specs.device.NextUnits.{IsNextText}
+use Rattle.fast_units.specs.device.TextItems.{text_source}
 use Rattle.fast_units.specs.declared.progress.Progress.TheVariants.{Whole}
 use Rattle.fast_units.proofs.TextItems.{sent_whole}
 use Rattle.fast_units.proofs.ascii_items.sent_short.Goals as goal
@@ -14,4 +15,10 @@ returns-clause-unit c optional =
     let text : List ℕ = take n c.stripped-block.result in
     let stands : IsNextText optional room [] c.args.rest.now text (Whole true n) =
     subst (λ (w : List ℕ). IsNextText optional room [] c.args.rest.now (take n w) (Whole true n)) (sym c.stripped-block.ensures) (next optional room c.requires.least) in
-    sent_whole optional c.args.operator c.args.entry room c.args.rest.now c.args.slots.now c.put_short.new.slots c.put_short.new.scratch.text c.in_ok-source.source text true n stands c.in_ok-source.ensures.put
+    sent_whole optional c.args.operator c.args.entry room c.args.rest.now c.args.slots.now c.put_short.new.slots c.put_short.new.scratch.text (text_source c.args.operator) text true n stands (c.if-not-put_short.ensures.put refl)
+
+pub returns-clause-source : goal.returns-clause-source
+returns-clause-source c = (c.if-not-put_short.ensures.put refl).1
+
+pub returns-clause-held : goal.returns-clause-held
+returns-clause-held c = (c.if-not-put_short.ensures.put refl).2

@@ -1,8 +1,8 @@
 -- Both units together are the field's.
-use Rattle.std.proofs.Common.{[], ◌≡◌, rules, sym, ap, ◌∙◌, subst, arith, List, ℕ, FitsSigned}
+use Rattle.std.proofs.Common.{◌≡◌, rules, sym, ap, ◌∙◌, subst, arith, List, ℕ, FitsSigned}
 use Rattle.std.specs.Int.{w32}
 use Rattle.std.specs.Prelude.{Some, ◌+◌, ◌-◌, ◌++◌, length, take, drop}
-use Rattle.std.proofs.lemmas.List.{length-take-le, take_rest, length-drop}
+use Rattle.std.proofs.lemmas.List.{take_rest, length-drop}
 use Rattle.std.proofs.Math.Seq.{take-add}
 use Rattle.fast_tree.specs.device.Nodes.{field_data}
 use Rattle.fast_dict.specs.meaning.Dictionary.{previous_at}

@@ -1,9 +1,7 @@
 -- The mantissa's delta comes next.
-use Rattle.std.proofs.Common.{[], ◌≡◌, refl, rules, sym, ap, ◌∙◌, to_z, of_z, subst, FitsSigned}
-use Rattle.std.specs.Int.{w32, w64, w128}
-use Rattle.std.specs.Prelude.{◌<◌, ◌≤◌, ◌++◌, Bool, true, length, take, Ok}
-use Rattle.fast_wire.specs.device.Fronts.{IsFirstInt}
-use Rattle.fast_wire.specs.declared.fronts.First.TheVariants as First
+use Rattle.std.proofs.Common.{[], ◌≡◌, refl, rules, sym, ap, ◌∙◌, FitsSigned}
+use Rattle.std.specs.Int.{w32, w64}
+use Rattle.std.specs.Prelude.{true, take, Ok}
 use Rattle.fast_wire.specs.meaning.Integers.{delta_range}
 use Rattle.fast_value.specs.declared.codes.Code.TheVariants.{D2}
 use Rattle.fast_tree.specs.device.Nodes.{field_data}

@@ -1,6 +1,6 @@
 -- The mantissa behind its delta is the last unit.
-use Rattle.std.proofs.Common.{[], ◌≡◌, refl, rules, sym, ap, ◌∙◌, to_z, of_z, subst, FitsSigned}
-use Rattle.std.specs.Int.{w32, w64, w128}
+use Rattle.std.proofs.Common.{[], refl, rules, ap, FitsSigned}
+use Rattle.std.specs.Int.{w32}
 use Rattle.std.specs.Prelude.{false, Some, Ok}
 use Rattle.fast_wire.specs.meaning.Integers.{delta_range}
 use Rattle.fast_value.specs.declared.codes.Code.TheVariants.{D2}
@@ -15,7 +15,7 @@ use Rattle.fast_units.specs.device.Stages.{term_behind}
 use Rattle.fast_units.specs.device.Deciding.{source_of, IsDecided}
 use Rattle.fast_units.specs.declared.stages.Stage.TheVariants.{MantissaDelta}
 use Rattle.fast_units.proofs.NextUnits.{first_whole}
-use Rattle.fast_units.proofs.LastUnits.{mantissa_delta_field, last_unit, again}
+use Rattle.fast_units.proofs.LastUnits.{mantissa_delta_field, last_unit}
 use Rattle.fast_units.proofs.short_decimals.short_mantissa.Goals as goal
 
 pub returns-in_ok-number-in-Some-clause-unit : goal.returns-in_ok-number-in-Some-clause-unit

@@ -1,5 +1,5 @@
 -- The text of the block, and what it decides.
-use Rattle.std.proofs.Common.{[], ◌≡◌, ◌∙◌, sym, ap, refl, List, ℕ, take}
+use Rattle.std.proofs.Common.{[], ◌≡◌, sym, ap, refl, List, ℕ, take}
 use Rattle.std.specs.Prelude.{Some, Option, Ok, true}
 use Rattle.fast_units.specs.declared.source.ValueSource.TheVariants.{Scratch}
 use Rattle.fast_value.specs.meaning.Limits.{bounds}

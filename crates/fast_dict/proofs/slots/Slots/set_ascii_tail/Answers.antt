@@ -1,6 +1,6 @@
 -- The tail stands behind what it keeps, in the entry of that number, which changes alone.
 use Rattle.std.proofs.Common.{◌≡◌, ◌+◌, ◌-◌, ◌<◌, ◌∙◌, ap, sym, take, length, arith, vec_len, List, ℕ, length-take-le}
-use Rattle.std.specs.Prelude.{slice_index_or, Option, None, is_some, true}
+use Rattle.std.specs.Prelude.{slice_index_or, slice_set, Option, None, is_some, true}
 use Rattle.std.proofs.lemmas.List.{get_or_read_under}
 use Rattle.fast_value.specs.declared.kinds.Kind.TheVariants.{Ascii}
 use Rattle.fast_value.specs.meaning.Kinds.{AsciiText}
@@ -9,7 +9,7 @@ use Rattle.fast_dict.specs.meaning.Dictionary.{assigned}
 use Rattle.fast_dict.specs.meaning.Operators.{with_tail}
 use Rattle.fast_dict.specs.meaning.Slots.{entry_data, text_in, get-entries}
 use Rattle.fast_dict.proofs.Blocks.{tail_in}
-use Rattle.fast_dict.proofs.Slotted.{place_of_entry, put-entries}
+use Rattle.fast_dict.proofs.Slotted.{place_of_entry, put-entries, set_holds}
 use Rattle.fast_dict.proofs.slots.Slots.set_ascii_tail.Goals as goal
 
 pub entry-requires : goal.entry-requires
@@ -41,3 +41,13 @@ returns-clause-tail c _ =
           (λ j size n h. ap (λ ps. text_in c.write_block.new.self.block.items (slice_index_or ps.items j None) size) (sym c.write_block.ensures.places) ∙ c.write_block.ensures.others j size n (rw c.write_block.ensures.max_text h))
           c.args.self.now.fitting held),
     )
+
+pub returns-clause-holds : goal.returns-clause-holds
+returns-clause-holds c _ =
+    let at = c.saturating_sub-at.result + c.args.count in
+    let within : c.args.entry < vec_len c.args.self.now.places = let h = place_of_entry c.args.self.now c.args.entry c.requires.there in omega (arith, h, c.args.self.now.paired) in
+    let some : is_some (slice_index_or c.args.self.now.places.items c.args.entry None) ≡ true =
+    ap is_some (sym (get_or_read_under _ _ _ _ None c.index.ensures within c.args.self.now.places.ok.0)) ∙ c.if-is_none.ensures in
+    set_holds c.args.self.now c.put.new.self c.args.entry at c.requires.there some
+    (c.put.ensures.entries ∙ ap (λ es. slice_set es.items c.args.entry (Held.Ascii at)) c.write_block.ensures.entries)
+    (ap (λ ps. ps.items) (c.put.ensures.places ∙ c.write_block.ensures.places))
