@@ -19,8 +19,8 @@ ghost use Rattle.fast_value.specs.declared.settings.Limits.{Limits};
 ghost use Rattle.fast_decoder.specs.device.Arms.{HasWent, IsFieldTaken, IsFieldUnsent};
 
 use crate::machine::Turn;
-use crate::turns::Turns;
 use crate::settling::hand;
+use crate::turns::Turns;
 use fast_cursor::place::Place;
 use fast_stream::{Event, FaultCode, Sink};
 use fast_value::Scalar;

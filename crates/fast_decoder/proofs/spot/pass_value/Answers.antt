@@ -24,10 +24,9 @@ returns-in_ok-hand-in-Some-clause-past g c at = record { same = c.pass.ensures.p
 
 pub returns-in-None-clause-moves : goal.returns-in-None-clause-moves
 returns-in-None-clause-moves g c set l strict waits d counted at f h bit =
-    let old = at_place at c.args.place.now in
-    (
+    let old = at_place at c.args.place.now in (
       ap (λ v. reader_of strict (value_then set l c.args.node (option_map scalar_data v) f d counted old)) c.in-None.is
-      ∙ ap (reader_of strict) (sym (passed_on set l d counted old (at_place at c.pass-in-None.new.self) f c.args.has_bit (c.pass-in-None.ensures.past at) (c.pass-in-None.ensures.bits at h) bit)),
+          ∙ ap (reader_of strict) (sym (passed_on set l d counted old (at_place at c.pass-in-None.new.self) f c.args.has_bit (c.pass-in-None.ensures.past at) (c.pass-in-None.ensures.bits at h) bit)),
       refl,
     )
 
