@@ -2,3 +2,5 @@
 pub mod Passed
 pub mod Taken
 pub mod Unsent
+pub mod Back
+pub mod Ends

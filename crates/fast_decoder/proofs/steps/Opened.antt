@@ -1,16 +1,14 @@
 -- A turn at whose end a segment begins, with its map if it has one.
 use Rattle.std.proofs.Common.{refl, sym, ap, ◌∙◌, subst, arith}
-use Rattle.std.specs.Prelude.{◌≡◌, ◌≢◌, ℕ, zero, suc, ◌+◌, ◌*◌, ◌-◌, ◌<◌, ◌≤◌, Bool, List, drop, length, Option, Some, None, Result, Ok, Err}
+use Rattle.std.specs.Prelude.{◌≡◌, ◌≢◌, ℕ, zero, suc, ◌+◌, ◌*◌, ◌-◌, ◌<◌, ◌≤◌, Bool, List, drop, None, Result, Ok, Err}
 use Rattle.fast_value.specs.declared.settings.Limits.{Limits}
 use Rattle.fast_tree.specs.meaning.Tree.{Label, group, step}
-use Rattle.fast_tree.specs.meaning.Sizes.{turn_weights, body_size, body_outer, body_widest}
 use Rattle.fast_stream.specs.declared.faults.FaultCode.{FaultCode}
-use Rattle.fast_cursor.specs.device.Cursors.{ElementsData, CursorData, entered}
+use Rattle.fast_cursor.specs.device.Cursors.{CursorData, entered}
 use Rattle.fast_decoder.specs.declared.machine.Machine.{Machine}
-use Rattle.fast_decoder.specs.declared.machine.Turn.{Turn}
 use Rattle.fast_decoder.specs.declared.machine.Turn.TheVariants.{Silent, Handed, Waits}
 use Rattle.fast_decoder.specs.declared.machine.Waiting.TheVariants.{SegmentMap}
-use Rattle.fast_decoder.specs.device.Opening.{opened_turn, awaiting, opened_result, opened_by}
+use Rattle.fast_decoder.specs.device.Opening.{opened_turn, awaiting, opened_result}
 use Rattle.fast_decoder.specs.device.Positions.{Set, body_in, IsAtGroup}
 use Rattle.fast_decoder.specs.device.TurnsLeft.{Way, by_sequence, by_message, AreWithin, AreFramesWithin, body_turns, frames_turns, turns_left, IsWithinTurns, HasTurns, HasTurnsBehind}
 use Rattle.fast_decoder.proofs.steps.SegmentTurns.{IsGroupBegun}

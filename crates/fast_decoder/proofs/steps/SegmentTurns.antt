@@ -11,7 +11,7 @@ use Rattle.fast_value.specs.meaning.Kinds.{ScalarData, integer_of}
 use Rattle.fast_value.specs.meaning.Limits.{Bounds, bounds}
 use Rattle.fast_tree.specs.device.Numbers.{AreBelow}
 use Rattle.fast_tree.specs.meaning.Sizes.{depth, body_depth}
-use Rattle.fast_tree.specs.meaning.Tree.{FieldData, Instruction, group, step, Body, bits_of}
+use Rattle.fast_tree.specs.meaning.Tree.{FieldData, Instruction, step, Body, bits_of}
 use Rattle.fast_dict.specs.meaning.Dictionary.{Dictionary, previous_at}
 use Rattle.fast_dict.specs.meaning.Operators.{nothing, decide}
 use Rattle.fast_dict.specs.meaning.Slots.{slots_dictionary, slots_terms}

@@ -1,6 +1,5 @@
 -- The next element's event, and the cursor in it, or the end of the sequence.
 use Rattle.std.proofs.Common.{◌<◌, ◌-◌, ap, refl, Some, rules}
-use Rattle.std.specs.Prelude.{◌≡◌}
 use Rattle.fast_value.specs.meaning.Limits.{bounds}
 use Rattle.fast_dict.specs.meaning.Slots.{slots_dictionary}
 use Rattle.fast_stream.specs.meaning.Events.{ElementStart}

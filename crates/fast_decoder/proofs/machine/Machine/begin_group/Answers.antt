@@ -1,6 +1,4 @@
-use Rattle.std.proofs.Common.{◌≡◌, ◌∙◌, ap, sym, subst, slice_index, None}
-use Rattle.std.proofs.lemmas.Result.{err_from_is_err_and}
-use Rattle.fast_decoder.specs.declared.machine.Machine.{Machine}
+use Rattle.std.proofs.Common.{sym, subst}
 use Rattle.fast_decoder.specs.device.Positions.{set_of, turning, IsAtGroup}
 use Rattle.fast_decoder.specs.device.Opening.{opened_result, opened_by}
 use Rattle.fast_decoder.proofs.steps.FieldTurns.{turn_as}

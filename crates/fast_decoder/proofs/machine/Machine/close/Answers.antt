@@ -1,12 +1,8 @@
-use Rattle.std.proofs.Common.{◌≡◌, ap, refl, rules, [], option_map}
+use Rattle.std.proofs.Common.{◌≡◌, rules, []}
 use Rattle.std.proofs.lemmas.Result.{err_from_is_err_and}
-use Rattle.fast_value.specs.meaning.Limits.{bounds}
 use Rattle.fast_dict.specs.meaning.Slots.{slots_dictionary}
-use Rattle.fast_stream.specs.meaning.Events.{GroupEnd, ElementEnd, MessageEnd}
+use Rattle.fast_stream.specs.meaning.Events.{MessageEnd}
 use Rattle.fast_stream.specs.device.Readers.{Done}
-use Rattle.fast_stream.specs.device.GrammarReaders.{reader_of}
-use Rattle.fast_cursor.specs.device.Segments.{elements_data}
-use Rattle.fast_decoder.specs.device.Passing.{elements_from}
 use Rattle.fast_decoder.specs.device.Positions.{set_of, turning}
 use Rattle.fast_decoder.proofs.steps.Opened.{opened_not_silent}
 use Rattle.fast_decoder.proofs.steps.SegmentTurns.{message_end, turn_halt, turn_end}

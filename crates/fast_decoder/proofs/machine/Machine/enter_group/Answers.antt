@@ -1,7 +1,6 @@
 -- The group's event, and the cursor in the group.
-use Rattle.std.proofs.Common.{refl, ap, ◌∙◌, arith}
-use Rattle.std.proofs.lemmas.Result.{err_from_is_err_and}
-use Rattle.std.specs.Prelude.{◌≡◌, drop, length, None, slice_index}
+use Rattle.std.proofs.Common.{refl, ap, ◌∙◌}
+use Rattle.std.specs.Prelude.{◌≡◌, drop, None, slice_index}
 use Rattle.fast_value.specs.meaning.Limits.{bounds}
 use Rattle.fast_dict.specs.meaning.Slots.{slots_dictionary}
 use Rattle.fast_cursor.specs.device.Cursors.{CursorData, entered}

@@ -1,5 +1,5 @@
 -- The end of a group, or of an element and what comes behind it.
-use Rattle.std.proofs.Common.{◌≡◌, ap, option_map}
+use Rattle.std.proofs.Common.{ap, option_map}
 use Rattle.std.proofs.lemmas.Result.{err_from_is_err_and}
 use Rattle.fast_value.specs.meaning.Limits.{bounds}
 use Rattle.fast_dict.specs.meaning.Slots.{slots_dictionary}
