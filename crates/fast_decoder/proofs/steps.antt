@@ -7,3 +7,4 @@ pub mod Answered
 pub mod Awaiting
 pub mod TurnCounts
 pub mod Paying
+pub mod Opened

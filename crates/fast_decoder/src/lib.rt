@@ -15,6 +15,8 @@ mod quick_texts;
 mod quick_units;
 mod quick_wholes;
 pub mod recorder;
+mod segment_arms;
+mod segments;
 mod settling;
 mod spot;
 mod stepping;

@@ -1,12 +1,13 @@
 //! The quick way of presence maps of one byte, and of the identifiers behind them.
 
-ghost use Rattle.std.specs.Prelude.{◌≡◌, ◌≢◌, ◌+◌, ◌<◌, ◌≤◌, ℕ, length, slice_get, slice_index, Ok, Some, IfSome, IfNone};
+ghost use Rattle.std.specs.Prelude.{◌≡◌, ◌≢◌, ◌+◌, ◌<◌, ◌≤◌, ℕ, length, slice_get, slice_index, Ok, Some, IfSome, IfNone, IfErr};
 ghost use Rattle.fast_value.specs.declared.kinds.Kind.{Kind};
 ghost use Rattle.fast_value.specs.meaning.Kinds.{U};
 ghost use Rattle.fast_template.specs.meaning.Flat.{templates_of};
 ghost use Rattle.fast_tree.specs.declared.instructions.Template.{Template};
 ghost use Rattle.fast_dict.specs.meaning.Dictionary.{assigned, previous_at};
 ghost use Rattle.fast_dict.specs.meaning.Slots.{slots_dictionary};
+ghost use Rattle.fast_stream.specs.declared.faults.FaultCode.{FaultCode};
 ghost use Rattle.fast_decoder.specs.device.UnitTaken.{IsTakenTo};
 ghost use Rattle.fast_decoder.specs.device.Positions.{set_of, tree_in, IsReady, meaning};
 ghost use Rattle.fast_decoder.specs.device.TurnsLeft.{Way, HasTurns, HasTurnsInMap, HasTurnsBehind, turns_begun};
@@ -91,6 +92,7 @@ impl<'t> Machine<'t> {
             (λ q. IsTakenTo S.takes S.stops (set_of templates.now) limits
             (meaning (set_of templates.now) limits self.old) rest.now sink.old q.bytes q.turn sink.new self.new) }
         ensures on { IfSome result (λ q. q.turn ≢ Ok Turn.Waits) }
+        ensures stopped { IfSome result (λ q. IfErr q.turn (λ code. code ≡ FaultCode.SinkStopped)) }
         ensures turns { (way : Way) (n : ℕ)
             → HasTurnsInMap self.old.cursor.map way (set_of templates.now) limits n self.old.turns.count
             → IfSome result (λ q. HasTurnsBehind q.turn way (set_of templates.now) limits
@@ -130,6 +132,7 @@ impl<'t> Machine<'t> {
             (λ q. IsTakenTo S.takes S.stops (set_of templates.now) limits
             (meaning (set_of templates.now) limits self.old) rest.now sink.old q.bytes q.turn sink.new self.new) }
         ensures on { IfSome result (λ q. q.turn ≢ Ok Turn.Waits) }
+        ensures stopped { IfSome result (λ q. IfErr q.turn (λ code. code ≡ FaultCode.SinkStopped)) }
         ensures turns { (way : Way) (n : ℕ)
             → HasTurnsInMap self.old.cursor.map way (set_of templates.now) limits n self.old.turns.count
             → IfSome result (λ q. HasTurnsBehind q.turn way (set_of templates.now) limits

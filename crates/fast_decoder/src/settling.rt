@@ -24,12 +24,12 @@ ghost use Rattle.fast_units.specs.device.Settling.{Serves, value_at};
 ghost use Rattle.fast_units.specs.device.Deciding.{needs_bytes, number_data, IsDecided};
 ghost use Rattle.fast_decoder.specs.device.TurnsLeft.{Way, HasTurns, HasTurnsFrom, HasTurnsBehind};
 ghost use Rattle.fast_units.specs.device.UnitFronts.{IsAsciiFirst};
+ghost use Rattle.fast_decoder.specs.device.Opening.{opened_result, opened_by};
 ghost use Rattle.fast_decoder.specs.device.Passing.{IsPast, value_then, exponent_then, decimal_then, length_then, elements_from};
 ghost use Rattle.fast_decoder.specs.device.Positions.{Set, set_of, run_in, body_in, frames_in, mantissa_then, IsAtField, IsAtParts, IsAtGroup, IsAtSequence, CanTurn, IsTurn, turning, IsMapWhole, bit_of, state_in, going_on};
 
 use crate::machine::{Machine, Turn, Waiting};
 use crate::turns::Turns;
-use fast_cursor::cursor::Elements;
 use fast_dict::Slots;
 use fast_dict::operators::integers::integer_of;
 use fast_stream::{Event, FaultCode, Sink};
@@ -508,26 +508,26 @@ impl<'t> Machine<'t> {
                 return Ok(Turn::Silent);
             }
         }
-        hand(sink, Event::GroupStart { node })?;
-        let width = self.widths.nodes[node as usize];
-        self.cursor.advance();
-        self.cursor.open_group(start);
-        Ok(self.open_segment(width))
+        let begun = self.enter_group(templates, limits, node, start, sink);
+        self.open_segment(begun)
     }
 
-    /// The segment of a group or an element begins, with its map if its instructions use any bits.
+    /// The segment of a group or an element has begun, with its map if its instructions use any bits.
     #[inline(always)]
-    fn open_segment(&mut self, width: usize) -> Turn
-        requires map { self.old.cursor.map ≡ [] }
-        ensures waits { 0 < width
-            → (result ≡ Turn.Waits) × (self.new ≡ record self.old { waiting = Waiting.SegmentMap width }) }
-        ensures goes_on { width ≡ 0 → (result ≡ Turn.Handed) × (self.new ≡ self.old) }
+    fn open_segment(&mut self, begun: Result<usize, FaultCode>) -> Result<Turn, FaultCode>
+        ensures turn { result ≡ opened_result begun }
+        ensures waits { self.new ≡ opened_by begun self.old }
     {
-        if width == 0 {
-            return Turn::Handed;
+        match begun {
+            Err(code) => Err(code),
+            Ok(width) => {
+                if width == 0 {
+                    return Ok(Turn::Handed);
+                }
+                self.waiting = Waiting::SegmentMap(width);
+                Ok(Turn::Waits)
+            }
         }
-        self.waiting = Waiting::SegmentMap(width);
-        Turn::Waits
     }
 
     /// A sequence is next: the machine waits for its length, or nothing is sent of the length.
@@ -644,17 +644,8 @@ impl<'t> Machine<'t> {
             → HasTurnsFrom way (set_of templates.now) limits n count (run_in (set_of templates.now) start) self.old
             → HasTurnsBehind result way (set_of templates.now) limits n self.new }
     {
-        if count == 0 {
-            hand(sink, Event::SequenceEnd)?;
-            return Ok(Turn::Handed);
-        }
-        hand(sink, Event::ElementStart)?;
-        self.cursor.open_element(Elements {
-            more: count - 1,
-            start,
-            width,
-        });
-        Ok(self.open_segment(width))
+        let begun = self.begin_element(templates, limits, count, start, width, sink);
+        self.open_segment(begun)
     }
 
     /// The innermost segment is whole: a group, an element or the message.
@@ -679,23 +670,8 @@ impl<'t> Machine<'t> {
             self.waiting = Waiting::Map;
             return Ok(Turn::Waits);
         }
-        match self.cursor.close() {
-            None => {
-                hand(sink, Event::GroupEnd)?;
-                Ok(Turn::Handed)
-            }
-            Some(elements) => {
-                hand(sink, Event::ElementEnd)?;
-                self.next_element(
-                    templates,
-                    limits,
-                    elements.more,
-                    elements.start,
-                    elements.width,
-                    sink,
-                )
-            }
-        }
+        let begun = self.leave_segment(templates, limits, sink);
+        self.open_segment(begun)
     }
 
     /// What is next needs no byte, or the machine waits.

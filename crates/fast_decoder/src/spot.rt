@@ -1,6 +1,6 @@
 //! Where the machine's loop stands, apart from the machine, so that the compiler keeps it in registers.
 
-ghost use Rattle.std.specs.Prelude.{◌≡◌, ◌≢◌, ◌⊎◌, ◌<◌, ◌≤◌, ℕ, Bool, true, false, length, OnOk, Ok, IfErr, option_map};
+ghost use Rattle.std.specs.Prelude.{◌≡◌, ◌≢◌, ◌⊎◌, ◌<◌, ◌≤◌, ℕ, Bool, true, false, length, drop, OnOk, Ok, IfErr, option_map};
 ghost use Rattle.fast_value.specs.meaning.Limits.{Bounds};
 ghost use Rattle.fast_value.specs.meaning.Values.{scalar_data};
 ghost use Rattle.fast_tree.specs.meaning.Tree.{FieldData, uses_bit};
@@ -22,6 +22,7 @@ ghost use Rattle.fast_decoder.specs.device.Arms.{HasWent, IsFieldTaken, IsFieldU
 use crate::machine::Turn;
 use crate::settling::hand;
 use crate::turns::Turns;
+use fast_cursor::cursor::Cursor;
 use fast_cursor::place::Place;
 use fast_stream::{Event, FaultCode, Sink};
 use fast_value::Scalar;
@@ -33,6 +34,20 @@ pub struct Spot<'t, 'p> {
     pub place: Place<'t>,
     /// The bytes that are left of the piece.
     pub rest: &'p [u8],
+}
+
+impl<'t, 'p> Spot<'t, 'p> {
+    /// Stands where the cursor does, so many bytes further on.
+    #[inline(always)]
+    pub fn stand(&mut self, cursor: &Cursor<'t>, bytes: usize)
+        requires within { bytes ≤ length self.old.rest.now }
+        ensures at { at_place cursor.now self.new.place ≡ cursor.now }
+        ensures place { IsPlaceOf cursor.now self.new.place }
+        ensures rest { self.new.rest.now ≡ drop bytes self.old.rest.now }
+    {
+        self.place = cursor.place();
+        self.rest = &self.rest[bytes..];
+    }
 }
 
 /// What an arm of the loop did with the next instruction, or with the end of the innermost segment.

@@ -1,6 +1,6 @@
 //! What a machine does with the bytes of a piece: it takes units, and all that they decide.
 
-ghost use Rattle.std.specs.Prelude.{◌≡◌, ◌≢◌, ◌⊎◌, ◌+◌, ◌*◌, ◌<◌, ◌≤◌, ◌&&◌, not, nat_le, true, false, ℕ, [], length, length as list_length, slice_get, IfSome, IfNone, Err, take, IsTrue, ◌↔◌, IsOk, IfOk, OnOk, Some, None, Ok, slice_index, option_map, nat_abs, if◌then◌else◌};
+ghost use Rattle.std.specs.Prelude.{◌≡◌, ◌≢◌, ◌⊎◌, ◌+◌, ◌*◌, ◌<◌, ◌≤◌, ◌&&◌, not, nat_le, true, false, ℕ, [], length, length as list_length, slice_get, IfSome, IfNone, Err, take, IsTrue, ◌↔◌, IsOk, IfOk, IfErr, OnOk, Some, None, Ok, slice_index, option_map, nat_abs, if◌then◌else◌};
 ghost use Rattle.fast_wire.specs.meaning.Entities.{IsEntity};
 ghost use Rattle.fast_wire.specs.meaning.Maps.{map_limit, bits, bytes_for};
 ghost use Rattle.fast_value.specs.meaning.Kinds.{integer_of};
@@ -279,6 +279,7 @@ impl<'t> Machine<'t> {
         ensures goes_on { GoesOn (set_of templates.now) limits self.new result }
         ensures supplied { IsSupplied (set_of templates.now) limits self.new }
         ensures on { result ≢ Ok Turn.Waits }
+        ensures stopped { IfErr result (λ code. code ≡ FaultCode.SinkStopped) }
         ensures turns { PaysMessage (set_of templates.now) limits self.old result self.new }
     {
         hand(sink, Event::MessageStart { template: number })?;

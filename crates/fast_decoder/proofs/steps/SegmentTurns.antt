@@ -11,7 +11,7 @@ use Rattle.fast_value.specs.meaning.Kinds.{ScalarData, integer_of}
 use Rattle.fast_value.specs.meaning.Limits.{Bounds, bounds}
 use Rattle.fast_tree.specs.device.Numbers.{AreBelow}
 use Rattle.fast_tree.specs.meaning.Sizes.{depth, body_depth}
-use Rattle.fast_tree.specs.meaning.Tree.{FieldData, Instruction, group, step, Body, bits_of}
+use Rattle.fast_tree.specs.meaning.Tree.{FieldData, Instruction, step, Body, bits_of}
 use Rattle.fast_dict.specs.meaning.Dictionary.{Dictionary, previous_at}
 use Rattle.fast_dict.specs.meaning.Operators.{nothing, decide}
 use Rattle.fast_dict.specs.meaning.Slots.{slots_dictionary, slots_terms}
@@ -36,7 +36,7 @@ use Rattle.fast_units.specs.device.UnitFronts.{IsSent}
 use Rattle.fast_units.specs.device.Deciding.{IsDecided}
 use Rattle.fast_stream.specs.meaning.Fields.{field_term}
 use Rattle.fast_stream.specs.device.Frames.{Frame, open_group, open_element, unwind, resume, opened, elements_turn}
-use Rattle.fast_decoder.specs.device.Passing.{state_past, length_then, elements_from}
+use Rattle.fast_decoder.specs.device.Passing.{state_past, length_then, group_from, elements_from}
 use Rattle.fast_program.specs.declared.ops.Op.{Op}
 use Rattle.fast_cursor.specs.declared.cursor.Elements.{Elements}
 use Rattle.fast_cursor.specs.device.Segments.{elements_data}
@@ -239,6 +239,12 @@ pub record IsGroupBegun (set : Set) (l : Limits) (m m' : Machine) (node : ℕ) (
   pub same : m' ≡ record m { cursor = record m.cursor { used = used } }
   pub begins : turning set l m ≡ group_start set l m node body used
 
+-- what is to be read then
+pub begun_from : (set : Set) (l : Limits) (m m' : Machine) (node : ℕ) (body : List ℕ) → IsGroupBegun set l m m' node body
+    → turning set l m ≡ reader_of l.strict (group_from set (bounds l) node body (slots_dictionary m'.slots) m'.counted m'.cursor)
+begun_from set l m m' node body h =
+    h.begins ∙ ap (λ (x : Machine). reader_of l.strict (group_from set (bounds l) node body (slots_dictionary x.slots) x.counted x.cursor)) (sym h.same)
+
 -- the bits behind one that is used
 used_behind : (old new : CursorData) → new ≡ record old { used = new.used } → bits_left new ≡ later_bits (bits_left old) → bits_behind old.map new.used ≡ later_bits (bits_left old)
 used_behind old new same later = ap (λ w. bits_behind w new.used) (sym (ap (λ (c : CursorData). c.map) same)) ∙ later
@@ -297,30 +303,6 @@ module _ {S : Type 0} (takes stops : S → EventData → S → Type 0) (set : Se
         supplied = can.supplied;
         goes_on = can;
       })
-
-  -- A group that is there.
-  pub group_begins : (m mid m' : Machine) (c : CursorData) (t : Turn) (width : ℕ) (node : ℕ) (optional : Bool) (body : List ℕ) (s s' : S) → CanTurn set l m → IsAtGroup set m.cursor node optional body → IsGroupBegun set l m mid node body
-      → (0 < width → (t ≡ TurnWaits) × (m' ≡ record mid { waiting = SegmentMap width; cursor = c })) → (width ≡ 0 → (t ≡ Handed) × (m' ≡ record mid { cursor = c }))
-      → c ≡ entered (record mid.cursor { left = drop 1 mid.cursor.left }) None body → width ≡ bits_of (body_in set body) → AreBelow (length set.nodes) body
-      → takes s (GroupStart node) s' → IsTurn takes stops set l (turning set l m) s (Ok t) s' m'
-  group_begins m mid m' c t width node optional body s s' h (at, number, some, is) begun waits goes opens wide below taken =
-      let past : CursorData = record m.cursor { left = drop 1 m.cursor.left; used = begun.used } in
-      let m1 = record m { cursor = past } in
-      let can = can_turn_past set l m m1 h (like_at m past refl) h.supplied.counted refl (record { same = refl }) in
-      let room = room_inside set m.cursor (group at optional (body_in set body)) h.placed is in
-      turn_in takes stops set l m1 m' c t width None body (turning set l m) (GroupStart node) s s'
-      (λ some. ((waits some).0, (waits some).1 ∙ ap (λ (x : Machine). record x { waiting = SegmentMap width; cursor = c }) begun.same))
-      (λ none. ((goes none).0, (goes none).1 ∙ ap (λ (x : Machine). record x { cursor = c }) begun.same))
-      (opens ∙ ap (λ (x : Machine). entered (record x.cursor { left = drop 1 x.cursor.left }) None body) begun.same)
-      can wide below (omega (arith, room)) tt begun.begins taken
-
-  -- The sink stopped where a group begins.
-  pub group_halt : (m mid : Machine) (node : ℕ) (body : List ℕ) (s : S) (code : FaultCode) (s' : S) → CanTurn set l m → IsGroupBegun set l m mid node body → (code ≡ Why.SinkStopped) × stops s (GroupStart node) s'
-      → IsTurn takes stops set l (turning set l m) s (Err code) s' mid
-  group_halt m mid node body s code s' h begun stopped =
-      let c : CursorData = record m.cursor { used = begun.used } in
-      turn_halt takes stops set l (turning set l m) _ (GroupStart node) s code s' mid begun.begins stopped
-      (subst (IsSupplied set l) (sym begun.same) (supplied_like set l m (record m { cursor = c }) h.supplied (like_at m c refl) h.supplied.counted))
 
 -- The bits that the segment within a node uses, read where the widths are kept.
 pub width_at : (set : Set) (l : Limits) (m m' : Machine) (width node : ℕ) → IsSupplied set l m → m'.widths ≡ m.widths → node < length set.nodes → width ≡ slice_index_or m'.widths.nodes.items node width → width ≡ slice_index m.widths.nodes.items node

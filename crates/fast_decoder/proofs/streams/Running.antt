@@ -68,17 +68,17 @@ module _ {S : Type 0} (takes stops : S → EventData → S → Type 0) (set : Se
   turn_runs m s (Ok TurnWaits) s' m' h = hands_fed (turning set l m) s (Ok tt) s' (meaning set l m') h
   turn_runs m s (Err c) s' m' h = λ to. hands_fed (turning set l m) s (Err c) s' to (h to)
 
-  -- Behind a turn at whose end the machine waits: the bytes that are fed there are fed behind those before.
-  waits_fed : (r q : Reader Dictionary) (s mid : S) (w : List ℕ) (o : Result Unit FaultCode) (s' : S) (to : Reader Dictionary) → Hands takes stops r s (Ok tt) mid q
-      → Fed takes stops (tree_in set) l (waiting_at q) w mid o s' (waiting_at to) → FedBehind takes stops (tree_in set) l r s w o s' to
-  waits_fed r q s mid w o s' to h fed p v from some quiet on =
-      fed_both (tree_in set) l takes stops (waiting_at p) (waiting_at q) (waiting_at to) v w from mid s' o
-      (by_list (tree_in set) l takes stops p v from (Ok tt) mid q some quiet (on (Ok tt) mid q h)) fed
+  -- Bytes that are fed behind others, at whose end the machine waits.
+  both_fed : (r q : Reader Dictionary) (s mid : S) (u w : List ℕ) (o : Result Unit FaultCode) (s' : S) (to : Reader Dictionary) → FedBehind takes stops (tree_in set) l r s u (Ok tt) mid q
+      → Fed takes stops (tree_in set) l (waiting_at q) w mid o s' (waiting_at to) → FedBehind takes stops (tree_in set) l r s (u ++ w) o s' to
+  both_fed r q s mid u w o s' to h fed p v from some quiet on =
+      subst (λ (x : List ℕ). Fed takes stops (tree_in set) l (waiting_at p) x from o s' (waiting_at to)) (append_assoc v u w)
+      (fed_both (tree_in set) l takes stops (waiting_at p) (waiting_at q) (waiting_at to) (v ++ u) w from mid s' o (h p v from some quiet on) fed)
 
-  -- A unit, behind a turn at whose end this reader waits for it.
-  pub unit_runs : (m : Machine) (p : Reader Dictionary) (s mid : S) (rest : List ℕ) (n : ℕ) (result : Result Turn FaultCode) (s' : S) (m' : Machine) → Hands takes stops (turning set l m) s (Ok tt) mid p
-      → IsTakenTo takes stops set l p rest mid n result s' m' → Runs takes stops set l m s (take n rest) result s' m'
-  unit_runs m p s mid rest n result s' m' h taken = by result taken.turn.moves
+  -- A unit, behind bytes at whose end this reader waits for it.
+  unit_behind : (m : Machine) (p : Reader Dictionary) (s mid : S) (v rest : List ℕ) (n : ℕ) (result : Result Turn FaultCode) (s' : S) (m' : Machine) → FedBehind takes stops (tree_in set) l (turning set l m) s v (Ok tt) mid p
+      → IsTakenTo takes stops set l p rest mid n result s' m' → Runs takes stops set l m s (v ++ take n rest) result s' m'
+  unit_behind m p s mid v rest n result s' m' h taken = by result taken.turn.moves
     where
       size : 0 < length (take n rest)
       size = let len = length-take-le n rest taken.within in let some = taken.some in omega (arith, len, some)
@@ -88,18 +88,24 @@ module _ {S : Type 0} (takes stops : S → EventData → S → Type 0) (set : Se
 
       more : (turn : Turn) → (turn ≡ TurnWaits → ⊥) → Moves takes stops gone mid (Ok turn) s' (turning set l m') (meaning set l m')
           → (u : List ℕ) (o : Result Unit FaultCode) (t : S) (to : Reader Dictionary) → FedBehind takes stops (tree_in set) l (turning set l m') s' u o t to
-          → FedBehind takes stops (tree_in set) l (turning set l m) s (take n rest ++ u) o t to
+          → FedBehind takes stops (tree_in set) l (turning set l m) s ((v ++ take n rest) ++ u) o t to
       more turn go moves u o t to fed =
-          waits_fed (turning set l m) p s mid (take n rest ++ u) o t to h
-          (fed p (take n rest) mid size taken.quiet (turn_onward gone (turning set l m') (meaning set l m') mid turn s' go moves))
+          subst (λ (x : List ℕ). FedBehind takes stops (tree_in set) l (turning set l m) s x o t to) (sym (append_assoc v (take n rest) u))
+          (both_fed (turning set l m) p s mid v (take n rest ++ u) o t to h
+          (fed p (take n rest) mid size taken.quiet (turn_onward gone (turning set l m') (meaning set l m') mid turn s' go moves)))
 
-      by : (result : Result Turn FaultCode) → Moves takes stops gone mid result s' (turning set l m') (meaning set l m') → Runs takes stops set l m s (take n rest) result s' m'
+      by : (result : Result Turn FaultCode) → Moves takes stops gone mid result s' (turning set l m') (meaning set l m') → Runs takes stops set l m s (v ++ take n rest) result s' m'
       by (Ok Silent) moves = more Silent (λ e. absurd (cc e)) moves
       by (Ok Handed) moves = more Handed (λ e. absurd (cc e)) moves
       by (Ok TurnWaits) moves =
-          waits_fed (turning set l m) p s mid (take n rest) (Ok tt) s' (meaning set l m') h (by_list (tree_in set) l takes stops p (take n rest) mid (Ok tt) s' (meaning set l m') size taken.quiet moves)
+          both_fed (turning set l m) p s mid v (take n rest) (Ok tt) s' (meaning set l m') h (by_list (tree_in set) l takes stops p (take n rest) mid (Ok tt) s' (meaning set l m') size taken.quiet moves)
       by (Err c) moves = λ to.
-          waits_fed (turning set l m) p s mid (take n rest) (Err c) s' to h (by_list (tree_in set) l takes stops p (take n rest) mid (Err c) s' to size taken.quiet (moves to))
+          both_fed (turning set l m) p s mid v (take n rest) (Err c) s' to h (by_list (tree_in set) l takes stops p (take n rest) mid (Err c) s' to size taken.quiet (moves to))
+
+  -- A unit, behind a turn at whose end this reader waits for it.
+  pub unit_runs : (m : Machine) (p : Reader Dictionary) (s mid : S) (rest : List ℕ) (n : ℕ) (result : Result Turn FaultCode) (s' : S) (m' : Machine) → Hands takes stops (turning set l m) s (Ok tt) mid p
+      → IsTakenTo takes stops set l p rest mid n result s' m' → Runs takes stops set l m s (take n rest) result s' m'
+  unit_runs m p s mid rest n result s' m' h taken = unit_behind m p s mid [] rest n result s' m' (hands_fed (turning set l m) s (Ok tt) mid p h) taken
 
   -- Steps behind others.
   pub runs_both : (m b : Machine) (s mid : S) (v w : List ℕ) (result : Result Turn FaultCode) (s' : S) (m' : Machine) → Runs takes stops set l m s v (Ok Silent) mid b → Runs takes stops set l b mid w result s' m' → Runs takes stops set l m s (v ++ w) result s' m'
@@ -142,6 +148,30 @@ module _ {S : Type 0} (takes stops : S → EventData → S → Type 0) (set : Se
     handed = λ none e. absurd (let some = taken.some in omega (arith, some, none));
     turns = λ way n k. more_behind q.turn way set l (1 + n + turns_begun_at b.waiting b.cursor.map way (tree_in set) l) (n + q.bytes * (1 + most_by way (tree_in set) l)) m' (unit_covers way set l n q.bytes b taken.some) (turns way n k);
   }
+
+  -- A unit, behind a step at whose end the machine waits for it: both are a step.
+  pub step_unit : (m b : Machine) (rest : List ℕ) (s mid : S) (n : ℕ) (q : UnitTaken) (s' : S) (m' : Machine) → IsStep takes stops set l m rest s (record { bytes = n; turn = Ok TurnWaits }) mid b
+      → IsTakenTo takes stops set l (meaning set l b) (drop n rest) mid q.bytes q.turn s' m'
+      → ((way : Way) (k : ℕ) → HasTurnsWaiting way set l k b → HasTurnsBehind q.turn way set l (1 + k + turns_begun_at b.waiting b.cursor.map way (tree_in set) l) m')
+      → IsStep takes stops set l m rest s (record { bytes = n + q.bytes; turn = q.turn }) s' m'
+  step_unit m b rest s mid n q s' m' step taken turns =
+      let inside = step.within in
+      let fits = taken.within in
+      let left = length-drop n rest in
+      let some = taken.some in
+      record {
+        within = omega (arith, inside, fits, left);
+        runs = subst (λ (w : List ℕ). Runs takes stops set l m s w q.turn s' m') (sym (take-add n q.bytes rest)) (unit_behind m (meaning set l b) s mid (take n rest) (drop n rest) q.bytes q.turn s' m' step.runs taken);
+        supplied = taken.turn.supplied;
+        goes_on = taken.turn.goes_on;
+        silent = λ none e. absurd (omega (arith, some, none));
+        handed = λ none e. absurd (omega (arith, some, none));
+        turns = λ way k h.
+            let w : ℕ = 1 + most_by way (tree_in set) l in
+            let sum : k + n * w + q.bytes * w ≡ k + (n + q.bytes) * w = rw (add-mul n q.bytes w) (omega arith) in
+            subst (λ x. HasTurnsBehind q.turn way set l x m') sum
+            (more_behind q.turn way set l (1 + (k + n * w) + turns_begun_at b.waiting b.cursor.map way (tree_in set) l) (k + n * w + q.bytes * w) m' (unit_covers way set l (k + n * w) q.bytes b taken.some) (turns way (k + n * w) (step.turns way k h)));
+      }
 
   -- Behind a step at whose end it does not wait, a machine may have been told another unit to wait for.
   pub step_waits : (m : Machine) (rest : List ℕ) (s : S) (bytes : ℕ) (turn : Result Turn FaultCode) (s' : S) (b m' : Machine) (w : Waiting) → m' ≡ record b { waiting = w } → (turn ≡ Ok TurnWaits → ⊥)

@@ -1,5 +1,5 @@
 -- What an arm of the machine's loop does: the place in the innermost segment, and the rest of the piece, stand apart from the machine.
-use Rattle.std.specs.Prelude.{◌≡◌, ℕ, ◌<◌, ◌≤◌, Bool, true, List, length, take, drop, slice_get, Option, Some, Result, Ok, Err}
+use Rattle.std.specs.Prelude.{◌≡◌, ℕ, ◌<◌, ◌≤◌, Bool, true, length, take, drop, slice_get, Option, Some, Ok, Err}
 use Rattle.fast_value.specs.declared.settings.Limits.{Limits}
 use Rattle.fast_value.specs.meaning.Limits.{bounds}
 use Rattle.fast_value.specs.meaning.Kinds.{ScalarData}
@@ -29,7 +29,6 @@ use Rattle.fast_decoder.specs.declared.machine.Turn.TheVariants.{Silent, Handed,
 use Rattle.fast_decoder.specs.declared.machine.Waiting.TheVariants.{Field}
 use Rattle.fast_decoder.specs.declared.spot.Spot.{Spot}
 use Rattle.fast_decoder.specs.declared.spot.Went.{Went}
-use Rattle.fast_decoder.specs.declared.spot.Went.TheVariants as Went
 use Rattle.fast_decoder.specs.device.Positions.{Set, state_in, bit_of, IsAtField, CanTurn}
 use Rattle.fast_decoder.specs.device.Steps.{IsStep}
 
@@ -68,6 +67,12 @@ HasWent takes stops set l m from s Went.Stopped s' m' to =
     (n : ℕ) × (to.rest.now ≡ drop n from.rest.now) × IsPlaceOf m'.cursor to.place × IsStep takes stops set l (placed m from.place) from.rest.now s (record { bytes = n; turn = Err SinkStopped }) s' (placed m' to.place)
 HasWent takes stops set l m from s Went.Waits s' m' to =
     (n : ℕ) × (to.rest.now ≡ drop n from.rest.now) × IsPlaceOf m'.cursor to.place × IsStep takes stops set l (placed m from.place) from.rest.now s (record { bytes = n; turn = Ok Waits }) s' (placed m' to.place)
+
+-- What an arm answers behind a step that takes so many bytes, and goes on.
+abbrev pub IsAnswer : Went → ℕ → Type 0
+IsAnswer Went.Took n = 0 < n
+IsAnswer Went.Handed n = n ≡ 0
+IsAnswer went n = ⊥
 
 -- The field at the next node stood whole in so many bytes, and has this value, or none: the second machine has kept what the field
 -- keeps, and perhaps a text, and is the first otherwise.

@@ -1,15 +1,16 @@
 -- What a machine's turns leave of its cursor.
-use Rattle.std.specs.Prelude.{◌≡◌, ℕ, ℤ, if◌then◌else◌, List, drop}
+use Rattle.std.specs.Prelude.{◌≡◌, ℕ, ℤ, if◌then◌else◌, List, ◌∷◌, drop}
 use Rattle.fast_wire.specs.meaning.Maps.{later_bits}
 use Rattle.fast_tree.specs.meaning.Tree.{FieldData, identifier, uses_bit}
 use Rattle.fast_dict.specs.meaning.Dictionary.{Dictionary}
 use Rattle.fast_value.specs.meaning.Kinds.{ScalarData}
 use Rattle.fast_value.specs.meaning.Limits.{Bounds}
 use Rattle.std.specs.Prelude.{Option}
-use Rattle.fast_stream.specs.meaning.Grammar.{Grammar, ◌>>=◌}
+use Rattle.fast_stream.specs.meaning.Events.{GroupStart}
+use Rattle.fast_stream.specs.meaning.Grammar.{Grammar, hand, ◌>>=◌}
 use Rattle.fast_stream.specs.meaning.Messages.{State, own_bits, decimal_with}
 use Rattle.fast_stream.specs.device.Continuations.{handed_then, mantissa_after_then, segment_then, body_then, sequence_from_then, message_behind_then}
-use Rattle.fast_stream.specs.device.Frames.{resume, elements_turn}
+use Rattle.fast_stream.specs.device.Frames.{open_group, resume, opened, elements_turn}
 use Rattle.fast_cursor.specs.device.Cursors.{CursorData, bits_left}
 use Rattle.fast_decoder.specs.device.Positions.{Set, tree_in, body_in, frames_in, state_in}
 
@@ -38,6 +39,11 @@ length_then set l n v f body d counted c =
 abbrev pub segment_opened : Set → Bounds → Dictionary → ℕ → CursorData → Grammar Dictionary
 segment_opened set l d counted c =
     own_bits (body_in set c.left) >>= (λ b. resume l (frames_in set c.frames) (body_in set c.left) (record { context = record { dictionary = d; counted = counted }; bits = b }))
+
+-- What is still to be read of the next instruction, a group that is there, once its bit is used, if it has one.
+abbrev pub group_from : Set → Bounds → ℕ → List ℕ → Dictionary → ℕ → CursorData → Grammar Dictionary
+group_from set l n body d counted c =
+    hand (GroupStart n) (opened l (open_group (body_in set (drop 1 c.left)) (bits_left c) ∷ frames_in set c.frames) (body_in set body) (record { dictionary = d; counted = counted }))
 
 -- What is still to be read of a sequence from its elements on: so many elements, behind which this segment goes on.
 abbrev pub elements_from : Set → Bounds → ℕ → List ℕ → Dictionary → ℕ → CursorData → Grammar Dictionary

@@ -1,38 +1,12 @@
-use Rattle.std.proofs.Common.{◌<◌, ◌-◌, ◌∙◌, ap, sym, subst, refl, Some, List, rules}
-use Rattle.fast_value.specs.meaning.Limits.{bounds}
-use Rattle.fast_dict.specs.meaning.Slots.{slots_dictionary}
-use Rattle.fast_program.specs.declared.ops.Op.{Op}
-use Rattle.fast_cursor.specs.device.Runs.{run_at, IsRun}
-use Rattle.fast_cursor.specs.device.Cursors.{entered}
-use Rattle.fast_stream.specs.meaning.Events.{ElementStart}
-use Rattle.fast_stream.specs.device.GrammarReaders.{reader_of}
-use Rattle.fast_decoder.specs.device.Positions.{set_of, run_in, body_in, frames_in, state_in}
-use Rattle.fast_decoder.proofs.steps.SegmentTurns.{element_turn, turn_in}
-use Rattle.fast_decoder.proofs.steps.TurnCounts.{element_opened, segment_turns}
+-- The next element, and the wait for its map.
+use Rattle.fast_decoder.proofs.steps.Opened.{opened_not_silent}
 use Rattle.fast_decoder.proofs.machine.Machine.next_element.Goals as goal
 
 pub returns-clause-turn : goal.returns-clause-turn
-returns-clause-turn g c =
-    let m = c.args.self.now in
-    let set = set_of c.args.templates.now in
-    let some : 0 < c.args.count = search rules in
-    turn_in g.S.Sink.takes g.S.Sink.stops set c.args.limits m c.open_segment.new.self c.open_element.new.self c.open_segment.result c.args.width
-    (Some (record { more = c.args.count - 1; body = (run_in (set_of c.args.templates.now) c.args.start); width = c.args.width })) (run_in (set_of c.args.templates.now) c.args.start) _ ElementStart c.args.sink.now c.hand-2.new.sink
-    c.open_segment.ensures.waits c.open_segment.ensures.goes_on
-    (c.open_element.ensures ∙ ap (λ (ops : List Op). entered m.cursor (Some (record { more = c.args.count - 1; body = run_at ops c.args.start; width = c.args.width })) (run_at ops c.args.start)) c.requires.turn.supplied.program)
-    c.requires.turn c.requires.width c.requires.below c.requires.nested
-    (c.requires.below, c.requires.nested, c.requires.width)
-    (ap (reader_of c.args.limits.strict) (element_turn (bounds c.args.limits) (frames_in set m.cursor.frames) c.args.count (body_in set (run_in (set_of c.args.templates.now) c.args.start)) (body_in set m.cursor.left) (state_in (slots_dictionary m.slots) m.counted m.cursor) some))
-    c.in_ok-hand-2.ensures
+returns-clause-turn g c = rw (c.open_segment.ensures.turn, c.open_segment.ensures.waits) c.begin_element-begun.ensures.turn
+
+pub returns-clause-on : goal.returns-clause-on
+returns-clause-on g c = rw (c.open_segment.ensures.turn) (opened_not_silent c.begin_element-begun.result)
 
 pub returns-clause-turns : goal.returns-clause-turns
-returns-clause-turns g c way n h =
-    let m = c.args.self.now in
-    let set = set_of c.args.templates.now in
-    let some : 0 < c.args.count = search rules in
-    segment_turns way set c.args.limits n (record m { cursor = c.open_element.new.self }) c.open_segment.new.self c.open_segment.result c.args.width c.open_segment.ensures.waits c.open_segment.ensures.goes_on
-    (element_opened way set c.args.limits n m.turns.count m.turns.count m.counted m.counted m.cursor c.open_element.new.self (run_in (set_of c.args.templates.now) c.args.start) c.args.count c.args.width some refl refl
-    (c.open_element.ensures ∙ ap (λ (ops : List Op). entered m.cursor (Some (record { more = c.args.count - 1; body = run_at ops c.args.start; width = c.args.width })) (run_at ops c.args.start)) c.requires.turn.supplied.program) h)
-
-pub open_element-requires-clause-run : goal.open_element-requires-clause-run
-open_element-requires-clause-run g c = subst (λ (ops : List Op). IsRun ops c.args.start) (sym c.requires.turn.supplied.program) c.requires.run
+returns-clause-turns g c way n h = rw (c.open_segment.ensures.turn, c.open_segment.ensures.waits) (c.begin_element-begun.ensures.turns way n h)
