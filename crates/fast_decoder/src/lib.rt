@@ -16,10 +16,13 @@ mod quick_units;
 mod quick_wholes;
 pub mod recorder;
 mod settling;
+mod signed_codes;
 mod spot;
 mod stepping;
 mod taking;
 mod turns;
+mod unsigned_codes;
+mod walking;
 
 pub use decoder::Decoder;
 pub use fast_stream::{Event, Fault, FaultCode, MakeError, Sink, Stop};
