@@ -177,7 +177,15 @@ impl<'t> Machine<'t> {
         match sent_delta(&mut self.slots, op.entry, kind, optional, spot.rest, strict) {
             Some(taken) => {
                 let value = scalar_of(taken.item);
-                hand_taken(&mut self.turns, spot, op.node, false, value, taken.bytes, sink)
+                hand_taken(
+                    &mut self.turns,
+                    spot,
+                    op.node,
+                    false,
+                    value,
+                    taken.bytes,
+                    sink,
+                )
             }
             None => Went::Declined,
         }

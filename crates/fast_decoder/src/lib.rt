@@ -18,10 +18,13 @@ pub mod recorder;
 mod segment_arms;
 mod segments;
 mod settling;
+mod signed_codes;
 mod spot;
 mod stepping;
 mod taking;
 mod turns;
+mod unsigned_codes;
+mod walking;
 
 pub use decoder::Decoder;
 pub use fast_stream::{Event, Fault, FaultCode, MakeError, Sink, Stop};

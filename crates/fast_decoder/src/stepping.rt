@@ -160,7 +160,7 @@ impl<'t> Machine<'t> {
 
     /// A step by a turn of the machine. Where it waits behind that, its unit is taken, if it is a mantissa or a map for the quick way.
     #[inline(always)]
-    fn step_by_turn<S: Sink>(
+    pub fn step_by_turn<S: Sink>(
         &mut self,
         templates: &'t Templates,
         limits: Limits,
