@@ -5,3 +5,5 @@ pub mod Unsent
 pub mod Fields
 pub mod Back
 pub mod Ends
+pub mod Walks
+pub mod Ops

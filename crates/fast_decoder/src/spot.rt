@@ -67,6 +67,19 @@ pub enum Went {
     Waits,
 }
 
+/// How a step of the loop went, by an arm or in the general way.
+#[derive(Clone, Copy, Debug, PartialEq, Eq)]
+pub enum Gone {
+    /// It took bytes.
+    Took,
+    /// It took no byte, and handed something over.
+    Handed,
+    /// It took no byte, and handed nothing over.
+    Silent,
+    /// The machine waits for a byte, or stands at a fault.
+    Ended(Result<(), FaultCode>),
+}
+
 /// Whether the next instruction, which uses a presence bit or none, stands in the stream.
 #[derive(Clone, Copy, Debug, PartialEq, Eq)]
 pub enum Standing {

@@ -1,5 +1,5 @@
 -- What an arm of the machine's loop does: the place in the innermost segment, and the rest of the piece, stand apart from the machine.
-use Rattle.std.specs.Prelude.{◌≡◌, ℕ, ◌<◌, ◌≤◌, Bool, true, length, take, drop, slice_get, Option, Some, Ok, Err}
+use Rattle.std.specs.Prelude.{◌≡◌, ℕ, ◌<◌, ◌≤◌, Bool, true, length, take, drop, slice_get, Option, Some, Result, Ok, Err}
 use Rattle.fast_value.specs.declared.settings.Limits.{Limits}
 use Rattle.fast_value.specs.meaning.Limits.{bounds}
 use Rattle.fast_value.specs.meaning.Kinds.{ScalarData}
@@ -10,6 +10,7 @@ use Rattle.fast_dict.specs.meaning.Slots.{slots_dictionary, slots_terms}
 use Rattle.fast_stream.specs.meaning.Events.{EventData}
 use Rattle.fast_stream.specs.meaning.Fields.{field_term}
 use Rattle.fast_stream.specs.meaning.Grammar.{of_result}
+use Rattle.fast_stream.specs.declared.faults.FaultCode.{FaultCode}
 use Rattle.fast_stream.specs.declared.faults.FaultCode.TheVariants.{SinkStopped}
 use Rattle.fast_stream.specs.device.Readers.{Done}
 use Rattle.fast_stream.specs.device.GrammarReaders.{reader_of}
@@ -27,6 +28,8 @@ use Rattle.fast_decoder.specs.declared.machine.Machine.{Machine}
 use Rattle.fast_decoder.specs.declared.machine.Turn.{Turn}
 use Rattle.fast_decoder.specs.declared.machine.Turn.TheVariants.{Silent, Handed, Waits}
 use Rattle.fast_decoder.specs.declared.machine.Waiting.TheVariants.{Field}
+use Rattle.fast_decoder.specs.declared.spot.Gone.{Gone}
+use Rattle.fast_decoder.specs.declared.spot.Gone.TheVariants as Gone
 use Rattle.fast_decoder.specs.declared.spot.Spot.{Spot}
 use Rattle.fast_decoder.specs.declared.spot.Went.{Went}
 use Rattle.fast_decoder.specs.device.Positions.{Set, state_in, bit_of, IsAtField, CanTurn}
@@ -73,6 +76,19 @@ abbrev pub IsAnswer : Went → ℕ → Type 0
 IsAnswer Went.Took n = 0 < n
 IsAnswer Went.Handed n = n ≡ 0
 IsAnswer went n = ⊥
+
+-- how a turn ended that did not go on
+abbrev pub ended : Result Unit FaultCode → Result Turn FaultCode
+ended (Ok u) = Ok Waits
+ended (Err c) = Err c
+
+-- What a step of the loop did, by its answer. At its end the machine itself stands where it stands.
+abbrev pub HasGone : {S : Type 0} → (S → EventData → S → Type 0) → (S → EventData → S → Type 0) → Set → Limits → Machine → Spot → S → Gone → S → Machine → Spot → Type 0
+HasGone takes stops set l m from s Gone.Took s' m' to = (n : ℕ) × (0 < n) × WentBy takes stops set l m from s n Handed s' m' to
+HasGone takes stops set l m from s Gone.Handed s' m' to = WentBy takes stops set l m from s 0 Handed s' m' to
+HasGone takes stops set l m from s Gone.Silent s' m' to = WentBy takes stops set l m from s 0 Silent s' m' to
+HasGone takes stops set l m from s (Gone.Ended outcome) s' m' to =
+    (n : ℕ) × (to.rest.now ≡ drop n from.rest.now) × IsStep takes stops set l (placed m from.place) from.rest.now s (record { bytes = n; turn = ended outcome }) s' m'
 
 -- The field at the next node stood whole in so many bytes, and has this value, or none: the second machine has kept what the field
 -- keeps, and perhaps a text, and is the first otherwise.

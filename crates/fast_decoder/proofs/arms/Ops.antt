@@ -1,0 +1,92 @@
+-- The op at a place.
+use Rattle.std.proofs.Common.{refl, sym, ap, ◌∙◌, subst, arith, inl, inr}
+use Rattle.std.specs.Prelude.{◌≡◌, ◌≢◌, ◌⊎◌, ℕ, ◌<◌, ◌≤◌, false, List, length, slice_get, Some, None}
+use Rattle.std.proofs.lemmas.Option.{slice_get_cases}
+use Rattle.std.specs.Prelude.{◌≡◌, ◌≢◌, ◌⊎◌, ℕ, ◌<◌, ◌≤◌, Bool, true, false, length, slice_get, get_or, Some, None, if◌then◌else◌}
+use Rattle.fast_tree.specs.declared.instructions.Node.{Node}
+use Rattle.fast_program.specs.declared.codes.Code.{Code}
+use Rattle.fast_program.specs.declared.codes.Code.TheVariants.{General, End, UInt32Plain, UInt32NullablePlain, UInt32Default, UInt32NullableDefault, UInt32Copy, UInt32NullableCopy, UInt32Increment, UInt32NullableIncrement, UInt32Delta, UInt32NullableDelta, Int32Plain, Int32NullablePlain, Int32Default, Int32NullableDefault, Int32Copy, Int32NullableCopy, Int32Increment, Int32NullableIncrement, Int32Delta, Int32NullableDelta, UInt64Plain, UInt64NullablePlain, UInt64Default, UInt64NullableDefault, UInt64Copy, UInt64NullableCopy, UInt64Increment, UInt64NullableIncrement, UInt64Delta, UInt64NullableDelta, Int64Plain, Int64NullablePlain, Int64Default, Int64NullableDefault, Int64Copy, Int64NullableCopy, Int64Increment, Int64NullableIncrement, Int64Delta, Int64NullableDelta, Constant, DecimalPlain, DecimalNullablePlain, DecimalCopy, DecimalNullableCopy, DecimalDelta, DecimalNullableDelta, AsciiPlain, AsciiNullablePlain, AsciiDefault, AsciiNullableDefault, AsciiCopy, AsciiNullableCopy, AsciiTail, AsciiNullableTail, AsciiDelta, AsciiNullableDelta, UnicodePlain, UnicodeNullablePlain, UnicodeDelta, UnicodeNullableDelta, BytesPlain, BytesNullablePlain, BytesTail, BytesNullableTail, Parts, Group, OptionalGroup, Sequence, OptionalSequence}
+use Rattle.fast_program.specs.device.Runs.{is_end}
+
+-- A code that is not the end's.
+pub not_end : (code : Code) → code ≢ End → is_end code ≡ false
+not_end General h = refl
+not_end End h = absurd (h refl)
+not_end UInt32Plain h = refl
+not_end UInt32NullablePlain h = refl
+not_end UInt32Default h = refl
+not_end UInt32NullableDefault h = refl
+not_end UInt32Copy h = refl
+not_end UInt32NullableCopy h = refl
+not_end UInt32Increment h = refl
+not_end UInt32NullableIncrement h = refl
+not_end UInt32Delta h = refl
+not_end UInt32NullableDelta h = refl
+not_end Int32Plain h = refl
+not_end Int32NullablePlain h = refl
+not_end Int32Default h = refl
+not_end Int32NullableDefault h = refl
+not_end Int32Copy h = refl
+not_end Int32NullableCopy h = refl
+not_end Int32Increment h = refl
+not_end Int32NullableIncrement h = refl
+not_end Int32Delta h = refl
+not_end Int32NullableDelta h = refl
+not_end UInt64Plain h = refl
+not_end UInt64NullablePlain h = refl
+not_end UInt64Default h = refl
+not_end UInt64NullableDefault h = refl
+not_end UInt64Copy h = refl
+not_end UInt64NullableCopy h = refl
+not_end UInt64Increment h = refl
+not_end UInt64NullableIncrement h = refl
+not_end UInt64Delta h = refl
+not_end UInt64NullableDelta h = refl
+not_end Int64Plain h = refl
+not_end Int64NullablePlain h = refl
+not_end Int64Default h = refl
+not_end Int64NullableDefault h = refl
+not_end Int64Copy h = refl
+not_end Int64NullableCopy h = refl
+not_end Int64Increment h = refl
+not_end Int64NullableIncrement h = refl
+not_end Int64Delta h = refl
+not_end Int64NullableDelta h = refl
+not_end Constant h = refl
+not_end DecimalPlain h = refl
+not_end DecimalNullablePlain h = refl
+not_end DecimalCopy h = refl
+not_end DecimalNullableCopy h = refl
+not_end DecimalDelta h = refl
+not_end DecimalNullableDelta h = refl
+not_end AsciiPlain h = refl
+not_end AsciiNullablePlain h = refl
+not_end AsciiDefault h = refl
+not_end AsciiNullableDefault h = refl
+not_end AsciiCopy h = refl
+not_end AsciiNullableCopy h = refl
+not_end AsciiTail h = refl
+not_end AsciiNullableTail h = refl
+not_end AsciiDelta h = refl
+not_end AsciiNullableDelta h = refl
+not_end UnicodePlain h = refl
+not_end UnicodeNullablePlain h = refl
+not_end UnicodeDelta h = refl
+not_end UnicodeNullableDelta h = refl
+not_end BytesPlain h = refl
+not_end BytesNullablePlain h = refl
+not_end BytesTail h = refl
+not_end BytesNullableTail h = refl
+not_end Parts h = refl
+not_end Group h = refl
+not_end OptionalGroup h = refl
+not_end Sequence h = refl
+not_end OptionalSequence h = refl
+
+-- A node that is there.
+pub node_below : (ns : List Node) (n : ℕ) (x : Node) → slice_get ns n ≡ Some x → n < length ns
+node_below ns n x found = by (slice_get_cases ns n).1
+  where
+    by : ((y : Node) × (n < length ns) × (slice_get ns n ≡ Some y) × (get_or ns n y ≡ y)) ⊎ ((length ns ≤ n) × (slice_get ns n ≡ None)) → n < length ns
+    by (inl (y, below, is, same)) = below
+    by (inr (past, none)) = absurd (let never : Some x ≡ None = sym found ∙ none in cc never)
