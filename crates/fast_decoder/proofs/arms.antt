@@ -3,3 +3,4 @@ pub mod Passed
 pub mod Taken
 pub mod Unsent
 pub mod Fields
+pub mod Texts

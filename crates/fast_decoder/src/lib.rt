@@ -20,6 +20,7 @@ mod signed_codes;
 mod spot;
 mod stepping;
 mod taking;
+mod text_arms;
 mod turns;
 mod unsigned_codes;
 mod walking;
