@@ -23,6 +23,7 @@ mod taking;
 mod text_arms;
 mod turns;
 mod unsigned_codes;
+mod vector_arms;
 mod walking;
 
 pub use decoder::Decoder;

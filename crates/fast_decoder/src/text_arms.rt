@@ -1,8 +1,7 @@
 //! Constants of all kinds, and fields of ASCII texts, in the machine's loop: operator and presence are known where the arm stands,
 //! and the op names the entry. Texts are lent from where they stand: the node, the slot of the entry, or the scratch.
 
-ghost use Rattle.std.specs.Prelude.{◌≡◌, ◌≢◌, ◌<◌, ℕ, true, false, length, slice_get, Some, option_map, IfSome};
-ghost use Rattle.fast_value.specs.meaning.Values.{scalar_data};
+ghost use Rattle.std.specs.Prelude.{◌≡◌, ◌≢◌, ◌<◌, true, false, length, slice_get, Some, IfSome};
 ghost use Rattle.fast_wire.specs.meaning.Maps.{first_bit};
 ghost use Rattle.fast_tree.specs.declared.instructions.Node.{Node};
 ghost use Rattle.fast_tree.specs.meaning.Tree.{operator_uses_bit};

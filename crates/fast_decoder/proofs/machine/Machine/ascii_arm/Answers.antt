@@ -50,9 +50,9 @@ returns-in-Some g c =
     record {
       went = c.hand_taken.ensures.went (set_of t) l m (record m { slots = slots; text = text }) f
           (c.uses_bit-has_bit.ensures ∙ sym (uses_as t l m from.place op Ascii operator optional c.requires.spot c.requires.at c.requires.field x found)) refl
-          (text_taken t l m from op Ascii operator optional c.requires.spot c.requires.at c.requires.field x found slots text taken.source taken.from taken.bytes text.text _ c.requires.no_constant
+          (text_taken t l m from op Ascii operator optional c.requires.spot c.requires.at c.requires.field x found slots text m.joined taken.source taken.from taken.bytes text.text _ c.requires.no_constant
           (subst (λ (b : Bool). (b ≡ false) ⊎ (first_bit (bits_left (at_place m.cursor from.place)) ≡ true)) c.uses_bit-has_bit.ensures (c.in-Sent.ensures.sent refl m.cursor c.requires.spot.place))
-          c.in-Some.ensures.terms c.in-Some.ensures.capacity
+          c.in-Some.ensures.terms c.in-Some.ensures.capacity refl
           (c.in-Some.ensures.unit f l.strict (bounds l) refl same (served t l m from.place op Ascii operator optional c.requires.spot c.requires.at c.requires.field x found))
           (subst (λ (s : List ℕ). option_map scalar_data c.ascii_at-value.result ≡ value_at taken.source f (slots_dictionary slots) s (drop taken.from (take taken.bytes from.rest.now))) c.as_slice-text.ensures
           (c.ascii_at-value.ensures f optional operator (drop taken.from (take taken.bytes from.rest.now)) same c.in-Some.ensures.source)));
