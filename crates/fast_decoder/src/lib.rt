@@ -21,6 +21,7 @@ mod spot;
 mod stepping;
 mod taking;
 mod text_arms;
+mod text_codes;
 mod turns;
 mod unsigned_codes;
 mod vector_arms;
