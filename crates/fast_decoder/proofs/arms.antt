@@ -7,3 +7,4 @@ pub mod Back
 pub mod Ends
 pub mod Walks
 pub mod Ops
+pub mod Texts

@@ -22,8 +22,11 @@ mod signed_codes;
 mod spot;
 mod stepping;
 mod taking;
+mod text_arms;
+mod text_codes;
 mod turns;
 mod unsigned_codes;
+mod vector_arms;
 mod walking;
 
 pub use decoder::Decoder;

@@ -2,8 +2,9 @@
 //!
 //! `None` stands for all else, faults included: nothing has changed then.
 
-ghost use Rattle.std.specs.Prelude.{◌≡◌, ◌++◌, ◌∷◌, [], ◌<◌, ◌≤◌, ◌≤ℤ◌, ◌<ℤ◌, length, pos, negsuc, true, Ok, IfSome, IfNone};
+ghost use Rattle.std.specs.Prelude.{◌≡◌, ℕ, List, ◌++◌, ◌∷◌, [], ◌<◌, ◌≤◌, ◌≤ℤ◌, ◌<ℤ◌, length, drop, pos, negsuc, true, Some, Ok, IfSome, IfNone, IsTrue};
 ghost use Rattle.fast_value.specs.meaning.Kinds.{family, texts, value_of_text};
+ghost use Rattle.fast_dict.specs.meaning.Dictionary.{assigned, previous_at};
 ghost use Rattle.fast_dict.specs.meaning.Operators.{checked_text};
 ghost use Rattle.fast_dict.specs.meaning.Slots.{slots_dictionary, slots_terms};
 ghost use Rattle.fast_units.specs.device.TextsAs.{IsJoined, IsTailed};
@@ -65,7 +66,24 @@ fn append_part(
     Some(())
 }
 
-/// Puts the part that stands in the buffer before the entry's text, of which the first bytes are dropped.
+/// What the entry's text keeps behind its first bytes, if it is one of the kind.
+#[inline(always)]
+fn kept_behind(slots: &Slots, entry: usize, kind: Kind, dropped: usize) -> Option<&[u8]>
+    requires { entry < length (slots_dictionary slots.now) }
+    ensures kept { IfSome result (λ kept. (base : List ℕ)
+        × (previous_at (Some entry) (slots_dictionary slots.now) ≡ assigned kind (value_of_text kind base))
+        × (dropped ≤ length base) × (kept.now ≡ drop dropped base)) }
+    ensures fits { IfSome result (λ kept. length kept.now ≤ (slots_terms slots.now).max_text) }
+    ensures takes { IfSome result (λ _. IsTrue ((slots_terms slots.now).takes_text entry)) }
+{
+    let base = slots.own_text(entry, kind)?;
+    if dropped > base.len() {
+        return None;
+    }
+    Some(&base[dropped..])
+}
+
+/// Puts the part before the entry's text, of which the first bytes are dropped.
 #[inline(never)]
 fn prepend_part(
     slots: &mut Slots,
@@ -73,32 +91,63 @@ fn prepend_part(
     entry: usize,
     kind: Kind,
     dropped: usize,
+    part: &[u8],
     room: usize,
 ) -> Option<()>
     requires there { entry < length (slots_dictionary slots.old) }
     requires text { family kind ≡ texts }
     requires limit { (slots_terms slots.old).max_text ≡ room }
     requires joined { room ≤ joined.old.capacity }
-    ensures joined { IfSome result (λ _. IsJoined kind entry (negsuc dropped) joined.old.text room
+    ensures joined { IfSome result (λ _. IsJoined kind entry (negsuc dropped) part.now room
         (slots_dictionary slots.old) (slots_dictionary slots.new)) }
-    ensures none { IfNone result (slots.new ≡ slots.old) }
+    ensures none { IfNone result ((slots.new ≡ slots.old) × (joined.new ≡ joined.old)) }
     ensures terms { slots_terms slots.new ≡ slots_terms slots.old }
     ensures capacity { joined.new.capacity ≡ joined.old.capacity }
 {
-    let base = slots.own_text(entry, kind)?;
-    if dropped > base.len() {
+    let kept = kept_behind(slots, entry, kind, dropped)?;
+    if part.len() > room - kept.len() || !are_texts_of(kind, part, kept) {
         return None;
     }
-    let kept = &base[dropped..];
-    if joined.len() > room - kept.len() {
-        return None;
-    }
+    joined.clear();
+    joined.append(part);
     joined.append(kept);
-    let text = joined.as_slice();
-    if !is_text_of(kind, text) {
+    let _ = slots.set(entry, kind, text_value(kind, joined.as_slice()));
+    Some(())
+}
+
+/// Puts an ASCII part before the entry's text, likewise.
+#[inline(never)]
+fn prepend_ascii(
+    slots: &mut Slots,
+    joined: &mut Scratch,
+    entry: usize,
+    dropped: usize,
+    front: &[u8],
+    last: u8,
+    room: usize,
+) -> Option<()>
+    requires there { entry < length (slots_dictionary slots.old) }
+    requires limit { (slots_terms slots.old).max_text ≡ room }
+    requires joined { room ≤ joined.old.capacity }
+    ensures joined { IfSome result (λ _. IsJoined Kind.Ascii entry (negsuc dropped) (front.now ++ last ∷ []) room
+        (slots_dictionary slots.old) (slots_dictionary slots.new)) }
+    ensures none { IfNone result ((slots.new ≡ slots.old) × (joined.new ≡ joined.old)) }
+    ensures terms { slots_terms slots.new ≡ slots_terms slots.old }
+    ensures capacity { joined.new.capacity ≡ joined.old.capacity }
+{
+    let kept = kept_behind(slots, entry, Kind::Ascii, dropped)?;
+    if front.len() >= room - kept.len() {
         return None;
     }
-    let _ = slots.set(entry, kind, text_value(kind, text));
+    joined.clear();
+    joined.append(front);
+    joined.push(last);
+    joined.append(kept);
+    let _ = slots.set(
+        entry,
+        Kind::Ascii,
+        text_value(Kind::Ascii, joined.as_slice()),
+    );
     Some(())
 }
 
@@ -166,11 +215,10 @@ pub(crate) fn join_vector(
     requires there { entry < length (slots_dictionary slots.old) }
     requires text { family kind ≡ texts }
     requires limit { (slots_terms slots.old).max_text ≡ room }
-    requires fits { length part.now ≤ room }
     requires joined { room ≤ joined.old.capacity }
     ensures joined { IfSome result (λ _. IsJoined kind entry subtraction part.now room (slots_dictionary slots.old)
         (slots_dictionary slots.new)) }
-    ensures none { IfNone result (slots.new ≡ slots.old) }
+    ensures none { IfNone result ((slots.new ≡ slots.old) × (joined.new ≡ joined.old)) }
     ensures terms { slots_terms slots.new ≡ slots_terms slots.old }
     ensures capacity { joined.new.capacity ≡ joined.old.capacity }
 {
@@ -178,9 +226,7 @@ pub(crate) fn join_vector(
     if subtraction >= 0 {
         append_part(slots, entry, kind, dropped, part, room)?;
     } else {
-        joined.clear();
-        joined.append(part);
-        prepend_part(slots, joined, entry, kind, dropped, room)?;
+        prepend_part(slots, joined, entry, kind, dropped, part, room)?;
     }
     Some(())
 }
@@ -198,11 +244,10 @@ pub(crate) fn join_ascii(
 ) -> Option<()>
     requires there { entry < length (slots_dictionary slots.old) }
     requires limit { (slots_terms slots.old).max_text ≡ room }
-    requires fits { length front.now < room }
     requires joined { room ≤ joined.old.capacity }
     ensures joined { IfSome result (λ _. IsJoined Kind.Ascii entry subtraction (front.now ++ last ∷ []) room
         (slots_dictionary slots.old) (slots_dictionary slots.new)) }
-    ensures none { IfNone result (slots.new ≡ slots.old) }
+    ensures none { IfNone result ((slots.new ≡ slots.old) × (joined.new ≡ joined.old)) }
     ensures terms { slots_terms slots.new ≡ slots_terms slots.old }
     ensures capacity { joined.new.capacity ≡ joined.old.capacity }
 {
@@ -210,10 +255,7 @@ pub(crate) fn join_ascii(
     if subtraction >= 0 {
         append_ascii(slots, entry, dropped, front, last, room)?;
     } else {
-        joined.clear();
-        joined.append(front);
-        joined.push(last);
-        prepend_part(slots, joined, entry, Kind::Ascii, dropped, room)?;
+        prepend_ascii(slots, joined, entry, dropped, front, last, room)?;
     }
     Some(())
 }

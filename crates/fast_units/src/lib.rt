@@ -7,6 +7,7 @@ pub mod decimals;
 pub mod fields;
 pub mod integer_items;
 mod joined_parts;
+pub mod lent_texts;
 mod long_ascii;
 pub mod numbers;
 pub mod part_items;

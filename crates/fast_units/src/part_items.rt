@@ -10,7 +10,7 @@ ghost use Rattle.fast_wire.specs.declared.fronts.First.TheVariants.{Whole};
 ghost use Rattle.fast_value.specs.meaning.Kinds.{family, texts};
 ghost use Rattle.fast_dict.specs.meaning.Slots.{slots_dictionary, slots_terms};
 ghost use Rattle.fast_units.specs.device.NextUnits.{BeginsWithCharacter, IsNextText};
-ghost use Rattle.fast_units.specs.device.TextsAs.{IsJoined, IsSentPart, IsWholeText};
+ghost use Rattle.fast_units.specs.device.TextsAs.{IsJoined, IsSentPart, IsWholeText, IsKeptSource};
 ghost use Rattle.fast_units.specs.device.Words.{HasRoomFor, HasTextLimit};
 
 use crate::joined_parts::{join_ascii, join_vector};
@@ -68,7 +68,7 @@ fn ascii_part(
         × IsJoined Kind.Ascii entry subtraction part room (slots_dictionary slots.old) (slots_dictionary slots.new)
         × ((most : ℕ) → length part ≤ most → IsNextText false most [] rest.now part (Progress.Whole true n))) }
     ensures within { IfSome result (λ n. n ≤ length rest.now) }
-    ensures none { IfNone result (slots.new ≡ slots.old) }
+    ensures none { IfNone result ((slots.new ≡ slots.old) × (joined.new ≡ joined.old)) }
     ensures terms { slots_terms slots.new ≡ slots_terms slots.old }
     ensures capacity { joined.new.capacity ≡ joined.old.capacity }
 {
@@ -107,7 +107,7 @@ fn vector_part(
         × IsJoined kind entry subtraction (take size (drop len rest.now)) room (slots_dictionary slots.old)
         (slots_dictionary slots.new)) }
     ensures within { IfSome result (λ n. n ≤ length rest.now) }
-    ensures none { IfNone result (slots.new ≡ slots.old) }
+    ensures none { IfNone result ((slots.new ≡ slots.old) × (joined.new ≡ joined.old)) }
     ensures terms { slots_terms slots.new ≡ slots_terms slots.old }
     ensures capacity { joined.new.capacity ≡ joined.old.capacity }
 {
@@ -136,7 +136,7 @@ fn sent_part(
     ensures part { IfSome result
         (λ n. IsSentPart kind entry subtraction strict limits rest.now slots.old slots.new n) }
     ensures within { IfSome result (λ n. n ≤ length rest.now) }
-    ensures none { IfNone result (slots.new ≡ slots.old) }
+    ensures none { IfNone result ((slots.new ≡ slots.old) × (joined.new ≡ joined.old)) }
     ensures terms { slots_terms slots.new ≡ slots_terms slots.old }
     ensures joined { joined.new.capacity ≡ joined.old.capacity }
 {
@@ -171,8 +171,9 @@ pub fn sent_delta(
     requires joined { HasRoomFor slots.old joined.old }
     ensures unit { IfSome result (IsWholeText kind optional Operator.Delta entry strict limits rest.now slots.old
         slots.new) }
+    ensures source { IfSome result (λ r. IsKeptSource r.source) }
     ensures within { IfSome result (λ r. (r.from ≤ r.bytes) × (r.bytes ≤ length rest.now)) }
-    ensures none { IfNone result (slots.new ≡ slots.old) }
+    ensures none { IfNone result ((slots.new ≡ slots.old) × (joined.new ≡ joined.old)) }
     ensures terms { slots_terms slots.new ≡ slots_terms slots.old }
     ensures joined { joined.new.capacity ≡ joined.old.capacity }
 {

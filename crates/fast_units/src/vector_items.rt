@@ -11,7 +11,7 @@ ghost use Rattle.fast_value.specs.meaning.Kinds.{family, texts, value_of_text};
 ghost use Rattle.fast_tree.specs.meaning.Entries.{keeps_value};
 ghost use Rattle.fast_dict.specs.meaning.Operators.{checked_text};
 ghost use Rattle.fast_dict.specs.meaning.Slots.{slots_dictionary, slots_terms};
-ghost use Rattle.fast_units.specs.device.TextsAs.{IsWholeText};
+ghost use Rattle.fast_units.specs.device.TextsAs.{IsWholeText, IsLentSource, IsKeptSource};
 ghost use Rattle.fast_units.specs.device.Words.{HasTextLimit};
 
 use crate::joined_parts::put_tail;
@@ -80,6 +80,7 @@ pub fn sent_vector(
     requires unkept { keeps_value operator ≡ false }
     ensures unit { IfSome result (λ r. (entry : ℕ) (slots : Slots)
         → IsWholeText kind optional operator entry strict limits rest.now slots slots r) }
+    ensures source { IfSome result (λ r. IsLentSource r.source) }
     ensures within { IfSome result (λ r. (r.from ≤ r.bytes) × (r.bytes ≤ length rest.now)) }
 {
     let (size, len) = whole_size(rest, optional, strict)?;
@@ -118,6 +119,7 @@ pub fn sent_tail(
     requires limit { HasTextLimit slots.old limits }
     ensures unit { IfSome result (IsWholeText kind optional Operator.Tail entry strict limits rest.now slots.old
         slots.new) }
+    ensures source { IfSome result (λ r. IsKeptSource r.source) }
     ensures within { IfSome result (λ r. (r.from ≤ r.bytes) × (r.bytes ≤ length rest.now)) }
     ensures none { IfNone result (slots.new ≡ slots.old) }
     ensures terms { slots_terms slots.new ≡ slots_terms slots.old }

@@ -103,6 +103,7 @@ item_taken t l m from op kind operator optional spot at coded x found slots r va
       kept = refl;
       terms = terms;
       room = refl;
+      joined_room = refl;
       at = at_field t l m from.place op kind operator optional spot at coded x found;
       sent = is_sent t l m from.place op kind operator optional spot at coded x found varies stands;
       some = some;

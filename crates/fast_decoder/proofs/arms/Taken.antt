@@ -77,20 +77,20 @@ module _ {S : Type 0} (takes stops : S → EventData → S → Type 0) (set : Se
   took_handed m m' rest s n Handed s' some on h = h
   took_handed m m' rest s n Waits s' some on h = absurd (on refl)
 
-  module _ (m : Machine) (slots : Slots) (text : Scratch) (t : Turns) (from : Spot) (p : Place) (node : ℕ) (f : FieldData) (value : Option ScalarData) (n : ℕ) (h : IsFieldTaken set l m (record m { slots = slots; text = text }) from node f value n) (counts : t.count ≡ m.turns.count + 1) where
+  module _ (m : Machine) (slots : Slots) (text joined : Scratch) (t : Turns) (from : Spot) (p : Place) (node : ℕ) (f : FieldData) (value : Option ScalarData) (n : ℕ) (h : IsFieldTaken set l m (record m { slots = slots; text = text; joined = joined }) from node f value n) (counts : t.count ≡ m.turns.count + 1) where
     -- the machine before the field, with what the field keeps, and behind it
     abbrev before : Machine
     before = placed m from.place
 
     abbrev keeping : Machine
-    keeping = record before { slots = slots; text = text; turns = t }
+    keeping = record before { slots = slots; text = text; joined = joined; turns = t }
 
     abbrev behind : Machine
-    behind = placed (record m { slots = slots; text = text; turns = t }) p
+    behind = placed (record m { slots = slots; text = text; joined = joined; turns = t }) p
 
     can_keep : CanTurn set l keeping
     can_keep = record {
-      supplied = supplied_like set l before keeping h.spot.can.supplied (record { terms = h.terms; text = h.room; joined = refl; widths = refl; identifier = refl; rests = refl }) h.spot.can.supplied.counted;
+      supplied = supplied_like set l before keeping h.spot.can.supplied (record { terms = h.terms; text = h.room; joined = h.joined_room; widths = refl; identifier = refl; rests = refl }) h.spot.can.supplied.counted;
       placed = h.spot.can.placed;
       mapped = h.spot.can.mapped;
       unused = h.spot.can.unused;
@@ -128,7 +128,7 @@ module _ {S : Type 0} (takes stops : S → EventData → S → Type 0) (set : Se
     (h : IsFieldTaken set l m m1 from node f value n) (counts : t.count ≡ m.turns.count + 1) (place : IsPlaceOf m.cursor p) where
   -- the machine with what the field keeps
   abbrev kept : Machine
-  kept = record m { slots = m1.slots; text = m1.text }
+  kept = record m { slots = m1.slots; text = m1.text; joined = m1.joined }
 
   taken_kept : IsFieldTaken set l m kept from node f value n
   taken_kept = subst (λ (x : Machine). IsFieldTaken set l m x from node f value n) h.kept h
@@ -142,7 +142,7 @@ module _ {S : Type 0} (takes stops : S → EventData → S → Type 0) (set : Se
   went_step : (s : S) (result : Result Turn FaultCode) (s' : S) → MovesOn s result s' → OnOk result (IsPast (at_place m.cursor from.place) (at_place m.cursor p)) → result ≢ Ok Waits
       → IsStep takes stops set l (placed m from.place) from.rest.now s (record { bytes = n; turn = result }) s' (placed (record kept { turns = t }) p)
   went_step s result s' moves past on =
-      taken_step takes stops set l m m1.slots m1.text t from p node f value n taken_kept counts s result s' (moves (meaning set l (placed (record kept { turns = t }) p))) past on
+      taken_step takes stops set l m m1.slots m1.text m1.joined t from p node f value n taken_kept counts s result s' (moves (meaning set l (placed (record kept { turns = t }) p))) past on
 
   -- The arm took the field.
   pub taken_went : (to : Spot) (s : S) (turn : Turn) (s' : S) → to.rest.now ≡ drop n from.rest.now → to.place ≡ p → MovesOn s (Ok turn) s' → IsPast (at_place m.cursor from.place) (at_place m.cursor p) → turn ≢ Waits

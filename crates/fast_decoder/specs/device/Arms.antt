@@ -91,12 +91,13 @@ HasGone takes stops set l m from s (Gone.Ended outcome) s' m' to =
     (n : ℕ) × (to.rest.now ≡ drop n from.rest.now) × IsStep takes stops set l (placed m from.place) from.rest.now s (record { bytes = n; turn = ended outcome }) s' m'
 
 -- The field at the next node stood whole in so many bytes, and has this value, or none: the second machine has kept what the field
--- keeps, and perhaps a text, and is the first otherwise.
+-- keeps, and perhaps a text, or one that was joined, and is the first otherwise.
 pub record IsFieldTaken (set : Set) (l : Limits) (m m' : Machine) (from : Spot) (node : ℕ) (f : FieldData) (value : Option ScalarData) (n : ℕ) : Type 0 where
   pub spot : IsAtSpot set l m from.place
-  pub kept : m' ≡ record m { slots = m'.slots; text = m'.text }
+  pub kept : m' ≡ record m { slots = m'.slots; text = m'.text; joined = m'.joined }
   pub terms : slots_terms m'.slots ≡ slots_terms m.slots
   pub room : m'.text.capacity ≡ m.text.capacity
+  pub joined_room : m'.joined.capacity ≡ m.joined.capacity
   pub at : IsAtField set (at_place m.cursor from.place) node f
   pub sent : IsSent f (bit_of f (state_in (slots_dictionary m.slots) m.counted (at_place m.cursor from.place)))
   pub some : 0 < n

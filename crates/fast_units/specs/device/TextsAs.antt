@@ -16,6 +16,7 @@ use Rattle.fast_units.specs.device.Settling.{Serves, GivesField}
 use Rattle.fast_units.specs.device.Stages.{term_behind}
 use Rattle.fast_units.specs.device.FieldsAs.{IsFieldAs, reader_in, GivesWhole}
 use Rattle.fast_units.specs.declared.taken.TakenText.{TakenText}
+use Rattle.fast_units.specs.declared.source.ValueSource.{ValueSource}
 use Rattle.fast_units.specs.declared.source.ValueSource.TheVariants as From
 use Rattle.fast_units.specs.declared.stages.Stage.TheVariants.{Part}
 
@@ -49,3 +50,15 @@ IsSentPart kind entry subtraction strict limits rest old new n = (f : FieldData)
     → IsFieldAs f kind optional Delta entry → Serves (length (slots_dictionary old)) (slots_terms old) f
     → GivesField (reader_of strict (term_behind (bounds limits) f (previous_at f.entry (slots_dictionary old)) (Part subtraction))) (take n rest) f From.Entry
     (slots_dictionary old) (slots_dictionary new) scratch piece
+
+-- A text is lent from the piece, or there is none.
+abbrev pub IsLentSource : ValueSource → Type 0
+IsLentSource From.Absent = Unit {0}
+IsLentSource From.Piece = Unit {0}
+IsLentSource source = ⊥
+
+-- A text stands at the entry that keeps it, or there is none.
+abbrev pub IsKeptSource : ValueSource → Type 0
+IsKeptSource From.Absent = Unit {0}
+IsKeptSource From.Entry = Unit {0}
+IsKeptSource source = ⊥

@@ -1,0 +1,180 @@
+//! Constants of all kinds, and fields of ASCII texts, in the machine's loop: operator and presence are known where the arm stands,
+//! and the op names the entry. Texts are lent from where they stand: the node, the slot of the entry, or the scratch.
+
+ghost use Rattle.std.specs.Prelude.{◌≡◌, ◌≢◌, ◌<◌, true, false, length, slice_get, Some, IfSome};
+ghost use Rattle.fast_wire.specs.meaning.Maps.{first_bit};
+ghost use Rattle.fast_tree.specs.declared.instructions.Node.{Node};
+ghost use Rattle.fast_tree.specs.meaning.Tree.{operator_uses_bit};
+ghost use Rattle.fast_program.specs.device.Codes.{IsConstantCoded};
+ghost use Rattle.fast_cursor.specs.device.Cursors.{bits_left};
+ghost use Rattle.fast_cursor.specs.device.Places.{at_place};
+ghost use Rattle.fast_decoder.specs.device.Arms.{IsAtSpot, IsAtOp, IsFieldOp, HasWent};
+ghost use Rattle.fast_decoder.specs.device.Positions.{set_of};
+
+use crate::machine::Machine;
+use crate::spot::{Spot, Standing, Went, hand_taken, hand_unsent, stands};
+use fast_dict::operators::initial_value;
+use fast_program::Op;
+use fast_stream::Sink;
+use fast_template::{FieldInstruction, Operator, Shape, Templates};
+use fast_units::ascii_items::{ascii_at, sent_ascii, unsent_ascii};
+use fast_value::{Kind, Limits};
+
+/// The field at an op.
+#[inline(always)]
+pub fn field_at(templates: &Templates, op: Op) -> Option<&FieldInstruction>
+    requires { op.node < length templates.now.nodes.items }
+    ensures { IfSome result (λ field. (x : Node) → slice_get templates.now.nodes.items op.node ≡ Some x
+        → x.shape ≡ Shape.Field field.now) }
+{
+    match &templates.node(u32::from(op.node)).shape {
+        Shape::Field(field) => Some(field),
+        _ => None,
+    }
+}
+
+impl<'t> Machine<'t> {
+    /// A constant that is there: its initial value, for which no bit and no byte is read.
+    #[inline(always)]
+    pub fn constant_arm<S: Sink>(
+        &mut self,
+        templates: &'t Templates,
+        limits: Limits,
+        spot: &mut Spot<'t, '_>,
+        op: Op,
+        sink: &mut S,
+    ) -> Went
+        requires spot { IsAtSpot (set_of templates.now) limits self.old spot.old.place }
+        requires at { IsAtOp (set_of templates.now) spot.old.place op }
+        requires constant { (x : Node) → slice_get (set_of templates.now).nodes op.node ≡ Some x
+            → IsConstantCoded x.shape }
+        ensures went { HasWent S.takes S.stops (set_of templates.now) limits self.old spot.old sink.old result sink.new
+            self.new spot.new }
+    {
+        let Some(field) = field_at(templates, op) else {
+            return Went::Declined;
+        };
+        let value = initial_value(field);
+        hand_unsent(&mut self.turns, spot, op.node, false, value, sink)
+    }
+
+    /// A field of ASCII texts under no delta.
+    #[inline(always)]
+    pub fn ascii_arm<S: Sink>(
+        &mut self,
+        templates: &'t Templates,
+        limits: Limits,
+        spot: &mut Spot<'t, '_>,
+        op: Op,
+        operator: Operator,
+        optional: bool,
+        sink: &mut S,
+    ) -> Went
+        requires no_constant { operator ≢ Operator.Constant }
+        requires spot { IsAtSpot (set_of templates.now) limits self.old spot.old.place }
+        requires at { IsAtOp (set_of templates.now) spot.old.place op }
+        requires field { IsFieldOp (set_of templates.now) op Kind.Ascii operator optional }
+        ensures went { HasWent S.takes S.stops (set_of templates.now) limits self.old spot.old sink.old result sink.new
+            self.new spot.new }
+    {
+        let has_bit = operator.uses_bit(optional);
+        match stands(&spot.place, has_bit) {
+            Standing::Spent => Went::Declined,
+            Standing::Unsent => {
+                self.unsent_ascii_arm(templates, limits, spot, op, operator, optional, sink)
+            }
+            Standing::Sent => {
+                match sent_ascii(
+                    &mut self.slots,
+                    &mut self.text,
+                    op.entry,
+                    optional,
+                    operator,
+                    spot.rest,
+                    limits.max_text,
+                ) {
+                    Some(taken) => {
+                        let text = self.text.as_slice();
+                        let value = ascii_at(&self.slots, op.entry, text, taken.source);
+                        hand_taken(
+                            &mut self.turns,
+                            spot,
+                            op.node,
+                            has_bit,
+                            value,
+                            taken.bytes,
+                            sink,
+                        )
+                    }
+                    None => Went::Declined,
+                }
+            }
+        }
+    }
+
+    /// A field of ASCII texts that uses a presence bit, which is clear.
+    #[inline(always)]
+    fn unsent_ascii_arm<S: Sink>(
+        &mut self,
+        templates: &'t Templates,
+        limits: Limits,
+        spot: &mut Spot<'t, '_>,
+        op: Op,
+        operator: Operator,
+        optional: bool,
+        sink: &mut S,
+    ) -> Went
+        requires uses { operator_uses_bit operator optional ≡ true }
+        requires more { 1 < spot.old.place.map.left }
+        requires clear { first_bit (bits_left (at_place self.old.cursor spot.old.place)) ≡ false }
+        requires spot { IsAtSpot (set_of templates.now) limits self.old spot.old.place }
+        requires at { IsAtOp (set_of templates.now) spot.old.place op }
+        requires field { IsFieldOp (set_of templates.now) op Kind.Ascii operator optional }
+        ensures went { HasWent S.takes S.stops (set_of templates.now) limits self.old spot.old sink.old result sink.new
+            self.new spot.new }
+    {
+        match operator {
+            Operator::Default => {
+                self.initial_arm(templates, limits, spot, op, Kind::Ascii, optional, sink)
+            }
+            Operator::Copy | Operator::Tail => {
+                match unsent_ascii(&self.slots, op.entry, optional) {
+                    Some(source) => {
+                        let text = self.text.as_slice();
+                        let value = ascii_at(&self.slots, op.entry, text, source);
+                        hand_unsent(&mut self.turns, spot, op.node, true, value, sink)
+                    }
+                    None => Went::Declined,
+                }
+            }
+            _ => Went::Declined,
+        }
+    }
+
+    /// A field under default of which nothing is sent: its initial value, lent from the node.
+    #[inline(always)]
+    pub fn initial_arm<S: Sink>(
+        &mut self,
+        templates: &'t Templates,
+        limits: Limits,
+        spot: &mut Spot<'t, '_>,
+        op: Op,
+        kind: Kind,
+        optional: bool,
+        sink: &mut S,
+    ) -> Went
+        requires more { 1 < spot.old.place.map.left }
+        requires clear { first_bit (bits_left (at_place self.old.cursor spot.old.place)) ≡ false }
+        requires spot { IsAtSpot (set_of templates.now) limits self.old spot.old.place }
+        requires at { IsAtOp (set_of templates.now) spot.old.place op }
+        requires field { IsFieldOp (set_of templates.now) op kind Operator.Default optional }
+        ensures went { HasWent S.takes S.stops (set_of templates.now) limits self.old spot.old sink.old result sink.new
+            self.new spot.new }
+    {
+        let Some(field) = field_at(templates, op) else {
+            return Went::Declined;
+        };
+        let value = initial_value(field);
+        hand_unsent(&mut self.turns, spot, op.node, true, value, sink)
+    }
+}
