@@ -84,6 +84,7 @@ module _ (field : FieldInstruction) (strict : Bool) (rest : List ℕ) (seen : Sl
   part_whole kind x n same is sent no_delta no_constant first =
       let of_integers : family g.kind ≡ integers (range_of g.kind) = subst (λ k. family k ≡ integers (range_of k)) (sym same) is in (
         (first_whole (λ y. y) strict (range_of kind) field.optional D2 [] rest x n refl first).0,
+        first.0,
         λ old new l scratch there kept.
             item_unit kind field.optional strict l g rest (slots_dictionary old) (slots_dictionary new) scratch x n (sent_number (part_item x)) (source_of (part_item x))
             (sym same) refl of_integers no_delta no_constant first sent
@@ -95,6 +96,7 @@ module _ (field : FieldInstruction) (strict : Bool) (rest : List ℕ) (seen : Sl
       → IsFirstInt (λ y. y) strict delta_range false (First.Whole (Some j) n) rest → IsPartBy true field true strict rest seen (Some sum) n
   part_changed base j sum n kind delta mandatory held summed within first = (
     (first_whole (λ y. y) strict delta_range false D2 [] rest (Some j) n refl first).0,
+    first.0,
     λ old new l scratch there kept.
         delta_unit false strict l g rest (slots_dictionary old) (slots_dictionary new) scratch (Some j) n (integer_step g (previous_of old field) j) (source_of (Some (Signed sum)))
         (sym mandatory) (subst (λ k. family k ≡ integers (range_of k)) (sym kind) refl) delta first refl

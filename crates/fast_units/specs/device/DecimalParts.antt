@@ -1,5 +1,5 @@
 -- The parts of a decimal by parts: integers that are looked at before they are kept.
-use Rattle.std.specs.Prelude.{◌≡◌, ℕ, ◌<◌, Bool, true, false, List, [], ℤ, Option, Some, None, Ok}
+use Rattle.std.specs.Prelude.{◌≡◌, ℕ, ◌<◌, ◌≤◌, Bool, true, false, List, [], length, ℤ, Option, Some, None, Ok}
 use Rattle.fast_value.specs.meaning.Limits.{Bounds}
 use Rattle.fast_tree.specs.declared.instructions.FieldInstruction.{FieldInstruction}
 use Rattle.fast_tree.specs.device.Nodes.{field_data}
@@ -40,7 +40,7 @@ IsPartKnown field bit seen x = (old : Slots) → IsAsSeen field seen old
 
 -- One or the other.
 abbrev pub IsPartBy : Bool → FieldInstruction → Bool → Bool → List ℕ → Slots → Option ℤ → ℕ → Type 0
-IsPartBy true field bit strict rest seen x n = (0 < n) × IsPartSent field strict rest seen x n
+IsPartBy true field bit strict rest seen x n = (0 < n) × (n ≤ length rest) × IsPartSent field strict rest seen x n
 IsPartBy false field bit strict rest seen x n = (n ≡ 0) × IsPartKnown field bit seen x
 
 abbrev pub IsPart : FieldInstruction → Bool → Bool → List ℕ → Slots → Option ℤ → ℕ → Type 0
