@@ -3,3 +3,5 @@ pub mod Passed
 pub mod Taken
 pub mod Unsent
 pub mod Fields
+pub mod Led
+pub mod Parts

@@ -11,3 +11,4 @@ pub mod AtHand
 pub mod Words
 pub mod Steps
 pub mod Arms
+pub mod Parts
