@@ -1,24 +1,31 @@
 //! Decimals in the machine's loop: of one field, or by parts.
 
-ghost use Rattle.std.specs.Prelude.{◌≡◌, ◌≢◌, ◌<◌, ◌≤◌, true, length, option_map};
+ghost use Rattle.std.specs.Prelude.{◌≡◌, ◌≢◌, ◌<◌, ◌≤◌, true, if◌then◌else◌, length, Some, IfSome, option_map};
+ghost use Rattle.fast_wire.specs.meaning.Integers.{IsWithin, exponent_range};
+ghost use Rattle.fast_wire.specs.meaning.Maps.{first_bit, later_bits};
 ghost use Rattle.fast_value.specs.declared.settings.Limits.{Limits};
 ghost use Rattle.fast_value.specs.meaning.Values.{scalar_data};
 ghost use Rattle.fast_tree.specs.meaning.Tree.{FieldData, uses_bit};
-ghost use Rattle.fast_cursor.specs.device.Places.{place_left};
+ghost use Rattle.fast_tree.specs.device.Nodes.{field_data};
+ghost use Rattle.fast_cursor.specs.device.Cursors.{CursorData, bits_left};
+ghost use Rattle.fast_cursor.specs.device.Places.{place_left, at_place, IsPlaceOf};
+ghost use Rattle.fast_units.specs.device.DecimalParts.{IsPart};
 ghost use Rattle.fast_decoder.specs.declared.machine.Machine.{Machine};
 ghost use Rattle.fast_decoder.specs.declared.spot.Spot.{Spot};
 ghost use Rattle.fast_decoder.specs.device.Arms.{IsAtSpot, IsAtOp, IsFieldOp, HasWent};
-ghost use Rattle.fast_decoder.specs.device.Parts.{IsLedTo};
+ghost use Rattle.fast_decoder.specs.device.Parts.{IsPartsOp, IsAtDecimal, IsLedTo, bit_at_place};
 ghost use Rattle.fast_decoder.specs.device.Positions.{Set, set_of};
 
 use crate::integer_arms::scalar_of;
 use crate::machine::{Machine, Turn};
 use crate::spot::{Spot, Standing, Went, hand_taken, pass_value, stands};
 use crate::turns::Turns;
+use fast_cursor::place::Place;
 use fast_program::Op;
 use fast_stream::Sink;
-use fast_template::{Operator, Templates};
+use fast_template::{FieldInstruction, Operator, Shape, Templates};
 use fast_units::decimal_items::sent_decimal;
+use fast_units::decimal_parts::{exponent_part, leaves_mantissa, keep_part, mantissa_part};
 use fast_value::{Kind, Limits, Scalar};
 
 impl<'t> Machine<'t> {
@@ -77,6 +84,102 @@ impl<'t> Machine<'t> {
             }
         }
     }
+
+    /// A decimal by parts: both parts at once, or nothing of it.
+    #[inline(always)]
+    pub fn parts_arm<S: Sink>(
+        &mut self,
+        templates: &'t Templates,
+        limits: Limits,
+        spot: &mut Spot<'t, '_>,
+        op: Op,
+        sink: &mut S,
+    ) -> Went
+        requires spot { IsAtSpot (set_of templates.now) limits self.old spot.old.place }
+        requires at { IsAtOp (set_of templates.now) spot.old.place op }
+        requires parts { IsPartsOp (set_of templates.now) op }
+        ensures went { HasWent S.takes S.stops (set_of templates.now) limits self.old spot.old sink.old result sink.new
+            self.new spot.new }
+    {
+        let Shape::Decimal { exponent, mantissa } = &templates.node(u32::from(op.node)).shape else {
+            return Went::Declined;
+        };
+        let has_bit = exponent.uses_bit();
+        let Some(bit) = bit_at(&spot.place, has_bit) else {
+            return Went::Declined;
+        };
+        match exponent_part(&self.slots, exponent, bit, spot.rest, limits.strict) {
+            Some((Some(number), used)) => self.mantissa_arm(
+                templates, limits, spot, op.node, exponent, mantissa, bit, number, used, sink,
+            ),
+            Some((None, used)) => {
+                keep_part(&mut self.slots, exponent, Kind::Int32, None, used);
+                hand_behind(&mut self.turns, spot, op.node, has_bit, None, used, sink)
+            }
+            None => Went::Declined,
+        }
+    }
+
+    /// The mantissa behind an exponent, which took these bytes, if any.
+    #[inline(always)]
+    fn mantissa_arm<S: Sink>(
+        &mut self,
+        templates: &'t Templates,
+        limits: Limits,
+        spot: &mut Spot<'t, '_>,
+        node: u16,
+        exponent: &FieldInstruction,
+        mantissa: &FieldInstruction,
+        bit: bool,
+        number: i32,
+        used: usize,
+        sink: &mut S,
+    ) -> Went
+        requires decimal { IsAtDecimal (set_of templates.now) limits self.old spot.old.place node exponent.now
+            mantissa.now }
+        requires more { uses_bit (field_data exponent.now) ≡ true → 1 < spot.old.place.map.left }
+        requires bit { bit ≡ bit_at_place self.old.cursor spot.old.place (field_data exponent.now) }
+        requires part { IsPart exponent.now bit limits.strict spot.old.rest.now self.old.slots (Some number) used }
+        requires within { IsWithin exponent_range number }
+        ensures went { HasWent S.takes S.stops (set_of templates.now) limits self.old spot.old sink.old result sink.new
+            self.new spot.new }
+    {
+        let place = behind_bit(spot.place, exponent.uses_bit());
+        let has_bit = mantissa.uses_bit();
+        let Some(set) = bit_at(&place, has_bit) else {
+            return Went::Declined;
+        };
+        let behind = &spot.rest[used..];
+        let Some((value, bytes)) = mantissa_part(&self.slots, mantissa, set, behind, limits.strict)
+        else {
+            return Went::Declined;
+        };
+        if !leaves_mantissa(exponent, mantissa, used) {
+            return Went::Declined;
+        }
+        keep_part(
+            &mut self.slots,
+            exponent,
+            Kind::Int32,
+            Some(i64::from(number)),
+            used,
+        );
+        keep_part(&mut self.slots, mantissa, Kind::Int64, Some(value), bytes);
+        spot.place = place;
+        let decimal = Scalar::Dec {
+            exponent: number,
+            mantissa: value,
+        };
+        hand_behind(
+            &mut self.turns,
+            spot,
+            node,
+            has_bit,
+            Some(decimal),
+            used + bytes,
+            sink,
+        )
+    }
 }
 
 /// Past an instruction that took these bytes, if any: its value, if it has one, is handed over, and the spot is behind it.
@@ -112,4 +215,37 @@ fn hand_behind<S: Sink>(
         }
         Err(_) => Went::Stopped,
     }
+}
+
+/// The presence bit of the next instruction, which counts as set where there is none. Where it is the last one in the word, the
+/// general way has to use it.
+#[inline(always)]
+fn bit_at(place: &Place<'_>, has_bit: bool) -> Option<bool>
+    ensures bit { IfSome result (λ b. (c : CursorData) → IsPlaceOf c place.now
+        → b ≡ if has_bit then first_bit (bits_left (at_place c place.now)) else true) }
+    ensures more { IfSome result (λ b. has_bit ≡ true → 1 < place.now.map.left) }
+{
+    if !has_bit {
+        return Some(true);
+    }
+    if place.is_spent() {
+        return None;
+    }
+    Some(place.bit())
+}
+
+/// The place behind a bit, if there is one.
+#[inline(always)]
+fn behind_bit<'t>(place: Place<'t>, has_bit: bool) -> Place<'t>
+    requires more { has_bit ≡ true → 1 < place.map.left }
+    ensures bits { (c : CursorData) → IsPlaceOf c place.entry → bits_left (at_place c result)
+        ≡ if has_bit then later_bits (bits_left (at_place c place.entry)) else bits_left (at_place c place.entry) }
+    ensures left { place_left result ≡ place_left place.entry }
+    ensures place { (c : CursorData) → IsPlaceOf c place.entry → IsPlaceOf c result }
+{
+    let mut place = place;
+    if has_bit {
+        place.use_bit();
+    }
+    place
 }

@@ -182,13 +182,20 @@ pub fn mantissa_part(
     }
 }
 
-/// Whether what is kept at the exponent's entry leaves the mantissa's.
+/// Whether what an exponent keeps that took these bytes, if any, leaves the mantissa's entry as it is.
 #[inline(always)]
-pub fn have_own_entries(exponent: &FieldInstruction, mantissa: &FieldInstruction) -> bool
-    ensures { result ≡ true → (p : PreviousData) (d : Dictionary)
+pub fn leaves_mantissa(
+    exponent: &FieldInstruction,
+    mantissa: &FieldInstruction,
+    bytes: usize,
+) -> bool
+    ensures { result ≡ true → 0 < bytes → (p : PreviousData) (d : Dictionary)
         → previous_at (field_data mantissa.now).entry (write_at (field_data exponent.now).entry p d)
         ≡ previous_at (field_data mantissa.now).entry d }
 {
+    if bytes == 0 {
+        return true;
+    }
     match (exponent.entry, mantissa.entry) {
         (Some(first), Some(second)) => first != second,
         _ => true,
