@@ -25,7 +25,7 @@ use fast_program::Op;
 use fast_stream::Sink;
 use fast_template::{FieldInstruction, Operator, Shape, Templates};
 use fast_units::decimal_items::sent_decimal;
-use fast_units::decimal_parts::{exponent_part, leaves_mantissa, keep_part, mantissa_part};
+use fast_units::decimal_parts::{exponent_part, keep_part, leaves_mantissa, mantissa_part};
 use fast_value::{Kind, Limits, Scalar};
 
 impl<'t> Machine<'t> {
@@ -108,15 +108,18 @@ impl<'t> Machine<'t> {
         let Some(bit) = bit_at(&spot.place, has_bit) else {
             return Went::Declined;
         };
-        match exponent_part(&self.slots, exponent, bit, spot.rest, limits.strict) {
-            Some((Some(number), used)) => self.mantissa_arm(
+        let strict = limits.strict;
+        let Some((part, used)) = exponent_part(&self.slots, exponent, bit, spot.rest, strict) else {
+            return Went::Declined;
+        };
+        match part {
+            Some(number) => self.mantissa_arm(
                 templates, limits, spot, op.node, exponent, mantissa, bit, number, used, sink,
             ),
-            Some((None, used)) => {
+            None => {
                 keep_part(&mut self.slots, exponent, Kind::Int32, None, used);
                 hand_behind(&mut self.turns, spot, op.node, has_bit, None, used, sink)
             }
-            None => Went::Declined,
         }
     }
 

@@ -1,6 +1,6 @@
 -- Decimals by parts: the reader of the exponent, then the reader of the mantissa.
 use Rattle.std.proofs.Common.{refl, sym, ap, ◌∙◌, subst, inl, inr, arith}
-use Rattle.std.specs.Prelude.{◌≡◌, ◌⊎◌, ℕ, zero, suc, ◌+◌, ◌-◌, ◌<◌, ◌≤◌, Bool, true, false, List, [], ◌++◌, length, take, drop, ℤ, Option, Some, None, Ok, option_map, if◌then◌else◌}
+use Rattle.std.specs.Prelude.{◌≡◌, ◌⊎◌, ℕ, zero, suc, ◌+◌, ◌-◌, ◌<◌, ◌≤◌, Bool, true, false, List, [], ◌++◌, length, take, drop, slice_get, ℤ, Option, Some, None, Ok, option_map, if◌then◌else◌}
 use Rattle.std.proofs.lemmas.List.{length-drop, take_rest}
 use Rattle.std.proofs.Math.Seq.{take-add}
 use Rattle.fast_wire.specs.meaning.Integers.{IsWithin, exponent_range}
@@ -10,7 +10,11 @@ use Rattle.fast_value.specs.declared.settings.Limits.{Limits}
 use Rattle.fast_value.specs.meaning.Kinds.{ScalarData, I, Dec}
 use Rattle.fast_value.specs.meaning.Limits.{Bounds, bounds}
 use Rattle.fast_tree.specs.declared.instructions.FieldInstruction.{FieldInstruction}
+use Rattle.fast_tree.specs.declared.instructions.Node.{Node}
+use Rattle.fast_tree.specs.declared.instructions.Shape.TheVariants.{Decimal}
 use Rattle.fast_tree.specs.device.Nodes.{field_data}
+use Rattle.fast_template.specs.declared.sets.Templates.{Templates}
+use Rattle.fast_program.specs.declared.ops.Op.{Op}
 use Rattle.fast_tree.specs.meaning.Tree.{FieldData, uses_bit, parts}
 use Rattle.fast_dict.specs.declared.slots.Slots.{Slots}
 use Rattle.fast_dict.specs.meaning.Dictionary.{Dictionary, PreviousData, previous_at, write_at}
@@ -37,12 +41,28 @@ use Rattle.fast_cursor.specs.device.Cursors.{CursorData, bits_left}
 use Rattle.fast_cursor.specs.device.Places.{place_left, at_place, IsPlaceOf}
 use Rattle.fast_decoder.specs.declared.machine.Machine.{Machine}
 use Rattle.fast_decoder.specs.declared.spot.Spot.{Spot}
-use Rattle.fast_decoder.specs.device.Arms.{placed}
+use Rattle.fast_decoder.specs.device.Arms.{placed, IsAtSpot, IsAtOp}
 use Rattle.fast_decoder.specs.device.Parts.{bit_at_place, IsAtDecimal, IsLedTo}
 use Rattle.fast_decoder.specs.device.Passing.{value_then}
-use Rattle.fast_decoder.specs.device.Positions.{Set, body_in, frames_in, bit_of, turning}
+use Rattle.fast_decoder.specs.device.Positions.{Set, body_in, frames_in, bit_of, set_of, turning}
+use Rattle.fast_decoder.proofs.fields.Heads.{parts_head}
+use Rattle.fast_decoder.proofs.fields.ScalarNodes.{served_node}
 use Rattle.fast_decoder.proofs.fields.SentFields.{field_sent, field_unsent}
 use Rattle.fast_decoder.proofs.steps.FieldTurns.{serves_here, serves_known, can_turn_slots, state_of, behind, parts_next}
+
+-- The op's node is a decimal by these parts.
+pub at_decimal : (t : Templates) (l : Limits) (m : Machine) (p : Place) (op : Op) → IsAtSpot (set_of t) l m p → IsAtOp (set_of t) p op → (x : Node) → slice_get t.nodes.items op.node ≡ Some x → (e f : FieldInstruction) → x.shape ≡ Decimal e f
+    → IsAtDecimal (set_of t) l m p op.node e f
+at_decimal t l m p op spot at x found e f is =
+    let served = served_node (set_of t) l (placed m p) op.node x (Decimal e f) spot.can.supplied found is in
+    record {
+      spot = spot;
+      next = parts_head t (at_place m.cursor p) op.node x at.1 found e f is;
+      exponent = served.0;
+      mantissa = served.1;
+      exponent_kind = served.2;
+      mantissa_kind = served.3;
+    }
 
 -- no bytes, or some
 some_or : (n : ℕ) → (n ≡ 0) ⊎ (0 < n)
