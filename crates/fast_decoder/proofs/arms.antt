@@ -8,3 +8,5 @@ pub mod Ends
 pub mod Walks
 pub mod Ops
 pub mod Texts
+pub mod Led
+pub mod Parts

@@ -12,3 +12,4 @@ pub mod Words
 pub mod Steps
 pub mod Arms
 pub mod Opening
+pub mod Parts

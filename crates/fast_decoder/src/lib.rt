@@ -1,6 +1,7 @@
 //! The decoder of FAST streams: bytes in pieces go in, events come out.
 #![tactic(auto)]
 
+mod decimal_arms;
 pub mod decoder;
 pub mod in_hand;
 mod integer_arms;

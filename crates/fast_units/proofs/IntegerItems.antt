@@ -30,7 +30,7 @@ use Rattle.fast_units.proofs.Deciding.{decided_as, write_same, absent_decided, v
 use Rattle.fast_units.proofs.ShortIntegers.{no_texts, item_unit, delta_unit}
 
 -- A number, or NULL, that is sent under no delta, where the entry, if there is one, holds it.
-item_kept : {n : ℕ} {t : Terms} (f : FieldData) → Serves n t f → family f.kind ≡ integers (range_of f.kind) → (old new : Dictionary) (item : Option Number)
+pub item_kept : {n : ℕ} {t : Terms} (f : FieldData) → Serves n t f → family f.kind ≡ integers (range_of f.kind) → (old new : Dictionary) (item : Option Number)
     → f.operator ≢ Op.Delta → f.operator ≢ Op.Constant → new ≡ write_at f.entry (item_held f.kind item) old
     → IsDecided (decide f (previous_at f.entry old) true (sent_number item)) f old new (Ok (source_of item))
 item_kept f serves is old new None no_delta no_constant kept = null_decided f serves (no_texts f is) old new no_delta no_constant kept

@@ -11,6 +11,7 @@ pub mod OpenUnits
 pub mod ScalarTakes
 pub mod IntegerItems
 pub mod DecimalItems
+pub mod DecimalParts
 pub mod TextItems
 pub mod ShortTexts
 pub mod WholeTexts

@@ -10,5 +10,6 @@ pub mod TextDecisions
 pub mod Words
 pub mod FieldsAs
 pub mod IntegerItems
+pub mod DecimalParts
 pub mod TextItems
 pub mod TextsAs

@@ -30,7 +30,7 @@ use fast_wire::{whole_delta, whole_signed};
 
 /// An exponent in range.
 #[inline(always)]
-fn exponent_in(exponent: i64) -> i32
+pub(crate) fn exponent_in(exponent: i64) -> i32
     requires low { neg_ℤ (pos 63) ≤ℤ exponent }
     requires high { exponent ≤ℤ pos 63 }
     ensures { result ≡ exponent }
@@ -40,7 +40,11 @@ fn exponent_in(exponent: i64) -> i32
 
 /// An exponent, or NULL where it may be, and its length.
 #[inline(always)]
-fn whole_exponent(rest: &[u8], optional: bool, strict: bool) -> Option<(Option<i32>, usize)>
+pub(crate) fn whole_exponent(
+    rest: &[u8],
+    optional: bool,
+    strict: bool,
+) -> Option<(Option<i32>, usize)>
     ensures { IfSome result (λ r. IsFirstInt (λ y. y) strict exponent_range optional (Whole r.0 r.1) rest.now) }
 {
     match whole_delta(rest, optional, strict)? {
@@ -56,7 +60,7 @@ fn whole_exponent(rest: &[u8], optional: bool, strict: bool) -> Option<(Option<i
 
 /// A mantissa and its length.
 #[inline(always)]
-fn whole_mantissa(rest: &[u8], strict: bool) -> Option<(i64, usize)>
+pub(crate) fn whole_mantissa(rest: &[u8], strict: bool) -> Option<(i64, usize)>
     ensures { IfSome result (λ r. IsFirstInt (λ y. Some y) strict (signed_range 63) false (Whole r.0 r.1) rest.now) }
 {
     match whole_signed(rest, false, strict, i64::MIN, i64::MAX)? {

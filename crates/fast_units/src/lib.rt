@@ -3,6 +3,7 @@
 
 pub mod ascii_items;
 pub mod decimal_items;
+pub mod decimal_parts;
 pub mod decimals;
 pub mod fields;
 pub mod integer_items;

@@ -1,0 +1,254 @@
+//! Decimals in the machine's loop: of one field, or by parts.
+
+ghost use Rattle.std.specs.Prelude.{◌≡◌, ◌≢◌, ◌<◌, ◌≤◌, true, if◌then◌else◌, length, Some, IfSome, option_map};
+ghost use Rattle.fast_wire.specs.meaning.Integers.{IsWithin, exponent_range};
+ghost use Rattle.fast_wire.specs.meaning.Maps.{first_bit, later_bits};
+ghost use Rattle.fast_value.specs.declared.settings.Limits.{Limits};
+ghost use Rattle.fast_value.specs.meaning.Values.{scalar_data};
+ghost use Rattle.fast_tree.specs.meaning.Tree.{FieldData, uses_bit};
+ghost use Rattle.fast_tree.specs.device.Nodes.{field_data};
+ghost use Rattle.fast_cursor.specs.device.Cursors.{CursorData, bits_left};
+ghost use Rattle.fast_cursor.specs.device.Places.{place_left, at_place, IsPlaceOf};
+ghost use Rattle.fast_units.specs.device.DecimalParts.{IsPart};
+ghost use Rattle.fast_decoder.specs.declared.machine.Machine.{Machine};
+ghost use Rattle.fast_decoder.specs.declared.spot.Spot.{Spot};
+ghost use Rattle.fast_decoder.specs.device.Arms.{IsAtSpot, IsAtOp, IsFieldOp, HasWent};
+ghost use Rattle.fast_decoder.specs.device.Parts.{IsPartsOp, IsAtDecimal, IsLedTo, bit_at_place};
+ghost use Rattle.fast_decoder.specs.device.Positions.{Set, set_of};
+
+use crate::integer_arms::scalar_of;
+use crate::machine::{Machine, Turn};
+use crate::spot::{Spot, Standing, Went, hand_taken, pass_value, stands};
+use crate::turns::Turns;
+use fast_cursor::place::Place;
+use fast_program::Op;
+use fast_stream::Sink;
+use fast_template::{FieldInstruction, Operator, Shape, Templates};
+use fast_units::decimal_items::sent_decimal;
+use fast_units::decimal_parts::{exponent_part, keep_part, leaves_mantissa, mantissa_part};
+use fast_value::{Kind, Limits, Scalar};
+
+impl<'t> Machine<'t> {
+    /// A field of decimals, whole.
+    #[inline(always)]
+    pub fn decimal_arm<S: Sink>(
+        &mut self,
+        templates: &'t Templates,
+        limits: Limits,
+        spot: &mut Spot<'t, '_>,
+        op: Op,
+        operator: Operator,
+        optional: bool,
+        sink: &mut S,
+    ) -> Went
+        requires no_constant { operator ≢ Operator.Constant }
+        requires spot { IsAtSpot (set_of templates.now) limits self.old spot.old.place }
+        requires at { IsAtOp (set_of templates.now) spot.old.place op }
+        requires field { IsFieldOp (set_of templates.now) op Kind.Decimal operator optional }
+        ensures went { HasWent S.takes S.stops (set_of templates.now) limits self.old spot.old sink.old result sink.new
+            self.new spot.new }
+    {
+        let has_bit = operator.uses_bit(optional);
+        match stands(&spot.place, has_bit) {
+            Standing::Spent => Went::Declined,
+            Standing::Unsent => self.unsent_integer_arm(
+                templates,
+                limits,
+                spot,
+                op,
+                Kind::Decimal,
+                operator,
+                optional,
+                sink,
+            ),
+            Standing::Sent => {
+                match sent_decimal(
+                    &mut self.slots,
+                    op.entry,
+                    optional,
+                    operator,
+                    spot.rest,
+                    limits.strict,
+                ) {
+                    Some(taken) => hand_taken(
+                        &mut self.turns,
+                        spot,
+                        op.node,
+                        has_bit,
+                        scalar_of(taken.item),
+                        taken.bytes,
+                        sink,
+                    ),
+                    None => Went::Declined,
+                }
+            }
+        }
+    }
+
+    /// A decimal by parts: both parts at once, or nothing of it.
+    #[inline(always)]
+    pub fn parts_arm<S: Sink>(
+        &mut self,
+        templates: &'t Templates,
+        limits: Limits,
+        spot: &mut Spot<'t, '_>,
+        op: Op,
+        sink: &mut S,
+    ) -> Went
+        requires spot { IsAtSpot (set_of templates.now) limits self.old spot.old.place }
+        requires at { IsAtOp (set_of templates.now) spot.old.place op }
+        requires parts { IsPartsOp (set_of templates.now) op }
+        ensures went { HasWent S.takes S.stops (set_of templates.now) limits self.old spot.old sink.old result sink.new
+            self.new spot.new }
+    {
+        let Shape::Decimal { exponent, mantissa } = &templates.node(u32::from(op.node)).shape else {
+            return Went::Declined;
+        };
+        let has_bit = exponent.uses_bit();
+        let Some(bit) = bit_at(&spot.place, has_bit) else {
+            return Went::Declined;
+        };
+        let strict = limits.strict;
+        let Some((part, used)) = exponent_part(&self.slots, exponent, bit, spot.rest, strict) else {
+            return Went::Declined;
+        };
+        match part {
+            Some(number) => self.mantissa_arm(
+                templates, limits, spot, op.node, exponent, mantissa, bit, number, used, sink,
+            ),
+            None => {
+                keep_part(&mut self.slots, exponent, Kind::Int32, None, used);
+                hand_behind(&mut self.turns, spot, op.node, has_bit, None, used, sink)
+            }
+        }
+    }
+
+    /// The mantissa behind an exponent, which took these bytes, if any.
+    #[inline(always)]
+    fn mantissa_arm<S: Sink>(
+        &mut self,
+        templates: &'t Templates,
+        limits: Limits,
+        spot: &mut Spot<'t, '_>,
+        node: u16,
+        exponent: &FieldInstruction,
+        mantissa: &FieldInstruction,
+        bit: bool,
+        number: i32,
+        used: usize,
+        sink: &mut S,
+    ) -> Went
+        requires decimal { IsAtDecimal (set_of templates.now) limits self.old spot.old.place node exponent.now
+            mantissa.now }
+        requires more { uses_bit (field_data exponent.now) ≡ true → 1 < spot.old.place.map.left }
+        requires bit { bit ≡ bit_at_place self.old.cursor spot.old.place (field_data exponent.now) }
+        requires part { IsPart exponent.now bit limits.strict spot.old.rest.now self.old.slots (Some number) used }
+        requires within { IsWithin exponent_range number }
+        ensures went { HasWent S.takes S.stops (set_of templates.now) limits self.old spot.old sink.old result sink.new
+            self.new spot.new }
+    {
+        let place = behind_bit(spot.place, exponent.uses_bit());
+        let has_bit = mantissa.uses_bit();
+        let Some(set) = bit_at(&place, has_bit) else {
+            return Went::Declined;
+        };
+        let behind = &spot.rest[used..];
+        let Some((value, bytes)) = mantissa_part(&self.slots, mantissa, set, behind, limits.strict)
+        else {
+            return Went::Declined;
+        };
+        if !leaves_mantissa(exponent, mantissa, used) {
+            return Went::Declined;
+        }
+        keep_part(
+            &mut self.slots,
+            exponent,
+            Kind::Int32,
+            Some(i64::from(number)),
+            used,
+        );
+        keep_part(&mut self.slots, mantissa, Kind::Int64, Some(value), bytes);
+        spot.place = place;
+        let decimal = Scalar::Dec {
+            exponent: number,
+            mantissa: value,
+        };
+        hand_behind(
+            &mut self.turns,
+            spot,
+            node,
+            has_bit,
+            Some(decimal),
+            used + bytes,
+            sink,
+        )
+    }
+}
+
+/// Past an instruction that took these bytes, if any: its value, if it has one, is handed over, and the spot is behind it.
+#[inline(always)]
+fn hand_behind<S: Sink>(
+    turns: &mut Turns,
+    spot: &mut Spot<'_, '_>,
+    node: u16,
+    has_bit: bool,
+    value: Option<Scalar<'_>>,
+    bytes: usize,
+    sink: &mut S,
+) -> Went
+    requires left { 0 < length (place_left spot.old.place) }
+    requires bit { has_bit ≡ true → 1 < spot.old.place.map.left }
+    requires within { bytes ≤ length spot.old.rest.now }
+    ensures went { (set : Set) (l : Limits) (m m1 : Machine) (from : Spot) (f : FieldData) → has_bit ≡ uses_bit f
+        → turns.old ≡ m.turns → from.rest.now ≡ spot.old.rest.now
+        → IsLedTo set l m m1 from spot.old.place node f (option_map scalar_data value.entry) bytes
+        → HasWent S.takes S.stops set l m from sink.old result sink.new (record m1 { turns = turns.new }) spot.new }
+{
+    *turns = Turns::after(turns);
+    spot.rest = &spot.rest[bytes..];
+    match pass_value(&mut spot.place, u32::from(node), has_bit, value, sink) {
+        Ok(turn) => {
+            if bytes > 0 {
+                return Went::Took;
+            }
+            match turn {
+                Turn::Handed => Went::Handed,
+                _ => Went::Silent,
+            }
+        }
+        Err(_) => Went::Stopped,
+    }
+}
+
+/// The presence bit of the next instruction, which counts as set where there is none. Where it is the last one in the word, the
+/// general way has to use it.
+#[inline(always)]
+fn bit_at(place: &Place<'_>, has_bit: bool) -> Option<bool>
+    ensures bit { IfSome result (λ b. (c : CursorData) → IsPlaceOf c place.now
+        → b ≡ if has_bit then first_bit (bits_left (at_place c place.now)) else true) }
+    ensures more { IfSome result (λ b. has_bit ≡ true → 1 < place.now.map.left) }
+{
+    if !has_bit {
+        return Some(true);
+    }
+    if place.is_spent() {
+        return None;
+    }
+    Some(place.bit())
+}
+
+/// The place behind a bit, if there is one.
+#[inline(always)]
+fn behind_bit<'t>(place: Place<'t>, has_bit: bool) -> Place<'t>
+    requires more { has_bit ≡ true → 1 < place.map.left }
+    ensures bits { (c : CursorData) → IsPlaceOf c place.entry → bits_left (at_place c result)
+        ≡ if has_bit then later_bits (bits_left (at_place c place.entry)) else bits_left (at_place c place.entry) }
+    ensures left { place_left result ≡ place_left place.entry }
+    ensures place { (c : CursorData) → IsPlaceOf c place.entry → IsPlaceOf c result }
+{
+    let mut place = place;
+    if has_bit {
+        place.use_bit();
+    }
+    place
+}

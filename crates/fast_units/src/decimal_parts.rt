@@ -1,0 +1,227 @@
+//! Exponents and mantissas of decimals by parts, which stand in the piece whole, or of which nothing is sent. They are looked
+//! at first and kept later: a mantissa that is not taken leaves the exponent's entry as it is.
+//!
+//! `None` stands for all else, faults included: the general way finds out. In an answer, `None` is absent.
+
+ghost use Rattle.std.specs.Prelude.{◌≡◌, ◌≢◌, ◌<◌, true, false, ℕ, Some, IfSome, option_map};
+ghost use Rattle.fast_value.specs.meaning.Kinds.{I, IsWithin, exponent_range};
+ghost use Rattle.fast_tree.specs.device.Nodes.{field_data};
+ghost use Rattle.fast_dict.specs.meaning.Dictionary.{Dictionary, PreviousData, assigned, previous_at, write_at};
+ghost use Rattle.fast_dict.specs.meaning.Slots.{slots_terms};
+ghost use Rattle.fast_units.specs.device.Deciding.{needs_bytes, number_data};
+ghost use Rattle.fast_units.specs.device.DecimalParts.{part_item, KeepsPart, IsPart, IsPartBy, IsPartKnown};
+ghost use Rattle.fast_units.specs.device.IntegerItems.{item_held};
+ghost use Rattle.fast_units.specs.device.Words.{HasEntryOf, ServesField, previous_of};
+
+use crate::decimal_items::{exponent_in, whole_exponent, whole_mantissa};
+use crate::fields::{Number, assign_empty, needs_bytes};
+use crate::short_integers::keep_integer;
+use fast_dict::{Entry, Slots};
+use fast_tree::{FieldInstruction, Operator};
+use fast_value::{Kind, Value};
+
+/// What the field's entry holds, if that is a signed integer of the kind, or nothing.
+#[inline(always)]
+fn held_part(slots: &Slots, field: &FieldInstruction, kind: Kind) -> Option<Option<i64>>
+    requires within { HasEntryOf slots.now field.now }
+    ensures { IfSome result (λ r. previous_of slots.now field.now ≡ item_held kind (part_item r)) }
+{
+    let entry = field.entry?;
+    match (kind, slots.held(entry as usize)) {
+        (Kind::Int32, Entry::Int32(number)) => Some(Some(number)),
+        (Kind::Int64, Entry::Int64(number)) => Some(Some(number)),
+        (_, Entry::Empty) => Some(None),
+        _ => None,
+    }
+}
+
+/// The initial value, if that is a signed integer, or none.
+#[inline(always)]
+fn initial_part(field: &FieldInstruction) -> Option<Option<i64>>
+    ensures { IfSome result (λ r. (field_data field.now).initial ≡ option_map number_data (part_item r)) }
+{
+    match &field.initial {
+        Some(Value::I(number)) => Some(Some(*number)),
+        None => Some(None),
+        _ => None,
+    }
+}
+
+/// A part of which nothing is sent: a constant, under default the initial value, under copy what the entry holds.
+#[inline(always)]
+fn known_part(slots: &Slots, field: &FieldInstruction, kind: Kind, bit: bool) -> Option<Option<i64>>
+    requires no_bytes { needs_bytes field.now.operator bit ≡ false }
+    requires kind { field.now.kind ≡ kind }
+    requires within { HasEntryOf slots.now field.now }
+    ensures { IfSome result (IsPartKnown field.now bit slots.now) }
+{
+    match field.operator {
+        Operator::Constant if !bit => Some(None),
+        Operator::Constant => initial_part(field),
+        Operator::Default => initial_part(field),
+        Operator::Copy => match held_part(slots, field, kind)? {
+            Some(number) => Some(Some(number)),
+            None if field.optional => Some(None),
+            None => None,
+        },
+        _ => None,
+    }
+}
+
+/// An exponent that is sent, or NULL, and the bytes that it takes.
+#[inline(always)]
+fn sent_exponent(
+    slots: &Slots,
+    field: &FieldInstruction,
+    rest: &[u8],
+    strict: bool,
+) -> Option<(Option<i32>, usize)>
+    requires kind { field.now.kind ≡ Kind.Int32 }
+    requires no_constant { field.now.operator ≢ Operator.Constant }
+    ensures part { IfSome result (λ r. IsPartBy true field.now true strict rest.now slots.now r.0 r.1) }
+    ensures within { IfSome result (λ r. IfSome r.0 (IsWithin exponent_range)) }
+{
+    let _ = slots;
+    match field.operator {
+        Operator::Delta => None,
+        _ => whole_exponent(rest, field.optional, strict),
+    }
+}
+
+/// An exponent of which nothing is sent.
+#[inline(always)]
+fn known_exponent(slots: &Slots, field: &FieldInstruction, bit: bool) -> Option<Option<i32>>
+    requires no_bytes { needs_bytes field.now.operator bit ≡ false }
+    requires kind { field.now.kind ≡ Kind.Int32 }
+    requires within { HasEntryOf slots.now field.now }
+    ensures known { IfSome result (IsPartKnown field.now bit slots.now) }
+    ensures within { IfSome result (λ r. IfSome r (IsWithin exponent_range)) }
+{
+    match known_part(slots, field, Kind::Int32, bit)? {
+        Some(exponent) => {
+            if exponent < -63 || exponent > 63 {
+                return None;
+            }
+            Some(Some(exponent_in(exponent)))
+        }
+        None => Some(None),
+    }
+}
+
+/// An exponent and the bytes that it takes: in its range, or absent. The bit is its presence bit, set if it has none.
+#[inline(always)]
+pub fn exponent_part(
+    slots: &Slots,
+    field: &FieldInstruction,
+    bit: bool,
+    rest: &[u8],
+    strict: bool,
+) -> Option<(Option<i32>, usize)>
+    requires kind { field.now.kind ≡ Kind.Int32 }
+    requires within { HasEntryOf slots.now field.now }
+    ensures part { IfSome result (λ r. IsPart field.now bit strict rest.now slots.now r.0 r.1) }
+    ensures within { IfSome result (λ r. IfSome r.0 (IsWithin exponent_range)) }
+{
+    if needs_bytes(field, bit) {
+        let (exponent, bytes) = sent_exponent(slots, field, rest, strict)?;
+        return Some((exponent, bytes));
+    }
+    let exponent = known_exponent(slots, field, bit)?;
+    Some((exponent, 0))
+}
+
+/// A mandatory mantissa that is sent, and the bytes that it takes. Under delta the entry has to hold one.
+#[inline(always)]
+fn sent_mantissa(
+    slots: &Slots,
+    field: &FieldInstruction,
+    rest: &[u8],
+    strict: bool,
+) -> Option<(i64, usize)>
+    requires kind { field.now.kind ≡ Kind.Int64 }
+    requires no_constant { field.now.operator ≢ Operator.Constant }
+    requires within { HasEntryOf slots.now field.now }
+    ensures { IfSome result (λ r. IsPartBy true field.now true strict rest.now slots.now (Some r.0) r.1) }
+{
+    if field.optional {
+        return None;
+    }
+    let (number, bytes) = whole_mantissa(rest, strict)?;
+    match field.operator {
+        Operator::Delta => match held_part(slots, field, Kind::Int64)? {
+            Some(base) => {
+                let sum = base.checked_add(number)?;
+                Some((sum, bytes))
+            }
+            None => None,
+        },
+        _ => Some((number, bytes)),
+    }
+}
+
+/// A mantissa that is there, and the bytes that it takes. The bit is its presence bit, set if it has none.
+#[inline(always)]
+pub fn mantissa_part(
+    slots: &Slots,
+    field: &FieldInstruction,
+    bit: bool,
+    rest: &[u8],
+    strict: bool,
+) -> Option<(i64, usize)>
+    requires kind { field.now.kind ≡ Kind.Int64 }
+    requires within { HasEntryOf slots.now field.now }
+    ensures { IfSome result (λ r. IsPart field.now bit strict rest.now slots.now (Some r.0) r.1) }
+{
+    if needs_bytes(field, bit) {
+        let (number, bytes) = sent_mantissa(slots, field, rest, strict)?;
+        return Some((number, bytes));
+    }
+    match known_part(slots, field, Kind::Int64, bit)? {
+        Some(number) => Some((number, 0)),
+        None => None,
+    }
+}
+
+/// Whether what an exponent keeps that took these bytes, if any, leaves the mantissa's entry as it is.
+#[inline(always)]
+pub fn leaves_mantissa(
+    exponent: &FieldInstruction,
+    mantissa: &FieldInstruction,
+    bytes: usize,
+) -> bool
+    ensures { result ≡ true → 0 < bytes → (p : PreviousData) (d : Dictionary)
+        → previous_at (field_data mantissa.now).entry (write_at (field_data exponent.now).entry p d)
+        ≡ previous_at (field_data mantissa.now).entry d }
+{
+    if bytes == 0 {
+        return true;
+    }
+    match (exponent.entry, mantissa.entry) {
+        (Some(first), Some(second)) => first != second,
+        _ => true,
+    }
+}
+
+/// Keeps a part that took these bytes, or NULL. Where nothing is sent, the entry stays as it is.
+#[inline(always)]
+pub fn keep_part(
+    slots: &mut Slots,
+    field: &FieldInstruction,
+    kind: Kind,
+    number: Option<i64>,
+    bytes: usize,
+)
+    requires kind { kind ≡ field.now.kind }
+    requires within { HasEntryOf slots.old field.now }
+    ensures kept { 0 < bytes → KeepsPart field.now slots.old slots.new number }
+    ensures same { bytes ≡ 0 → slots.new ≡ slots.old }
+    ensures terms { slots_terms slots.new ≡ slots_terms slots.old }
+{
+    if bytes == 0 {
+        return;
+    }
+    match number {
+        Some(number) => keep_integer(slots, field, kind, Number::Signed(number)),
+        None => assign_empty(slots, field),
+    }
+}
