@@ -4,3 +4,4 @@ pub mod Taken
 pub mod Unsent
 pub mod Back
 pub mod Ends
+pub mod Lengths
