@@ -5,3 +5,4 @@ pub mod Unsent
 pub mod Back
 pub mod Ends
 pub mod Lengths
+pub mod Groups

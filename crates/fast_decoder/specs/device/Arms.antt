@@ -29,7 +29,7 @@ use Rattle.fast_decoder.specs.declared.machine.Turn.TheVariants.{Silent, Handed,
 use Rattle.fast_decoder.specs.declared.machine.Waiting.TheVariants.{Field}
 use Rattle.fast_decoder.specs.declared.spot.Spot.{Spot}
 use Rattle.fast_decoder.specs.declared.spot.Went.{Went}
-use Rattle.fast_decoder.specs.device.Passing.{length_then}
+use Rattle.fast_decoder.specs.device.Passing.{group_from, length_then}
 use Rattle.fast_decoder.specs.device.Positions.{Set, state_in, bit_of, IsAtField, IsAtSequence, CanTurn, turning}
 use Rattle.fast_decoder.specs.device.Steps.{IsStep}
 
@@ -99,6 +99,12 @@ pub record IsLengthTaken (set : Set) (l : Limits) (m : Machine) (from : Spot) (n
   pub some : 0 < n
   pub within : n ≤ length from.rest.now
   pub turns : Turns (turning set l (placed m from.place)) (take n from.rest.now) (reader_of l.strict (length_then set (bounds l) node value f body (slots_dictionary m.slots) m.counted (at_place m.cursor from.place)))
+
+-- From the first spot to the second the bit of the next instruction is used, a group that is there, if it has one.
+pub record IsGroupHere (set : Set) (l : Limits) (m : Machine) (from to : Spot) (node : ℕ) (body : List ℕ) : Type 0 where
+  pub rest : to.rest.now ≡ from.rest.now
+  pub left : place_left to.place ≡ place_left from.place
+  pub begins : turning set l (placed m from.place) ≡ reader_of l.strict (group_from set (bounds l) node body (slots_dictionary m.slots) m.counted (at_place m.cursor to.place))
 
 -- Nothing is sent of the field at the next node, and it has this value, or none.
 pub record IsFieldUnsent (set : Set) (l : Limits) (m m' : Machine) (p : Place) (node : ℕ) (f : FieldData) (bit : Bool) (value : Option ScalarData) : Type 0 where
