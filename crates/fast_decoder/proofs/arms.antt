@@ -10,3 +10,5 @@ pub mod Ops
 pub mod Texts
 pub mod Led
 pub mod Parts
+pub mod Lengths
+pub mod Groups

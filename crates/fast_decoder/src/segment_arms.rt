@@ -1,22 +1,31 @@
 //! The arms of the machine's loop for segments and messages.
 
-ghost use Rattle.std.specs.Prelude.{◌≡◌, ◌+◌, ℕ, [], drop, IfErr, Ok};
-ghost use Rattle.fast_cursor.specs.device.Places.{place_left};
+ghost use Rattle.std.specs.Prelude.{◌≡◌, ◌+◌, ◌<◌, ◌≤◌, ℕ, Bool, [], drop, length, slice_get, slice_index, IfErr, Some, Ok};
+ghost use Rattle.fast_value.specs.meaning.Kinds.{U};
+ghost use Rattle.fast_value.specs.meaning.Limits.{bounds};
+ghost use Rattle.fast_tree.specs.declared.instructions.Node.{Node};
+ghost use Rattle.fast_tree.specs.device.Numbers.{AreBelow};
+ghost use Rattle.fast_tree.specs.meaning.Tree.{FieldData, bits_of};
+ghost use Rattle.fast_program.specs.device.Codes.{IsGroupCoded, IsSequenceCoded};
+ghost use Rattle.fast_stream.specs.meaning.Messages.{within_limits};
+ghost use Rattle.fast_cursor.specs.device.Places.{place_left, at_place};
 ghost use Rattle.fast_stream.specs.declared.faults.FaultCode.{FaultCode};
-ghost use Rattle.fast_decoder.specs.device.Arms.{placed, IsAnswer, IsAtSpot, HasWent};
+ghost use Rattle.fast_decoder.specs.device.Arms.{placed, IsAnswer, IsAtOp, IsAtSpot, IsGroupHere, IsLengthTaken, HasWent};
 ghost use Rattle.fast_decoder.specs.device.Opening.{opened_result, opened_by};
-ghost use Rattle.fast_decoder.specs.device.Positions.{set_of, CanTurn};
+ghost use Rattle.fast_decoder.specs.device.Positions.{set_of, body_in, IsAtGroup, CanTurn};
 ghost use Rattle.fast_decoder.specs.device.Steps.{IsStep};
 ghost use Rattle.fast_decoder.specs.declared.machine.Machine.{Machine};
 ghost use Rattle.fast_decoder.specs.declared.spot.Spot.{Spot};
 
 use crate::machine::{Machine, Waiting};
-use crate::settling::hand;
+use crate::settling::{count_within, hand};
 use crate::spot::{Spot, Went};
 use crate::turns::Turns;
+use fast_program::Op;
 use fast_stream::{Event, FaultCode, Sink};
-use fast_template::Templates;
+use fast_template::{Shape, Templates};
 use fast_value::Limits;
+use fast_wire::whole_unsigned;
 
 impl<'t> Machine<'t> {
     /// Behind the event at which a segment begins, or none does: takes the segment's map, if it has one and the piece goes on with one
@@ -113,5 +122,151 @@ impl<'t> Machine<'t> {
             Ok(_) => Went::Took,
             Err(_) => Went::Stopped,
         }
+    }
+
+    /// The next instruction, a sequence whose length has no operator: its length, and what follows. A length beyond the limits is for the
+    /// general way.
+    #[inline(always)]
+    pub fn sequence_arm<S: Sink>(
+        &mut self,
+        templates: &'t Templates,
+        limits: Limits,
+        spot: &mut Spot<'t, '_>,
+        op: Op,
+        optional: bool,
+        sink: &mut S,
+    ) -> Went
+        requires spot { IsAtSpot (set_of templates.now) limits self.old spot.old.place }
+        requires at { IsAtOp (set_of templates.now) spot.old.place op }
+        requires sequence { (x : Node) → slice_get (set_of templates.now).nodes op.node ≡ Some x
+            → IsSequenceCoded optional x.shape }
+        ensures went { HasWent S.takes S.stops (set_of templates.now) limits self.old spot.old sink.old result sink.new
+            self.new spot.new }
+    {
+        let node = u32::from(op.node);
+        let Shape::Sequence { body, .. } = &templates.node(node).shape else {
+            unreachable!()
+        };
+        let read = whole_unsigned(spot.rest, optional, limits.strict, 4_294_967_295);
+        let Some((claimed, bytes)) = read else {
+            return Went::Declined;
+        };
+        let Some(claimed) = claimed else {
+            self.turns = Turns::after(&self.turns);
+            spot.rest = &spot.rest[bytes..];
+            spot.place.advance();
+            return Went::Took;
+        };
+        match count_within(limits, self.counted, u128::from(claimed)) {
+            Err(_) => Went::Declined,
+            Ok(count) => {
+                let body = body.as_slice();
+                self.elements_arm(templates, limits, spot, node, body, count, bytes, sink)
+            }
+        }
+    }
+
+    /// Behind the length of the next instruction, a sequence of so many elements.
+    #[inline(always)]
+    fn elements_arm<S: Sink>(
+        &mut self,
+        templates: &'t Templates,
+        limits: Limits,
+        spot: &mut Spot<'t, '_>,
+        node: u32,
+        body: &'t [u32],
+        count: u32,
+        bytes: usize,
+        sink: &mut S,
+    ) -> Went
+        requires length { (f : FieldData) × (claimed : ℕ)
+            × IsLengthTaken (set_of templates.now) limits self.old spot.old node f body.now (Some (U claimed)) bytes
+            × (within_limits (bounds limits) self.old.counted claimed ≡ Ok count) }
+        requires total { self.old.counted + count ≤ limits.max_total }
+        requires node { node < length (set_of templates.now).nodes }
+        requires width { slice_index self.old.widths.nodes.items node
+            ≡ bits_of (body_in (set_of templates.now) body.now) }
+        requires below { AreBelow (length (set_of templates.now).nodes) body.now }
+        ensures went { HasWent S.takes S.stops (set_of templates.now) limits self.old spot.old sink.old result sink.new
+            self.new spot.new }
+    {
+        self.turns = Turns::after(&self.turns);
+        self.counted += count;
+        self.cursor.set_place(spot.place);
+        self.cursor.advance();
+        spot.rest = &spot.rest[bytes..];
+        if let Err(_) = hand(sink, Event::SequenceStart { node, count }) {
+            spot.stand(&self.cursor, 0);
+            return Went::Stopped;
+        }
+        let width = self.widths.nodes[node as usize];
+        let begun = self.begin_element(templates, limits, count, body, width, sink);
+        self.segment_arm(templates, limits, begun, Went::Took, spot, sink)
+    }
+
+    /// The next instruction, a group, and its map.
+    #[inline(always)]
+    pub fn group_arm<S: Sink>(
+        &mut self,
+        templates: &'t Templates,
+        limits: Limits,
+        spot: &mut Spot<'t, '_>,
+        op: Op,
+        optional: bool,
+        sink: &mut S,
+    ) -> Went
+        requires spot { IsAtSpot (set_of templates.now) limits self.old spot.old.place }
+        requires at { IsAtOp (set_of templates.now) spot.old.place op }
+        requires group { (x : Node) → slice_get (set_of templates.now).nodes op.node ≡ Some x
+            → IsGroupCoded optional x.shape }
+        ensures went { HasWent S.takes S.stops (set_of templates.now) limits self.old spot.old sink.old result sink.new
+            self.new spot.new }
+    {
+        let node = u32::from(op.node);
+        let Shape::Group { body, .. } = &templates.node(node).shape else {
+            unreachable!()
+        };
+        let body = body.as_slice();
+        if !optional {
+            return self.enter_arm(templates, limits, spot, node, body, sink);
+        }
+        if spot.place.is_spent() {
+            return Went::Declined;
+        }
+        if !spot.place.bit() {
+            self.turns = Turns::after(&self.turns);
+            spot.place.pass(true);
+            return Went::Silent;
+        }
+        spot.place.use_bit();
+        self.enter_arm(templates, limits, spot, node, body, sink)
+    }
+
+    /// The next instruction, a group that is there, whose bit is used, if it has one.
+    #[inline(always)]
+    fn enter_arm<S: Sink>(
+        &mut self,
+        templates: &'t Templates,
+        limits: Limits,
+        spot: &mut Spot<'t, '_>,
+        node: u32,
+        body: &'t [u32],
+        sink: &mut S,
+    ) -> Went
+        requires spot { IsAtSpot (set_of templates.now) limits self.old spot.old.place }
+        requires next { (optional : Bool)
+            × IsAtGroup (set_of templates.now) (at_place self.old.cursor spot.old.place) node optional body.now }
+        requires node { node < length (set_of templates.now).nodes }
+        requires width { slice_index self.old.widths.nodes.items node
+            ≡ bits_of (body_in (set_of templates.now) body.now) }
+        requires below { AreBelow (length (set_of templates.now).nodes) body.now }
+        ensures went { (from : Spot) → IsGroupHere (set_of templates.now) limits self.old from spot.old node body.now
+            → HasWent S.takes S.stops (set_of templates.now) limits self.old from sink.old result sink.new self.new
+            spot.new }
+    {
+        self.turns = Turns::after(&self.turns);
+        self.cursor.set_place(spot.place);
+        let begun = self.enter_group(templates, limits, node, body, sink);
+        self.segment_arm(templates, limits, begun, Went::Handed, spot, sink)
     }
 }

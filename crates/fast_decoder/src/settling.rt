@@ -739,7 +739,7 @@ fn signed_of(value: Scalar<'_>) -> i64
 
 /// The elements that a length claims, if they are within the limit of one sequence, and then within that of the message.
 #[inline]
-fn count_within(limits: Limits, counted: u32, claimed: u128) -> Result<u32, Code>
+pub fn count_within(limits: Limits, counted: u32, claimed: u128) -> Result<u32, Code>
     requires { counted ≤ limits.max_total }
     ensures count { result ≡ within_limits (bounds limits) counted claimed }
     ensures total { IfOk result (λ n. counted + n ≤ limits.max_total) }

@@ -1,9 +1,9 @@
 -- What an arm of the machine's loop does: the place in the innermost segment, and the rest of the piece, stand apart from the machine.
-use Rattle.std.specs.Prelude.{◌≡◌, ℕ, ◌<◌, ◌≤◌, Bool, true, length, take, drop, slice_get, Option, Some, Result, Ok, Err}
+use Rattle.std.specs.Prelude.{◌≡◌, ℕ, ◌<◌, ◌≤◌, Bool, true, false, List, length, take, drop, slice_get, Option, Some, Result, Ok, Err}
 use Rattle.fast_value.specs.declared.settings.Limits.{Limits}
 use Rattle.fast_value.specs.meaning.Limits.{bounds}
 use Rattle.fast_value.specs.meaning.Kinds.{ScalarData}
-use Rattle.fast_tree.specs.meaning.Tree.{FieldData}
+use Rattle.fast_tree.specs.meaning.Tree.{FieldData, uses_bit}
 use Rattle.fast_dict.specs.meaning.Dictionary.{previous_at, write_at}
 use Rattle.fast_dict.specs.meaning.Operators.{Outcome, decide, nothing}
 use Rattle.fast_dict.specs.meaning.Slots.{slots_dictionary, slots_terms}
@@ -32,7 +32,8 @@ use Rattle.fast_decoder.specs.declared.spot.Gone.{Gone}
 use Rattle.fast_decoder.specs.declared.spot.Gone.TheVariants as Gone
 use Rattle.fast_decoder.specs.declared.spot.Spot.{Spot}
 use Rattle.fast_decoder.specs.declared.spot.Went.{Went}
-use Rattle.fast_decoder.specs.device.Positions.{Set, state_in, bit_of, IsAtField, CanTurn}
+use Rattle.fast_decoder.specs.device.Passing.{group_from, length_then}
+use Rattle.fast_decoder.specs.device.Positions.{Set, state_in, bit_of, IsAtField, IsAtSequence, CanTurn, turning}
 use Rattle.fast_decoder.specs.device.Steps.{IsStep}
 
 -- The next instruction is the op's node.
@@ -106,6 +107,21 @@ pub record IsFieldTaken (set : Set) (l : Limits) (m m' : Machine) (from : Spot) 
   pub turns : Turns (reader_of l.strict (field_term (bounds l) f (previous_at f.entry (slots_dictionary m.slots)) true)) (take n from.rest.now) (Done outcome)
   pub is_value : outcome.value ≡ value
   pub next : slots_dictionary m'.slots ≡ write_at f.entry outcome.next (slots_dictionary m.slots)
+
+-- The length of the sequence at the next node stood whole in so many bytes, uses no bit, and has this value, or none.
+pub record IsLengthTaken (set : Set) (l : Limits) (m : Machine) (from : Spot) (node : ℕ) (f : FieldData) (body : List ℕ) (value : Option ScalarData) (n : ℕ) : Type 0 where
+  pub spot : IsAtSpot set l m from.place
+  pub at : IsAtSequence set (at_place m.cursor from.place) node f body
+  pub no_bit : uses_bit f ≡ false
+  pub some : 0 < n
+  pub within : n ≤ length from.rest.now
+  pub turns : Turns (turning set l (placed m from.place)) (take n from.rest.now) (reader_of l.strict (length_then set (bounds l) node value f body (slots_dictionary m.slots) m.counted (at_place m.cursor from.place)))
+
+-- From the first spot to the second the bit of the next instruction is used, a group that is there, if it has one.
+pub record IsGroupHere (set : Set) (l : Limits) (m : Machine) (from to : Spot) (node : ℕ) (body : List ℕ) : Type 0 where
+  pub rest : to.rest.now ≡ from.rest.now
+  pub left : place_left to.place ≡ place_left from.place
+  pub begins : turning set l (placed m from.place) ≡ reader_of l.strict (group_from set (bounds l) node body (slots_dictionary m.slots) m.counted (at_place m.cursor to.place))
 
 -- Nothing is sent of the field at the next node, and it has this value, or none.
 pub record IsFieldUnsent (set : Set) (l : Limits) (m m' : Machine) (p : Place) (node : ℕ) (f : FieldData) (bit : Bool) (value : Option ScalarData) : Type 0 where
