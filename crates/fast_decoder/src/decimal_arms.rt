@@ -1,11 +1,13 @@
 //! Decimals in the machine's loop: of one field, or by parts.
 
-ghost use Rattle.std.specs.Prelude.{◌≡◌, ◌≢◌, ◌<◌, ◌≤◌, true, if◌then◌else◌, length, Some, IfSome, option_map};
+ghost use Rattle.std.specs.Prelude.{◌≡◌, ◌≢◌, ◌<◌, ◌≤◌, true, if◌then◌else◌, length, slice_get, Some, IfSome, option_map};
 ghost use Rattle.fast_wire.specs.meaning.Integers.{IsWithin, exponent_range};
 ghost use Rattle.fast_wire.specs.meaning.Maps.{first_bit, later_bits};
 ghost use Rattle.fast_value.specs.declared.settings.Limits.{Limits};
 ghost use Rattle.fast_value.specs.meaning.Values.{scalar_data};
 ghost use Rattle.fast_tree.specs.meaning.Tree.{FieldData, uses_bit};
+ghost use Rattle.fast_tree.specs.declared.instructions.Node.{Node};
+ghost use Rattle.fast_program.specs.device.Ops.{IsOpOf};
 ghost use Rattle.fast_tree.specs.device.Nodes.{field_data};
 ghost use Rattle.fast_cursor.specs.device.Cursors.{CursorData, bits_left};
 ghost use Rattle.fast_cursor.specs.device.Places.{place_left, at_place, IsPlaceOf};
@@ -21,7 +23,7 @@ use crate::machine::{Machine, Turn};
 use crate::spot::{Spot, Standing, Went, hand_taken, pass_value, stands};
 use crate::turns::Turns;
 use fast_cursor::place::Place;
-use fast_program::Op;
+use fast_program::{Code, Op};
 use fast_stream::Sink;
 use fast_template::{FieldInstruction, Operator, Shape, Templates};
 use fast_units::decimal_items::sent_decimal;
@@ -29,6 +31,82 @@ use fast_units::decimal_parts::{exponent_part, keep_part, leaves_mantissa, manti
 use fast_value::{Kind, Limits, Scalar};
 
 impl<'t> Machine<'t> {
+    /// A field of kind `Decimal`. Each arm knows operator and presence.
+    #[inline(always)]
+    pub fn decimal_codes_arm<S: Sink>(
+        &mut self,
+        templates: &'t Templates,
+        limits: Limits,
+        spot: &mut Spot<'t, '_>,
+        op: Op,
+        sink: &mut S,
+    ) -> Went
+        requires spot { IsAtSpot (set_of templates.now) limits self.old spot.old.place }
+        requires at { IsAtOp (set_of templates.now) spot.old.place op }
+        requires is { (x : Node) → slice_get (set_of templates.now).nodes op.node ≡ Some x
+            → IsOpOf op op.node x.shape }
+        ensures went { HasWent S.takes S.stops (set_of templates.now) limits self.old spot.old sink.old result sink.new
+            self.new spot.new }
+    {
+        match op.code {
+            Code::DecimalPlain => self.decimal_arm(
+                templates,
+                limits,
+                spot,
+                op,
+                Operator::None,
+                false,
+                sink,
+            ),
+            Code::DecimalNullablePlain => self.decimal_arm(
+                templates,
+                limits,
+                spot,
+                op,
+                Operator::None,
+                true,
+                sink,
+            ),
+            Code::DecimalCopy => self.decimal_arm(
+                templates,
+                limits,
+                spot,
+                op,
+                Operator::Copy,
+                false,
+                sink,
+            ),
+            Code::DecimalNullableCopy => self.decimal_arm(
+                templates,
+                limits,
+                spot,
+                op,
+                Operator::Copy,
+                true,
+                sink,
+            ),
+            Code::DecimalDelta => self.decimal_arm(
+                templates,
+                limits,
+                spot,
+                op,
+                Operator::Delta,
+                false,
+                sink,
+            ),
+            Code::DecimalNullableDelta => self.decimal_arm(
+                templates,
+                limits,
+                spot,
+                op,
+                Operator::Delta,
+                true,
+                sink,
+            ),
+            _ => Went::Declined,
+        }
+    }
+
     /// A field of decimals, whole.
     #[inline(always)]
     pub fn decimal_arm<S: Sink>(

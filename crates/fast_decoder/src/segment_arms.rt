@@ -9,10 +9,11 @@ ghost use Rattle.fast_tree.specs.meaning.Tree.{FieldData, bits_of};
 ghost use Rattle.fast_program.specs.device.Codes.{IsGroupCoded, IsSequenceCoded};
 ghost use Rattle.fast_stream.specs.meaning.Messages.{within_limits};
 ghost use Rattle.fast_cursor.specs.device.Places.{place_left, at_place};
+ghost use Rattle.fast_cursor.specs.device.Runs.{IsRun};
 ghost use Rattle.fast_stream.specs.declared.faults.FaultCode.{FaultCode};
 ghost use Rattle.fast_decoder.specs.device.Arms.{placed, IsAnswer, IsAtOp, IsAtSpot, IsGroupHere, IsLengthTaken, HasWent};
 ghost use Rattle.fast_decoder.specs.device.Opening.{opened_result, opened_by};
-ghost use Rattle.fast_decoder.specs.device.Positions.{set_of, body_in, IsAtGroup, CanTurn};
+ghost use Rattle.fast_decoder.specs.device.Positions.{set_of, run_in, body_in, IsAtGroup, CanTurn};
 ghost use Rattle.fast_decoder.specs.device.Steps.{IsStep};
 ghost use Rattle.fast_decoder.specs.declared.machine.Machine.{Machine};
 ghost use Rattle.fast_decoder.specs.declared.spot.Spot.{Spot};
@@ -144,9 +145,10 @@ impl<'t> Machine<'t> {
             self.new spot.new }
     {
         let node = u32::from(op.node);
-        let Shape::Sequence { body, .. } = &templates.node(node).shape else {
+        let Shape::Sequence { .. } = &templates.node(node).shape else {
             unreachable!()
         };
+        let start = templates.body_start(node);
         let read = whole_unsigned(spot.rest, optional, limits.strict, 4_294_967_295);
         let Some((claimed, bytes)) = read else {
             return Went::Declined;
@@ -160,8 +162,7 @@ impl<'t> Machine<'t> {
         match count_within(limits, self.counted, u128::from(claimed)) {
             Err(_) => Went::Declined,
             Ok(count) => {
-                let body = body.as_slice();
-                self.elements_arm(templates, limits, spot, node, body, count, bytes, sink)
+                self.elements_arm(templates, limits, spot, node, start, count, bytes, sink)
             }
         }
     }
@@ -174,19 +175,20 @@ impl<'t> Machine<'t> {
         limits: Limits,
         spot: &mut Spot<'t, '_>,
         node: u32,
-        body: &'t [u32],
+        start: usize,
         count: u32,
         bytes: usize,
         sink: &mut S,
     ) -> Went
         requires length { (f : FieldData) × (claimed : ℕ)
-            × IsLengthTaken (set_of templates.now) limits self.old spot.old node f body.now (Some (U claimed)) bytes
+            × IsLengthTaken (set_of templates.now) limits self.old spot.old node f (run_in (set_of templates.now) start) (Some (U claimed)) bytes
             × (within_limits (bounds limits) self.old.counted claimed ≡ Ok count) }
         requires total { self.old.counted + count ≤ limits.max_total }
         requires node { node < length (set_of templates.now).nodes }
+        requires run { IsRun (set_of templates.now).program start }
         requires width { slice_index self.old.widths.nodes.items node
-            ≡ bits_of (body_in (set_of templates.now) body.now) }
-        requires below { AreBelow (length (set_of templates.now).nodes) body.now }
+            ≡ bits_of (body_in (set_of templates.now) (run_in (set_of templates.now) start)) }
+        requires below { AreBelow (length (set_of templates.now).nodes) (run_in (set_of templates.now) start) }
         ensures went { HasWent S.takes S.stops (set_of templates.now) limits self.old spot.old sink.old result sink.new
             self.new spot.new }
     {
@@ -200,7 +202,7 @@ impl<'t> Machine<'t> {
             return Went::Stopped;
         }
         let width = self.widths.nodes[node as usize];
-        let begun = self.begin_element(templates, limits, count, body, width, sink);
+        let begun = self.begin_element(templates, limits, count, start, width, sink);
         self.segment_arm(templates, limits, begun, Went::Took, spot, sink)
     }
 
@@ -223,12 +225,12 @@ impl<'t> Machine<'t> {
             self.new spot.new }
     {
         let node = u32::from(op.node);
-        let Shape::Group { body, .. } = &templates.node(node).shape else {
+        let Shape::Group { .. } = &templates.node(node).shape else {
             unreachable!()
         };
-        let body = body.as_slice();
+        let start = templates.body_start(node);
         if !optional {
-            return self.enter_arm(templates, limits, spot, node, body, sink);
+            return self.enter_arm(templates, limits, spot, node, start, sink);
         }
         if spot.place.is_spent() {
             return Went::Declined;
@@ -239,7 +241,7 @@ impl<'t> Machine<'t> {
             return Went::Silent;
         }
         spot.place.use_bit();
-        self.enter_arm(templates, limits, spot, node, body, sink)
+        self.enter_arm(templates, limits, spot, node, start, sink)
     }
 
     /// The next instruction, a group that is there, whose bit is used, if it has one.
@@ -250,23 +252,24 @@ impl<'t> Machine<'t> {
         limits: Limits,
         spot: &mut Spot<'t, '_>,
         node: u32,
-        body: &'t [u32],
+        start: usize,
         sink: &mut S,
     ) -> Went
         requires spot { IsAtSpot (set_of templates.now) limits self.old spot.old.place }
         requires next { (optional : Bool)
-            × IsAtGroup (set_of templates.now) (at_place self.old.cursor spot.old.place) node optional body.now }
+            × IsAtGroup (set_of templates.now) (at_place self.old.cursor spot.old.place) node optional (run_in (set_of templates.now) start) }
         requires node { node < length (set_of templates.now).nodes }
+        requires run { IsRun (set_of templates.now).program start }
         requires width { slice_index self.old.widths.nodes.items node
-            ≡ bits_of (body_in (set_of templates.now) body.now) }
-        requires below { AreBelow (length (set_of templates.now).nodes) body.now }
-        ensures went { (from : Spot) → IsGroupHere (set_of templates.now) limits self.old from spot.old node body.now
+            ≡ bits_of (body_in (set_of templates.now) (run_in (set_of templates.now) start)) }
+        requires below { AreBelow (length (set_of templates.now).nodes) (run_in (set_of templates.now) start) }
+        ensures went { (from : Spot) → IsGroupHere (set_of templates.now) limits self.old from spot.old node (run_in (set_of templates.now) start)
             → HasWent S.takes S.stops (set_of templates.now) limits self.old from sink.old result sink.new self.new
             spot.new }
     {
         self.turns = Turns::after(&self.turns);
         self.cursor.set_place(spot.place);
-        let begun = self.enter_group(templates, limits, node, body, sink);
+        let begun = self.enter_group(templates, limits, node, start, sink);
         self.segment_arm(templates, limits, begun, Went::Handed, spot, sink)
     }
 }

@@ -1,4 +1,4 @@
-//! The machine's loop: steps from one instruction to the next, with no byte, or with whole units for the quick way.
+//! Steps in the general way: a turn of the machine, and the unit that it waits for, if that is one for the quick way.
 
 ghost use Rattle.std.specs.Prelude.{◌≡◌, ◌≢◌, ℕ, List, true, false, Ok, Err};
 ghost use Rattle.fast_decoder.specs.declared.machine.Waiting.{Waiting};
@@ -32,61 +32,7 @@ impl UnitTaken {
 }
 
 impl<'t> Machine<'t> {
-    /// Takes steps for as long as there are any for the quick way: what is left then waits for a byte, in the general way.
-    #[inline(never)]
-    pub fn run<S: Sink>(
-        &mut self,
-        templates: &'t Templates,
-        limits: Limits,
-        piece: &[u8],
-        sink: &mut S,
-    ) -> UnitTaken
-        requires turn { CanTurn (set_of templates.now) limits self.old }
-        ensures step { IsStep S.takes S.stops (set_of templates.now) limits self.old piece.now sink.old result sink.new
-            self.new }
-        ensures ends { (t : Turn) → result.turn ≡ Ok t → t ≡ Turn.Waits }
-    {
-        let mut rest = piece;
-        self.wait_for_field();
-        'units: loop {
-            'events: loop {
-                'silent: loop {
-                    let step = self.step(templates, limits, rest, sink);
-                    rest = &rest[step.bytes..];
-                    let bytes = piece.len() - rest.len();
-                    match step.turn {
-                        Err(code) => {
-                            return UnitTaken {
-                                bytes,
-                                turn: Err(code),
-                            };
-                        }
-                        Ok(turn) => match turn {
-                            Turn::Waits => {
-                                return UnitTaken {
-                                    bytes,
-                                    turn: Ok(Turn::Waits),
-                                };
-                            }
-                            Turn::Handed => {
-                                if step.bytes > 0 {
-                                    break 'events;
-                                }
-                                break 'silent;
-                            }
-                            Turn::Silent => {
-                                if step.bytes > 0 {
-                                    break 'events;
-                                }
-                            }
-                        },
-                    }
-                }
-            }
-        }
-    }
-
-    /// Takes steps as [`Machine::run`] does. Where there is no byte, and the next instruction waits for one, that is all.
+    /// Takes steps as [`Machine::walk`] does. Where there is no byte, and the next instruction waits for one, that is all.
     #[inline(always)]
     pub fn go_on<S: Sink>(
         &mut self,
@@ -106,7 +52,7 @@ impl<'t> Machine<'t> {
                 turn: Ok(Turn::Waits),
             };
         }
-        self.run(templates, limits, piece, sink)
+        self.walk(templates, limits, piece, sink)
     }
 
     /// Whether the next instruction is a field that stands in the stream: the machine then waits for its first unit. Nothing is handed
@@ -135,27 +81,6 @@ impl<'t> Machine<'t> {
         }
         self.wait_first(field);
         true
-    }
-
-    /// A step: the next instruction, or the end of the innermost segment.
-    #[inline(always)]
-    fn step<S: Sink>(
-        &mut self,
-        templates: &'t Templates,
-        limits: Limits,
-        rest: &[u8],
-        sink: &mut S,
-    ) -> UnitTaken
-        requires waits { self.old.waiting ≡ Waiting.Field }
-        requires turn { CanTurn (set_of templates.now) limits self.old }
-        ensures step { IsStep S.takes S.stops (set_of templates.now) limits self.old rest.now sink.old result sink.new
-            self.new }
-        ensures waits { (t : Turn) → result.turn ≡ Ok t → t ≢ Turn.Waits → self.new.waiting ≡ Waiting.Field }
-    {
-        match self.take_next(templates, limits, rest, sink) {
-            Some(quick) => quick,
-            None => self.step_by_turn(templates, limits, rest, sink),
-        }
     }
 
     /// A step by a turn of the machine. Where it waits behind that, its unit is taken, if it is a mantissa or a map for the quick way.

@@ -205,8 +205,58 @@ impl<'t> Machine<'t> {
                         | Code::Int64NullableIncrement => {
                             self.int64_kept_arm(templates, limits, &mut spot, op, sink)
                         }
+                        Code::Constant => {
+                            self.constant_arm(templates, limits, &mut spot, op, sink)
+                        }
+                        Code::DecimalPlain
+                        | Code::DecimalNullablePlain
+                        | Code::DecimalCopy
+                        | Code::DecimalNullableCopy
+                        | Code::DecimalDelta
+                        | Code::DecimalNullableDelta => {
+                            self.decimal_codes_arm(templates, limits, &mut spot, op, sink)
+                        }
+                        Code::Parts => { self.parts_arm(templates, limits, &mut spot, op, sink) }
+                        Code::AsciiPlain
+                        | Code::AsciiNullablePlain
+                        | Code::AsciiDelta
+                        | Code::AsciiNullableDelta => {
+                            self.ascii_plain_arm(templates, limits, &mut spot, op, sink)
+                        }
+                        Code::AsciiDefault
+                        | Code::AsciiNullableDefault
+                        | Code::AsciiCopy
+                        | Code::AsciiNullableCopy
+                        | Code::AsciiTail
+                        | Code::AsciiNullableTail => {
+                            self.ascii_kept_arm(templates, limits, &mut spot, op, sink)
+                        }
+                        Code::UnicodePlain
+                        | Code::UnicodeNullablePlain
+                        | Code::UnicodeDelta
+                        | Code::UnicodeNullableDelta => {
+                            self.unicode_arm(templates, limits, &mut spot, op, sink)
+                        }
+                        Code::BytesPlain
+                        | Code::BytesNullablePlain
+                        | Code::BytesTail
+                        | Code::BytesNullableTail => {
+                            self.bytes_arm(templates, limits, &mut spot, op, sink)
+                        }
+                        Code::Group => {
+                            self.group_arm(templates, limits, &mut spot, op, false, sink)
+                        }
+                        Code::OptionalGroup => {
+                            self.group_arm(templates, limits, &mut spot, op, true, sink)
+                        }
+                        Code::Sequence => {
+                            self.sequence_arm(templates, limits, &mut spot, op, false, sink)
+                        }
+                        Code::OptionalSequence => {
+                            self.sequence_arm(templates, limits, &mut spot, op, true, sink)
+                        }
                         Code::End => self.end_arm(templates, limits, &mut spot, sink),
-                        _ => Went::Declined,
+                        Code::General => Went::Declined,
                     };
                     match self.or_general(templates, limits, went, &mut spot, sink) {
                         Gone::Took => break 'events,

@@ -1,7 +1,7 @@
 -- The group's event, and its map.
 use Rattle.std.proofs.Common.{refl}
 use Rattle.fast_decoder.specs.device.Opening.{opened_result, opened_by}
-use Rattle.fast_decoder.specs.device.Positions.{set_of}
+use Rattle.fast_decoder.specs.device.Positions.{set_of, run_in}
 use Rattle.fast_decoder.proofs.arms.Groups.{entered_step}
 use Rattle.fast_decoder.proofs.steps.Opened.{opened_not_silent}
 use Rattle.fast_decoder.proofs.machine.Machine.enter_arm.Goals as goal
@@ -17,6 +17,6 @@ returns g c = record {
       let begun = c.enter_group-begun in
       let (optional, next) = c.requires.next in
       c.segment_arm.ensures.went m from c.args.sink.now 0 h.rest refl
-      (entered_step takes stops set l m from c.after-self.result c.after-self.ensures c.args.node c.args.body.now c.args.spot.now h c.set_place.new.self c.set_place.ensures optional next
+      (entered_step takes stops set l m from c.after-self.result c.after-self.ensures c.args.node (run_in set c.args.start) c.args.spot.now h c.set_place.new.self c.set_place.ensures optional next
       c.args.sink.now (opened_result begun.result) begun.new.sink (opened_by begun.result begun.new.self) (opened_not_silent begun.result) begun.ensures.turn begun.ensures.turns);
 }

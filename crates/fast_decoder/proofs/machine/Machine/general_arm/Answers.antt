@@ -35,8 +35,8 @@ returns-in-Err g c = record {
     c.general_step-step.result.bytes,
     take_rest c.args.spot.now.rest.now c.general_step-step.result.bytes,
     subst (λ (b : Machine). IsStep g.S.Sink.takes g.S.Sink.stops (set_of c.args.templates.now) c.args.limits (placed c.args.self.now c.args.spot.now.place) c.args.spot.now.rest.now c.args.sink.now (record { bytes = c.general_step-step.result.bytes; turn = Err c.in-Err.code }) c.general_step-step.new.sink b)
-    (ap (λ (x : CursorData). record c.general_step-step.new.self { cursor = x }) c.place-spot.ensures.same)
-    (step_at g.S.Sink.takes g.S.Sink.stops (set_of c.args.templates.now) c.args.limits c.args.self.now c.args.spot.now c.args.sink.now c.set_place.new.self c.general_step-step.result.bytes (Err c.in-Err.code) c.general_step-step.result c.general_step-step.new.sink c.general_step-step.new.self c.place-spot.result c.set_place.ensures refl (c.in-Err.is) c.place-spot.ensures.same c.general_step-step.ensures.step),
+        (ap (λ (x : CursorData). record c.general_step-step.new.self { cursor = x }) c.place-spot.ensures.same)
+        (step_at g.S.Sink.takes g.S.Sink.stops (set_of c.args.templates.now) c.args.limits c.args.self.now c.args.spot.now c.args.sink.now c.set_place.new.self c.general_step-step.result.bytes (Err c.in-Err.code) c.general_step-step.result c.general_step-step.new.sink c.general_step-step.new.self c.place-spot.result c.set_place.ensures refl (c.in-Err.is) c.place-spot.ensures.same c.general_step-step.ensures.step),
   );
 }
 

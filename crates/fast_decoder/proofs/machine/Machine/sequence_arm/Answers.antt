@@ -8,7 +8,8 @@ use Rattle.fast_stream.specs.meaning.Messages.{within_limits}
 use Rattle.fast_tree.specs.device.Nodes.{field_data}
 use Rattle.fast_cursor.specs.device.Places.{at_place}
 use Rattle.fast_decoder.specs.device.Arms.{placed, IsLengthTaken}
-use Rattle.fast_decoder.specs.device.Positions.{set_of}
+use Rattle.fast_decoder.specs.device.Positions.{set_of, run_in}
+use Rattle.fast_tree.specs.device.Numbers.{numbers_of}
 use Rattle.fast_decoder.specs.declared.machine.Turn.TheVariants.{Silent}
 use Rattle.fast_decoder.proofs.arms.Lengths.{sequence_taken, absent_step}
 use Rattle.fast_decoder.proofs.arms.Taken.{took_handed}
@@ -23,8 +24,8 @@ returns-in_default-claimed g c = record {
       let l = c.args.limits in
       let m = c.args.self.now in
       let from = c.args.spot.now in
-      let h = sequence_taken c.args.templates.now l m from c.args.op c.from-node.result c.node.result.now c.in-Sequence.length c.in-Sequence.body c.in-Sequence.body.items c.args.optional c.in-Some.claimed c.in-Some.bytes
-      c.requires.spot c.requires.at c.requires.sequence c.from-node.ensures c.node.ensures.found c.in-Sequence.is refl c.in-Some.ensures in
+      let h = sequence_taken c.args.templates.now l m from c.args.op c.from-node.result c.node.result.now c.in-Sequence.length c.in-Sequence.body (run_in set c.body_start-start.result) c.args.optional c.in-Some.claimed c.in-Some.bytes
+      c.requires.spot c.requires.at c.requires.sequence c.from-node.ensures c.node.ensures.found c.in-Sequence.is ((c.body_start-start.ensures c.node.result.now c.node.ensures.found).nodes ∙ ap numbers_of c.in-Sequence.is) c.in-Some.ensures in
       let none : option_map U c.in-Some.claimed ≡ None = ap (option_map U) c.in_default-claimed.is in (
         c.in-Some.bytes,
         h.some,
@@ -33,7 +34,7 @@ returns-in_default-claimed g c = record {
           waits = c.requires.spot.waits;
           place = c.advance.ensures.place m.cursor c.requires.spot.place;
           step = took_handed takes stops set l (placed m from.place) _ from.rest.now c.args.sink.now c.in-Some.bytes Silent c.args.sink.now h.some (λ e. cc e)
-              (absent_step takes stops set l m from c.from-node.result (field_data c.in-Sequence.length) c.in-Sequence.body.items (option_map U c.in-Some.claimed) c.in-Some.bytes h c.after-self.result c.after-self.ensures
+              (absent_step takes stops set l m from c.from-node.result (field_data c.in-Sequence.length) (run_in set c.body_start-start.result) (option_map U c.in-Some.claimed) c.in-Some.bytes h c.after-self.result c.after-self.ensures
               (at_place m.cursor c.advance.new.self) (c.advance.ensures.left m.cursor) none c.args.sink.now);
         },
       );
@@ -46,10 +47,10 @@ elements_arm-requires-clause-length g c =
     let m = c.args.self.now in
     let from = c.args.spot.now in
     let claimed = c.in-Some-claimed.claimed in
-    let h = sequence_taken c.args.templates.now l m from c.args.op c.from-node.result c.node.result.now c.in-Sequence.length c.in-Sequence.body c.as_slice-body.result.now c.args.optional c.in-Some.claimed c.in-Some.bytes
-    c.requires.spot c.requires.at c.requires.sequence c.from-node.ensures c.node.ensures.found c.in-Sequence.is c.as_slice-body.ensures.value c.in-Some.ensures in (
+    let h = sequence_taken c.args.templates.now l m from c.args.op c.from-node.result c.node.result.now c.in-Sequence.length c.in-Sequence.body (run_in set c.body_start-start.result) c.args.optional c.in-Some.claimed c.in-Some.bytes
+    c.requires.spot c.requires.at c.requires.sequence c.from-node.ensures c.node.ensures.found c.in-Sequence.is ((c.body_start-start.ensures c.node.result.now c.node.ensures.found).nodes ∙ ap numbers_of c.in-Sequence.is) c.in-Some.ensures in (
       field_data c.in-Sequence.length,
       claimed,
-      subst (λ (x : Option ℕ). IsLengthTaken set l m from c.from-node.result (field_data c.in-Sequence.length) c.as_slice-body.result.now (option_map U x) c.in-Some.bytes) c.in-Some-claimed.is h,
+      subst (λ (x : Option ℕ). IsLengthTaken set l m from c.from-node.result (field_data c.in-Sequence.length) (run_in set c.body_start-start.result) (option_map U x) c.in-Some.bytes) c.in-Some-claimed.is h,
       sym (c.in-Ok.ensures.count ∙ ap (within_limits (bounds l) m.counted) c.from.ensures),
     )
