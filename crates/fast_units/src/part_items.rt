@@ -154,7 +154,7 @@ fn sent_part(
 }
 
 /// Takes a delta of a text, or NULL, at an entry that holds a text of its kind. The entry then holds the text.
-#[inline(always)]
+#[inline(never)]
 pub fn sent_delta(
     slots: &mut Slots,
     joined: &mut Scratch,
