@@ -1,6 +1,6 @@
 -- The field that an op names, at the place where the machine's loop stands.
 use Rattle.std.proofs.Common.{refl, sym, ap, ◌∙◌, subst}
-use Rattle.std.specs.Prelude.{◌≡◌, ◌≢◌, ◌⊎◌, ℕ, ◌<◌, Bool, true, false, List, [], length, slice_get, Option, Some, Ok, option_map, if◌then◌else◌}
+use Rattle.std.specs.Prelude.{◌≡◌, ◌≢◌, ◌⊎◌, Bool, true, false, [], length, slice_get, Option, Some, Ok, option_map, if◌then◌else◌}
 use Rattle.fast_wire.specs.meaning.Maps.{first_bit}
 use Rattle.fast_value.specs.declared.kinds.Kind.{Kind}
 use Rattle.fast_value.specs.declared.settings.Limits.{Limits}
@@ -11,7 +11,6 @@ use Rattle.fast_tree.specs.declared.instructions.Shape.TheVariants as Shape
 use Rattle.fast_tree.specs.declared.operators.Operator.{Operator}
 use Rattle.fast_tree.specs.declared.operators.Operator.TheVariants.{None, Constant, Default, Copy, Increment, Delta, Tail}
 use Rattle.fast_tree.specs.device.Nodes.{field_data}
-use Rattle.fast_tree.specs.meaning.Entries.{keeps_value}
 use Rattle.fast_tree.specs.meaning.Tree.{FieldData, operator_uses_bit, uses_bit}
 use Rattle.fast_template.specs.declared.sets.Templates.{Templates}
 use Rattle.fast_program.specs.declared.ops.Op.{Op}
@@ -27,12 +26,12 @@ use Rattle.fast_units.specs.device.Settling.{Serves}
 use Rattle.fast_units.specs.device.UnitFronts.{IsSent}
 use Rattle.fast_units.proofs.Deciding.{item_value, stands_unsent}
 use Rattle.fast_cursor.specs.declared.place.Place.{Place}
-use Rattle.fast_cursor.specs.device.Cursors.{CursorData, bits_left}
+use Rattle.fast_cursor.specs.device.Cursors.{bits_left}
 use Rattle.fast_cursor.specs.device.Places.{at_place}
 use Rattle.fast_decoder.specs.declared.machine.Machine.{Machine}
 use Rattle.fast_decoder.specs.declared.spot.Spot.{Spot}
 use Rattle.fast_decoder.specs.device.Arms.{placed, IsAtSpot, IsAtOp, IsFieldOp, IsFieldTaken, IsFieldUnsent}
-use Rattle.fast_decoder.specs.device.Positions.{set_of, state_in, bit_of, IsAtField}
+use Rattle.fast_decoder.specs.device.Positions.{set_of, bit_of, IsAtField}
 use Rattle.fast_decoder.proofs.fields.Heads.{field_head}
 use Rattle.fast_decoder.proofs.fields.QuickFields.{sent_by_bit, node_here}
 use Rattle.fast_decoder.proofs.fields.ScalarNodes.{served_node}

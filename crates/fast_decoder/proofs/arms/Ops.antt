@@ -1,8 +1,8 @@
 -- The op at a place.
-use Rattle.std.proofs.Common.{refl, sym, ap, ◌∙◌, subst, arith, inl, inr}
+use Rattle.std.proofs.Common.{refl, sym, ◌∙◌, inl, inr}
 use Rattle.std.specs.Prelude.{◌≡◌, ◌≢◌, ◌⊎◌, ℕ, ◌<◌, ◌≤◌, false, List, length, slice_get, Some, None}
 use Rattle.std.proofs.lemmas.Option.{slice_get_cases}
-use Rattle.std.specs.Prelude.{◌≡◌, ◌≢◌, ◌⊎◌, ℕ, ◌<◌, ◌≤◌, Bool, true, false, length, slice_get, get_or, Some, None, if◌then◌else◌}
+use Rattle.std.specs.Prelude.{◌≡◌, ◌≢◌, ◌⊎◌, ℕ, ◌<◌, ◌≤◌, false, length, slice_get, get_or, Some, None}
 use Rattle.fast_tree.specs.declared.instructions.Node.{Node}
 use Rattle.fast_program.specs.declared.codes.Code.{Code}
 use Rattle.fast_program.specs.declared.codes.Code.TheVariants.{General, End, UInt32Plain, UInt32NullablePlain, UInt32Default, UInt32NullableDefault, UInt32Copy, UInt32NullableCopy, UInt32Increment, UInt32NullableIncrement, UInt32Delta, UInt32NullableDelta, Int32Plain, Int32NullablePlain, Int32Default, Int32NullableDefault, Int32Copy, Int32NullableCopy, Int32Increment, Int32NullableIncrement, Int32Delta, Int32NullableDelta, UInt64Plain, UInt64NullablePlain, UInt64Default, UInt64NullableDefault, UInt64Copy, UInt64NullableCopy, UInt64Increment, UInt64NullableIncrement, UInt64Delta, UInt64NullableDelta, Int64Plain, Int64NullablePlain, Int64Default, Int64NullableDefault, Int64Copy, Int64NullableCopy, Int64Increment, Int64NullableIncrement, Int64Delta, Int64NullableDelta, Constant, DecimalPlain, DecimalNullablePlain, DecimalCopy, DecimalNullableCopy, DecimalDelta, DecimalNullableDelta, AsciiPlain, AsciiNullablePlain, AsciiDefault, AsciiNullableDefault, AsciiCopy, AsciiNullableCopy, AsciiTail, AsciiNullableTail, AsciiDelta, AsciiNullableDelta, UnicodePlain, UnicodeNullablePlain, UnicodeDelta, UnicodeNullableDelta, BytesPlain, BytesNullablePlain, BytesTail, BytesNullableTail, Parts, Group, OptionalGroup, Sequence, OptionalSequence}

@@ -1,13 +1,13 @@
 -- Decimals by parts: the reader of the exponent, then the reader of the mantissa.
 use Rattle.std.proofs.Common.{refl, sym, ap, ◌∙◌, subst, inl, inr, arith}
-use Rattle.std.specs.Prelude.{◌≡◌, ◌⊎◌, ℕ, zero, suc, ◌+◌, ◌-◌, ◌<◌, ◌≤◌, Bool, true, false, List, [], ◌++◌, length, take, drop, slice_get, ℤ, Option, Some, None, Ok, option_map, if◌then◌else◌}
+use Rattle.std.specs.Prelude.{◌≡◌, ◌⊎◌, ℕ, zero, suc, ◌+◌, ◌-◌, ◌<◌, ◌≤◌, Bool, true, false, List, [], length, take, drop, slice_get, ℤ, Option, Some, None, Ok, option_map, if◌then◌else◌}
 use Rattle.std.proofs.lemmas.List.{length-drop, take_rest}
 use Rattle.std.proofs.Math.Seq.{take-add}
 use Rattle.fast_wire.specs.meaning.Integers.{IsWithin, exponent_range}
 use Rattle.fast_wire.specs.meaning.Maps.{first_bit, later_bits}
 use Rattle.fast_value.specs.declared.codes.Code.TheVariants.{R1}
 use Rattle.fast_value.specs.declared.settings.Limits.{Limits}
-use Rattle.fast_value.specs.meaning.Kinds.{ScalarData, I, Dec}
+use Rattle.fast_value.specs.meaning.Kinds.{I, Dec}
 use Rattle.fast_value.specs.meaning.Limits.{Bounds, bounds}
 use Rattle.fast_tree.specs.declared.instructions.FieldInstruction.{FieldInstruction}
 use Rattle.fast_tree.specs.declared.instructions.Node.{Node}
@@ -26,7 +26,6 @@ use Rattle.fast_stream.specs.meaning.Messages.{State, Found, found, field_in, de
 use Rattle.fast_stream.specs.device.Continuations.{handed_then, mantissa_after_then}
 use Rattle.fast_stream.specs.device.Frames.{resume}
 use Rattle.fast_stream.specs.device.GrammarReaders.{reader_of}
-use Rattle.fast_stream.specs.device.Readers.{Reader}
 use Rattle.fast_units.specs.device.Deciding.{needs_bytes, number_data, source_of}
 use Rattle.fast_units.specs.device.DecimalParts.{part_item, KeepsPart, IsAsSeen, IsPartBy, IsPart}
 use Rattle.fast_units.specs.device.Settling.{IsSettled, Serves}
@@ -37,7 +36,7 @@ use Rattle.fast_units.proofs.Deciding.{item_value, needs_some, stands_sent, stan
 use Rattle.fast_units.proofs.DecimalItems.{ranged_within}
 use Rattle.fast_units.proofs.Turning.{turns_as, turns_done, turns_none, turns_run, result_done}
 use Rattle.fast_cursor.specs.declared.place.Place.{Place}
-use Rattle.fast_cursor.specs.device.Cursors.{CursorData, bits_left}
+use Rattle.fast_cursor.specs.device.Cursors.{bits_left}
 use Rattle.fast_cursor.specs.device.Places.{place_left, at_place, IsPlaceOf}
 use Rattle.fast_decoder.specs.declared.machine.Machine.{Machine}
 use Rattle.fast_decoder.specs.declared.spot.Spot.{Spot}
@@ -48,7 +47,7 @@ use Rattle.fast_decoder.specs.device.Positions.{Set, body_in, frames_in, bit_of,
 use Rattle.fast_decoder.proofs.fields.Heads.{parts_head}
 use Rattle.fast_decoder.proofs.fields.ScalarNodes.{served_node}
 use Rattle.fast_decoder.proofs.fields.SentFields.{field_sent, field_unsent}
-use Rattle.fast_decoder.proofs.steps.FieldTurns.{serves_here, serves_known, can_turn_slots, state_of, behind, parts_next}
+use Rattle.fast_decoder.proofs.steps.FieldTurns.{serves_here, serves_known, can_turn_slots, behind, parts_next}
 
 -- The op's node is a decimal by these parts.
 pub at_decimal : (t : Templates) (l : Limits) (m : Machine) (p : Place) (op : Op) → IsAtSpot (set_of t) l m p → IsAtOp (set_of t) p op → (x : Node) → slice_get t.nodes.items op.node ≡ Some x → (e f : FieldInstruction) → x.shape ≡ Decimal e f

@@ -1,6 +1,6 @@
 -- A field of which nothing is sent is a step of the machine.
 use Rattle.std.proofs.Common.{refl, sym, ap, ◌∙◌, subst}
-use Rattle.std.specs.Prelude.{◌≡◌, ◌≢◌, ℕ, ◌+◌, Bool, List, length, drop, Option, Result, Ok, Err, OnOk, if◌then◌else◌}
+use Rattle.std.specs.Prelude.{◌≡◌, ◌≢◌, ℕ, ◌+◌, Bool, List, drop, Option, Result, Ok, Err, OnOk, if◌then◌else◌}
 use Rattle.fast_wire.specs.meaning.Maps.{later_bits}
 use Rattle.fast_value.specs.meaning.Kinds.{ScalarData}
 use Rattle.fast_value.specs.meaning.Limits.{bounds}
@@ -24,16 +24,14 @@ use Rattle.fast_cursor.specs.device.Cursors.{CursorData, bits_left}
 use Rattle.fast_cursor.specs.device.Places.{at_place, IsPlaceOf}
 use Rattle.fast_decoder.specs.declared.machine.Machine.{Machine}
 use Rattle.fast_decoder.specs.declared.machine.Turn.{Turn}
-use Rattle.fast_decoder.specs.declared.machine.Turn.TheVariants.{Silent, Handed, Waits}
+use Rattle.fast_decoder.specs.declared.machine.Turn.TheVariants.{Silent, Waits}
 use Rattle.fast_decoder.specs.declared.spot.Spot.{Spot}
-use Rattle.fast_decoder.specs.declared.spot.Went.TheVariants as Went
 use Rattle.fast_decoder.specs.declared.turns.Turns.{Turns}
-use Rattle.fast_decoder.specs.device.Arms.{placed, WentBy, HasWent, IsFieldUnsent}
+use Rattle.fast_decoder.specs.device.Arms.{placed, WentBy, IsFieldUnsent}
 use Rattle.fast_decoder.specs.device.Moving.{Moves}
 use Rattle.fast_decoder.specs.device.Passing.{IsPast, value_then}
-use Rattle.fast_decoder.specs.device.Positions.{Set, going_on, bit_of, CanTurn, turning, meaning}
+use Rattle.fast_decoder.specs.device.Positions.{Set, going_on, CanTurn, turning, meaning}
 use Rattle.fast_decoder.specs.device.Steps.{IsStep}
-use Rattle.fast_decoder.specs.device.TurnsLeft.{Way}
 use Rattle.fast_decoder.proofs.fields.SentFields.{field_unsent}
 use Rattle.fast_decoder.proofs.steps.FieldTurns.{state_of, behind, field_next, supplied_like, turn_moved}
 use Rattle.fast_decoder.proofs.steps.TurnCounts.{finished, one_turn}

@@ -1,6 +1,6 @@
 -- Steps of the machine's loop, one after the other.
-use Rattle.std.proofs.Common.{refl, sym, ap, ◌∙◌, subst, arith}
-use Rattle.std.specs.Prelude.{◌≡◌, ◌≢◌, ℕ, ◌+◌, ◌-◌, ◌<◌, ◌≤◌, List, length, take, drop, Result, Ok, Err}
+use Rattle.std.proofs.Common.{refl, sym, ap, ◌∙◌, subst}
+use Rattle.std.specs.Prelude.{◌≡◌, ◌≢◌, ℕ, ◌-◌, ◌≤◌, List, length, drop, Result, Ok, Err}
 use Rattle.std.proofs.lemmas.List.{take_rest, length-drop}
 use Rattle.fast_value.specs.declared.settings.Limits.{Limits}
 use Rattle.fast_stream.specs.meaning.Events.{EventData}
@@ -10,11 +10,10 @@ use Rattle.fast_cursor.specs.device.Cursors.{CursorData}
 use Rattle.fast_cursor.specs.device.Places.{at_place, IsPlaceOf}
 use Rattle.fast_decoder.specs.declared.machine.Machine.{Machine}
 use Rattle.fast_decoder.specs.declared.machine.Turn.{Turn}
-use Rattle.fast_decoder.specs.declared.machine.Turn.TheVariants.{Silent, Handed, Waits}
+use Rattle.fast_decoder.specs.declared.machine.Turn.TheVariants.{Waits}
 use Rattle.fast_decoder.specs.declared.quick_units.UnitTaken.{UnitTaken}
 use Rattle.fast_decoder.specs.declared.spot.Spot.{Spot}
 use Rattle.fast_decoder.specs.declared.spot.Went.{Went}
-use Rattle.fast_decoder.specs.declared.spot.Went.TheVariants as Went
 use Rattle.fast_decoder.specs.device.Arms.{placed, IsAtSpot, WentBy, HasWent, ended}
 use Rattle.fast_decoder.specs.device.Positions.{Set}
 use Rattle.fast_decoder.specs.device.Steps.{IsStep}

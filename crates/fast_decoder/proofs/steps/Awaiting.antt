@@ -1,6 +1,6 @@
 -- The turns of a machine that waits for the first unit of a field.
 use Rattle.std.proofs.Common.{sym, subst, inl, inr}
-use Rattle.std.specs.Prelude.{◌≡◌, ◌⊎◌, ℕ, List, []}
+use Rattle.std.specs.Prelude.{◌≡◌, ◌⊎◌, ℕ, []}
 use Rattle.fast_value.specs.declared.settings.Limits.{Limits}
 use Rattle.fast_tree.specs.meaning.Tree.{FieldData}
 use Rattle.fast_units.specs.device.UnitFronts.{IsAsciiFirst}

@@ -29,7 +29,6 @@ use Rattle.fast_decoder.specs.declared.machine.Turn.{Turn}
 use Rattle.fast_decoder.specs.declared.machine.Turn.TheVariants.{Silent, Handed, Waits}
 use Rattle.fast_decoder.specs.declared.machine.Waiting.TheVariants.{Field}
 use Rattle.fast_decoder.specs.declared.spot.Gone.{Gone}
-use Rattle.fast_decoder.specs.declared.spot.Gone.TheVariants as Gone
 use Rattle.fast_decoder.specs.declared.spot.Spot.{Spot}
 use Rattle.fast_decoder.specs.declared.spot.Went.{Went}
 use Rattle.fast_decoder.specs.device.Passing.{group_from, length_then}

@@ -1,10 +1,8 @@
 -- The initial value.
-use Rattle.std.proofs.Common.{refl, sym, ◌∙◌, ap, subst}
-use Rattle.std.specs.Prelude.{◌≡◌, ℕ, Bool, true, false, slice_get, Option, Some, option_map}
+use Rattle.std.proofs.Common.{refl, sym, ◌∙◌, subst}
+use Rattle.std.specs.Prelude.{◌≡◌, ℕ, false, slice_get, Option, Some}
 use Rattle.fast_value.specs.meaning.Kinds.{ScalarData}
-use Rattle.fast_value.specs.meaning.Values.{scalar_data}
 use Rattle.fast_tree.specs.declared.instructions.FieldInstruction.{FieldInstruction}
-use Rattle.fast_tree.specs.declared.instructions.Shape.TheVariants as Shape
 use Rattle.fast_tree.specs.declared.operators.Operator.TheVariants.{Default}
 use Rattle.fast_tree.specs.device.Nodes.{field_data}
 use Rattle.fast_dict.specs.meaning.Slots.{slots_dictionary, slots_terms}

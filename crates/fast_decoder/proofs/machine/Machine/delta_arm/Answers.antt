@@ -1,5 +1,5 @@
 -- The number behind its delta.
-use Rattle.std.proofs.Common.{refl, sym, ◌∙◌, ap, subst, inl}
+use Rattle.std.proofs.Common.{refl, sym, subst, inl}
 use Rattle.std.specs.Prelude.{Option}
 use Rattle.fast_value.specs.meaning.Kinds.{ScalarData}
 use Rattle.fast_tree.specs.declared.operators.Operator.TheVariants.{Delta}

@@ -1,5 +1,5 @@
 -- The step, by how it ended.
-use Rattle.std.proofs.Common.{refl, sym, ap, ◌∙◌, subst, arith}
+use Rattle.std.proofs.Common.{refl, ap, ◌∙◌, subst, arith}
 use Rattle.std.proofs.lemmas.List.{take_rest}
 use Rattle.std.specs.Prelude.{◌≡◌, drop, Ok, Err}
 use Rattle.fast_decoder.specs.declared.machine.Turn.TheVariants.{Silent, Handed}

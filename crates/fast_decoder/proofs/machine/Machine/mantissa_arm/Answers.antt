@@ -1,11 +1,10 @@
 -- Both parts, and the turn behind them.
-use Rattle.std.proofs.Common.{refl, sym, ap, ◌∙◌, subst, rules, arith, to_z, of_z, FitsSigned}
+use Rattle.std.proofs.Common.{refl, sym, ap, ◌∙◌, subst, rules, to_z, of_z, FitsSigned}
 use Rattle.std.specs.Int.{w32, w64}
-use Rattle.std.specs.Prelude.{◌≡◌, ℕ, ◌+◌, ◌<◌, ◌≤◌, Bool, true, if◌then◌else◌, length, drop, ℤ, Option, Some, List, option_map}
+use Rattle.std.specs.Prelude.{ℕ, ◌+◌, ◌<◌, ◌≤◌, Bool, true, if◌then◌else◌, length, ℤ, Option, Some, List}
 use Rattle.std.proofs.lemmas.List.{take_rest}
 use Rattle.fast_wire.specs.meaning.Maps.{first_bit, later_bits}
 use Rattle.fast_value.specs.meaning.Kinds.{ScalarData, Dec}
-use Rattle.fast_value.specs.meaning.Values.{scalar_data}
 use Rattle.fast_tree.specs.device.Nodes.{field_data}
 use Rattle.fast_cursor.specs.device.Cursors.{bits_left}
 use Rattle.fast_cursor.specs.device.Places.{at_place}

@@ -1,6 +1,6 @@
 -- The parts of the op's node.
-use Rattle.std.proofs.Common.{refl, sym, ap, ◌∙◌, subst, rules, Option, ℤ}
-use Rattle.std.specs.Prelude.{◌≡◌, ℕ, Bool, true, if◌then◌else◌, slice_get, Some, None}
+use Rattle.std.proofs.Common.{refl, ap, ◌∙◌, subst, Option, ℤ}
+use Rattle.std.specs.Prelude.{◌≡◌, ℕ, Bool, true, if◌then◌else◌, slice_get, Some}
 use Rattle.fast_tree.specs.device.Nodes.{field_data}
 use Rattle.fast_wire.specs.meaning.Maps.{first_bit}
 use Rattle.fast_cursor.specs.device.Cursors.{bits_left}

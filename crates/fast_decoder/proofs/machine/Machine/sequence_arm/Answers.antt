@@ -1,5 +1,5 @@
 -- The length, or none.
-use Rattle.std.proofs.Common.{refl, sym, ap, ◌∙◌, subst}
+use Rattle.std.proofs.Common.{sym, ap, ◌∙◌, subst}
 use Rattle.std.specs.Prelude.{◌≡◌, ℕ, Option, None, option_map}
 use Rattle.std.proofs.lemmas.List.{take_rest}
 use Rattle.fast_value.specs.meaning.Kinds.{U}

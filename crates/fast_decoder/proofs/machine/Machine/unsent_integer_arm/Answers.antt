@@ -1,12 +1,7 @@
 -- The number that the entry holds, or the next one.
-use Rattle.std.proofs.Common.{refl, sym, ◌∙◌, ap, subst}
-use Rattle.std.specs.Prelude.{◌≡◌, ◌≢◌, Bool, true, false, Option, option_map}
+use Rattle.std.proofs.Common.{refl, sym, ◌∙◌, subst}
+use Rattle.std.specs.Prelude.{false, Option}
 use Rattle.fast_value.specs.meaning.Kinds.{ScalarData}
-use Rattle.fast_value.specs.meaning.Values.{scalar_data}
-use Rattle.fast_tree.specs.declared.operators.Operator.{Operator}
-use Rattle.fast_tree.specs.declared.operators.Operator.TheVariants.{None, Constant, Default, Copy, Increment, Delta, Tail}
-use Rattle.fast_tree.specs.meaning.Tree.{operator_uses_bit}
-use Rattle.fast_units.specs.device.Deciding.{needs_bytes}
 use Rattle.fast_decoder.specs.device.Arms.{IsFieldUnsent}
 use Rattle.fast_decoder.specs.device.Positions.{set_of}
 use Rattle.fast_decoder.proofs.arms.Fields.{op_node, entry_there, uses_as, item_unsent, field_of, unneeded}

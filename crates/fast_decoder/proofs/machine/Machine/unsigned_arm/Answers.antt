@@ -1,9 +1,8 @@
 -- The number that stands in the stream, or nothing is sent of it.
-use Rattle.std.proofs.Common.{refl, sym, ◌∙◌, ap, subst}
-use Rattle.std.specs.Prelude.{◌≡◌, ◌⊎◌, Bool, true, false, Option, option_map}
+use Rattle.std.proofs.Common.{refl, sym, ◌∙◌, subst}
+use Rattle.std.specs.Prelude.{◌≡◌, ◌⊎◌, Bool, true, false, Option}
 use Rattle.fast_wire.specs.meaning.Maps.{first_bit}
 use Rattle.fast_value.specs.meaning.Kinds.{ScalarData}
-use Rattle.fast_value.specs.meaning.Values.{scalar_data}
 use Rattle.fast_cursor.specs.device.Cursors.{bits_left}
 use Rattle.fast_cursor.specs.device.Places.{at_place}
 use Rattle.fast_decoder.specs.device.Arms.{IsFieldTaken}

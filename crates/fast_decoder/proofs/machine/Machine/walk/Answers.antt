@@ -2,10 +2,10 @@
 use Rattle.std.proofs.Common.{refl, sym, ap, ◌∙◌, subst, arith}
 use Rattle.std.proofs.lemmas.List.{length-drop}
 use Rattle.fast_decoder.specs.device.Moving.{events_due}
-use Rattle.std.specs.Prelude.{◌≡◌, ◌<◌, ◌≤◌, ◌-◌, length, Result, Ok, Err}
+use Rattle.std.specs.Prelude.{◌-◌, length, Result}
 use Rattle.fast_stream.specs.declared.faults.FaultCode.{FaultCode}
 use Rattle.fast_decoder.specs.declared.machine.Turn.{Turn}
-use Rattle.fast_decoder.specs.declared.machine.Turn.TheVariants.{Silent, Handed, Waits}
+use Rattle.fast_decoder.specs.declared.machine.Turn.TheVariants.{Silent, Handed}
 use Rattle.fast_decoder.specs.device.Arms.{IsAtSpot, HasWent}
 use Rattle.fast_decoder.specs.device.Positions.{set_of}
 use Rattle.fast_decoder.specs.device.Steps.{IsStep}
