@@ -6,7 +6,6 @@ pub mod QuickSteps
 pub mod ShortMaps
 pub mod StartMaps
 pub mod SentItems
-pub mod PlainItems
 pub mod PartTakes
 pub mod ScalarMachines
 pub mod ScalarSteps

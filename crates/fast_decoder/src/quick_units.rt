@@ -1,5 +1,5 @@
-//! The quick way of a machine: units that stand whole in the piece and are of the most common forms, which an opcode names. All
-//! else is left to the general way; the quick way has changed nothing then.
+//! The quick way behind a turn of the machine: units that stand whole in the piece and are of the most common forms. All else is left
+//! to the general way; the quick way has changed nothing then.
 
 ghost use Rattle.std.specs.Prelude.{◌≡◌, ◌≢◌, ◌+◌, ◌<◌, ℕ, List, length, Ok, IfSome, IfNone};
 ghost use Rattle.fast_value.specs.meaning.Kinds.{integers};

@@ -181,7 +181,8 @@ impl<'t> Machine<'t> {
         sink: &mut S,
     ) -> Went
         requires length { (f : FieldData) × (claimed : ℕ)
-            × IsLengthTaken (set_of templates.now) limits self.old spot.old node f (run_in (set_of templates.now) start) (Some (U claimed)) bytes
+            × IsLengthTaken (set_of templates.now) limits self.old spot.old node f
+            (run_in (set_of templates.now) start) (Some (U claimed)) bytes
             × (within_limits (bounds limits) self.old.counted claimed ≡ Ok count) }
         requires total { self.old.counted + count ≤ limits.max_total }
         requires node { node < length (set_of templates.now).nodes }
@@ -257,13 +258,15 @@ impl<'t> Machine<'t> {
     ) -> Went
         requires spot { IsAtSpot (set_of templates.now) limits self.old spot.old.place }
         requires next { (optional : Bool)
-            × IsAtGroup (set_of templates.now) (at_place self.old.cursor spot.old.place) node optional (run_in (set_of templates.now) start) }
+            × IsAtGroup (set_of templates.now) (at_place self.old.cursor spot.old.place) node optional
+            (run_in (set_of templates.now) start) }
         requires node { node < length (set_of templates.now).nodes }
         requires run { IsRun (set_of templates.now).program start }
         requires width { slice_index self.old.widths.nodes.items node
             ≡ bits_of (body_in (set_of templates.now) (run_in (set_of templates.now) start)) }
         requires below { AreBelow (length (set_of templates.now).nodes) (run_in (set_of templates.now) start) }
-        ensures went { (from : Spot) → IsGroupHere (set_of templates.now) limits self.old from spot.old node (run_in (set_of templates.now) start)
+        ensures went { (from : Spot)
+            → IsGroupHere (set_of templates.now) limits self.old from spot.old node (run_in (set_of templates.now) start)
             → HasWent S.takes S.stops (set_of templates.now) limits self.old from sink.old result sink.new self.new
             spot.new }
     {

@@ -4,5 +4,4 @@ pub mod CapBounds
 pub mod Greatest
 pub mod TextNodes
 pub mod UsableFields
-pub mod OpcodeLaws
 pub mod BodyBits
