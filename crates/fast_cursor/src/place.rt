@@ -24,16 +24,17 @@ pub struct Place<'t> {
 }
 
 impl<'t> Place<'t> {
-    /// What there is to do next.
+    /// What there is to do next. It is lent, so that each arm of a loop loads what it needs of it.
     #[inline(always)]
-    pub fn op(&self) -> Op
+    pub fn op(&self) -> &'t Op
         requires run { IsRun self.now.ops.now self.now.ip }
-        ensures here { slice_get self.now.ops.now self.now.ip ≡ Some result }
-        ensures end { is_end result.code ≡ true → place_left self.now ≡ [] }
-        ensures more { is_end result.code ≡ false
-            → place_left self.now ≡ result.node ∷ run_at self.now.ops.now (self.now.ip + 1) }
+        ensures here { slice_get self.now.ops.now self.now.ip ≡ Some result.now }
+        ensures end { is_end result.now.code ≡ true → place_left self.now ≡ [] }
+        ensures more { is_end result.now.code ≡ false
+            → place_left self.now ≡ result.now.node ∷ run_at self.now.ops.now (self.now.ip + 1) }
     {
-        self.ops[self.ip]
+        let ops: &'t [Op] = self.ops;
+        &ops[self.ip]
     }
 
     /// The next instruction's node, if one is left.

@@ -23,7 +23,7 @@ use crate::machine::{Machine, Turn};
 use crate::spot::{Spot, Standing, Went, hand_taken, pass_value, stands};
 use crate::turns::Turns;
 use fast_cursor::place::Place;
-use fast_program::{Code, Op};
+use fast_program::Op;
 use fast_stream::Sink;
 use fast_template::{FieldInstruction, Operator, Shape, Templates};
 use fast_units::decimal_items::sent_decimal;
@@ -31,82 +31,6 @@ use fast_units::decimal_parts::{exponent_part, keep_part, leaves_mantissa, manti
 use fast_value::{Kind, Limits, Scalar};
 
 impl<'t> Machine<'t> {
-    /// A field of kind `Decimal`. Each arm knows operator and presence.
-    #[inline(always)]
-    pub fn decimal_codes_arm<S: Sink>(
-        &mut self,
-        templates: &'t Templates,
-        limits: Limits,
-        spot: &mut Spot<'t, '_>,
-        op: Op,
-        sink: &mut S,
-    ) -> Went
-        requires spot { IsAtSpot (set_of templates.now) limits self.old spot.old.place }
-        requires at { IsAtOp (set_of templates.now) spot.old.place op }
-        requires is { (x : Node) → slice_get (set_of templates.now).nodes op.node ≡ Some x
-            → IsOpOf op op.node x.shape }
-        ensures went { HasWent S.takes S.stops (set_of templates.now) limits self.old spot.old sink.old result sink.new
-            self.new spot.new }
-    {
-        match op.code {
-            Code::DecimalPlain => self.decimal_arm(
-                templates,
-                limits,
-                spot,
-                op,
-                Operator::None,
-                false,
-                sink,
-            ),
-            Code::DecimalNullablePlain => self.decimal_arm(
-                templates,
-                limits,
-                spot,
-                op,
-                Operator::None,
-                true,
-                sink,
-            ),
-            Code::DecimalCopy => self.decimal_arm(
-                templates,
-                limits,
-                spot,
-                op,
-                Operator::Copy,
-                false,
-                sink,
-            ),
-            Code::DecimalNullableCopy => self.decimal_arm(
-                templates,
-                limits,
-                spot,
-                op,
-                Operator::Copy,
-                true,
-                sink,
-            ),
-            Code::DecimalDelta => self.decimal_arm(
-                templates,
-                limits,
-                spot,
-                op,
-                Operator::Delta,
-                false,
-                sink,
-            ),
-            Code::DecimalNullableDelta => self.decimal_arm(
-                templates,
-                limits,
-                spot,
-                op,
-                Operator::Delta,
-                true,
-                sink,
-            ),
-            _ => Went::Declined,
-        }
-    }
-
     /// A field of decimals, whole.
     #[inline(always)]
     pub fn decimal_arm<S: Sink>(
@@ -114,15 +38,15 @@ impl<'t> Machine<'t> {
         templates: &'t Templates,
         limits: Limits,
         spot: &mut Spot<'t, '_>,
-        op: Op,
+        op: &Op,
         operator: Operator,
         optional: bool,
         sink: &mut S,
     ) -> Went
         requires no_constant { operator ≢ Operator.Constant }
         requires spot { IsAtSpot (set_of templates.now) limits self.old spot.old.place }
-        requires at { IsAtOp (set_of templates.now) spot.old.place op }
-        requires field { IsFieldOp (set_of templates.now) op Kind.Decimal operator optional }
+        requires at { IsAtOp (set_of templates.now) spot.old.place op.now }
+        requires field { IsFieldOp (set_of templates.now) op.now Kind.Decimal operator optional }
         ensures went { HasWent S.takes S.stops (set_of templates.now) limits self.old spot.old sink.old result sink.new
             self.new spot.new }
     {
@@ -170,12 +94,12 @@ impl<'t> Machine<'t> {
         templates: &'t Templates,
         limits: Limits,
         spot: &mut Spot<'t, '_>,
-        op: Op,
+        op: &Op,
         sink: &mut S,
     ) -> Went
         requires spot { IsAtSpot (set_of templates.now) limits self.old spot.old.place }
-        requires at { IsAtOp (set_of templates.now) spot.old.place op }
-        requires parts { IsPartsOp (set_of templates.now) op }
+        requires at { IsAtOp (set_of templates.now) spot.old.place op.now }
+        requires parts { IsPartsOp (set_of templates.now) op.now }
         ensures went { HasWent S.takes S.stops (set_of templates.now) limits self.old spot.old sink.old result sink.new
             self.new spot.new }
     {

@@ -42,7 +42,7 @@ impl<'t> Machine<'t> {
         templates: &'t Templates,
         limits: Limits,
         spot: &mut Spot<'t, '_>,
-        op: Op,
+        op: &Op,
         kind: Kind,
         top: u64,
         operator: Operator,
@@ -55,8 +55,8 @@ impl<'t> Machine<'t> {
         requires no_delta { operator ≢ Operator.Delta }
         requires no_constant { operator ≢ Operator.Constant }
         requires spot { IsAtSpot (set_of templates.now) limits self.old spot.old.place }
-        requires at { IsAtOp (set_of templates.now) spot.old.place op }
-        requires field { IsFieldOp (set_of templates.now) op kind operator optional }
+        requires at { IsAtOp (set_of templates.now) spot.old.place op.now }
+        requires field { IsFieldOp (set_of templates.now) op.now kind operator optional }
         ensures went { HasWent S.takes S.stops (set_of templates.now) limits self.old spot.old sink.old result sink.new
             self.new spot.new }
     {
@@ -99,7 +99,7 @@ impl<'t> Machine<'t> {
         templates: &'t Templates,
         limits: Limits,
         spot: &mut Spot<'t, '_>,
-        op: Op,
+        op: &Op,
         kind: Kind,
         low: i64,
         top: i64,
@@ -115,8 +115,8 @@ impl<'t> Machine<'t> {
         requires no_delta { operator ≢ Operator.Delta }
         requires no_constant { operator ≢ Operator.Constant }
         requires spot { IsAtSpot (set_of templates.now) limits self.old spot.old.place }
-        requires at { IsAtOp (set_of templates.now) spot.old.place op }
-        requires field { IsFieldOp (set_of templates.now) op kind operator optional }
+        requires at { IsAtOp (set_of templates.now) spot.old.place op.now }
+        requires field { IsFieldOp (set_of templates.now) op.now kind operator optional }
         ensures went { HasWent S.takes S.stops (set_of templates.now) limits self.old spot.old sink.old result sink.new
             self.new spot.new }
     {
@@ -160,15 +160,15 @@ impl<'t> Machine<'t> {
         templates: &'t Templates,
         limits: Limits,
         spot: &mut Spot<'t, '_>,
-        op: Op,
+        op: &Op,
         kind: Kind,
         optional: bool,
         sink: &mut S,
     ) -> Went
         requires integers { family kind ≡ integers (range_of kind) }
         requires spot { IsAtSpot (set_of templates.now) limits self.old spot.old.place }
-        requires at { IsAtOp (set_of templates.now) spot.old.place op }
-        requires field { IsFieldOp (set_of templates.now) op kind Operator.Delta optional }
+        requires at { IsAtOp (set_of templates.now) spot.old.place op.now }
+        requires field { IsFieldOp (set_of templates.now) op.now kind Operator.Delta optional }
         ensures went { HasWent S.takes S.stops (set_of templates.now) limits self.old spot.old sink.old result sink.new
             self.new spot.new }
     {
@@ -198,7 +198,7 @@ impl<'t> Machine<'t> {
         templates: &'t Templates,
         limits: Limits,
         spot: &mut Spot<'t, '_>,
-        op: Op,
+        op: &Op,
         kind: Kind,
         operator: Operator,
         optional: bool,
@@ -209,8 +209,8 @@ impl<'t> Machine<'t> {
         requires clear { first_bit (bits_left (at_place self.old.cursor spot.old.place)) ≡ false }
         requires no_constant { operator ≢ Operator.Constant }
         requires spot { IsAtSpot (set_of templates.now) limits self.old spot.old.place }
-        requires at { IsAtOp (set_of templates.now) spot.old.place op }
-        requires field { IsFieldOp (set_of templates.now) op kind operator optional }
+        requires at { IsAtOp (set_of templates.now) spot.old.place op.now }
+        requires field { IsFieldOp (set_of templates.now) op.now kind operator optional }
         ensures went { HasWent S.takes S.stops (set_of templates.now) limits self.old spot.old sink.old result sink.new
             self.new spot.new }
     {
@@ -235,7 +235,7 @@ impl<'t> Machine<'t> {
         templates: &'t Templates,
         limits: Limits,
         spot: &mut Spot<'t, '_>,
-        op: Op,
+        op: &Op,
         kind: Kind,
         optional: bool,
         sink: &mut S,
@@ -243,8 +243,8 @@ impl<'t> Machine<'t> {
         requires more { 1 < spot.old.place.map.left }
         requires clear { first_bit (bits_left (at_place self.old.cursor spot.old.place)) ≡ false }
         requires spot { IsAtSpot (set_of templates.now) limits self.old spot.old.place }
-        requires at { IsAtOp (set_of templates.now) spot.old.place op }
-        requires field { IsFieldOp (set_of templates.now) op kind Operator.Default optional }
+        requires at { IsAtOp (set_of templates.now) spot.old.place op.now }
+        requires field { IsFieldOp (set_of templates.now) op.now kind Operator.Default optional }
         ensures went { HasWent S.takes S.stops (set_of templates.now) limits self.old spot.old sink.old result sink.new
             self.new spot.new }
     {

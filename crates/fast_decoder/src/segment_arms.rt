@@ -133,13 +133,13 @@ impl<'t> Machine<'t> {
         templates: &'t Templates,
         limits: Limits,
         spot: &mut Spot<'t, '_>,
-        op: Op,
+        op: &Op,
         optional: bool,
         sink: &mut S,
     ) -> Went
         requires spot { IsAtSpot (set_of templates.now) limits self.old spot.old.place }
-        requires at { IsAtOp (set_of templates.now) spot.old.place op }
-        requires sequence { (x : Node) → slice_get (set_of templates.now).nodes op.node ≡ Some x
+        requires at { IsAtOp (set_of templates.now) spot.old.place op.now }
+        requires sequence { (x : Node) → slice_get (set_of templates.now).nodes op.now.node ≡ Some x
             → IsSequenceCoded optional x.shape }
         ensures went { HasWent S.takes S.stops (set_of templates.now) limits self.old spot.old sink.old result sink.new
             self.new spot.new }
@@ -214,13 +214,13 @@ impl<'t> Machine<'t> {
         templates: &'t Templates,
         limits: Limits,
         spot: &mut Spot<'t, '_>,
-        op: Op,
+        op: &Op,
         optional: bool,
         sink: &mut S,
     ) -> Went
         requires spot { IsAtSpot (set_of templates.now) limits self.old spot.old.place }
-        requires at { IsAtOp (set_of templates.now) spot.old.place op }
-        requires group { (x : Node) → slice_get (set_of templates.now).nodes op.node ≡ Some x
+        requires at { IsAtOp (set_of templates.now) spot.old.place op.now }
+        requires group { (x : Node) → slice_get (set_of templates.now).nodes op.now.node ≡ Some x
             → IsGroupCoded optional x.shape }
         ensures went { HasWent S.takes S.stops (set_of templates.now) limits self.old spot.old sink.old result sink.new
             self.new spot.new }

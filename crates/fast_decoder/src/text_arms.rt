@@ -22,9 +22,9 @@ use fast_value::{Kind, Limits};
 
 /// The field at an op.
 #[inline(always)]
-pub fn field_at(templates: &Templates, op: Op) -> Option<&FieldInstruction>
-    requires { op.node < length templates.now.nodes.items }
-    ensures { IfSome result (λ field. (x : Node) → slice_get templates.now.nodes.items op.node ≡ Some x
+pub fn field_at<'a>(templates: &'a Templates, op: &Op) -> Option<&'a FieldInstruction>
+    requires { op.now.node < length templates.now.nodes.items }
+    ensures { IfSome result (λ field. (x : Node) → slice_get templates.now.nodes.items op.now.node ≡ Some x
         → x.shape ≡ Shape.Field field.now) }
 {
     match &templates.node(u32::from(op.node)).shape {
@@ -41,12 +41,12 @@ impl<'t> Machine<'t> {
         templates: &'t Templates,
         limits: Limits,
         spot: &mut Spot<'t, '_>,
-        op: Op,
+        op: &Op,
         sink: &mut S,
     ) -> Went
         requires spot { IsAtSpot (set_of templates.now) limits self.old spot.old.place }
-        requires at { IsAtOp (set_of templates.now) spot.old.place op }
-        requires constant { (x : Node) → slice_get (set_of templates.now).nodes op.node ≡ Some x
+        requires at { IsAtOp (set_of templates.now) spot.old.place op.now }
+        requires constant { (x : Node) → slice_get (set_of templates.now).nodes op.now.node ≡ Some x
             → IsConstantCoded x.shape }
         ensures went { HasWent S.takes S.stops (set_of templates.now) limits self.old spot.old sink.old result sink.new
             self.new spot.new }
@@ -65,15 +65,15 @@ impl<'t> Machine<'t> {
         templates: &'t Templates,
         limits: Limits,
         spot: &mut Spot<'t, '_>,
-        op: Op,
+        op: &Op,
         operator: Operator,
         optional: bool,
         sink: &mut S,
     ) -> Went
         requires no_constant { operator ≢ Operator.Constant }
         requires spot { IsAtSpot (set_of templates.now) limits self.old spot.old.place }
-        requires at { IsAtOp (set_of templates.now) spot.old.place op }
-        requires field { IsFieldOp (set_of templates.now) op Kind.Ascii operator optional }
+        requires at { IsAtOp (set_of templates.now) spot.old.place op.now }
+        requires field { IsFieldOp (set_of templates.now) op.now Kind.Ascii operator optional }
         ensures went { HasWent S.takes S.stops (set_of templates.now) limits self.old spot.old sink.old result sink.new
             self.new spot.new }
     {
@@ -119,7 +119,7 @@ impl<'t> Machine<'t> {
         templates: &'t Templates,
         limits: Limits,
         spot: &mut Spot<'t, '_>,
-        op: Op,
+        op: &Op,
         operator: Operator,
         optional: bool,
         sink: &mut S,
@@ -128,8 +128,8 @@ impl<'t> Machine<'t> {
         requires more { 1 < spot.old.place.map.left }
         requires clear { first_bit (bits_left (at_place self.old.cursor spot.old.place)) ≡ false }
         requires spot { IsAtSpot (set_of templates.now) limits self.old spot.old.place }
-        requires at { IsAtOp (set_of templates.now) spot.old.place op }
-        requires field { IsFieldOp (set_of templates.now) op Kind.Ascii operator optional }
+        requires at { IsAtOp (set_of templates.now) spot.old.place op.now }
+        requires field { IsFieldOp (set_of templates.now) op.now Kind.Ascii operator optional }
         ensures went { HasWent S.takes S.stops (set_of templates.now) limits self.old spot.old sink.old result sink.new
             self.new spot.new }
     {
@@ -158,7 +158,7 @@ impl<'t> Machine<'t> {
         templates: &'t Templates,
         limits: Limits,
         spot: &mut Spot<'t, '_>,
-        op: Op,
+        op: &Op,
         kind: Kind,
         optional: bool,
         sink: &mut S,
@@ -166,8 +166,8 @@ impl<'t> Machine<'t> {
         requires more { 1 < spot.old.place.map.left }
         requires clear { first_bit (bits_left (at_place self.old.cursor spot.old.place)) ≡ false }
         requires spot { IsAtSpot (set_of templates.now) limits self.old spot.old.place }
-        requires at { IsAtOp (set_of templates.now) spot.old.place op }
-        requires field { IsFieldOp (set_of templates.now) op kind Operator.Default optional }
+        requires at { IsAtOp (set_of templates.now) spot.old.place op.now }
+        requires field { IsFieldOp (set_of templates.now) op.now kind Operator.Default optional }
         ensures went { HasWent S.takes S.stops (set_of templates.now) limits self.old spot.old sink.old result sink.new
             self.new spot.new }
     {

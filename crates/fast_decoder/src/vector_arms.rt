@@ -27,7 +27,7 @@ impl<'t> Machine<'t> {
         templates: &'t Templates,
         limits: Limits,
         spot: &mut Spot<'t, '_>,
-        op: Op,
+        op: &Op,
         kind: Kind,
         optional: bool,
         sink: &mut S,
@@ -35,8 +35,8 @@ impl<'t> Machine<'t> {
         requires text { family kind ≡ texts }
         requires vector { kind ≢ Kind.Ascii }
         requires spot { IsAtSpot (set_of templates.now) limits self.old spot.old.place }
-        requires at { IsAtOp (set_of templates.now) spot.old.place op }
-        requires field { IsFieldOp (set_of templates.now) op kind Operator.None optional }
+        requires at { IsAtOp (set_of templates.now) spot.old.place op.now }
+        requires field { IsFieldOp (set_of templates.now) op.now kind Operator.None optional }
         ensures went { HasWent S.takes S.stops (set_of templates.now) limits self.old spot.old sink.old result sink.new
             self.new spot.new }
     {
@@ -65,15 +65,15 @@ impl<'t> Machine<'t> {
         templates: &'t Templates,
         limits: Limits,
         spot: &mut Spot<'t, '_>,
-        op: Op,
+        op: &Op,
         kind: Kind,
         optional: bool,
         sink: &mut S,
     ) -> Went
         requires text { family kind ≡ texts }
         requires spot { IsAtSpot (set_of templates.now) limits self.old spot.old.place }
-        requires at { IsAtOp (set_of templates.now) spot.old.place op }
-        requires field { IsFieldOp (set_of templates.now) op kind Operator.Delta optional }
+        requires at { IsAtOp (set_of templates.now) spot.old.place op.now }
+        requires field { IsFieldOp (set_of templates.now) op.now kind Operator.Delta optional }
         ensures went { HasWent S.takes S.stops (set_of templates.now) limits self.old spot.old sink.old result sink.new
             self.new spot.new }
     {
@@ -110,7 +110,7 @@ impl<'t> Machine<'t> {
         templates: &'t Templates,
         limits: Limits,
         spot: &mut Spot<'t, '_>,
-        op: Op,
+        op: &Op,
         kind: Kind,
         optional: bool,
         sink: &mut S,
@@ -118,8 +118,8 @@ impl<'t> Machine<'t> {
         requires text { family kind ≡ texts }
         requires vector { kind ≢ Kind.Ascii }
         requires spot { IsAtSpot (set_of templates.now) limits self.old spot.old.place }
-        requires at { IsAtOp (set_of templates.now) spot.old.place op }
-        requires field { IsFieldOp (set_of templates.now) op kind Operator.Tail optional }
+        requires at { IsAtOp (set_of templates.now) spot.old.place op.now }
+        requires field { IsFieldOp (set_of templates.now) op.now kind Operator.Tail optional }
         ensures went { HasWent S.takes S.stops (set_of templates.now) limits self.old spot.old sink.old result sink.new
             self.new spot.new }
     {
@@ -163,7 +163,7 @@ impl<'t> Machine<'t> {
         templates: &'t Templates,
         limits: Limits,
         spot: &mut Spot<'t, '_>,
-        op: Op,
+        op: &Op,
         kind: Kind,
         optional: bool,
         sink: &mut S,
@@ -171,8 +171,8 @@ impl<'t> Machine<'t> {
         requires more { 1 < spot.old.place.map.left }
         requires clear { first_bit (bits_left (at_place self.old.cursor spot.old.place)) ≡ false }
         requires spot { IsAtSpot (set_of templates.now) limits self.old spot.old.place }
-        requires at { IsAtOp (set_of templates.now) spot.old.place op }
-        requires field { IsFieldOp (set_of templates.now) op kind Operator.Tail optional }
+        requires at { IsAtOp (set_of templates.now) spot.old.place op.now }
+        requires field { IsFieldOp (set_of templates.now) op.now kind Operator.Tail optional }
         ensures went { HasWent S.takes S.stops (set_of templates.now) limits self.old spot.old sink.old result sink.new
             self.new spot.new }
     {

@@ -21,18 +21,19 @@ use crate::spot::{Gone, Spot, Went};
 use fast_cursor::place::Place;
 use fast_program::{Code, Op};
 use fast_stream::{FaultCode, Sink};
-use fast_template::Templates;
-use fast_value::Limits;
+use fast_template::{Operator, Templates};
+use fast_value::{Kind, Limits};
 
 impl<'t> Machine<'t> {
     /// The op at a place: the next instruction's, or the end of the innermost segment.
     #[inline(always)]
-    fn op_at(&self, templates: &'t Templates, limits: Limits, place: &Place<'t>) -> Op
+    fn op_at(&self, templates: &'t Templates, limits: Limits, place: &Place<'t>) -> &'t Op
         requires spot { IsAtSpot (set_of templates.now) limits self.now place.now }
-        ensures end { result.code ≡ Code.End → place_left place.now ≡ [] }
-        ensures at { result.code ≢ Code.End → IsAtOp (set_of templates.now) place.now result }
-        ensures is { result.code ≢ Code.End → (x : Node) → slice_get (set_of templates.now).nodes result.node ≡ Some x
-            → IsOpOf result result.node x.shape }
+        ensures end { result.now.code ≡ Code.End → place_left place.now ≡ [] }
+        ensures at { result.now.code ≢ Code.End → IsAtOp (set_of templates.now) place.now result.now }
+        ensures is { result.now.code ≢ Code.End → (x : Node)
+            → slice_get (set_of templates.now).nodes result.now.node ≡ Some x
+            → IsOpOf result.now result.now.node x.shape }
     {
         let _ = limits;
         let _ = templates.program();
@@ -148,113 +149,85 @@ impl<'t> Machine<'t> {
             'events: loop {
                 'silent: loop {
                     let op = self.op_at(templates, limits, &spot.place);
+                    macro_rules! arm {
+                        ($arm:ident, $operator:ident, $optional:literal) => {
+                            arm!($arm, Operator::$operator, $optional)
+                        };
+                        ($arm:ident $(, $constant:expr)*) => {
+                            self.$arm(templates, limits, &mut spot, op $(, $constant)*, sink)
+                        };
+                    }
                     let went = match op.code {
-                        Code::UInt32Plain
-                        | Code::UInt32NullablePlain
-                        | Code::UInt32Delta
-                        | Code::UInt32NullableDelta => {
-                            self.uint32_plain_arm(templates, limits, &mut spot, op, sink)
-                        }
-                        Code::UInt32Default
-                        | Code::UInt32NullableDefault
-                        | Code::UInt32Copy
-                        | Code::UInt32NullableCopy
-                        | Code::UInt32Increment
-                        | Code::UInt32NullableIncrement => {
-                            self.uint32_kept_arm(templates, limits, &mut spot, op, sink)
-                        }
-                        Code::UInt64Plain
-                        | Code::UInt64NullablePlain
-                        | Code::UInt64Delta
-                        | Code::UInt64NullableDelta => {
-                            self.uint64_plain_arm(templates, limits, &mut spot, op, sink)
-                        }
-                        Code::UInt64Default
-                        | Code::UInt64NullableDefault
-                        | Code::UInt64Copy
-                        | Code::UInt64NullableCopy
-                        | Code::UInt64Increment
-                        | Code::UInt64NullableIncrement => {
-                            self.uint64_kept_arm(templates, limits, &mut spot, op, sink)
-                        }
-                        Code::Int32Plain
-                        | Code::Int32NullablePlain
-                        | Code::Int32Delta
-                        | Code::Int32NullableDelta => {
-                            self.int32_plain_arm(templates, limits, &mut spot, op, sink)
-                        }
-                        Code::Int32Default
-                        | Code::Int32NullableDefault
-                        | Code::Int32Copy
-                        | Code::Int32NullableCopy
-                        | Code::Int32Increment
-                        | Code::Int32NullableIncrement => {
-                            self.int32_kept_arm(templates, limits, &mut spot, op, sink)
-                        }
-                        Code::Int64Plain
-                        | Code::Int64NullablePlain
-                        | Code::Int64Delta
-                        | Code::Int64NullableDelta => {
-                            self.int64_plain_arm(templates, limits, &mut spot, op, sink)
-                        }
-                        Code::Int64Default
-                        | Code::Int64NullableDefault
-                        | Code::Int64Copy
-                        | Code::Int64NullableCopy
-                        | Code::Int64Increment
-                        | Code::Int64NullableIncrement => {
-                            self.int64_kept_arm(templates, limits, &mut spot, op, sink)
-                        }
-                        Code::Constant => {
-                            self.constant_arm(templates, limits, &mut spot, op, sink)
-                        }
-                        Code::DecimalPlain
-                        | Code::DecimalNullablePlain
-                        | Code::DecimalCopy
-                        | Code::DecimalNullableCopy
-                        | Code::DecimalDelta
-                        | Code::DecimalNullableDelta => {
-                            self.decimal_codes_arm(templates, limits, &mut spot, op, sink)
-                        }
-                        Code::Parts => { self.parts_arm(templates, limits, &mut spot, op, sink) }
-                        Code::AsciiPlain
-                        | Code::AsciiNullablePlain
-                        | Code::AsciiDelta
-                        | Code::AsciiNullableDelta => {
-                            self.ascii_plain_arm(templates, limits, &mut spot, op, sink)
-                        }
-                        Code::AsciiDefault
-                        | Code::AsciiNullableDefault
-                        | Code::AsciiCopy
-                        | Code::AsciiNullableCopy
-                        | Code::AsciiTail
-                        | Code::AsciiNullableTail => {
-                            self.ascii_kept_arm(templates, limits, &mut spot, op, sink)
-                        }
-                        Code::UnicodePlain
-                        | Code::UnicodeNullablePlain
-                        | Code::UnicodeDelta
-                        | Code::UnicodeNullableDelta => {
-                            self.unicode_arm(templates, limits, &mut spot, op, sink)
-                        }
-                        Code::BytesPlain
-                        | Code::BytesNullablePlain
-                        | Code::BytesTail
-                        | Code::BytesNullableTail => {
-                            self.bytes_arm(templates, limits, &mut spot, op, sink)
-                        }
-                        Code::Group => {
-                            self.group_arm(templates, limits, &mut spot, op, false, sink)
-                        }
-                        Code::OptionalGroup => {
-                            self.group_arm(templates, limits, &mut spot, op, true, sink)
-                        }
-                        Code::Sequence => {
-                            self.sequence_arm(templates, limits, &mut spot, op, false, sink)
-                        }
-                        Code::OptionalSequence => {
-                            self.sequence_arm(templates, limits, &mut spot, op, true, sink)
-                        }
+                        Code::UInt32Plain => arm!(uint32_arm, None, false),
+                        Code::UInt32NullablePlain => arm!(uint32_arm, None, true),
+                        Code::UInt32Default => arm!(uint32_arm, Default, false),
+                        Code::UInt32NullableDefault => arm!(uint32_arm, Default, true),
+                        Code::UInt32Copy => arm!(uint32_arm, Copy, false),
+                        Code::UInt32NullableCopy => arm!(uint32_arm, Copy, true),
+                        Code::UInt32Increment => arm!(uint32_arm, Increment, false),
+                        Code::UInt32NullableIncrement => arm!(uint32_arm, Increment, true),
+                        Code::UInt32Delta => arm!(delta_arm, Kind::UInt32, false),
+                        Code::UInt32NullableDelta => arm!(delta_arm, Kind::UInt32, true),
+                        Code::UInt64Plain => arm!(uint64_arm, None, false),
+                        Code::UInt64NullablePlain => arm!(uint64_arm, None, true),
+                        Code::UInt64Default => arm!(uint64_arm, Default, false),
+                        Code::UInt64NullableDefault => arm!(uint64_arm, Default, true),
+                        Code::UInt64Copy => arm!(uint64_arm, Copy, false),
+                        Code::UInt64NullableCopy => arm!(uint64_arm, Copy, true),
+                        Code::UInt64Increment => arm!(uint64_arm, Increment, false),
+                        Code::UInt64NullableIncrement => arm!(uint64_arm, Increment, true),
+                        Code::UInt64Delta => arm!(delta_arm, Kind::UInt64, false),
+                        Code::UInt64NullableDelta => arm!(delta_arm, Kind::UInt64, true),
+                        Code::Int32Plain => arm!(int32_arm, None, false),
+                        Code::Int32NullablePlain => arm!(int32_arm, None, true),
+                        Code::Int32Default => arm!(int32_arm, Default, false),
+                        Code::Int32NullableDefault => arm!(int32_arm, Default, true),
+                        Code::Int32Copy => arm!(int32_arm, Copy, false),
+                        Code::Int32NullableCopy => arm!(int32_arm, Copy, true),
+                        Code::Int32Increment => arm!(int32_arm, Increment, false),
+                        Code::Int32NullableIncrement => arm!(int32_arm, Increment, true),
+                        Code::Int32Delta => arm!(delta_arm, Kind::Int32, false),
+                        Code::Int32NullableDelta => arm!(delta_arm, Kind::Int32, true),
+                        Code::Int64Plain => arm!(int64_arm, None, false),
+                        Code::Int64NullablePlain => arm!(int64_arm, None, true),
+                        Code::Int64Default => arm!(int64_arm, Default, false),
+                        Code::Int64NullableDefault => arm!(int64_arm, Default, true),
+                        Code::Int64Copy => arm!(int64_arm, Copy, false),
+                        Code::Int64NullableCopy => arm!(int64_arm, Copy, true),
+                        Code::Int64Increment => arm!(int64_arm, Increment, false),
+                        Code::Int64NullableIncrement => arm!(int64_arm, Increment, true),
+                        Code::Int64Delta => arm!(delta_arm, Kind::Int64, false),
+                        Code::Int64NullableDelta => arm!(delta_arm, Kind::Int64, true),
+                        Code::Constant => arm!(constant_arm),
+                        Code::DecimalPlain => arm!(decimal_arm, None, false),
+                        Code::DecimalNullablePlain => arm!(decimal_arm, None, true),
+                        Code::DecimalCopy => arm!(decimal_arm, Copy, false),
+                        Code::DecimalNullableCopy => arm!(decimal_arm, Copy, true),
+                        Code::DecimalDelta => arm!(decimal_arm, Delta, false),
+                        Code::DecimalNullableDelta => arm!(decimal_arm, Delta, true),
+                        Code::Parts => arm!(parts_arm),
+                        Code::AsciiPlain => arm!(ascii_arm, None, false),
+                        Code::AsciiNullablePlain => arm!(ascii_arm, None, true),
+                        Code::AsciiDefault => arm!(ascii_arm, Default, false),
+                        Code::AsciiNullableDefault => arm!(ascii_arm, Default, true),
+                        Code::AsciiCopy => arm!(ascii_arm, Copy, false),
+                        Code::AsciiNullableCopy => arm!(ascii_arm, Copy, true),
+                        Code::AsciiTail => arm!(ascii_arm, Tail, false),
+                        Code::AsciiNullableTail => arm!(ascii_arm, Tail, true),
+                        Code::AsciiDelta => arm!(part_arm, Kind::Ascii, false),
+                        Code::AsciiNullableDelta => arm!(part_arm, Kind::Ascii, true),
+                        Code::UnicodePlain => arm!(vector_arm, Kind::Unicode, false),
+                        Code::UnicodeNullablePlain => arm!(vector_arm, Kind::Unicode, true),
+                        Code::UnicodeDelta => arm!(part_arm, Kind::Unicode, false),
+                        Code::UnicodeNullableDelta => arm!(part_arm, Kind::Unicode, true),
+                        Code::BytesPlain => arm!(vector_arm, Kind::Bytes, false),
+                        Code::BytesNullablePlain => arm!(vector_arm, Kind::Bytes, true),
+                        Code::BytesTail => arm!(tail_arm, Kind::Bytes, false),
+                        Code::BytesNullableTail => arm!(tail_arm, Kind::Bytes, true),
+                        Code::Group => arm!(group_arm, false),
+                        Code::OptionalGroup => arm!(group_arm, true),
+                        Code::Sequence => arm!(sequence_arm, false),
+                        Code::OptionalSequence => arm!(sequence_arm, true),
                         Code::End => self.end_arm(templates, limits, &mut spot, sink),
                         Code::General => Went::Declined,
                     };

@@ -3,7 +3,6 @@
 //! `None` stands for all else, faults included: nothing has changed then, and the general way finds out.
 
 ghost use Rattle.std.specs.Prelude.{◌≡◌, ◌≢◌, ◌<◌, ◌≤◌, ℕ, length, take, true, false, Some, Ok, option_map, pos, IfSome, IfNone};
-ghost use Rattle.std.specs.Str.{is_utf8};
 ghost use Rattle.fast_wire.specs.meaning.Integers.{unsigned_range};
 ghost use Rattle.fast_wire.specs.device.Fronts.{IsFirstInt};
 ghost use Rattle.fast_wire.specs.declared.fronts.First.TheVariants.{Whole};
@@ -18,6 +17,7 @@ use crate::joined_parts::put_tail;
 use crate::source::ValueSource;
 use crate::taken::TakenText;
 use crate::texts::TOP_SIZE;
+use fast_dict::operators::is_utf8;
 use fast_dict::{Slots, Store};
 use fast_tree::Operator;
 use fast_value::{Kind, Limits};
@@ -54,14 +54,6 @@ pub(crate) fn is_text_of(kind: Kind, text: &[u8]) -> bool
         Kind::Unicode => is_utf8(text),
         _ => true,
     }
-}
-
-/// Whether a text is UTF-8. Most texts are short, which this reads in fewer steps than a check by vectors.
-#[inline(never)]
-fn is_utf8(text: &[u8]) -> bool
-    ensures { result ≡ is_utf8 text.now }
-{
-    std::str::from_utf8(text).is_ok()
 }
 
 /// Takes a vector that is not kept, or NULL. It is lent from the piece.

@@ -162,11 +162,14 @@ pub fn joined(kind: Kind, text: &[u8]) -> Result<Outcome<'_>, Code>
     Ok(Outcome::kept(kind, checked_text(kind, text)?))
 }
 
-/// Whether a text is UTF-8.
+/// Whether a text is UTF-8. A short one is read in fewer steps than a check by vectors takes for its first block.
 #[inline(never)]
-fn is_utf8(text: &[u8]) -> bool
+pub fn is_utf8(text: &[u8]) -> bool
     ensures { result ≡ is_utf8 text.now }
 {
+    if text.len() < 16 {
+        return str::from_utf8(text).is_ok();
+    }
     simdutf8::basic::from_utf8(text).is_ok()
 }
 

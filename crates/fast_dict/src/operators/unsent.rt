@@ -94,7 +94,7 @@ fn absent(field: &FieldInstruction, fault: Code) -> Result<Outcome<'_>, Code>
 }
 
 /// One more, and behind the greatest value of the kind the least.
-#[inline]
+#[inline(always)]
 pub fn next_integer<'a>(kind: Kind, value: Scalar<'a>) -> Scalar<'a>
     ensures { scalar_data result ≡ value_of_integer kind
         (incremented (range_of kind) (integer_of (scalar_data value.entry))) }
@@ -130,6 +130,7 @@ pub fn next_integer<'a>(kind: Kind, value: Scalar<'a>) -> Scalar<'a>
 
 /// The same for any pair of kind and value.
 #[cold]
+#[inline(never)]
 fn next_in_range(kind: Kind, value: Scalar<'_>) -> Scalar<'static>
     ensures { scalar_data result ≡ value_of_integer kind
         (incremented (range_of kind) (integer_of (scalar_data value.entry))) }
