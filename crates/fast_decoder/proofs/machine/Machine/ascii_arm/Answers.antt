@@ -18,8 +18,8 @@ pub sent_ascii-requires-clause-within : goal.sent_ascii-requires-clause-within
 sent_ascii-requires-clause-within g c =
     let m = c.args.self.now in
     let p = c.args.spot.now.place in
-    let (x, found) = op_node c.args.templates.now m p c.args.op c.requires.at in
-    entry_there c.args.templates.now c.args.limits m p c.args.op Ascii c.args.operator c.args.optional c.requires.spot c.requires.at c.requires.field x found
+    let (x, found) = op_node c.args.templates.now m p c.args.op.now c.requires.at in
+    entry_there c.args.templates.now c.args.limits m p c.args.op.now Ascii c.args.operator c.args.optional c.requires.spot c.requires.at c.requires.field x found
 
 pub hand_taken-requires-clause-within : goal.hand_taken-requires-clause-within
 hand_taken-requires-clause-within g c =
@@ -27,10 +27,10 @@ hand_taken-requires-clause-within g c =
     let l = c.args.limits in
     let m = c.args.self.now in
     let p = c.args.spot.now.place in
-    let (x, found) = op_node t m p c.args.op c.requires.at in
-    (c.in-Some.ensures.unit (field_of t l m p c.args.op Ascii c.args.operator c.args.optional c.requires.spot c.requires.at c.requires.field x found) l.strict (bounds l) refl
-    (as_coded t l m p c.args.op Ascii c.args.operator c.args.optional c.requires.spot c.requires.at c.requires.field x found)
-    (served t l m p c.args.op Ascii c.args.operator c.args.optional c.requires.spot c.requires.at c.requires.field x found)).1
+    let (x, found) = op_node t m p c.args.op.now c.requires.at in
+    (c.in-Some.ensures.unit (field_of t l m p c.args.op.now Ascii c.args.operator c.args.optional c.requires.spot c.requires.at c.requires.field x found) l.strict (bounds l) refl
+    (as_coded t l m p c.args.op.now Ascii c.args.operator c.args.optional c.requires.spot c.requires.at c.requires.field x found)
+    (served t l m p c.args.op.now Ascii c.args.operator c.args.optional c.requires.spot c.requires.at c.requires.field x found)).1
 
 pub returns-in-Some : goal.returns-in-Some
 returns-in-Some g c =
@@ -38,7 +38,7 @@ returns-in-Some g c =
     let l = c.args.limits in
     let m = c.args.self.now in
     let from = c.args.spot.now in
-    let op = c.args.op in
+    let op = c.args.op.now in
     let operator = c.args.operator in
     let optional = c.args.optional in
     let slots = c.sent_ascii.new.slots in

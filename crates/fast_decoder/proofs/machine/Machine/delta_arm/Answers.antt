@@ -11,14 +11,14 @@ use Rattle.fast_decoder.proofs.machine.Machine.delta_arm.Goals as goal
 pub sent_delta-requires-clause-within : goal.sent_delta-requires-clause-within
 sent_delta-requires-clause-within g c =
     let m = c.args.self.now in
-    let (x, found) = op_node c.args.templates.now m c.args.spot.now.place c.args.op c.requires.at in
-    entry_there c.args.templates.now c.args.limits m c.args.spot.now.place c.args.op c.args.kind Delta c.args.optional c.requires.spot c.requires.at c.requires.field x found
+    let (x, found) = op_node c.args.templates.now m c.args.spot.now.place c.args.op.now c.requires.at in
+    entry_there c.args.templates.now c.args.limits m c.args.spot.now.place c.args.op.now c.args.kind Delta c.args.optional c.requires.spot c.requires.at c.requires.field x found
 
 pub hand_taken-requires-clause-within : goal.hand_taken-requires-clause-within
 hand_taken-requires-clause-within g c =
     let m = c.args.self.now in
-    let (x, found) = op_node c.args.templates.now m c.args.spot.now.place c.args.op c.requires.at in
-    (item_taken c.args.templates.now c.args.limits m c.args.spot.now c.args.op c.args.kind Delta c.args.optional c.requires.spot c.requires.at c.requires.field x found c.sent_delta.new.slots c.in-Some.taken (λ e. cc e)
+    let (x, found) = op_node c.args.templates.now m c.args.spot.now.place c.args.op.now c.requires.at in
+    (item_taken c.args.templates.now c.args.limits m c.args.spot.now c.args.op.now c.args.kind Delta c.args.optional c.requires.spot c.requires.at c.requires.field x found c.sent_delta.new.slots c.in-Some.taken (λ e. cc e)
     (inl refl) c.in-Some.ensures.terms c.in-Some.ensures.unit).within
 
 pub returns-in-Some : goal.returns-in-Some
@@ -27,7 +27,7 @@ returns-in-Some g c =
     let l = c.args.limits in
     let m = c.args.self.now in
     let p = c.args.spot.now.place in
-    let op = c.args.op in
+    let op = c.args.op.now in
     let slots = c.sent_delta.new.slots in
     let (x, found) = op_node t m p op c.requires.at in
     let f = field_of t l m p op c.args.kind Delta c.args.optional c.requires.spot c.requires.at c.requires.field x found in

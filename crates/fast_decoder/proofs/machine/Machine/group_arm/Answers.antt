@@ -11,7 +11,7 @@ use Rattle.fast_decoder.proofs.machine.Machine.group_arm.Goals as goal
 pub enter_arm-requires-clause-next : goal.enter_arm-requires-clause-next
 enter_arm-requires-clause-next g c =
     let set = set_of c.args.templates.now in
-    let next = group_here c.args.templates.now c.args.self.now.cursor c.args.spot.now.place c.args.op c.from-node.result c.node.result.now c.in-Group.optional c.in-Group.body (run_in set c.body_start-start.result) c.args.optional
+    let next = group_here c.args.templates.now c.args.self.now.cursor c.args.spot.now.place c.args.op.now c.from-node.result c.node.result.now c.in-Group.optional c.in-Group.body (run_in set c.body_start-start.result) c.args.optional
     c.requires.at c.requires.group c.from-node.ensures c.node.ensures.found c.in-Group.is ((c.body_start-start.ensures c.node.result.now c.node.ensures.found).nodes ∙ ap numbers_of c.in-Group.is) in
     (c.args.optional, next)
 
@@ -19,7 +19,7 @@ pub returns-then-not-optional : goal.returns-then-not-optional
 returns-then-not-optional g c =
     let set = set_of c.args.templates.now in
     let m = c.args.self.now in
-    let next = group_here c.args.templates.now m.cursor c.args.spot.now.place c.args.op c.from-node.result c.node.result.now c.in-Group.optional c.in-Group.body (run_in set c.body_start-start.result) c.args.optional
+    let next = group_here c.args.templates.now m.cursor c.args.spot.now.place c.args.op.now c.from-node.result c.node.result.now c.in-Group.optional c.in-Group.body (run_in set c.body_start-start.result) c.args.optional
     c.requires.at c.requires.group c.from-node.ensures c.node.ensures.found c.in-Group.is ((c.body_start-start.ensures c.node.result.now c.node.ensures.found).nodes ∙ ap numbers_of c.in-Group.is) in
     record {
       went = c.enter_arm.ensures.went c.args.spot.now
@@ -31,7 +31,7 @@ pub returns-then-not-bit : goal.returns-then-not-bit
 returns-then-not-bit g c =
     let set = set_of c.args.templates.now in
     let m = c.args.self.now in
-    let next = group_here c.args.templates.now m.cursor c.args.spot.now.place c.args.op c.from-node.result c.node.result.now c.in-Group.optional c.in-Group.body (run_in set c.body_start-start.result) c.args.optional
+    let next = group_here c.args.templates.now m.cursor c.args.spot.now.place c.args.op.now c.from-node.result c.node.result.now c.in-Group.optional c.in-Group.body (run_in set c.body_start-start.result) c.args.optional
     c.requires.at c.requires.group c.from-node.ensures c.node.ensures.found c.in-Group.is ((c.body_start-start.ensures c.node.result.now c.node.ensures.found).nodes ∙ ap numbers_of c.in-Group.is) in
     record {
       went = record {
@@ -48,7 +48,7 @@ pub enter_arm-requires-2-clause-next : goal.enter_arm-requires-2-clause-next
 enter_arm-requires-2-clause-next g c =
     let set = set_of c.args.templates.now in
     let m = c.args.self.now in
-    let next = group_here c.args.templates.now m.cursor c.args.spot.now.place c.args.op c.from-node.result c.node.result.now c.in-Group.optional c.in-Group.body (run_in set c.body_start-start.result) c.args.optional
+    let next = group_here c.args.templates.now m.cursor c.args.spot.now.place c.args.op.now c.from-node.result c.node.result.now c.in-Group.optional c.in-Group.body (run_in set c.body_start-start.result) c.args.optional
     c.requires.at c.requires.group c.from-node.ensures c.node.ensures.found c.in-Group.is ((c.body_start-start.ensures c.node.result.now c.node.ensures.found).nodes ∙ ap numbers_of c.in-Group.is) in
     (c.args.optional, subst (λ ns. IsAtGroup set (record m.cursor { left = ns }) c.from-node.result c.args.optional (run_in set c.body_start-start.result)) (sym c.use_bit.ensures.left) next)
 
@@ -56,7 +56,7 @@ pub returns : goal.returns
 returns g c =
     let set = set_of c.args.templates.now in
     let m = c.args.self.now in
-    let next = group_here c.args.templates.now m.cursor c.args.spot.now.place c.args.op c.from-node.result c.node.result.now c.in-Group.optional c.in-Group.body (run_in set c.body_start-start.result) c.args.optional
+    let next = group_here c.args.templates.now m.cursor c.args.spot.now.place c.args.op.now c.from-node.result c.node.result.now c.in-Group.optional c.in-Group.body (run_in set c.body_start-start.result) c.args.optional
     c.requires.at c.requires.group c.from-node.ensures c.node.ensures.found c.in-Group.is ((c.body_start-start.ensures c.node.result.now c.node.ensures.found).nodes ∙ ap numbers_of c.in-Group.is) in
     record {
       went = c.enter_arm-2.ensures.went c.args.spot.now

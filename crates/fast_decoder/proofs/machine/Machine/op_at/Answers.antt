@@ -11,7 +11,7 @@ use Rattle.fast_decoder.proofs.machine.Machine.op_at.Goals as goal
 pub returns-clause-at : goal.returns-clause-at
 returns-clause-at c more =
     let nodes = (set_of c.args.templates.now).nodes in
-    let here = not_end c.op.result.code more in
+    let here = not_end c.op.result.now.code more in
     let suits : SuitNodes c.args.place.now.ops.now nodes = subst (λ (ops : List Op). SuitNodes ops nodes) (c.program.ensures.is ∙ sym (c.requires.spot.place.ops ∙ c.requires.spot.can.supplied.program)) c.program.ensures.suits in
-    let (x, found, is) = suits c.args.place.now.ip c.op.result c.op.ensures.here here in
-    (node_below nodes c.op.result.node x found, ap first_node (c.op.ensures.more here))
+    let (x, found, is) = suits c.args.place.now.ip c.op.result.now c.op.ensures.here here in
+    (node_below nodes c.op.result.now.node x found, ap first_node (c.op.ensures.more here))

@@ -24,7 +24,7 @@ returns-in_default-claimed g c = record {
       let l = c.args.limits in
       let m = c.args.self.now in
       let from = c.args.spot.now in
-      let h = sequence_taken c.args.templates.now l m from c.args.op c.from-node.result c.node.result.now c.in-Sequence.length c.in-Sequence.body (run_in set c.body_start-start.result) c.args.optional c.in-Some.claimed c.in-Some.bytes
+      let h = sequence_taken c.args.templates.now l m from c.args.op.now c.from-node.result c.node.result.now c.in-Sequence.length c.in-Sequence.body (run_in set c.body_start-start.result) c.args.optional c.in-Some.claimed c.in-Some.bytes
       c.requires.spot c.requires.at c.requires.sequence c.from-node.ensures c.node.ensures.found c.in-Sequence.is ((c.body_start-start.ensures c.node.result.now c.node.ensures.found).nodes ∙ ap numbers_of c.in-Sequence.is) c.in-Some.ensures in
       let none : option_map U c.in-Some.claimed ≡ None = ap (option_map U) c.in_default-claimed.is in (
         c.in-Some.bytes,
@@ -47,7 +47,7 @@ elements_arm-requires-clause-length g c =
     let m = c.args.self.now in
     let from = c.args.spot.now in
     let claimed = c.in-Some-claimed.claimed in
-    let h = sequence_taken c.args.templates.now l m from c.args.op c.from-node.result c.node.result.now c.in-Sequence.length c.in-Sequence.body (run_in set c.body_start-start.result) c.args.optional c.in-Some.claimed c.in-Some.bytes
+    let h = sequence_taken c.args.templates.now l m from c.args.op.now c.from-node.result c.node.result.now c.in-Sequence.length c.in-Sequence.body (run_in set c.body_start-start.result) c.args.optional c.in-Some.claimed c.in-Some.bytes
     c.requires.spot c.requires.at c.requires.sequence c.from-node.ensures c.node.ensures.found c.in-Sequence.is ((c.body_start-start.ensures c.node.result.now c.node.ensures.found).nodes ∙ ap numbers_of c.in-Sequence.is) c.in-Some.ensures in (
       field_data c.in-Sequence.length,
       claimed,

@@ -12,16 +12,16 @@ pub sent_tail-requires-clause-there : goal.sent_tail-requires-clause-there
 sent_tail-requires-clause-there g c =
     let m = c.args.self.now in
     let p = c.args.spot.now.place in
-    let (x, found) = op_node c.args.templates.now m p c.args.op c.requires.at in
-    entry_there c.args.templates.now c.args.limits m p c.args.op c.args.kind Tail c.args.optional c.requires.spot c.requires.at c.requires.field x found refl
+    let (x, found) = op_node c.args.templates.now m p c.args.op.now c.requires.at in
+    entry_there c.args.templates.now c.args.limits m p c.args.op.now c.args.kind Tail c.args.optional c.requires.spot c.requires.at c.requires.field x found refl
 
 pub kept_at-value-requires-clause-there : goal.kept_at-value-requires-clause-there
 kept_at-value-requires-clause-there g c =
     let m = c.args.self.now in
     let p = c.args.spot.now.place in
-    let (x, found) = op_node c.args.templates.now m p c.args.op c.requires.at in
-    entry_kept c.args.op.entry m.slots c.sent_tail.new.slots c.in-Some.ensures.terms
-    (entry_there c.args.templates.now c.args.limits m p c.args.op c.args.kind Tail c.args.optional c.requires.spot c.requires.at c.requires.field x found refl)
+    let (x, found) = op_node c.args.templates.now m p c.args.op.now c.requires.at in
+    entry_kept c.args.op.now.entry m.slots c.sent_tail.new.slots c.in-Some.ensures.terms
+    (entry_there c.args.templates.now c.args.limits m p c.args.op.now c.args.kind Tail c.args.optional c.requires.spot c.requires.at c.requires.field x found refl)
 
 pub returns-in-Some : goal.returns-in-Some
 returns-in-Some g c =
@@ -29,7 +29,7 @@ returns-in-Some g c =
     let l = c.args.limits in
     let m = c.args.self.now in
     let from = c.args.spot.now in
-    let op = c.args.op in
+    let op = c.args.op.now in
     let kind = c.args.kind in
     let optional = c.args.optional in
     let slots = c.sent_tail.new.slots in

@@ -11,9 +11,9 @@ pub unsent_ascii-requires : goal.unsent_ascii-requires
 unsent_ascii-requires g c =
     let m = c.args.self.now in
     let p = c.args.spot.now.place in
-    let (x, found) = op_node c.args.templates.now m p c.args.op c.requires.at in
+    let (x, found) = op_node c.args.templates.now m p c.args.op.now c.requires.at in
     record {
-      within = entry_there c.args.templates.now c.args.limits m p c.args.op Ascii c.args.operator c.args.optional c.requires.spot c.requires.at c.requires.field x found (keeps_text c.args.operator c.in-Copy.is).0;
+      within = entry_there c.args.templates.now c.args.limits m p c.args.op.now Ascii c.args.operator c.args.optional c.requires.spot c.requires.at c.requires.field x found (keeps_text c.args.operator c.in-Copy.is).0;
     }
 
 pub returns-in-Some : goal.returns-in-Some
@@ -22,7 +22,7 @@ returns-in-Some g c =
     let l = c.args.limits in
     let m = c.args.self.now in
     let p = c.args.spot.now.place in
-    let op = c.args.op in
+    let op = c.args.op.now in
     let operator = c.args.operator in
     let optional = c.args.optional in
     let (x, found) = op_node t m p op c.requires.at in

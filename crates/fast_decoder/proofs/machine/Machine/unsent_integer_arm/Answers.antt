@@ -10,8 +10,8 @@ use Rattle.fast_decoder.proofs.machine.Machine.unsent_integer_arm.Goals as goal
 pub unsent_integer-requires : goal.unsent_integer-requires
 unsent_integer-requires g c =
     let m = c.args.self.now in
-    let (x, found) = op_node c.args.templates.now m c.args.spot.now.place c.args.op c.requires.at in
-    record { within = entry_there c.args.templates.now c.args.limits m c.args.spot.now.place c.args.op c.args.kind c.args.operator c.args.optional c.requires.spot c.requires.at c.requires.field x found }
+    let (x, found) = op_node c.args.templates.now m c.args.spot.now.place c.args.op.now c.requires.at in
+    record { within = entry_there c.args.templates.now c.args.limits m c.args.spot.now.place c.args.op.now c.args.kind c.args.operator c.args.optional c.requires.spot c.requires.at c.requires.field x found }
 
 pub returns-in-Some : goal.returns-in-Some
 returns-in-Some g c =
@@ -19,7 +19,7 @@ returns-in-Some g c =
     let l = c.args.limits in
     let m = c.args.self.now in
     let p = c.args.spot.now.place in
-    let op = c.args.op in
+    let op = c.args.op.now in
     let slots = c.unsent_integer.new.slots in
     let (x, found) = op_node t m p op c.requires.at in
     let f = field_of t l m p op c.args.kind c.args.operator c.args.optional c.requires.spot c.requires.at c.requires.field x found in

@@ -11,15 +11,15 @@ pub unsent_text-requires : goal.unsent_text-requires
 unsent_text-requires g c =
     let m = c.args.self.now in
     let p = c.args.spot.now.place in
-    let (x, found) = op_node c.args.templates.now m p c.args.op c.requires.at in
-    record { there = entry_there c.args.templates.now c.args.limits m p c.args.op c.args.kind Tail c.args.optional c.requires.spot c.requires.at c.requires.field x found refl }
+    let (x, found) = op_node c.args.templates.now m p c.args.op.now c.requires.at in
+    record { there = entry_there c.args.templates.now c.args.limits m p c.args.op.now c.args.kind Tail c.args.optional c.requires.spot c.requires.at c.requires.field x found refl }
 
 pub kept_at-value-requires-clause-there : goal.kept_at-value-requires-clause-there
 kept_at-value-requires-clause-there g c =
     let m = c.args.self.now in
     let p = c.args.spot.now.place in
-    let (x, found) = op_node c.args.templates.now m p c.args.op c.requires.at in
-    entry_there c.args.templates.now c.args.limits m p c.args.op c.args.kind Tail c.args.optional c.requires.spot c.requires.at c.requires.field x found refl
+    let (x, found) = op_node c.args.templates.now m p c.args.op.now c.requires.at in
+    entry_there c.args.templates.now c.args.limits m p c.args.op.now c.args.kind Tail c.args.optional c.requires.spot c.requires.at c.requires.field x found refl
 
 pub returns-in-Some : goal.returns-in-Some
 returns-in-Some g c =
@@ -27,7 +27,7 @@ returns-in-Some g c =
     let l = c.args.limits in
     let m = c.args.self.now in
     let p = c.args.spot.now.place in
-    let op = c.args.op in
+    let op = c.args.op.now in
     let kind = c.args.kind in
     let optional = c.args.optional in
     let (x, found) = op_node t m p op c.requires.at in

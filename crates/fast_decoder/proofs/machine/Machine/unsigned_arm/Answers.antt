@@ -13,14 +13,14 @@ use Rattle.fast_decoder.proofs.machine.Machine.unsigned_arm.Goals as goal
 pub sent_unsigned-requires-clause-within : goal.sent_unsigned-requires-clause-within
 sent_unsigned-requires-clause-within g c =
     let m = c.args.self.now in
-    let (x, found) = op_node c.args.templates.now m c.args.spot.now.place c.args.op c.requires.at in
-    entry_there c.args.templates.now c.args.limits m c.args.spot.now.place c.args.op c.args.kind c.args.operator c.args.optional c.requires.spot c.requires.at c.requires.field x found
+    let (x, found) = op_node c.args.templates.now m c.args.spot.now.place c.args.op.now c.requires.at in
+    entry_there c.args.templates.now c.args.limits m c.args.spot.now.place c.args.op.now c.args.kind c.args.operator c.args.optional c.requires.spot c.requires.at c.requires.field x found
 
 pub hand_taken-requires-clause-within : goal.hand_taken-requires-clause-within
 hand_taken-requires-clause-within g c =
     let m = c.args.self.now in
-    let (x, found) = op_node c.args.templates.now m c.args.spot.now.place c.args.op c.requires.at in
-    (item_taken c.args.templates.now c.args.limits m c.args.spot.now c.args.op c.args.kind c.args.operator c.args.optional c.requires.spot c.requires.at c.requires.field x found c.sent_unsigned.new.slots c.in-Some.taken c.requires.no_constant
+    let (x, found) = op_node c.args.templates.now m c.args.spot.now.place c.args.op.now c.requires.at in
+    (item_taken c.args.templates.now c.args.limits m c.args.spot.now c.args.op.now c.args.kind c.args.operator c.args.optional c.requires.spot c.requires.at c.requires.field x found c.sent_unsigned.new.slots c.in-Some.taken c.requires.no_constant
     (subst (λ (b : Bool). (b ≡ false) ⊎ (first_bit (bits_left (at_place m.cursor c.args.spot.now.place)) ≡ true)) c.uses_bit-has_bit.ensures (c.in-Sent.ensures.sent refl m.cursor c.requires.spot.place))
     c.in-Some.ensures.terms c.in-Some.ensures.unit).within
 
@@ -30,7 +30,7 @@ returns-in-Some g c =
     let l = c.args.limits in
     let m = c.args.self.now in
     let p = c.args.spot.now.place in
-    let op = c.args.op in
+    let op = c.args.op.now in
     let slots = c.sent_unsigned.new.slots in
     let (x, found) = op_node t m p op c.requires.at in
     let f = field_of t l m p op c.args.kind c.args.operator c.args.optional c.requires.spot c.requires.at c.requires.field x found in

@@ -10,13 +10,14 @@ use Rattle.fast_decoder.specs.device.Arms.{IsAtSpot, HasWent}
 use Rattle.fast_decoder.specs.device.Positions.{set_of}
 use Rattle.fast_decoder.specs.device.Steps.{IsStep}
 use Rattle.fast_decoder.proofs.arms.Walks.{went_as, went_place, went_nowhere, went_left, went_within, went_far, gone_end}
-use Rattle.fast_decoder.proofs.machine.Machine.walk.Goals.{in-UInt32Plain, in-UInt32NullablePlain, in-UInt32Default, in-UInt32NullableDefault, in-UInt32Copy, in-UInt32NullableCopy, in-UInt32Increment, in-UInt32NullableIncrement, in-UInt32Delta, in-UInt32NullableDelta, in-UInt64Plain, in-UInt64NullablePlain, in-UInt64Default, in-UInt64NullableDefault, in-UInt64Copy, in-UInt64NullableCopy, in-UInt64Increment, in-UInt64NullableIncrement, in-UInt64Delta, in-UInt64NullableDelta, in-Int32Plain, in-Int32NullablePlain, in-Int32Default, in-Int32NullableDefault, in-Int32Copy, in-Int32NullableCopy, in-Int32Increment, in-Int32NullableIncrement, in-Int32Delta, in-Int32NullableDelta, in-Int64Plain, in-Int64NullablePlain, in-Int64Default, in-Int64NullableDefault, in-Int64Copy, in-Int64NullableCopy, in-Int64Increment, in-Int64NullableIncrement, in-Int64Delta, in-Int64NullableDelta, in-Constant, in-DecimalPlain, in-DecimalNullablePlain, in-DecimalCopy, in-DecimalNullableCopy, in-DecimalDelta, in-DecimalNullableDelta, in-Parts, in-AsciiPlain, in-AsciiNullablePlain, in-AsciiDefault, in-AsciiNullableDefault, in-AsciiCopy, in-AsciiNullableCopy, in-AsciiTail, in-AsciiNullableTail, in-AsciiDelta, in-AsciiNullableDelta, in-UnicodePlain, in-UnicodeNullablePlain, in-UnicodeDelta, in-UnicodeNullableDelta, in-BytesPlain, in-BytesNullablePlain, in-BytesTail, in-BytesNullableTail, in-Group, in-OptionalGroup, in-Sequence, in-OptionalSequence, in-End, in-General}
+use Rattle.fast_decoder.proofs.machine.Machine.walk.Given.{Over}
+use Rattle.fast_decoder.proofs.machine.Machine.walk.Goals.{After-or_general, in-UInt32Plain, in-UInt32NullablePlain, in-UInt32Default, in-UInt32NullableDefault, in-UInt32Copy, in-UInt32NullableCopy, in-UInt32Increment, in-UInt32NullableIncrement, in-UInt32Delta, in-UInt32NullableDelta, in-UInt64Plain, in-UInt64NullablePlain, in-UInt64Default, in-UInt64NullableDefault, in-UInt64Copy, in-UInt64NullableCopy, in-UInt64Increment, in-UInt64NullableIncrement, in-UInt64Delta, in-UInt64NullableDelta, in-Int32Plain, in-Int32NullablePlain, in-Int32Default, in-Int32NullableDefault, in-Int32Copy, in-Int32NullableCopy, in-Int32Increment, in-Int32NullableIncrement, in-Int32Delta, in-Int32NullableDelta, in-Int64Plain, in-Int64NullablePlain, in-Int64Default, in-Int64NullableDefault, in-Int64Copy, in-Int64NullableCopy, in-Int64Increment, in-Int64NullableIncrement, in-Int64Delta, in-Int64NullableDelta, in-Constant, in-DecimalPlain, in-DecimalNullablePlain, in-DecimalCopy, in-DecimalNullableCopy, in-DecimalDelta, in-DecimalNullableDelta, in-Parts, in-AsciiPlain, in-AsciiNullablePlain, in-AsciiDefault, in-AsciiNullableDefault, in-AsciiCopy, in-AsciiNullableCopy, in-AsciiTail, in-AsciiNullableTail, in-AsciiDelta, in-AsciiNullableDelta, in-UnicodePlain, in-UnicodeNullablePlain, in-UnicodeDelta, in-UnicodeNullableDelta, in-BytesPlain, in-BytesNullablePlain, in-BytesTail, in-BytesNullableTail, in-Group, in-OptionalGroup, in-Sequence, in-OptionalSequence, in-End, in-General}
 use Rattle.fast_program.proofs.Claims.{claimed}
 use Rattle.fast_program.specs.declared.codes.Code.TheVariants.{UInt32Plain, UInt32NullablePlain, UInt32Default, UInt32NullableDefault, UInt32Copy, UInt32NullableCopy, UInt32Increment, UInt32NullableIncrement, UInt32Delta, UInt32NullableDelta, UInt64Plain, UInt64NullablePlain, UInt64Default, UInt64NullableDefault, UInt64Copy, UInt64NullableCopy, UInt64Increment, UInt64NullableIncrement, UInt64Delta, UInt64NullableDelta, Int32Plain, Int32NullablePlain, Int32Default, Int32NullableDefault, Int32Copy, Int32NullableCopy, Int32Increment, Int32NullableIncrement, Int32Delta, Int32NullableDelta, Int64Plain, Int64NullablePlain, Int64Default, Int64NullableDefault, Int64Copy, Int64NullableCopy, Int64Increment, Int64NullableIncrement, Int64Delta, Int64NullableDelta, Constant, DecimalPlain, DecimalNullablePlain, DecimalCopy, DecimalNullableCopy, DecimalDelta, DecimalNullableDelta, Parts, AsciiPlain, AsciiNullablePlain, AsciiDefault, AsciiNullableDefault, AsciiCopy, AsciiNullableCopy, AsciiTail, AsciiNullableTail, AsciiDelta, AsciiNullableDelta, UnicodePlain, UnicodeNullablePlain, UnicodeDelta, UnicodeNullableDelta, BytesPlain, BytesNullablePlain, BytesTail, BytesNullableTail, Group, OptionalGroup, Sequence, OptionalSequence}
 use Rattle.fast_decoder.proofs.machine.Machine.walk.Goals as goal
 
 -- What the arm did that the code led to.
-went_here : (g : goal.Generics) (c : goal.After-match-op g) → HasWent g.S.Sink.takes g.S.Sink.stops (set_of c.args.templates.now) c.args.limits c.silent.self c.silent.spot c.silent.sink c.match-op.went c.match-op.sink c.match-op.self c.match-op.spot
+went_here : (g : Over) (c : After-or_general g) → HasWent g.S.Sink.takes g.S.Sink.stops (set_of c.args.templates.now) c.args.limits c.silent.self c.silent.spot c.silent.sink c.match-op.went c.match-op.sink c.match-op.self c.match-op.spot
 went_here g c =
     let takes = g.S.Sink.takes in
     let stops = g.S.Sink.stops in
@@ -101,20 +102,99 @@ went_here g c =
       | in-General w ↦ went_as takes stops set l m from s did.went did.sink did.self did.spot w.self-is w.sink-is w.spot-is w.went-is (refl, refl, refl)
     ]
 
-pub or_general-requires-clause-place : goal.or_general-requires-clause-place
-or_general-requires-clause-place g c =
-    let went = went_here g (goal.at.or_general-requires-clause-place g c).After-match-op in
-    went_place g.S.Sink.takes g.S.Sink.stops (set_of c.args.templates.now) c.args.limits c.silent.self c.silent.spot c.silent.sink c.match-op.went c.match-op.sink c.match-op.self c.match-op.spot c.silent.invariant.place went
-
-pub or_general-requires-clause-spot : goal.or_general-requires-clause-spot
-or_general-requires-clause-spot g c =
-    let went = went_here g (goal.at.or_general-requires-clause-spot g c).After-match-op in
+pub or_general-requires : goal.or_general-requires
+or_general-requires g c =
+    let takes = g.S.Sink.takes in
+    let stops = g.S.Sink.stops in
+    let set = set_of c.args.templates.now in
+    let l = c.args.limits in
+    let m = c.silent.self in
+    let from = c.silent.spot in
+    let s = c.silent.sink in
+    let did = c.match-op in
+    let went : HasWent takes stops set l m from s did.went did.sink did.self did.spot = elim c.match-op.branch [
+      | in-UInt32Plain w ↦ went_as takes stops set l m from s did.went did.sink did.self did.spot w.self-is w.sink-is w.spot-is w.went-is w.uint32_arm-went.ensures.went
+      | in-UInt32NullablePlain w ↦ went_as takes stops set l m from s did.went did.sink did.self did.spot w.self-is w.sink-is w.spot-is w.went-is w.uint32_arm-went-in-UInt32NullablePlain.ensures.went
+      | in-UInt32Default w ↦ went_as takes stops set l m from s did.went did.sink did.self did.spot w.self-is w.sink-is w.spot-is w.went-is w.uint32_arm-went-in-UInt32Default.ensures.went
+      | in-UInt32NullableDefault w ↦ went_as takes stops set l m from s did.went did.sink did.self did.spot w.self-is w.sink-is w.spot-is w.went-is w.uint32_arm-went-in-UInt32NullableDefault.ensures.went
+      | in-UInt32Copy w ↦ went_as takes stops set l m from s did.went did.sink did.self did.spot w.self-is w.sink-is w.spot-is w.went-is w.uint32_arm-went-in-UInt32Copy.ensures.went
+      | in-UInt32NullableCopy w ↦ went_as takes stops set l m from s did.went did.sink did.self did.spot w.self-is w.sink-is w.spot-is w.went-is w.uint32_arm-went-in-UInt32NullableCopy.ensures.went
+      | in-UInt32Increment w ↦ went_as takes stops set l m from s did.went did.sink did.self did.spot w.self-is w.sink-is w.spot-is w.went-is w.uint32_arm-went-in-UInt32Increment.ensures.went
+      | in-UInt32NullableIncrement w ↦ went_as takes stops set l m from s did.went did.sink did.self did.spot w.self-is w.sink-is w.spot-is w.went-is w.uint32_arm-went-in-UInt32NullableIncrement.ensures.went
+      | in-UInt32Delta w ↦ went_as takes stops set l m from s did.went did.sink did.self did.spot w.self-is w.sink-is w.spot-is w.went-is w.delta_arm-went.ensures.went
+      | in-UInt32NullableDelta w ↦ went_as takes stops set l m from s did.went did.sink did.self did.spot w.self-is w.sink-is w.spot-is w.went-is w.delta_arm-went-in-UInt32NullableDelta.ensures.went
+      | in-UInt64Plain w ↦ went_as takes stops set l m from s did.went did.sink did.self did.spot w.self-is w.sink-is w.spot-is w.went-is w.uint64_arm-went.ensures.went
+      | in-UInt64NullablePlain w ↦ went_as takes stops set l m from s did.went did.sink did.self did.spot w.self-is w.sink-is w.spot-is w.went-is w.uint64_arm-went-in-UInt64NullablePlain.ensures.went
+      | in-UInt64Default w ↦ went_as takes stops set l m from s did.went did.sink did.self did.spot w.self-is w.sink-is w.spot-is w.went-is w.uint64_arm-went-in-UInt64Default.ensures.went
+      | in-UInt64NullableDefault w ↦ went_as takes stops set l m from s did.went did.sink did.self did.spot w.self-is w.sink-is w.spot-is w.went-is w.uint64_arm-went-in-UInt64NullableDefault.ensures.went
+      | in-UInt64Copy w ↦ went_as takes stops set l m from s did.went did.sink did.self did.spot w.self-is w.sink-is w.spot-is w.went-is w.uint64_arm-went-in-UInt64Copy.ensures.went
+      | in-UInt64NullableCopy w ↦ went_as takes stops set l m from s did.went did.sink did.self did.spot w.self-is w.sink-is w.spot-is w.went-is w.uint64_arm-went-in-UInt64NullableCopy.ensures.went
+      | in-UInt64Increment w ↦ went_as takes stops set l m from s did.went did.sink did.self did.spot w.self-is w.sink-is w.spot-is w.went-is w.uint64_arm-went-in-UInt64Increment.ensures.went
+      | in-UInt64NullableIncrement w ↦ went_as takes stops set l m from s did.went did.sink did.self did.spot w.self-is w.sink-is w.spot-is w.went-is w.uint64_arm-went-in-UInt64NullableIncrement.ensures.went
+      | in-UInt64Delta w ↦ went_as takes stops set l m from s did.went did.sink did.self did.spot w.self-is w.sink-is w.spot-is w.went-is w.delta_arm-went-in-UInt64Delta.ensures.went
+      | in-UInt64NullableDelta w ↦ went_as takes stops set l m from s did.went did.sink did.self did.spot w.self-is w.sink-is w.spot-is w.went-is w.delta_arm-went-in-UInt64NullableDelta.ensures.went
+      | in-Int32Plain w ↦ went_as takes stops set l m from s did.went did.sink did.self did.spot w.self-is w.sink-is w.spot-is w.went-is w.int32_arm-went.ensures.went
+      | in-Int32NullablePlain w ↦ went_as takes stops set l m from s did.went did.sink did.self did.spot w.self-is w.sink-is w.spot-is w.went-is w.int32_arm-went-in-Int32NullablePlain.ensures.went
+      | in-Int32Default w ↦ went_as takes stops set l m from s did.went did.sink did.self did.spot w.self-is w.sink-is w.spot-is w.went-is w.int32_arm-went-in-Int32Default.ensures.went
+      | in-Int32NullableDefault w ↦ went_as takes stops set l m from s did.went did.sink did.self did.spot w.self-is w.sink-is w.spot-is w.went-is w.int32_arm-went-in-Int32NullableDefault.ensures.went
+      | in-Int32Copy w ↦ went_as takes stops set l m from s did.went did.sink did.self did.spot w.self-is w.sink-is w.spot-is w.went-is w.int32_arm-went-in-Int32Copy.ensures.went
+      | in-Int32NullableCopy w ↦ went_as takes stops set l m from s did.went did.sink did.self did.spot w.self-is w.sink-is w.spot-is w.went-is w.int32_arm-went-in-Int32NullableCopy.ensures.went
+      | in-Int32Increment w ↦ went_as takes stops set l m from s did.went did.sink did.self did.spot w.self-is w.sink-is w.spot-is w.went-is w.int32_arm-went-in-Int32Increment.ensures.went
+      | in-Int32NullableIncrement w ↦ went_as takes stops set l m from s did.went did.sink did.self did.spot w.self-is w.sink-is w.spot-is w.went-is w.int32_arm-went-in-Int32NullableIncrement.ensures.went
+      | in-Int32Delta w ↦ went_as takes stops set l m from s did.went did.sink did.self did.spot w.self-is w.sink-is w.spot-is w.went-is w.delta_arm-went-in-Int32Delta.ensures.went
+      | in-Int32NullableDelta w ↦ went_as takes stops set l m from s did.went did.sink did.self did.spot w.self-is w.sink-is w.spot-is w.went-is w.delta_arm-went-in-Int32NullableDelta.ensures.went
+      | in-Int64Plain w ↦ went_as takes stops set l m from s did.went did.sink did.self did.spot w.self-is w.sink-is w.spot-is w.went-is w.int64_arm-went.ensures.went
+      | in-Int64NullablePlain w ↦ went_as takes stops set l m from s did.went did.sink did.self did.spot w.self-is w.sink-is w.spot-is w.went-is w.int64_arm-went-in-Int64NullablePlain.ensures.went
+      | in-Int64Default w ↦ went_as takes stops set l m from s did.went did.sink did.self did.spot w.self-is w.sink-is w.spot-is w.went-is w.int64_arm-went-in-Int64Default.ensures.went
+      | in-Int64NullableDefault w ↦ went_as takes stops set l m from s did.went did.sink did.self did.spot w.self-is w.sink-is w.spot-is w.went-is w.int64_arm-went-in-Int64NullableDefault.ensures.went
+      | in-Int64Copy w ↦ went_as takes stops set l m from s did.went did.sink did.self did.spot w.self-is w.sink-is w.spot-is w.went-is w.int64_arm-went-in-Int64Copy.ensures.went
+      | in-Int64NullableCopy w ↦ went_as takes stops set l m from s did.went did.sink did.self did.spot w.self-is w.sink-is w.spot-is w.went-is w.int64_arm-went-in-Int64NullableCopy.ensures.went
+      | in-Int64Increment w ↦ went_as takes stops set l m from s did.went did.sink did.self did.spot w.self-is w.sink-is w.spot-is w.went-is w.int64_arm-went-in-Int64Increment.ensures.went
+      | in-Int64NullableIncrement w ↦ went_as takes stops set l m from s did.went did.sink did.self did.spot w.self-is w.sink-is w.spot-is w.went-is w.int64_arm-went-in-Int64NullableIncrement.ensures.went
+      | in-Int64Delta w ↦ went_as takes stops set l m from s did.went did.sink did.self did.spot w.self-is w.sink-is w.spot-is w.went-is w.delta_arm-went-in-Int64Delta.ensures.went
+      | in-Int64NullableDelta w ↦ went_as takes stops set l m from s did.went did.sink did.self did.spot w.self-is w.sink-is w.spot-is w.went-is w.delta_arm-went-in-Int64NullableDelta.ensures.went
+      | in-Constant w ↦ went_as takes stops set l m from s did.went did.sink did.self did.spot w.self-is w.sink-is w.spot-is w.went-is w.constant_arm-went.ensures.went
+      | in-DecimalPlain w ↦ went_as takes stops set l m from s did.went did.sink did.self did.spot w.self-is w.sink-is w.spot-is w.went-is w.decimal_arm-went.ensures.went
+      | in-DecimalNullablePlain w ↦ went_as takes stops set l m from s did.went did.sink did.self did.spot w.self-is w.sink-is w.spot-is w.went-is w.decimal_arm-went-in-DecimalNullablePlain.ensures.went
+      | in-DecimalCopy w ↦ went_as takes stops set l m from s did.went did.sink did.self did.spot w.self-is w.sink-is w.spot-is w.went-is w.decimal_arm-went-in-DecimalCopy.ensures.went
+      | in-DecimalNullableCopy w ↦ went_as takes stops set l m from s did.went did.sink did.self did.spot w.self-is w.sink-is w.spot-is w.went-is w.decimal_arm-went-in-DecimalNullableCopy.ensures.went
+      | in-DecimalDelta w ↦ went_as takes stops set l m from s did.went did.sink did.self did.spot w.self-is w.sink-is w.spot-is w.went-is w.decimal_arm-went-in-DecimalDelta.ensures.went
+      | in-DecimalNullableDelta w ↦ went_as takes stops set l m from s did.went did.sink did.self did.spot w.self-is w.sink-is w.spot-is w.went-is w.decimal_arm-went-in-DecimalNullableDelta.ensures.went
+      | in-Parts w ↦ went_as takes stops set l m from s did.went did.sink did.self did.spot w.self-is w.sink-is w.spot-is w.went-is w.parts_arm-went.ensures.went
+      | in-AsciiPlain w ↦ went_as takes stops set l m from s did.went did.sink did.self did.spot w.self-is w.sink-is w.spot-is w.went-is w.ascii_arm-went.ensures.went
+      | in-AsciiNullablePlain w ↦ went_as takes stops set l m from s did.went did.sink did.self did.spot w.self-is w.sink-is w.spot-is w.went-is w.ascii_arm-went-in-AsciiNullablePlain.ensures.went
+      | in-AsciiDefault w ↦ went_as takes stops set l m from s did.went did.sink did.self did.spot w.self-is w.sink-is w.spot-is w.went-is w.ascii_arm-went-in-AsciiDefault.ensures.went
+      | in-AsciiNullableDefault w ↦ went_as takes stops set l m from s did.went did.sink did.self did.spot w.self-is w.sink-is w.spot-is w.went-is w.ascii_arm-went-in-AsciiNullableDefault.ensures.went
+      | in-AsciiCopy w ↦ went_as takes stops set l m from s did.went did.sink did.self did.spot w.self-is w.sink-is w.spot-is w.went-is w.ascii_arm-went-in-AsciiCopy.ensures.went
+      | in-AsciiNullableCopy w ↦ went_as takes stops set l m from s did.went did.sink did.self did.spot w.self-is w.sink-is w.spot-is w.went-is w.ascii_arm-went-in-AsciiNullableCopy.ensures.went
+      | in-AsciiTail w ↦ went_as takes stops set l m from s did.went did.sink did.self did.spot w.self-is w.sink-is w.spot-is w.went-is w.ascii_arm-went-in-AsciiTail.ensures.went
+      | in-AsciiNullableTail w ↦ went_as takes stops set l m from s did.went did.sink did.self did.spot w.self-is w.sink-is w.spot-is w.went-is w.ascii_arm-went-in-AsciiNullableTail.ensures.went
+      | in-AsciiDelta w ↦ went_as takes stops set l m from s did.went did.sink did.self did.spot w.self-is w.sink-is w.spot-is w.went-is w.part_arm-went.ensures.went
+      | in-AsciiNullableDelta w ↦ went_as takes stops set l m from s did.went did.sink did.self did.spot w.self-is w.sink-is w.spot-is w.went-is w.part_arm-went-in-AsciiNullableDelta.ensures.went
+      | in-UnicodePlain w ↦ went_as takes stops set l m from s did.went did.sink did.self did.spot w.self-is w.sink-is w.spot-is w.went-is w.vector_arm-went.ensures.went
+      | in-UnicodeNullablePlain w ↦ went_as takes stops set l m from s did.went did.sink did.self did.spot w.self-is w.sink-is w.spot-is w.went-is w.vector_arm-went-in-UnicodeNullablePlain.ensures.went
+      | in-UnicodeDelta w ↦ went_as takes stops set l m from s did.went did.sink did.self did.spot w.self-is w.sink-is w.spot-is w.went-is w.part_arm-went-in-UnicodeDelta.ensures.went
+      | in-UnicodeNullableDelta w ↦ went_as takes stops set l m from s did.went did.sink did.self did.spot w.self-is w.sink-is w.spot-is w.went-is w.part_arm-went-in-UnicodeNullableDelta.ensures.went
+      | in-BytesPlain w ↦ went_as takes stops set l m from s did.went did.sink did.self did.spot w.self-is w.sink-is w.spot-is w.went-is w.vector_arm-went-in-BytesPlain.ensures.went
+      | in-BytesNullablePlain w ↦ went_as takes stops set l m from s did.went did.sink did.self did.spot w.self-is w.sink-is w.spot-is w.went-is w.vector_arm-went-in-BytesNullablePlain.ensures.went
+      | in-BytesTail w ↦ went_as takes stops set l m from s did.went did.sink did.self did.spot w.self-is w.sink-is w.spot-is w.went-is w.tail_arm-went.ensures.went
+      | in-BytesNullableTail w ↦ went_as takes stops set l m from s did.went did.sink did.self did.spot w.self-is w.sink-is w.spot-is w.went-is w.tail_arm-went-in-BytesNullableTail.ensures.went
+      | in-Group w ↦ went_as takes stops set l m from s did.went did.sink did.self did.spot w.self-is w.sink-is w.spot-is w.went-is w.group_arm-went.ensures.went
+      | in-OptionalGroup w ↦ went_as takes stops set l m from s did.went did.sink did.self did.spot w.self-is w.sink-is w.spot-is w.went-is w.group_arm-went-in-OptionalGroup.ensures.went
+      | in-Sequence w ↦ went_as takes stops set l m from s did.went did.sink did.self did.spot w.self-is w.sink-is w.spot-is w.went-is w.sequence_arm-went.ensures.went
+      | in-OptionalSequence w ↦ went_as takes stops set l m from s did.went did.sink did.self did.spot w.self-is w.sink-is w.spot-is w.went-is w.sequence_arm-went-in-OptionalSequence.ensures.went
+      | in-End w ↦ went_as takes stops set l m from s did.went did.sink did.self did.spot w.self-is w.sink-is w.spot-is w.went-is w.end_arm-went.ensures.went
+      | in-General w ↦ went_as takes stops set l m from s did.went did.sink did.self did.spot w.self-is w.sink-is w.spot-is w.went-is (refl, refl, refl)
+    ] in
     let spot : IsAtSpot (set_of c.args.templates.now) c.args.limits c.silent.self c.silent.spot.place = record { waits = c.silent.invariant.waits; place = c.silent.invariant.place; can = c.silent.invariant.far.turn } in
-    went_nowhere g.S.Sink.takes g.S.Sink.stops (set_of c.args.templates.now) c.args.limits c.silent.self c.silent.spot c.silent.sink c.match-op.went c.match-op.sink c.match-op.self c.match-op.spot spot went
+    record {
+      place = went_place g.S.Sink.takes g.S.Sink.stops (set_of c.args.templates.now) c.args.limits c.silent.self c.silent.spot c.silent.sink c.match-op.went c.match-op.sink c.match-op.self c.match-op.spot c.silent.invariant.place went;
+      spot = went_nowhere g.S.Sink.takes g.S.Sink.stops (set_of c.args.templates.now) c.args.limits c.silent.self c.silent.spot c.silent.sink c.match-op.went c.match-op.sink c.match-op.self c.match-op.spot spot went;
+    }
 
 pub units-smaller : goal.units-smaller
 units-smaller g c =
-    let went = went_here g (goal.at.units-smaller g c).After-match-op in
+    let went = went_here g (goal.at.units-smaller g c).After-or_general in
     let (n, some, w) = c.in-Took.ensures.gone c.silent.self c.silent.spot c.silent.sink went in
     let left = went_left g.S.Sink.takes g.S.Sink.stops (set_of c.args.templates.now) c.args.limits c.silent.self c.silent.spot c.silent.sink n Handed c.or_general.new.sink c.or_general.new.self c.or_general.new.spot w in
     let within = went_within g.S.Sink.takes g.S.Sink.stops (set_of c.args.templates.now) c.args.limits c.silent.self c.silent.spot c.silent.sink n Handed c.or_general.new.sink c.or_general.new.self c.or_general.new.spot w in
@@ -124,7 +204,7 @@ units-smaller g c =
 
 pub units-preserved : goal.units-preserved
 units-preserved g c =
-    let went = went_here g (goal.at.units-preserved g c).After-match-op in
+    let went = went_here g (goal.at.units-preserved g c).After-or_general in
     let (n, some, w) = c.in-Took.ensures.gone c.silent.self c.silent.spot c.silent.sink went in
     record {
       far = went_far g.S.Sink.takes g.S.Sink.stops (set_of c.args.templates.now) c.args.limits c.silent.self c.silent.spot c.silent.sink n Handed c.or_general.new.sink c.or_general.new.self c.or_general.new.spot w c.args.self.now c.args.piece.now c.args.sink.now (λ e. cc e) c.silent.invariant.far;
@@ -134,7 +214,7 @@ units-preserved g c =
 
 pub events-smaller : goal.events-smaller
 events-smaller g c =
-    let went = went_here g (goal.at.events-smaller g c).After-match-op in
+    let went = went_here g (goal.at.events-smaller g c).After-or_general in
     let w = c.in-Handed.ensures.gone c.silent.self c.silent.spot c.silent.sink went in
     let less = w.step.handed refl refl in
     let same = ap events_due c.silent.invariant.same in
@@ -142,7 +222,7 @@ events-smaller g c =
 
 pub events-preserved : goal.events-preserved
 events-preserved g c =
-    let went = went_here g (goal.at.events-preserved g c).After-match-op in
+    let went = went_here g (goal.at.events-preserved g c).After-or_general in
     let w = c.in-Handed.ensures.gone c.silent.self c.silent.spot c.silent.sink went in
     let left = went_left g.S.Sink.takes g.S.Sink.stops (set_of c.args.templates.now) c.args.limits c.silent.self c.silent.spot c.silent.sink 0 Handed c.or_general.new.sink c.or_general.new.self c.or_general.new.spot w in
     let before = c.silent.invariant.left in
@@ -156,13 +236,13 @@ events-preserved g c =
 
 pub silent-smaller : goal.silent-smaller
 silent-smaller g c =
-    let went = went_here g (goal.at.silent-smaller g c).After-match-op in
+    let went = went_here g (goal.at.silent-smaller g c).After-or_general in
     let w = c.in-Silent.ensures.gone c.silent.self c.silent.spot c.silent.sink went in
     (w.step.silent refl refl).1
 
 pub silent-preserved : goal.silent-preserved
 silent-preserved g c =
-    let went = went_here g (goal.at.silent-preserved g c).After-match-op in
+    let went = went_here g (goal.at.silent-preserved g c).After-or_general in
     let w = c.in-Silent.ensures.gone c.silent.self c.silent.spot c.silent.sink went in
     let left = went_left g.S.Sink.takes g.S.Sink.stops (set_of c.args.templates.now) c.args.limits c.silent.self c.silent.spot c.silent.sink 0 Silent c.or_general.new.sink c.or_general.new.self c.or_general.new.spot w in
     let before = c.silent.invariant.left in
@@ -176,7 +256,7 @@ silent-preserved g c =
 
 pub overflow_sub-result : goal.overflow_sub-result
 overflow_sub-result g c =
-    let went = went_here g (goal.at.overflow_sub-result g c).After-match-op in
+    let went = went_here g (goal.at.overflow_sub-result g c).After-or_general in
     let (n, rest, step) = c.in-Ended.ensures.gone c.silent.self c.silent.spot c.silent.sink went in
     let left = ap length rest ∙ length-drop n c.silent.spot.rest.now in
     let within = c.silent.invariant.far.within in
@@ -188,7 +268,7 @@ returns-in-Ended-clause-step g c =
     let stops = g.S.Sink.stops in
     let set = set_of c.args.templates.now in
     let l = c.args.limits in
-    let went = went_here g (goal.at.returns-in-Ended-clause-step g c).After-match-op in
+    let went = went_here g (goal.at.returns-in-Ended-clause-step g c).After-or_general in
     let (n, rest, step) = c.in-Ended.ensures.gone c.silent.self c.silent.spot c.silent.sink went in
     subst (λ (turn : Result Turn FaultCode). IsStep takes stops set l c.args.self.now c.args.piece.now c.args.sink.now (record { bytes = length c.args.piece.now - length c.or_general.new.spot.rest.now; turn = turn }) c.or_general.new.sink c.or_general.new.self)
     (sym c.ended.ensures)
