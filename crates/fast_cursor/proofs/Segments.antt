@@ -7,12 +7,13 @@ use borrow.Rule.Slice.PartMut.{put_mid, post_of}
 use Rattle.fast_wire.specs.meaning.Maps.{map_limit}
 use Rattle.fast_program.specs.declared.ops.Op.{Op}
 use Rattle.fast_cursor.specs.device.Runs.{run_at}
-use Rattle.fast_cursor.specs.device.Cursors.{FrameData, CursorData, entered, left_to}
+use Rattle.fast_cursor.specs.device.Cursors.{FrameData, CursorData, frame_here, entered, left_to}
 use Rattle.fast_cursor.specs.declared.cursor.Elements.{Elements}
 use Rattle.fast_cursor.specs.declared.cursor.Frame.{Frame}
+use Rattle.fast_cursor.specs.declared.map_place.MapPlace.{MapPlace}
 use Rattle.fast_cursor.specs.declared.cursor.Cursor.TheInside.{Inside}
 use Rattle.fast_cursor.specs.device.MapPlaces.{used_bits, IsPlace}
-use Rattle.fast_cursor.specs.device.Segments.{map_at, frame_data, frames_on, ArePlaces, elements_data, cursor_data, IsCursor}
+use Rattle.fast_cursor.specs.device.Segments.{map_at, frame_data, frames_on, ArePlaces, elements_data, frame_elements, cursor_data, IsCursor}
 
 -- each frame is there
 pub length-frames : (ops : List Op) (cells : List ℕ) (start : ℕ) (fs : List Frame) (outer : List FrameData) → length (frames_on ops cells start fs outer) ≡ length fs + length outer
@@ -97,13 +98,16 @@ places-more cells fs n start f h e all here =
 
 -- A segment begins where a frame is written.
 pub entered-is : (i : Inside) (d : CursorData) (elements : Option Elements) (start : ℕ) (f : Frame) (depth : ℕ) → IsCursor i → cursor_data i ≡ d → i.level < length i.frames.items → depth ≡ length i.frames.items
-    → f ≡ record { after = i.ip; map = i.map; elements = elements }
+    → f.map ≡ i.map → f.after ≡ i.ip → frame_elements f ≡ elements
     → record { ops = i.ops.now; frames = frames_on i.ops.now i.maps.items 0 (take (i.level + 1) (set i.frames.items i.level f)) []; left = run_at i.ops.now start; map = []; used = 0; depth = depth } ≡ entered d (option_map (elements_data d.ops) elements) (run_at d.ops start)
-entered-is i d elements start f depth s e h k is =
+entered-is i d elements start f depth s e h k map after same =
     subst (λ (c : CursorData). record { ops = i.ops.now; frames = frames_on i.ops.now i.maps.items 0 (take (i.level + 1) (set i.frames.items i.level f)) []; left = run_at i.ops.now start; map = []; used = 0; depth = depth } ≡ entered c (option_map (elements_data c.ops) elements) (run_at c.ops start)) e
     (let more : frames_on i.ops.now i.maps.items 0 (take (i.level + 1) (set i.frames.items i.level f)) [] ≡ frame_data i.ops.now i.maps.items i.start f ∷ frames_on i.ops.now i.maps.items 0 (take i.level i.frames.items) []
     = frames-more i.ops.now i.maps.items i.frames.items i.level i.start f h s.starts in
-    let here : frame_data i.ops.now i.maps.items i.start f ≡ frame_data i.ops.now i.maps.items i.start (record { after = i.ip; map = i.map; elements = elements }) = ap (frame_data i.ops.now i.maps.items i.start) is in
+    let here : frame_data i.ops.now i.maps.items i.start f ≡ frame_here (cursor_data i) (option_map (elements_data i.ops.now) elements)
+    = ap (λ n. record (frame_data i.ops.now i.maps.items i.start f) { after = run_at i.ops.now n }) after
+    ∙ ap (λ (m : MapPlace). record { after = run_at i.ops.now i.ip; map = map_at i.maps.items i.start m.len; used = used_bits m; elements = option_map (elements_data i.ops.now) (frame_elements f) }) map
+    ∙ ap (λ x. frame_here (cursor_data i) (option_map (elements_data i.ops.now) x)) same in
     cc)
 
 -- The frames below the innermost one.
@@ -125,7 +129,7 @@ places-less cells fs n start f h e is all =
 -- The innermost segment is whole, and what its frame says goes on.
 pub left-is : (i : Inside) (d : CursorData) (r : Frame) (n : ℕ) → IsCursor i → cursor_data i ≡ d → i.level ≡ n + 1 → r ≡ get_or i.frames.items n r → (f : FrameData) (fs : List FrameData) → d.frames ≡ f ∷ fs
     → (record { ops = i.ops.now; frames = frames_on i.ops.now i.maps.items 0 (take n i.frames.items) []; left = run_at i.ops.now r.after; map = map_at i.maps.items (i.start - map_limit) r.map.len; used = used_bits r.map; depth = length i.frames.items } ≡ left_to d f fs)
-    × (option_map (elements_data d.ops) r.elements ≡ f.elements)
+    × (option_map (elements_data d.ops) (frame_elements r) ≡ f.elements)
 left-is i d r n s e one is f fs front =
     let within : i.level ≤ length i.frames.items = s.within in
     let starts : i.start ≡ map_limit * i.level = s.starts in
@@ -137,7 +141,7 @@ left-is i d r n s e one is f fs front =
     let rest : fs ≡ frames_on i.ops.now i.maps.items 0 (take n i.frames.items) [] = cc in
     let depth : length i.frames.items ≡ d.depth = ap (λ (c : CursorData). c.depth) e in
     let ops : i.ops.now ≡ d.ops = ap (λ (c : CursorData). c.ops) e in
-    (cc, ap (λ (o : List Op). option_map (elements_data o) r.elements) (sym ops) ∙ ap (λ (g : FrameData). g.elements) (sym first))
+    (cc, ap (λ (o : List Op). option_map (elements_data o) (frame_elements r)) (sym ops) ∙ ap (λ (g : FrameData). g.elements) (sym first))
 
 -- In the cells from a place on stand others, and before it the same.
 pub record IsFilled (old : List ℕ) (start : ℕ) (cells now : List ℕ) : Type 0 where
