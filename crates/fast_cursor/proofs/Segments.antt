@@ -143,14 +143,14 @@ left-is i d r n s e one is f fs front =
     let ops : i.ops.now ≡ d.ops = ap (λ (c : CursorData). c.ops) e in
     (cc, ap (λ (o : List Op). option_map (elements_data o) (frame_elements r)) (sym ops) ∙ ap (λ (g : FrameData). g.elements) (sym first))
 
--- In the cells from a place on stand others, and before it the same.
-pub record IsFilled (old : List ℕ) (start : ℕ) (cells now : List ℕ) : Type 0 where
+-- In so many cells from a place on stand others, and before it the same.
+pub record IsFilled (room : ℕ) (old : List ℕ) (start : ℕ) (cells now : List ℕ) : Type 0 where
   pub before : take start now ≡ take start old
-  pub inner : (n : ℕ) → n ≤ map_limit → map_at now start n ≡ take n cells
+  pub inner : (n : ℕ) → n ≤ room → map_at now start n ≡ take n cells
 
-pub filled : (maps : Vec ℕ Global) (old cells : List ℕ) (start k : ℕ) → old ≡ maps.items → k ≡ map_limit → start + map_limit ≤ length old → length cells ≡ map_limit
-    → IsFilled maps.items start cells (with_items maps (put_mid start k old cells)).items
-filled maps old cells start k same size h len =
+pub filled : (maps : Vec ℕ Global) (old cells : List ℕ) (start k room : ℕ) → old ≡ maps.items → k ≡ room → start + room ≤ length old → length cells ≡ room
+    → IsFilled room maps.items start cells (with_items maps (put_mid start k old cells)).items
+filled maps old cells start k room same size h len =
     let front : length (take start old) ≡ start = length-take-le start old (omega arith) in
     let post : List ℕ = post_of start k old in
     let behind : length post ≡ length old - start - k = length-drop k (drop start old) ∙ ap (λ n. n - k) (length-drop start old) in
@@ -202,13 +202,20 @@ map-count i d s e =
 
 -- The cells that were lent come back.
 pub map-back : (i : Inside) (old cells : List ℕ) (k : ℕ) → IsCursor i → old ≡ i.maps.items → k ≡ map_limit → length cells ≡ length (take k (drop i.start old))
-    → IsFilled i.maps.items i.start cells (with_items i.maps (put_mid i.start k old cells)).items
+    → IsFilled map_limit i.maps.items i.start cells (with_items i.maps (put_mid i.start k old cells)).items
 map-back i old cells k s same size len =
     let there : i.start + map_limit ≤ length i.maps.items = cells-there i s in
     let count : length old ≡ length i.maps.items = ap length same in
     let behind : length (drop i.start old) ≡ length old - i.start = length-drop i.start old in
     let lent : length (take k (drop i.start old)) ≡ k = length-take-le k (drop i.start old) (omega arith) in
-    filled i.maps old cells i.start k same size (omega arith) (omega arith)
+    filled i.maps old cells i.start k map_limit same size (omega arith) (omega arith)
+
+-- Eight cells that were lent come back.
+pub front-back : (i : Inside) (old cells : List ℕ) (k : ℕ) → IsCursor i → old ≡ i.maps.items → k ≡ 8 → length cells ≡ 8 → IsFilled 8 i.maps.items i.start cells (with_items i.maps (put_mid i.start k old cells)).items
+front-back i old cells k s same size len =
+    let there : i.start + map_limit ≤ length i.maps.items = cells-there i s in
+    let count : length old ≡ length i.maps.items = ap length same in
+    filled i.maps old cells i.start k 8 same size (omega arith) len
 
 -- One cell is written, in which the innermost map begins.
 pub one-before : (cells : List ℕ) (start b : ℕ) → start < length cells → take start (set cells start b) ≡ take start cells

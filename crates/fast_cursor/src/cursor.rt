@@ -2,6 +2,7 @@
 
 ghost use Rattle.std.specs.Prelude.{◌≡◌, ◌↔◌, ◌<◌, true, false, ℕ, List, [], ◌∷◌, length, drop};
 ghost use Rattle.std.specs.Prelude.{IfOk, IsTrue, Some, None, option_map, slice_get};
+ghost use Rattle.fast_wire.specs.device.Words.{IsShortEntity};
 ghost use Rattle.fast_wire.specs.meaning.Entities.{HaveNoStop};
 ghost use Rattle.fast_wire.specs.meaning.Maps.{map_limit, first_bit, later_bits};
 ghost use Rattle.fast_program.specs.device.Runs.{is_end, Begins};
@@ -16,7 +17,7 @@ use crate::map_place::{MapPlace, NO_MAP};
 use crate::pending::{MapFront, next_map};
 use crate::place::Place;
 use fast_program::{Code, Op};
-use fast_wire::MAP_LIMIT;
+use fast_wire::{MAP_LIMIT, ShortEntity};
 use std::alloc::{AllocError, Global};
 use std::marker::Model;
 
@@ -218,6 +219,23 @@ impl<'t> Cursor<'t> {
         false
     }
 
+    /// Takes a map of at most eight bytes that the piece begins with, if none of its bytes has come and the piece has eight.
+    #[inline(always)]
+    pub fn take_short(&mut self, rest: &[u8], entity: ShortEntity) -> bool
+        requires entity { IsShortEntity entity.number entity.len rest.now }
+        ensures none { result ≡ true → self.old.map ≡ [] }
+        ensures map { result ≡ true → IsMapTaken self.old.map rest.now self.new.map (MapFront.Whole entity.len) }
+        ensures same { self.new ≡ record self.old { map = self.new.map } }
+        ensures left { result ≡ false → self.new ≡ self.old }
+    {
+        if self.map.len != 0 || rest.len() < 8 {
+            return false;
+        }
+        self.maps[self.start..self.start + 8].copy_from_slice(&rest[..8]);
+        self.map = MapPlace::of_entity(entity);
+        true
+    }
+
     /// The same, whether or not bytes of the map have come, and whether one byte or more of the piece are the map's.
     #[inline(never)]
     fn take_more(&mut self, rest: &[u8]) -> MapFront
@@ -361,6 +379,7 @@ impl<'t> Cursor<'t> {
             → self.new ≡ gone_on self.old f fs (next_of f.elements) }
         ensures width { (f : FrameData) (fs : List FrameData) → self.old.frames ≡ f ∷ fs
             → result ≡ option_map (λ (e : ElementsData). e.width) (next_of f.elements) }
+        ensures none { result ≡ None → self.new ≡ self.old }
     {
         let frame = self.frames[self.level - 1];
         if frame.is_element == 0 || frame.more == 0 {

@@ -1,9 +1,12 @@
 //! Which bit of a presence map is the next one.
 
-ghost use Rattle.std.specs.Prelude.{◌≡◌, ℕ, ◌+◌, ◌*◌, ◌<◌, ◌≤◌, List, [], ◌∷◌, ◌++◌, length, drop, Bool, vec_len};
+ghost use Rattle.std.specs.Prelude.{◌≡◌, ℕ, ◌+◌, ◌*◌, ◌<◌, ◌≤◌, List, [], ◌∷◌, ◌++◌, length, take, drop, Bool, vec_len};
+ghost use Rattle.fast_wire.specs.device.Words.{IsShortEntity};
 ghost use Rattle.fast_wire.specs.meaning.Maps.{map_limit, bits, later_bits};
 ghost use Rattle.fast_cursor.specs.device.MapPlaces.{HasTop, IsCounted, IsPlace, used_bits};
 ghost use Rattle.fast_cursor.specs.device.Segments.{map_at};
+
+use fast_wire::ShortEntity;
 
 /// How many bytes of a segment's map have come, and which bit is the next one. No byte of it is unused, so that it is copied in two
 /// words.
@@ -40,6 +43,22 @@ impl MapPlace {
             left: 56,
             end: 8,
             len: 1,
+        }
+    }
+
+    /// The place before the first bit of a map of at most eight bytes.
+    #[inline(always)]
+    pub fn of_entity(map: ShortEntity) -> MapPlace
+        requires short { map.len ≤ 8 }
+        ensures place { (w : List ℕ) → IsShortEntity map.number map.len w → IsPlace (take map.len w) result }
+        ensures used { used_bits result ≡ 0 }
+        ensures len { result.len ≡ map.len }
+    {
+        MapPlace {
+            word: map.number << (56 - 7 * map.len) << 8,
+            left: 56,
+            end: 8,
+            len: map.len as u16,
         }
     }
 
