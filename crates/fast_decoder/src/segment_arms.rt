@@ -125,11 +125,11 @@ impl<'t> Machine<'t> {
             self.new spot.new }
     {
         self.turns = Turns::after(&self.turns);
-        self.cursor.set_place(spot.place);
         if self.cursor.is_outermost() {
+            self.cursor.set_place(spot.place);
             return self.message_arm(templates, limits, spot, sink);
         }
-        let begun = self.leave_segment(templates, limits, sink);
+        let begun = self.leave_segment(templates, limits, spot.place, sink);
         self.segment_arm(templates, limits, begun, Went::Handed, spot, sink)
     }
 

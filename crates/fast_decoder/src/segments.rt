@@ -10,7 +10,9 @@ ghost use Rattle.fast_tree.specs.meaning.Tree.{bits_of};
 ghost use Rattle.fast_dict.specs.meaning.Slots.{slots_dictionary};
 ghost use Rattle.fast_stream.specs.declared.faults.FaultCode.{FaultCode};
 ghost use Rattle.fast_stream.specs.device.GrammarReaders.{reader_of};
+ghost use Rattle.fast_cursor.specs.device.Places.{place_left};
 ghost use Rattle.fast_cursor.specs.device.Runs.{IsRun};
+ghost use Rattle.fast_decoder.specs.device.Arms.{placed};
 ghost use Rattle.fast_decoder.specs.device.Opening.{opened_result, opened_by};
 ghost use Rattle.fast_decoder.specs.device.Passing.{group_from, elements_from};
 ghost use Rattle.fast_decoder.specs.device.Positions.{set_of, run_in, body_in, IsAtGroup, CanTurn, IsTurn, turning};
@@ -19,6 +21,7 @@ ghost use Rattle.fast_decoder.specs.device.TurnsLeft.{Way, HasTurns, HasTurnsFro
 use crate::machine::Machine;
 use crate::settling::hand;
 use fast_cursor::cursor::Elements;
+use fast_cursor::place::Place;
 use fast_stream::{Event, FaultCode, Sink};
 use fast_template::Templates;
 use fast_value::Limits;
@@ -118,27 +121,28 @@ impl<'t> Machine<'t> {
     }
 
     /// The innermost segment, a group or an element, is whole. Behind an element the next one begins, if there is one: then the frame
-    /// around it stays.
+    /// around it stays. The place where the segment ends is there for what the clauses say: the cursor leaves it, and need not be there.
     #[inline(always)]
     pub fn leave_segment<S: Sink>(
         &mut self,
         templates: &'t Templates,
         limits: Limits,
+        place: Place<'t>,
         sink: &mut S,
     ) -> Result<usize, FaultCode>
-        requires turn { CanTurn (set_of templates.now) limits self.old }
-        requires end { self.old.cursor.left ≡ [] }
+        requires turn { CanTurn (set_of templates.now) limits (placed self.old place) }
+        requires end { place_left place ≡ [] }
         requires inner { ¬ (self.old.cursor.frames ≡ []) }
         ensures turn { IsTurn S.takes S.stops (set_of templates.now) limits
-            (turning (set_of templates.now) limits self.old)
+            (turning (set_of templates.now) limits (placed self.old place.entry))
             sink.old (opened_result result) sink.new (opened_by result self.new) }
-        ensures turns { (way : Way) (n : ℕ) → HasTurns way (set_of templates.now) limits 1 n self.old
+        ensures turns { (way : Way) (n : ℕ) → HasTurns way (set_of templates.now) limits 1 n (placed self.old place.entry)
             → HasTurnsBehind (opened_result result) way (set_of templates.now) limits n (opened_by result self.new) }
         ensures stopped { IfErr result (λ code. code ≡ FaultCode.SinkStopped) }
         ensures same { self.new ≡ record self.old { cursor = self.new.cursor } }
     {
         let Some(width) = self.cursor.next_element() else {
-            return self.close_segment(templates, limits, sink);
+            return self.close_segment(templates, limits, place, sink);
         };
         hand_next(sink)?;
         Ok(width)
@@ -150,19 +154,21 @@ impl<'t> Machine<'t> {
         &mut self,
         templates: &'t Templates,
         limits: Limits,
+        place: Place<'t>,
         sink: &mut S,
     ) -> Result<usize, FaultCode>
-        requires turn { CanTurn (set_of templates.now) limits self.old }
-        requires end { self.old.cursor.left ≡ [] }
+        requires turn { CanTurn (set_of templates.now) limits (placed self.old place) }
+        requires end { place_left place ≡ [] }
         requires inner { ¬ (self.old.cursor.frames ≡ []) }
         ensures turn { IsTurn S.takes S.stops (set_of templates.now) limits
-            (turning (set_of templates.now) limits self.old)
+            (turning (set_of templates.now) limits (placed self.old place.entry))
             sink.old (opened_result result) sink.new (opened_by result self.new) }
-        ensures turns { (way : Way) (n : ℕ) → HasTurns way (set_of templates.now) limits 1 n self.old
+        ensures turns { (way : Way) (n : ℕ) → HasTurns way (set_of templates.now) limits 1 n (placed self.old place.entry)
             → HasTurnsBehind (opened_result result) way (set_of templates.now) limits n (opened_by result self.new) }
         ensures stopped { IfErr result (λ code. code ≡ FaultCode.SinkStopped) }
         ensures same { self.new ≡ record self.old { cursor = self.new.cursor } }
     {
+        let _ = place;
         match self.cursor.close() {
             None => {
                 hand(sink, Event::GroupEnd)?;

@@ -14,7 +14,9 @@ use Rattle.fast_stream.specs.device.GrammarReaders.{reader_of}
 use Rattle.fast_stream.specs.device.Readers.{Reader, Emit}
 use Rattle.fast_cursor.specs.device.Cursors.{ElementsData, FrameData, CursorData, frame_here, entered, left_to}
 use Rattle.fast_cursor.specs.device.Nexts.{next_by, next_of, gone_on}
+use Rattle.fast_cursor.specs.declared.place.Place.{Place}
 use Rattle.fast_decoder.specs.declared.machine.Machine.{Machine}
+use Rattle.fast_decoder.specs.device.Arms.{placed}
 use Rattle.fast_decoder.specs.device.Opening.{opened_turn, awaiting}
 use Rattle.fast_decoder.specs.device.Passing.{elements_from}
 use Rattle.fast_decoder.specs.device.Positions.{Set, body_in, frame_by, frames_in, AreElementsFit, IsSupplied, CanTurn, IsTurn, turning}
@@ -34,10 +36,10 @@ pub record IsNextBegun (m : Machine) (c : CursorData) (width : ℕ) : Type 0 whe
   pub cursor : c ≡ entered (left_to m.cursor f fs) (Some e) e.body
   pub bits : width ≡ e.width
 
-begun_by : (m : Machine) (c : CursorData) (width : ℕ) (f : FrameData) (fs : List FrameData) (e : ElementsData) (n : ℕ) → m.cursor.frames ≡ f ∷ fs → f.elements ≡ Some e → e.more ≡ n
-    → c ≡ gone_on m.cursor f fs (next_by n e) → Some width ≡ option_map (λ (x : ElementsData). x.width) (next_by n e) → IsNextBegun m c width
-begun_by m c width f fs e zero frames some count is bits = absurd (cc bits)
-begun_by m c width f fs e (suc n) frames some count is bits = record {
+begun_by : (m : Machine) (p : Place) (c : CursorData) (width : ℕ) (f : FrameData) (fs : List FrameData) (e : ElementsData) (n : ℕ) → m.cursor.frames ≡ f ∷ fs → f.elements ≡ Some e → e.more ≡ n
+    → c ≡ gone_on m.cursor f fs (next_by n e) → Some width ≡ option_map (λ (x : ElementsData). x.width) (next_by n e) → IsNextBegun (placed m p) c width
+begun_by m p c width f fs e zero frames some count is bits = absurd (cc bits)
+begun_by m p c width f fs e (suc n) frames some count is bits = record {
   f = f;
   fs = fs;
   e = record e { more = n };
@@ -47,17 +49,17 @@ begun_by m c width f fs e (suc n) frames some count is bits = record {
   bits = cc bits;
 }
 
-begun_of : (m : Machine) (c : CursorData) (width : ℕ) (f : FrameData) (fs : List FrameData) (x : Option ElementsData) → m.cursor.frames ≡ f ∷ fs → f.elements ≡ x
-    → c ≡ gone_on m.cursor f fs (next_of x) → Some width ≡ option_map (λ (x : ElementsData). x.width) (next_of x) → IsNextBegun m c width
-begun_of m c width f fs None frames some is bits = absurd (cc bits)
-begun_of m c width f fs (Some e) frames some is bits = begun_by m c width f fs e e.more frames some refl is bits
+begun_of : (m : Machine) (p : Place) (c : CursorData) (width : ℕ) (f : FrameData) (fs : List FrameData) (x : Option ElementsData) → m.cursor.frames ≡ f ∷ fs → f.elements ≡ x
+    → c ≡ gone_on m.cursor f fs (next_of x) → Some width ≡ option_map (λ (x : ElementsData). x.width) (next_of x) → IsNextBegun (placed m p) c width
+begun_of m p c width f fs None frames some is bits = absurd (cc bits)
+begun_of m p c width f fs (Some e) frames some is bits = begun_by m p c width f fs e e.more frames some refl is bits
 
-pub next_begun : (m : Machine) (c : CursorData) (r : Option ℕ) (width : ℕ) → r ≡ Some width → ¬ (m.cursor.frames ≡ [])
+pub next_begun : (m : Machine) (p : Place) (c : CursorData) (r : Option ℕ) (width : ℕ) → r ≡ Some width → ¬ (m.cursor.frames ≡ [])
     → ((f : FrameData) (fs : List FrameData) → m.cursor.frames ≡ f ∷ fs → c ≡ gone_on m.cursor f fs (next_of f.elements))
-    → ((f : FrameData) (fs : List FrameData) → m.cursor.frames ≡ f ∷ fs → r ≡ option_map (λ (e : ElementsData). e.width) (next_of f.elements)) → IsNextBegun m c width
-next_begun m c r width some inner next bits =
+    → ((f : FrameData) (fs : List FrameData) → m.cursor.frames ≡ f ∷ fs → r ≡ option_map (λ (e : ElementsData). e.width) (next_of f.elements)) → IsNextBegun (placed m p) c width
+next_begun m p c r width some inner next bits =
     let (f, fs, frames) = some_frame m.cursor.frames inner in
-    begun_of m c width f fs f.elements frames refl (next f fs frames) (sym some ∙ bits f fs frames)
+    begun_of m p c width f fs f.elements frames refl (next f fs frames) (sym some ∙ bits f fs frames)
 
 module _ (set : Set) (l : Limits) (m : Machine) (c : CursorData) (width : ℕ) (b : IsNextBegun m c width) (end : m.cursor.left ≡ []) where
   -- the cursor between the two

@@ -10,6 +10,7 @@ use Rattle.fast_cursor.specs.device.Runs.{IsRun}
 use Rattle.fast_cursor.specs.device.Segments.{elements_data, IsRunOf}
 use Rattle.fast_decoder.specs.device.Opening.{opened_result, opened_by}
 use Rattle.fast_decoder.specs.device.Passing.{elements_from}
+use Rattle.fast_decoder.specs.device.Arms.{placed}
 use Rattle.fast_decoder.specs.device.Positions.{set_of, turning}
 use Rattle.fast_decoder.proofs.steps.Opened.{opened_not_silent}
 use Rattle.fast_decoder.proofs.steps.SegmentTurns.{closed, closed_in, turn_halt, turn_one, turn_more}
@@ -18,7 +19,7 @@ use Rattle.fast_decoder.proofs.machine.Machine.close_segment.Goals as goal
 
 pub returns-in_err-hand-in-None-clause-turn : goal.returns-in_err-hand-in-None-clause-turn
 returns-in_err-hand-in-None-clause-turn g c =
-    let m = c.args.self.now in
+    let m = placed c.args.self.now c.args.place in
     let m' = record m { cursor = c.close.new.self } in
     let set = set_of c.args.templates.now in
     let h = closed set c.args.limits m c.close.new.self (option_map (elements_data (set_of c.args.templates.now).program) c.close.result) c.requires.turn c.requires.end c.requires.inner
@@ -29,7 +30,7 @@ returns-in_err-hand-in-None-clause-turn g c =
 
 pub returns-in_err-hand-in-Some-clause-turn : goal.returns-in_err-hand-in-Some-clause-turn
 returns-in_err-hand-in-Some-clause-turn g c =
-    let m = c.args.self.now in
+    let m = placed c.args.self.now c.args.place in
     let e = elements_data (set_of c.args.templates.now).program c.in-Some.elements in
     let set = set_of c.args.templates.now in
     let h = closed set c.args.limits m c.close.new.self (option_map (elements_data (set_of c.args.templates.now).program) c.close.result) c.requires.turn c.requires.end c.requires.inner
@@ -42,34 +43,34 @@ returns-in_err-hand-in-Some-clause-turn g c =
 
 pub begin_element-requires-clause-turn : goal.begin_element-requires-clause-turn
 begin_element-requires-clause-turn g c =
-    let m = c.args.self.now in
+    let m = placed c.args.self.now c.args.place in
     (closed (set_of c.args.templates.now) c.args.limits m c.close.new.self (option_map (elements_data (set_of c.args.templates.now).program) c.close.result) c.requires.turn c.requires.end c.requires.inner
     (closed_in (set_of c.args.templates.now) c.args.limits m c.close.new.self c.close.result c.requires.turn.supplied c.close.ensures.left)).can
 
 pub begin_element-requires-clause-below : goal.begin_element-requires-clause-below
 begin_element-requires-clause-below g c =
-    let m = c.args.self.now in
+    let m = placed c.args.self.now c.args.place in
     let h = closed (set_of c.args.templates.now) c.args.limits m c.close.new.self (option_map (elements_data (set_of c.args.templates.now).program) c.close.result) c.requires.turn c.requires.end c.requires.inner
     (closed_in (set_of c.args.templates.now) c.args.limits m c.close.new.self c.close.result c.requires.turn.supplied c.close.ensures.left) in
     (h.elements_fit (elements_data (set_of c.args.templates.now).program c.in-Some.elements) (ap (option_map (elements_data (set_of c.args.templates.now).program)) c.in-Some.is)).0
 
 pub begin_element-requires-clause-nested : goal.begin_element-requires-clause-nested
 begin_element-requires-clause-nested g c =
-    let m = c.args.self.now in
+    let m = placed c.args.self.now c.args.place in
     let h = closed (set_of c.args.templates.now) c.args.limits m c.close.new.self (option_map (elements_data (set_of c.args.templates.now).program) c.close.result) c.requires.turn c.requires.end c.requires.inner
     (closed_in (set_of c.args.templates.now) c.args.limits m c.close.new.self c.close.result c.requires.turn.supplied c.close.ensures.left) in
     (h.elements_fit (elements_data (set_of c.args.templates.now).program c.in-Some.elements) (ap (option_map (elements_data (set_of c.args.templates.now).program)) c.in-Some.is)).1
 
 pub begin_element-requires-clause-width : goal.begin_element-requires-clause-width
 begin_element-requires-clause-width g c =
-    let m = c.args.self.now in
+    let m = placed c.args.self.now c.args.place in
     let h = closed (set_of c.args.templates.now) c.args.limits m c.close.new.self (option_map (elements_data (set_of c.args.templates.now).program) c.close.result) c.requires.turn c.requires.end c.requires.inner
     (closed_in (set_of c.args.templates.now) c.args.limits m c.close.new.self c.close.result c.requires.turn.supplied c.close.ensures.left) in
     (h.elements_fit (elements_data (set_of c.args.templates.now).program c.in-Some.elements) (ap (option_map (elements_data (set_of c.args.templates.now).program)) c.in-Some.is)).2
 
 pub returns-in_ok-hand-in-None-clause-turn : goal.returns-in_ok-hand-in-None-clause-turn
 returns-in_ok-hand-in-None-clause-turn g c =
-    let m = c.args.self.now in
+    let m = placed c.args.self.now c.args.place in
     let set = set_of c.args.templates.now in
     let h = closed set c.args.limits m c.close.new.self (option_map (elements_data (set_of c.args.templates.now).program) c.close.result) c.requires.turn c.requires.end c.requires.inner
     (closed_in (set_of c.args.templates.now) c.args.limits m c.close.new.self c.close.result c.requires.turn.supplied c.close.ensures.left) in
@@ -78,7 +79,7 @@ returns-in_ok-hand-in-None-clause-turn g c =
 
 pub returns-in_ok-hand-in-Some-clause-turn : goal.returns-in_ok-hand-in-Some-clause-turn
 returns-in_ok-hand-in-Some-clause-turn g c =
-    let m = c.args.self.now in
+    let m = placed c.args.self.now c.args.place in
     let e = elements_data (set_of c.args.templates.now).program c.in-Some.elements in
     let set = set_of c.args.templates.now in
     let h = closed set c.args.limits m c.close.new.self (option_map (elements_data (set_of c.args.templates.now).program) c.close.result) c.requires.turn c.requires.end c.requires.inner
@@ -90,25 +91,25 @@ returns-in_ok-hand-in-Some-clause-turn g c =
 
 pub returns-in_err-hand-in-None-clause-turns : goal.returns-in_err-hand-in-None-clause-turns
 returns-in_err-hand-in-None-clause-turns g c way n h =
-    let m = c.args.self.now in
+    let m = placed c.args.self.now c.args.place in
     let r = err_from_is_err_and c.from_residual.result c.from_residual.ensures.1 in
     rw (r.1) (turns_taken way (set_of c.args.templates.now) c.args.limits n m.turns.count m.counted m.cursor h)
 
 pub returns-in_err-hand-in-Some-clause-turns : goal.returns-in_err-hand-in-Some-clause-turns
 returns-in_err-hand-in-Some-clause-turns g c way n h =
-    let m = c.args.self.now in
+    let m = placed c.args.self.now c.args.place in
     let r = err_from_is_err_and c.from_residual-in_err-hand-in-Some.result c.from_residual-in_err-hand-in-Some.ensures.1 in
     rw (r.1) (turns_taken way (set_of c.args.templates.now) c.args.limits n m.turns.count m.counted m.cursor h)
 
 pub returns-in_ok-hand-in-None-clause-turns : goal.returns-in_ok-hand-in-None-clause-turns
 returns-in_ok-hand-in-None-clause-turns g c way n h =
-    let m = c.args.self.now in
+    let m = placed c.args.self.now c.args.place in
     group_left way (set_of c.args.templates.now) c.args.limits n m.turns.count m.counted m.cursor c.close.new.self (option_map (elements_data (set_of c.args.templates.now).program) c.close.result) c.requires.end c.requires.inner
     (closed_in (set_of c.args.templates.now) c.args.limits m c.close.new.self c.close.result c.requires.turn.supplied c.close.ensures.left) (ap (option_map (elements_data (set_of c.args.templates.now).program)) c.in-None.is) h
 
 pub returns-in_ok-hand-in-Some-clause-turns : goal.returns-in_ok-hand-in-Some-clause-turns
 returns-in_ok-hand-in-Some-clause-turns g c way n h =
-    let m = c.args.self.now in
+    let m = placed c.args.self.now c.args.place in
     c.begin_element.ensures.turns way n
     (element_left way (set_of c.args.templates.now) c.args.limits n m.turns.count m.counted m.cursor c.close.new.self (option_map (elements_data (set_of c.args.templates.now).program) c.close.result) (elements_data (set_of c.args.templates.now).program c.in-Some.elements) c.requires.end c.requires.inner
     (closed_in (set_of c.args.templates.now) c.args.limits m c.close.new.self c.close.result c.requires.turn.supplied c.close.ensures.left) (ap (option_map (elements_data (set_of c.args.templates.now).program)) c.in-Some.is) h)
