@@ -7,7 +7,8 @@ ghost use Rattle.fast_wire.specs.meaning.Entities.{HaveNoStop};
 ghost use Rattle.fast_wire.specs.meaning.Maps.{map_limit, first_bit, later_bits};
 ghost use Rattle.fast_program.specs.device.Runs.{is_end, Begins};
 ghost use Rattle.fast_cursor.specs.device.Runs.{run_at, IsRun};
-ghost use Rattle.fast_cursor.specs.device.Cursors.{CursorData, FrameData, ElementsData, bits_left, at_rest, resting, entered, left_to};
+ghost use Rattle.fast_cursor.specs.device.Cursors.{CursorData, FrameData, ElementsData, bits_left};
+ghost use Rattle.fast_cursor.specs.device.Cursors.{at_rest, resting, entered, left_to};
 ghost use Rattle.fast_cursor.specs.device.Nexts.{next_of, gone_on};
 ghost use Rattle.fast_cursor.specs.device.Segments.{elements_data, frame_elements, first_node, IsRunOf};
 ghost use Rattle.fast_cursor.specs.device.Places.{at_place, IsPlaceOf};
@@ -219,7 +220,8 @@ impl<'t> Cursor<'t> {
         false
     }
 
-    /// Takes a map of at most eight bytes that the piece begins with, if none of its bytes has come and the piece has eight.
+    /// Takes a map of at most eight bytes that the piece begins with, if none of its bytes has come and the piece has
+    /// eight.
     #[inline(always)]
     pub fn take_short(&mut self, rest: &[u8], entity: ShortEntity) -> bool
         requires entity { IsShortEntity entity.number entity.len rest.now }
@@ -370,8 +372,8 @@ impl<'t> Cursor<'t> {
         self.map = NO_MAP;
     }
 
-    /// The innermost segment is whole. If it is an element, behind which another one comes, that one begins, and the answer is how many
-    /// bits it uses. Otherwise nothing changes.
+    /// The innermost segment is whole. If it is an element, behind which another one comes, that one begins, and the
+    /// answer is how many bits it uses. Otherwise nothing changes.
     #[inline(always)]
     pub fn next_element(&mut self) -> Option<usize>
         requires inner { 0 < length self.old.frames }

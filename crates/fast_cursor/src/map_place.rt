@@ -8,8 +8,8 @@ ghost use Rattle.fast_cursor.specs.device.Segments.{map_at};
 
 use fast_wire::ShortEntity;
 
-/// How many bytes of a segment's map have come, and which bit is the next one. No byte of it is unused, so that it is copied in two
-/// words.
+/// How many bytes of a segment's map have come, and which bit is the next one. No byte of it is unused, so that it is
+/// copied in two words.
 #[derive(Clone, Copy)]
 pub struct MapPlace {
     /// The next bits, the first of them at the top, and zeros behind the last one of the map.

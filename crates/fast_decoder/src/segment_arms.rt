@@ -23,8 +23,8 @@ ghost use Rattle.fast_decoder.specs.declared.spot.Spot.{Spot};
 
 use crate::machine::{Machine, Waiting};
 use crate::settling::{count_within, hand};
-use crate::taking::{is_overlong, is_too_wide};
 use crate::spot::{Spot, Went};
+use crate::taking::{is_overlong, is_too_wide};
 use crate::turns::Turns;
 use fast_program::Op;
 use fast_stream::{Event, FaultCode, Sink};
@@ -33,8 +33,8 @@ use fast_value::Limits;
 use fast_wire::{short_entity, whole_unsigned};
 
 impl<'t> Machine<'t> {
-    /// Behind the event at which a segment begins, or none does: takes the segment's map, if it has one and that is one for the quick
-    /// way. Without a map the answer is the one given.
+    /// Behind the event at which a segment begins, or none does: takes the segment's map, if it has one and that is one
+    /// for the quick way. Without a map the answer is the one given.
     #[inline(always)]
     fn segment_arm<S: Sink>(
         &mut self,
@@ -72,8 +72,8 @@ impl<'t> Machine<'t> {
         Went::Took
     }
 
-    /// Takes the map of a segment whose instructions use so many bits, if it stands whole in the piece, has eight bytes at most and is not
-    /// refused. The answer is how many it has, or 0. Most maps are one byte.
+    /// Takes the map of a segment whose instructions use so many bits, if it stands whole in the piece, has eight bytes at
+    /// most and is not refused. The answer is how many it has, or 0. Most maps are one byte.
     #[inline(always)]
     fn take_open_map(&mut self, limits: Limits, width: usize, rest: &[u8]) -> usize
         ensures map { 0 < result → IsMapTaken self.old.cursor.map rest.now self.new.cursor.map (MapFront.Whole result) }

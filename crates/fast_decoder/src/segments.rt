@@ -1,7 +1,8 @@
 //! Where the segments of groups and elements begin and end. The answer is how many bits the instructions of the segment use that now
 //! begins, and 0 where none does.
 
-ghost use Rattle.std.specs.Prelude.{◌≡◌, ◌≢◌, ◌⊎◌, ◌+◌, ◌<◌, ◌≤◌, ℕ, suc, [], Bool, length, slice_index, IfErr, MatchResult};
+ghost use Rattle.std.specs.Prelude.{◌≡◌, ◌≢◌, ◌⊎◌, ◌+◌, ◌<◌, ◌≤◌, ℕ, suc, [], Bool, length, slice_index};
+ghost use Rattle.std.specs.Prelude.{IfErr, MatchResult};
 ghost use Rattle.fast_stream.specs.meaning.Events.{ElementStart, ElementEnd};
 ghost use Rattle.fast_value.specs.meaning.Limits.{bounds};
 ghost use Rattle.fast_tree.specs.device.Numbers.{AreBelow};
@@ -120,8 +121,9 @@ impl<'t> Machine<'t> {
         Ok(width)
     }
 
-    /// The innermost segment, a group or an element, is whole. Behind an element the next one begins, if there is one: then the frame
-    /// around it stays. The place where the segment ends is there for what the clauses say: the cursor leaves it, and need not be there.
+    /// The innermost segment, a group or an element, is whole. Behind an element the next one begins, if there is one:
+    /// then the frame around it stays. The place where the segment ends is there for what the clauses say: the cursor
+    /// leaves it, and need not be there.
     #[inline(always)]
     pub fn leave_segment<S: Sink>(
         &mut self,
@@ -136,7 +138,8 @@ impl<'t> Machine<'t> {
         ensures turn { IsTurn S.takes S.stops (set_of templates.now) limits
             (turning (set_of templates.now) limits (placed self.old place.entry))
             sink.old (opened_result result) sink.new (opened_by result self.new) }
-        ensures turns { (way : Way) (n : ℕ) → HasTurns way (set_of templates.now) limits 1 n (placed self.old place.entry)
+        ensures turns { (way : Way) (n : ℕ)
+            → HasTurns way (set_of templates.now) limits 1 n (placed self.old place.entry)
             → HasTurnsBehind (opened_result result) way (set_of templates.now) limits n (opened_by result self.new) }
         ensures stopped { IfErr result (λ code. code ≡ FaultCode.SinkStopped) }
         ensures same { self.new ≡ record self.old { cursor = self.new.cursor } }
@@ -163,7 +166,8 @@ impl<'t> Machine<'t> {
         ensures turn { IsTurn S.takes S.stops (set_of templates.now) limits
             (turning (set_of templates.now) limits (placed self.old place.entry))
             sink.old (opened_result result) sink.new (opened_by result self.new) }
-        ensures turns { (way : Way) (n : ℕ) → HasTurns way (set_of templates.now) limits 1 n (placed self.old place.entry)
+        ensures turns { (way : Way) (n : ℕ)
+            → HasTurns way (set_of templates.now) limits 1 n (placed self.old place.entry)
             → HasTurnsBehind (opened_result result) way (set_of templates.now) limits n (opened_by result self.new) }
         ensures stopped { IfErr result (λ code. code ≡ FaultCode.SinkStopped) }
         ensures same { self.new ≡ record self.old { cursor = self.new.cursor } }

@@ -1,8 +1,7 @@
 -- The presence map of a segment that begins, whole in the piece.
-use Rattle.std.proofs.Common.{refl, sym, ap, ◌∙◌, subst, inr, arith, le-leb}
-use Rattle.std.proofs.Math.Nat.{le-max_left}
-use Rattle.std.specs.Prelude.{◌≡◌, ℕ, ◌+◌, ◌/◌, ◌≤◌, Bool, true, false, ◌&&◌, not, nat_le, List, [], ◌∷◌, ◌++◌, length, take}
-use Rattle.fast_wire.specs.meaning.Maps.{map_limit, bytes_for}
+use Rattle.std.proofs.Common.{refl, sym, ap, ◌∙◌, subst, inr}
+use Rattle.std.specs.Prelude.{◌≡◌, ℕ, ◌+◌, List, [], ◌++◌, take}
+use Rattle.fast_wire.specs.meaning.Maps.{map_limit}
 use Rattle.fast_value.specs.meaning.Limits.{bounds}
 use Rattle.fast_value.specs.declared.settings.Limits.{Limits}
 use Rattle.fast_value.specs.declared.codes.Code.TheVariants.{L3}
@@ -10,7 +9,7 @@ use Rattle.fast_dict.specs.meaning.Dictionary.{Dictionary}
 use Rattle.fast_dict.specs.meaning.Slots.{slots_dictionary}
 use Rattle.fast_cursor.specs.device.Cursors.{resting, CursorData}
 use Rattle.fast_stream.specs.meaning.Grammar.{Grammar, narrow}
-use Rattle.fast_stream.specs.device.GrammarReaders.{spare, reader_of}
+use Rattle.fast_stream.specs.device.GrammarReaders.{reader_of}
 use Rattle.fast_cursor.specs.device.MapTaking.{IsMapTaken}
 use Rattle.fast_units.specs.device.Taking.{Turns}
 use Rattle.fast_decoder.specs.device.Positions.{Set, going_on, segment_behind, CanTake, CanTurn, IsPlaced, IsReady, turning}

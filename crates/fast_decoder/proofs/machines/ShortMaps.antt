@@ -1,33 +1,23 @@
 -- Presence maps of one byte.
-use Rattle.std.proofs.Common.{refl, sym, ap, ◌∙◌, subst, inr, arith, le-leb}
+use Rattle.std.proofs.Common.{refl, ap, arith, le-leb}
 use Rattle.std.proofs.Math.Nat.{le-max_left}
 use Rattle.std.specs.Prelude.{◌≡◌, ℕ, ◌+◌, ◌/◌, ◌≤◌, Bool, true, false, ◌&&◌, not, nat_le, List, [], ◌∷◌, ◌++◌, length, take}
-use Rattle.fast_wire.specs.meaning.Maps.{map_limit, bytes_for}
+use Rattle.fast_wire.specs.meaning.Maps.{bytes_for}
 use Rattle.fast_value.specs.meaning.Limits.{bounds}
 use Rattle.fast_value.specs.declared.settings.Limits.{Limits}
-use Rattle.fast_value.specs.declared.codes.Code.TheVariants.{L3}
-use Rattle.fast_dict.specs.meaning.Dictionary.{Dictionary}
 use Rattle.fast_dict.specs.meaning.Slots.{slots_dictionary}
-use Rattle.fast_cursor.specs.device.Cursors.{resting, CursorData}
-use Rattle.fast_stream.specs.meaning.Grammar.{Grammar, narrow}
+use Rattle.fast_cursor.specs.device.Cursors.{CursorData}
 use Rattle.fast_stream.specs.device.GrammarReaders.{spare, reader_of}
 use Rattle.fast_cursor.specs.device.MapTaking.{IsMapTaken}
 use Rattle.fast_units.specs.device.Taking.{Turns}
-use Rattle.fast_decoder.specs.device.Positions.{Set, going_on, segment_behind, CanTake, CanTurn, IsPlaced, IsReady, turning}
+use Rattle.fast_decoder.specs.device.Positions.{Set, segment_behind, CanTurn, IsReady, turning}
 use Rattle.fast_decoder.specs.device.FitMaps.{IsFitMap}
-use Rattle.fast_decoder.specs.device.TurnsLeft.{Way, HasTurns, IsWithinTurns}
+use Rattle.fast_decoder.specs.device.TurnsLeft.{Way, HasTurns}
 use Rattle.fast_decoder.specs.declared.machine.Machine.{Machine}
-use Rattle.fast_decoder.specs.declared.machine.Waiting.{Waiting}
 use Rattle.fast_decoder.specs.declared.machine.Waiting.TheVariants.{SegmentMap}
 use Rattle.fast_cursor.specs.declared.pending.MapFront.TheVariants.{Whole}
 use Rattle.fast_decoder.specs.declared.turns.Turns.{Turns as TurnCount}
-use Rattle.fast_decoder.proofs.steps.FieldTurns.{supplied_like}
-use Rattle.fast_decoder.proofs.fields.Identifiers.{map_judged, narrow-fits}
-use Rattle.fast_decoder.proofs.units.InHand.{entity_then, open_in_entity, whole_gives, takes_quietly}
-use Rattle.fast_decoder.proofs.units.SegmentMaps.{segment_judged, segment-reader, segment_same}
 use Rattle.fast_decoder.proofs.machines.OpenMaps.{map_read, map_turns, map_counted}
-use Rattle.fast_decoder.proofs.steps.TurnCounts.{one_unit}
-use Rattle.fast_units.proofs.Turning.{turns_as}
 
 -- One byte has none to spare,
 spare_short : (w : List ℕ) → length w ≤ 1 → spare w ≡ false

@@ -1,5 +1,5 @@
 -- The end of a segment, and the map of what follows.
-use Rattle.std.proofs.Common.{refl, ap}
+use Rattle.std.proofs.Common.{refl}
 use Rattle.fast_decoder.specs.declared.machine.Machine.{Machine}
 use Rattle.fast_decoder.specs.device.Arms.{placed}
 use Rattle.fast_decoder.specs.device.Opening.{opened_result, opened_by}

@@ -1,10 +1,9 @@
 -- The end of an element and the start of the next one, where there is one.
-use Rattle.std.proofs.Common.{inl, inr, ◌≡◌}
+use Rattle.std.proofs.Common.{inl, inr}
 use Rattle.std.proofs.lemmas.Result.{err_from_is_err_and}
-use Rattle.std.specs.Prelude.{Result, Err}
 use Rattle.fast_stream.specs.declared.faults.FaultCode.{FaultCode}
 use Rattle.fast_decoder.specs.device.Arms.{placed}
-use Rattle.fast_decoder.specs.device.Positions.{set_of, turning, IsTurn}
+use Rattle.fast_decoder.specs.device.Positions.{set_of}
 use Rattle.fast_decoder.proofs.steps.NextElements.{next_begun, next_counts, next_stops, next_halts, next_begins}
 use Rattle.fast_decoder.proofs.steps.TurnCounts.{turns_taken}
 use Rattle.fast_decoder.proofs.machine.Machine.leave_segment.Goals as goal
