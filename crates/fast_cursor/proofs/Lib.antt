@@ -4,3 +4,4 @@ pub mod MapBits
 pub mod Runs
 pub mod MapWords
 pub mod MapBytes
+pub mod Nexts

@@ -156,16 +156,16 @@ place-whole map len end word short here e h =
     }
 
 -- Eight bytes further on the next bit is the same. The count of bytes stays where it can't go on, which is behind the last one.
-pub next-word : (map : List ℕ) (end left next : ℕ) → length map ≤ map_limit → left ≡ 0 → next ≡ min (end + 8) 255 → drop (7 * next - 56) (bits map) ≡ drop (7 * end - left) (bits map)
+pub next-word : (map : List ℕ) (end left next : ℕ) → length map ≤ map_limit → left ≡ 0 → next ≡ min (end + 8) 65535 → drop (7 * next - 56) (bits map) ≡ drop (7 * end - left) (bits map)
 next-word map end left next short none e =
     let len : length (bits map) ≡ 7 * length map = length-bits map in
-    elim (cases_lt 255 (end + 8)) [
+    elim (cases_lt 65535 (end + 8)) [
       | inl h ↦ drop_all (7 * next - 56) (bits map) (omega (arith, h)) ∙ sym (drop_all (7 * end - left) (bits map) (omega (arith, h)))
       | inr h ↦ let same : 7 * next - 56 ≡ 7 * end - left = omega (arith, h) in ap (λ n. drop n (bits map)) same
     ]
 
 -- no map
-pub place-none : IsPlace [] (record { len = 0; word = 0; left = 1; end = 0 })
+pub place-none : IsPlace [] (record { word = 0; left = 1; end = 0; len = 0 })
 place-none = record {
   counted = record { short = omega arith; few = omega arith; ends = λ h. absurd (omega (arith, h)); none = λ _. refl };
   some = omega arith;

@@ -7,12 +7,13 @@ use borrow.Rule.Slice.PartMut.{put_mid, post_of}
 use Rattle.fast_wire.specs.meaning.Maps.{map_limit}
 use Rattle.fast_program.specs.declared.ops.Op.{Op}
 use Rattle.fast_cursor.specs.device.Runs.{run_at}
-use Rattle.fast_cursor.specs.device.Cursors.{FrameData, CursorData, entered, left_to}
+use Rattle.fast_cursor.specs.device.Cursors.{FrameData, CursorData, frame_here, entered, left_to}
 use Rattle.fast_cursor.specs.declared.cursor.Elements.{Elements}
 use Rattle.fast_cursor.specs.declared.cursor.Frame.{Frame}
+use Rattle.fast_cursor.specs.declared.map_place.MapPlace.{MapPlace}
 use Rattle.fast_cursor.specs.declared.cursor.Cursor.TheInside.{Inside}
 use Rattle.fast_cursor.specs.device.MapPlaces.{used_bits, IsPlace}
-use Rattle.fast_cursor.specs.device.Segments.{map_at, frame_data, frames_on, ArePlaces, elements_data, cursor_data, IsCursor}
+use Rattle.fast_cursor.specs.device.Segments.{map_at, frame_data, frames_on, ArePlaces, elements_data, frame_elements, cursor_data, IsCursor}
 
 -- each frame is there
 pub length-frames : (ops : List Op) (cells : List ℕ) (start : ℕ) (fs : List Frame) (outer : List FrameData) → length (frames_on ops cells start fs outer) ≡ length fs + length outer
@@ -97,13 +98,16 @@ places-more cells fs n start f h e all here =
 
 -- A segment begins where a frame is written.
 pub entered-is : (i : Inside) (d : CursorData) (elements : Option Elements) (start : ℕ) (f : Frame) (depth : ℕ) → IsCursor i → cursor_data i ≡ d → i.level < length i.frames.items → depth ≡ length i.frames.items
-    → f ≡ record { after = i.ip; map = i.map; elements = elements }
+    → f.map ≡ i.map → f.after ≡ i.ip → frame_elements f ≡ elements
     → record { ops = i.ops.now; frames = frames_on i.ops.now i.maps.items 0 (take (i.level + 1) (set i.frames.items i.level f)) []; left = run_at i.ops.now start; map = []; used = 0; depth = depth } ≡ entered d (option_map (elements_data d.ops) elements) (run_at d.ops start)
-entered-is i d elements start f depth s e h k is =
+entered-is i d elements start f depth s e h k map after same =
     subst (λ (c : CursorData). record { ops = i.ops.now; frames = frames_on i.ops.now i.maps.items 0 (take (i.level + 1) (set i.frames.items i.level f)) []; left = run_at i.ops.now start; map = []; used = 0; depth = depth } ≡ entered c (option_map (elements_data c.ops) elements) (run_at c.ops start)) e
     (let more : frames_on i.ops.now i.maps.items 0 (take (i.level + 1) (set i.frames.items i.level f)) [] ≡ frame_data i.ops.now i.maps.items i.start f ∷ frames_on i.ops.now i.maps.items 0 (take i.level i.frames.items) []
     = frames-more i.ops.now i.maps.items i.frames.items i.level i.start f h s.starts in
-    let here : frame_data i.ops.now i.maps.items i.start f ≡ frame_data i.ops.now i.maps.items i.start (record { after = i.ip; map = i.map; elements = elements }) = ap (frame_data i.ops.now i.maps.items i.start) is in
+    let here : frame_data i.ops.now i.maps.items i.start f ≡ frame_here (cursor_data i) (option_map (elements_data i.ops.now) elements)
+    = ap (λ n. record (frame_data i.ops.now i.maps.items i.start f) { after = run_at i.ops.now n }) after
+    ∙ ap (λ (m : MapPlace). record { after = run_at i.ops.now i.ip; map = map_at i.maps.items i.start m.len; used = used_bits m; elements = option_map (elements_data i.ops.now) (frame_elements f) }) map
+    ∙ ap (λ x. frame_here (cursor_data i) (option_map (elements_data i.ops.now) x)) same in
     cc)
 
 -- The frames below the innermost one.
@@ -125,7 +129,7 @@ places-less cells fs n start f h e is all =
 -- The innermost segment is whole, and what its frame says goes on.
 pub left-is : (i : Inside) (d : CursorData) (r : Frame) (n : ℕ) → IsCursor i → cursor_data i ≡ d → i.level ≡ n + 1 → r ≡ get_or i.frames.items n r → (f : FrameData) (fs : List FrameData) → d.frames ≡ f ∷ fs
     → (record { ops = i.ops.now; frames = frames_on i.ops.now i.maps.items 0 (take n i.frames.items) []; left = run_at i.ops.now r.after; map = map_at i.maps.items (i.start - map_limit) r.map.len; used = used_bits r.map; depth = length i.frames.items } ≡ left_to d f fs)
-    × (option_map (elements_data d.ops) r.elements ≡ f.elements)
+    × (option_map (elements_data d.ops) (frame_elements r) ≡ f.elements)
 left-is i d r n s e one is f fs front =
     let within : i.level ≤ length i.frames.items = s.within in
     let starts : i.start ≡ map_limit * i.level = s.starts in
@@ -137,16 +141,16 @@ left-is i d r n s e one is f fs front =
     let rest : fs ≡ frames_on i.ops.now i.maps.items 0 (take n i.frames.items) [] = cc in
     let depth : length i.frames.items ≡ d.depth = ap (λ (c : CursorData). c.depth) e in
     let ops : i.ops.now ≡ d.ops = ap (λ (c : CursorData). c.ops) e in
-    (cc, ap (λ (o : List Op). option_map (elements_data o) r.elements) (sym ops) ∙ ap (λ (g : FrameData). g.elements) (sym first))
+    (cc, ap (λ (o : List Op). option_map (elements_data o) (frame_elements r)) (sym ops) ∙ ap (λ (g : FrameData). g.elements) (sym first))
 
--- In the cells from a place on stand others, and before it the same.
-pub record IsFilled (old : List ℕ) (start : ℕ) (cells now : List ℕ) : Type 0 where
+-- In so many cells from a place on stand others, and before it the same.
+pub record IsFilled (room : ℕ) (old : List ℕ) (start : ℕ) (cells now : List ℕ) : Type 0 where
   pub before : take start now ≡ take start old
-  pub inner : (n : ℕ) → n ≤ map_limit → map_at now start n ≡ take n cells
+  pub inner : (n : ℕ) → n ≤ room → map_at now start n ≡ take n cells
 
-pub filled : (maps : Vec ℕ Global) (old cells : List ℕ) (start k : ℕ) → old ≡ maps.items → k ≡ map_limit → start + map_limit ≤ length old → length cells ≡ map_limit
-    → IsFilled maps.items start cells (with_items maps (put_mid start k old cells)).items
-filled maps old cells start k same size h len =
+pub filled : (maps : Vec ℕ Global) (old cells : List ℕ) (start k room : ℕ) → old ≡ maps.items → k ≡ room → start + room ≤ length old → length cells ≡ room
+    → IsFilled room maps.items start cells (with_items maps (put_mid start k old cells)).items
+filled maps old cells start k room same size h len =
     let front : length (take start old) ≡ start = length-take-le start old (omega arith) in
     let post : List ℕ = post_of start k old in
     let behind : length post ≡ length old - start - k = length-drop k (drop start old) ∙ ap (λ n. n - k) (length-drop start old) in
@@ -198,13 +202,20 @@ map-count i d s e =
 
 -- The cells that were lent come back.
 pub map-back : (i : Inside) (old cells : List ℕ) (k : ℕ) → IsCursor i → old ≡ i.maps.items → k ≡ map_limit → length cells ≡ length (take k (drop i.start old))
-    → IsFilled i.maps.items i.start cells (with_items i.maps (put_mid i.start k old cells)).items
+    → IsFilled map_limit i.maps.items i.start cells (with_items i.maps (put_mid i.start k old cells)).items
 map-back i old cells k s same size len =
     let there : i.start + map_limit ≤ length i.maps.items = cells-there i s in
     let count : length old ≡ length i.maps.items = ap length same in
     let behind : length (drop i.start old) ≡ length old - i.start = length-drop i.start old in
     let lent : length (take k (drop i.start old)) ≡ k = length-take-le k (drop i.start old) (omega arith) in
-    filled i.maps old cells i.start k same size (omega arith) (omega arith)
+    filled i.maps old cells i.start k map_limit same size (omega arith) (omega arith)
+
+-- Eight cells that were lent come back.
+pub front-back : (i : Inside) (old cells : List ℕ) (k : ℕ) → IsCursor i → old ≡ i.maps.items → k ≡ 8 → length cells ≡ 8 → IsFilled 8 i.maps.items i.start cells (with_items i.maps (put_mid i.start k old cells)).items
+front-back i old cells k s same size len =
+    let there : i.start + map_limit ≤ length i.maps.items = cells-there i s in
+    let count : length old ≡ length i.maps.items = ap length same in
+    filled i.maps old cells i.start k 8 same size (omega arith) len
 
 -- One cell is written, in which the innermost map begins.
 pub one-before : (cells : List ℕ) (start b : ℕ) → start < length cells → take start (set cells start b) ≡ take start cells

@@ -3,6 +3,7 @@ pub mod Runs
 pub mod Cursors
 pub mod MapPlaces
 pub mod Segments
+pub mod Nexts
 pub mod Places
 pub mod MapTaking
 pub mod Pending

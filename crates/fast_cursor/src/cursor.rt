@@ -2,12 +2,15 @@
 
 ghost use Rattle.std.specs.Prelude.{◌≡◌, ◌↔◌, ◌<◌, true, false, ℕ, List, [], ◌∷◌, length, drop};
 ghost use Rattle.std.specs.Prelude.{IfOk, IsTrue, Some, None, option_map, slice_get};
+ghost use Rattle.fast_wire.specs.device.Words.{IsShortEntity};
 ghost use Rattle.fast_wire.specs.meaning.Entities.{HaveNoStop};
 ghost use Rattle.fast_wire.specs.meaning.Maps.{map_limit, first_bit, later_bits};
 ghost use Rattle.fast_program.specs.device.Runs.{is_end, Begins};
 ghost use Rattle.fast_cursor.specs.device.Runs.{run_at, IsRun};
-ghost use Rattle.fast_cursor.specs.device.Cursors.{CursorData, FrameData, bits_left, at_rest, resting, entered, left_to};
-ghost use Rattle.fast_cursor.specs.device.Segments.{elements_data, first_node, IsRunOf};
+ghost use Rattle.fast_cursor.specs.device.Cursors.{CursorData, FrameData, ElementsData, bits_left};
+ghost use Rattle.fast_cursor.specs.device.Cursors.{at_rest, resting, entered, left_to};
+ghost use Rattle.fast_cursor.specs.device.Nexts.{next_of, gone_on};
+ghost use Rattle.fast_cursor.specs.device.Segments.{elements_data, frame_elements, first_node, IsRunOf};
 ghost use Rattle.fast_cursor.specs.device.Places.{at_place, IsPlaceOf};
 ghost use Rattle.fast_cursor.specs.device.MapTaking.{IsMapTaken};
 
@@ -15,7 +18,7 @@ use crate::map_place::{MapPlace, NO_MAP};
 use crate::pending::{MapFront, next_map};
 use crate::place::Place;
 use fast_program::{Code, Op};
-use fast_wire::MAP_LIMIT;
+use fast_wire::{MAP_LIMIT, ShortEntity};
 use std::alloc::{AllocError, Global};
 use std::marker::Model;
 
@@ -30,13 +33,62 @@ pub struct Elements {
     pub width: usize,
 }
 
-/// The segment around an open group or element.
+/// The segment around an open group or element. No byte of it is unused, so that it is copied in words.
 #[derive(Clone, Copy)]
 struct Frame {
+    map: MapPlace,
     // where in the program it goes on behind the group or sequence
     after: usize,
-    map: MapPlace,
-    elements: Option<Elements>,
+    // 0 around a group, whose next fields say nothing, and 1 around an element
+    is_element: u32,
+    // what is still to come of the sequence
+    more: u32,
+    start: usize,
+    width: usize,
+}
+
+impl Frame {
+    /// The frame of a segment around one that begins.
+    #[inline(always)]
+    fn around(map: MapPlace, after: usize, elements: Option<Elements>) -> Frame
+        ensures map { result.map ≡ map }
+        ensures after { result.after ≡ after }
+        ensures elements { frame_elements result ≡ elements }
+    {
+        match elements {
+            None => Frame {
+                map,
+                after,
+                is_element: 0,
+                more: 0,
+                start: 0,
+                width: 0,
+            },
+            Some(elements) => Frame {
+                map,
+                after,
+                is_element: 1,
+                more: elements.more,
+                start: elements.start,
+                width: elements.width,
+            },
+        }
+    }
+
+    /// What is still to come of the sequence, if the open segment is an element.
+    #[inline(always)]
+    fn elements(self) -> Option<Elements>
+        ensures { result ≡ frame_elements self }
+    {
+        if self.is_element == 0 {
+            return None;
+        }
+        Some(Elements {
+            more: self.more,
+            start: self.start,
+            width: self.width,
+        })
+    }
 }
 
 /// Where a decoder is in a message. All its memory is taken when it is made.
@@ -80,12 +132,7 @@ impl<'t> Cursor<'t> {
     {
         let levels = depth.checked_add(1).ok_or(AllocError)?;
         let cells = levels.checked_mul(MAP_LIMIT).ok_or(AllocError)?;
-        let empty = Frame {
-            after: 0,
-            map: NO_MAP,
-            elements: None,
-        };
-        let frames = vec![in alloc; empty; depth]?;
+        let frames = vec![in alloc; Frame::around(NO_MAP, 0, None); depth]?;
         let maps = vec![in alloc; 0u8; cells]?;
         Ok(Cursor {
             frames,
@@ -171,6 +218,24 @@ impl<'t> Cursor<'t> {
             }
         }
         false
+    }
+
+    /// Takes a map of at most eight bytes that the piece begins with, if none of its bytes has come and the piece has
+    /// eight.
+    #[inline(always)]
+    pub fn take_short(&mut self, rest: &[u8], entity: ShortEntity) -> bool
+        requires entity { IsShortEntity entity.number entity.len rest.now }
+        ensures none { result ≡ true → self.old.map ≡ [] }
+        ensures map { result ≡ true → IsMapTaken self.old.map rest.now self.new.map (MapFront.Whole entity.len) }
+        ensures same { self.new ≡ record self.old { map = self.new.map } }
+        ensures left { result ≡ false → self.new ≡ self.old }
+    {
+        if self.map.len != 0 || rest.len() < 8 {
+            return false;
+        }
+        self.maps[self.start..self.start + 8].copy_from_slice(&rest[..8]);
+        self.map = MapPlace::of_entity(entity);
+        true
     }
 
     /// The same, whether or not bytes of the map have come, and whether one byte or more of the piece are the map's.
@@ -271,6 +336,7 @@ impl<'t> Cursor<'t> {
     }
 
     /// A group begins, behind which the innermost segment goes on.
+    #[inline(always)]
     pub fn open_group(&mut self, start: usize)
         requires room { length self.old.frames < self.old.depth }
         requires run { IsRun self.old.ops start }
@@ -299,15 +365,32 @@ impl<'t> Cursor<'t> {
         ensures { self.new ≡ entered self.old (option_map (elements_data self.old.ops) elements)
             (run_at self.old.ops start) }
     {
-        self.frames[self.level] = Frame {
-            after: self.ip,
-            map: self.map,
-            elements,
-        };
+        self.frames[self.level] = Frame::around(self.map, self.ip, elements);
         self.level += 1;
         self.start += MAP_LIMIT;
         self.ip = start;
         self.map = NO_MAP;
+    }
+
+    /// The innermost segment is whole. If it is an element, behind which another one comes, that one begins, and the
+    /// answer is how many bits it uses. Otherwise nothing changes.
+    #[inline(always)]
+    pub fn next_element(&mut self) -> Option<usize>
+        requires inner { 0 < length self.old.frames }
+        ensures next { (f : FrameData) (fs : List FrameData) → self.old.frames ≡ f ∷ fs
+            → self.new ≡ gone_on self.old f fs (next_of f.elements) }
+        ensures width { (f : FrameData) (fs : List FrameData) → self.old.frames ≡ f ∷ fs
+            → result ≡ option_map (λ (e : ElementsData). e.width) (next_of f.elements) }
+        ensures none { result ≡ None → self.new ≡ self.old }
+    {
+        let frame = self.frames[self.level - 1];
+        if frame.is_element == 0 || frame.more == 0 {
+            return None;
+        }
+        self.frames[self.level - 1].more = frame.more - 1;
+        self.ip = frame.start;
+        self.map = NO_MAP;
+        Some(frame.width)
     }
 
     /// Whether the innermost segment is the message's.
@@ -331,6 +414,6 @@ impl<'t> Cursor<'t> {
         self.start -= MAP_LIMIT;
         self.ip = frame.after;
         self.map = frame.map;
-        frame.elements
+        frame.elements()
     }
 }

@@ -1,29 +1,33 @@
 //! Which bit of a presence map is the next one.
 
-ghost use Rattle.std.specs.Prelude.{◌≡◌, ℕ, ◌+◌, ◌*◌, ◌<◌, ◌≤◌, List, [], ◌∷◌, ◌++◌, length, drop, Bool, vec_len};
+ghost use Rattle.std.specs.Prelude.{◌≡◌, ℕ, ◌+◌, ◌*◌, ◌<◌, ◌≤◌, List, [], ◌∷◌, ◌++◌, length, take, drop, Bool, vec_len};
+ghost use Rattle.fast_wire.specs.device.Words.{IsShortEntity};
 ghost use Rattle.fast_wire.specs.meaning.Maps.{map_limit, bits, later_bits};
 ghost use Rattle.fast_cursor.specs.device.MapPlaces.{HasTop, IsCounted, IsPlace, used_bits};
 ghost use Rattle.fast_cursor.specs.device.Segments.{map_at};
 
-/// How many bytes of a segment's map have come, and which bit is the next one.
+use fast_wire::ShortEntity;
+
+/// How many bytes of a segment's map have come, and which bit is the next one. No byte of it is unused, so that it is
+/// copied in two words.
 #[derive(Clone, Copy)]
 pub struct MapPlace {
-    /// The bytes that have come.
-    pub len: u8,
     /// The next bits, the first of them at the top, and zeros behind the last one of the map.
     pub word: u64,
     /// How many bits of the word count.
-    pub left: u8,
+    pub left: u32,
     /// The byte behind those whose bits are in the word.
-    pub end: u8,
+    pub end: u16,
+    /// The bytes that have come.
+    pub len: u16,
 }
 
 /// The place in a map that has not come.
 pub const NO_MAP: MapPlace = MapPlace {
-    len: 0,
     word: 0,
     left: 1,
     end: 0,
+    len: 0,
 };
 
 impl MapPlace {
@@ -35,10 +39,26 @@ impl MapPlace {
         ensures len { result.len ≡ 1 }
     {
         MapPlace {
-            len: 1,
             word: u64::from(byte) << 57,
             left: 56,
             end: 8,
+            len: 1,
+        }
+    }
+
+    /// The place before the first bit of a map of at most eight bytes.
+    #[inline(always)]
+    pub fn of_entity(map: ShortEntity) -> MapPlace
+        requires short { map.len ≤ 8 }
+        ensures place { (w : List ℕ) → IsShortEntity map.number map.len w → IsPlace (take map.len w) result }
+        ensures used { used_bits result ≡ 0 }
+        ensures len { result.len ≡ map.len }
+    {
+        MapPlace {
+            word: map.number << (56 - 7 * map.len) << 8,
+            left: 56,
+            end: 8,
+            len: map.len as u16,
         }
     }
 
@@ -61,10 +81,10 @@ impl MapPlace {
             (self.left, self.end)
         };
         MapPlace {
-            len: map.len() as u8,
             word: word_at(map, end - 8) << (56 - left),
             left,
             end,
+            len: map.len() as u16,
         }
     }
 
@@ -100,16 +120,16 @@ impl MapPlace {
         let map = &maps[start..start + usize::from(self.len)];
         let end = self.end.saturating_add(8);
         MapPlace {
-            len: self.len,
             word: word_at(map, end - 8),
             left: 56,
             end,
+            len: self.len,
         }
     }
 }
 
 /// The bits of the eight bytes from a place on.
-fn word_at(map: &[u8], first: u8) -> u64
+fn word_at(map: &[u8], first: u16) -> u64
     ensures { HasTop 56 result (drop (7 * first) (bits map.now)) }
 {
     let first = usize::from(first);

@@ -3,6 +3,7 @@ pub mod BlockTexts
 pub mod CutMaps
 pub mod UnitTaken
 pub mod QuickSteps
+pub mod OpenMaps
 pub mod ShortMaps
 pub mod StartMaps
 pub mod SentItems

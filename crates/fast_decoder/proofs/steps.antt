@@ -8,3 +8,4 @@ pub mod Awaiting
 pub mod TurnCounts
 pub mod Paying
 pub mod Opened
+pub mod NextElements

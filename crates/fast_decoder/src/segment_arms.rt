@@ -10,6 +10,9 @@ ghost use Rattle.fast_program.specs.device.Codes.{IsGroupCoded, IsSequenceCoded}
 ghost use Rattle.fast_stream.specs.meaning.Messages.{within_limits};
 ghost use Rattle.fast_cursor.specs.device.Places.{place_left, at_place};
 ghost use Rattle.fast_cursor.specs.device.Runs.{IsRun};
+ghost use Rattle.fast_cursor.specs.device.MapTaking.{IsMapTaken};
+ghost use Rattle.fast_cursor.specs.declared.pending.MapFront.{MapFront};
+ghost use Rattle.fast_decoder.specs.device.FitMaps.{IsFitMap};
 ghost use Rattle.fast_stream.specs.declared.faults.FaultCode.{FaultCode};
 ghost use Rattle.fast_decoder.specs.device.Arms.{placed, IsAnswer, IsAtOp, IsAtSpot, IsGroupHere, IsLengthTaken, HasWent};
 ghost use Rattle.fast_decoder.specs.device.Opening.{opened_result, opened_by};
@@ -21,16 +24,17 @@ ghost use Rattle.fast_decoder.specs.declared.spot.Spot.{Spot};
 use crate::machine::{Machine, Waiting};
 use crate::settling::{count_within, hand};
 use crate::spot::{Spot, Went};
+use crate::taking::{is_overlong, is_too_wide};
 use crate::turns::Turns;
 use fast_program::Op;
 use fast_stream::{Event, FaultCode, Sink};
 use fast_template::{Shape, Templates};
 use fast_value::Limits;
-use fast_wire::whole_unsigned;
+use fast_wire::{short_entity, whole_unsigned};
 
 impl<'t> Machine<'t> {
-    /// Behind the event at which a segment begins, or none does: takes the segment's map, if it has one and the piece goes on with one
-    /// byte. Without a map the answer is the one given.
+    /// Behind the event at which a segment begins, or none does: takes the segment's map, if it has one and that is one
+    /// for the quick way. Without a map the answer is the one given.
     #[inline(always)]
     fn segment_arm<S: Sink>(
         &mut self,
@@ -57,14 +61,53 @@ impl<'t> Machine<'t> {
             spot.stand(&self.cursor, 0);
             return went;
         }
-        if self.cursor.take_byte(spot.rest) {
-            self.turns = Turns::after(&self.turns);
-            spot.stand(&self.cursor, 1);
-            return Went::Took;
+        let bytes = self.take_open_map(limits, width, spot.rest);
+        if bytes == 0 {
+            self.waiting = Waiting::SegmentMap(width);
+            spot.stand(&self.cursor, 0);
+            return Went::Waits;
         }
-        self.waiting = Waiting::SegmentMap(width);
-        spot.stand(&self.cursor, 0);
-        Went::Waits
+        self.turns = Turns::after(&self.turns);
+        spot.stand(&self.cursor, bytes);
+        Went::Took
+    }
+
+    /// Takes the map of a segment whose instructions use so many bits, if it stands whole in the piece, has eight bytes at
+    /// most and is not refused. The answer is how many it has, or 0. Most maps are one byte.
+    #[inline(always)]
+    fn take_open_map(&mut self, limits: Limits, width: usize, rest: &[u8]) -> usize
+        ensures map { 0 < result → IsMapTaken self.old.cursor.map rest.now self.new.cursor.map (MapFront.Whole result) }
+        ensures fit { 0 < result → IsFitMap limits.strict width self.new.cursor.map }
+        ensures same { self.new
+            ≡ record self.old { cursor = record self.old.cursor { map = self.new.cursor.map } } }
+        ensures left { result ≡ 0 → self.new ≡ self.old }
+    {
+        if self.cursor.take_byte(rest) {
+            return 1;
+        }
+        self.take_short_map(limits, width, rest)
+    }
+
+    /// The same of a map of any such length.
+    #[inline(never)]
+    fn take_short_map(&mut self, limits: Limits, width: usize, rest: &[u8]) -> usize
+        ensures map { 0 < result → IsMapTaken self.old.cursor.map rest.now self.new.cursor.map (MapFront.Whole result) }
+        ensures fit { 0 < result → IsFitMap limits.strict width self.new.cursor.map }
+        ensures same { self.new
+            ≡ record self.old { cursor = record self.old.cursor { map = self.new.cursor.map } } }
+        ensures left { result ≡ 0 → self.new ≡ self.old }
+    {
+        let Some(entity) = short_entity(rest) else {
+            return 0;
+        };
+        let strict = limits.strict;
+        if is_overlong(strict, &rest[..entity.len]) || is_too_wide(strict, entity.len, width) {
+            return 0;
+        }
+        if !self.cursor.take_short(rest, entity) {
+            return 0;
+        }
+        entity.len
     }
 
     /// The innermost segment has no instruction left: a group, an element or the message ends, and what follows is begun.
@@ -82,11 +125,11 @@ impl<'t> Machine<'t> {
             self.new spot.new }
     {
         self.turns = Turns::after(&self.turns);
-        self.cursor.set_place(spot.place);
         if self.cursor.is_outermost() {
+            self.cursor.set_place(spot.place);
             return self.message_arm(templates, limits, spot, sink);
         }
-        let begun = self.leave_segment(templates, limits, sink);
+        let begun = self.leave_segment(templates, limits, spot.place, sink);
         self.segment_arm(templates, limits, begun, Went::Handed, spot, sink)
     }
 

@@ -1,7 +1,9 @@
 //! Where the segments of groups and elements begin and end. The answer is how many bits the instructions of the segment use that now
 //! begins, and 0 where none does.
 
-ghost use Rattle.std.specs.Prelude.{◌≡◌, ◌≢◌, ◌+◌, ◌<◌, ◌≤◌, ℕ, suc, [], Bool, length, slice_index, IfErr};
+ghost use Rattle.std.specs.Prelude.{◌≡◌, ◌≢◌, ◌⊎◌, ◌+◌, ◌<◌, ◌≤◌, ℕ, suc, [], Bool, length, slice_index};
+ghost use Rattle.std.specs.Prelude.{IfErr, MatchResult};
+ghost use Rattle.fast_stream.specs.meaning.Events.{ElementStart, ElementEnd};
 ghost use Rattle.fast_value.specs.meaning.Limits.{bounds};
 ghost use Rattle.fast_tree.specs.device.Numbers.{AreBelow};
 ghost use Rattle.fast_tree.specs.meaning.Sizes.{body_depth};
@@ -9,7 +11,9 @@ ghost use Rattle.fast_tree.specs.meaning.Tree.{bits_of};
 ghost use Rattle.fast_dict.specs.meaning.Slots.{slots_dictionary};
 ghost use Rattle.fast_stream.specs.declared.faults.FaultCode.{FaultCode};
 ghost use Rattle.fast_stream.specs.device.GrammarReaders.{reader_of};
+ghost use Rattle.fast_cursor.specs.device.Places.{place_left};
 ghost use Rattle.fast_cursor.specs.device.Runs.{IsRun};
+ghost use Rattle.fast_decoder.specs.device.Arms.{placed};
 ghost use Rattle.fast_decoder.specs.device.Opening.{opened_result, opened_by};
 ghost use Rattle.fast_decoder.specs.device.Passing.{group_from, elements_from};
 ghost use Rattle.fast_decoder.specs.device.Positions.{set_of, run_in, body_in, IsAtGroup, CanTurn, IsTurn, turning};
@@ -18,9 +22,22 @@ ghost use Rattle.fast_decoder.specs.device.TurnsLeft.{Way, HasTurns, HasTurnsFro
 use crate::machine::Machine;
 use crate::settling::hand;
 use fast_cursor::cursor::Elements;
+use fast_cursor::place::Place;
 use fast_stream::{Event, FaultCode, Sink};
 use fast_template::Templates;
 use fast_value::Limits;
+
+/// Hands over that an element ends and that the next one begins.
+#[inline(always)]
+fn hand_next<S: Sink>(sink: &mut S) -> Result<(), FaultCode>
+    ensures { MatchResult result
+        (λ _. (mid : S) × S.takes sink.old ElementEnd mid × S.takes mid ElementStart sink.new)
+        (λ code. (code ≡ FaultCode.SinkStopped) × (S.stops sink.old ElementEnd sink.new
+        ⊎ ((mid : S) × S.takes sink.old ElementEnd mid × S.stops mid ElementStart sink.new))) }
+{
+    hand(sink, Event::ElementEnd)?;
+    hand(sink, Event::ElementStart)
+}
 
 impl<'t> Machine<'t> {
     /// The next instruction, a group, begins. Its bit is used, if it has one.
@@ -104,25 +121,58 @@ impl<'t> Machine<'t> {
         Ok(width)
     }
 
-    /// The innermost segment, a group or an element, is whole. Behind an element the next one begins, if there is one.
+    /// The innermost segment, a group or an element, is whole. Behind an element the next one begins, if there is one:
+    /// then the frame around it stays. The place where the segment ends is there for what the clauses say: the cursor
+    /// leaves it, and need not be there.
     #[inline(always)]
     pub fn leave_segment<S: Sink>(
         &mut self,
         templates: &'t Templates,
         limits: Limits,
+        place: Place<'t>,
         sink: &mut S,
     ) -> Result<usize, FaultCode>
-        requires turn { CanTurn (set_of templates.now) limits self.old }
-        requires end { self.old.cursor.left ≡ [] }
+        requires turn { CanTurn (set_of templates.now) limits (placed self.old place) }
+        requires end { place_left place ≡ [] }
         requires inner { ¬ (self.old.cursor.frames ≡ []) }
         ensures turn { IsTurn S.takes S.stops (set_of templates.now) limits
-            (turning (set_of templates.now) limits self.old)
+            (turning (set_of templates.now) limits (placed self.old place.entry))
             sink.old (opened_result result) sink.new (opened_by result self.new) }
-        ensures turns { (way : Way) (n : ℕ) → HasTurns way (set_of templates.now) limits 1 n self.old
+        ensures turns { (way : Way) (n : ℕ)
+            → HasTurns way (set_of templates.now) limits 1 n (placed self.old place.entry)
             → HasTurnsBehind (opened_result result) way (set_of templates.now) limits n (opened_by result self.new) }
         ensures stopped { IfErr result (λ code. code ≡ FaultCode.SinkStopped) }
         ensures same { self.new ≡ record self.old { cursor = self.new.cursor } }
     {
+        let Some(width) = self.cursor.next_element() else {
+            return self.close_segment(templates, limits, place, sink);
+        };
+        hand_next(sink)?;
+        Ok(width)
+    }
+
+    /// The same, by the way of the segment around it.
+    #[inline(always)]
+    fn close_segment<S: Sink>(
+        &mut self,
+        templates: &'t Templates,
+        limits: Limits,
+        place: Place<'t>,
+        sink: &mut S,
+    ) -> Result<usize, FaultCode>
+        requires turn { CanTurn (set_of templates.now) limits (placed self.old place) }
+        requires end { place_left place ≡ [] }
+        requires inner { ¬ (self.old.cursor.frames ≡ []) }
+        ensures turn { IsTurn S.takes S.stops (set_of templates.now) limits
+            (turning (set_of templates.now) limits (placed self.old place.entry))
+            sink.old (opened_result result) sink.new (opened_by result self.new) }
+        ensures turns { (way : Way) (n : ℕ)
+            → HasTurns way (set_of templates.now) limits 1 n (placed self.old place.entry)
+            → HasTurnsBehind (opened_result result) way (set_of templates.now) limits n (opened_by result self.new) }
+        ensures stopped { IfErr result (λ code. code ≡ FaultCode.SinkStopped) }
+        ensures same { self.new ≡ record self.old { cursor = self.new.cursor } }
+    {
+        let _ = place;
         match self.cursor.close() {
             None => {
                 hand(sink, Event::GroupEnd)?;

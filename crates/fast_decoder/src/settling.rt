@@ -670,7 +670,8 @@ impl<'t> Machine<'t> {
             self.waiting = Waiting::Map;
             return Ok(Turn::Waits);
         }
-        let begun = self.leave_segment(templates, limits, sink);
+        let place = self.cursor.place();
+        let begun = self.leave_segment(templates, limits, place, sink);
         self.open_segment(begun)
     }
 

@@ -88,7 +88,7 @@ impl UnitTaken {
 
 /// Whether a map has more bytes than a segment of so many bits can use, in strict mode.
 #[inline]
-fn is_too_wide(strict: bool, map_len: usize, bits: usize) -> bool
+pub fn is_too_wide(strict: bool, map_len: usize, bits: usize) -> bool
     ensures { result ≡ (strict && not (nat_le map_len (bytes_for bits))) }
 {
     strict && map_len > bits.div_ceil(7).max(1)
@@ -96,7 +96,7 @@ fn is_too_wide(strict: bool, map_len: usize, bits: usize) -> bool
 
 /// Whether the last of more than seven bits of a map are zero, in strict mode.
 #[inline]
-fn is_overlong(strict: bool, map: &[u8]) -> bool
+pub fn is_overlong(strict: bool, map: &[u8]) -> bool
     requires entity { IsEntity map.now }
     requires short { length map.now ≤ map_limit }
     ensures { result ≡ (strict && spare map.now) }

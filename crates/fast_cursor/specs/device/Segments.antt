@@ -1,5 +1,5 @@
 -- What the fields of a cursor mean.
-use Rattle.std.specs.Prelude.{◌≡◌, ℕ, ◌+◌, ◌*◌, ◌≤◌, List, [], ◌∷◌, take, drop, length, Option, Some, None, option_map}
+use Rattle.std.specs.Prelude.{◌≡◌, ℕ, zero, suc, ◌+◌, ◌*◌, ◌≤◌, List, [], ◌∷◌, take, drop, length, Option, Some, None, option_map}
 use Rattle.fast_wire.specs.meaning.Maps.{map_limit}
 use Rattle.fast_program.specs.declared.ops.Op.{Op}
 use Rattle.fast_program.specs.device.Runs.{Begins}
@@ -14,6 +14,15 @@ use Rattle.fast_cursor.specs.declared.cursor.Cursor.TheInside.{Inside}
 abbrev pub elements_data : List Op → Elements → ElementsData
 elements_data ops e = record { more = e.more; body = run_at ops e.start; width = e.width }
 
+-- what is to come behind an element, which a frame tells by a mark that is not zero
+abbrev pub marked : ℕ → Elements → Option Elements
+marked zero e = None
+marked (suc n) e = Some e
+
+-- what a frame keeps of a sequence, if the segment that it is around is an element
+abbrev pub frame_elements : Frame → Option Elements
+frame_elements f = marked f.is_element (record { more = f.more; start = f.start; width = f.width })
+
 -- the node in front, if one is left
 abbrev pub first_node : List ℕ → Option ℕ
 first_node [] = None
@@ -25,7 +34,7 @@ map_at cells start len = take len (drop start cells)
 
 -- a frame, whose map's cells begin at a place
 abbrev pub frame_data : List Op → List ℕ → ℕ → Frame → FrameData
-frame_data ops cells start f = record { after = run_at ops f.after; map = map_at cells start f.map.len; used = used_bits f.map; elements = option_map (elements_data ops) f.elements }
+frame_data ops cells start f = record { after = run_at ops f.after; map = map_at cells start f.map.len; used = used_bits f.map; elements = option_map (elements_data ops) (frame_elements f) }
 
 -- Frames that come the outermost first, on those around them: the cells of the first one's map begin at the place.
 abbrev pub frames_on : List Op → List ℕ → ℕ → List Frame → List FrameData → List FrameData
@@ -45,7 +54,7 @@ IsRunOf ops (Some e) = IsRun ops e.start
 -- The run that goes on behind a frame, and that of the elements that are to come.
 pub record IsRunning (ops : List Op) (f : Frame) : Type 0 where
   pub after : IsRun ops f.after
-  pub elements : IsRunOf ops f.elements
+  pub elements : IsRunOf ops (frame_elements f)
 
 abbrev pub AreRunning : List Op → List Frame → Type 0
 AreRunning ops [] = Unit {0}

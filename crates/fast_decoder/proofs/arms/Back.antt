@@ -1,6 +1,6 @@
 -- From a step of the machine that stands where its place is to what an arm did.
 use Rattle.std.proofs.Common.{refl, sym, ap, ◌∙◌, subst, arith}
-use Rattle.std.specs.Prelude.{◌≡◌, ◌≢◌, ℕ, zero, suc, ◌+◌, ◌<◌, List, [], drop, Result, Ok, Err}
+use Rattle.std.specs.Prelude.{◌≡◌, ◌≢◌, ℕ, zero, suc, ◌+◌, ◌<◌, List, drop, Result, Ok, Err}
 use Rattle.std.proofs.lemmas.List.{drop-drop}
 use Rattle.fast_value.specs.declared.settings.Limits.{Limits}
 use Rattle.fast_stream.specs.meaning.Events.{EventData}
@@ -19,12 +19,13 @@ use Rattle.fast_decoder.specs.declared.spot.Spot.{Spot}
 use Rattle.fast_decoder.specs.declared.spot.Went.{Went}
 use Rattle.fast_decoder.specs.declared.turns.Turns.{Turns}
 use Rattle.fast_decoder.specs.device.Arms.{placed, IsAnswer, WentBy, HasWent}
+use Rattle.fast_decoder.specs.device.FitMaps.{IsFitMap}
 use Rattle.fast_decoder.specs.device.Opening.{opened_turn, awaiting}
 use Rattle.fast_decoder.specs.device.Positions.{Set, CanTurn, turning}
 use Rattle.fast_decoder.specs.device.Steps.{IsStep}
 use Rattle.fast_decoder.specs.device.TurnsLeft.{HasTurns}
 use Rattle.fast_decoder.proofs.arms.Taken.{took_handed}
-use Rattle.fast_decoder.proofs.machines.ShortMaps.{segment_short, segment_turns, segment_counted}
+use Rattle.fast_decoder.proofs.machines.OpenMaps.{map_read, map_turns, map_counted}
 use Rattle.fast_decoder.proofs.machines.UnitTaken.{taken_to}
 use Rattle.fast_decoder.proofs.streams.Running.{step_unit, step_waits}
 
@@ -81,22 +82,22 @@ module _ {S : Type 0} (takes stops : S → EventData → S → Type 0) (set : Se
       → IsStep takes stops set l (placed m from.place) from.rest.now s (record { bytes = n; turn = Ok Waits }) s' m' → HasWent takes stops set l m from s Went.Waits s' m' to
   went_waits m' to n s' h step = (n, h.rest, h.place, placed_step m' to n (Ok Waits) s' h step)
 
--- The map of the segment that began, one byte.
-pub mapped_step : {S : Type 0} (takes stops : S → EventData → S → Type 0) (set : Set) (l : Limits) (m a : Machine) (rest : List ℕ) (s mid : S) (n width : ℕ) (c : CursorData) (t : Turns) → a.waiting ≡ Field → 0 < width
-    → a.cursor.map ≡ [] → IsMapTaken a.cursor.map (drop n rest) c.map (Whole 1) → c ≡ record a.cursor { map = c.map } → t.count ≡ a.turns.count + 1
+-- The map of the segment that began, so many bytes.
+pub mapped_step : {S : Type 0} (takes stops : S → EventData → S → Type 0) (set : Set) (l : Limits) (m a : Machine) (rest : List ℕ) (s mid : S) (n width k : ℕ) (c : CursorData) (t : Turns) → a.waiting ≡ Field → 0 < width
+    → IsMapTaken a.cursor.map (drop n rest) c.map (Whole k) → IsFitMap l.strict width c.map → c ≡ record a.cursor { map = c.map } → t.count ≡ a.turns.count + 1
     → IsStep takes stops set l m rest s (record { bytes = n; turn = Ok (opened_turn width) }) mid (awaiting width a)
-    → IsStep takes stops set l m rest s (record { bytes = n + 1; turn = Ok Silent }) mid (record a { cursor = c; turns = t })
-mapped_step takes stops set l m a rest s mid n zero c t waits some none taken same count step = absurd (omega (arith, some))
-mapped_step takes stops set l m a rest s mid n (suc k) c t waits some none taken same count step =
-    let b : Machine = record a { waiting = SegmentMap (suc k) } in
-    let width : ℕ = suc k in
+    → IsStep takes stops set l m rest s (record { bytes = n + k; turn = Ok Silent }) mid (record a { cursor = c; turns = t })
+mapped_step takes stops set l m a rest s mid n zero k c t waits some taken fit same count step = absurd (omega (arith, some))
+mapped_step takes stops set l m a rest s mid n (suc w) k c t waits some taken fit same count step =
+    let b : Machine = record a { waiting = SegmentMap (suc w) } in
+    let width : ℕ = suc w in
     let b' : Machine = record b { cursor = c; turns = t } in
-    let can : CanTurn set l b' = segment_turns set l b width c t (drop n rest) refl step.goes_on none taken same in
-    step_waits takes stops set l m rest s (n + 1) (Ok Silent) mid b' (record a { cursor = c; turns = t }) Field (ap (λ (w : Waiting). record a { waiting = w; cursor = c; turns = t }) waits) (λ e. cc e)
-    (step_unit takes stops set l m b rest s mid n (record { bytes = 1; turn = Ok Silent }) mid b' step
-    (taken_to takes stops set l _ b.cursor.map (drop n rest) 1 (turning set l b') mid (Ok Silent) mid b' taken.0 taken.1
-    (segment_short set l b width c t (drop n rest) refl step.goes_on none taken same)
+    let can : CanTurn set l b' = map_turns set l b width c t (drop n rest) k refl step.goes_on taken fit same in
+    step_waits takes stops set l m rest s (n + k) (Ok Silent) mid b' (record a { cursor = c; turns = t }) Field (ap (λ (w : Waiting). record a { waiting = w; cursor = c; turns = t }) waits) (λ e. cc e)
+    (step_unit takes stops set l m b rest s mid n (record { bytes = k; turn = Ok Silent }) mid b' step
+    (taken_to takes stops set l _ b.cursor.map (drop n rest) k (turning set l b') mid (Ok Silent) mid b' taken.0 taken.1
+    (map_read set l b width c t (drop n rest) k refl step.goes_on taken fit same)
     (record { moves = (refl, refl); supplied = can.supplied; goes_on = can }))
     (λ way j h.
     let sum : 1 + j ≡ 1 + j + 0 = omega arith in
-    subst (λ x. HasTurns way set l 0 x b') sum (segment_counted set l b width c t (drop n rest) refl step.goes_on none taken same way j count h)))
+    subst (λ x. HasTurns way set l 0 x b') sum (map_counted set l b width c t (drop n rest) k refl step.goes_on taken fit same way j count h)))

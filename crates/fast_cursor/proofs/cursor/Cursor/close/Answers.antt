@@ -1,7 +1,7 @@
-use Rattle.std.proofs.Common.{subst, take, ◌*◌, ◌≤◌, ap, ◌∙◌, ◌≡◌, ◌<◌, arith, length, sym, ◌-◌, ◌+◌}
+use Rattle.std.proofs.Common.{subst, take, ◌*◌, ◌≤◌, ap, ◌∙◌, ◌≡◌, ◌<◌, arith, length, sym, ◌-◌, ◌+◌, option_map}
 use Rattle.fast_wire.specs.meaning.Maps.{map_limit}
 use Rattle.fast_cursor.specs.device.Cursors.{CursorData}
-use Rattle.fast_cursor.specs.device.Segments.{ArePlaces, AreRunning, IsRunOf}
+use Rattle.fast_cursor.specs.device.Segments.{elements_data, frame_elements, ArePlaces, AreRunning, IsRunOf}
 use Rattle.fast_cursor.proofs.Segments.{length-open, left-is, places-less}
 use Rattle.fast_cursor.proofs.Runs.{running-less}
 use Rattle.fast_cursor.proofs.cursor.Cursor.close.Goals as goal
@@ -26,7 +26,9 @@ returns-clause-left c =
     = ap (λ (d : CursorData). length d.frames) (sym c.self.view_is) ∙ length-open c.self.inside c.self.invariant in
     let some : 0 < length c.args.self.now.frames = c.requires.inner in
     let one : c.self.inside.level ≡ c.self.inside.level - 1 + 1 = omega arith in
-    left-is c.self.inside c.args.self.now c.index-frame.result.now (c.self.inside.level - 1) c.self.invariant c.self.view_is one c.index-frame.ensures
+    λ f fs front.
+    let (is, same) = left-is c.self.inside c.args.self.now c.index-frame.result.now (c.self.inside.level - 1) c.self.invariant c.self.view_is one c.index-frame.ensures f fs front in
+    (is, ap (option_map (elements_data c.args.self.now.ops)) c.elements.ensures ∙ same)
 
 pub returns-clause-run : goal.returns-clause-run
 returns-clause-run c =
@@ -38,4 +40,4 @@ returns-clause-run c =
     let ops : c.self.inside.ops.now ≡ c.args.self.now.ops = ap (λ (d : CursorData). d.ops) c.self.view_is in
     let (behind, last) = running-less c.self.inside.ops.now c.self.inside.frames.items (c.self.inside.level - 1) c.index-frame.result.now (omega arith) c.index-frame.ensures
     (subst (λ n. AreRunning c.self.inside.ops.now (take n c.self.inside.frames.items)) one c.self.invariant.behind) in
-    subst (λ o. IsRunOf o c.index-frame.result.now.elements) ops last.elements
+    subst (λ x. IsRunOf c.args.self.now.ops x) (sym c.elements.ensures) (subst (λ o. IsRunOf o (frame_elements c.index-frame.result.now)) ops last.elements)

@@ -1,6 +1,7 @@
 -- The end of a segment, and the map of what follows.
-use Rattle.std.proofs.Common.{refl, ap}
+use Rattle.std.proofs.Common.{refl}
 use Rattle.fast_decoder.specs.declared.machine.Machine.{Machine}
+use Rattle.fast_decoder.specs.device.Arms.{placed}
 use Rattle.fast_decoder.specs.device.Opening.{opened_result, opened_by}
 use Rattle.fast_decoder.specs.device.Positions.{set_of}
 use Rattle.fast_decoder.proofs.arms.Ends.{placed_turn}
@@ -15,9 +16,9 @@ returns g c = record {
       let set = set_of c.args.templates.now in
       let l = c.args.limits in
       let m = c.args.self.now in
-      let a : Machine = record m { cursor = c.set_place.new.self; turns = c.after-self.result } in
+      let a : Machine = record (placed m c.args.spot.now.place) { turns = c.after-self.result } in
       c.segment_arm.ensures.went m c.args.spot.now c.args.sink.now 0 refl refl
-      (placed_turn takes stops set l m a c.args.spot.now (ap (λ x. record m { cursor = x; turns = c.after-self.result }) c.set_place.ensures) c.after-self.ensures
+      (placed_turn takes stops set l m a c.args.spot.now refl c.after-self.ensures
       c.args.sink.now (opened_result c.leave_segment-begun.result) c.leave_segment-begun.new.sink (opened_by c.leave_segment-begun.result c.leave_segment-begun.new.self)
       (opened_not_silent c.leave_segment-begun.result) c.leave_segment-begun.ensures.turn c.leave_segment-begun.ensures.turns);
 }

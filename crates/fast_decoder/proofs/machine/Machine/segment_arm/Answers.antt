@@ -1,7 +1,8 @@
--- The map of one byte behind the event, or the wait for it.
-use Rattle.std.proofs.Common.{subst, arith, rules}
+-- The map behind the event, or the wait for it.
+use Rattle.std.proofs.Common.{refl, subst, ap, sym, ◌∙◌, ◌≡◌, arith, rules}
 use Rattle.std.specs.Prelude.{◌<◌, ◌+◌, ℕ, List, Result, Ok}
 use Rattle.fast_stream.specs.declared.faults.FaultCode.{FaultCode}
+use Rattle.fast_cursor.specs.device.Cursors.{CursorData}
 use Rattle.fast_cursor.specs.device.MapTaking.{IsMapTaken}
 use Rattle.fast_cursor.specs.declared.pending.MapFront.TheVariants.{Whole}
 use Rattle.fast_decoder.specs.declared.machine.Machine.{Machine}
@@ -13,8 +14,8 @@ use Rattle.fast_decoder.specs.device.Steps.{IsStep}
 use Rattle.fast_decoder.proofs.arms.Back.{further, mapped_step, went_took}
 use Rattle.fast_decoder.proofs.machine.Machine.segment_arm.Goals as goal
 
-pub returns-then-take_byte : goal.returns-then-take_byte
-returns-then-take_byte g c = record {
+pub returns : goal.returns
+returns g c = record {
   went = λ m from s n rest answer step.
       let takes = g.S.Sink.takes in
       let stops = g.S.Sink.stops in
@@ -22,18 +23,25 @@ returns-then-take_byte g c = record {
       let l = c.args.limits in
       let a = c.args.self.now in
       let width = c.in-Ok.width in
-      let b : Machine = record a { cursor = c.take_byte.new.self; turns = c.after-self.result } in
+      let k = c.take_open_map-bytes.result in
+      let d : CursorData = record a.cursor { map = c.take_open_map-bytes.new.self.cursor.map } in
+      let b : Machine = record a { cursor = d; turns = c.after-self.result } in
       let some : 0 < width = search rules in
+      let more : 0 < k = search rules in
+      let is : record c.take_open_map-bytes.new.self { turns = c.after-self.result } ≡ b = ap (λ (x : Machine). record x { turns = c.after-self.result }) c.take_open_map-bytes.ensures.same in
       let opened : IsStep takes stops set l (placed m from.place) from.rest.now s (record { bytes = n; turn = Ok (opened_turn width) }) c.args.sink.now (awaiting width a) =
       subst (λ (r : Result ℕ FaultCode). IsStep takes stops set l (placed m from.place) from.rest.now s (record { bytes = n; turn = opened_result r }) c.args.sink.now (opened_by r a)) c.in-Ok.is step in
-      let taken = subst (λ (w : List ℕ). IsMapTaken a.cursor.map w c.take_byte.new.self.map (Whole 1)) rest (c.take_byte.ensures.map c.if-take_byte.true) in
-      went_took takes stops set l m from s b c.stand-then-take_byte.new.self (n + 1) Silent c.args.sink.now
+      let taken = subst (λ (w : List ℕ). IsMapTaken a.cursor.map w d.map (Whole k)) rest (c.take_open_map-bytes.ensures.map more) in
+      let now : Machine = record c.take_open_map-bytes.new.self { turns = c.after-self.result } in
+      went_took takes stops set l m from s now c.stand-2.new.self (n + k) Silent c.args.sink.now
       (record {
-        at = c.stand-then-take_byte.ensures.at;
-        place = c.stand-then-take_byte.ensures.place;
-        rest = further from.rest.now c.args.spot.now.rest.now c.stand-then-take_byte.new.self.rest.now n 1 rest c.stand-then-take_byte.ensures.rest;
+        at = c.stand-2.ensures.at;
+        place = c.stand-2.ensures.place;
+        rest = further from.rest.now c.args.spot.now.rest.now c.stand-2.new.self.rest.now n k rest c.stand-2.ensures.rest;
       })
-      c.requires.waits (omega arith) (λ e. cc e)
-      (mapped_step takes stops set l (placed m from.place) a from.rest.now s c.args.sink.now n width c.take_byte.new.self c.after-self.result c.requires.waits some
-      (c.take_byte.ensures.none c.if-take_byte.true) taken c.take_byte.ensures.same c.after-self.ensures opened);
+      (ap (λ (x : Machine). x.waiting) is ∙ c.requires.waits) (omega (arith, more)) (λ e. cc e)
+      (subst (λ (x : Machine). IsStep takes stops set l (placed m from.place) from.rest.now s (record { bytes = n + k; turn = Ok Silent }) c.args.sink.now x) (sym is)
+      (mapped_step takes stops set l (placed m from.place) a from.rest.now s c.args.sink.now n width k d c.after-self.result c.requires.waits some
+      taken (c.take_open_map-bytes.ensures.fit more) refl
+      (c.after-self.ensures ∙ ap (λ (x : Machine). x.turns.count + 1) c.take_open_map-bytes.ensures.same) opened));
 }
