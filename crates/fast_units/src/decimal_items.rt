@@ -3,7 +3,7 @@
 //!
 //! `None` stands for all else, faults included: nothing has changed then, and the general way finds out.
 
-ghost use Rattle.std.specs.Prelude.{◌≡◌, ◌<◌, ◌+ℤ◌, ◌≤ℤ◌, false, [], ℤ, pos, neg_ℤ, Some, Ok, IfSome, IfNone, length};
+ghost use Rattle.std.specs.Prelude.{◌≡◌, ◌<◌, ◌+ℤ◌, ◌≤ℤ◌, Bool, false, [], ℤ, pos, neg_ℤ, Some, Ok, IfSome, IfNone, length};
 ghost use Rattle.fast_wire.specs.device.Fronts.{IsFirstInt};
 ghost use Rattle.fast_wire.specs.meaning.Integers.{signed_range, delta_range, exponent_range};
 ghost use Rattle.fast_wire.specs.declared.fronts.First.TheVariants.{Whole};
@@ -26,7 +26,7 @@ use crate::unsent_items::copied_at;
 use fast_dict::{Entry, Slots, Store};
 use fast_tree::Operator;
 use fast_value::{Code, Kind};
-use fast_wire::{whole_delta, whole_signed};
+use fast_wire::{one_byte_delta, whole_delta, whole_signed};
 
 /// An exponent in range.
 #[inline(always)]
@@ -58,6 +58,24 @@ pub(crate) fn whole_exponent(
     }
 }
 
+/// An exponent of one byte, or NULL where it may be.
+#[inline(always)]
+pub(crate) fn short_exponent(rest: &[u8], optional: bool) -> Option<Option<i32>>
+    ensures { IfSome result (λ r. (strict : Bool)
+        → IsFirstInt (λ y. y) strict exponent_range optional (Whole r 1) rest.now) }
+{
+    let item = one_byte_delta(rest, optional)?;
+    match item {
+        Some(exponent) => {
+            if exponent < -63 || exponent > 63 {
+                return None;
+            }
+            Some(Some(exponent_in(exponent)))
+        }
+        None => Some(None),
+    }
+}
+
 /// A mantissa and its length.
 #[inline(always)]
 pub(crate) fn whole_mantissa(rest: &[u8], strict: bool) -> Option<(i64, usize)>
@@ -75,18 +93,18 @@ fn whole_decimal(rest: &[u8], optional: bool, strict: bool) -> Option<TakenItem>
     ensures { IfSome result (λ r. IsUnit (reader_of strict (integer exponent_range optional Code.R1 decimal_from))
         sent_number [] rest.now (Progress.Whole r.item r.bytes)) }
 {
-    let (item, used) = whole_exponent(rest, optional, strict)?;
+    let item = short_exponent(rest, optional)?;
     match item {
         Some(exponent) => {
-            let (mantissa, bytes) = whole_mantissa(&rest[used..], strict)?;
+            let (mantissa, bytes) = whole_mantissa(&rest[1..], strict)?;
             Some(TakenItem {
                 item: Some(Number::Decimal { exponent, mantissa }),
-                bytes: used + bytes,
+                bytes: 1 + bytes,
             })
         }
         None => Some(TakenItem {
             item: None,
-            bytes: used,
+            bytes: 1,
         }),
     }
 }
@@ -106,7 +124,7 @@ fn held_decimal(slots: &Slots, entry: u32) -> Option<(i32, i64)>
 
 /// A decimal under copy, which the entry then holds, or NULL, which makes it empty.
 #[inline(always)]
-fn copied_decimal(
+pub fn copied_decimal(
     slots: &mut Slots,
     entry: u32,
     optional: bool,
@@ -156,7 +174,7 @@ fn changed_mantissa(mantissa: i64, rest: &[u8], strict: bool) -> Option<(i64, us
 
 /// A decimal under delta, which the entry then holds in the place of another, or NULL, which leaves the entry as it is.
 #[inline(always)]
-fn changed_decimal(
+pub fn changed_decimal(
     slots: &mut Slots,
     entry: u32,
     optional: bool,
@@ -169,57 +187,40 @@ fn changed_decimal(
     ensures none { IfNone result (slots.new ≡ slots.old) }
     ensures terms { slots_terms slots.new ≡ slots_terms slots.old }
 {
-    let (item, used) = whole_delta(rest, optional, strict)?;
+    let item = one_byte_delta(rest, optional)?;
     match item {
         Some(delta) => {
             let (exponent, mantissa) = held_decimal(slots, entry)?;
             let exponent = changed_exponent(exponent, delta)?;
-            let (mantissa, bytes) = changed_mantissa(mantissa, &rest[used..], strict)?;
+            let (mantissa, bytes) = changed_mantissa(mantissa, &rest[1..], strict)?;
             let number = Number::Decimal { exponent, mantissa };
             keep_at(slots, entry, Kind::Decimal, number);
             Some(TakenItem {
                 item: Some(number),
-                bytes: used + bytes,
+                bytes: 1 + bytes,
             })
         }
         None => Some(TakenItem {
             item: None,
-            bytes: used,
+            bytes: 1,
         }),
     }
 }
 
-/// A decimal that is sent, or NULL: without an operator and under default, copy and delta. Under delta the entry has to hold a
-/// decimal.
+/// A decimal without an operator, or NULL.
 #[inline(always)]
-pub fn sent_decimal(
-    slots: &mut Slots,
+pub fn plain_decimal(
+    slots: &Slots,
     entry: u32,
     optional: bool,
-    operator: Operator,
     rest: &[u8],
     strict: bool,
 ) -> Option<TakenItem>
-    requires within { IsEntryFor slots.old operator entry }
-    ensures unit { IfSome result (IsSentItem Kind.Decimal optional operator entry strict rest.now slots.old slots.new) }
-    ensures none { IfNone result (slots.new ≡ slots.old) }
-    ensures terms { slots_terms slots.new ≡ slots_terms slots.old }
+    ensures { IfSome result (IsSentItem Kind.Decimal optional Operator.None entry strict rest.now slots.now slots.now) }
 {
-    match operator {
-        Operator::None | Operator::Default => {
-            let taken = whole_decimal(rest, optional, strict)?;
-            Some(taken)
-        }
-        Operator::Copy => {
-            let taken = copied_decimal(slots, entry, optional, rest, strict)?;
-            Some(taken)
-        }
-        Operator::Delta => {
-            let taken = changed_decimal(slots, entry, optional, rest, strict)?;
-            Some(taken)
-        }
-        _ => None,
-    }
+    let _ = slots;
+    let _ = entry;
+    whole_decimal(rest, optional, strict)
 }
 
 /// A decimal under copy that is not sent: the one that the entry holds; absent where the field may be and the entry is empty.
