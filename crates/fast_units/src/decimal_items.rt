@@ -1,5 +1,8 @@
-//! Decimals of one field, both of whose units stand in the piece whole. Entry, operator and presence are arguments: constants at
-//! the calls, which fold by them.
+//! Decimals of one field, both of whose units stand in the piece whole: an exponent of one byte, or its delta, and the mantissa
+//! behind it.
+//!
+//! They are called out of line, with numbers and slices alone: inlined, their many words cost the other fields' arms more registers
+//! than the calls cost.
 //!
 //! `None` stands for all else, faults included: nothing has changed then, and the general way finds out.
 
@@ -36,26 +39,6 @@ pub(crate) fn exponent_in(exponent: i64) -> i32
     ensures { result ≡ exponent }
 {
     exponent as i32
-}
-
-/// An exponent, or NULL where it may be, and its length.
-#[inline(always)]
-pub(crate) fn whole_exponent(
-    rest: &[u8],
-    optional: bool,
-    strict: bool,
-) -> Option<(Option<i32>, usize)>
-    ensures { IfSome result (λ r. IsFirstInt (λ y. y) strict exponent_range optional (Whole r.0 r.1) rest.now) }
-{
-    match whole_delta(rest, optional, strict)? {
-        (Some(exponent), bytes) => {
-            if exponent < -63 || exponent > 63 {
-                return None;
-            }
-            Some((Some(exponent_in(exponent)), bytes))
-        }
-        (None, bytes) => Some((None, bytes)),
-    }
 }
 
 /// An exponent of one byte, or NULL where it may be.
@@ -123,7 +106,7 @@ fn held_decimal(slots: &Slots, entry: u32) -> Option<(i32, i64)>
 }
 
 /// A decimal under copy, which the entry then holds, or NULL, which makes it empty.
-#[inline(always)]
+#[inline(never)]
 pub fn copied_decimal(
     slots: &mut Slots,
     entry: u32,
@@ -173,7 +156,7 @@ fn changed_mantissa(mantissa: i64, rest: &[u8], strict: bool) -> Option<(i64, us
 }
 
 /// A decimal under delta, which the entry then holds in the place of another, or NULL, which leaves the entry as it is.
-#[inline(always)]
+#[inline(never)]
 pub fn changed_decimal(
     slots: &mut Slots,
     entry: u32,
@@ -208,7 +191,7 @@ pub fn changed_decimal(
 }
 
 /// A decimal without an operator, or NULL.
-#[inline(always)]
+#[inline(never)]
 pub fn plain_decimal(
     slots: &Slots,
     entry: u32,
