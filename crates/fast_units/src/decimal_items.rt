@@ -19,13 +19,12 @@ ghost use Rattle.fast_stream.specs.meaning.Fields.{decimal_from};
 ghost use Rattle.fast_stream.specs.device.GrammarReaders.{reader_of};
 ghost use Rattle.fast_units.specs.device.Taking.{IsUnit};
 ghost use Rattle.fast_units.specs.device.Deciding.{sent_number};
-ghost use Rattle.fast_units.specs.device.FieldsAs.{IsEntryFor, IsSentItem, IsUnsentItem};
+ghost use Rattle.fast_units.specs.device.FieldsAs.{IsSentItem};
 
 use crate::fields::Number;
 use crate::integer_items::keep_at;
 use crate::progress::Progress;
 use crate::taken::TakenItem;
-use crate::unsent_items::copied_at;
 use fast_dict::{Entry, Slots, Store};
 use fast_tree::Operator;
 use fast_value::{Code, Kind};
@@ -204,13 +203,4 @@ pub fn plain_decimal(
     let _ = slots;
     let _ = entry;
     whole_decimal(rest, optional, strict)
-}
-
-/// A decimal under copy that is not sent: the one that the entry holds; absent where the field may be and the entry is empty.
-#[inline(always)]
-pub fn unsent_decimal(slots: &Slots, entry: u32, optional: bool) -> Option<Option<Number>>
-    requires within { entry < length (slots_dictionary slots.now) }
-    ensures { IfSome result (IsUnsentItem Kind.Decimal optional Operator.Copy entry slots.now slots.now) }
-{
-    copied_at(slots, entry, Kind::Decimal, optional)
 }
