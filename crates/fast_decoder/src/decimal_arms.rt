@@ -1,17 +1,15 @@
 //! Decimals in the machine's loop: of one field, or by parts.
 
-ghost use Rattle.std.specs.Prelude.{◌≡◌, ◌≢◌, ◌<◌, ◌≤◌, true, if◌then◌else◌, length, slice_get, Some, IfSome, option_map};
+ghost use Rattle.std.specs.Prelude.{◌≡◌, ◌<◌, ◌≤◌, true, false, if◌then◌else◌, length, Some, IfSome, option_map};
 ghost use Rattle.fast_wire.specs.meaning.Integers.{IsWithin, exponent_range};
 ghost use Rattle.fast_wire.specs.meaning.Maps.{first_bit, later_bits};
 ghost use Rattle.fast_value.specs.declared.settings.Limits.{Limits};
 ghost use Rattle.fast_value.specs.meaning.Values.{scalar_data};
 ghost use Rattle.fast_tree.specs.meaning.Tree.{FieldData, uses_bit};
-ghost use Rattle.fast_tree.specs.declared.instructions.Node.{Node};
-ghost use Rattle.fast_program.specs.device.Ops.{IsOpOf};
 ghost use Rattle.fast_tree.specs.device.Nodes.{field_data};
 ghost use Rattle.fast_cursor.specs.device.Cursors.{CursorData, bits_left};
 ghost use Rattle.fast_cursor.specs.device.Places.{place_left, at_place, IsPlaceOf};
-ghost use Rattle.fast_units.specs.device.DecimalParts.{IsPart};
+ghost use Rattle.fast_units.specs.device.DecimalParts.{IsPart, IsUsualExponent};
 ghost use Rattle.fast_decoder.specs.declared.machine.Machine.{Machine};
 ghost use Rattle.fast_decoder.specs.declared.spot.Spot.{Spot};
 ghost use Rattle.fast_decoder.specs.device.Arms.{IsAtSpot, IsAtOp, IsFieldOp, HasWent};
@@ -26,32 +24,64 @@ use fast_cursor::place::Place;
 use fast_program::Op;
 use fast_stream::Sink;
 use fast_template::{FieldInstruction, Operator, Shape, Templates};
-use fast_units::decimal_items::sent_decimal;
-use fast_units::decimal_parts::{exponent_part, keep_part, leaves_mantissa, mantissa_part};
+use fast_units::decimal_items::{changed_decimal, copied_decimal, plain_decimal};
+use fast_units::decimal_parts::{
+    changed_part, exponent_part, keep_exponent, keep_mantissa, keep_part, leaves_mantissa,
+    mantissa_part, usual_exponent,
+};
 use fast_value::{Kind, Limits, Scalar};
 
 impl<'t> Machine<'t> {
-    /// A field of decimals, whole.
+    /// A decimal without an operator.
     #[inline(always)]
-    pub fn decimal_arm<S: Sink>(
+    pub fn plain_decimal_arm<S: Sink>(
         &mut self,
         templates: &'t Templates,
         limits: Limits,
         spot: &mut Spot<'t, '_>,
         op: &Op,
-        operator: Operator,
         optional: bool,
         sink: &mut S,
     ) -> Went
-        requires no_constant { operator ≢ Operator.Constant }
         requires spot { IsAtSpot (set_of templates.now) limits self.old spot.old.place }
         requires at { IsAtOp (set_of templates.now) spot.old.place op.now }
-        requires field { IsFieldOp (set_of templates.now) op.now Kind.Decimal operator optional }
+        requires field { IsFieldOp (set_of templates.now) op.now Kind.Decimal Operator.None optional }
         ensures went { HasWent S.takes S.stops (set_of templates.now) limits self.old spot.old sink.old result sink.new
             self.new spot.new }
     {
-        let has_bit = operator.uses_bit(optional);
-        match stands(&spot.place, has_bit) {
+        let _ = templates;
+        match plain_decimal(&self.slots, op.entry, optional, spot.rest, limits.strict) {
+            Some(taken) => hand_taken(
+                &mut self.turns,
+                spot,
+                op.node,
+                false,
+                scalar_of(taken.item),
+                taken.bytes,
+                sink,
+            ),
+            None => Went::Declined,
+        }
+    }
+
+    /// A decimal under copy.
+    #[inline(always)]
+    pub fn copied_decimal_arm<S: Sink>(
+        &mut self,
+        templates: &'t Templates,
+        limits: Limits,
+        spot: &mut Spot<'t, '_>,
+        op: &Op,
+        optional: bool,
+        sink: &mut S,
+    ) -> Went
+        requires spot { IsAtSpot (set_of templates.now) limits self.old spot.old.place }
+        requires at { IsAtOp (set_of templates.now) spot.old.place op.now }
+        requires field { IsFieldOp (set_of templates.now) op.now Kind.Decimal Operator.Copy optional }
+        ensures went { HasWent S.takes S.stops (set_of templates.now) limits self.old spot.old sink.old result sink.new
+            self.new spot.new }
+    {
+        match stands(&spot.place, true) {
             Standing::Spent => Went::Declined,
             Standing::Unsent => self.unsent_integer_arm(
                 templates,
@@ -59,35 +89,71 @@ impl<'t> Machine<'t> {
                 spot,
                 op,
                 Kind::Decimal,
-                operator,
+                Operator::Copy,
                 optional,
                 sink,
             ),
-            Standing::Sent => {
-                match sent_decimal(
-                    &mut self.slots,
-                    op.entry,
-                    optional,
-                    operator,
-                    spot.rest,
-                    limits.strict,
-                ) {
-                    Some(taken) => hand_taken(
-                        &mut self.turns,
-                        spot,
-                        op.node,
-                        has_bit,
-                        scalar_of(taken.item),
-                        taken.bytes,
-                        sink,
-                    ),
-                    None => Went::Declined,
-                }
-            }
+            Standing::Sent => match copied_decimal(
+                &mut self.slots,
+                op.entry,
+                optional,
+                spot.rest,
+                limits.strict,
+            ) {
+                Some(taken) => hand_taken(
+                    &mut self.turns,
+                    spot,
+                    op.node,
+                    true,
+                    scalar_of(taken.item),
+                    taken.bytes,
+                    sink,
+                ),
+                None => Went::Declined,
+            },
         }
     }
 
-    /// A decimal by parts: both parts at once, or nothing of it.
+    /// A decimal under delta.
+    #[inline(always)]
+    pub fn changed_decimal_arm<S: Sink>(
+        &mut self,
+        templates: &'t Templates,
+        limits: Limits,
+        spot: &mut Spot<'t, '_>,
+        op: &Op,
+        optional: bool,
+        sink: &mut S,
+    ) -> Went
+        requires spot { IsAtSpot (set_of templates.now) limits self.old spot.old.place }
+        requires at { IsAtOp (set_of templates.now) spot.old.place op.now }
+        requires field { IsFieldOp (set_of templates.now) op.now Kind.Decimal Operator.Delta optional }
+        ensures went { HasWent S.takes S.stops (set_of templates.now) limits self.old spot.old sink.old result sink.new
+            self.new spot.new }
+    {
+        let _ = templates;
+        match changed_decimal(
+            &mut self.slots,
+            op.entry,
+            optional,
+            spot.rest,
+            limits.strict,
+        ) {
+            Some(taken) => hand_taken(
+                &mut self.turns,
+                spot,
+                op.node,
+                false,
+                scalar_of(taken.item),
+                taken.bytes,
+                sink,
+            ),
+            None => Went::Declined,
+        }
+    }
+
+    /// A decimal by parts: both parts at once, or nothing of it. Mostly its exponent is under default or copy, and its mantissa,
+    /// which is mandatory, under delta.
     #[inline(always)]
     pub fn parts_arm<S: Sink>(
         &mut self,
@@ -106,21 +172,137 @@ impl<'t> Machine<'t> {
         let Shape::Decimal { exponent, mantissa } = &templates.node(u32::from(op.node)).shape else {
             return Went::Declined;
         };
+        match (exponent.operator, mantissa.operator) {
+            (Operator::Default | Operator::Copy, Operator::Delta) if !mantissa.optional =>
+                self.usual_parts_arm(templates, limits, spot, op.node, exponent, mantissa, sink),
+            _ => self.other_parts_arm(templates, limits, spot, op.node, exponent, mantissa, sink),
+        }
+    }
+
+    /// An exponent under default or copy, and a mandatory mantissa under delta.
+    #[inline(always)]
+    fn usual_parts_arm<S: Sink>(
+        &mut self,
+        templates: &'t Templates,
+        limits: Limits,
+        spot: &mut Spot<'t, '_>,
+        node: u16,
+        exponent: &FieldInstruction,
+        mantissa: &FieldInstruction,
+        sink: &mut S,
+    ) -> Went
+        requires decimal { IsAtDecimal (set_of templates.now) limits self.old spot.old.place node exponent.now
+            mantissa.now }
+        requires usual { IsUsualExponent exponent.now }
+        requires delta { mantissa.now.operator ≡ Operator.Delta }
+        requires mandatory { mantissa.now.optional ≡ false }
+        ensures went { HasWent S.takes S.stops (set_of templates.now) limits self.old spot.old sink.old result sink.new
+            self.new spot.new }
+    {
+        let Some(bit) = bit_at(&spot.place, true) else {
+            return Went::Declined;
+        };
+        let Some((part, used)) = usual_exponent(&self.slots, exponent, bit, spot.rest) else {
+            return Went::Declined;
+        };
+        match part {
+            Some(number) => self.changed_mantissa_arm(
+                templates, limits, spot, node, exponent, mantissa, bit, number, used, sink,
+            ),
+            None if used == 0 => hand_behind(&mut self.turns, spot, node, true, None, 0, sink),
+            None => {
+                keep_exponent(&mut self.slots, exponent, None, used);
+                hand_sent(&mut self.turns, spot, node, true, None, used, sink)
+            }
+        }
+    }
+
+    /// The mandatory mantissa under delta behind an exponent under default or copy, which took these bytes, if any.
+    #[inline(always)]
+    fn changed_mantissa_arm<S: Sink>(
+        &mut self,
+        templates: &'t Templates,
+        limits: Limits,
+        spot: &mut Spot<'t, '_>,
+        node: u16,
+        exponent: &FieldInstruction,
+        mantissa: &FieldInstruction,
+        bit: bool,
+        number: i32,
+        used: usize,
+        sink: &mut S,
+    ) -> Went
+        requires decimal { IsAtDecimal (set_of templates.now) limits self.old spot.old.place node exponent.now
+            mantissa.now }
+        requires usual { IsUsualExponent exponent.now }
+        requires delta { mantissa.now.operator ≡ Operator.Delta }
+        requires mandatory { mantissa.now.optional ≡ false }
+        requires more { 1 < spot.old.place.map.left }
+        requires bit { bit ≡ bit_at_place self.old.cursor spot.old.place (field_data exponent.now) }
+        requires part { IsPart exponent.now bit limits.strict spot.old.rest.now self.old.slots (Some number) used }
+        requires within { IsWithin exponent_range number }
+        ensures went { HasWent S.takes S.stops (set_of templates.now) limits self.old spot.old sink.old result sink.new
+            self.new spot.new }
+    {
+        let Some(entry) = mantissa.entry else {
+            return Went::Declined;
+        };
+        let behind = &spot.rest[used..];
+        let Some((value, bytes)) = changed_part(&self.slots, entry, behind, limits.strict) else {
+            return Went::Declined;
+        };
+        if !leaves_mantissa(exponent, mantissa, used) {
+            return Went::Declined;
+        }
+        keep_exponent(&mut self.slots, exponent, Some(number), used);
+        keep_mantissa(&mut self.slots, entry, value);
+        spot.place.use_bit();
+        let decimal = Scalar::Dec {
+            exponent: number,
+            mantissa: value,
+        };
+        hand_sent(
+            &mut self.turns,
+            spot,
+            node,
+            false,
+            Some(decimal),
+            used + bytes,
+            sink,
+        )
+    }
+
+    /// Any parts.
+    #[inline(always)]
+    fn other_parts_arm<S: Sink>(
+        &mut self,
+        templates: &'t Templates,
+        limits: Limits,
+        spot: &mut Spot<'t, '_>,
+        node: u16,
+        exponent: &FieldInstruction,
+        mantissa: &FieldInstruction,
+        sink: &mut S,
+    ) -> Went
+        requires decimal { IsAtDecimal (set_of templates.now) limits self.old spot.old.place node exponent.now
+            mantissa.now }
+        ensures went { HasWent S.takes S.stops (set_of templates.now) limits self.old spot.old sink.old result sink.new
+            self.new spot.new }
+    {
         let has_bit = exponent.uses_bit();
         let Some(bit) = bit_at(&spot.place, has_bit) else {
             return Went::Declined;
         };
-        let strict = limits.strict;
-        let Some((part, used)) = exponent_part(&self.slots, exponent, bit, spot.rest, strict) else {
+        let Some((part, used)) = exponent_part(&self.slots, exponent, bit, spot.rest) else {
             return Went::Declined;
         };
         match part {
             Some(number) => self.mantissa_arm(
-                templates, limits, spot, op.node, exponent, mantissa, bit, number, used, sink,
+                templates, limits, spot, node, exponent, mantissa, bit, number, used, sink,
             ),
             None => {
                 keep_part(&mut self.slots, exponent, Kind::Int32, None, used);
-                hand_behind(&mut self.turns, spot, op.node, has_bit, None, used, sink)
+                hand_behind(&mut self.turns, spot, node, has_bit, None, used, sink)
             }
         }
     }
@@ -218,6 +400,34 @@ fn hand_behind<S: Sink>(
                 _ => Went::Silent,
             }
         }
+        Err(_) => Went::Stopped,
+    }
+}
+
+/// The same past an instruction that took bytes.
+#[inline(always)]
+fn hand_sent<S: Sink>(
+    turns: &mut Turns,
+    spot: &mut Spot<'_, '_>,
+    node: u16,
+    has_bit: bool,
+    value: Option<Scalar<'_>>,
+    bytes: usize,
+    sink: &mut S,
+) -> Went
+    requires left { 0 < length (place_left spot.old.place) }
+    requires bit { has_bit ≡ true → 1 < spot.old.place.map.left }
+    requires some { 0 < bytes }
+    requires within { bytes ≤ length spot.old.rest.now }
+    ensures went { (set : Set) (l : Limits) (m m1 : Machine) (from : Spot) (f : FieldData) → has_bit ≡ uses_bit f
+        → turns.old ≡ m.turns → from.rest.now ≡ spot.old.rest.now
+        → IsLedTo set l m m1 from spot.old.place node f (option_map scalar_data value.entry) bytes
+        → HasWent S.takes S.stops set l m from sink.old result sink.new (record m1 { turns = turns.new }) spot.new }
+{
+    *turns = Turns::after(turns);
+    spot.rest = &spot.rest[bytes..];
+    match pass_value(&mut spot.place, u32::from(node), has_bit, value, sink) {
+        Ok(_) => Went::Took,
         Err(_) => Went::Stopped,
     }
 }

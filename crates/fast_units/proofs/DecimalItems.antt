@@ -1,6 +1,6 @@
 -- Decimals whose units both stand whole in the piece.
 use Rattle.std.proofs.Common.{refl, sym, ap, ◌∙◌, subst, arith, inl, inr}
-use Rattle.std.specs.Prelude.{◌≡◌, ◌≢◌, ◌⊎◌, ℕ, ◌+◌, ◌-◌, ◌<◌, ◌≤◌, Bool, true, false, if◌then◌else◌, List, [], ◌++◌, length, take, drop, ℤ, ◌+ℤ◌, Option, Some, None, Ok, Err}
+use Rattle.std.specs.Prelude.{◌≡◌, ◌≢◌, ◌⊎◌, ℕ, ◌+◌, ◌-◌, ◌<◌, ◌≤◌, Bool, true, false, if◌then◌else◌, List, [], ◌++◌, length, take, drop, ℤ, ◌+ℤ◌, Option, Some, None, IfSome, Ok, Err}
 use Rattle.std.proofs.lemmas.List.{take_rest, length-drop}
 use Rattle.std.proofs.Math.Seq.{take-add}
 use Rattle.fast_wire.specs.device.Fronts.{IsFirstInt}
@@ -38,6 +38,18 @@ use Rattle.fast_units.proofs.LastUnits.{exponent_field, exponent_delta_field, la
 -- A number that lies in the range.
 pub ranged_within : (range : Range) (c : Code) (x : ℤ) → IsWithin range x → ranged range c x ≡ Ok x
 ranged_within range c x h = ap (λ b. if b then Ok x else Err c) ((decides-within range x).1 h)
+
+-- A delta that lies in the range of exponents, or NULL, is spelled like an exponent.
+pub first_exponent : (strict nullable : Bool) (rest : List ℕ) (x : Option ℤ) (n : ℕ) → IsFirstInt (λ y. y) strict delta_range nullable (First.Whole x n) rest → IfSome x (IsWithin exponent_range)
+    → IsFirstInt (λ y. y) strict exponent_range nullable (First.Whole x n) rest
+first_exponent strict nullable rest x n h fits = (
+  h.0,
+  record {
+    form = record { entity = h.1.form.entity; short = h.1.form.short; shortest = h.1.form.shortest };
+    meaning = h.1.meaning;
+    fits = fits;
+  },
+)
 
 -- Two integers that stand whole one behind the other are taken one behind the other.
 pub two_units : {A : Type 0} (s : Bool) (r : Reader A) (one two : Range) (nullable : Bool) (c d : Code) (k m : Option ℤ → Grammar A) (rest : List ℕ) (x y : Option ℤ) (a b : ℕ)

@@ -1,5 +1,5 @@
 -- The parts of a decimal by parts: what is known of one without a byte, and one that stands whole.
-use Rattle.std.proofs.Common.{refl, sym, ap, ◌∙◌, subst, arith}
+use Rattle.std.proofs.Common.{refl, sym, ap, ◌∙◌, subst, arith, inl, inr}
 use Rattle.std.specs.Prelude.{◌≡◌, ◌≢◌, ℕ, Bool, true, false, List, [], take, ℤ, ◌+ℤ◌, Option, Some, None, IfSome, option_map, Result, Ok}
 use Rattle.fast_wire.specs.device.Fronts.{IsFirstInt}
 use Rattle.fast_wire.specs.meaning.Integers.{SpellsInt, IsWithin, signed_range, exponent_range, delta_range}
@@ -19,8 +19,8 @@ use Rattle.fast_dict.specs.meaning.Dictionary.{Dictionary, PreviousData, empty, 
 use Rattle.fast_dict.specs.meaning.Operators.{Outcome, ◌>>=◌, decide, nothing, ranged, range_of, keeps, integer_step}
 use Rattle.fast_dict.specs.meaning.Slots.{slots_dictionary}
 use Rattle.fast_stream.specs.meaning.Fields.{sent_integer}
-use Rattle.fast_units.specs.device.Deciding.{number_data, sent_number, source_of, IsDecided}
-use Rattle.fast_units.specs.device.DecimalParts.{part_item, IsPartBy, IsPartKnown}
+use Rattle.fast_units.specs.device.Deciding.{needs_bytes, number_data, sent_number, source_of, IsDecided}
+use Rattle.fast_units.specs.device.DecimalParts.{part_item, IsPartBy, IsPartKnown, IsUsualExponent}
 use Rattle.fast_units.specs.device.Words.{previous_of}
 use Rattle.fast_units.specs.declared.fields.Number.{Number}
 use Rattle.fast_units.specs.declared.fields.Number.TheVariants.{Signed}
@@ -153,3 +153,17 @@ delta_first strict rest x n h = (
     fits = fits_delta x h.1.fits;
   },
 )
+
+-- An exponent under default or copy stands in the stream where its bit is set.
+pub usual_sent : (field : FieldInstruction) (bit b : Bool) → IsUsualExponent field → bit ≡ b → needs_bytes field.operator bit ≡ b
+usual_sent field bit b (inl e) h = ap (λ o. needs_bytes o bit) e ∙ h
+usual_sent field bit b (inr e) h = ap (λ o. needs_bytes o bit) e ∙ h
+
+-- Neither is a delta or a constant.
+pub usual_no_delta : (field : FieldInstruction) → IsUsualExponent field → field.operator ≢ Op.Delta
+usual_no_delta field (inl e) h = absurd (cc (e, h))
+usual_no_delta field (inr e) h = absurd (cc (e, h))
+
+pub usual_no_constant : (field : FieldInstruction) → IsUsualExponent field → field.operator ≢ Op.Constant
+usual_no_constant field (inl e) h = absurd (cc (e, h))
+usual_no_constant field (inr e) h = absurd (cc (e, h))

@@ -1,9 +1,12 @@
-//! Decimals of one field, both of whose units stand in the piece whole. Entry, operator and presence are arguments: constants at
-//! the calls, which fold by them.
+//! Decimals of one field, both of whose units stand in the piece whole: an exponent of one byte, or its delta, and the mantissa
+//! behind it.
+//!
+//! They are called out of line, with numbers and slices alone: inlined, their many words cost the other fields' arms more registers
+//! than the calls cost.
 //!
 //! `None` stands for all else, faults included: nothing has changed then, and the general way finds out.
 
-ghost use Rattle.std.specs.Prelude.{◌≡◌, ◌<◌, ◌+ℤ◌, ◌≤ℤ◌, false, [], ℤ, pos, neg_ℤ, Some, Ok, IfSome, IfNone, length};
+ghost use Rattle.std.specs.Prelude.{◌≡◌, ◌<◌, ◌+ℤ◌, ◌≤ℤ◌, Bool, false, [], ℤ, pos, neg_ℤ, Some, Ok, IfSome, IfNone, length};
 ghost use Rattle.fast_wire.specs.device.Fronts.{IsFirstInt};
 ghost use Rattle.fast_wire.specs.meaning.Integers.{signed_range, delta_range, exponent_range};
 ghost use Rattle.fast_wire.specs.declared.fronts.First.TheVariants.{Whole};
@@ -16,17 +19,16 @@ ghost use Rattle.fast_stream.specs.meaning.Fields.{decimal_from};
 ghost use Rattle.fast_stream.specs.device.GrammarReaders.{reader_of};
 ghost use Rattle.fast_units.specs.device.Taking.{IsUnit};
 ghost use Rattle.fast_units.specs.device.Deciding.{sent_number};
-ghost use Rattle.fast_units.specs.device.FieldsAs.{IsEntryFor, IsSentItem, IsUnsentItem};
+ghost use Rattle.fast_units.specs.device.FieldsAs.{IsSentItem};
 
 use crate::fields::Number;
 use crate::integer_items::keep_at;
 use crate::progress::Progress;
 use crate::taken::TakenItem;
-use crate::unsent_items::copied_at;
 use fast_dict::{Entry, Slots, Store};
 use fast_tree::Operator;
 use fast_value::{Code, Kind};
-use fast_wire::{whole_delta, whole_signed};
+use fast_wire::{one_byte_delta, whole_delta, whole_signed};
 
 /// An exponent in range.
 #[inline(always)]
@@ -38,23 +40,21 @@ pub(crate) fn exponent_in(exponent: i64) -> i32
     exponent as i32
 }
 
-/// An exponent, or NULL where it may be, and its length.
+/// An exponent of one byte, or NULL where it may be.
 #[inline(always)]
-pub(crate) fn whole_exponent(
-    rest: &[u8],
-    optional: bool,
-    strict: bool,
-) -> Option<(Option<i32>, usize)>
-    ensures { IfSome result (λ r. IsFirstInt (λ y. y) strict exponent_range optional (Whole r.0 r.1) rest.now) }
+pub(crate) fn short_exponent(rest: &[u8], optional: bool) -> Option<Option<i32>>
+    ensures { IfSome result (λ r. (strict : Bool)
+        → IsFirstInt (λ y. y) strict exponent_range optional (Whole r 1) rest.now) }
 {
-    match whole_delta(rest, optional, strict)? {
-        (Some(exponent), bytes) => {
+    let item = one_byte_delta(rest, optional)?;
+    match item {
+        Some(exponent) => {
             if exponent < -63 || exponent > 63 {
                 return None;
             }
-            Some((Some(exponent_in(exponent)), bytes))
+            Some(Some(exponent_in(exponent)))
         }
-        (None, bytes) => Some((None, bytes)),
+        None => Some(None),
     }
 }
 
@@ -75,18 +75,18 @@ fn whole_decimal(rest: &[u8], optional: bool, strict: bool) -> Option<TakenItem>
     ensures { IfSome result (λ r. IsUnit (reader_of strict (integer exponent_range optional Code.R1 decimal_from))
         sent_number [] rest.now (Progress.Whole r.item r.bytes)) }
 {
-    let (item, used) = whole_exponent(rest, optional, strict)?;
+    let item = short_exponent(rest, optional)?;
     match item {
         Some(exponent) => {
-            let (mantissa, bytes) = whole_mantissa(&rest[used..], strict)?;
+            let (mantissa, bytes) = whole_mantissa(&rest[1..], strict)?;
             Some(TakenItem {
                 item: Some(Number::Decimal { exponent, mantissa }),
-                bytes: used + bytes,
+                bytes: 1 + bytes,
             })
         }
         None => Some(TakenItem {
             item: None,
-            bytes: used,
+            bytes: 1,
         }),
     }
 }
@@ -105,8 +105,8 @@ fn held_decimal(slots: &Slots, entry: u32) -> Option<(i32, i64)>
 }
 
 /// A decimal under copy, which the entry then holds, or NULL, which makes it empty.
-#[inline(always)]
-fn copied_decimal(
+#[inline(never)]
+pub fn copied_decimal(
     slots: &mut Slots,
     entry: u32,
     optional: bool,
@@ -155,8 +155,8 @@ fn changed_mantissa(mantissa: i64, rest: &[u8], strict: bool) -> Option<(i64, us
 }
 
 /// A decimal under delta, which the entry then holds in the place of another, or NULL, which leaves the entry as it is.
-#[inline(always)]
-fn changed_decimal(
+#[inline(never)]
+pub fn changed_decimal(
     slots: &mut Slots,
     entry: u32,
     optional: bool,
@@ -169,64 +169,38 @@ fn changed_decimal(
     ensures none { IfNone result (slots.new ≡ slots.old) }
     ensures terms { slots_terms slots.new ≡ slots_terms slots.old }
 {
-    let (item, used) = whole_delta(rest, optional, strict)?;
+    let item = one_byte_delta(rest, optional)?;
     match item {
         Some(delta) => {
             let (exponent, mantissa) = held_decimal(slots, entry)?;
             let exponent = changed_exponent(exponent, delta)?;
-            let (mantissa, bytes) = changed_mantissa(mantissa, &rest[used..], strict)?;
+            let (mantissa, bytes) = changed_mantissa(mantissa, &rest[1..], strict)?;
             let number = Number::Decimal { exponent, mantissa };
             keep_at(slots, entry, Kind::Decimal, number);
             Some(TakenItem {
                 item: Some(number),
-                bytes: used + bytes,
+                bytes: 1 + bytes,
             })
         }
         None => Some(TakenItem {
             item: None,
-            bytes: used,
+            bytes: 1,
         }),
     }
 }
 
-/// A decimal that is sent, or NULL: without an operator and under default, copy and delta. Under delta the entry has to hold a
-/// decimal.
-#[inline(always)]
-pub fn sent_decimal(
-    slots: &mut Slots,
+/// A decimal without an operator, or NULL.
+#[inline(never)]
+pub fn plain_decimal(
+    slots: &Slots,
     entry: u32,
     optional: bool,
-    operator: Operator,
     rest: &[u8],
     strict: bool,
 ) -> Option<TakenItem>
-    requires within { IsEntryFor slots.old operator entry }
-    ensures unit { IfSome result (IsSentItem Kind.Decimal optional operator entry strict rest.now slots.old slots.new) }
-    ensures none { IfNone result (slots.new ≡ slots.old) }
-    ensures terms { slots_terms slots.new ≡ slots_terms slots.old }
+    ensures { IfSome result (IsSentItem Kind.Decimal optional Operator.None entry strict rest.now slots.now slots.now) }
 {
-    match operator {
-        Operator::None | Operator::Default => {
-            let taken = whole_decimal(rest, optional, strict)?;
-            Some(taken)
-        }
-        Operator::Copy => {
-            let taken = copied_decimal(slots, entry, optional, rest, strict)?;
-            Some(taken)
-        }
-        Operator::Delta => {
-            let taken = changed_decimal(slots, entry, optional, rest, strict)?;
-            Some(taken)
-        }
-        _ => None,
-    }
-}
-
-/// A decimal under copy that is not sent: the one that the entry holds; absent where the field may be and the entry is empty.
-#[inline(always)]
-pub fn unsent_decimal(slots: &Slots, entry: u32, optional: bool) -> Option<Option<Number>>
-    requires within { entry < length (slots_dictionary slots.now) }
-    ensures { IfSome result (IsUnsentItem Kind.Decimal optional Operator.Copy entry slots.now slots.now) }
-{
-    copied_at(slots, entry, Kind::Decimal, optional)
+    let _ = slots;
+    let _ = entry;
+    whole_decimal(rest, optional, strict)
 }

@@ -3,17 +3,19 @@
 //!
 //! `None` stands for all else, faults included: the general way finds out. In an answer, `None` is absent.
 
-ghost use Rattle.std.specs.Prelude.{◌≡◌, ◌≢◌, ◌<◌, true, false, ℕ, Some, IfSome, option_map};
+ghost use Rattle.std.specs.Prelude.{◌≡◌, ◌≢◌, ◌<◌, Bool, true, false, ℕ, [], length, Some, IfSome, option_map};
 ghost use Rattle.fast_value.specs.meaning.Kinds.{I, IsWithin, exponent_range};
+ghost use Rattle.fast_tree.specs.declared.instructions.FieldInstruction.{FieldInstruction};
 ghost use Rattle.fast_tree.specs.device.Nodes.{field_data};
 ghost use Rattle.fast_dict.specs.meaning.Dictionary.{Dictionary, PreviousData, assigned, previous_at, write_at};
-ghost use Rattle.fast_dict.specs.meaning.Slots.{slots_terms};
+ghost use Rattle.fast_dict.specs.device.Entry.{text_length, with_text};
+ghost use Rattle.fast_dict.specs.meaning.Slots.{slots_dictionary, slots_terms};
 ghost use Rattle.fast_units.specs.device.Deciding.{needs_bytes, number_data};
-ghost use Rattle.fast_units.specs.device.DecimalParts.{part_item, KeepsPart, IsPart, IsPartBy, IsPartKnown};
+ghost use Rattle.fast_units.specs.device.DecimalParts.{part_item, KeepsPart, IsPart, IsPartBy, IsPartKnown, IsUsualExponent, IsDeltaMantissa};
 ghost use Rattle.fast_units.specs.device.IntegerItems.{item_held};
 ghost use Rattle.fast_units.specs.device.Words.{HasEntryOf, ServesField, previous_of};
 
-use crate::decimal_items::{exponent_in, whole_exponent, whole_mantissa};
+use crate::decimal_items::{exponent_in, short_exponent, whole_mantissa};
 use crate::fields::{Number, assign_empty, needs_bytes};
 use crate::short_integers::keep_integer;
 use fast_dict::{Entry, Slots};
@@ -68,23 +70,19 @@ fn known_part(slots: &Slots, field: &FieldInstruction, kind: Kind, bit: bool) ->
     }
 }
 
-/// An exponent that is sent, or NULL, and the bytes that it takes.
+/// An exponent of one byte that is sent, or NULL.
 #[inline(always)]
-fn sent_exponent(
-    slots: &Slots,
-    field: &FieldInstruction,
-    rest: &[u8],
-    strict: bool,
-) -> Option<(Option<i32>, usize)>
+fn sent_exponent(slots: &Slots, field: &FieldInstruction, rest: &[u8]) -> Option<Option<i32>>
     requires kind { field.now.kind ≡ Kind.Int32 }
     requires no_constant { field.now.operator ≢ Operator.Constant }
-    ensures part { IfSome result (λ r. IsPartBy true field.now true strict rest.now slots.now r.0 r.1) }
-    ensures within { IfSome result (λ r. IfSome r.0 (IsWithin exponent_range)) }
+    ensures part { IfSome result (λ x. (strict : Bool)
+        → IsPartBy true field.now true strict rest.now slots.now x 1) }
+    ensures within { IfSome result (λ x. IfSome x (IsWithin exponent_range)) }
 {
     let _ = slots;
     match field.operator {
         Operator::Delta => None,
-        _ => whole_exponent(rest, field.optional, strict),
+        _ => short_exponent(rest, field.optional),
     }
 }
 
@@ -108,26 +106,47 @@ fn known_exponent(slots: &Slots, field: &FieldInstruction, bit: bool) -> Option<
     }
 }
 
-/// An exponent and the bytes that it takes: in its range, or absent. The bit is its presence bit, set if it has none.
+/// An exponent and the bytes that it takes, one or none: in its range, or absent. The bit is its presence bit, set if it has none.
 #[inline(always)]
 pub fn exponent_part(
     slots: &Slots,
     field: &FieldInstruction,
     bit: bool,
     rest: &[u8],
-    strict: bool,
 ) -> Option<(Option<i32>, usize)>
     requires kind { field.now.kind ≡ Kind.Int32 }
     requires within { HasEntryOf slots.now field.now }
-    ensures part { IfSome result (λ r. IsPart field.now bit strict rest.now slots.now r.0 r.1) }
+    ensures part { IfSome result (λ r. (strict : Bool) → IsPart field.now bit strict rest.now slots.now r.0 r.1) }
     ensures within { IfSome result (λ r. IfSome r.0 (IsWithin exponent_range)) }
 {
     if needs_bytes(field, bit) {
-        let (exponent, bytes) = sent_exponent(slots, field, rest, strict)?;
-        return Some((exponent, bytes));
+        let sent = sent_exponent(slots, field, rest)?;
+        return Some((sent, 1));
     }
-    let exponent = known_exponent(slots, field, bit)?;
-    Some((exponent, 0))
+    let known = known_exponent(slots, field, bit)?;
+    Some((known, 0))
+}
+
+/// An exponent under default or copy, and the bytes that it takes: one that is sent, or none. It is in its range, or absent.
+#[inline(always)]
+pub fn usual_exponent(
+    slots: &Slots,
+    field: &FieldInstruction,
+    bit: bool,
+    rest: &[u8],
+) -> Option<(Option<i32>, usize)>
+    requires usual { IsUsualExponent field.now }
+    requires kind { field.now.kind ≡ Kind.Int32 }
+    requires within { HasEntryOf slots.now field.now }
+    ensures part { IfSome result (λ r. (strict : Bool) → IsPart field.now bit strict rest.now slots.now r.0 r.1) }
+    ensures within { IfSome result (λ r. IfSome r.0 (IsWithin exponent_range)) }
+{
+    if bit {
+        let sent = short_exponent(rest, field.optional)?;
+        return Some((sent, 1));
+    }
+    let known = known_exponent(slots, field, bit)?;
+    Some((known, 0))
 }
 
 /// A mandatory mantissa that is sent, and the bytes that it takes. Under delta the entry has to hold one.
@@ -224,4 +243,61 @@ pub fn keep_part(
         Some(number) => keep_integer(slots, field, kind, Number::Signed(number)),
         None => assign_empty(slots, field),
     }
+}
+
+/// Keeps an exponent that took these bytes, or NULL. Where nothing is sent, the entry stays as it is.
+#[inline(always)]
+pub fn keep_exponent(slots: &mut Slots, field: &FieldInstruction, number: Option<i32>, bytes: usize)
+    requires kind { field.now.kind ≡ Kind.Int32 }
+    requires within { HasEntryOf slots.old field.now }
+    ensures kept { 0 < bytes → KeepsPart field.now slots.old slots.new number }
+    ensures same { bytes ≡ 0 → slots.new ≡ slots.old }
+    ensures terms { slots_terms slots.new ≡ slots_terms slots.old }
+{
+    if bytes == 0 {
+        return;
+    }
+    if let Some(entry) = field.entry {
+        slots.set_number(entry as usize, exponent_held(number));
+    }
+}
+
+/// What an entry holds behind an exponent, or NULL.
+#[inline(always)]
+fn exponent_held(number: Option<i32>) -> Entry
+    ensures held { with_text result [] ≡ item_held Kind.Int32 (part_item number) }
+    ensures number { text_length result ≡ 0 }
+{
+    match number {
+        Some(number) => Entry::Int32(i64::from(number)),
+        None => Entry::Empty,
+    }
+}
+
+/// A mandatory mantissa behind its delta, and the bytes that this takes, by its entry, which has to hold one.
+#[inline(always)]
+pub fn changed_part(slots: &Slots, entry: u32, rest: &[u8], strict: bool) -> Option<(i64, usize)>
+    requires within { entry < length (slots_dictionary slots.now) }
+    ensures { IfSome result (λ r. (field : FieldInstruction) → IsDeltaMantissa field entry
+        → IsPartBy true field true strict rest.now slots.now (Some r.0) r.1) }
+{
+    let (number, bytes) = whole_mantissa(rest, strict)?;
+    match slots.held(entry as usize) {
+        Entry::Int64(base) => {
+            let sum = base.checked_add(number)?;
+            Some((sum, bytes))
+        }
+        _ => None,
+    }
+}
+
+/// Keeps a mantissa at its entry.
+#[inline(always)]
+pub fn keep_mantissa(slots: &mut Slots, entry: u32, number: i64)
+    requires within { entry < length (slots_dictionary slots.old) }
+    ensures kept { (field : FieldInstruction) → IsDeltaMantissa field entry
+        → KeepsPart field slots.old slots.new (Some number) }
+    ensures terms { slots_terms slots.new ≡ slots_terms slots.old }
+{
+    slots.set_number(entry as usize, Entry::Int64(number));
 }

@@ -4,7 +4,7 @@
 //! its kin then tell. At most calls all arguments but the bytes are constants, by which the answers fold, and nothing
 //! here calls out of line.
 
-ghost use Rattle.std.specs.Prelude.{◌≡◌, ◌≤◌, ◌≤ℤ◌, ◌↔◌, ◌∷◌, [], ℕ, List, length, true, false, IsTrue, if◌then◌else◌, pos, neg_ℤ, option_map, IfSome};
+ghost use Rattle.std.specs.Prelude.{◌≡◌, ◌≤◌, ◌≤ℤ◌, ◌↔◌, ◌∷◌, [], ℕ, Bool, List, length, true, false, IsTrue, if◌then◌else◌, pos, neg_ℤ, option_map, IfSome};
 ghost use Rattle.fast_wire.specs.meaning.Entities.{number, has_sign, signed};
 ghost use Rattle.fast_wire.specs.meaning.Integers.{Means, IsWithin, unsigned_up_to, signed_between, delta_range};
 ghost use Rattle.fast_wire.specs.device.Fronts.{IsFirstInt, NoneIsOverlong};
@@ -90,6 +90,16 @@ pub fn whole_delta(bytes: &[u8], nullable: bool, strict: bool) -> Option<(Option
     ensures { IfSome result (λ r. IsFirstInt (λ y. y) strict delta_range nullable (Whole r.0 r.1) bytes.now) }
 {
     whole_signed(bytes, nullable, strict, i64::MIN, i64::MAX)
+}
+
+/// The first entity as a delta, or NULL where it may be, if it is one byte.
+#[inline(always)]
+pub fn one_byte_delta(bytes: &[u8], nullable: bool) -> Option<Option<i64>>
+    ensures { IfSome result (λ r. (strict : Bool)
+        → IsFirstInt (λ y. y) strict delta_range nullable (Whole r 1) bytes.now) }
+{
+    let sum = one_byte(bytes)?;
+    Some(meant_signed(sum, 1, nullable))
 }
 
 /// What is sent as `n`: `None` is NULL, where that may be.

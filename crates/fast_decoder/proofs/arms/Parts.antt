@@ -15,7 +15,8 @@ use Rattle.fast_tree.specs.declared.instructions.Shape.TheVariants.{Decimal}
 use Rattle.fast_tree.specs.device.Nodes.{field_data}
 use Rattle.fast_template.specs.declared.sets.Templates.{Templates}
 use Rattle.fast_program.specs.declared.ops.Op.{Op}
-use Rattle.fast_tree.specs.meaning.Tree.{FieldData, uses_bit, parts}
+use Rattle.fast_tree.specs.declared.operators.Operator.TheVariants.{Delta}
+use Rattle.fast_tree.specs.meaning.Tree.{FieldData, operator_uses_bit, uses_bit, parts}
 use Rattle.fast_dict.specs.declared.slots.Slots.{Slots}
 use Rattle.fast_dict.specs.meaning.Dictionary.{Dictionary, PreviousData, previous_at, write_at}
 use Rattle.fast_dict.specs.meaning.Operators.{Outcome, decide, nothing, ranged}
@@ -27,7 +28,7 @@ use Rattle.fast_stream.specs.device.Continuations.{handed_then, mantissa_after_t
 use Rattle.fast_stream.specs.device.Frames.{resume}
 use Rattle.fast_stream.specs.device.GrammarReaders.{reader_of}
 use Rattle.fast_units.specs.device.Deciding.{needs_bytes, number_data, source_of}
-use Rattle.fast_units.specs.device.DecimalParts.{part_item, KeepsPart, IsAsSeen, IsPartBy, IsPart}
+use Rattle.fast_units.specs.device.DecimalParts.{part_item, KeepsPart, IsAsSeen, IsPartBy, IsPart, IsUsualExponent}
 use Rattle.fast_units.specs.device.Settling.{IsSettled, Serves}
 use Rattle.fast_units.specs.device.Taking.{Turns}
 use Rattle.fast_units.specs.device.UnitFronts.{IsSent}
@@ -243,3 +244,15 @@ module _ (set : Set) (l : Limits) (m : Machine) (from : Spot) (node : ℕ) (e f 
             still : (used ≡ 0) ⊎ (0 < used) → previous_at mantissa.entry (slots_dictionary mid) ≡ previous_at mantissa.entry (slots_dictionary m.slots)
             still (inl none) = ap (λ (d : Slots). previous_at mantissa.entry (slots_dictionary d)) (left none)
             still (inr some) = ap (previous_at mantissa.entry) (kept some) ∙ own some _ (slots_dictionary m.slots)
+
+-- An exponent under default or copy uses a bit, and a mantissa under delta none.
+pub usual_uses : (e : FieldInstruction) → IsUsualExponent e → uses_bit (field_data e) ≡ true
+usual_uses e (inl is) = ap (λ o. operator_uses_bit o e.optional) is
+usual_uses e (inr is) = ap (λ o. operator_uses_bit o e.optional) is
+
+pub delta_uses : (f : FieldInstruction) → f.operator ≡ Delta → uses_bit (field_data f) ≡ false
+delta_uses f is = ap (λ o. operator_uses_bit o f.optional) is
+
+-- So it always stands in the stream.
+pub delta_part : (f : FieldInstruction) (s : Bool) (rest : List ℕ) (seen : Slots) (x : Option ℤ) (n : ℕ) → f.operator ≡ Delta → IsPartBy true f true s rest seen x n → IsPart f true s rest seen x n
+delta_part f s rest seen x n is h = subst (λ (b : Bool). IsPartBy b f true s rest seen x n) (sym (ap (λ o. needs_bytes o true) is)) h

@@ -1,7 +1,9 @@
 -- The parts of a decimal by parts: integers that are looked at before they are kept.
-use Rattle.std.specs.Prelude.{◌≡◌, ℕ, ◌<◌, ◌≤◌, Bool, true, false, List, [], length, ℤ, Option, Some, None, Ok}
+use Rattle.std.specs.Prelude.{◌≡◌, ◌⊎◌, ℕ, ◌<◌, ◌≤◌, Bool, true, false, List, [], length, ℤ, Option, Some, None, Ok}
+use Rattle.fast_value.specs.declared.kinds.Kind.TheVariants.{Int64}
 use Rattle.fast_value.specs.meaning.Limits.{Bounds}
 use Rattle.fast_tree.specs.declared.instructions.FieldInstruction.{FieldInstruction}
+use Rattle.fast_tree.specs.declared.operators.Operator.TheVariants.{Default, Copy, Delta}
 use Rattle.fast_tree.specs.device.Nodes.{field_data}
 use Rattle.fast_dict.specs.declared.slots.Slots.{Slots}
 use Rattle.fast_dict.specs.meaning.Dictionary.{write_at}
@@ -45,3 +47,14 @@ IsPartBy false field bit strict rest seen x n = (n ≡ 0) × IsPartKnown field b
 
 abbrev pub IsPart : FieldInstruction → Bool → Bool → List ℕ → Slots → Option ℤ → ℕ → Type 0
 IsPart field bit strict rest seen x n = IsPartBy (needs_bytes field.operator bit) field bit strict rest seen x n
+
+-- An exponent that is not sent is its initial value, or what its entry holds.
+abbrev pub IsUsualExponent : FieldInstruction → Type 0
+IsUsualExponent field = (field.operator ≡ Default) ⊎ (field.operator ≡ Copy)
+
+-- A mandatory mantissa under delta, with this entry.
+pub record IsDeltaMantissa (field : FieldInstruction) (its_entry : ℕ) : Type 0 where
+  pub kind : field.kind ≡ Int64
+  pub delta : field.operator ≡ Delta
+  pub mandatory : field.optional ≡ false
+  pub entry : field.entry ≡ Some its_entry

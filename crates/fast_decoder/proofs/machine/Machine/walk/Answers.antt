@@ -69,12 +69,12 @@ went_here g c =
       | in-Int64Delta w ↦ went_as takes stops set l m from s did.went did.sink did.self did.spot w.self-is w.sink-is w.spot-is w.went-is w.delta_arm-went-in-Int64Delta.ensures.went
       | in-Int64NullableDelta w ↦ went_as takes stops set l m from s did.went did.sink did.self did.spot w.self-is w.sink-is w.spot-is w.went-is w.delta_arm-went-in-Int64NullableDelta.ensures.went
       | in-Constant w ↦ went_as takes stops set l m from s did.went did.sink did.self did.spot w.self-is w.sink-is w.spot-is w.went-is w.constant_arm-went.ensures.went
-      | in-DecimalPlain w ↦ went_as takes stops set l m from s did.went did.sink did.self did.spot w.self-is w.sink-is w.spot-is w.went-is w.decimal_arm-went.ensures.went
-      | in-DecimalNullablePlain w ↦ went_as takes stops set l m from s did.went did.sink did.self did.spot w.self-is w.sink-is w.spot-is w.went-is w.decimal_arm-went-in-DecimalNullablePlain.ensures.went
-      | in-DecimalCopy w ↦ went_as takes stops set l m from s did.went did.sink did.self did.spot w.self-is w.sink-is w.spot-is w.went-is w.decimal_arm-went-in-DecimalCopy.ensures.went
-      | in-DecimalNullableCopy w ↦ went_as takes stops set l m from s did.went did.sink did.self did.spot w.self-is w.sink-is w.spot-is w.went-is w.decimal_arm-went-in-DecimalNullableCopy.ensures.went
-      | in-DecimalDelta w ↦ went_as takes stops set l m from s did.went did.sink did.self did.spot w.self-is w.sink-is w.spot-is w.went-is w.decimal_arm-went-in-DecimalDelta.ensures.went
-      | in-DecimalNullableDelta w ↦ went_as takes stops set l m from s did.went did.sink did.self did.spot w.self-is w.sink-is w.spot-is w.went-is w.decimal_arm-went-in-DecimalNullableDelta.ensures.went
+      | in-DecimalPlain w ↦ went_as takes stops set l m from s did.went did.sink did.self did.spot w.self-is w.sink-is w.spot-is w.went-is w.plain_decimal_arm-went.ensures.went
+      | in-DecimalNullablePlain w ↦ went_as takes stops set l m from s did.went did.sink did.self did.spot w.self-is w.sink-is w.spot-is w.went-is w.plain_decimal_arm-went-in-DecimalNullablePlain.ensures.went
+      | in-DecimalCopy w ↦ went_as takes stops set l m from s did.went did.sink did.self did.spot w.self-is w.sink-is w.spot-is w.went-is w.copied_decimal_arm-went.ensures.went
+      | in-DecimalNullableCopy w ↦ went_as takes stops set l m from s did.went did.sink did.self did.spot w.self-is w.sink-is w.spot-is w.went-is w.copied_decimal_arm-went-in-DecimalNullableCopy.ensures.went
+      | in-DecimalDelta w ↦ went_as takes stops set l m from s did.went did.sink did.self did.spot w.self-is w.sink-is w.spot-is w.went-is w.changed_decimal_arm-went.ensures.went
+      | in-DecimalNullableDelta w ↦ went_as takes stops set l m from s did.went did.sink did.self did.spot w.self-is w.sink-is w.spot-is w.went-is w.changed_decimal_arm-went-in-DecimalNullableDelta.ensures.went
       | in-Parts w ↦ went_as takes stops set l m from s did.went did.sink did.self did.spot w.self-is w.sink-is w.spot-is w.went-is w.parts_arm-went.ensures.went
       | in-AsciiPlain w ↦ went_as takes stops set l m from s did.went did.sink did.self did.spot w.self-is w.sink-is w.spot-is w.went-is w.ascii_arm-went.ensures.went
       | in-AsciiNullablePlain w ↦ went_as takes stops set l m from s did.went did.sink did.self did.spot w.self-is w.sink-is w.spot-is w.went-is w.ascii_arm-went-in-AsciiNullablePlain.ensures.went
@@ -154,12 +154,12 @@ or_general-requires g c =
       | in-Int64Delta w ↦ went_as takes stops set l m from s did.went did.sink did.self did.spot w.self-is w.sink-is w.spot-is w.went-is w.delta_arm-went-in-Int64Delta.ensures.went
       | in-Int64NullableDelta w ↦ went_as takes stops set l m from s did.went did.sink did.self did.spot w.self-is w.sink-is w.spot-is w.went-is w.delta_arm-went-in-Int64NullableDelta.ensures.went
       | in-Constant w ↦ went_as takes stops set l m from s did.went did.sink did.self did.spot w.self-is w.sink-is w.spot-is w.went-is w.constant_arm-went.ensures.went
-      | in-DecimalPlain w ↦ went_as takes stops set l m from s did.went did.sink did.self did.spot w.self-is w.sink-is w.spot-is w.went-is w.decimal_arm-went.ensures.went
-      | in-DecimalNullablePlain w ↦ went_as takes stops set l m from s did.went did.sink did.self did.spot w.self-is w.sink-is w.spot-is w.went-is w.decimal_arm-went-in-DecimalNullablePlain.ensures.went
-      | in-DecimalCopy w ↦ went_as takes stops set l m from s did.went did.sink did.self did.spot w.self-is w.sink-is w.spot-is w.went-is w.decimal_arm-went-in-DecimalCopy.ensures.went
-      | in-DecimalNullableCopy w ↦ went_as takes stops set l m from s did.went did.sink did.self did.spot w.self-is w.sink-is w.spot-is w.went-is w.decimal_arm-went-in-DecimalNullableCopy.ensures.went
-      | in-DecimalDelta w ↦ went_as takes stops set l m from s did.went did.sink did.self did.spot w.self-is w.sink-is w.spot-is w.went-is w.decimal_arm-went-in-DecimalDelta.ensures.went
-      | in-DecimalNullableDelta w ↦ went_as takes stops set l m from s did.went did.sink did.self did.spot w.self-is w.sink-is w.spot-is w.went-is w.decimal_arm-went-in-DecimalNullableDelta.ensures.went
+      | in-DecimalPlain w ↦ went_as takes stops set l m from s did.went did.sink did.self did.spot w.self-is w.sink-is w.spot-is w.went-is w.plain_decimal_arm-went.ensures.went
+      | in-DecimalNullablePlain w ↦ went_as takes stops set l m from s did.went did.sink did.self did.spot w.self-is w.sink-is w.spot-is w.went-is w.plain_decimal_arm-went-in-DecimalNullablePlain.ensures.went
+      | in-DecimalCopy w ↦ went_as takes stops set l m from s did.went did.sink did.self did.spot w.self-is w.sink-is w.spot-is w.went-is w.copied_decimal_arm-went.ensures.went
+      | in-DecimalNullableCopy w ↦ went_as takes stops set l m from s did.went did.sink did.self did.spot w.self-is w.sink-is w.spot-is w.went-is w.copied_decimal_arm-went-in-DecimalNullableCopy.ensures.went
+      | in-DecimalDelta w ↦ went_as takes stops set l m from s did.went did.sink did.self did.spot w.self-is w.sink-is w.spot-is w.went-is w.changed_decimal_arm-went.ensures.went
+      | in-DecimalNullableDelta w ↦ went_as takes stops set l m from s did.went did.sink did.self did.spot w.self-is w.sink-is w.spot-is w.went-is w.changed_decimal_arm-went-in-DecimalNullableDelta.ensures.went
       | in-Parts w ↦ went_as takes stops set l m from s did.went did.sink did.self did.spot w.self-is w.sink-is w.spot-is w.went-is w.parts_arm-went.ensures.went
       | in-AsciiPlain w ↦ went_as takes stops set l m from s did.went did.sink did.self did.spot w.self-is w.sink-is w.spot-is w.went-is w.ascii_arm-went.ensures.went
       | in-AsciiNullablePlain w ↦ went_as takes stops set l m from s did.went did.sink did.self did.spot w.self-is w.sink-is w.spot-is w.went-is w.ascii_arm-went-in-AsciiNullablePlain.ensures.went
@@ -397,23 +397,23 @@ delta_arm-went-requires-in-Int64NullableDelta-clause-field g c = λ x found. cla
 pub constant_arm-went-requires-clause-constant : goal.constant_arm-went-requires-clause-constant
 constant_arm-went-requires-clause-constant g c = λ x found. claimed c.op_at-op.result.now c.op_at-op.result.now.node x.shape Constant (c.op_at-op.ensures.is (λ e. let d = c.in-Constant.is in absurd cc) x found) c.in-Constant.is
 
-pub decimal_arm-went-requires-clause-field : goal.decimal_arm-went-requires-clause-field
-decimal_arm-went-requires-clause-field g c = λ x found. claimed c.op_at-op.result.now c.op_at-op.result.now.node x.shape DecimalPlain (c.op_at-op.ensures.is (λ e. let d = c.in-DecimalPlain.is in absurd cc) x found) c.in-DecimalPlain.is
+pub plain_decimal_arm-went-requires-clause-field : goal.plain_decimal_arm-went-requires-clause-field
+plain_decimal_arm-went-requires-clause-field g c = λ x found. claimed c.op_at-op.result.now c.op_at-op.result.now.node x.shape DecimalPlain (c.op_at-op.ensures.is (λ e. let d = c.in-DecimalPlain.is in absurd cc) x found) c.in-DecimalPlain.is
 
-pub decimal_arm-went-requires-in-DecimalNullablePlain-clause-field : goal.decimal_arm-went-requires-in-DecimalNullablePlain-clause-field
-decimal_arm-went-requires-in-DecimalNullablePlain-clause-field g c = λ x found. claimed c.op_at-op.result.now c.op_at-op.result.now.node x.shape DecimalNullablePlain (c.op_at-op.ensures.is (λ e. let d = c.in-DecimalNullablePlain.is in absurd cc) x found) c.in-DecimalNullablePlain.is
+pub plain_decimal_arm-went-requires-in-DecimalNullablePlain-clause-field : goal.plain_decimal_arm-went-requires-in-DecimalNullablePlain-clause-field
+plain_decimal_arm-went-requires-in-DecimalNullablePlain-clause-field g c = λ x found. claimed c.op_at-op.result.now c.op_at-op.result.now.node x.shape DecimalNullablePlain (c.op_at-op.ensures.is (λ e. let d = c.in-DecimalNullablePlain.is in absurd cc) x found) c.in-DecimalNullablePlain.is
 
-pub decimal_arm-went-requires-in-DecimalCopy-clause-field : goal.decimal_arm-went-requires-in-DecimalCopy-clause-field
-decimal_arm-went-requires-in-DecimalCopy-clause-field g c = λ x found. claimed c.op_at-op.result.now c.op_at-op.result.now.node x.shape DecimalCopy (c.op_at-op.ensures.is (λ e. let d = c.in-DecimalCopy.is in absurd cc) x found) c.in-DecimalCopy.is
+pub copied_decimal_arm-went-requires-clause-field : goal.copied_decimal_arm-went-requires-clause-field
+copied_decimal_arm-went-requires-clause-field g c = λ x found. claimed c.op_at-op.result.now c.op_at-op.result.now.node x.shape DecimalCopy (c.op_at-op.ensures.is (λ e. let d = c.in-DecimalCopy.is in absurd cc) x found) c.in-DecimalCopy.is
 
-pub decimal_arm-went-requires-in-DecimalNullableCopy-clause-field : goal.decimal_arm-went-requires-in-DecimalNullableCopy-clause-field
-decimal_arm-went-requires-in-DecimalNullableCopy-clause-field g c = λ x found. claimed c.op_at-op.result.now c.op_at-op.result.now.node x.shape DecimalNullableCopy (c.op_at-op.ensures.is (λ e. let d = c.in-DecimalNullableCopy.is in absurd cc) x found) c.in-DecimalNullableCopy.is
+pub copied_decimal_arm-went-requires-in-DecimalNullableCopy-clause-field : goal.copied_decimal_arm-went-requires-in-DecimalNullableCopy-clause-field
+copied_decimal_arm-went-requires-in-DecimalNullableCopy-clause-field g c = λ x found. claimed c.op_at-op.result.now c.op_at-op.result.now.node x.shape DecimalNullableCopy (c.op_at-op.ensures.is (λ e. let d = c.in-DecimalNullableCopy.is in absurd cc) x found) c.in-DecimalNullableCopy.is
 
-pub decimal_arm-went-requires-in-DecimalDelta-clause-field : goal.decimal_arm-went-requires-in-DecimalDelta-clause-field
-decimal_arm-went-requires-in-DecimalDelta-clause-field g c = λ x found. claimed c.op_at-op.result.now c.op_at-op.result.now.node x.shape DecimalDelta (c.op_at-op.ensures.is (λ e. let d = c.in-DecimalDelta.is in absurd cc) x found) c.in-DecimalDelta.is
+pub changed_decimal_arm-went-requires-clause-field : goal.changed_decimal_arm-went-requires-clause-field
+changed_decimal_arm-went-requires-clause-field g c = λ x found. claimed c.op_at-op.result.now c.op_at-op.result.now.node x.shape DecimalDelta (c.op_at-op.ensures.is (λ e. let d = c.in-DecimalDelta.is in absurd cc) x found) c.in-DecimalDelta.is
 
-pub decimal_arm-went-requires-in-DecimalNullableDelta-clause-field : goal.decimal_arm-went-requires-in-DecimalNullableDelta-clause-field
-decimal_arm-went-requires-in-DecimalNullableDelta-clause-field g c = λ x found. claimed c.op_at-op.result.now c.op_at-op.result.now.node x.shape DecimalNullableDelta (c.op_at-op.ensures.is (λ e. let d = c.in-DecimalNullableDelta.is in absurd cc) x found) c.in-DecimalNullableDelta.is
+pub changed_decimal_arm-went-requires-in-DecimalNullableDelta-clause-field : goal.changed_decimal_arm-went-requires-in-DecimalNullableDelta-clause-field
+changed_decimal_arm-went-requires-in-DecimalNullableDelta-clause-field g c = λ x found. claimed c.op_at-op.result.now c.op_at-op.result.now.node x.shape DecimalNullableDelta (c.op_at-op.ensures.is (λ e. let d = c.in-DecimalNullableDelta.is in absurd cc) x found) c.in-DecimalNullableDelta.is
 
 pub parts_arm-went-requires-clause-parts : goal.parts_arm-went-requires-clause-parts
 parts_arm-went-requires-clause-parts g c = λ x found. claimed c.op_at-op.result.now c.op_at-op.result.now.node x.shape Parts (c.op_at-op.ensures.is (λ e. let d = c.in-Parts.is in absurd cc) x found) c.in-Parts.is
