@@ -5,6 +5,7 @@ pub mod UnitTaken
 pub mod QuickSteps
 pub mod ShortMaps
 pub mod StartMaps
+pub mod Ahead
 pub mod SentItems
 pub mod PartTakes
 pub mod ScalarMachines

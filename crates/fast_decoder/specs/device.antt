@@ -13,3 +13,4 @@ pub mod Steps
 pub mod Arms
 pub mod Opening
 pub mod Parts
+pub mod Starts
