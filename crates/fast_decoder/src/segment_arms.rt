@@ -224,7 +224,8 @@ impl<'t> Machine<'t> {
         reset_if(&mut self.slots, template.reset);
         self.counted = 0;
         self.latest = number;
-        self.cursor.begin_message(&mut spot.place, byte, templates.template_start(number));
+        self.cursor
+            .begin_message(&mut spot.place, byte, templates.template_start(number));
         let unit = Turns::after(&self.turns);
         self.turns = Turns::after(&unit);
         Went::Took

@@ -44,7 +44,7 @@ begun_on Went.Waits is e = cc e
 module _ {S : Type 0} (takes stops : S → EventData → S → Type 0) (set : Set) (l : Limits) (m a : Machine) (from : Spot) (same : a ≡ record (placed m from.place) { turns = a.turns }) (counts : a.turns.count ≡ m.turns.count + 1)
     (can : CanTurn set l a) (end : a.cursor.left ≡ []) (outermost : a.cursor.frames ≡ []) (s mid : S) (taken : takes s MessageEnd mid) where
   -- the cursor before the next message
-  cleared : CursorData
+  abbrev cleared : CursorData
   cleared = record a.cursor { map = []; used = 0 }
 
   -- No message begins yet.
@@ -89,4 +89,4 @@ module _ {S : Type 0} (takes stops : S → EventData → S → Type 0) (set : Se
       (begun_on went is) (ap (λ (w : Waiting). record x { waiting = w }) waits))
     where
       paid : (way : Way) (k : ℕ) → HasTurnsBehind (begun_by went) way set l (1 + (k + most_by way (tree_in set) l)) (placed m' to.place) → HasTurnsBehind (begun_by went) way set l (1 + k + most_by way (tree_in set) l) (placed m' to.place)
-      paid way k h = h
+      paid way k h = let e : 1 + (k + most_by way (tree_in set) l) ≡ 1 + k + most_by way (tree_in set) l = omega arith in subst (λ n. HasTurnsBehind (begun_by went) way set l n (placed m' to.place)) e h

@@ -55,7 +55,7 @@ module _ (set : Set) (l : Limits) (m : Machine) (rest : List ℕ) (h : IsSupplie
     takes = (below-nil, omega arith, unused, refl);
   }
 
-  behind : CursorData
+  abbrev behind : CursorData
   behind = record (resting m.cursor) { map = take 1 rest }
 
   taken : IsMapTaken [] rest (take 1 rest) (Whole 1)
