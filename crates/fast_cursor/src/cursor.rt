@@ -4,14 +4,14 @@ ghost use Rattle.std.specs.Prelude.{◌≡◌, ◌↔◌, ◌<◌, true, false, 
 ghost use Rattle.std.specs.Prelude.{IfOk, IsTrue, Some, None, option_map, slice_get};
 ghost use Rattle.fast_wire.specs.device.Words.{IsShortEntity};
 ghost use Rattle.fast_wire.specs.meaning.Entities.{HaveNoStop};
-ghost use Rattle.fast_wire.specs.meaning.Maps.{map_limit, first_bit, later_bits};
+ghost use Rattle.fast_wire.specs.meaning.Maps.{map_limit, bits, first_bit, later_bits};
 ghost use Rattle.fast_program.specs.device.Runs.{is_end, Begins};
 ghost use Rattle.fast_cursor.specs.device.Runs.{run_at, IsRun};
 ghost use Rattle.fast_cursor.specs.device.Cursors.{CursorData, FrameData, ElementsData, bits_left};
 ghost use Rattle.fast_cursor.specs.device.Cursors.{at_rest, resting, entered, left_to};
 ghost use Rattle.fast_cursor.specs.device.Nexts.{next_of, gone_on};
 ghost use Rattle.fast_cursor.specs.device.Segments.{elements_data, frame_elements, first_node, IsRunOf};
-ghost use Rattle.fast_cursor.specs.device.Places.{at_place, IsPlaceOf};
+ghost use Rattle.fast_cursor.specs.device.Places.{place_left, at_place, IsPlaceOf};
 ghost use Rattle.fast_cursor.specs.device.MapTaking.{IsMapTaken};
 
 use crate::map_place::{MapPlace, NO_MAP};
@@ -257,6 +257,36 @@ impl<'t> Cursor<'t> {
         let map = &self.maps[self.start..self.start + len + taken];
         self.map = self.map.in_map(map);
         front
+    }
+
+    /// A message begins, whose map is one byte: the place goes behind the first bit, to where a run of the program begins. The cursor
+    /// itself stays where it was in the program.
+    #[inline(always)]
+    pub fn begin_message(&mut self, place: &mut Place<'t>, byte: u8, start: usize)
+        requires place { IsPlaceOf self.old place.old }
+        requires run { IsRun self.old.ops start }
+        ensures same { self.new ≡ record self.old { map = byte ∷ []; used = 0 } }
+        ensures at { at_place self.new place.new
+            ≡ record self.new { left = run_at self.old.ops start; used = (at_place self.new place.new).used } }
+        ensures bits { bits_left (at_place self.new place.new) ≡ later_bits (bits (byte ∷ [])) }
+        ensures place { IsPlaceOf self.new place.new }
+    {
+        self.maps[self.start] = byte;
+        self.map = MapPlace::of_byte(byte);
+        place.ip = start;
+        place.map = self.map;
+        place.use_bit();
+    }
+
+    /// Brings a place to the next bit of the innermost segment's map. Where it is in the program stays.
+    #[inline(always)]
+    pub fn show_map(&self, place: &mut Place<'t>)
+        requires ops { place.old.ops.now ≡ self.now.ops }
+        requires run { IsRun self.now.ops place.old.ip }
+        ensures at { at_place self.now place.new ≡ record self.now { left = place_left place.old } }
+        ensures place { IsPlaceOf self.now place.new }
+    {
+        place.map = self.map;
     }
 
     /// The innermost segment has no map.

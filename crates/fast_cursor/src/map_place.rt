@@ -37,6 +37,7 @@ impl MapPlace {
         ensures place { IsPlace (byte ∷ []) result }
         ensures used { used_bits result ≡ 0 }
         ensures len { result.len ≡ 1 }
+        ensures left { result.left ≡ 56 }
     {
         MapPlace {
             word: u64::from(byte) << 57,

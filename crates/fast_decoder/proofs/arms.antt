@@ -5,6 +5,7 @@ pub mod Unsent
 pub mod Fields
 pub mod Back
 pub mod Ends
+pub mod Starts
 pub mod Walks
 pub mod Ops
 pub mod Texts

@@ -14,3 +14,4 @@ pub mod Arms
 pub mod Opening
 pub mod Parts
 pub mod FitMaps
+pub mod Starts

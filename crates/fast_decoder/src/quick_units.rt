@@ -89,7 +89,6 @@ impl<'t> Machine<'t> {
             Waiting::Mantissa(exponent) => {
                 self.take_short_mantissa(templates, limits, exponent, rest, sink)
             }
-            Waiting::Map => self.begin_quickly(templates, limits, rest, sink),
             Waiting::SegmentMap(_) => self.open_quickly(templates, limits, rest, sink),
             Waiting::Text => self.take_block_text(templates, limits, rest, sink),
             Waiting::Field => self.take_short_decimal(templates, limits, rest, sink),

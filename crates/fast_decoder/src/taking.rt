@@ -128,7 +128,7 @@ fn id_of(value: Option<Scalar<'_>>) -> Option<u128>
 
 /// The number of the template with an identifier, which is most likely the latest one's.
 #[inline]
-pub fn template_of(templates: &Templates, identifier: Option<u128>, latest: u32) -> Option<u32>
+fn template_of(templates: &Templates, identifier: Option<u128>, latest: u32) -> Option<u32>
     ensures some { IfSome result
         (λ i. (id : ℕ) × (t : Template) × (identifier ≡ Some id) × (slice_get (templates_of templates.now) i ≡ Some t)
         × (t.id ≡ Some id)
@@ -166,7 +166,7 @@ fn template_beyond(templates: &Templates, id: u128) -> Option<u32>
 
 /// Forgets all entries but the identifier's, if the template says so.
 #[inline]
-fn reset_if(slots: &mut Slots, resets: bool)
+pub fn reset_if(slots: &mut Slots, resets: bool)
     ensures entries { slots_dictionary slots.new
         ≡ (if resets then reset (slots_dictionary slots.old) else slots_dictionary slots.old) }
     ensures terms { slots_terms slots.new ≡ slots_terms slots.old }
