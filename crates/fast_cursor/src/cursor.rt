@@ -220,24 +220,6 @@ impl<'t> Cursor<'t> {
         false
     }
 
-    /// Takes a map of at most eight bytes that the piece begins with, if none of its bytes has come and the piece has
-    /// eight.
-    #[inline(always)]
-    pub fn take_short(&mut self, rest: &[u8], entity: ShortEntity) -> bool
-        requires entity { IsShortEntity entity.number entity.len rest.now }
-        ensures none { result ≡ true → self.old.map ≡ [] }
-        ensures map { result ≡ true → IsMapTaken self.old.map rest.now self.new.map (MapFront.Whole entity.len) }
-        ensures same { self.new ≡ record self.old { map = self.new.map } }
-        ensures left { result ≡ false → self.new ≡ self.old }
-    {
-        if self.map.len != 0 || rest.len() < 8 {
-            return false;
-        }
-        self.maps[self.start..self.start + 8].copy_from_slice(&rest[..8]);
-        self.map = MapPlace::of_entity(entity);
-        true
-    }
-
     /// The same, whether or not bytes of the map have come, and whether one byte or more of the piece are the map's.
     #[inline(never)]
     fn take_more(&mut self, rest: &[u8]) -> MapFront
@@ -257,6 +239,24 @@ impl<'t> Cursor<'t> {
         let map = &self.maps[self.start..self.start + len + taken];
         self.map = self.map.in_map(map);
         front
+    }
+
+    /// Takes a map of at most eight bytes that the piece begins with, if none of its bytes has come and the piece has
+    /// eight.
+    #[inline(always)]
+    pub fn take_short(&mut self, rest: &[u8], entity: ShortEntity) -> bool
+        requires entity { IsShortEntity entity.number entity.len rest.now }
+        ensures none { result ≡ true → self.old.map ≡ [] }
+        ensures map { result ≡ true → IsMapTaken self.old.map rest.now self.new.map (MapFront.Whole entity.len) }
+        ensures same { self.new ≡ record self.old { map = self.new.map } }
+        ensures left { result ≡ false → self.new ≡ self.old }
+    {
+        if self.map.len != 0 || rest.len() < 8 {
+            return false;
+        }
+        self.maps[self.start..self.start + 8].copy_from_slice(&rest[..8]);
+        self.map = MapPlace::of_entity(entity);
+        true
     }
 
     /// A message begins, whose map is one byte: the place goes behind the first bit, to where a run of the program begins. The cursor
