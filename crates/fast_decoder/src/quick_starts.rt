@@ -1,6 +1,6 @@
 //! The quick way of presence maps of one byte, and of the identifiers behind them.
 
-ghost use Rattle.std.specs.Prelude.{◌≡◌, ◌≢◌, ◌+◌, ◌<◌, ◌≤◌, ℕ, [], true, length, slice_get, slice_index, Ok, Some, IfSome, IfNone};
+ghost use Rattle.std.specs.Prelude.{◌≡◌, ◌≢◌, ◌+◌, ◌<◌, ◌≤◌, ℕ, [], length, slice_get, slice_index, Ok, Some, IfSome, IfNone};
 ghost use Rattle.fast_value.specs.declared.kinds.Kind.{Kind};
 ghost use Rattle.fast_value.specs.meaning.Kinds.{U};
 ghost use Rattle.fast_template.specs.meaning.Flat.{templates_of};
@@ -14,6 +14,7 @@ ghost use Rattle.fast_decoder.specs.device.TurnsLeft.{Way, HasTurns, HasTurnsBeh
 
 use crate::machine::{Machine, Turn, Waiting};
 use crate::quick_units::UnitTaken;
+use crate::taking::{has_id, walk_to};
 use crate::turns::Turns;
 use fast_dict::Entry;
 use fast_stream::Sink;
@@ -90,16 +91,20 @@ impl<'t> Machine<'t> {
         ensures none { IfNone result (self.new ≡ self.old) }
         ensures ahead { IfSome result (λ r. IsMessageAhead (set_of templates.now) limits
             (slots_dictionary self.old.slots) (slots_dictionary self.new.slots) rest.now r.0 r.1) }
-        ensures same { self.new ≡ record self.old { slots = self.new.slots } }
+        ensures same { self.new ≡ record self.old { slots = self.new.slots; latest = self.new.latest } }
         ensures terms { slots_terms self.new.slots ≡ slots_terms self.old.slots }
     {
         let (read, len) = whole_unsigned(&rest[1..], false, limits.strict, 4_294_967_295)?;
         let id = read?;
         let number = template_with(templates, id as u32, self.latest)?;
         self.slots.set_number(0, Entry::UInt32(id));
+        self.latest = number;
         Some((number, 1 + len))
     }
 }
+
+/// Among so few templates a walk is the shortest way to one.
+const FEW: u32 = 8;
 
 /// The number of the template with an identifier, which is most likely the latest one's.
 #[inline(always)]
@@ -108,23 +113,21 @@ fn template_with(templates: &Templates, id: u32, latest: u32) -> Option<u32>
         × (t.id ≡ Some id)
         × ((j : ℕ) (u : Template) → j < i → slice_get (templates_of templates.now) j ≡ Some u → u.id ≢ Some id)) }
 {
-    if is_latest(templates, id, latest) {
+    if latest < templates.count() && has_id(templates.template(latest), u128::from(id)) {
         return Some(latest);
     }
-    templates.by_id(id)
+    other_template(templates, id)
 }
 
-/// Whether the latest template has an identifier.
-#[inline(always)]
-fn is_latest(templates: &Templates, id: u32, latest: u32) -> bool
-    ensures { result ≡ true → (t : Template) × (slice_get (templates_of templates.now) latest ≡ Some t)
-        × (t.id ≡ Some id) }
+/// The same where it is none that is more likely than others.
+#[inline(never)]
+fn other_template(templates: &Templates, id: u32) -> Option<u32>
+    ensures { IfSome result (λ i. (t : Template) × (slice_get (templates_of templates.now) i ≡ Some t)
+        × (t.id ≡ Some id)
+        × ((j : ℕ) (u : Template) → j < i → slice_get (templates_of templates.now) j ≡ Some u → u.id ≢ Some id)) }
 {
-    if latest >= templates.count() {
-        return false;
+    if templates.count() > FEW {
+        return templates.by_id(id);
     }
-    match templates.template(latest).id {
-        Some(own) => own == id,
-        None => false,
-    }
+    walk_to(templates, u128::from(id))
 }

@@ -264,7 +264,6 @@ impl<'t> Machine<'t> {
         let template = templates.template(number);
         reset_if(&mut self.slots, template.reset);
         self.counted = 0;
-        self.latest = number;
         self.cursor
             .begin_message(&mut spot.place, byte, templates.template_start(number));
         let unit = Turns::after(&self.turns);

@@ -106,7 +106,7 @@ pub fn is_overlong(strict: bool, map: &[u8]) -> bool
 
 /// Whether a template has an identifier.
 #[inline]
-fn has_id(template: &Template, id: u128) -> bool
+pub fn has_id(template: &Template, id: u128) -> bool
     ensures { IsTrue result ↔ (template.now.id ≡ Some id) }
 {
     match template.id {
@@ -142,14 +142,15 @@ fn template_of(templates: &Templates, identifier: Option<u128>, latest: u32) -> 
         return Some(latest);
     }
     if id > u128::from(u32::MAX) {
-        return template_beyond(templates, id);
+        return walk_to(templates, id);
     }
     templates.by_id(id as u32)
 }
 
-/// The same where the identifier has more than 32 bits. No template has such a one: the walk says so without a promise of the set.
-#[cold]
-fn template_beyond(templates: &Templates, id: u128) -> Option<u32>
+/// The same by a walk through all templates. Where the identifier has more than 32 bits no template has it: the walk says so without a
+/// promise of the set.
+#[inline]
+pub fn walk_to(templates: &Templates, id: u128) -> Option<u32>
     ensures some { IfSome result
         (λ i. (t : Template) × (slice_get (templates_of templates.now) i ≡ Some t) × (t.id ≡ Some id)
         × ((j : ℕ) (u : Template) → j < i → slice_get (templates_of templates.now) j ≡ Some u → u.id ≢ Some id)) }

@@ -1,6 +1,6 @@
 -- What an arm did at the end of a message.
-use Rattle.std.proofs.Common.{refl, sym, ap, ◌∙◌, subst, arith, inl, inr}
-use Rattle.std.specs.Prelude.{◌≡◌, ◌≢◌, ◌⊎◌, ℕ, ◌+◌, ◌<◌, ◌≤◌, List, [], take, drop, slice_get, Some, Result, Ok, Err}
+use Rattle.std.proofs.Common.{refl, sym, ap, subst, arith, inl, inr}
+use Rattle.std.specs.Prelude.{◌≡◌, ◌≢◌, ◌⊎◌, ℕ, ◌+◌, ◌<◌, ◌≤◌, [], take, drop, slice_get, Some, Ok}
 use Rattle.fast_value.specs.declared.settings.Limits.{Limits}
 use Rattle.fast_value.specs.meaning.Limits.{bounds}
 use Rattle.fast_tree.specs.declared.instructions.Template.{Template}
@@ -8,22 +8,19 @@ use Rattle.fast_dict.specs.meaning.Dictionary.{Dictionary}
 use Rattle.fast_dict.specs.meaning.Slots.{slots_dictionary}
 use Rattle.fast_stream.specs.meaning.Events.{EventData, MessageEnd}
 use Rattle.fast_stream.specs.device.GrammarReaders.{reader_of}
-use Rattle.fast_stream.specs.device.Readers.{Reader, Done}
-use Rattle.fast_cursor.specs.device.Cursors.{CursorData, resting}
-use Rattle.fast_cursor.specs.device.Places.{place_left, at_place, IsPlaceOf}
+use Rattle.fast_cursor.specs.device.Cursors.{CursorData}
+use Rattle.fast_cursor.specs.device.Places.{IsPlaceOf}
 use Rattle.fast_decoder.specs.declared.machine.Machine.{Machine}
-use Rattle.fast_decoder.specs.declared.machine.Turn.{Turn}
 use Rattle.fast_decoder.specs.declared.machine.Turn.TheVariants.{Waits}
 use Rattle.fast_decoder.specs.declared.machine.Waiting.{Waiting}
 use Rattle.fast_decoder.specs.declared.machine.Waiting.TheVariants.{Map, Field}
-use Rattle.fast_decoder.specs.declared.quick_units.UnitTaken.{UnitTaken}
 use Rattle.fast_decoder.specs.declared.spot.Spot.{Spot}
 use Rattle.fast_decoder.specs.declared.spot.Went.{Went}
 use Rattle.fast_decoder.specs.device.Arms.{placed, HasWent}
-use Rattle.fast_decoder.specs.device.Positions.{Set, tree_in, map_reader, CanTurn, IsTurn, meaning}
+use Rattle.fast_decoder.specs.device.Positions.{Set, tree_in, CanTurn, IsTurn, meaning}
 use Rattle.fast_decoder.specs.device.Starts.{message_from, IsMessageAhead, begun_by}
 use Rattle.fast_decoder.specs.device.Steps.{IsStep}
-use Rattle.fast_decoder.specs.device.TurnsLeft.{Way, most_by, HasTurnsInMap, HasTurnsBehind, turns_begun}
+use Rattle.fast_decoder.specs.device.TurnsLeft.{Way, most_by, HasTurnsBehind}
 use Rattle.fast_decoder.specs.device.UnitTaken.{IsTakenTo}
 use Rattle.fast_decoder.proofs.arms.Ends.{placed_turn, ended, ended_turns, message_begun}
 use Rattle.fast_decoder.proofs.machines.UnitTaken.{begun_to}

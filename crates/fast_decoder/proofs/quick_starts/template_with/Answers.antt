@@ -1,17 +1,15 @@
 -- The identifiers of a set are distinct, so the latest template is the first one with its identifier.
-use Rattle.std.proofs.Common.{◌≡◌, arith}
-use Rattle.fast_decoder.proofs.steps.Answered.{some_both}
+use Rattle.std.proofs.Common.{refl, ◌≡◌, ◌∙◌, ap, arith}
+use Rattle.std.specs.Prelude.{Some}
 use Rattle.fast_decoder.proofs.quick_starts.template_with.Goals as goal
 
-pub returns-then-is_latest : goal.returns-then-is_latest
-returns-then-is_latest c =
-    let (t, found, own) = c.is_latest.ensures c.if-is_latest.true in (
+pub returns-then-has_id : goal.returns-then-has_id
+returns-then-has_id c =
+    let t = c.template.result.now in
+    let own : t.id ≡ Some c.args.id = c.if-has_id.ensures.0 refl ∙ ap Some c.from.ensures in (
       t,
-      found,
+      c.template.ensures.found,
       own,
       λ j u before there its.
-          (let same : j ≡ c.args.latest = c.args.templates.now.distinct_ids j c.args.latest c.args.id u t there found its own in omega (arith, before, same)),
+          (let same : j ≡ c.args.latest = c.args.templates.now.distinct_ids j c.args.latest c.args.id u t there c.template.ensures.found its own in omega (arith, before, same)),
     )
-
-pub returns : goal.returns
-returns c = some_both c.by_id.result (λ i h first. (h.0, h.1, h.2, first)) c.by_id.ensures.found c.by_id.ensures.first

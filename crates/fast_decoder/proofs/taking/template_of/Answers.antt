@@ -15,7 +15,7 @@ returns-then-has_id-clause-some c =
     )
 
 pub returns-then-id-from-clause-some : goal.returns-then-id-from-clause-some
-returns-then-id-from-clause-some c = some_as c.template_beyond.result (λ i h. (c.in_ok-id.id, h.0, c.in_ok-id.was, h.1, h.2, h.3)) c.template_beyond.ensures.some
+returns-then-id-from-clause-some c = some_as c.walk_to.result (λ i h. (c.in_ok-id.id, h.0, c.in_ok-id.was, h.1, h.2, h.3)) c.walk_to.ensures.some
 
 pub returns-clause-some : goal.returns-clause-some
 returns-clause-some c = some_both c.by_id.result (λ i h first. (c.in_ok-id.id, h.0, c.in_ok-id.was, h.1, h.2, first)) c.by_id.ensures.found c.by_id.ensures.first

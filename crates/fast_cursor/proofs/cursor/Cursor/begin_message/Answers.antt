@@ -1,5 +1,5 @@
 -- The map is the byte, and the place is behind its first bit.
-use Rattle.std.proofs.Common.{refl, ◌≡◌, ◌<◌, ◌≤◌, ◌∙◌, [], ◌∷◌, List, ℕ, ap, sym, subst, arith, length, length-set, set, ◌+◌, drop, take}
+use Rattle.std.proofs.Common.{refl, ◌≡◌, ◌≤◌, ◌∙◌, [], ◌∷◌, List, ℕ, ap, sym, subst, arith, length, length-set, set, ◌+◌, drop, take}
 use Rattle.fast_wire.specs.meaning.Maps.{map_limit, bits, later_bits}
 use Rattle.fast_cursor.specs.device.Runs.{run_at, IsRun}
 use Rattle.fast_cursor.specs.device.Cursors.{CursorData}

@@ -1,6 +1,6 @@
 -- The end of the message, where the sink stops at it.
-use Rattle.std.proofs.Common.{refl, ap, subst}
-use Rattle.std.specs.Prelude.{Result, Err}
+use Rattle.std.proofs.Common.{refl, ap}
+use Rattle.std.specs.Prelude.{Err}
 use Rattle.fast_dict.specs.meaning.Slots.{slots_dictionary}
 use Rattle.fast_stream.specs.meaning.Events.{MessageEnd}
 use Rattle.fast_stream.specs.declared.faults.FaultCode.TheVariants.{SinkStopped}

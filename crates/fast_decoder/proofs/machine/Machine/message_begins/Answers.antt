@@ -1,6 +1,6 @@
 -- The first event of a message, behind its map and its identifier.
 use Rattle.std.proofs.Common.{refl, ◌≡◌, ◌+◌, ◌≤◌, ap, sym, ◌∙◌, subst, arith, get_or, List}
-use Rattle.std.specs.Prelude.{Some, Ok, Err, take}
+use Rattle.std.specs.Prelude.{Some, Ok, take}
 use Rattle.fast_tree.specs.declared.instructions.Template.{Template}
 use Rattle.fast_tree.specs.device.Nodes.{template_data, instructions_from}
 use Rattle.fast_tree.specs.meaning.Tree.{identifier}
@@ -12,7 +12,6 @@ use Rattle.fast_cursor.specs.device.Cursors.{CursorData}
 use Rattle.fast_cursor.specs.device.Places.{at_place}
 use Rattle.fast_stream.specs.meaning.Events.{MessageStart}
 use Rattle.fast_stream.specs.device.GrammarReaders.{reader_of}
-use Rattle.fast_stream.specs.device.Readers.{Reader}
 use Rattle.fast_stream.specs.declared.faults.FaultCode.TheVariants.{SinkStopped}
 use Rattle.fast_decoder.specs.declared.machine.Machine.{Machine}
 use Rattle.fast_decoder.specs.declared.machine.Turn.TheVariants.{Handed}
@@ -62,9 +61,9 @@ returns-clause-turn g c t found =
     begun_at m.cursor c.begin_message.new.self x rest u.body.items (get_or rest 0 0) c.template_start.result c.requires.outermost (first_byte rest c.requires.some) c.begin_message.ensures.same c.begin_message.ensures.at c.begin_message.ensures.bits
     (ap (λ (ops : List Op). run_at ops c.template_start.result) c.requires.behind.supplied.program ∙ (c.template_start.ensures u c.template-template.ensures.found).nodes) in
     let b : Machine = mapped_by m rest in
-    let m' : Machine = record m { cursor = x; slots = c.reset_if.new.slots; counted = 0; turns = c.after-self.result; latest = c.args.number } in
+    let m' : Machine = record m { cursor = x; slots = c.reset_if.new.slots; counted = 0; turns = c.after-self.result } in
     let can : CanTurn set l m' =
-    begun_turns set l b c.args.number u x c.reset_if.new.slots c.after-self.result c.args.number c.requires.behind c.template-template.ensures.found c.template-template.ensures.body c.reset_if.ensures.terms at.frames at.left at.map at.rests in
+    begun_turns set l b c.args.number u x c.reset_if.new.slots c.after-self.result m.latest c.requires.behind c.template-template.ensures.found c.template-template.ensures.body c.reset_if.ensures.terms at.frames at.left at.map at.rests in
     subst (λ (v : Template). IsTurn g.S.Sink.takes g.S.Sink.stops set l (reader_of l.strict (message_from set (bounds l) c.args.number v d (take 1 rest))) c.args.sink.now (Ok Handed) c.hand.new.sink m') same
     (turn_one g.S.Sink.takes g.S.Sink.stops set l (reader_of l.strict (message_from set (bounds l) c.args.number u d (take 1 rest))) (MessageStart c.args.number) c.args.sink.now c.hand.new.sink m'
     (begun set l.strict (bounds l) c.args.number u d (slots_dictionary c.reset_if.new.slots) b.cursor x c.reset_if.ensures.entries at.frames at.left at.bits)

@@ -1,5 +1,5 @@
 -- A map of one byte, and the identifier behind it.
-use Rattle.std.proofs.Common.{◌≡◌, ◌+◌, ◌<◌, ◌≤◌, ap, ◌∙◌, subst, arith, rules, get_or, length, take, drop}
+use Rattle.std.proofs.Common.{◌≡◌, ◌≤◌, subst, arith, rules, get_or, length, take, drop}
 use Rattle.std.specs.Prelude.{◌-◌, ℕ, Option, false, pos, Some, option_map}
 use Rattle.std.proofs.lemmas.List.{length-drop, take_all}
 use Rattle.fast_wire.specs.meaning.Integers.{unsigned_up_to}
