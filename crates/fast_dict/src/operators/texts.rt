@@ -167,10 +167,10 @@ pub fn joined(kind: Kind, text: &[u8]) -> Result<Outcome<'_>, Code>
 pub fn is_utf8(text: &[u8]) -> bool
     ensures { result ≡ is_utf8 text.now }
 {
-    if text.len() < 16 {
+    if text.len() < 24 {
         return str::from_utf8(text).is_ok();
     }
-    simdutf8::basic::from_utf8(text).is_ok()
+    simdutf8::is_utf8(text)
 }
 
 /// The text of a value, empty if it has none.
