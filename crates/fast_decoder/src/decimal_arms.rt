@@ -152,8 +152,8 @@ impl<'t> Machine<'t> {
         }
     }
 
-    /// A decimal by parts: both parts at once, or nothing of it. Mostly its exponent is under default or copy, and its mantissa,
-    /// which is mandatory, under delta.
+    /// A decimal by parts: both parts at once, or nothing of it. Mostly its exponent is under default or copy, and its
+    /// mantissa, which is mandatory, under delta.
     #[inline(always)]
     pub fn parts_arm<S: Sink>(
         &mut self,

@@ -1,7 +1,7 @@
-//! Decimals of one field, both of whose units stand in the piece whole: an exponent of one byte, or its delta, and the mantissa
-//! behind it.
+//! Decimals of one field, both of whose units stand in the piece whole: an exponent of one byte, or its delta, and the
+//! mantissa behind it.
 //!
-//! They are called out of line, with numbers and slices alone: inlined, their many words cost the other fields' arms more registers
+//! They are called out of line, with numbers and slices alone: inlined, they cost the loop's other arms more registers
 //! than the calls cost.
 //!
 //! `None` stands for all else, faults included: nothing has changed then, and the general way finds out.

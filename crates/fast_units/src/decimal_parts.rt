@@ -1,5 +1,5 @@
-//! Exponents and mantissas of decimals by parts, which stand in the piece whole, or of which nothing is sent. They are looked
-//! at first and kept later: a mantissa that is not taken leaves the exponent's entry as it is.
+//! Exponents and mantissas of decimals by parts, which stand in the piece whole, or of which nothing is sent. They are
+//! looked at first and kept later: a mantissa that is not taken leaves the exponent's entry as it is.
 //!
 //! `None` stands for all else, faults included: the general way finds out. In an answer, `None` is absent.
 
@@ -106,7 +106,8 @@ fn known_exponent(slots: &Slots, field: &FieldInstruction, bit: bool) -> Option<
     }
 }
 
-/// An exponent and the bytes that it takes, one or none: in its range, or absent. The bit is its presence bit, set if it has none.
+/// An exponent and the bytes that it takes, one or none: in its range, or absent. The bit is its presence bit, set if it
+/// has none.
 #[inline(always)]
 pub fn exponent_part(
     slots: &Slots,
@@ -127,7 +128,7 @@ pub fn exponent_part(
     Some((known, 0))
 }
 
-/// An exponent under default or copy, and the bytes that it takes: one that is sent, or none. It is in its range, or absent.
+/// The same of an exponent under default or copy.
 #[inline(always)]
 pub fn usual_exponent(
     slots: &Slots,
@@ -142,8 +143,8 @@ pub fn usual_exponent(
     ensures within { IfSome result (λ r. IfSome r.0 (IsWithin exponent_range)) }
 {
     if bit {
-        let sent = short_exponent(rest, field.optional)?;
-        return Some((sent, 1));
+        let exponent = short_exponent(rest, field.optional)?;
+        return Some((exponent, 1));
     }
     let known = known_exponent(slots, field, bit)?;
     Some((known, 0))
@@ -281,10 +282,10 @@ pub fn changed_part(slots: &Slots, entry: u32, rest: &[u8], strict: bool) -> Opt
     ensures { IfSome result (λ r. (field : FieldInstruction) → IsDeltaMantissa field entry
         → IsPartBy true field true strict rest.now slots.now (Some r.0) r.1) }
 {
-    let (number, bytes) = whole_mantissa(rest, strict)?;
+    let (delta, bytes) = whole_mantissa(rest, strict)?;
     match slots.held(entry as usize) {
         Entry::Int64(base) => {
-            let sum = base.checked_add(number)?;
+            let sum = base.checked_add(delta)?;
             Some((sum, bytes))
         }
         _ => None,

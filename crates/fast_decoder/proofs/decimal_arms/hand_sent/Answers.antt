@@ -1,6 +1,6 @@
 -- The bytes, and the turn behind them.
-use Rattle.std.proofs.Common.{refl, sym, ap, ◌∙◌, subst, inl, inr, arith, rules}
-use Rattle.std.specs.Prelude.{◌≡◌, ◌≢◌, ◌⊎◌, ℕ, zero, suc, ◌+◌, ◌<◌, drop, Ok, Err, option_map}
+use Rattle.std.proofs.Common.{refl, sym, ap, ◌∙◌, subst, inr}
+use Rattle.std.specs.Prelude.{ℕ, ◌+◌, drop, Ok, Err, option_map}
 use Rattle.std.proofs.lemmas.List.{take_rest}
 use Rattle.fast_value.specs.meaning.Limits.{bounds}
 use Rattle.fast_value.specs.meaning.Values.{scalar_data}
@@ -8,13 +8,11 @@ use Rattle.fast_dict.specs.meaning.Slots.{slots_dictionary}
 use Rattle.fast_stream.specs.declared.faults.FaultCode.{FaultCode}
 use Rattle.fast_stream.specs.device.GrammarReaders.{reader_of}
 use Rattle.fast_cursor.specs.device.Places.{at_place}
-use Rattle.fast_decoder.specs.declared.machine.Turn.{Turn}
-use Rattle.fast_decoder.specs.declared.machine.Turn.TheVariants.{Silent, Handed, Waits}
 use Rattle.fast_decoder.specs.device.Moving.{Moves}
 use Rattle.fast_decoder.specs.device.Parts.{IsLedTo}
 use Rattle.fast_decoder.specs.device.Passing.{value_then}
 use Rattle.fast_decoder.specs.device.Positions.{going_on}
-use Rattle.fast_decoder.proofs.arms.Led.{led_went, led_took, led_stopped}
+use Rattle.fast_decoder.proofs.arms.Led.{led_took, led_stopped}
 use Rattle.fast_decoder.proofs.decimal_arms.hand_sent.Goals as goal
 
 pub returns-in-Ok : goal.returns-in-Ok

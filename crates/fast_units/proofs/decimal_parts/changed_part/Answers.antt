@@ -16,13 +16,13 @@ use Rattle.fast_units.proofs.decimal_parts.changed_part.Goals as goal
 pub returns-in_ok-sum-in-Int64 : goal.returns-in_ok-sum-in-Int64
 returns-in_ok-sum-in-Int64 c = λ field is.
     let base = to_z w64 (of_z w64 c.in-Int64.base) in
-    let j = to_z w64 (of_z w64 c.in_ok-number.number) in
+    let j = to_z w64 (of_z w64 c.in_ok-delta.delta) in
     let sum = to_z w64 (of_z w64 c.in_ok-sum-in-Int64.sum) in
-    let fits : FitsSigned w64 c.in_ok-number.number = search rules in
+    let fits : FitsSigned w64 c.in_ok-delta.delta = search rules in
     let within : IsWithin (signed_range 63) sum = search rules in
     let own : previous_at (Some c.args.entry) (slots_dictionary c.args.slots.now) ≡ assigned Int64 (I base) = search rules in
     let summed : base +ℤ j ≡ sum = search rules in
-    part_changed field c.args.strict c.args.rest.now c.args.slots.now base j sum c.in_ok-number.bytes
+    part_changed field c.args.strict c.args.rest.now c.args.slots.now base j sum c.in_ok-delta.bytes
     is.kind is.delta is.mandatory (ap (λ e. previous_at e (slots_dictionary c.args.slots.now)) is.entry ∙ own) summed within
-    (delta_first c.args.strict c.args.rest.now j c.in_ok-number.bytes
-    (subst (λ (y : ℤ). IsFirstInt (λ z. Some z) c.args.strict (signed_range 63) false (First.Whole y c.in_ok-number.bytes) c.args.rest.now) (sym (again w64 c.in_ok-number.number fits)) c.in_ok-number.ensures))
+    (delta_first c.args.strict c.args.rest.now j c.in_ok-delta.bytes
+    (subst (λ (y : ℤ). IsFirstInt (λ z. Some z) c.args.strict (signed_range 63) false (First.Whole y c.in_ok-delta.bytes) c.args.rest.now) (sym (again w64 c.in_ok-delta.delta fits)) c.in_ok-delta.ensures))

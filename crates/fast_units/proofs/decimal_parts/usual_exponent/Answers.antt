@@ -8,14 +8,14 @@ use Rattle.fast_units.proofs.decimal_parts.usual_exponent.Goals as goal
 
 pub returns-then-bit : goal.returns-then-bit
 returns-then-bit c =
-    let x = c.in_ok-sent.sent in
+    let x = c.in_ok-exponent.exponent in
     let field = c.args.field.now in
     record {
       part = λ strict.
           subst (λ (b : Bool). IsPartBy b field c.args.bit strict c.args.rest.now c.args.slots.now x 1) (sym (usual_sent field c.args.bit true c.requires.usual c.if-bit.true))
           (part_whole field strict c.args.rest.now c.args.slots.now Int32 x 1 c.requires.kind refl (exponent_sent x) (usual_no_delta field c.requires.usual) (usual_no_constant field c.requires.usual)
-          (exponent_first strict field.optional c.args.rest.now x 1 (c.in_ok-sent.ensures strict)));
-      within = (c.in_ok-sent.ensures true).1.fits;
+          (exponent_first strict field.optional c.args.rest.now x 1 (c.in_ok-exponent.ensures strict)));
+      within = (c.in_ok-exponent.ensures true).1.fits;
     }
 
 pub known_exponent-requires-clause-no_bytes : goal.known_exponent-requires-clause-no_bytes
