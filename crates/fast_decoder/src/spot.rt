@@ -1,6 +1,6 @@
 //! Where the machine's loop stands, apart from the machine, so that the compiler keeps it in registers.
 
-ghost use Rattle.std.specs.Prelude.{◌≡◌, ◌≢◌, ◌⊎◌, ◌<◌, ◌≤◌, ℕ, Bool, true, false, length, drop, OnOk, Ok, None, IfOk, IfErr, option_map};
+ghost use Rattle.std.specs.Prelude.{◌≡◌, ◌≢◌, ◌⊎◌, ◌<◌, ◌≤◌, ℕ, Bool, true, false, length, drop, OnOk, Ok, IfErr, option_map};
 ghost use Rattle.fast_value.specs.meaning.Limits.{Bounds};
 ghost use Rattle.fast_value.specs.meaning.Values.{scalar_data};
 ghost use Rattle.fast_tree.specs.meaning.Tree.{FieldData, uses_bit};
@@ -131,8 +131,6 @@ pub fn pass_value<S: Sink>(
     ensures past { (c : CursorData) → OnOk result (IsPast (at_place c place.old) (at_place c place.new)) }
     ensures place { (c : CursorData) → IsPlaceOf c place.old → IsPlaceOf c place.new }
     ensures on { result ≢ Ok Turn.Waits }
-    ensures handed { value.entry ≢ None → IfOk result (λ turn. turn ≡ Turn.Handed) }
-    ensures silent { value.entry ≡ None → IfOk result (λ turn. turn ≡ Turn.Silent) }
     ensures stopped { IfErr result (λ code. code ≡ FaultCode.SinkStopped) }
 {
     match value {
@@ -195,15 +193,17 @@ pub fn hand_unsent<S: Sink>(
 {
     *turns = Turns::after(turns);
     let node = u32::from(node);
-    // with a value and without one each have a way of their own, which ends in a constant answer
     match value {
-        Some(_) => match pass_value(&mut spot.place, node, has_bit, value, sink) {
-            Ok(_) => Went::Handed,
-            Err(_) => Went::Stopped,
-        },
-        None => match pass_value(&mut spot.place, node, has_bit, value, sink) {
-            Ok(_) => Went::Silent,
-            Err(_) => Went::Stopped,
-        },
+        Some(value) => {
+            if let Err(_) = hand(sink, Event::Field { node, value }) {
+                return Went::Stopped;
+            }
+            spot.place.pass(has_bit);
+            Went::Handed
+        }
+        None => {
+            spot.place.pass(has_bit);
+            Went::Silent
+        }
     }
 }
