@@ -149,6 +149,7 @@ impl<'t> Machine<'t> {
             'events: loop {
                 'silent: loop {
                     let op = self.op_at(templates, limits, &spot.place);
+                    // an arm, with what all of them take and what is constant for the code
                     macro_rules! arm {
                         ($arm:ident, $operator:ident, $optional:literal) => {
                             arm!($arm, Operator::$operator, $optional)
