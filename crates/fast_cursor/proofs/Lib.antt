@@ -5,3 +5,5 @@ pub mod Runs
 pub mod MapWords
 pub mod MapBytes
 pub mod Nexts
+pub mod MapMarks
+pub mod NextBits

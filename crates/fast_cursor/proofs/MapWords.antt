@@ -5,26 +5,29 @@ use Rattle.std.proofs.lemmas.List.{drop_all, drop-drop, take-append-drop, length
 use Rattle.std.proofs.lemmas.Bool.{cases_lt, le-leb}
 use Rattle.std.proofs.lemmas.Nat.{pow-add, pow_pos, mul-mod_first, shl_whole}
 use Rattle.std.proofs.lemmas.Grind.{flat_map-append}
-use Rattle.std.proofs.Math.Nat.{mul-lt-mul_of_pos_right, add-mul, mul_assoc, mod-lt, pow-suc}
+use Rattle.std.proofs.Math.Nat.{mul-le-mul_left, mul-le-mul_right, add-mul, suc-mul, mul_assoc, add_assoc, mod-lt, pow-suc, pow-succ'}
 use Rattle.fast_wire.specs.meaning.Entities.{number}
-use Rattle.fast_wire.specs.meaning.Maps.{map_limit, bits, seven_bits, later_bits}
+use Rattle.fast_wire.specs.meaning.Maps.{bits, seven_bits, later_bits}
 use Rattle.fast_wire.proofs.numbers.Judging.{power_of_128}
 use Rattle.fast_wire.proofs.numbers.Numbers.{number-lt}
-use Rattle.fast_cursor.specs.device.MapPlaces.{HasTop, IsPlace, used_bits}
-use Rattle.fast_cursor.specs.declared.map_place.MapPlace.{MapPlace}
-use Rattle.fast_cursor.proofs.MapBits.{length-bits, later-drop}
-
--- behind the last bit
-pub top-zeros : (n : ℕ) → HasTop n 0 []
-top-zeros zero = tt
-top-zeros (suc n) = (refl, top-zeros n)
-
--- a place behind the last bit
-pub top-past : (n at : ℕ) (bs : List Bool) → length bs ≤ at → HasTop n 0 (drop at bs)
-top-past n at bs h = subst (HasTop n 0) (sym (drop_all at bs h)) (top-zeros n)
+use Rattle.fast_cursor.specs.device.MapPlaces.{HasTop}
 
 low-test : (word : ℕ) → word < 9223372036854775808 → nat_le 9223372036854775808 word ≡ false
 low-test word h = search (rules, h)
+
+-- behind the last bit
+pub top-zeros : (n word : ℕ) → word * 2 ^ n ≡ 9223372036854775808 → HasTop n word []
+top-zeros zero word e = omega (arith, e)
+top-zeros (suc n) word e =
+    let twice : word * 2 * 2 ^ n ≡ 9223372036854775808 = let f = pow-succ' 2 n in mul_assoc word 2 (2 ^ n) ∙ ap (λ x. word * x) (sym f) ∙ e in
+    let some : 0 < 2 ^ n = pow_pos n in
+    let small : word * 2 * 1 ≤ word * 2 * 2 ^ n = mul-le-mul_left (word * 2) some in
+    let same : word * 2 ≡ word * 2 % 18446744073709551616 = omega (arith, small, twice) in
+    (low-test word (omega (arith, small, twice)), subst (λ w. HasTop n w []) same (top-zeros n (word * 2) twice))
+
+-- a place behind the last bit
+pub top-past : (at : ℕ) (bs : List Bool) → length bs ≤ at → HasTop 56 128 (drop at bs)
+top-past at bs h = subst (HasTop 56 128) (sym (drop_all at bs h)) (top-zeros 56 128 refl)
 
 -- one bit before others
 top-bit : (n word d y : ℕ) (bs : List Bool) → d < 2 → word ≡ d * 9223372036854775808 + y → y < 9223372036854775808 → HasTop n (y * 2) bs → HasTop (suc n) word (nat_eq d 1 ∷ bs)
@@ -55,43 +58,57 @@ top-byte n z b bs small h =
     (top-bit n (((b % 2) * 4611686018427387904 + 32 * z) * 2) (b / 1 % 2) (64 * z) bs (omega arith) (omega arith) (omega arith) last))))))
 
 -- the bits of some bytes before others
-top-bytes : (w : List ℕ) (m : ℕ) (bs : List Bool) → length w ≤ 8 → HasTop m 0 bs → HasTop (7 * length w + m) (number w * 2 ^ (64 - 7 * length w)) (bits w ++ bs)
-top-bytes [] m bs l h = let e : m ≡ 0 + m = omega arith in subst (λ n. HasTop n 0 bs) e h
-top-bytes (b ∷ w) m bs l h =
+top-bytes : (w : List ℕ) (m c : ℕ) (bs : List Bool) → length w ≤ 8 → c < 2 ^ (64 - 7 * length w) → HasTop m (c * 2 ^ (7 * length w)) bs → HasTop (7 * length w + m) (number w * 2 ^ (64 - 7 * length w) + c) (bits w ++ bs)
+top-bytes [] m c bs l low h =
+    let e : m ≡ 0 + m = omega arith in
+    let f : c * 2 ^ (7 * 0) ≡ 0 * 2 ^ (64 - 7 * 0) + c = omega arith in
+    subst (λ x. HasTop (0 + m) x bs) f (subst (λ n. HasTop n (c * 2 ^ (7 * 0)) bs) e h)
+top-bytes (b ∷ w) m c bs l low h =
     let k : ℕ = length w in
     let p : ℕ = 2 ^ (57 - 7 * k) in
-    let z : ℕ = number w * p in
+    let z : ℕ = number w * p + c in
     let more : 64 - 7 * k ≡ 7 + (57 - 7 * k) = omega arith in
     let wide : 2 ^ (64 - 7 * k) ≡ 128 * p = ap (λ n. 2 ^ n) more ∙ pow-add 2 7 (57 - 7 * k) in
     let here : 64 - 7 * suc k ≡ 57 - 7 * k = omega arith in
+    let below : c < p = subst (λ n. c < 2 ^ n) here low in
     let all : 7 * k + (57 - 7 * k) ≡ 57 = omega arith in
     let whole : 128 ^ k * p ≡ 144115188075855872 = ap (λ x. x * p) (power_of_128 k) ∙ sym (pow-add 2 (7 * k) (57 - 7 * k)) ∙ ap (λ n. 2 ^ n) all in
-    let small : z < 128 ^ k * p = mul-lt-mul_of_pos_right (number-lt w) (pow_pos (57 - 7 * k)) in
-    let value : number (b ∷ w) * 2 ^ (64 - 7 * suc k) ≡ (b % 128) * 144115188075855872 + z
-    = ap (λ n. number (b ∷ w) * 2 ^ n) here ∙ add-mul ((b % 128) * 128 ^ k) (number w) p
-    ∙ ap (λ x. x + z) (mul_assoc (b % 128) (128 ^ k) p ∙ ap (λ x. (b % 128) * x) whole) in
-    let next : number w * 2 ^ (64 - 7 * k) ≡ z * 128 = let e = mul_assoc (number w) p 128 in let f : 128 * p ≡ p * 128 = omega arith in ap (λ x. number w * x) (wide ∙ f) ∙ sym e in
-    let rest : HasTop (7 * k + m) (z * 128) (bits w ++ bs) = subst (λ x. HasTop (7 * k + m) x (bits w ++ bs)) next (top-bytes w m bs (omega arith) h) in
+    let room : suc (number w) * p ≤ 128 ^ k * p = mul-le-mul_right p (number-lt w) in
+    let one : suc (number w) * p ≡ number w * p + p = suc-mul (number w) p in
+    let small : z < 144115188075855872 = omega (arith, room, one, whole, below) in
+    let value : number (b ∷ w) * 2 ^ (64 - 7 * suc k) + c ≡ (b % 128) * 144115188075855872 + z
+    = ap (λ n. number (b ∷ w) * 2 ^ n + c) here ∙ ap (λ x. x + c) (add-mul ((b % 128) * 128 ^ k) (number w) p
+    ∙ ap (λ x. x + number w * p) (mul_assoc (b % 128) (128 ^ k) p ∙ ap (λ x. (b % 128) * x) whole)) ∙ add_assoc ((b % 128) * 144115188075855872) (number w * p) c in
+    let front : number w * 2 ^ (64 - 7 * k) ≡ number w * p * 128 = let e = mul_assoc (number w) p 128 in let f : 128 * p ≡ p * 128 = omega arith in ap (λ x. number w * x) (wide ∙ f) ∙ sym e in
+    let next : number w * 2 ^ (64 - 7 * k) + c * 128 ≡ z * 128 = omega (arith, front) in
+    let up : 7 * suc k ≡ 7 + 7 * k = omega arith in
+    let moved : c * 2 ^ (7 * suc k) ≡ c * 128 * 2 ^ (7 * k) = ap (λ n. c * 2 ^ n) up ∙ ap (λ x. c * x) (pow-add 2 7 (7 * k)) ∙ sym (mul_assoc c 128 (2 ^ (7 * k))) in
+    let rest : HasTop (7 * k + m) (z * 128) (bits w ++ bs) = subst (λ x. HasTop (7 * k + m) x (bits w ++ bs)) next (top-bytes w m (c * 128) bs (omega arith) (omega (arith, wide, below)) (subst (λ x. HasTop m x bs) moved h)) in
     let count : suc (suc (suc (suc (suc (suc (suc (7 * k + m))))))) ≡ 7 * suc k + m = omega arith in
     subst (λ x. HasTop (7 * suc k + m) x (bits (b ∷ w) ++ bs)) (sym value)
-    (subst (λ n. HasTop n ((b % 128) * 144115188075855872 + z) (bits (b ∷ w) ++ bs)) count (top-byte (7 * k + m) z b (bits w ++ bs) (omega (arith, small, whole)) rest))
+    (subst (λ n. HasTop n ((b % 128) * 144115188075855872 + z) (bits (b ∷ w) ++ bs)) count (top-byte (7 * k + m) z b (bits w ++ bs) small rest))
 
 -- the word of up to eight bytes, behind which others are only if they are eight
-pub top-word : (w : List ℕ) (sum word : ℕ) (rest : List Bool) → length w ≤ 8 → sum ≡ number w → word ≡ (sum * 2 ^ (56 - 7 * length w) % 2 ^ 64) * 2 ^ 8 % 2 ^ 64 → (length w < 8 → rest ≡ []) → HasTop 56 word (bits w ++ rest)
+pub top-word : (w : List ℕ) (sum word : ℕ) (rest : List Bool) → length w ≤ 8 → sum ≡ number w → word ≡ (sum * 2 ^ (56 - 7 * length w) % 2 ^ 64) * 2 ^ 8 % 2 ^ 64 + 128 → (length w < 8 → rest ≡ []) → HasTop 56 word (bits w ++ rest)
 top-word w sum word rest l e is none =
     let k : ℕ = length w in
     let m : ℕ = 56 - 7 * k in
     let count : 7 * k + m ≡ 56 = omega arith in
     let more : 64 - 7 * k ≡ m + 8 = omega arith in
     let fits : number w < 2 ^ (7 * k) = subst (λ x. number w < x) (power_of_128 k) (number-lt w) in
-    let value : word ≡ number w * 2 ^ (64 - 7 * k)
-    = is ∙ mul-mod_first (sum * 2 ^ m) (2 ^ 8) (2 ^ 64) ∙ ap (λ x. x % 2 ^ 64) (mul_assoc sum (2 ^ m) (2 ^ 8) ∙ ap (λ x. sum * x) (sym (pow-add 2 m 8)) ∙ ap (λ n. sum * 2 ^ n) (sym more) ∙ ap (λ s. s * 2 ^ (64 - 7 * k)) e)
-    ∙ shl_whole (number w) (7 * k) (64 - 7 * k) 64 fits (omega arith) in
-    let behind : HasTop m 0 rest = elim (cases_lt k 8) [
-      | inl h ↦ subst (HasTop m 0) (sym (none h)) (top-zeros m)
-      | inr h ↦ let nought : 0 ≡ m = omega (arith, h) in subst (λ n. HasTop n 0 rest) nought tt
+    let value : word ≡ number w * 2 ^ (64 - 7 * k) + 128
+    = is ∙ ap (λ x. x + 128) (mul-mod_first (sum * 2 ^ m) (2 ^ 8) (2 ^ 64) ∙ ap (λ x. x % 2 ^ 64) (mul_assoc sum (2 ^ m) (2 ^ 8) ∙ ap (λ x. sum * x) (sym (pow-add 2 m 8)) ∙ ap (λ n. sum * 2 ^ n) (sym more) ∙ ap (λ s. s * 2 ^ (64 - 7 * k)) e)
+    ∙ shl_whole (number w) (7 * k) (64 - 7 * k) 64 fits (omega arith)) in
+    let room : 128 < 2 ^ (64 - 7 * k) = let wide : 2 ^ (64 - 7 * k) ≡ 2 ^ m * 256 = ap (λ n. 2 ^ n) more ∙ pow-add 2 m 8 in let some = pow_pos m in omega (arith, wide, some) in
+    let mark : 128 * 2 ^ (7 * k) * 2 ^ m ≡ 9223372036854775808 = mul_assoc 128 (2 ^ (7 * k)) (2 ^ m) ∙ ap (λ x. 128 * x) (sym (pow-add 2 (7 * k) m) ∙ ap (λ n. 2 ^ n) count) in
+    let behind : HasTop m (128 * 2 ^ (7 * k)) rest = elim (cases_lt k 8) [
+      | inl h ↦ subst (HasTop m (128 * 2 ^ (7 * k))) (sym (none h)) (top-zeros m (128 * 2 ^ (7 * k)) mark)
+      | inr h ↦
+          let nought : m ≡ 0 = omega (arith, h) in
+          let top : 128 * 2 ^ (7 * k) ≡ 9223372036854775808 = let one = subst (λ n. 128 * 2 ^ (7 * k) * 2 ^ n ≡ 9223372036854775808) nought mark in omega (arith, one) in
+          subst (λ n. HasTop n (128 * 2 ^ (7 * k)) rest) (sym nought) top
     ] in
-    subst (λ x. HasTop 56 x (bits w ++ rest)) (sym value) (subst (λ n. HasTop n (number w * 2 ^ (64 - 7 * k)) (bits w ++ rest)) count (top-bytes w m rest l behind))
+    subst (λ x. HasTop 56 x (bits w ++ rest)) (sym value) (subst (λ n. HasTop n (number w * 2 ^ (64 - 7 * k) + 128) (bits w ++ rest)) count (top-bytes w m 128 rest l room behind))
 
 -- whole bytes are left out
 pub bits-drop : (w : List ℕ) (n : ℕ) → drop (7 * n) (bits w) ≡ bits (drop n w)
@@ -135,62 +152,3 @@ top-left map end left word e l fits h =
     let at : 7 * (end - 8) + (56 - left) ≡ 7 * end - left = omega arith in
     subst (HasTop left (word * 2 ^ (56 - left) % 18446744073709551616)) (drop-drop (56 - left) (7 * (end - 8)) (bits map) ∙ ap (λ n. drop n (bits map)) at)
     (top-shift (56 - left) left word (drop (7 * (end - 8)) (bits map)) fits (subst (λ n. HasTop n word (drop (7 * (end - 8)) (bits map))) count h))
-
--- the place whose word is that of the eight bytes before its end, of which bits are shifted out
-pub place-shifted : (map : List ℕ) (end left word : ℕ) → length map ≤ map_limit → 0 < length map → 8 ≤ end → left ≤ 56 → 0 < left → word < 18446744073709551616 → HasTop 56 word (drop (7 * (end - 8)) (bits map))
-    → IsPlace map (record { len = length map; word = word * 2 ^ (56 - left) % 18446744073709551616; left = left; end = end })
-place-shifted map end left word short here e l some fits h = record {
-  counted = record { short = short; few = l; ends = λ _. e; none = λ n. absurd (omega (arith, n, here)) };
-  some = some;
-  word = top-left map end left word e l fits h;
-}
-
--- the place whose word is that of the eight bytes before its end
-pub place-whole : (map : List ℕ) (len end word : ℕ) → len ≤ map_limit → 0 < len → 8 ≤ end → HasTop 56 word (drop (7 * (end - 8)) (bits map)) → IsPlace map (record { len = len; word = word; left = 56; end = end })
-place-whole map len end word short here e h =
-    let at : 7 * (end - 8) ≡ 7 * end - 56 = omega arith in
-    record {
-      counted = record { short = short; few = omega arith; ends = λ _. e; none = λ n. absurd (omega (arith, n, here)) };
-      some = omega arith;
-      word = subst (λ n. HasTop 56 word (drop n (bits map))) at h;
-    }
-
--- Eight bytes further on the next bit is the same. The count of bytes stays where it can't go on, which is behind the last one.
-pub next-word : (map : List ℕ) (end left next : ℕ) → length map ≤ map_limit → left ≡ 0 → next ≡ min (end + 8) 65535 → drop (7 * next - 56) (bits map) ≡ drop (7 * end - left) (bits map)
-next-word map end left next short none e =
-    let len : length (bits map) ≡ 7 * length map = length-bits map in
-    elim (cases_lt 65535 (end + 8)) [
-      | inl h ↦ drop_all (7 * next - 56) (bits map) (omega (arith, h)) ∙ sym (drop_all (7 * end - left) (bits map) (omega (arith, h)))
-      | inr h ↦ let same : 7 * next - 56 ≡ 7 * end - left = omega (arith, h) in ap (λ n. drop n (bits map)) same
-    ]
-
--- no map
-pub place-none : IsPlace [] (record { word = 0; left = 1; end = 0; len = 0 })
-place-none = record {
-  counted = record { short = omega arith; few = omega arith; ends = λ h. absurd (omega (arith, h)); none = λ _. refl };
-  some = omega arith;
-  word = top-zeros 1;
-}
-
--- one bit more is used
-pub place-later : (map : List ℕ) (p : MapPlace) → length map ≤ p.len → IsPlace map p → drop (7 * p.end - (p.left - 1)) (bits map) ≡ later_bits (drop (used_bits p) (bits map))
-place-later map p short s =
-    let few : p.left ≤ 56 = s.counted.few in
-    let some : 0 < p.left = s.some in
-    let len : length (bits map) ≡ 7 * length map = length-bits map in
-    elim (cases_lt 0 p.len) [
-      | inl h ↦ let ends : 8 ≤ p.end = s.counted.ends h in let next : 7 * p.end - (p.left - 1) ≡ suc (7 * p.end - p.left) = omega arith in
-          ap (λ n. drop n (bits map)) next ∙ sym (later-drop (bits map) (7 * p.end - p.left))
-      | inr h ↦ drop_all (7 * p.end - (p.left - 1)) (bits map) (omega (arith, h)) ∙ sym (drop_all (suc (7 * p.end - p.left)) (bits map) (omega (arith, h))) ∙ sym (later-drop (bits map) (7 * p.end - p.left))
-    ]
-
-pub place-used : (map : List ℕ) (p : MapPlace) → length map ≤ p.len → IsPlace map p → 0 < p.left - 1 → IsPlace map (record { len = p.len; word = p.word * 2 % 18446744073709551616; left = p.left - 1; end = p.end })
-place-used map p short s more =
-    let few : p.left ≤ 56 = s.counted.few in
-    let count : p.left ≡ suc (p.left - 1) = omega arith in
-    let top : HasTop (suc (p.left - 1)) p.word (drop (used_bits p) (bits map)) = subst (λ n. HasTop n p.word (drop (used_bits p) (bits map))) count s.word in
-    record {
-      counted = record { short = s.counted.short; few = omega arith; ends = s.counted.ends; none = s.counted.none };
-      some = more;
-      word = subst (HasTop (p.left - 1) (p.word * 2 % 18446744073709551616)) (sym (place-later map p short s)) top.1;
-    }

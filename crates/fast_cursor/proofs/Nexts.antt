@@ -58,7 +58,7 @@ next-is i d r n s e one is mark more f fs front =
 
 pub goes_on : (i : Inside) (d : CursorData) (r g : Frame) (n depth : ℕ) → IsCursor i → cursor_data i ≡ d → i.level ≡ n + 1 → r ≡ get_or i.frames.items n r → 0 < r.is_element → 0 < r.more
     → g ≡ record r { more = r.more - 1 } → depth ≡ length i.frames.items → (f : FrameData) (fs : List FrameData) → d.frames ≡ f ∷ fs
-    → record { ops = i.ops.now; frames = frames_on i.ops.now i.maps.items 0 (take i.level (set i.frames.items n g)) []; left = run_at i.ops.now r.start; map = []; used = 0; depth = depth } ≡ gone_on d f fs (next_of f.elements)
+    → record { ops = i.ops.now; frames = frames_on i.ops.now i.maps.items 0 (take i.level (set i.frames.items n g)) []; left = run_at i.ops.now r.start; map = []; used = 0; ends = 8; depth = depth } ≡ gone_on d f fs (next_of f.elements)
 goes_on i d r g n depth s e one is mark more same size f fs front =
     let within : i.level ≤ length i.frames.items = s.within in
     let starts : i.start ≡ map_limit * i.level = s.starts in
@@ -78,5 +78,5 @@ goes_on i d r g n depth s e one is mark more same size f fs front =
     ∙ ap (λ y. y ∷ frames_on i.ops.now i.maps.items 0 (take n i.frames.items) []) inner
     ∙ ap (λ l. record f { elements = Some x } ∷ l) (sym rest) in
     let now : gone_on d f fs (next_of f.elements) ≡ gone_on d f fs (Some x) = ap (gone_on d f fs) (next-is i d r n s e one is mark more f fs front) in
-    let here : record { ops = i.ops.now; frames = frames_on i.ops.now i.maps.items 0 (take i.level (set i.frames.items n g)) []; left = run_at i.ops.now r.start; map = []; used = 0; depth = depth } ≡ gone_on d f fs (Some x) = cc in
+    let here : record { ops = i.ops.now; frames = frames_on i.ops.now i.maps.items 0 (take i.level (set i.frames.items n g)) []; left = run_at i.ops.now r.start; map = []; used = 0; ends = 8; depth = depth } ≡ gone_on d f fs (Some x) = cc in
     here ∙ sym now

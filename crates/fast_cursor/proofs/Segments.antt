@@ -12,7 +12,7 @@ use Rattle.fast_cursor.specs.declared.cursor.Elements.{Elements}
 use Rattle.fast_cursor.specs.declared.cursor.Frame.{Frame}
 use Rattle.fast_cursor.specs.declared.map_place.MapPlace.{MapPlace}
 use Rattle.fast_cursor.specs.declared.cursor.Cursor.TheInside.{Inside}
-use Rattle.fast_cursor.specs.device.MapPlaces.{used_bits, IsPlace}
+use Rattle.fast_cursor.specs.device.MapPlaces.{used_at, IsPlace}
 use Rattle.fast_cursor.specs.device.Segments.{map_at, frame_data, frames_on, ArePlaces, elements_data, frame_elements, cursor_data, IsCursor}
 
 -- each frame is there
@@ -39,7 +39,7 @@ pub frames-within : (ops : List Op) (cells others : List ℕ) (start : ℕ) (fs 
     → frames_on ops cells start fs outer ≡ frames_on ops others start fs outer
 frames-within ops cells others start [] outer n short h e = refl
 frames-within ops cells others start (f ∷ fs) outer n short h e =
-    let here : f.map.len ≤ map_limit = short.0.counted.short in
+    let here : f.map.len ≤ map_limit = short.0.short in
     let same : map_at cells start f.map.len ≡ map_at others start f.map.len = map-within cells others start f.map.len n (omega arith) e in
     let front : frame_data ops cells start f ≡ frame_data ops others start f = cc in
     ap (λ d. frames_on ops cells (start + map_limit) fs (d ∷ outer)) front
@@ -49,7 +49,7 @@ frames-within ops cells others start (f ∷ fs) outer n short h e =
 pub places-within : (cells others : List ℕ) (start : ℕ) (fs : List Frame) (n : ℕ) → ArePlaces cells start fs → start + map_limit * length fs ≤ n → take n cells ≡ take n others → ArePlaces others start fs
 places-within cells others start [] n short h e = tt
 places-within cells others start (f ∷ fs) n short h e =
-    let here : f.map.len ≤ map_limit = short.0.counted.short in
+    let here : f.map.len ≤ map_limit = short.0.short in
     let same : map_at cells start f.map.len ≡ map_at others start f.map.len = map-within cells others start f.map.len n (omega arith) e in
     (subst (λ m. IsPlace m f.map) same short.0, places-within cells others (start + map_limit) fs n short.1 (omega arith) e)
 
@@ -70,6 +70,10 @@ places-pop cells start (g ∷ gs) f all =
 -- no more bytes than have come
 pub length-map : (cells : List ℕ) (start len : ℕ) → length (map_at cells start len) ≤ len
 length-map cells start len = let e = length-take len (drop start cells) in omega (arith, e)
+
+-- as many as have come
+pub map-is : (cells : List ℕ) (start len : ℕ) → start + len ≤ length cells → length (map_at cells start len) ≡ len
+map-is cells start len h = let e = length-drop start cells in length-take-le len (drop start cells) (omega (arith, e, h))
 
 -- a frame for each open segment
 pub length-open : (i : Inside) → IsCursor i → length (cursor_data i).frames ≡ i.level
@@ -99,14 +103,14 @@ places-more cells fs n start f h e all here =
 -- A segment begins where a frame is written.
 pub entered-is : (i : Inside) (d : CursorData) (elements : Option Elements) (start : ℕ) (f : Frame) (depth : ℕ) → IsCursor i → cursor_data i ≡ d → i.level < length i.frames.items → depth ≡ length i.frames.items
     → f.map ≡ i.map → f.after ≡ i.ip → frame_elements f ≡ elements
-    → record { ops = i.ops.now; frames = frames_on i.ops.now i.maps.items 0 (take (i.level + 1) (set i.frames.items i.level f)) []; left = run_at i.ops.now start; map = []; used = 0; depth = depth } ≡ entered d (option_map (elements_data d.ops) elements) (run_at d.ops start)
+    → record { ops = i.ops.now; frames = frames_on i.ops.now i.maps.items 0 (take (i.level + 1) (set i.frames.items i.level f)) []; left = run_at i.ops.now start; map = []; used = 0; ends = 8; depth = depth } ≡ entered d (option_map (elements_data d.ops) elements) (run_at d.ops start)
 entered-is i d elements start f depth s e h k map after same =
-    subst (λ (c : CursorData). record { ops = i.ops.now; frames = frames_on i.ops.now i.maps.items 0 (take (i.level + 1) (set i.frames.items i.level f)) []; left = run_at i.ops.now start; map = []; used = 0; depth = depth } ≡ entered c (option_map (elements_data c.ops) elements) (run_at c.ops start)) e
+    subst (λ (c : CursorData). record { ops = i.ops.now; frames = frames_on i.ops.now i.maps.items 0 (take (i.level + 1) (set i.frames.items i.level f)) []; left = run_at i.ops.now start; map = []; used = 0; ends = 8; depth = depth } ≡ entered c (option_map (elements_data c.ops) elements) (run_at c.ops start)) e
     (let more : frames_on i.ops.now i.maps.items 0 (take (i.level + 1) (set i.frames.items i.level f)) [] ≡ frame_data i.ops.now i.maps.items i.start f ∷ frames_on i.ops.now i.maps.items 0 (take i.level i.frames.items) []
     = frames-more i.ops.now i.maps.items i.frames.items i.level i.start f h s.starts in
     let here : frame_data i.ops.now i.maps.items i.start f ≡ frame_here (cursor_data i) (option_map (elements_data i.ops.now) elements)
     = ap (λ n. record (frame_data i.ops.now i.maps.items i.start f) { after = run_at i.ops.now n }) after
-    ∙ ap (λ (m : MapPlace). record { after = run_at i.ops.now i.ip; map = map_at i.maps.items i.start m.len; used = used_bits m; elements = option_map (elements_data i.ops.now) (frame_elements f) }) map
+    ∙ ap (λ (m : MapPlace). record { after = run_at i.ops.now i.ip; map = map_at i.maps.items i.start m.len; used = used_at (map_at i.maps.items i.start m.len) m.end m.word; ends = m.end; elements = option_map (elements_data i.ops.now) (frame_elements f) }) map
     ∙ ap (λ x. frame_here (cursor_data i) (option_map (elements_data i.ops.now) x)) same in
     cc)
 
@@ -128,7 +132,7 @@ places-less cells fs n start f h e is all =
 
 -- The innermost segment is whole, and what its frame says goes on.
 pub left-is : (i : Inside) (d : CursorData) (r : Frame) (n : ℕ) → IsCursor i → cursor_data i ≡ d → i.level ≡ n + 1 → r ≡ get_or i.frames.items n r → (f : FrameData) (fs : List FrameData) → d.frames ≡ f ∷ fs
-    → (record { ops = i.ops.now; frames = frames_on i.ops.now i.maps.items 0 (take n i.frames.items) []; left = run_at i.ops.now r.after; map = map_at i.maps.items (i.start - map_limit) r.map.len; used = used_bits r.map; depth = length i.frames.items } ≡ left_to d f fs)
+    → (record { ops = i.ops.now; frames = frames_on i.ops.now i.maps.items 0 (take n i.frames.items) []; left = run_at i.ops.now r.after; map = map_at i.maps.items (i.start - map_limit) r.map.len; used = used_at (map_at i.maps.items (i.start - map_limit) r.map.len) r.map.end r.map.word; ends = r.map.end; depth = length i.frames.items } ≡ left_to d f fs)
     × (option_map (elements_data d.ops) (frame_elements r) ≡ f.elements)
 left-is i d r n s e one is f fs front =
     let within : i.level ≤ length i.frames.items = s.within in
@@ -165,15 +169,16 @@ filled maps old cells start k room same size h len =
     }
 
 -- Only the innermost map has changed.
-pub only-map : (i : Inside) (d : CursorData) (now map : List ℕ) (used : ℕ) → IsCursor i → cursor_data i ≡ d → take i.start now ≡ take i.start i.maps.items → used ≡ used_bits i.map
-    → record { ops = i.ops.now; frames = frames_on i.ops.now now 0 (take i.level i.frames.items) []; left = run_at i.ops.now i.ip; map = map; used = used; depth = length i.frames.items } ≡ record d { map = map }
-only-map i d now map used s e before same =
+pub only-map : (i : Inside) (d : CursorData) (now map : List ℕ) (used ends : ℕ) → IsCursor i → cursor_data i ≡ d → take i.start now ≡ take i.start i.maps.items → used ≡ (cursor_data i).used → ends ≡ i.map.end
+    → record { ops = i.ops.now; frames = frames_on i.ops.now now 0 (take i.level i.frames.items) []; left = run_at i.ops.now i.ip; map = map; used = used; ends = ends; depth = length i.frames.items } ≡ record d { map = map }
+only-map i d now map used ends s e before same end =
     let len : length (take i.level i.frames.items) ≡ i.level = length-take-le i.level i.frames.items s.within in
     let starts : i.start ≡ map_limit * i.level = s.starts in
     let frames : frames_on i.ops.now now 0 (take i.level i.frames.items) [] ≡ frames_on i.ops.now i.maps.items 0 (take i.level i.frames.items) []
     = sym (frames-within i.ops.now i.maps.items now 0 (take i.level i.frames.items) [] i.start s.around (omega arith) (sym before)) in
-    ap (λ n. record { ops = i.ops.now; frames = frames_on i.ops.now now 0 (take i.level i.frames.items) []; left = run_at i.ops.now i.ip; map = map; used = n; depth = length i.frames.items }) same
-    ∙ ap (λ fs. record { ops = i.ops.now; frames = fs; left = run_at i.ops.now i.ip; map = map; used = used_bits i.map; depth = length i.frames.items }) frames
+    ap (λ n. record { ops = i.ops.now; frames = frames_on i.ops.now now 0 (take i.level i.frames.items) []; left = run_at i.ops.now i.ip; map = map; used = n; ends = ends; depth = length i.frames.items }) same
+    ∙ ap (λ n. record { ops = i.ops.now; frames = frames_on i.ops.now now 0 (take i.level i.frames.items) []; left = run_at i.ops.now i.ip; map = map; used = (cursor_data i).used; ends = n; depth = length i.frames.items }) end
+    ∙ ap (λ fs. record { ops = i.ops.now; frames = fs; left = run_at i.ops.now i.ip; map = map; used = (cursor_data i).used; ends = i.map.end; depth = length i.frames.items }) frames
     ∙ ap (λ (c : CursorData). record c { map = map }) e
 
 -- The places of the frames are the same.
@@ -190,15 +195,23 @@ cells-there i s = let within = s.within in let starts = s.starts in let cells = 
 -- the bytes of the innermost map, where its cells were lent
 pub map-lent : (i : Inside) (d : CursorData) (old : List ℕ) (k : ℕ) → IsCursor i → cursor_data i ≡ d → old ≡ i.maps.items → k ≡ map_limit → take i.map.len (take k (drop i.start old)) ≡ d.map
 map-lent i d old k s e same size =
-    let short : i.map.len ≤ k = let h = s.place.counted.short in omega arith in
+    let short : i.map.len ≤ k = let h = s.place.short in omega arith in
     take-take i.map.len k (drop i.start old) short ∙ ap (λ l. map_at l i.start i.map.len) same ∙ ap (λ (c : CursorData). c.map) e
 
-pub map-count : (i : Inside) (d : CursorData) → IsCursor i → cursor_data i ≡ d → length d.map ≡ i.map.len
-map-count i d s e =
+pub inner-count : (i : Inside) → IsCursor i → length (map_at i.maps.items i.start i.map.len) ≡ i.map.len
+inner-count i s =
     let there : i.start + map_limit ≤ length i.maps.items = cells-there i s in
-    let short : i.map.len ≤ map_limit = s.place.counted.short in
-    let behind = length-drop i.start i.maps.items in
-    ap (λ (c : CursorData). length c.map) (sym e) ∙ length-take-le i.map.len (drop i.start i.maps.items) (omega (arith, behind))
+    let short : i.map.len ≤ map_limit = s.place.short in
+    map-is i.maps.items i.start i.map.len (omega (arith, there, short))
+
+pub map-count : (i : Inside) (d : CursorData) → IsCursor i → cursor_data i ≡ d → length d.map ≡ i.map.len
+map-count i d s e = ap (λ (c : CursorData). length c.map) (sym e) ∙ inner-count i s
+
+-- Of a map that has not come no bit is used.
+pub unused : (i : Inside) → IsCursor i → i.map.len ≡ 0 → ((cursor_data i).used ≡ 0) × (i.map.end ≡ 8)
+unused i s none =
+    let map : map_at i.maps.items i.start i.map.len ≡ [] = ap (map_at i.maps.items i.start) none in
+    (ap (λ w. used_at w i.map.end i.map.word) map, s.place.is.none map)
 
 -- The cells that were lent come back.
 pub map-back : (i : Inside) (old cells : List ℕ) (k : ℕ) → IsCursor i → old ≡ i.maps.items → k ≡ map_limit → length cells ≡ length (take k (drop i.start old))

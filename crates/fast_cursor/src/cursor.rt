@@ -14,7 +14,7 @@ ghost use Rattle.fast_cursor.specs.device.Segments.{elements_data, frame_element
 ghost use Rattle.fast_cursor.specs.device.Places.{place_left, at_place, IsPlaceOf};
 ghost use Rattle.fast_cursor.specs.device.MapTaking.{IsMapTaken};
 
-use crate::map_place::{MapPlace, NO_MAP};
+use crate::map_place::{MapPlace, NO_MAP, SPENT};
 use crate::pending::{MapFront, next_map};
 use crate::place::Place;
 use fast_program::{Code, Op};
@@ -173,7 +173,7 @@ impl<'t> Cursor<'t> {
         Place {
             ops: self.ops,
             ip: self.ip,
-            map: self.map,
+            word: self.map.word,
         }
     }
 
@@ -184,7 +184,7 @@ impl<'t> Cursor<'t> {
         ensures { self.new ≡ at_place self.old place.entry }
     {
         self.ip = place.ip;
-        self.map = place.map;
+        self.map.word = place.word;
     }
 
     /// Takes the bytes of the innermost segment's map that a piece goes on with.
@@ -228,7 +228,7 @@ impl<'t> Cursor<'t> {
         ensures map { IsMapTaken self.old.map rest.now self.new.map result }
         ensures same { self.new ≡ record self.old { map = self.new.map } }
     {
-        let len = usize::from(self.map.len);
+        let len = self.map.len as usize;
         let cells = &mut self.maps[self.start..self.start + MAP_LIMIT];
         let front = next_map(cells, len, rest);
         let taken = match front {
@@ -265,7 +265,7 @@ impl<'t> Cursor<'t> {
     pub fn begin_message(&mut self, place: &mut Place<'t>, byte: u8, start: usize)
         requires place { IsPlaceOf self.old place.old }
         requires run { IsRun self.old.ops start }
-        ensures same { self.new ≡ record self.old { map = byte ∷ []; used = 0 } }
+        ensures same { self.new ≡ record self.old { map = byte ∷ []; used = 0; ends = 8 } }
         ensures at { at_place self.new place.new
             ≡ record self.new { left = run_at self.old.ops start; used = (at_place self.new place.new).used } }
         ensures bits { bits_left (at_place self.new place.new) ≡ later_bits (bits (byte ∷ [])) }
@@ -274,7 +274,7 @@ impl<'t> Cursor<'t> {
         self.maps[self.start] = byte;
         self.map = MapPlace::of_byte(byte);
         place.ip = start;
-        place.map = self.map;
+        place.word = self.map.word;
         place.use_bit();
     }
 
@@ -286,13 +286,13 @@ impl<'t> Cursor<'t> {
         ensures at { at_place self.now place.new ≡ record self.now { left = place_left place.old } }
         ensures place { IsPlaceOf self.now place.new }
     {
-        place.map = self.map;
+        place.word = self.map.word;
     }
 
     /// The innermost segment has no map.
     #[inline(always)]
     pub fn clear_map(&mut self)
-        ensures { self.new ≡ record self.old { map = []; used = 0 } }
+        ensures { self.new ≡ record self.old { map = []; used = 0; ends = 8 } }
     {
         self.map = NO_MAP;
     }
@@ -302,7 +302,7 @@ impl<'t> Cursor<'t> {
     pub fn map(&self) -> &[u8]
         ensures { result.now ≡ self.now.map }
     {
-        &self.maps[self.start..self.start + usize::from(self.map.len)]
+        &self.maps[self.start..self.start + self.map.len as usize]
     }
 
     /// How many they are.
@@ -310,7 +310,7 @@ impl<'t> Cursor<'t> {
     pub fn map_len(&self) -> usize
         ensures { result ≡ length self.now.map }
     {
-        usize::from(self.map.len)
+        self.map.len as usize
     }
 
     /// The next bit of the innermost segment. Behind the last one stand zeros for ever.
@@ -318,20 +318,22 @@ impl<'t> Cursor<'t> {
     pub fn bit(&self) -> bool
         ensures { result ≡ first_bit (bits_left self.now) }
     {
-        self.map.word >= 0x8000_0000_0000_0000
+        if self.map.word == SPENT {
+            return self.map.bit_behind(&self.maps, self.start);
+        }
+        self.map.word >= SPENT
     }
 
     /// Uses the next bit.
     #[inline(always)]
     pub fn use_bit(&mut self)
         ensures bits { bits_left self.new ≡ later_bits (bits_left self.old) }
-        ensures same { self.new ≡ record self.old { used = self.new.used } }
+        ensures same { self.new ≡ record self.old { used = self.new.used; ends = self.new.ends } }
     {
-        self.map.word <<= 1;
-        self.map.left -= 1;
-        if self.map.left == 0 {
+        if self.map.word == SPENT {
             self.map.refill(&self.maps, self.start);
         }
+        self.map.word <<= 1;
     }
 
     /// The next instruction's node, if one is left of the innermost segment.

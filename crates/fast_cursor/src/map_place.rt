@@ -2,8 +2,8 @@
 
 ghost use Rattle.std.specs.Prelude.{◌≡◌, ℕ, ◌+◌, ◌*◌, ◌<◌, ◌≤◌, List, [], ◌∷◌, ◌++◌, length, take, drop, Bool, vec_len};
 ghost use Rattle.fast_wire.specs.device.Words.{IsShortEntity};
-ghost use Rattle.fast_wire.specs.meaning.Maps.{map_limit, bits, later_bits};
-ghost use Rattle.fast_cursor.specs.device.MapPlaces.{HasTop, IsCounted, IsPlace, used_bits};
+ghost use Rattle.fast_wire.specs.meaning.Maps.{map_limit, bits, first_bit};
+ghost use Rattle.fast_cursor.specs.device.MapPlaces.{HasTop, left_in, used_at, IsPlace};
 ghost use Rattle.fast_cursor.specs.device.Segments.{map_at};
 
 use fast_wire::ShortEntity;
@@ -12,21 +12,25 @@ use fast_wire::ShortEntity;
 /// copied in two words.
 #[derive(Clone, Copy)]
 pub struct MapPlace {
-    /// The next bits, the first of them at the top, and zeros behind the last one of the map.
+    /// The next bits, the first of them at the top, and zeros behind the last one of the map. Behind those of eight bytes stands the
+    /// mark, a set bit with zeros behind it: where it is at the top, no bit is left.
     pub word: u64,
-    /// How many bits of the word count.
-    pub left: u32,
     /// The byte behind those whose bits are in the word.
-    pub end: u16,
+    pub end: u32,
     /// The bytes that have come.
-    pub len: u16,
+    pub len: u32,
 }
+
+/// The mark, where the 56 bits of eight bytes stand before it.
+const MARK: u64 = 0x80;
+
+/// The word of which no bit is left.
+pub const SPENT: u64 = 0x8000_0000_0000_0000;
 
 /// The place in a map that has not come.
 pub const NO_MAP: MapPlace = MapPlace {
-    word: 0,
-    left: 1,
-    end: 0,
+    word: MARK,
+    end: 8,
     len: 0,
 };
 
@@ -35,13 +39,13 @@ impl MapPlace {
     #[inline(always)]
     pub fn of_byte(byte: u8) -> MapPlace
         ensures place { IsPlace (byte ∷ []) result }
-        ensures used { used_bits result ≡ 0 }
+        ensures used { (map : List ℕ) → used_at map result.end result.word ≡ 0 }
+        ensures end { result.end ≡ 8 }
         ensures len { result.len ≡ 1 }
-        ensures left { result.left ≡ 56 }
+        ensures left { left_in result.word ≡ 56 }
     {
         MapPlace {
-            word: u64::from(byte) << 57,
-            left: 56,
+            word: (u64::from(byte) << 57) + MARK,
             end: 8,
             len: 1,
         }
@@ -52,40 +56,40 @@ impl MapPlace {
     pub fn of_entity(map: ShortEntity) -> MapPlace
         requires short { map.len ≤ 8 }
         ensures place { (w : List ℕ) → IsShortEntity map.number map.len w → IsPlace (take map.len w) result }
-        ensures used { used_bits result ≡ 0 }
+        ensures used { (map : List ℕ) → used_at map result.end result.word ≡ 0 }
+        ensures end { result.end ≡ 8 }
         ensures len { result.len ≡ map.len }
     {
         MapPlace {
-            word: map.number << (56 - 7 * map.len) << 8,
-            left: 56,
+            word: (map.number << (56 - 7 * map.len) << 8) + MARK,
             end: 8,
-            len: map.len as u16,
+            len: map.len as u32,
         }
     }
 
     /// The place in what the map has become, where no other bits are used.
     pub fn in_map(self, map: &[u8]) -> MapPlace
-        requires counted { IsCounted self }
-        requires some { 0 < self.left }
+        requires place { (front : List ℕ) × (length front ≡ self.len) × IsPlace front self }
         requires short { length map.now ≤ map_limit }
         requires more { self.len ≤ length map.now }
         ensures place { IsPlace map.now result }
-        ensures used { used_bits result ≡ used_bits self }
+        ensures used { (front : List ℕ) → length front ≡ self.len
+            → used_at map.now result.end result.word ≡ used_at front self.end self.word }
+        ensures end { result.end ≡ self.end }
         ensures len { result.len ≡ length map.now }
     {
         if map.is_empty() {
             return NO_MAP;
         }
-        let (left, end) = if self.len == 0 {
-            (56, 8)
+        let used = if self.len == 0 {
+            0
         } else {
-            (self.left, self.end)
+            self.word.trailing_zeros() - 7
         };
         MapPlace {
-            word: word_at(map, end - 8) << (56 - left),
-            left,
-            end,
-            len: map.len() as u16,
+            word: word_at(map, self.end - 8) << used,
+            end: self.end,
+            len: map.len() as u32,
         }
     }
 
@@ -94,54 +98,69 @@ impl MapPlace {
     #[cold]
     #[inline(never)]
     pub fn refill(&mut self, maps: &Vec<u8>, start: usize)
-        requires counted { IsCounted self.old }
-        requires spent { self.old.left ≡ 0 }
+        requires place { IsPlace (map_at maps.now.items start self.old.len) self.old }
+        requires spent { self.old.word ≡ 9223372036854775808 }
         requires cells { start + self.old.len ≤ vec_len maps.now }
         ensures place { IsPlace (map_at maps.now.items start self.old.len) self.new }
-        ensures bits { drop (used_bits self.new) (bits (map_at maps.now.items start self.old.len))
-            ≡ drop (used_bits self.old) (bits (map_at maps.now.items start self.old.len)) }
+        ensures bits { let map : List ℕ = map_at maps.now.items start self.old.len
+            in drop (used_at map self.new.end self.new.word) (bits map)
+            ≡ drop (used_at map self.old.end self.old.word) (bits map) }
+        ensures left { left_in self.new.word ≡ 56 }
         ensures len { self.new.len ≡ self.old.len }
     {
         *self = self.refilled(maps, start);
     }
 
+    /// The next bit, where none of the word is left.
+    #[cold]
+    #[inline(never)]
+    pub fn bit_behind(&self, maps: &Vec<u8>, start: usize) -> bool
+        requires place { IsPlace (map_at maps.now.items start self.now.len) self.now }
+        requires spent { self.now.word ≡ 9223372036854775808 }
+        requires cells { start + self.now.len ≤ vec_len maps.now }
+        ensures { let map : List ℕ = map_at maps.now.items start self.now.len
+            in result ≡ first_bit (drop (used_at map self.now.end self.now.word) (bits map)) }
+    {
+        self.refilled(maps, start).word >= SPENT
+    }
+
     /// The same place, where no bit of the word is left, with the next ones in it.
     fn refilled(self, maps: &Vec<u8>, start: usize) -> MapPlace
-        requires counted { IsCounted self }
-        requires spent { self.left ≡ 0 }
+        requires place { IsPlace (map_at maps.now.items start self.len) self }
+        requires spent { self.word ≡ 9223372036854775808 }
         requires cells { start + self.len ≤ vec_len maps.now }
         ensures place { IsPlace (map_at maps.now.items start self.len) result }
-        ensures bits { drop (used_bits result) (bits (map_at maps.now.items start self.len))
-            ≡ drop (used_bits self) (bits (map_at maps.now.items start self.len)) }
+        ensures bits { let map : List ℕ = map_at maps.now.items start self.len
+            in drop (used_at map result.end result.word) (bits map) ≡ drop (used_at map self.end self.word) (bits map) }
+        ensures left { left_in result.word ≡ 56 }
         ensures len { result.len ≡ self.len }
     {
         if self.len == 0 {
             return NO_MAP;
         }
-        let map = &maps[start..start + usize::from(self.len)];
+        let map = &maps[start..start + self.len as usize];
         let end = self.end.saturating_add(8);
         MapPlace {
             word: word_at(map, end - 8),
-            left: 56,
             end,
             len: self.len,
         }
     }
 }
 
-/// The bits of the eight bytes from a place on.
-fn word_at(map: &[u8], first: u16) -> u64
+/// The bits of the eight bytes from a place on, and the mark.
+fn word_at(map: &[u8], first: u32) -> u64
     ensures { HasTop 56 result (drop (7 * first) (bits map.now)) }
 {
-    let first = usize::from(first);
+    let first = first as usize;
     if first >= map.len() {
-        return 0;
+        return MARK;
     }
     let map = &map[first..];
     word_of(&map[..map.len().min(8)])
 }
 
-/// The bits of up to eight bytes, the first of them at the top.
+/// The bits of up to eight bytes, the first of them at the top, and the mark.
 fn word_of(bytes: &[u8]) -> u64
     requires { length bytes.now ≤ 8 }
     ensures { (rest : List Bool) → (length bytes.now < 8 → rest ≡ []) → HasTop 56 result (bits bytes.now ++ rest) }
@@ -150,5 +169,5 @@ fn word_of(bytes: &[u8]) -> u64
     for byte in bytes {
         sum = sum << 7 | u64::from(*byte & 0x7f);
     }
-    sum << (56 - 7 * bytes.len()) << 8
+    (sum << (56 - 7 * bytes.len()) << 8) + MARK
 }

@@ -1,15 +1,15 @@
 //! Where a cursor is in the innermost segment, apart from the cursor.
 
-ghost use Rattle.std.specs.Prelude.{◌≡◌, ◌+◌, ◌<◌, ◌≤◌, [], ◌∷◌, length, drop, true, false, if◌then◌else◌};
-ghost use Rattle.std.specs.Prelude.{Some, slice_get};
+ghost use Rattle.std.specs.Prelude.{◌≡◌, ◌↔◌, ◌+◌, ◌<◌, [], ◌∷◌, length, drop, true, false, if◌then◌else◌};
+ghost use Rattle.std.specs.Prelude.{IsTrue, Some, slice_get};
 ghost use Rattle.fast_wire.specs.meaning.Maps.{first_bit, later_bits};
 ghost use Rattle.fast_program.specs.device.Runs.{is_end};
 ghost use Rattle.fast_cursor.specs.device.Runs.{run_at, IsRun};
 ghost use Rattle.fast_cursor.specs.device.Cursors.{CursorData, bits_left};
 ghost use Rattle.fast_cursor.specs.device.Segments.{first_node};
-ghost use Rattle.fast_cursor.specs.device.Places.{place_left, at_place, IsPlaceOf};
+ghost use Rattle.fast_cursor.specs.device.Places.{place_left, at_place, HasBits, IsPlaceOf};
 
-use crate::map_place::MapPlace;
+use crate::map_place::SPENT;
 use fast_program::{Code, Op};
 
 /// Where a cursor is in the innermost segment. It stands apart from the cursor, so that a loop can keep it in registers.
@@ -19,8 +19,8 @@ pub struct Place<'t> {
     pub ops: &'t [Op],
     /// Where the next instruction stands in it.
     pub ip: usize,
-    /// The place in the segment's map.
-    pub map: MapPlace,
+    /// The next bits of the segment's map, as in a `MapPlace`.
+    pub word: u64,
 }
 
 impl<'t> Place<'t> {
@@ -71,27 +71,30 @@ impl<'t> Place<'t> {
         self.ip = start;
     }
 
-    /// The next bit. Behind the last one stand zeros for ever.
+    /// The next bit, where one is left in the word. Behind the last one stand zeros for ever. Of a word that is spent the answer is
+    /// the mark, and so true.
     #[inline(always)]
     pub fn bit(&self) -> bool
-        ensures { (c : CursorData) → IsPlaceOf c self.now → result ≡ first_bit (bits_left (at_place c self.now)) }
+        ensures clear { result ≡ false → HasBits self.now }
+        ensures is { (c : CursorData) → IsPlaceOf c self.now → HasBits self.now
+            → result ≡ first_bit (bits_left (at_place c self.now)) }
     {
-        self.map.word >= 0x8000_0000_0000_0000
+        self.word >= SPENT
     }
 
-    /// Whether the next bit is the last one in the word: then the cursor has to use it, for other bytes of the map may be behind.
+    /// Whether no bit is left in the word: then the cursor has to use the next one, for other bytes of the map may be behind.
     #[inline(always)]
     pub fn is_spent(&self) -> bool
-        ensures spent { result ≡ true → self.now.map.left ≤ 1 }
-        ensures more { result ≡ false → 1 < self.now.map.left }
+        ensures spent { IsTrue result ↔ (self.now.word ≡ 9223372036854775808) }
+        ensures more { result ≡ false → HasBits self.now }
     {
-        self.map.left < 2
+        self.word == SPENT
     }
 
-    /// Uses the next bit, where it is not the last one in the word.
+    /// Uses the next bit, where one is left in the word.
     #[inline(always)]
     pub fn use_bit(&mut self)
-        requires more { 1 < self.old.map.left }
+        requires more { HasBits self.old }
         ensures bits { (c : CursorData) → IsPlaceOf c self.old
             → bits_left (at_place c self.new) ≡ later_bits (bits_left (at_place c self.old)) }
         ensures same { (c : CursorData)
@@ -99,15 +102,14 @@ impl<'t> Place<'t> {
         ensures left { place_left self.new ≡ place_left self.old }
         ensures place { (c : CursorData) → IsPlaceOf c self.old → IsPlaceOf c self.new }
     {
-        self.map.word <<= 1;
-        self.map.left -= 1;
+        self.word <<= 1;
     }
 
-    /// Goes past the next instruction, which uses a bit or none. The bit is not the last one in the word.
+    /// Goes past the next instruction, which uses a bit that is left in the word, or none.
     #[inline(always)]
     pub fn pass(&mut self, has_bit: bool)
         requires left { 0 < length (place_left self.old) }
-        requires more { has_bit ≡ true → 1 < self.old.map.left }
+        requires more { has_bit ≡ true → HasBits self.old }
         ensures past { (c : CursorData) → at_place c self.new ≡ record (at_place c self.old) {
           left = drop 1 (at_place c self.old).left;
           used = (at_place c self.new).used;

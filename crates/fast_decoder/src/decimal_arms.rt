@@ -1,6 +1,6 @@
 //! Decimals in the machine's loop: of one field, or by parts.
 
-ghost use Rattle.std.specs.Prelude.{◌≡◌, ◌<◌, ◌≤◌, true, false, if◌then◌else◌, length, Some, IfSome, option_map};
+ghost use Rattle.std.specs.Prelude.{◌≡◌, ◌⊎◌, ◌<◌, ◌≤◌, true, false, if◌then◌else◌, length, Some, IfSome, option_map};
 ghost use Rattle.fast_wire.specs.meaning.Integers.{IsWithin, exponent_range};
 ghost use Rattle.fast_wire.specs.meaning.Maps.{first_bit, later_bits};
 ghost use Rattle.fast_value.specs.declared.settings.Limits.{Limits};
@@ -8,17 +8,17 @@ ghost use Rattle.fast_value.specs.meaning.Values.{scalar_data};
 ghost use Rattle.fast_tree.specs.meaning.Tree.{FieldData, uses_bit};
 ghost use Rattle.fast_tree.specs.device.Nodes.{field_data};
 ghost use Rattle.fast_cursor.specs.device.Cursors.{CursorData, bits_left};
-ghost use Rattle.fast_cursor.specs.device.Places.{place_left, at_place, IsPlaceOf};
+ghost use Rattle.fast_cursor.specs.device.Places.{place_left, at_place, IsPlaceOf, HasBits};
 ghost use Rattle.fast_units.specs.device.DecimalParts.{IsPart, IsUsualExponent};
 ghost use Rattle.fast_decoder.specs.declared.machine.Machine.{Machine};
 ghost use Rattle.fast_decoder.specs.declared.spot.Spot.{Spot};
 ghost use Rattle.fast_decoder.specs.device.Arms.{IsAtSpot, IsAtOp, IsFieldOp, HasWent};
-ghost use Rattle.fast_decoder.specs.device.Parts.{IsPartsOp, IsAtDecimal, IsLedTo, bit_at_place};
+ghost use Rattle.fast_decoder.specs.device.Parts.{IsPartsOp, IsChangedPartsOp, IsAtDecimal, IsLedTo, bit_at_place};
 ghost use Rattle.fast_decoder.specs.device.Positions.{Set, set_of};
 
 use crate::integer_arms::scalar_of;
 use crate::machine::{Machine, Turn};
-use crate::spot::{Spot, Standing, Went, hand_taken, pass_value, stands};
+use crate::spot::{Spot, Standing, Went, hand_taken, hand_unsent, pass_value, stands};
 use crate::turns::Turns;
 use fast_cursor::place::Place;
 use fast_program::Op;
@@ -29,6 +29,7 @@ use fast_units::decimal_parts::{
     changed_part, exponent_part, keep_exponent, keep_mantissa, keep_part, leaves_mantissa,
     mantissa_part, usual_exponent,
 };
+use fast_units::unsent_items::unsent_integer;
 use fast_value::{Kind, Limits, Scalar};
 
 impl<'t> Machine<'t> {
@@ -83,16 +84,19 @@ impl<'t> Machine<'t> {
     {
         match stands(&spot.place, true) {
             Standing::Spent => Went::Declined,
-            Standing::Unsent => self.unsent_integer_arm(
-                templates,
-                limits,
-                spot,
-                op,
+            Standing::Unsent => match unsent_integer(
+                &mut self.slots,
+                op.entry,
                 Kind::Decimal,
-                Operator::Copy,
                 optional,
-                sink,
-            ),
+                Operator::Copy,
+            ) {
+                Some(item) => {
+                    let value = scalar_of(item);
+                    hand_unsent(&mut self.turns, spot, op.node, true, value, sink)
+                }
+                None => Went::Declined,
+            },
             Standing::Sent => match copied_decimal(
                 &mut self.slots,
                 op.entry,
@@ -152,8 +156,7 @@ impl<'t> Machine<'t> {
         }
     }
 
-    /// A decimal by parts: both parts at once, or nothing of it. Mostly its exponent is under default or copy, and its
-    /// mantissa, which is mandatory, under delta.
+    /// A decimal by parts: both parts at once, or nothing of it.
     #[inline(always)]
     pub fn parts_arm<S: Sink>(
         &mut self,
@@ -172,14 +175,38 @@ impl<'t> Machine<'t> {
         let Shape::Decimal { exponent, mantissa } = &templates.node(u32::from(op.node)).shape else {
             return Went::Declined;
         };
-        match (exponent.operator, mantissa.operator) {
-            (Operator::Default | Operator::Copy, Operator::Delta) if !mantissa.optional =>
-                self.usual_parts_arm(templates, limits, spot, op.node, exponent, mantissa, sink),
-            _ => self.other_parts_arm(templates, limits, spot, op.node, exponent, mantissa, sink),
-        }
+        self.other_parts_arm(templates, limits, spot, op.node, exponent, mantissa, sink)
     }
 
-    /// An exponent under default or copy, and a mandatory mantissa under delta.
+    /// A decimal whose exponent is under default or copy, and whose mantissa is under delta and there.
+    #[inline(always)]
+    pub fn changed_parts_arm<S: Sink>(
+        &mut self,
+        templates: &'t Templates,
+        limits: Limits,
+        spot: &mut Spot<'t, '_>,
+        op: &Op,
+        operator: Operator,
+        optional: bool,
+        sink: &mut S,
+    ) -> Went
+        requires usual { (operator ≡ Operator.Default) ⊎ (operator ≡ Operator.Copy) }
+        requires spot { IsAtSpot (set_of templates.now) limits self.old spot.old.place }
+        requires at { IsAtOp (set_of templates.now) spot.old.place op.now }
+        requires parts { IsChangedPartsOp (set_of templates.now) op.now operator optional }
+        ensures went { HasWent S.takes S.stops (set_of templates.now) limits self.old spot.old sink.old result sink.new
+            self.new spot.new }
+    {
+        let Shape::Decimal { exponent, mantissa } = &templates.node(u32::from(op.node)).shape else {
+            return Went::Declined;
+        };
+        self.usual_parts_arm(
+            templates, limits, spot, op.node, op.entry, operator, optional, exponent, mantissa,
+            sink,
+        )
+    }
+
+    /// An exponent under default or copy, and a mandatory mantissa under delta, which has this entry.
     #[inline(always)]
     fn usual_parts_arm<S: Sink>(
         &mut self,
@@ -187,6 +214,9 @@ impl<'t> Machine<'t> {
         limits: Limits,
         spot: &mut Spot<'t, '_>,
         node: u16,
+        entry: u32,
+        operator: Operator,
+        optional: bool,
         exponent: &FieldInstruction,
         mantissa: &FieldInstruction,
         sink: &mut S,
@@ -194,20 +224,24 @@ impl<'t> Machine<'t> {
         requires decimal { IsAtDecimal (set_of templates.now) limits self.old spot.old.place node exponent.now
             mantissa.now }
         requires usual { IsUsualExponent exponent.now }
+        requires operator { exponent.now.operator ≡ operator }
+        requires optional { exponent.now.optional ≡ optional }
         requires delta { mantissa.now.operator ≡ Operator.Delta }
         requires mandatory { mantissa.now.optional ≡ false }
+        requires entry { mantissa.now.entry ≡ Some entry }
         ensures went { HasWent S.takes S.stops (set_of templates.now) limits self.old spot.old sink.old result sink.new
             self.new spot.new }
     {
         let Some(bit) = bit_at(&spot.place, true) else {
             return Went::Declined;
         };
-        let Some((part, used)) = usual_exponent(&self.slots, exponent, bit, spot.rest) else {
+        let read = usual_exponent(&self.slots, exponent, operator, optional, bit, spot.rest);
+        let Some((part, used)) = read else {
             return Went::Declined;
         };
         match part {
             Some(number) => self.changed_mantissa_arm(
-                templates, limits, spot, node, exponent, mantissa, bit, number, used, sink,
+                templates, limits, spot, node, entry, exponent, mantissa, bit, number, used, sink,
             ),
             None if used == 0 => hand_behind(&mut self.turns, spot, node, true, None, 0, sink),
             None => {
@@ -225,6 +259,7 @@ impl<'t> Machine<'t> {
         limits: Limits,
         spot: &mut Spot<'t, '_>,
         node: u16,
+        entry: u32,
         exponent: &FieldInstruction,
         mantissa: &FieldInstruction,
         bit: bool,
@@ -237,16 +272,14 @@ impl<'t> Machine<'t> {
         requires usual { IsUsualExponent exponent.now }
         requires delta { mantissa.now.operator ≡ Operator.Delta }
         requires mandatory { mantissa.now.optional ≡ false }
-        requires more { 1 < spot.old.place.map.left }
+        requires entry { mantissa.now.entry ≡ Some entry }
+        requires more { HasBits spot.old.place }
         requires bit { bit ≡ bit_at_place self.old.cursor spot.old.place (field_data exponent.now) }
         requires part { IsPart exponent.now bit limits.strict spot.old.rest.now self.old.slots (Some number) used }
         requires within { IsWithin exponent_range number }
         ensures went { HasWent S.takes S.stops (set_of templates.now) limits self.old spot.old sink.old result sink.new
             self.new spot.new }
     {
-        let Some(entry) = mantissa.entry else {
-            return Went::Declined;
-        };
         let behind = &spot.rest[used..];
         let Some((value, bytes)) = changed_part(&self.slots, entry, behind, limits.strict) else {
             return Went::Declined;
@@ -324,7 +357,7 @@ impl<'t> Machine<'t> {
     ) -> Went
         requires decimal { IsAtDecimal (set_of templates.now) limits self.old spot.old.place node exponent.now
             mantissa.now }
-        requires more { uses_bit (field_data exponent.now) ≡ true → 1 < spot.old.place.map.left }
+        requires more { uses_bit (field_data exponent.now) ≡ true → HasBits spot.old.place }
         requires bit { bit ≡ bit_at_place self.old.cursor spot.old.place (field_data exponent.now) }
         requires part { IsPart exponent.now bit limits.strict spot.old.rest.now self.old.slots (Some number) used }
         requires within { IsWithin exponent_range number }
@@ -381,7 +414,7 @@ fn hand_behind<S: Sink>(
     sink: &mut S,
 ) -> Went
     requires left { 0 < length (place_left spot.old.place) }
-    requires bit { has_bit ≡ true → 1 < spot.old.place.map.left }
+    requires bit { has_bit ≡ true → HasBits spot.old.place }
     requires within { bytes ≤ length spot.old.rest.now }
     ensures went { (set : Set) (l : Limits) (m m1 : Machine) (from : Spot) (f : FieldData) → has_bit ≡ uses_bit f
         → turns.old ≡ m.turns → from.rest.now ≡ spot.old.rest.now
@@ -416,7 +449,7 @@ fn hand_sent<S: Sink>(
     sink: &mut S,
 ) -> Went
     requires left { 0 < length (place_left spot.old.place) }
-    requires bit { has_bit ≡ true → 1 < spot.old.place.map.left }
+    requires bit { has_bit ≡ true → HasBits spot.old.place }
     requires some { 0 < bytes }
     requires within { bytes ≤ length spot.old.rest.now }
     ensures went { (set : Set) (l : Limits) (m m1 : Machine) (from : Spot) (f : FieldData) → has_bit ≡ uses_bit f
@@ -432,27 +465,30 @@ fn hand_sent<S: Sink>(
     }
 }
 
-/// The presence bit of the next instruction, which counts as set where there is none. Where it is the last one in the word, the
-/// general way has to use it.
+/// The presence bit of the next instruction, which counts as set where there is none. Where none is left in the word, the general way
+/// has to use it.
 #[inline(always)]
 fn bit_at(place: &Place<'_>, has_bit: bool) -> Option<bool>
     ensures bit { IfSome result (λ b. (c : CursorData) → IsPlaceOf c place.now
         → b ≡ if has_bit then first_bit (bits_left (at_place c place.now)) else true) }
-    ensures more { IfSome result (λ b. has_bit ≡ true → 1 < place.now.map.left) }
+    ensures more { IfSome result (λ b. has_bit ≡ true → HasBits place.now) }
 {
     if !has_bit {
         return Some(true);
     }
+    if !place.bit() {
+        return Some(false);
+    }
     if place.is_spent() {
         return None;
     }
-    Some(place.bit())
+    Some(true)
 }
 
 /// The place behind a bit, if there is one.
 #[inline(always)]
 fn behind_bit<'t>(place: Place<'t>, has_bit: bool) -> Place<'t>
-    requires more { has_bit ≡ true → 1 < place.map.left }
+    requires more { has_bit ≡ true → HasBits place }
     ensures bits { (c : CursorData) → IsPlaceOf c place.entry → bits_left (at_place c result)
         ≡ if has_bit then later_bits (bits_left (at_place c place.entry)) else bits_left (at_place c place.entry) }
     ensures left { place_left result ≡ place_left place.entry }

@@ -7,7 +7,7 @@ ghost use Rattle.fast_value.specs.meaning.Values.{scalar_data};
 ghost use Rattle.fast_wire.specs.meaning.Maps.{first_bit};
 ghost use Rattle.fast_tree.specs.meaning.Tree.{operator_uses_bit};
 ghost use Rattle.fast_cursor.specs.device.Cursors.{bits_left};
-ghost use Rattle.fast_cursor.specs.device.Places.{at_place};
+ghost use Rattle.fast_cursor.specs.device.Places.{at_place, HasBits};
 ghost use Rattle.fast_dict.specs.meaning.Operators.{range_of};
 ghost use Rattle.fast_units.specs.device.Deciding.{number_data};
 ghost use Rattle.fast_decoder.specs.device.Arms.{IsAtSpot, IsAtOp, IsFieldOp, HasWent};
@@ -205,7 +205,7 @@ impl<'t> Machine<'t> {
         sink: &mut S,
     ) -> Went
         requires uses { operator_uses_bit operator optional ≡ true }
-        requires more { 1 < spot.old.place.map.left }
+        requires more { HasBits spot.old.place }
         requires clear { first_bit (bits_left (at_place self.old.cursor spot.old.place)) ≡ false }
         requires no_constant { operator ≢ Operator.Constant }
         requires spot { IsAtSpot (set_of templates.now) limits self.old spot.old.place }
@@ -240,7 +240,7 @@ impl<'t> Machine<'t> {
         optional: bool,
         sink: &mut S,
     ) -> Went
-        requires more { 1 < spot.old.place.map.left }
+        requires more { HasBits spot.old.place }
         requires clear { first_bit (bits_left (at_place self.old.cursor spot.old.place)) ≡ false }
         requires spot { IsAtSpot (set_of templates.now) limits self.old spot.old.place }
         requires at { IsAtOp (set_of templates.now) spot.old.place op.now }

@@ -101,6 +101,33 @@ impl<'t> Machine<'t> {
         self.latest = number;
         Some((number, 1 + len))
     }
+
+    /// The template of the message that the piece goes on with, whose map is one byte, and how many bytes lead to its instructions: the
+    /// latest one's, if the first bit is clear, else the one whose identifier stands behind the map.
+    #[inline(always)]
+    pub fn next_message(
+        &mut self,
+        templates: &'t Templates,
+        limits: Limits,
+        rest: &[u8],
+    ) -> Option<(u32, usize)>
+        requires supplied { IsSupplied (set_of templates.now) limits self.old }
+        requires unused { self.old.entity.bytes ≡ [] }
+        ensures none { IfNone result (self.new ≡ self.old) }
+        ensures ahead { IfSome result (λ r. IsMessageAhead (set_of templates.now) limits
+            (slots_dictionary self.old.slots) (slots_dictionary self.new.slots) rest.now r.0 r.1) }
+        ensures same { self.new ≡ record self.old { slots = self.new.slots; latest = self.new.latest } }
+        ensures terms { slots_terms self.new.slots ≡ slots_terms self.old.slots }
+    {
+        if rest.is_empty() || rest[0] < 0x80 {
+            return None;
+        }
+        if rest[0] < 0xc0 {
+            let number = self.latest_again(templates)?;
+            return Some((number, 1));
+        }
+        self.sent_message(templates, limits, rest)
+    }
 }
 
 /// Among so few templates a walk is the shortest way to one.

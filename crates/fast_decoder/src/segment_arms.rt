@@ -182,16 +182,7 @@ impl<'t> Machine<'t> {
             → self.old.turns.count ≡ m.turns.count + 1 → S.takes s MessageEnd sink.old
             → HasWent S.takes S.stops (set_of templates.now) limits m spot.old s result sink.new self.new spot.new }
     {
-        if spot.rest.is_empty() || spot.rest[0] < 0x80 {
-            return self.no_message(spot);
-        }
-        if spot.rest[0] < 0xc0 {
-            let Some(number) = self.latest_again(templates) else {
-                return self.no_message(spot);
-            };
-            return self.message_begins(templates, limits, number, 1, spot, sink);
-        }
-        let Some((number, bytes)) = self.sent_message(templates, limits, spot.rest) else {
+        let Some((number, bytes)) = self.next_message(templates, limits, spot.rest) else {
             return self.no_message(spot);
         };
         self.message_begins(templates, limits, number, bytes, spot, sink)
@@ -208,7 +199,7 @@ impl<'t> Machine<'t> {
         ensures place { IsPlaceOf self.new.cursor spot.new.place }
         ensures at { placed self.new spot.new.place ≡ record (placed self.old spot.old.place) {
           waiting = Waiting.Map;
-          cursor = record (at_place self.old.cursor spot.old.place) { map = []; used = 0 };
+          cursor = record (at_place self.old.cursor spot.old.place) { map = []; used = 0; ends = 8 };
         } }
     {
         self.wait_for_message();
@@ -217,6 +208,7 @@ impl<'t> Machine<'t> {
     }
 
     /// Waits for the map of a message.
+    #[cold]
     #[inline(never)]
     fn wait_for_message(&mut self)
         ensures { self.new ≡ record self.old { waiting = Waiting.Map; cursor = resting self.old.cursor } }
@@ -379,13 +371,13 @@ impl<'t> Machine<'t> {
         if !optional {
             return self.enter_arm(templates, limits, spot, node, start, sink);
         }
-        if spot.place.is_spent() {
-            return Went::Declined;
-        }
         if !spot.place.bit() {
             self.turns = Turns::after(&self.turns);
             spot.place.pass(true);
             return Went::Silent;
+        }
+        if spot.place.is_spent() {
+            return Went::Declined;
         }
         spot.place.use_bit();
         self.enter_arm(templates, limits, spot, node, start, sink)

@@ -61,7 +61,7 @@ fn unsent_seldom(
 }
 
 /// Hands an event over.
-#[inline]
+#[inline(always)]
 pub fn hand<S: Sink>(sink: &mut S, event: Event<'_>) -> Result<(), FaultCode>
     ensures { MatchResult result (λ _. S.takes sink.old (event_data event.entry) sink.new)
         (λ code. (code ≡ FaultCode.SinkStopped) × S.stops sink.old (event_data event.entry) sink.new) }
@@ -306,7 +306,12 @@ impl<'t> Machine<'t> {
         ensures bits { bits_left self.new.cursor
             ≡ if uses_bit (field_data field.now) then later_bits (bits_left self.old.cursor)
             else bits_left self.old.cursor }
-        ensures same { self.new ≡ record self.old { cursor = record self.old.cursor { used = self.new.cursor.used } } }
+        ensures same { self.new ≡ record self.old {
+          cursor = record self.old.cursor {
+            used = self.new.cursor.used;
+            ends = self.new.cursor.ends;
+          };
+        } }
     {
         if field.uses_bit() {
             self.cursor.use_bit();

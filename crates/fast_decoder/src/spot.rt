@@ -7,7 +7,7 @@ ghost use Rattle.fast_tree.specs.meaning.Tree.{FieldData, uses_bit};
 ghost use Rattle.fast_dict.specs.meaning.Dictionary.{Dictionary};
 ghost use Rattle.fast_cursor.specs.device.Cursors.{CursorData, bits_left};
 ghost use Rattle.fast_wire.specs.meaning.Maps.{first_bit};
-ghost use Rattle.fast_cursor.specs.device.Places.{place_left, at_place, IsPlaceOf};
+ghost use Rattle.fast_cursor.specs.device.Places.{place_left, at_place, IsPlaceOf, HasBits};
 ghost use Rattle.fast_stream.specs.device.GrammarReaders.{reader_of};
 ghost use Rattle.fast_stream.specs.device.Readers.{Reader};
 ghost use Rattle.fast_stream.specs.declared.faults.FaultCode.{FaultCode};
@@ -87,7 +87,7 @@ pub enum Standing {
     Sent,
     /// Its bit is clear.
     Unsent,
-    /// Its bit is the last one in the word: the general way has to use it.
+    /// No bit is left in the word: the general way has to use the next one.
     Spent,
 }
 
@@ -98,18 +98,18 @@ pub fn stands(place: &Place<'_>, has_bit: bool) -> Standing
         → (has_bit ≡ false) ⊎ (first_bit (bits_left (at_place c place.now)) ≡ true) }
     ensures unsent { result ≡ Standing.Unsent → (has_bit ≡ true) × ((c : CursorData) → IsPlaceOf c place.now
         → first_bit (bits_left (at_place c place.now)) ≡ false) }
-    ensures more { result ≢ Standing.Spent → has_bit ≡ true → 1 < place.now.map.left }
+    ensures more { result ≢ Standing.Spent → has_bit ≡ true → HasBits place.now }
 {
     if !has_bit {
         return Standing::Sent;
     }
+    if !place.bit() {
+        return Standing::Unsent;
+    }
     if place.is_spent() {
         return Standing::Spent;
     }
-    if place.bit() {
-        return Standing::Sent;
-    }
-    Standing::Unsent
+    Standing::Sent
 }
 
 /// Goes past the next instruction, a field whose value is at hand, or absent, and hands the value over.
@@ -122,7 +122,7 @@ pub fn pass_value<S: Sink>(
     sink: &mut S,
 ) -> Result<Turn, FaultCode>
     requires left { 0 < length (place_left place.old) }
-    requires bit { has_bit ≡ true → 1 < place.old.map.left }
+    requires bit { has_bit ≡ true → HasBits place.old }
     ensures moves { (set : Set) (l : Bounds) (strict : Bool) (waits : Reader Dictionary) (d : Dictionary) (counted : ℕ)
         (c : CursorData) (f : FieldData) → IsPlaceOf c place.old → has_bit ≡ uses_bit f → Moves S.takes S.stops
         (reader_of strict (value_then set l node (option_map scalar_data value.entry) f d counted
@@ -158,7 +158,7 @@ pub fn hand_taken<S: Sink>(
     sink: &mut S,
 ) -> Went
     requires left { 0 < length (place_left spot.old.place) }
-    requires bit { has_bit ≡ true → 1 < spot.old.place.map.left }
+    requires bit { has_bit ≡ true → HasBits spot.old.place }
     requires within { bytes ≤ length spot.old.rest.now }
     ensures went { (set : Set) (l : Limits) (m m1 : Machine) (f : FieldData) → has_bit ≡ uses_bit f
         → turns.old ≡ m.turns → IsFieldTaken set l m m1 spot.old node f (option_map scalar_data value.entry) bytes
@@ -184,7 +184,7 @@ pub fn hand_unsent<S: Sink>(
     sink: &mut S,
 ) -> Went
     requires left { 0 < length (place_left spot.old.place) }
-    requires bit { has_bit ≡ true → 1 < spot.old.place.map.left }
+    requires bit { has_bit ≡ true → HasBits spot.old.place }
     ensures went { (set : Set) (l : Limits) (m m1 : Machine) (f : FieldData) (bit : Bool) → has_bit ≡ uses_bit f
         → turns.old ≡ m.turns
         → IsFieldUnsent set l m m1 spot.old.place node f bit (option_map scalar_data value.entry)

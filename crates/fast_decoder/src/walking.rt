@@ -40,7 +40,8 @@ impl<'t> Machine<'t> {
         place.op()
     }
 
-    /// A step in the general way.
+    /// A step in the general way. It is marked as cold so that the loop's registers are given out by what the arms want.
+    #[cold]
     #[inline(never)]
     fn general_step<S: Sink>(
         &mut self,
@@ -207,6 +208,10 @@ impl<'t> Machine<'t> {
                         Code::DecimalDelta => arm!(changed_decimal_arm, false),
                         Code::DecimalNullableDelta => arm!(changed_decimal_arm, true),
                         Code::Parts => arm!(parts_arm),
+                        Code::PartsDefault => arm!(changed_parts_arm, Default, false),
+                        Code::PartsNullableDefault => arm!(changed_parts_arm, Default, true),
+                        Code::PartsCopy => arm!(changed_parts_arm, Copy, false),
+                        Code::PartsNullableCopy => arm!(changed_parts_arm, Copy, true),
                         Code::AsciiPlain => arm!(ascii_arm, None, false),
                         Code::AsciiNullablePlain => arm!(ascii_arm, None, true),
                         Code::AsciiDefault => arm!(ascii_arm, Default, false),

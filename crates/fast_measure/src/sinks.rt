@@ -33,6 +33,7 @@ impl Count {
     }
 
     /// What a value is folded as.
+    #[inline(always)]
     fn folded(value: Scalar<'_>) -> u64 {
         match value {
             Scalar::U(number) => number,
@@ -62,6 +63,7 @@ impl Sink for Count {
 
     ghost stops = { λ _ _ _. ⊥ };
 
+    #[inline(always)]
     fn take(&mut self, event: Event<'_>) -> Result<(), Stop> {
         self.tally.events = self.tally.events.wrapping_add(1);
         if let Event::Field { node: _, value } = event {
@@ -81,6 +83,7 @@ const PRIME: u64 = 0x0000_0100_0000_01b3;
 const SPREAD: u64 = 0x9e37_79b9_7f4a_7c15;
 
 /// The word that stands for a kind of event and a node.
+#[inline(always)]
 fn key(kind: u64, node: u32) -> u64 {
     (node as u64)
         .wrapping_mul(16)
@@ -89,7 +92,11 @@ fn key(kind: u64, node: u32) -> u64 {
 }
 
 /// At most eight bytes as a word, the first byte lowest.
+#[inline(always)]
 fn word_of(bytes: &[u8]) -> u64 {
+    if let Some(word) = bytes.first_chunk::<8>() {
+        return u64::from_le_bytes(*word);
+    }
     let mut word: u64 = 0;
     for byte in bytes.iter().rev() {
         word = (word << 8) | (*byte as u64);
@@ -116,11 +123,13 @@ impl Check {
 }
 
 /// The checksum with one more word.
+#[inline(always)]
 fn with_word(sum: u64, word: u64) -> u64 {
     (sum ^ word).wrapping_mul(PRIME)
 }
 
 /// The checksum with a text, eight bytes a word and the last word filled with zeros, behind a word for its length.
+#[inline(never)]
 fn with_text(sum: u64, kind: u64, node: u32, text: &[u8]) -> u64 {
     let mut sum = with_word(sum, key(kind, node).wrapping_add(text.len() as u64));
     for bytes in text.chunks(8) {
@@ -135,6 +144,7 @@ pub fn with_bytes(bytes: &[u8]) -> u64 {
 }
 
 /// The checksum with a field's value.
+#[inline(always)]
 fn with_field(sum: u64, node: u32, value: Scalar<'_>) -> u64 {
     match value {
         Scalar::U(number) => with_word(sum, key(2, node).wrapping_add(number)),
@@ -162,6 +172,7 @@ impl Sink for Check {
 
     ghost stops = { λ _ _ _. ⊥ };
 
+    #[inline(always)]
     fn take(&mut self, event: Event<'_>) -> Result<(), Stop> {
         self.tally.events = self.tally.events.wrapping_add(1);
         let sum = self.tally.sum;

@@ -6,7 +6,7 @@ use Rattle.std.proofs.Props.{props}
 use Rattle.std.proofs.Math.Logic.{∥∥₁_elim, ∥∥₁_map}
 use Rattle.fast_value.specs.declared.kinds.Kind.{Kind}
 use Rattle.fast_tree.specs.declared.operators.Operator.{Operator}
-use Rattle.fast_tree.specs.declared.operators.Operator.TheVariants.{None as no_operator, Constant as constant}
+use Rattle.fast_tree.specs.declared.operators.Operator.TheVariants.{None as no_operator, Constant as constant, Delta}
 use Rattle.fast_tree.specs.declared.instructions.FieldInstruction.{FieldInstruction}
 use Rattle.fast_tree.specs.declared.instructions.Shape.{Shape}
 use Rattle.fast_tree.specs.declared.instructions.Shape.TheVariants.{Field, Decimal as by_parts, Group as a_group, Sequence as a_sequence}
@@ -16,7 +16,7 @@ use Rattle.fast_program.specs.device.Ops.{IsOpOf}
 use Rattle.fast_program.specs.declared.codes.Code.{Code}
 use Rattle.fast_program.specs.declared.codes.Code.TheVariants.{End}
 use Rattle.fast_program.specs.device.Runs.{is_end}
-use Rattle.fast_program.specs.device.Codes.{Claim, says, IsCoded, anything, never, field_of, constant_field, decimal_parts, group_of, sequence_of, IsFieldCoded, IsConstantCoded, IsPartsCoded, IsGroupCoded, IsSequenceCoded, IsClaimed}
+use Rattle.fast_program.specs.device.Codes.{Claim, says, IsCoded, anything, never, field_of, constant_field, decimal_parts, changed_parts, group_of, sequence_of, IsFieldCoded, IsConstantCoded, IsPartsCoded, IsChangedPartsCoded, IsGroupCoded, IsSequenceCoded, IsClaimed}
 
 -- a field's facts, of the field itself
 abbrev IsField : Kind → Operator → Bool → ℕ → FieldInstruction → Type 0
@@ -54,6 +54,24 @@ parts_again (by_parts e m) h = (e, m, refl)
 parts_again (a_group own body) h = absurd (∥∥₁_elim h (hlevel props) (λ x. let e = x.2 in cc))
 parts_again (a_sequence length body) h = absurd (∥∥₁_elim h (hlevel props) (λ x. let e = x.2 in cc))
 
+-- facts of the parts, of the parts themselves
+abbrev IsChanged : Operator → Bool → ℕ → FieldInstruction → FieldInstruction → Type 0
+IsChanged operator optional entry e m = (e.operator ≡ operator) × (e.optional ≡ optional) × (m.operator ≡ Delta) × (m.optional ≡ false) × (m.entry ≡ Some entry)
+
+changed_told : (operator : Operator) (optional : Bool) (entry : ℕ) (e m : FieldInstruction) → IsChangedPartsCoded operator optional entry (by_parts e m) → IsChanged operator optional entry e m
+changed_told operator optional entry e m (own, its, is, under, may, by_delta, there, kept) =
+    let first : own ≡ e = cc in
+    let second : its ≡ m = cc in
+    rw (sym first) (rw (sym second) (under, may, by_delta, there, kept))
+
+changed_again : (operator : Operator) (optional : Bool) (entry : ℕ) (shape : Shape) → ∥ IsChangedPartsCoded operator optional entry shape ∥₁ → IsChangedPartsCoded operator optional entry shape
+changed_again operator optional entry (Field f) h = absurd (∥∥₁_elim h (hlevel props) (λ x. let e = x.2 in cc))
+changed_again operator optional entry (by_parts e m) h =
+    let (under, may, by_delta, there, kept) = ∥∥₁_elim h (hlevel props) (changed_told operator optional entry e m) in
+    (e, m, refl, under, may, by_delta, there, kept)
+changed_again operator optional entry (a_group own body) h = absurd (∥∥₁_elim h (hlevel props) (λ x. let e = x.2 in cc))
+changed_again operator optional entry (a_sequence length body) h = absurd (∥∥₁_elim h (hlevel props) (λ x. let e = x.2 in cc))
+
 group_again : (optional : Bool) (shape : Shape) → ∥ IsGroupCoded optional shape ∥₁ → IsGroupCoded optional shape
 group_again optional (Field f) h = absurd (∥∥₁_elim h (hlevel props) (λ x. let e = x.1 in cc))
 group_again optional (by_parts e m) h = absurd (∥∥₁_elim h (hlevel props) (λ x. let e = x.1 in cc))
@@ -81,6 +99,7 @@ claim_again never entry shape h = ∥∥₁_elim h (hlevel props) (λ x. x)
 claim_again (field_of kind operator optional) entry shape h = field_again kind operator optional entry shape h
 claim_again constant_field entry shape h = constant_again shape h
 claim_again decimal_parts entry shape h = parts_again shape h
+claim_again (changed_parts operator optional) entry shape h = changed_again operator optional entry shape h
 claim_again (group_of optional) entry shape h = group_again optional shape h
 claim_again (sequence_of optional) entry shape h = sequence_again optional shape h
 

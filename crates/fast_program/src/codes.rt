@@ -149,6 +149,14 @@ pub enum Code {
     BytesNullableTail,
     /// A decimal by parts.
     Parts,
+    /// A decimal by parts: an exponent under Default, and behind it a mantissa under Delta.
+    PartsDefault,
+    /// The same with an exponent that may be absent, and so the decimal.
+    PartsNullableDefault,
+    /// A decimal by parts: an exponent under Copy, and behind it a mantissa under Delta.
+    PartsCopy,
+    /// The same with an exponent that may be absent, and so the decimal.
+    PartsNullableCopy,
     /// A group that is there.
     Group,
     /// A group that may be absent.

@@ -1,9 +1,9 @@
 //! What a decoder's loop has to know of a node.
 
 ghost use Rattle.std.specs.Prelude.{◌≡◌, ◌≤◌, IfOk, length};
-ghost use Rattle.fast_tree.specs.declared.instructions.Shape.TheVariants.{Field};
+ghost use Rattle.fast_tree.specs.declared.instructions.Shape.TheVariants.{Field, Decimal as by_parts};
 ghost use Rattle.fast_tree.specs.meaning.Entries.{keeps_value};
-ghost use Rattle.fast_program.specs.device.Codes.{IsGroupCode, IsSequenceCode};
+ghost use Rattle.fast_program.specs.device.Codes.{IsPartsCode, IsGroupCode, IsSequenceCode};
 ghost use Rattle.fast_program.specs.device.Ops.{IsOpOf, AreOpsFrom};
 
 use crate::codes::Code;
@@ -17,7 +17,8 @@ pub struct Op {
     pub code: Code,
     /// The number of the node.
     pub node: u16,
-    /// The number of the field's entry, where it has one and its operator keeps a value there, else 0.
+    /// The number of the entry of the field, or of the mantissa under Delta, where it has one and its operator keeps a value there,
+    /// else 0.
     pub entry: u32,
 }
 
@@ -47,6 +48,39 @@ impl Op {
             },
             None => Op {
                 code,
+                node,
+                entry: 0,
+            },
+        }
+    }
+
+    /// The code of a decimal by parts whose mantissa is under delta and there, by its exponent.
+    #[tactic(auto, unfolding(crate::specs::device::Codes::IsCoded))]
+    fn parts_code(exponent: &FieldInstruction) -> Code
+        ensures { IsPartsCode exponent.now result }
+    {
+        match (exponent.operator, exponent.optional) {
+            (Operator::Default, false) => Code::PartsDefault,
+            (Operator::Default, true) => Code::PartsNullableDefault,
+            (Operator::Copy, false) => Code::PartsCopy,
+            (Operator::Copy, true) => Code::PartsNullableCopy,
+            _ => Code::Parts,
+        }
+    }
+
+    /// That of a decimal by parts. Where its code is one of a mantissa under delta, the entry is the mantissa's.
+    #[tactic(auto, unfolding(crate::specs::device::Codes::IsCoded))]
+    fn of_parts(node: u16, exponent: &FieldInstruction, mantissa: &FieldInstruction) -> Op
+        ensures { IsOpOf result node (by_parts exponent.now mantissa.now) }
+    {
+        match (mantissa.operator, mantissa.optional, mantissa.entry) {
+            (Operator::Delta, false, Some(entry)) => Op {
+                code: Op::parts_code(exponent),
+                node,
+                entry,
+            },
+            _ => Op {
+                code: Code::Parts,
                 node,
                 entry: 0,
             },
@@ -84,7 +118,7 @@ impl Op {
     {
         let code = match shape {
             Shape::Field(field) => return Op::of_field(node, field),
-            Shape::Decimal { .. } => Code::Parts,
+            Shape::Decimal { exponent, mantissa } => return Op::of_parts(node, exponent, mantissa),
             Shape::Group { optional, .. } => Op::group_code(*optional),
             Shape::Sequence { length, .. } => Op::sequence_code(length),
         };

@@ -10,6 +10,7 @@ use Rattle.fast_value.specs.declared.kinds.Kind.{Kind}
 use Rattle.fast_value.specs.declared.kinds.Kind.TheVariants.{Int32, Int64}
 use Rattle.fast_value.specs.meaning.Kinds.{I, family, integers, value_of_integer}
 use Rattle.fast_tree.specs.declared.instructions.FieldInstruction.{FieldInstruction}
+use Rattle.fast_tree.specs.declared.operators.Operator.{Operator}
 use Rattle.fast_tree.specs.declared.operators.Operator.TheVariants as Op
 use Rattle.fast_tree.specs.device.Nodes.{field_data}
 use Rattle.fast_tree.specs.meaning.Entries.{keeps_value}
@@ -21,6 +22,7 @@ use Rattle.fast_dict.specs.meaning.Slots.{slots_dictionary}
 use Rattle.fast_stream.specs.meaning.Fields.{sent_integer}
 use Rattle.fast_units.specs.device.Deciding.{needs_bytes, number_data, sent_number, source_of, IsDecided}
 use Rattle.fast_units.specs.device.DecimalParts.{part_item, IsPartBy, IsPartKnown, IsUsualExponent}
+use Rattle.fast_units.specs.device.IntegerItems.{item_held}
 use Rattle.fast_units.specs.device.Words.{previous_of}
 use Rattle.fast_units.specs.declared.fields.Number.{Number}
 use Rattle.fast_units.specs.declared.fields.Number.TheVariants.{Signed}
@@ -73,6 +75,12 @@ module _ (field : FieldInstruction) (bit : Bool) (seen : Slots) where
       let d = slots_dictionary old in
       subst (λ b. IsDecided (decide f (previous_of old field) b nothing) f d d (Ok From.Absent)) (sym clear)
       (left_absent f d (unsent_copied f (previous_of old field) false is refl) optional (there.same ∙ held))
+
+  -- Or what it holds, if it was looked at.
+  pub copied_left : field.operator ≡ Op.Copy → bit ≡ false → (o : Option (Option ℤ)) → IfSome o (λ x. previous_of seen field ≡ item_held field.kind (part_item x)) → (o ≡ Some None → field.optional ≡ true) → IfSome o (IsPartKnown field bit seen)
+  copied_left is clear None held absent = tt
+  copied_left is clear (Some None) held absent = copied_none is clear (absent refl) held
+  copied_left is clear (Some (Some x)) held absent = copied_number x is clear held
 
 module _ (field : FieldInstruction) (strict : Bool) (rest : List ℕ) (seen : Slots) where
   abbrev g : FieldData
@@ -167,3 +175,20 @@ usual_no_delta field (inr e) h = absurd (cc (e, h))
 pub usual_no_constant : (field : FieldInstruction) → IsUsualExponent field → field.operator ≢ Op.Constant
 usual_no_constant field (inl e) h = absurd (cc (e, h))
 usual_no_constant field (inr e) h = absurd (cc (e, h))
+
+-- Under default it is the initial value where nothing is sent; else it is under copy, and what its entry holds.
+pub usual_default : (field : FieldInstruction) (seen : Slots) (operator : Operator) (known o : Option (Option ℤ)) → field.operator ≡ operator → operator ≡ Op.Default → known ≡ o
+    → IfSome o (λ x. (field_data field).initial ≡ option_map number_data (part_item x)) → IfSome known (IsPartKnown field false seen)
+usual_default field seen operator known o same is looked initial =
+    subst (λ (r : Option (Option ℤ)). IfSome r (IsPartKnown field false seen)) (sym looked) (default_left field false seen (same ∙ is) refl o initial)
+
+pub usual_held : (field : FieldInstruction) (seen : Slots) (operator : Operator) (optional : Bool) (kind : Kind) (known o : Option (Option ℤ)) → IsUsualExponent field → field.kind ≡ kind → field.operator ≡ operator
+    → field.optional ≡ optional → operator ≢ Op.Default → known ≡ o → IfSome o (λ x. previous_of seen field ≡ item_held kind (part_item x)) → (o ≡ Some None → optional ≡ true)
+    → IfSome known (IsPartKnown field false seen)
+usual_held field seen operator optional kind known o usual as_kind same may_be other looked held absent =
+    subst (λ (r : Option (Option ℤ)). IfSome r (IsPartKnown field false seen)) (sym looked)
+    (copied_left field false seen (copy usual) refl o (subst (λ k. IfSome o (λ x. previous_of seen field ≡ item_held k (part_item x))) (sym as_kind) held) (λ e. may_be ∙ absent e))
+  where
+    copy : IsUsualExponent field → field.operator ≡ Op.Copy
+    copy (inl e) = absurd (other (sym same ∙ e))
+    copy (inr e) = e

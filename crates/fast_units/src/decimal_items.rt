@@ -1,8 +1,8 @@
 //! Decimals of one field, both of whose units stand in the piece whole: an exponent of one byte, or its delta, and the
 //! mantissa behind it.
 //!
-//! They are called out of line, with numbers and slices alone: inlined, they cost the loop's other arms more registers
-//! than the calls cost.
+//! They are inlined at their calls, with numbers and slices alone. Presence is an argument: a constant there, by which they
+//! fold.
 //!
 //! `None` stands for all else, faults included: nothing has changed then, and the general way finds out.
 
@@ -105,7 +105,7 @@ fn held_decimal(slots: &Slots, entry: u32) -> Option<(i32, i64)>
 }
 
 /// A decimal under copy, which the entry then holds, or NULL, which makes it empty.
-#[inline(never)]
+#[inline(always)]
 pub fn copied_decimal(
     slots: &mut Slots,
     entry: u32,
@@ -155,7 +155,7 @@ fn changed_mantissa(mantissa: i64, rest: &[u8], strict: bool) -> Option<(i64, us
 }
 
 /// A decimal under delta, which the entry then holds in the place of another, or NULL, which leaves the entry as it is.
-#[inline(never)]
+#[inline(always)]
 pub fn changed_decimal(
     slots: &mut Slots,
     entry: u32,
@@ -190,7 +190,7 @@ pub fn changed_decimal(
 }
 
 /// A decimal without an operator, or NULL.
-#[inline(never)]
+#[inline(always)]
 pub fn plain_decimal(
     slots: &Slots,
     entry: u32,

@@ -16,7 +16,7 @@ ghost use Rattle.fast_units.specs.device.IntegerItems.{item_held};
 ghost use Rattle.fast_units.specs.device.Words.{HasEntryOf, ServesField, previous_of};
 
 use crate::decimal_items::{exponent_in, short_exponent, whole_mantissa};
-use crate::fields::{Number, assign_empty, needs_bytes};
+use crate::fields::{Number, assign_empty, needs_bytes, number_under};
 use crate::short_integers::keep_integer;
 use fast_dict::{Entry, Slots};
 use fast_tree::{FieldInstruction, Operator};
@@ -128,25 +128,82 @@ pub fn exponent_part(
     Some((known, 0))
 }
 
-/// The same of an exponent under default or copy.
+/// What an exponent's entry holds, if that is a number of its kind, or nothing where the exponent may be absent. The number
+/// is looked for first, which is one test of the tag.
+#[inline(always)]
+fn held_exponent(slots: &Slots, field: &FieldInstruction, optional: bool) -> Option<Option<i64>>
+    requires within { HasEntryOf slots.now field.now }
+    ensures held { IfSome result (λ r. previous_of slots.now field.now ≡ item_held Kind.Int32 (part_item r)) }
+    ensures absent { result ≡ Some None → optional ≡ true }
+{
+    let held = slots.held(field.entry? as usize);
+    if let Some(number) = number_under(Kind::Int32, held) {
+        return match number {
+            Number::Signed(number) => Some(Some(number)),
+            _ => None,
+        };
+    }
+    match held {
+        Entry::Empty if optional => Some(None),
+        _ => None,
+    }
+}
+
+/// An exponent under default or copy of which nothing is sent.
+#[inline(always)]
+fn unsent_exponent(
+    slots: &Slots,
+    field: &FieldInstruction,
+    operator: Operator,
+    optional: bool,
+) -> Option<Option<i32>>
+    requires usual { IsUsualExponent field.now }
+    requires kind { field.now.kind ≡ Kind.Int32 }
+    requires operator { field.now.operator ≡ operator }
+    requires optional { field.now.optional ≡ optional }
+    requires within { HasEntryOf slots.now field.now }
+    ensures known { IfSome result (IsPartKnown field.now false slots.now) }
+    ensures within { IfSome result (λ r. IfSome r (IsWithin exponent_range)) }
+{
+    let known = match operator {
+        Operator::Default => initial_part(field),
+        _ => held_exponent(slots, field, optional),
+    };
+    match known? {
+        Some(exponent) => {
+            if exponent < -63 || exponent > 63 {
+                return None;
+            }
+            Some(Some(exponent_in(exponent)))
+        }
+        None => Some(None),
+    }
+}
+
+/// An exponent under default or copy and the bytes that it takes, as in [`exponent_part`]. Operator and presence are
+/// arguments: constants at the calls.
 #[inline(always)]
 pub fn usual_exponent(
     slots: &Slots,
     field: &FieldInstruction,
+    operator: Operator,
+    optional: bool,
     bit: bool,
     rest: &[u8],
 ) -> Option<(Option<i32>, usize)>
     requires usual { IsUsualExponent field.now }
     requires kind { field.now.kind ≡ Kind.Int32 }
+    requires operator { field.now.operator ≡ operator }
+    requires optional { field.now.optional ≡ optional }
     requires within { HasEntryOf slots.now field.now }
     ensures part { IfSome result (λ r. (strict : Bool) → IsPart field.now bit strict rest.now slots.now r.0 r.1) }
     ensures within { IfSome result (λ r. IfSome r.0 (IsWithin exponent_range)) }
 {
     if bit {
-        let exponent = short_exponent(rest, field.optional)?;
+        let exponent = short_exponent(rest, optional)?;
         return Some((exponent, 1));
     }
-    let known = known_exponent(slots, field, bit)?;
+    let known = unsent_exponent(slots, field, operator, optional)?;
     Some((known, 0))
 }
 
@@ -179,8 +236,9 @@ fn sent_mantissa(
     }
 }
 
-/// A mantissa that is there, and the bytes that it takes. The bit is its presence bit, set if it has none.
-#[inline(always)]
+/// A mantissa that is there, and the bytes that it takes. The bit is its presence bit, set if it has none. It is called out
+/// of line: its body is longer than the build inlines.
+#[inline(never)]
 pub fn mantissa_part(
     slots: &Slots,
     field: &FieldInstruction,

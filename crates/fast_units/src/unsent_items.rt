@@ -5,16 +5,17 @@
 //! `None` is absent.
 
 ghost use Rattle.std.specs.Prelude.{◌≡◌, ◌<◌, true, ℕ, List, length, Some, None, IfSome, IfNone};
+ghost use Rattle.fast_value.specs.meaning.Kinds.{integer_of, value_of_integer};
 ghost use Rattle.fast_dict.specs.device.Entry.{with_text};
+ghost use Rattle.fast_dict.specs.meaning.Operators.{incremented, range_of};
 ghost use Rattle.fast_dict.specs.meaning.Slots.{slots_dictionary, slots_terms};
 ghost use Rattle.fast_tree.specs.device.Nodes.{field_data};
+ghost use Rattle.fast_units.specs.device.Deciding.{number_data};
 ghost use Rattle.fast_units.specs.device.FieldsAs.{IsEntryFor, IsUnsentItem};
 ghost use Rattle.fast_units.specs.device.IntegerItems.{item_held, IsDefaultItem};
 
 use crate::fields::{Number, number_under};
 use crate::integer_items::keep_at;
-use crate::unsent_integers::integer_lent;
-use fast_dict::operators::unsent::next_integer;
 use fast_dict::{Entry, Slots};
 use fast_tree::{FieldInstruction, Operator};
 use fast_value::{Kind, Value};
@@ -43,6 +44,21 @@ fn copied_at(slots: &Slots, entry: u32, kind: Kind, optional: bool) -> Option<Op
     held_item(kind, optional, slots.held(entry as usize))
 }
 
+/// One more than a number, where that is not the greatest of its kind: behind that one the general way finds the least.
+#[inline(always)]
+fn next_number(kind: Kind, number: Number) -> Option<Number>
+    ensures { IfSome result (λ n. number_data n
+        ≡ value_of_integer kind (incremented (range_of kind) (integer_of (number_data number)))) }
+{
+    match (kind, number) {
+        (Kind::UInt32, Number::Unsigned(n)) if n < 4_294_967_295 => Some(Number::Unsigned(n + 1)),
+        (Kind::UInt64, Number::Unsigned(n)) if n < u64::MAX => Some(Number::Unsigned(n + 1)),
+        (Kind::Int32, Number::Signed(n)) if n < 2_147_483_647 => Some(Number::Signed(n + 1)),
+        (Kind::Int64, Number::Signed(n)) if n < i64::MAX => Some(Number::Signed(n + 1)),
+        _ => None,
+    }
+}
+
 /// Increment: one more than the number that the entry holds, which it then holds.
 #[inline(always)]
 fn increased_at(slots: &mut Slots, entry: u32, kind: Kind, optional: bool) -> Option<Option<Number>>
@@ -53,7 +69,7 @@ fn increased_at(slots: &mut Slots, entry: u32, kind: Kind, optional: bool) -> Op
 {
     match held_item(kind, optional, slots.held(entry as usize))? {
         Some(number) => {
-            let next = integer_lent(next_integer(kind, number.as_scalar()))?;
+            let next = next_number(kind, number)?;
             keep_at(slots, entry, kind, next);
             Some(Some(next))
         }
@@ -62,7 +78,7 @@ fn increased_at(slots: &mut Slots, entry: u32, kind: Kind, optional: bool) -> Op
 }
 
 /// The item of a field of which nothing is sent, under copy and increment: where its entry holds a number of its kind,
-/// that or the next one, which the entry then holds; absent where the entry is empty and the field may be.
+/// that or one more, which the entry then holds; absent where the entry is empty and the field may be.
 #[inline(always)]
 pub fn unsent_integer(
     slots: &mut Slots,

@@ -29,12 +29,10 @@ pub fn whole_unsigned(
         let sum = one_byte(bytes)?;
         return Some((meant(sum, nullable), 1));
     }
-    if let Some(sum) = one_byte(bytes) {
-        return Some((meant(sum, nullable), 1));
-    }
     let _ = strict;
-    if is_overlong_front(bytes) {
-        return None;
+    if !goes_on(bytes) {
+        let sum = one_byte(bytes)?;
+        return Some((meant(sum, nullable), 1));
     }
     if let Some((sum, len)) = four_bytes(bytes) {
         return Some((meant(sum, nullable), len));
@@ -141,14 +139,14 @@ fn extended(sum: u64, len: usize) -> i64
     (sum << spare).cast_signed() >> spare
 }
 
-/// Whether an entity in front, of two bytes and more, has a byte too many: a zero in front. Few senders write these, so in neither
-/// mode they are taken here: that spares all others a look at the mode.
+/// Whether the first byte has no stop bit, and is not zero, which in front would be a byte too many. Few senders write such a byte, so
+/// in neither mode it is taken here: that spares all others a look at the mode. Both are one test of the byte's sign.
 #[inline(always)]
-fn is_overlong_front(bytes: &[u8]) -> bool
-    requires { 2 ≤ length bytes.now }
-    ensures { result ≡ false → NoneIsOverlong (λ v. pos (number v)) bytes.now }
+fn goes_on(bytes: &[u8]) -> bool
+    requires { 1 ≤ length bytes.now }
+    ensures { result ≡ true → NoneIsOverlong (λ v. pos (number v)) bytes.now }
 {
-    bytes[0] == 0
+    bytes[0] != 0 && bytes[0] < 0x80
 }
 
 /// Whether a signed integer in front, of two bytes and more, has a byte too many, in strict mode: seven bits in front that repeat

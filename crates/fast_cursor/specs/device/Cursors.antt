@@ -10,21 +10,24 @@ pub record ElementsData : Type 0 where
   pub width : ℕ
 
 -- The segment around an open group or element: the nodes behind the group or sequence, the map, how many of its bits are
--- used, and of an element what is still to come of its sequence.
+-- used, the end of those of its bytes whose bits are at hand, and of an element what is still to come of its sequence.
 pub record FrameData : Type 0 where
   pub after : List ℕ
   pub map : List ℕ
   pub used : ℕ
+  pub ends : ℕ
   pub elements : Option ElementsData
 
 -- The program; the frames of the open segments, the innermost first; the nodes that are left of the innermost segment; the
--- bytes of its map that have come, and how many of its bits are used; and how many frames there can be.
+-- bytes of its map that have come, how many of its bits are used, and the end of those of its bytes whose bits are at hand; and how
+-- many frames there can be.
 pub record CursorData : Type 0 where
   pub ops : List Op
   pub frames : List FrameData
   pub left : List ℕ
   pub map : List ℕ
   pub used : ℕ
+  pub ends : ℕ
   pub depth : ℕ
 
 -- the bits that are left of a map
@@ -37,7 +40,7 @@ bits_left c = bits_behind c.map c.used
 
 -- a cursor before a message
 abbrev pub at_rest : List Op → ℕ → CursorData
-at_rest ops depth = record { ops = ops; frames = []; left = []; map = []; used = 0; depth = depth }
+at_rest ops depth = record { ops = ops; frames = []; left = []; map = []; used = 0; ends = 8; depth = depth }
 
 -- the cursor, as it was before the message
 abbrev pub resting : CursorData → CursorData
@@ -45,12 +48,12 @@ resting c = at_rest c.ops c.depth
 
 -- the frame of a segment around the one that begins
 abbrev pub frame_here : CursorData → Option ElementsData → FrameData
-frame_here c elements = record { after = c.left; map = c.map; used = c.used; elements = elements }
+frame_here c elements = record { after = c.left; map = c.map; used = c.used; ends = c.ends; elements = elements }
 
 -- a segment begins, whose map has not come
 abbrev pub entered : CursorData → Option ElementsData → List ℕ → CursorData
-entered c elements body = record { ops = c.ops; frames = frame_here c elements ∷ c.frames; left = body; map = []; used = 0; depth = c.depth }
+entered c elements body = record { ops = c.ops; frames = frame_here c elements ∷ c.frames; left = body; map = []; used = 0; ends = 8; depth = c.depth }
 
 -- the innermost segment is whole, and the one around it goes on
 abbrev pub left_to : CursorData → FrameData → List FrameData → CursorData
-left_to c f fs = record { ops = c.ops; frames = fs; left = f.after; map = f.map; used = f.used; depth = c.depth }
+left_to c f fs = record { ops = c.ops; frames = fs; left = f.after; map = f.map; used = f.used; ends = f.ends; depth = c.depth }

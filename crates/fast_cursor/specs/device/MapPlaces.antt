@@ -1,26 +1,33 @@
 -- What the fields of a place in a presence map mean.
-use Rattle.std.specs.Prelude.{◌≡◌, ℕ, zero, suc, ◌-◌, ◌*◌, ◌%◌, ◌<◌, ◌≤◌, nat_le, Bool, List, drop}
+use Rattle.std.specs.Prelude.{◌≡◌, ℕ, zero, suc, ◌-◌, ◌*◌, ◌%◌, ◌≤◌, nat_le, Bool, List, [], ◌∷◌, drop}
+use Rattle.std.specs.Int.Count.{count_trailing_zeros}
 use Rattle.fast_wire.specs.meaning.Maps.{map_limit, bits, first_bit, later_bits}
 use Rattle.fast_cursor.specs.declared.map_place.MapPlace.{MapPlace}
 
--- The top bits of a word of 64, so many, are the first ones of a list, behind which stand zeros for ever.
+-- The top bits of a word of 64, so many, are the first ones of a list, behind which stand zeros for ever. Behind them the word has
+-- a set bit, which is the mark, and zeros behind that.
 abbrev pub HasTop : ℕ → ℕ → List Bool → Type 0
-HasTop zero word bs = Unit {0}
+HasTop zero word bs = word ≡ 9223372036854775808
 HasTop (suc n) word bs = (nat_le 9223372036854775808 word ≡ first_bit bs) × HasTop n (word * 2 % 18446744073709551616) (later_bits bs)
 
--- the bits before the next one
-abbrev pub used_bits : MapPlace → ℕ
-used_bits p = 7 * p.end - p.left
+-- how many bits a word has before its mark
+abbrev pub left_in : ℕ → ℕ
+left_in word = 63 - count_trailing_zeros 64 word
 
--- The map is not too long. Of one that has not come no bit is in the word.
-pub record IsCounted (p : MapPlace) : Type 0 where
-  pub short : p.len ≤ map_limit
-  pub few : p.left ≤ 56
-  pub ends : 0 < p.len → 8 ≤ p.end
-  pub none : p.len ≡ 0 → p.end ≡ 0
+-- How many bits of a map are before the next one, by the end of the bytes whose bits are in the word. Of a map that has not come
+-- none is used.
+abbrev pub used_at : List ℕ → ℕ → ℕ → ℕ
+used_at [] end word = 0
+used_at (b ∷ map) end word = 7 * end - left_in word
 
--- The place in a map: a bit is in the word at least, and those that are there are the next ones.
+-- The bits in the word are the next ones of a map.
+pub record IsWord (map : List ℕ) (end word : ℕ) : Type 0 where
+  pub few : left_in word ≤ 56
+  pub ends : 8 ≤ end
+  pub none : map ≡ [] → end ≡ 8
+  pub top : HasTop (left_in word) word (drop (used_at map end word) (bits map))
+
+-- The place in a map, which is not too long.
 pub record IsPlace (map : List ℕ) (p : MapPlace) : Type 0 where
-  pub counted : IsCounted p
-  pub some : 0 < p.left
-  pub word : HasTop p.left p.word (drop (used_bits p) (bits map))
+  pub short : p.len ≤ map_limit
+  pub is : IsWord map p.end p.word

@@ -1,8 +1,8 @@
 -- Where a cursor is in the innermost segment, apart from the cursor.
-use Rattle.std.specs.Prelude.{◌≡◌, ℕ, List, length}
+use Rattle.std.specs.Prelude.{◌≡◌, ℕ, List}
 use Rattle.fast_cursor.specs.device.Runs.{run_at, IsRun}
 use Rattle.fast_cursor.specs.device.Cursors.{CursorData}
-use Rattle.fast_cursor.specs.device.MapPlaces.{used_bits, IsPlace}
+use Rattle.fast_cursor.specs.device.MapPlaces.{used_at, IsWord}
 use Rattle.fast_cursor.specs.declared.place.Place.{Place}
 
 -- the nodes that are left at a place
@@ -11,11 +11,14 @@ place_left p = run_at p.ops.now p.ip
 
 -- The cursor, at the place.
 abbrev pub at_place : CursorData → Place → CursorData
-at_place c p = record c { left = place_left p; used = used_bits p.map }
+at_place c p = record c { left = place_left p; used = used_at c.map c.ends p.word }
+
+-- A bit is in the place's word at least.
+abbrev pub HasBits : Place → Type 0
+HasBits p = p.word ≡ 9223372036854775808 → ⊥
 
 -- The place is one in the cursor's program, and in its map as far as that has come.
 pub record IsPlaceOf (c : CursorData) (p : Place) : Type 0 where
   pub ops : p.ops.now ≡ c.ops
   pub run : IsRun p.ops.now p.ip
-  pub place : IsPlace c.map p.map
-  pub len : p.map.len ≡ length c.map
+  pub word : IsWord c.map c.ends p.word

@@ -5,7 +5,7 @@ use Rattle.fast_program.specs.declared.ops.Op.{Op}
 use Rattle.fast_program.specs.device.Runs.{Begins}
 use Rattle.fast_cursor.specs.device.Runs.{run_at, IsRun}
 use Rattle.fast_cursor.specs.device.Cursors.{ElementsData, FrameData, CursorData}
-use Rattle.fast_cursor.specs.device.MapPlaces.{used_bits, IsPlace}
+use Rattle.fast_cursor.specs.device.MapPlaces.{used_at, IsPlace}
 use Rattle.fast_cursor.specs.declared.cursor.Elements.{Elements}
 use Rattle.fast_cursor.specs.declared.cursor.Frame.{Frame}
 use Rattle.fast_cursor.specs.declared.cursor.Cursor.TheInside.{Inside}
@@ -34,7 +34,7 @@ map_at cells start len = take len (drop start cells)
 
 -- a frame, whose map's cells begin at a place
 abbrev pub frame_data : List Op → List ℕ → ℕ → Frame → FrameData
-frame_data ops cells start f = record { after = run_at ops f.after; map = map_at cells start f.map.len; used = used_bits f.map; elements = option_map (elements_data ops) (frame_elements f) }
+frame_data ops cells start f = record { after = run_at ops f.after; map = map_at cells start f.map.len; used = used_at (map_at cells start f.map.len) f.map.end f.map.word; ends = f.map.end; elements = option_map (elements_data ops) (frame_elements f) }
 
 -- Frames that come the outermost first, on those around them: the cells of the first one's map begin at the place.
 abbrev pub frames_on : List Op → List ℕ → ℕ → List Frame → List FrameData → List FrameData
@@ -67,7 +67,8 @@ cursor_data c = record {
   frames = frames_on c.ops.now c.maps.items 0 (take c.level c.frames.items) [];
   left = run_at c.ops.now c.ip;
   map = map_at c.maps.items c.start c.map.len;
-  used = used_bits c.map;
+  used = used_at (map_at c.maps.items c.start c.map.len) c.map.end c.map.word;
+  ends = c.map.end;
   depth = length c.frames.items;
 }
 

@@ -39,7 +39,7 @@ module _ {S : Type 0} (takes stops : S → EventData → S → Type 0) (set : Se
   placed_turn s result s' m' on turn turns =
       turn_step takes stops set l (placed m from.place) from.rest.now s result s' m' (subst (λ (r : Reader Dictionary). IsTurn takes stops set l r s result s' m') turning_here turn) (λ e. absurd (on e)) (λ way k h. turns way k (turn_counted way k h))
 
-  module _ (c : CursorData) (can : CanTurn set l a) (end : a.cursor.left ≡ []) (outermost : a.cursor.frames ≡ []) (is : c ≡ record a.cursor { map = []; used = 0 }) where
+  module _ (c : CursorData) (can : CanTurn set l a) (end : a.cursor.left ≡ []) (outermost : a.cursor.frames ≡ []) (is : c ≡ record a.cursor { map = []; used = 0; ends = 8 }) where
     -- The message is whole, and the machine waits for the next one's map,
     pub ended : (s s' : S) → takes s MessageEnd s' → IsTurn takes stops set l (turning set l a) s (Ok Waits) s' (record a { waiting = Map; cursor = c })
     ended s s' taken = turn_end takes stops set l (turning set l a) s s' a c can end outermost is (message_end set l a end outermost) taken

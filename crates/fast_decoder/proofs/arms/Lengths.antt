@@ -185,6 +185,7 @@ module _ {S : Type 0} (takes stops : S → EventData → S → Type 0) (set : Se
       is_behind : IsBehind f counting behind_it (m.counted + count)
       is_behind = record {
         used = before.cursor.used;
+        ends = before.cursor.ends;
         same = ap (λ (x : CursorData). record counting { cursor = x; counted = m.counted + count }) is;
         bits = same_bits;
       }

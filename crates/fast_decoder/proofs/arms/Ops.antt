@@ -5,7 +5,7 @@ use Rattle.std.proofs.lemmas.Option.{slice_get_cases}
 use Rattle.std.specs.Prelude.{◌≡◌, ◌≢◌, ◌⊎◌, ℕ, ◌<◌, ◌≤◌, false, length, slice_get, get_or, Some, None}
 use Rattle.fast_tree.specs.declared.instructions.Node.{Node}
 use Rattle.fast_program.specs.declared.codes.Code.{Code}
-use Rattle.fast_program.specs.declared.codes.Code.TheVariants.{General, End, UInt32Plain, UInt32NullablePlain, UInt32Default, UInt32NullableDefault, UInt32Copy, UInt32NullableCopy, UInt32Increment, UInt32NullableIncrement, UInt32Delta, UInt32NullableDelta, Int32Plain, Int32NullablePlain, Int32Default, Int32NullableDefault, Int32Copy, Int32NullableCopy, Int32Increment, Int32NullableIncrement, Int32Delta, Int32NullableDelta, UInt64Plain, UInt64NullablePlain, UInt64Default, UInt64NullableDefault, UInt64Copy, UInt64NullableCopy, UInt64Increment, UInt64NullableIncrement, UInt64Delta, UInt64NullableDelta, Int64Plain, Int64NullablePlain, Int64Default, Int64NullableDefault, Int64Copy, Int64NullableCopy, Int64Increment, Int64NullableIncrement, Int64Delta, Int64NullableDelta, Constant, DecimalPlain, DecimalNullablePlain, DecimalCopy, DecimalNullableCopy, DecimalDelta, DecimalNullableDelta, AsciiPlain, AsciiNullablePlain, AsciiDefault, AsciiNullableDefault, AsciiCopy, AsciiNullableCopy, AsciiTail, AsciiNullableTail, AsciiDelta, AsciiNullableDelta, UnicodePlain, UnicodeNullablePlain, UnicodeDelta, UnicodeNullableDelta, BytesPlain, BytesNullablePlain, BytesTail, BytesNullableTail, Parts, Group, OptionalGroup, Sequence, OptionalSequence}
+use Rattle.fast_program.specs.declared.codes.Code.TheVariants.{General, End, UInt32Plain, UInt32NullablePlain, UInt32Default, UInt32NullableDefault, UInt32Copy, UInt32NullableCopy, UInt32Increment, UInt32NullableIncrement, UInt32Delta, UInt32NullableDelta, Int32Plain, Int32NullablePlain, Int32Default, Int32NullableDefault, Int32Copy, Int32NullableCopy, Int32Increment, Int32NullableIncrement, Int32Delta, Int32NullableDelta, UInt64Plain, UInt64NullablePlain, UInt64Default, UInt64NullableDefault, UInt64Copy, UInt64NullableCopy, UInt64Increment, UInt64NullableIncrement, UInt64Delta, UInt64NullableDelta, Int64Plain, Int64NullablePlain, Int64Default, Int64NullableDefault, Int64Copy, Int64NullableCopy, Int64Increment, Int64NullableIncrement, Int64Delta, Int64NullableDelta, Constant, DecimalPlain, DecimalNullablePlain, DecimalCopy, DecimalNullableCopy, DecimalDelta, DecimalNullableDelta, AsciiPlain, AsciiNullablePlain, AsciiDefault, AsciiNullableDefault, AsciiCopy, AsciiNullableCopy, AsciiTail, AsciiNullableTail, AsciiDelta, AsciiNullableDelta, UnicodePlain, UnicodeNullablePlain, UnicodeDelta, UnicodeNullableDelta, BytesPlain, BytesNullablePlain, BytesTail, BytesNullableTail, Parts, PartsDefault, PartsNullableDefault, PartsCopy, PartsNullableCopy, Group, OptionalGroup, Sequence, OptionalSequence}
 use Rattle.fast_program.specs.device.Runs.{is_end}
 
 -- A code that is not the end's.
@@ -78,6 +78,10 @@ not_end BytesNullablePlain h = refl
 not_end BytesTail h = refl
 not_end BytesNullableTail h = refl
 not_end Parts h = refl
+not_end PartsDefault h = refl
+not_end PartsNullableDefault h = refl
+not_end PartsCopy h = refl
+not_end PartsNullableCopy h = refl
 not_end Group h = refl
 not_end OptionalGroup h = refl
 not_end Sequence h = refl

@@ -15,7 +15,10 @@ use Rattle.fast_tree.specs.declared.instructions.Shape.TheVariants.{Decimal}
 use Rattle.fast_tree.specs.device.Nodes.{field_data}
 use Rattle.fast_template.specs.declared.sets.Templates.{Templates}
 use Rattle.fast_program.specs.declared.ops.Op.{Op}
-use Rattle.fast_tree.specs.declared.operators.Operator.TheVariants.{Delta}
+use Rattle.fast_tree.specs.declared.instructions.Shape.{Shape}
+use Rattle.fast_tree.specs.declared.operators.Operator.{Operator}
+use Rattle.fast_tree.specs.declared.operators.Operator.TheVariants.{Default, Copy, Delta}
+use Rattle.fast_program.specs.device.Codes.{IsChangedPartsCoded}
 use Rattle.fast_tree.specs.meaning.Tree.{FieldData, operator_uses_bit, uses_bit, parts}
 use Rattle.fast_dict.specs.declared.slots.Slots.{Slots}
 use Rattle.fast_dict.specs.meaning.Dictionary.{Dictionary, PreviousData, previous_at, write_at}
@@ -256,3 +259,16 @@ delta_uses f is = ap (λ o. operator_uses_bit o f.optional) is
 -- So it always stands in the stream.
 pub delta_part : (f : FieldInstruction) (s : Bool) (rest : List ℕ) (seen : Slots) (x : Option ℤ) (n : ℕ) → f.operator ≡ Delta → IsPartBy true f true s rest seen x n → IsPart f true s rest seen x n
 delta_part f s rest seen x n is h = subst (λ (b : Bool). IsPartBy b f true s rest seen x n) (sym (ap (λ o. needs_bytes o true) is)) h
+
+-- what a code says of the parts, of the parts themselves
+pub told_parts : (operator : Operator) (optional : Bool) (entry : ℕ) (e m : FieldInstruction) (shape : Shape) → shape ≡ Decimal e m → IsChangedPartsCoded operator optional entry shape
+    → (e.operator ≡ operator) × (e.optional ≡ optional) × (m.operator ≡ Delta) × (m.optional ≡ false) × (m.entry ≡ Some entry)
+told_parts operator optional entry e m shape same (own, its, is, under, may, by_delta, there, kept) =
+    let both : Decimal own its ≡ Decimal e m = sym is ∙ same in
+    let first : own ≡ e = cc in
+    let second : its ≡ m = cc in
+    rw (sym first) (rw (sym second) (under, may, by_delta, there, kept))
+
+pub usual_by : (e : FieldInstruction) (operator : Operator) → e.operator ≡ operator → (operator ≡ Default) ⊎ (operator ≡ Copy) → IsUsualExponent e
+usual_by e operator is (inl by) = inl (is ∙ by)
+usual_by e operator is (inr by) = inr (is ∙ by)

@@ -11,7 +11,7 @@ use Rattle.fast_decoder.specs.device.Passing.{state_past}
 use Rattle.fast_decoder.specs.device.Positions.{Set, body_in, frames_in, going_on}
 
 -- What is to be read from there on.
-pub passed_on : (set : Set) (l : Bounds) (d : Dictionary) (counted : ℕ) (c c' : CursorData) (f : FieldData) (b : Bool) → c' ≡ record c { left = drop 1 c.left; used = c'.used }
+pub passed_on : (set : Set) (l : Bounds) (d : Dictionary) (counted : ℕ) (c c' : CursorData) (f : FieldData) (b : Bool) → c' ≡ record c { left = drop 1 c.left; used = c'.used; ends = c'.ends }
     → bits_left c' ≡ (if b then later_bits (bits_left c) else bits_left c) → b ≡ uses_bit f
     → going_on set l d counted c' ≡ resume l (frames_in set c.frames) (body_in set (drop 1 c.left)) (state_past f d counted c)
 passed_on set l d counted c c' f b past bits e =

@@ -42,11 +42,11 @@ module _ {S : Type 0} (takes stops : S → EventData → S → Type 0) (set : Se
     (can : CanTurn set l a) (end : a.cursor.left ≡ []) (outermost : a.cursor.frames ≡ []) (s mid : S) (taken : takes s MessageEnd mid) where
   -- the cursor before the next message
   abbrev cleared : CursorData
-  cleared = record a.cursor { map = []; used = 0 }
+  cleared = record a.cursor { map = []; used = 0; ends = 8 }
 
   -- No message begins yet.
   pub none_went : (went : Went) (m' : Machine) (to : Spot) → went ≡ Went.Waits → to.rest.now ≡ from.rest.now → IsPlaceOf m'.cursor to.place
-      → placed m' to.place ≡ record a { waiting = Map; cursor = record a.cursor { map = []; used = 0 } } → HasWent takes stops set l m from s went mid m' to
+      → placed m' to.place ≡ record a { waiting = Map; cursor = record a.cursor { map = []; used = 0; ends = 8 } } → HasWent takes stops set l m from s went mid m' to
   none_went went m' to waits rest place is =
       let step = placed_turn takes stops set l m a from same counts s (Ok Waits) mid (record a { waiting = Map; cursor = cleared }) (λ e. cc e)
       (ended takes stops set l m a from same counts cleared can end outermost refl s mid taken)

@@ -242,14 +242,14 @@ mantissa_next set l m n e f x (at, number, some, i) =
     ∙ ap (λ k. reader_of l.strict (field_in (bounds l) f (state_of m) >>= (λ r. handed_then k (behind set l m) (decimal_with x r.0) r.1))) number
 
 -- A machine that has used the bit of a field stands behind it.
-pub state_used : (m m' : Machine) (f : FieldData) → bits_left m'.cursor ≡ (if uses_bit f then later_bits (bits_left m.cursor) else bits_left m.cursor) → m' ≡ record m { cursor = record m.cursor { used = m'.cursor.used } }
+pub state_used : (m m' : Machine) (f : FieldData) → bits_left m'.cursor ≡ (if uses_bit f then later_bits (bits_left m.cursor) else bits_left m.cursor) → m' ≡ record m { cursor = record m.cursor { used = m'.cursor.used; ends = m'.cursor.ends } }
     → state_of m' ≡ state_past f (slots_dictionary m.slots) m.counted m.cursor
 state_used m m' f bits same =
     ap (λ (x : Machine). record { context = record { dictionary = slots_dictionary x.slots; counted = x.counted }; bits = bits_left m'.cursor }) same
     ∙ ap (λ b. record { context = record { dictionary = slots_dictionary m.slots; counted = m.counted }; bits = b }) bits
 
 -- It is at the same instruction.
-pub parts_used : (set : Set) (m m' : Machine) (n : ℕ) (e f : FieldData) → IsAtParts set m.cursor n e f → m' ≡ record m { cursor = record m.cursor { used = m'.cursor.used } } → IsAtParts set m'.cursor n e f
+pub parts_used : (set : Set) (m m' : Machine) (n : ℕ) (e f : FieldData) → IsAtParts set m.cursor n e f → m' ≡ record m { cursor = record m.cursor { used = m'.cursor.used; ends = m'.cursor.ends } } → IsAtParts set m'.cursor n e f
 parts_used set m m' n e f h same = subst (λ (x : Machine). IsAtParts set x.cursor n e f) (sym same) h
 
 -- An exponent in the range is followed by the mantissa.
@@ -261,7 +261,7 @@ mantissa_behind s l n f k (Some w) st x z e i =
     result_done s (ranged exponent_range R1 (integer_of w)) (λ y. field_in l f st >>= (λ r. handed_then n k (decimal_with y r.0) r.1)) (ap (ranged exponent_range R1) same ∙ i)
 
 pub exponent_there : (set : Set) (l : Limits) (m m' : Machine) (n : ℕ) (e f : FieldData) (v : Option ScalarData) (x z : ℤ)
-    → bits_left m'.cursor ≡ (if uses_bit e then later_bits (bits_left m.cursor) else bits_left m.cursor) → m' ≡ record m { cursor = record m.cursor { used = m'.cursor.used } }
+    → bits_left m'.cursor ≡ (if uses_bit e then later_bits (bits_left m.cursor) else bits_left m.cursor) → m' ≡ record m { cursor = record m.cursor { used = m'.cursor.used; ends = m'.cursor.ends } }
     → IsAtParts set m.cursor n e f → option_map integer_of v ≡ Some x → ranged exponent_range R1 x ≡ Ok z
     → reader_of l.strict (exponent_then set (bounds l) n v e f (slots_dictionary m.slots) m.counted m.cursor) ≡ mantissa_from set l m' z
 exponent_there set l m m' n e f v x z bits same next known inside =
@@ -327,16 +327,16 @@ can_turn_slots set l m slots h terms = record {
 }
 
 -- So has one that has used a bit.
-used_by : (set : Set) (l : Limits) (m : Machine) (u : ℕ) → CanTurn set l m → CanTurn set l (record m { cursor = record m.cursor { used = u } })
-used_by set l m u h = record {
-  supplied = supplied_like set l m (record m { cursor = record m.cursor { used = u } }) h.supplied (record { terms = refl; text = refl; joined = refl; widths = refl; identifier = refl; rests = refl }) h.supplied.counted;
+used_by : (set : Set) (l : Limits) (m : Machine) (u v : ℕ) → CanTurn set l m → CanTurn set l (record m { cursor = record m.cursor { used = u; ends = v } })
+used_by set l m u v h = record {
+  supplied = supplied_like set l m (record m { cursor = record m.cursor { used = u; ends = v } }) h.supplied (record { terms = refl; text = refl; joined = refl; widths = refl; identifier = refl; rests = refl }) h.supplied.counted;
   placed = record { below = h.placed.below; nested = h.placed.nested; frames = h.placed.frames };
   mapped = h.mapped;
   unused = h.unused;
 }
 
-pub can_turn_used : (set : Set) (l : Limits) (m m' : Machine) → CanTurn set l m → m' ≡ record m { cursor = record m.cursor { used = m'.cursor.used } } → CanTurn set l m'
-can_turn_used set l m m' h same = subst (λ (x : Machine). CanTurn set l x) (sym same) (used_by set l m m'.cursor.used h)
+pub can_turn_used : (set : Set) (l : Limits) (m m' : Machine) → CanTurn set l m → m' ≡ record m { cursor = record m.cursor { used = m'.cursor.used; ends = m'.cursor.ends } } → CanTurn set l m'
+can_turn_used set l m m' h same = subst (λ (x : Machine). CanTurn set l x) (sym same) (used_by set l m m'.cursor.used m'.cursor.ends h)
 
 -- Other values in the slots serve a field as well.
 pub serves_known : (set : Set) (m : Machine) (slots : Slots) (f : FieldData) → slots_terms slots ≡ slots_terms m.slots → Serves set.entries (slots_terms m.slots) f → Serves set.entries (slots_terms slots) f
@@ -428,20 +428,20 @@ module _ {S : Type 0} (takes stops : S → EventData → S → Type 0) (set : Se
   turn_as r r' s result s' m' e h = subst (λ (q : Reader Dictionary). IsTurn takes stops set l q s result s' m') (sym e) h
 
   -- Nothing is handed over, and the cursor is past the next instruction.
-  silent_by : (s : S) (m : Machine) (u : ℕ) (f : FieldData) (r : Reader Dictionary) → CanTurn set l m → bits_behind m.cursor.map u ≡ (if uses_bit f then later_bits (bits_left m.cursor) else bits_left m.cursor)
+  silent_by : (s : S) (m : Machine) (u v : ℕ) (f : FieldData) (r : Reader Dictionary) → CanTurn set l m → bits_behind m.cursor.map u ≡ (if uses_bit f then later_bits (bits_left m.cursor) else bits_left m.cursor)
       → r ≡ reader_of l.strict (behind set l m (state_past f (slots_dictionary m.slots) m.counted m.cursor))
-      → IsTurn takes stops set l r s (Ok Silent) s (record m { cursor = record m.cursor { left = drop 1 m.cursor.left; used = u } })
-  silent_by s m u f r h bits e =
-      let m' : Machine = record m { cursor = record m.cursor { left = drop 1 m.cursor.left; used = u } } in
+      → IsTurn takes stops set l r s (Ok Silent) s (record m { cursor = record m.cursor { left = drop 1 m.cursor.left; used = u; ends = v } })
+  silent_by s m u v f r h bits e =
+      let m' : Machine = record m { cursor = record m.cursor { left = drop 1 m.cursor.left; used = u; ends = v } } in
       turn_moved r r s (Ok Silent) s m m' refl (e ∙ ap (λ b. reader_of l.strict (behind set l m (record { context = record { dictionary = slots_dictionary m.slots; counted = m.counted }; bits = b }))) (sym bits), refl) h refl refl (record { same = refl }) (λ i. absurd (cc i))
 
   -- The same, first by the bit and then by the instruction.
   pub turn_silent : (s : S) (m m1 : Machine) (c : CursorData) (f : FieldData) (r : Reader Dictionary) → CanTurn set l m
-      → bits_left m1.cursor ≡ (if uses_bit f then later_bits (bits_left m.cursor) else bits_left m.cursor) → m1 ≡ record m { cursor = record m.cursor { used = m1.cursor.used } } → c ≡ record m1.cursor { left = drop 1 m1.cursor.left }
+      → bits_left m1.cursor ≡ (if uses_bit f then later_bits (bits_left m.cursor) else bits_left m.cursor) → m1 ≡ record m { cursor = record m.cursor { used = m1.cursor.used; ends = m1.cursor.ends } } → c ≡ record m1.cursor { left = drop 1 m1.cursor.left }
       → r ≡ reader_of l.strict (behind set l m (state_past f (slots_dictionary m.slots) m.counted m.cursor))
       → IsTurn takes stops set l r s (Ok Silent) s (record m1 { cursor = c })
   turn_silent s m m1 c f r h bits same moved e =
-      let all : record m1 { cursor = c } ≡ record m { cursor = record m.cursor { left = drop 1 m.cursor.left; used = m1.cursor.used } } =
+      let all : record m1 { cursor = c } ≡ record m { cursor = record m.cursor { left = drop 1 m.cursor.left; used = m1.cursor.used; ends = m1.cursor.ends } } =
       ap (λ (x : CursorData). record m1 { cursor = x }) moved ∙ ap (λ (x : Machine). record x { cursor = record x.cursor { left = drop 1 x.cursor.left } }) same in
       subst (λ (x : Machine). IsTurn takes stops set l r s (Ok Silent) s x) (sym all)
-      (silent_by s m m1.cursor.used f r h (sym (ap (λ (x : Machine). bits_left x.cursor) same) ∙ bits) e)
+      (silent_by s m m1.cursor.used m1.cursor.ends f r h (sym (ap (λ (x : Machine). bits_left x.cursor) same) ∙ bits) e)

@@ -156,11 +156,11 @@ module _ {S : Type 0} (takes stops : S → EventData → S → Type 0) (set : Se
   }
 
   -- The message is whole, and no other is begun.
-  pub turn_end : (r : Reader Dictionary) (s s' : S) (m : Machine) (c : CursorData) → CanTurn set l m → m.cursor.left ≡ [] → m.cursor.frames ≡ [] → c ≡ record m.cursor { map = []; used = 0 }
+  pub turn_end : (r : Reader Dictionary) (s s' : S) (m : Machine) (c : CursorData) → CanTurn set l m → m.cursor.left ≡ [] → m.cursor.frames ≡ [] → c ≡ record m.cursor { map = []; used = 0; ends = 8 }
       → r ≡ Emit MessageEnd (Done (slots_dictionary m.slots)) → takes s MessageEnd s' → IsTurn takes stops set l r s (Ok TurnWaits) s' (record m { waiting = Map; cursor = c })
   turn_end r s s' m c h end outermost is same taken =
       let m' = record m { waiting = Map; cursor = c } in
-      let rest : c ≡ resting m.cursor = is ∙ ap (λ f. record m.cursor { frames = f; map = []; used = 0 }) outermost ∙ ap (λ ns. record (resting m.cursor) { left = ns }) end in
+      let rest : c ≡ resting m.cursor = is ∙ ap (λ f. record m.cursor { frames = f; map = []; used = 0; ends = 8 }) outermost ∙ ap (λ ns. record (resting m.cursor) { left = ns }) end in
       let supplied = supplied_like set l m (record m { waiting = Map; cursor = resting m.cursor }) h.supplied (record { terms = refl; text = refl; joined = refl; widths = refl; identifier = refl; rests = refl }) h.supplied.counted in
       rw (rest, same) (record {
         moves = hands_last takes stops MessageEnd (slots_dictionary m.slots) s s' (Ok tt) taken;
@@ -236,7 +236,8 @@ group_start set l m node body used =
 -- The next instruction is a group that is there, and its bit is used, if it has one.
 pub record IsGroupBegun (set : Set) (l : Limits) (m m' : Machine) (node : ℕ) (body : List ℕ) : Type 0 where
   pub used : ℕ
-  pub same : m' ≡ record m { cursor = record m.cursor { used = used } }
+  pub ends : ℕ
+  pub same : m' ≡ record m { cursor = record m.cursor { used = used; ends = ends } }
   pub begins : turning set l m ≡ group_start set l m node body used
 
 -- what is to be read then
@@ -246,13 +247,14 @@ begun_from set l m m' node body h =
     h.begins ∙ ap (λ (x : Machine). reader_of l.strict (group_from set (bounds l) node body (slots_dictionary x.slots) x.counted x.cursor)) (sym h.same)
 
 -- the bits behind one that is used
-used_behind : (old new : CursorData) → new ≡ record old { used = new.used } → bits_left new ≡ later_bits (bits_left old) → bits_behind old.map new.used ≡ later_bits (bits_left old)
+used_behind : (old new : CursorData) → new ≡ record old { used = new.used; ends = new.ends } → bits_left new ≡ later_bits (bits_left old) → bits_behind old.map new.used ≡ later_bits (bits_left old)
 used_behind old new same later = ap (λ w. bits_behind w new.used) (sym (ap (λ (c : CursorData). c.map) same)) ∙ later
 
 -- A group that is never absent.
 pub group_there : (set : Set) (l : Limits) (m m' : Machine) (node : ℕ) (body : List ℕ) → IsAtGroup set m.cursor node false body → m' ≡ m → IsGroupBegun set l m m' node body
 group_there set l m m' node body (at, number, some, is) same = record {
   used = m.cursor.used;
+  ends = m.cursor.ends;
   same = same;
   begins =
       let s : State = state_in (slots_dictionary m.slots) m.counted m.cursor in
@@ -279,25 +281,26 @@ group_by set l m node body bit used (at, number, some, is) first later =
     ∙ ap (λ b. group_turn bit (bounds l) fs node (body_in set body) rest (record s { bits = b })) (sym later))
 
 pub group_present : (set : Set) (l : Limits) (m m' : Machine) (c : CursorData) (node : ℕ) (body : List ℕ) → IsAtGroup set m.cursor node true body → first_bit (bits_left m.cursor) ≡ true
-    → c ≡ record m.cursor { used = c.used } → bits_left c ≡ later_bits (bits_left m.cursor) → m' ≡ record m { cursor = c } → IsGroupBegun set l m m' node body
+    → c ≡ record m.cursor { used = c.used; ends = c.ends } → bits_left c ≡ later_bits (bits_left m.cursor) → m' ≡ record m { cursor = c } → IsGroupBegun set l m m' node body
 group_present set l m m' c node body at first same later is = record {
   used = c.used;
+  ends = c.ends;
   same = is ∙ ap (λ x. record m { cursor = x }) same;
   begins = group_by set l m node body true c.used at first (used_behind m.cursor c same later);
 }
 
 -- past an instruction, and behind one more bit or not
-past_used : (old mid new : CursorData) → mid ≡ record old { used = mid.used } → new ≡ record mid { left = drop 1 mid.left } → new ≡ record old { left = drop 1 old.left; used = mid.used }
+past_used : (old mid new : CursorData) → mid ≡ record old { used = mid.used; ends = mid.ends } → new ≡ record mid { left = drop 1 mid.left } → new ≡ record old { left = drop 1 old.left; used = mid.used; ends = mid.ends }
 past_used old mid new same is = is ∙ ap (λ (c : CursorData). record c { left = drop 1 c.left }) same
 
 module _ {S : Type 0} (takes stops : S → EventData → S → Type 0) (set : Set) (l : Limits) where
   -- An absent group.
   pub group_absent : (m : Machine) (mid c : CursorData) (node : ℕ) (body : List ℕ) (s : S) → CanTurn set l m → IsAtGroup set m.cursor node true body → first_bit (bits_left m.cursor) ≡ false
-      → mid ≡ record m.cursor { used = mid.used } → bits_left mid ≡ later_bits (bits_left m.cursor) → c ≡ record mid { left = drop 1 mid.left }
+      → mid ≡ record m.cursor { used = mid.used; ends = mid.ends } → bits_left mid ≡ later_bits (bits_left m.cursor) → c ≡ record mid { left = drop 1 mid.left }
       → IsTurn takes stops set l (turning set l m) s (Ok Silent) s (record m { cursor = c })
   group_absent m mid c node body s h at first same later is =
       let past = past_used m.cursor mid c same is in
-      let can = can_turn_past set l m (record m { cursor = record m.cursor { left = drop 1 m.cursor.left; used = mid.used } }) h (like_at m (record m.cursor { left = drop 1 m.cursor.left; used = mid.used }) refl) h.supplied.counted refl (record { same = refl }) in
+      let can = can_turn_past set l m (record m { cursor = record m.cursor { left = drop 1 m.cursor.left; used = mid.used; ends = mid.ends } }) h (like_at m (record m.cursor { left = drop 1 m.cursor.left; used = mid.used; ends = mid.ends }) refl) h.supplied.counted refl (record { same = refl }) in
       rw past (record {
         moves = (group_by set l m node body false mid.used at first (used_behind m.cursor mid same later), refl);
         supplied = can.supplied;
@@ -313,14 +316,16 @@ width_at set l m m' width node h same within is =
 -- A machine behind a field that gives no event of its own: past the next instruction, and behind the field's bit.
 pub record IsBehind (f : FieldData) (m m' : Machine) (counted : ℕ) : Type 0 where
   pub used : ℕ
-  pub same : m' ≡ record m { cursor = record m.cursor { left = drop 1 m.cursor.left; used = used }; counted = counted }
+  pub ends : ℕ
+  pub same : m' ≡ record m { cursor = record m.cursor { left = drop 1 m.cursor.left; used = used; ends = ends }; counted = counted }
   pub bits : bits_behind m.cursor.map used ≡ (state_past f (slots_dictionary m.slots) m.counted m.cursor).bits
 
-pub behind_field : (f : FieldData) (m mid : Machine) (c : CursorData) (n counted : ℕ) → mid ≡ record m { cursor = record m.cursor { used = mid.cursor.used } }
+pub behind_field : (f : FieldData) (m mid : Machine) (c : CursorData) (n counted : ℕ) → mid ≡ record m { cursor = record m.cursor { used = mid.cursor.used; ends = mid.cursor.ends } }
     → bits_left mid.cursor ≡ (state_past f (slots_dictionary m.slots) m.counted m.cursor).bits → c ≡ record mid.cursor { left = drop 1 mid.cursor.left } → n ≡ counted
     → IsBehind f m (record mid { cursor = c; counted = n }) counted
 behind_field f m mid c n counted same later is count = record {
   used = mid.cursor.used;
+  ends = mid.cursor.ends;
   same = ap (λ k. record mid { cursor = c; counted = k }) count ∙ ap (λ x. record mid { cursor = x; counted = counted }) is
       ∙ ap (λ (x : Machine). record x { cursor = record x.cursor { left = drop 1 x.cursor.left }; counted = counted }) same;
   bits = ap (λ w. bits_behind w mid.cursor.used) (sym (ap (λ (x : Machine). x.cursor.map) same)) ∙ later;
@@ -331,7 +336,7 @@ counted_still m mid c same = ap (λ (x : Machine). x.counted) same
 
 pub can_turn_behind : (set : Set) (l : Limits) (f : FieldData) (m m' : Machine) (counted : ℕ) → CanTurn set l m → IsBehind f m m' counted → counted ≤ l.max_total → CanTurn set l m'
 can_turn_behind set l f m m' counted h behind few =
-    let past : CursorData = record m.cursor { left = drop 1 m.cursor.left; used = behind.used } in
+    let past : CursorData = record m.cursor { left = drop 1 m.cursor.left; used = behind.used; ends = behind.ends } in
     subst (CanTurn set l) (sym behind.same)
     (can_turn_past set l m (record m { cursor = past; counted = counted }) h (record { terms = refl; text = refl; joined = refl; widths = refl; identifier = refl; rests = refl }) few refl (record { same = refl }))
 

@@ -10,7 +10,8 @@ use Rattle.fast_tree.specs.declared.instructions.Node.{Node}
 use Rattle.fast_tree.specs.device.Nodes.{field_data}
 use Rattle.fast_tree.specs.meaning.Tree.{FieldData, uses_bit, Instruction, step}
 use Rattle.fast_program.specs.declared.ops.Op.{Op}
-use Rattle.fast_program.specs.device.Codes.{IsPartsCoded}
+use Rattle.fast_tree.specs.declared.operators.Operator.{Operator}
+use Rattle.fast_program.specs.device.Codes.{IsPartsCoded, IsChangedPartsCoded}
 use Rattle.fast_dict.specs.meaning.Slots.{slots_dictionary, slots_terms}
 use Rattle.fast_stream.specs.device.GrammarReaders.{reader_of}
 use Rattle.fast_units.specs.device.Settling.{Serves}
@@ -27,6 +28,10 @@ use Rattle.fast_decoder.specs.device.Positions.{Set, body_in, turning, IsAtParts
 -- The op's node is a decimal by parts.
 abbrev pub IsPartsOp : Set → Op → Type 0
 IsPartsOp set op = (x : Node) → slice_get set.nodes op.node ≡ Some x → IsPartsCoded x.shape
+
+-- The op's node is a decimal by parts: an exponent under the operator, and a mantissa under delta that is there.
+abbrev pub IsChangedPartsOp : Set → Op → Operator → Bool → Type 0
+IsChangedPartsOp set op operator optional = (x : Node) → slice_get set.nodes op.node ≡ Some x → IsChangedPartsCoded operator optional op.entry x.shape
 
 -- the presence bit of a field, which is next at the place: set, if it has none
 abbrev pub bit_at_place : CursorData → Place → FieldData → Bool

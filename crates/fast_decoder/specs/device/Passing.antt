@@ -16,7 +16,7 @@ use Rattle.fast_decoder.specs.device.Positions.{Set, tree_in, body_in, frames_in
 
 -- The cursor is past the next instruction, and bits may have been used.
 pub record IsPast (old new : CursorData) : Type 0 where
-  pub same : new ≡ record old { left = drop 1 old.left; used = new.used }
+  pub same : new ≡ record old { left = drop 1 old.left; used = new.used; ends = new.ends }
 
 -- the state behind a field that a cursor is at
 abbrev pub state_past : FieldData → Dictionary → ℕ → CursorData → State

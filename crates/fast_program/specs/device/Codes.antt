@@ -10,7 +10,7 @@ use Rattle.fast_tree.specs.declared.instructions.Shape.{Shape}
 use Rattle.fast_tree.specs.declared.instructions.Shape.TheVariants.{Field, Decimal as by_parts, Group as a_group, Sequence as a_sequence}
 use Rattle.fast_tree.specs.meaning.Entries.{keeps_value}
 use Rattle.fast_program.specs.declared.codes.Code.{Code}
-use Rattle.fast_program.specs.declared.codes.Code.TheVariants.{General, End, Constant, Parts, Group, OptionalGroup, Sequence, OptionalSequence}
+use Rattle.fast_program.specs.declared.codes.Code.TheVariants.{General, End, Constant, Parts, PartsDefault, PartsNullableDefault, PartsCopy, PartsNullableCopy, Group, OptionalGroup, Sequence, OptionalSequence}
 use Rattle.fast_program.specs.declared.codes.Code.TheVariants.{UInt32Plain, UInt32NullablePlain, UInt32Default, UInt32NullableDefault, UInt32Copy, UInt32NullableCopy, UInt32Increment, UInt32NullableIncrement, UInt32Delta, UInt32NullableDelta}
 use Rattle.fast_program.specs.declared.codes.Code.TheVariants.{Int32Plain, Int32NullablePlain, Int32Default, Int32NullableDefault, Int32Copy, Int32NullableCopy, Int32Increment, Int32NullableIncrement, Int32Delta, Int32NullableDelta}
 use Rattle.fast_program.specs.declared.codes.Code.TheVariants.{UInt64Plain, UInt64NullablePlain, UInt64Default, UInt64NullableDefault, UInt64Copy, UInt64NullableCopy, UInt64Increment, UInt64NullableIncrement, UInt64Delta, UInt64NullableDelta}
@@ -34,6 +34,12 @@ IsConstantCoded shape = (f : FieldInstruction) × (shape ≡ Field f) × (f.oper
 abbrev pub IsPartsCoded : Shape → Type 0
 IsPartsCoded shape = (e m : FieldInstruction) × (shape ≡ by_parts e m)
 
+-- The shape is a decimal by parts: an exponent under the operator, which may be absent or not, and a mantissa under delta that is
+-- there and has this entry.
+abbrev pub IsChangedPartsCoded : Operator → Bool → ℕ → Shape → Type 0
+IsChangedPartsCoded operator optional entry shape =
+    (e m : FieldInstruction) × (shape ≡ by_parts e m) × (e.operator ≡ operator) × (e.optional ≡ optional) × (m.operator ≡ Delta) × (m.optional ≡ false) × (m.entry ≡ Some entry)
+
 -- The shape is a group, which may be absent or not.
 abbrev pub IsGroupCoded : Bool → Shape → Type 0
 IsGroupCoded optional shape = (body : Vec ℕ Global) × (shape ≡ a_group optional body)
@@ -50,6 +56,7 @@ pub data Claim : Type 0 where
   field_of : Kind → Operator → Bool → Claim
   constant_field : Claim
   decimal_parts : Claim
+  changed_parts : Operator → Bool → Claim
   group_of : Bool → Claim
   sequence_of : Bool → Claim
 
@@ -123,6 +130,10 @@ says BytesNullablePlain = field_of Bytes no_operator true
 says BytesTail = field_of Bytes Tail false
 says BytesNullableTail = field_of Bytes Tail true
 says Parts = decimal_parts
+says PartsDefault = changed_parts Default false
+says PartsNullableDefault = changed_parts Default true
+says PartsCopy = changed_parts Copy false
+says PartsNullableCopy = changed_parts Copy true
 says Group = group_of false
 says OptionalGroup = group_of true
 says Sequence = sequence_of false
@@ -135,6 +146,7 @@ IsClaimed never entry shape = ⊥
 IsClaimed (field_of kind operator optional) entry shape = IsFieldCoded kind operator optional entry shape
 IsClaimed constant_field entry shape = IsConstantCoded shape
 IsClaimed decimal_parts entry shape = IsPartsCoded shape
+IsClaimed (changed_parts operator optional) entry shape = IsChangedPartsCoded operator optional entry shape
 IsClaimed (group_of optional) entry shape = IsGroupCoded optional shape
 IsClaimed (sequence_of optional) entry shape = IsSequenceCoded optional shape
 
@@ -145,6 +157,11 @@ IsCoded code entry shape = IsClaimed (says code) entry shape
 -- The code suits each field of the kind under the operator, which may be absent or not.
 abbrev pub IsCodeFor : Kind → Operator → Bool → Code → Type 0
 IsCodeFor kind operator optional code = (entry : ℕ) (shape : Shape) → IsFieldCoded kind operator optional entry shape → IsCoded code entry shape
+
+-- The code suits each decimal by this exponent and a mantissa under delta that is there.
+abbrev pub IsPartsCode : FieldInstruction → Code → Type 0
+IsPartsCode exponent code =
+    (entry : ℕ) (m : FieldInstruction) → m.operator ≡ Delta → m.optional ≡ false → m.entry ≡ Some entry → IsCoded code entry (by_parts exponent m)
 
 -- The code suits each group that may be absent or not.
 abbrev pub IsGroupCode : Bool → Code → Type 0

@@ -10,14 +10,14 @@ use Rattle.fast_cursor.proofs.map_place.word_at.Goals as goal
 pub returns-then-first-map : goal.returns-then-first-map
 returns-then-first-map c =
     let size : length (bits c.args.map.now) ≡ 7 * length c.args.map.now = length-bits c.args.map.now in
-    top-past 56 (7 * c.args.first) (bits c.args.map.now) (omega (arith, size, c.if-first-map.true))
+    top-past (7 * c.args.first) (bits c.args.map.now) (omega (arith, size, c.if-first-map.true))
 
 pub returns : goal.returns
 returns c =
-    let first = c.from-first.result in
+    let first = c.args.first in
     let size : length (drop first c.args.map.now) ≡ length c.args.map.now - first = length-drop first c.args.map.now in
     let same : take (length c.args.map.now - first) (drop first c.args.map.now) ≡ drop c.args.first c.args.map.now
-    = take_all (length c.args.map.now - first) (drop first c.args.map.now) (omega (arith, size)) ∙ ap (λ n. drop n c.args.map.now) c.from-first.ensures in
+    = take_all (length c.args.map.now - first) (drop first c.args.map.now) (omega (arith, size)) in
     let count : c.min.result ≡ min (length c.args.map.now - c.args.first) 8
     = c.min.ensures ∙ ap (λ w. min (length w) 8) same ∙ ap (λ n. min n 8) (length-drop c.args.first c.args.map.now) in
     top-from c.args.map.now c.args.first c.min.result c.word_of.result count

@@ -1,10 +1,8 @@
 -- The number behind the one that is held, or absent as before.
 use Rattle.std.proofs.Common.{◌≡◌, ◌∙◌, refl, sym, ap}
 use Rattle.std.specs.Prelude.{false, List, ℕ, Some}
-use Rattle.fast_value.specs.meaning.Kinds.{integer_of, value_of_integer}
 use Rattle.fast_dict.specs.device.Entry.{with_text}
 use Rattle.fast_dict.specs.meaning.Dictionary.{empty, assigned, previous_at}
-use Rattle.fast_dict.specs.meaning.Operators.{incremented, range_of}
 use Rattle.fast_dict.specs.meaning.Slots.{slots_dictionary}
 use Rattle.fast_units.specs.device.Deciding.{number_data}
 use Rattle.fast_units.specs.device.IntegerItems.{item_held}
@@ -19,7 +17,7 @@ returns-in_ok-next-in-Some-clause-decided c =
     let held : previous_at (Some c.args.entry) (slots_dictionary c.args.slots.now) ≡ assigned kind v =
     sym c.held.ensures.1 ∙ c.in_ok-number.ensures.held c.held.ensures.0 ∙ ap (item_held kind) c.in-Some.is in
     increased_item kind c.args.optional c.args.entry c.args.slots.now c.keep_at.new.slots v c.in_ok-next-in-Some.next held
-    (c.in_ok-next-in-Some.ensures ∙ c.next_integer.ensures ∙ ap (λ x. value_of_integer kind (incremented (range_of kind) (integer_of x))) c.as_scalar.ensures)
+    c.in_ok-next-in-Some.ensures
     c.keep_at.ensures.entry
 
 pub returns-in-None-clause-decided : goal.returns-in-None-clause-decided

@@ -3,13 +3,14 @@ use Rattle.std.proofs.Common.{refl, ◌≡◌, ◌≤◌, ◌∙◌, [], ◌∷�
 use Rattle.fast_wire.specs.meaning.Maps.{map_limit, bits, later_bits}
 use Rattle.fast_cursor.specs.device.Runs.{run_at, IsRun}
 use Rattle.fast_cursor.specs.device.Cursors.{CursorData}
-use Rattle.fast_cursor.specs.device.MapPlaces.{used_bits, IsPlace}
+use Rattle.fast_cursor.specs.device.MapPlaces.{used_at, IsPlace, IsWord}
 use Rattle.fast_cursor.specs.device.Places.{IsPlaceOf}
-use Rattle.fast_cursor.specs.device.Segments.{map_at, frames_on}
+use Rattle.fast_cursor.specs.device.Segments.{map_at, frames_on, cursor_data}
 use Rattle.fast_cursor.specs.declared.cursor.Cursor.TheInside.{Inside}
 use Rattle.fast_cursor.specs.declared.map_place.MapPlace.{MapPlace}
 use Rattle.fast_cursor.specs.declared.place.Place.{Place}
 use Rattle.fast_cursor.proofs.Segments.{cells-there, only-map, only-places, one-before, one-inner}
+use Rattle.fast_cursor.proofs.MapMarks.{word-spent}
 use Rattle.fast_cursor.proofs.cursor.Cursor.begin_message.Goals as goal
 
 -- the byte's cell
@@ -31,21 +32,28 @@ invariant_of-self c =
       behind = c.self.invariant.behind;
     }
 
+pub use_bit-requires : goal.use_bit-requires
+use_bit-requires c = record {
+  more = λ e. let spent = word-spent c.of_byte-self-inside.result.word e in let left = c.of_byte-self-inside.ensures.left in absurd (omega (arith, spent, left));
+}
+
 pub returns-clause-same : goal.returns-clause-same
 returns-clause-same c =
     let i = c.self.inside in
     let b : ℕ = c.args.byte in
     let p : MapPlace = c.of_byte-self-inside.result in
     let there : i.start + map_limit ≤ length i.maps.items = cells-there i c.self.invariant in
-    let view : List ℕ → ℕ → CursorData = λ w n. record { ops = i.ops.now; frames = frames_on i.ops.now (set i.maps.items i.start b) 0 (take i.level i.frames.items) []; left = run_at i.ops.now i.ip; map = w; used = n; depth = length i.frames.items } in
-    ap (λ w. view w (used_bits p)) (here i b p there c.of_byte-self-inside.ensures.len)
-    ∙ ap (view (b ∷ [])) c.of_byte-self-inside.ensures.used
-    ∙ ap (λ (x : CursorData). record x { used = 0 })
-    (only-map i c.args.self.now (set i.maps.items i.start b) (b ∷ []) (used_bits i.map) c.self.invariant c.self.view_is (one-before i.maps.items i.start b (omega (arith, there))) refl)
+    let cells : List ℕ = set i.maps.items i.start b in
+    let view : List ℕ → ℕ → ℕ → CursorData = λ w n e. record { ops = i.ops.now; frames = frames_on i.ops.now cells 0 (take i.level i.frames.items) []; left = run_at i.ops.now i.ip; map = w; used = n; ends = e; depth = length i.frames.items } in
+    ap (λ n. view (map_at cells i.start p.len) n p.end) (c.of_byte-self-inside.ensures.used (map_at cells i.start p.len))
+    ∙ ap (λ w. view w 0 p.end) (here i b p there c.of_byte-self-inside.ensures.len)
+    ∙ ap (view (b ∷ []) 0) c.of_byte-self-inside.ensures.end
+    ∙ ap (λ (x : CursorData). record x { used = 0; ends = 8 })
+    (only-map i c.args.self.now cells (b ∷ []) (cursor_data i).used i.map.end c.self.invariant c.self.view_is (one-before i.maps.items i.start b (omega (arith, there))) refl refl)
 
 -- The place before the first bit is one of the cursor.
-before : (d : CursorData) (p : Place) (b : ℕ) → p.ops.now ≡ d.ops → IsRun p.ops.now p.ip → d.map ≡ b ∷ [] → IsPlace (b ∷ []) p.map → p.map.len ≡ 1 → IsPlaceOf d p
-before d p b ops run map place len = record { ops = ops; run = run; place = subst (λ w. IsPlace w p.map) (sym map) place; len = len ∙ sym (ap length map) }
+before : (d : CursorData) (p : Place) (b : ℕ) → p.ops.now ≡ d.ops → IsRun p.ops.now p.ip → d.map ≡ b ∷ [] → IsWord (b ∷ []) d.ends p.word → IsPlaceOf d p
+before d p b ops run map word = record { ops = ops; run = run; word = subst (λ w. IsWord w d.ends p.word) (sym map) word }
 
 pub returns-clause-bits : goal.returns-clause-bits
 returns-clause-bits c =
@@ -54,14 +62,15 @@ returns-clause-bits c =
     let p : MapPlace = c.of_byte-self-inside.result in
     let there : i.start + map_limit ≤ length i.maps.items = cells-there i c.self.invariant in
     let cells : List ℕ = set i.maps.items i.start b in
-    let is : map_at cells i.start p.len ≡ b ∷ [] = here i b p there c.of_byte-self-inside.ensures.len in
-    let d : CursorData = record { ops = i.ops.now; frames = frames_on i.ops.now cells 0 (take i.level i.frames.items) []; left = run_at i.ops.now i.ip; map = map_at cells i.start p.len; used = used_bits p; depth = length i.frames.items } in
-    let at : Place = record c.args.place.now { ip = c.args.start; map = p } in
+    let map : List ℕ = map_at cells i.start p.len in
+    let is : map ≡ b ∷ [] = here i b p there c.of_byte-self-inside.ensures.len in
+    let d : CursorData = record { ops = i.ops.now; frames = frames_on i.ops.now cells 0 (take i.level i.frames.items) []; left = run_at i.ops.now i.ip; map = map; used = used_at map p.end p.word; ends = p.end; depth = length i.frames.items } in
+    let at : Place = record c.args.place.now { ip = c.args.start; word = p.word } in
     let run : IsRun at.ops.now c.args.start = subst (λ ops. IsRun ops c.args.start) (sym c.requires.place.ops) c.requires.run in
     let ops : at.ops.now ≡ i.ops.now = c.requires.place.ops ∙ ap (λ (x : CursorData). x.ops) (sym c.self.view_is) in
-    c.use_bit.ensures.bits d (before d at b ops run is c.of_byte-self-inside.ensures.place c.of_byte-self-inside.ensures.len)
-    ∙ ap (λ w. later_bits (drop (used_bits p) (bits w))) is
-    ∙ ap (λ n. later_bits (drop n (bits (b ∷ [])))) c.of_byte-self-inside.ensures.used
+    c.use_bit.ensures.bits d (before d at b ops run is c.of_byte-self-inside.ensures.place.is)
+    ∙ ap (λ n. later_bits (drop n (bits map))) (c.of_byte-self-inside.ensures.used map)
+    ∙ ap (λ w. later_bits (bits w)) is
 
 pub returns-clause-place : goal.returns-clause-place
 returns-clause-place c =
@@ -70,9 +79,10 @@ returns-clause-place c =
     let p : MapPlace = c.of_byte-self-inside.result in
     let there : i.start + map_limit ≤ length i.maps.items = cells-there i c.self.invariant in
     let cells : List ℕ = set i.maps.items i.start b in
-    let is : map_at cells i.start p.len ≡ b ∷ [] = here i b p there c.of_byte-self-inside.ensures.len in
-    let d : CursorData = record { ops = i.ops.now; frames = frames_on i.ops.now cells 0 (take i.level i.frames.items) []; left = run_at i.ops.now i.ip; map = map_at cells i.start p.len; used = used_bits p; depth = length i.frames.items } in
-    let at : Place = record c.args.place.now { ip = c.args.start; map = p } in
+    let map : List ℕ = map_at cells i.start p.len in
+    let is : map ≡ b ∷ [] = here i b p there c.of_byte-self-inside.ensures.len in
+    let d : CursorData = record { ops = i.ops.now; frames = frames_on i.ops.now cells 0 (take i.level i.frames.items) []; left = run_at i.ops.now i.ip; map = map; used = used_at map p.end p.word; ends = p.end; depth = length i.frames.items } in
+    let at : Place = record c.args.place.now { ip = c.args.start; word = p.word } in
     let run : IsRun at.ops.now c.args.start = subst (λ ops. IsRun ops c.args.start) (sym c.requires.place.ops) c.requires.run in
     let ops : at.ops.now ≡ i.ops.now = c.requires.place.ops ∙ ap (λ (x : CursorData). x.ops) (sym c.self.view_is) in
-    c.use_bit.ensures.place d (before d at b ops run is c.of_byte-self-inside.ensures.place c.of_byte-self-inside.ensures.len)
+    c.use_bit.ensures.place d (before d at b ops run is c.of_byte-self-inside.ensures.place.is)

@@ -8,7 +8,7 @@ use Rattle.fast_cursor.specs.device.Cursors.{CursorData}
 use Rattle.fast_cursor.specs.device.Segments.{map_at, frame_elements, IsRunOf}
 use Rattle.fast_cursor.proofs.Segments.{has-room, places-more, entered-is}
 use Rattle.fast_cursor.proofs.Runs.{running-more}
-use Rattle.fast_cursor.proofs.MapWords.{place-none}
+use Rattle.fast_cursor.proofs.MapMarks.{place-none}
 use Rattle.fast_cursor.proofs.cursor.Cursor.enter.Goals as goal
 
 pub index_mut-requires : goal.index_mut-requires

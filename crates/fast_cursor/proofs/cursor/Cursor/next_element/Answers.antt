@@ -11,7 +11,7 @@ use Rattle.fast_cursor.specs.device.Nexts.{gone_on}
 use Rattle.fast_cursor.specs.device.Segments.{map_at, ArePlaces, AreRunning, IsRunning, IsRunOf}
 use Rattle.fast_cursor.proofs.Segments.{length-open, places-less, places-more}
 use Rattle.fast_cursor.proofs.Runs.{running-less, running-more}
-use Rattle.fast_cursor.proofs.MapWords.{place-none}
+use Rattle.fast_cursor.proofs.MapMarks.{place-none}
 use Rattle.fast_cursor.proofs.Nexts.{marked-some, stays, next-is, goes_on}
 use Rattle.fast_cursor.proofs.cursor.Cursor.next_element.Goals as goal
 use Rattle.fast_cursor.proofs.cursor.Cursor.next_element.Goals.{then-frame-eq0-via-then-frame-eq0, then-frame-eq0-via-else-frame-eq0+then-frame-eq0-2}

@@ -1,11 +1,15 @@
 use Rattle.std.proofs.Common.{◌≡◌, ◌<◌, ◌≤◌, ◌∙◌, [], ◌∷◌, List, ℕ, ap, sym, subst, arith, rules, length, length-set, get_or, set, ◌+◌}
+use Rattle.std.specs.Prelude.{nat_eq, false}
 use Rattle.fast_wire.specs.meaning.Maps.{map_limit}
 use Rattle.fast_cursor.specs.device.Cursors.{CursorData}
-use Rattle.fast_cursor.specs.device.MapPlaces.{used_bits, IsPlace}
+use Rattle.fast_cursor.specs.device.MapPlaces.{IsPlace}
 use Rattle.fast_cursor.specs.device.Segments.{map_at}
-use Rattle.fast_cursor.proofs.Segments.{cells-there, only-map, only-places, one-before, one-inner}
+use Rattle.fast_cursor.proofs.Segments.{cells-there, unused, only-map, only-places, one-before, one-inner}
 use Rattle.fast_cursor.proofs.MapTakings.{taken-first}
 use Rattle.fast_cursor.proofs.cursor.Cursor.take_byte.Goals as goal
+
+by_test : (n : ℕ) → nat_eq n 0 ≡ false → 0 < n
+by_test n h = search (rules, h)
 
 pub invariant_of-self : goal.invariant_of-self
 invariant_of-self c =
@@ -34,7 +38,7 @@ returns-then-byte-ge128-clause-map c is =
     let there : start + map_limit ≤ length cells = cells-there c.self.inside c.self.invariant in
     let len : c.self.inside.map.len ≡ 0 = search (rules, c.if-self-eq0.true) in
     let none : c.args.self.now.map ≡ [] = ap (λ (d : CursorData). d.map) (sym c.self.view_is) ∙ ap (map_at cells start) len in
-    let some : 0 < length c.args.rest.now = search rules in
+    let some : 0 < length c.args.rest.now = by_test (length c.args.rest.now) (sym c.is_empty.ensures ∙ c.if-not-is_empty.true) in
     let stop : 128 ≤ b = search (rules, c.if-byte-ge128.true) in
     taken-first c.args.self.now.map c.args.rest.now _ none some stop
     (ap (map_at (set cells start b) start) c.of_byte-self-inside.ensures.len ∙ one-inner cells start b (omega arith))
@@ -51,6 +55,6 @@ returns-then-byte-ge128-clause-same c =
     let b : ℕ = get_or c.args.rest.now 0 0 in
     let there : start + map_limit ≤ length cells = cells-there c.self.inside c.self.invariant in
     let len : c.self.inside.map.len ≡ 0 = search (rules, c.if-self-eq0.true) in
-    let none : c.self.inside.map.end ≡ 0 = c.self.invariant.place.counted.none len in
-    let used : used_bits c.of_byte-self-inside.result ≡ used_bits c.self.inside.map = let e = c.of_byte-self-inside.ensures.used in omega arith in
-    only-map c.self.inside c.args.self.now (set cells start b) _ (used_bits c.of_byte-self-inside.result) c.self.invariant c.self.view_is (one-before cells start b (omega arith)) used
+    let (used, end) = unused c.self.inside c.self.invariant len in
+    only-map c.self.inside c.args.self.now (set cells start b) _ _ c.of_byte-self-inside.result.end c.self.invariant c.self.view_is (one-before cells start b (omega (arith, there)))
+    (c.of_byte-self-inside.ensures.used _ ∙ sym used) (c.of_byte-self-inside.ensures.end ∙ sym end)

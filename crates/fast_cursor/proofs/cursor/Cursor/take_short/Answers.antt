@@ -4,9 +4,9 @@ use Rattle.std.specs.Vec.{with_items}
 use Rattle.std.proofs.lemmas.List.{take-take, length-take-le}
 use borrow.Rule.Slice.PartMut.{put_mid}
 use Rattle.fast_cursor.specs.device.Cursors.{CursorData}
-use Rattle.fast_cursor.specs.device.MapPlaces.{used_bits, IsPlace}
+use Rattle.fast_cursor.specs.device.MapPlaces.{IsPlace}
 use Rattle.fast_cursor.specs.device.Segments.{map_at}
-use Rattle.fast_cursor.proofs.Segments.{only-map, only-places, front-back}
+use Rattle.fast_cursor.proofs.Segments.{unused, only-map, only-places, front-back}
 use Rattle.fast_cursor.proofs.MapTakings.{taken-entity}
 use Rattle.fast_cursor.proofs.cursor.Cursor.take_short.Goals as goal
 
@@ -59,6 +59,5 @@ returns-clause-same c =
     let now : Vec ℕ Global = with_items i.maps (put_mid i.start (i.start + 8 - i.start) c.deref_mut.result.now c.copy_from_slice.new.self) in
     let filled = front-back i c.deref_mut.result.now c.copy_from_slice.new.self _ c.self.invariant c.deref_mut.ensures.value k eight in
     let len : i.map.len ≡ 0 = search (rules, c.if-self-ne0.false) in
-    let none : i.map.end ≡ 0 = c.self.invariant.place.counted.none len in
-    let used : used_bits c.of_entity-self-inside.result ≡ used_bits i.map = let e = c.of_entity-self-inside.ensures.used in omega arith in
-    only-map i c.args.self.now now.items _ (used_bits c.of_entity-self-inside.result) c.self.invariant c.self.view_is filled.before used
+    let (used, end) = unused i c.self.invariant len in
+    only-map i c.args.self.now now.items _ _ c.of_entity-self-inside.result.end c.self.invariant c.self.view_is filled.before (c.of_entity-self-inside.ensures.used _ ∙ sym used) (c.of_entity-self-inside.ensures.end ∙ sym end)

@@ -40,7 +40,7 @@ returns-then-not-bit g c =
         place = c.pass.ensures.place m.cursor c.requires.spot.place;
         step = absent_group g.S.Sink.takes g.S.Sink.stops set c.args.limits m c.args.spot.now c.after-self.result c.after-self.ensures c.from-node.result (run_in set c.body_start-start.result) c.pass.new.self c.requires.spot.can
             (subst (λ b. IsAtGroup set (at_place m.cursor c.args.spot.now.place) c.from-node.result b (run_in set c.body_start-start.result)) c.if-not-optional.false next)
-            (sym (c.if-not-bit.ensures m.cursor c.requires.spot.place)) (c.pass.ensures.past m.cursor) (c.pass.ensures.bits m.cursor c.requires.spot.place) c.args.sink.now;
+            (sym (c.bit.ensures.is m.cursor c.requires.spot.place (c.bit.ensures.clear c.if-not-bit.true)) ∙ c.if-not-bit.true) (c.pass.ensures.past m.cursor) (c.pass.ensures.bits m.cursor c.requires.spot.place) c.args.sink.now;
       };
     }
 
@@ -62,7 +62,7 @@ returns g c =
       went = c.enter_arm-2.ensures.went c.args.spot.now
           (group_by_bit set c.args.limits m c.args.spot.now _ c.from-node.result (run_in set c.body_start-start.result) refl c.use_bit.ensures.left (c.use_bit.ensures.bits m.cursor c.requires.spot.place) (c.use_bit.ensures.same m.cursor)
           (subst (λ b. IsAtGroup set (at_place m.cursor c.args.spot.now.place) c.from-node.result b (run_in set c.body_start-start.result)) c.if-not-optional.false next)
-          (sym (c.if-not-bit.ensures m.cursor c.requires.spot.place)));
+          (sym (c.bit.ensures.is m.cursor c.requires.spot.place (c.is_spent.ensures.more c.if-is_spent.false)) ∙ c.if-not-bit.false));
     }
 
 pub enter_arm-requires-clause-run : goal.enter_arm-requires-clause-run

@@ -39,7 +39,7 @@ returns-in_err-hand-in-Ok-clause-turn g c =
     let fits : FitsSigned w128 c.in-Some.claimed = search rules in
     let m' : Machine = record mid { cursor = c.advance.new.self; counted = mid.counted + n } in
     let v = value_at c.args.source f (slots_dictionary m.slots) m.text.text [] in
-    let counted : mid.counted ≡ m.counted = counted_still m mid (record m.cursor { used = mid.cursor.used }) c.use_bit_of.ensures.same in
+    let counted : mid.counted ≡ m.counted = counted_still m mid (record m.cursor { used = mid.cursor.used; ends = mid.cursor.ends }) c.use_bit_of.ensures.same in
     let behind : IsBehind f m m' (m.counted + n) = behind_field f m mid c.advance.new.self (mid.counted + n) (m.counted + n) c.use_bit_of.ensures.same c.use_bit_of.ensures.bits c.advance.ensures (ap (λ k. k + n) counted) in
     let few : m.counted + n ≤ c.args.limits.max_total = subst (λ k. k + n ≤ c.args.limits.max_total) counted c.in-Ok.ensures.total in
     let r = err_from_is_err_and c.from_residual.result c.from_residual.ensures.1 in
@@ -57,7 +57,7 @@ next_element-requires-clause-turn g c =
     let mid = c.use_bit_of.new.self in
     let n = c.in-Ok.count in
     let m' : Machine = record mid { cursor = c.advance.new.self; counted = mid.counted + n } in
-    let counted : mid.counted ≡ m.counted = counted_still m mid (record m.cursor { used = mid.cursor.used }) c.use_bit_of.ensures.same in
+    let counted : mid.counted ≡ m.counted = counted_still m mid (record m.cursor { used = mid.cursor.used; ends = mid.cursor.ends }) c.use_bit_of.ensures.same in
     let behind : IsBehind f m m' (m.counted + n) = behind_field f m mid c.advance.new.self (mid.counted + n) (m.counted + n) c.use_bit_of.ensures.same c.use_bit_of.ensures.bits c.advance.ensures (ap (λ k. k + n) counted) in
     let few : m.counted + n ≤ c.args.limits.max_total = subst (λ k. k + n ≤ c.args.limits.max_total) counted c.in-Ok.ensures.total in
     can_turn_behind set c.args.limits f m m' (m.counted + n) c.requires.turn behind few
@@ -72,7 +72,7 @@ returns-in_ok-hand-in-Ok-clause-turn g c =
     let fits : FitsSigned w128 c.in-Some.claimed = search rules in
     let m' : Machine = record mid { cursor = c.advance.new.self; counted = mid.counted + n } in
     let v = value_at c.args.source f (slots_dictionary m.slots) m.text.text [] in
-    let counted : mid.counted ≡ m.counted = counted_still m mid (record m.cursor { used = mid.cursor.used }) c.use_bit_of.ensures.same in
+    let counted : mid.counted ≡ m.counted = counted_still m mid (record m.cursor { used = mid.cursor.used; ends = mid.cursor.ends }) c.use_bit_of.ensures.same in
     let behind : IsBehind f m m' (m.counted + n) = behind_field f m mid c.advance.new.self (mid.counted + n) (m.counted + n) c.use_bit_of.ensures.same c.use_bit_of.ensures.bits c.advance.ensures (ap (λ k. k + n) counted) in
     turn_more g.S.Sink.takes g.S.Sink.stops set c.args.limits (length_from set c.args.limits m c.args.node v f (run_in (set_of c.args.templates.now) c.args.start)) (elements_of set c.args.limits m' n (run_in (set_of c.args.templates.now) c.args.start)) (SequenceStart c.args.node n)
     c.args.sink.now c.hand.new.sink c.next_element.result c.next_element.new.sink c.next_element.new.self

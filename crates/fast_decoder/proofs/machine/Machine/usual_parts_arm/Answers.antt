@@ -12,8 +12,8 @@ use Rattle.fast_decoder.specs.device.Positions.{set_of}
 use Rattle.fast_decoder.proofs.arms.Parts.{usual_uses, exponent_serves, part_within, absent_led}
 use Rattle.fast_decoder.proofs.machine.Machine.usual_parts_arm.Goals as goal
 
-pub usual_exponent-requires-clause-within : goal.usual_exponent-requires-clause-within
-usual_exponent-requires-clause-within g c = (exponent_serves (set_of c.args.templates.now) c.args.limits c.args.self.now c.args.spot.now c.args.node c.args.exponent.now c.args.mantissa.now c.requires.decimal).within
+pub usual_exponent-read-requires-clause-within : goal.usual_exponent-read-requires-clause-within
+usual_exponent-read-requires-clause-within g c = (exponent_serves (set_of c.args.templates.now) c.args.limits c.args.self.now c.args.spot.now c.args.node c.args.exponent.now c.args.mantissa.now c.requires.decimal).within
 
 pub keep_exponent-requires-clause-within : goal.keep_exponent-requires-clause-within
 keep_exponent-requires-clause-within g c = (exponent_serves (set_of c.args.templates.now) c.args.limits c.args.self.now c.args.spot.now c.args.node c.args.exponent.now c.args.mantissa.now c.requires.decimal).within
@@ -27,13 +27,13 @@ changed_mantissa_arm-requires-clause-bit g c =
 pub changed_mantissa_arm-requires-clause-part : goal.changed_mantissa_arm-requires-clause-part
 changed_mantissa_arm-requires-clause-part g c =
     let fits : FitsSigned w32 c.in-Some-part.number = search rules in
-    subst (λ (x : Option ℤ). IsPart c.args.exponent.now c.in-Some.bit c.args.limits.strict c.args.spot.now.rest.now c.args.self.now.slots x c.in-Some-usual_exponent.used)
+    subst (λ (x : Option ℤ). IsPart c.args.exponent.now c.in-Some.bit c.args.limits.strict c.args.spot.now.rest.now c.args.self.now.slots x c.in-Some-read.used)
     (c.in-Some-part.is ∙ ap Some (sym (again w32 c.in-Some-part.number fits)))
-    (c.in-Some-usual_exponent.ensures.part c.args.limits.strict)
+    (c.in-Some-read.ensures.part c.args.limits.strict)
 
 pub hand_sent-requires-clause-within : goal.hand_sent-requires-clause-within
 hand_sent-requires-clause-within g c =
-    part_within c.args.exponent.now c.in-Some.bit c.args.limits.strict c.args.spot.now.rest.now c.args.self.now.slots c.in-Some-usual_exponent.part c.in-Some-usual_exponent.used (c.in-Some-usual_exponent.ensures.part c.args.limits.strict)
+    part_within c.args.exponent.now c.in-Some.bit c.args.limits.strict c.args.spot.now.rest.now c.args.self.now.slots c.in-Some-read.part c.in-Some-read.used (c.in-Some-read.ensures.part c.args.limits.strict)
 
 pub returns-in-None : goal.returns-in-None
 returns-in-None g c =
@@ -45,8 +45,8 @@ returns-in-None g c =
     let f = c.args.mantissa.now in
     let at = c.requires.decimal in
     let uses = sym (usual_uses e c.requires.usual) in
-    let part = subst (λ (x : Option ℤ). IsPart e c.in-Some.bit l.strict from.rest.now m.slots x c.in-Some-usual_exponent.used) c.in-None.is (c.in-Some-usual_exponent.ensures.part l.strict) in
-    let none : c.in-Some-usual_exponent.used ≡ 0 = search rules in
+    let part = subst (λ (x : Option ℤ). IsPart e c.in-Some.bit l.strict from.rest.now m.slots x c.in-Some-read.used) c.in-None.is (c.in-Some-read.ensures.part l.strict) in
+    let none : c.in-Some-read.used ≡ 0 = search rules in
     record {
       went = c.hand_behind.ensures.went set l m m from (field_data e) uses refl refl
           (absent_led set l m from c.args.node e f at m.slots c.in-Some.bit
@@ -70,6 +70,6 @@ returns-in-None-2 g c =
       went = c.hand_sent.ensures.went set l m (record m { slots = mid }) from (field_data e) uses refl refl
           (absent_led set l m from c.args.node e f at mid c.in-Some.bit
           (c.in-Some.ensures.bit m.cursor at.spot.place ∙ ap (λ (b : Bool). if b then first_bit (bits_left (at_place m.cursor from.place)) else true) uses)
-          c.keep_exponent.ensures.terms c.in-Some-usual_exponent.used
-          (subst (λ (x : Option ℤ). IsPart e c.in-Some.bit l.strict from.rest.now m.slots x c.in-Some-usual_exponent.used) c.in-None.is (c.in-Some-usual_exponent.ensures.part l.strict)) c.keep_exponent.ensures.kept c.keep_exponent.ensures.same);
+          c.keep_exponent.ensures.terms c.in-Some-read.used
+          (subst (λ (x : Option ℤ). IsPart e c.in-Some.bit l.strict from.rest.now m.slots x c.in-Some-read.used) c.in-None.is (c.in-Some-read.ensures.part l.strict)) c.keep_exponent.ensures.kept c.keep_exponent.ensures.same);
     }

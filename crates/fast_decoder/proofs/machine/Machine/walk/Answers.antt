@@ -11,9 +11,9 @@ use Rattle.fast_decoder.specs.device.Positions.{set_of}
 use Rattle.fast_decoder.specs.device.Steps.{IsStep}
 use Rattle.fast_decoder.proofs.arms.Walks.{went_as, went_place, went_nowhere, went_left, went_within, went_far, gone_end}
 use Rattle.fast_decoder.proofs.machine.Machine.walk.Given.{Over}
-use Rattle.fast_decoder.proofs.machine.Machine.walk.Goals.{After-or_general, in-UInt32Plain, in-UInt32NullablePlain, in-UInt32Default, in-UInt32NullableDefault, in-UInt32Copy, in-UInt32NullableCopy, in-UInt32Increment, in-UInt32NullableIncrement, in-UInt32Delta, in-UInt32NullableDelta, in-UInt64Plain, in-UInt64NullablePlain, in-UInt64Default, in-UInt64NullableDefault, in-UInt64Copy, in-UInt64NullableCopy, in-UInt64Increment, in-UInt64NullableIncrement, in-UInt64Delta, in-UInt64NullableDelta, in-Int32Plain, in-Int32NullablePlain, in-Int32Default, in-Int32NullableDefault, in-Int32Copy, in-Int32NullableCopy, in-Int32Increment, in-Int32NullableIncrement, in-Int32Delta, in-Int32NullableDelta, in-Int64Plain, in-Int64NullablePlain, in-Int64Default, in-Int64NullableDefault, in-Int64Copy, in-Int64NullableCopy, in-Int64Increment, in-Int64NullableIncrement, in-Int64Delta, in-Int64NullableDelta, in-Constant, in-DecimalPlain, in-DecimalNullablePlain, in-DecimalCopy, in-DecimalNullableCopy, in-DecimalDelta, in-DecimalNullableDelta, in-Parts, in-AsciiPlain, in-AsciiNullablePlain, in-AsciiDefault, in-AsciiNullableDefault, in-AsciiCopy, in-AsciiNullableCopy, in-AsciiTail, in-AsciiNullableTail, in-AsciiDelta, in-AsciiNullableDelta, in-UnicodePlain, in-UnicodeNullablePlain, in-UnicodeDelta, in-UnicodeNullableDelta, in-BytesPlain, in-BytesNullablePlain, in-BytesTail, in-BytesNullableTail, in-Group, in-OptionalGroup, in-Sequence, in-OptionalSequence, in-End, in-General}
+use Rattle.fast_decoder.proofs.machine.Machine.walk.Goals.{After-or_general, in-UInt32Plain, in-UInt32NullablePlain, in-UInt32Default, in-UInt32NullableDefault, in-UInt32Copy, in-UInt32NullableCopy, in-UInt32Increment, in-UInt32NullableIncrement, in-UInt32Delta, in-UInt32NullableDelta, in-UInt64Plain, in-UInt64NullablePlain, in-UInt64Default, in-UInt64NullableDefault, in-UInt64Copy, in-UInt64NullableCopy, in-UInt64Increment, in-UInt64NullableIncrement, in-UInt64Delta, in-UInt64NullableDelta, in-Int32Plain, in-Int32NullablePlain, in-Int32Default, in-Int32NullableDefault, in-Int32Copy, in-Int32NullableCopy, in-Int32Increment, in-Int32NullableIncrement, in-Int32Delta, in-Int32NullableDelta, in-Int64Plain, in-Int64NullablePlain, in-Int64Default, in-Int64NullableDefault, in-Int64Copy, in-Int64NullableCopy, in-Int64Increment, in-Int64NullableIncrement, in-Int64Delta, in-Int64NullableDelta, in-Constant, in-DecimalPlain, in-DecimalNullablePlain, in-DecimalCopy, in-DecimalNullableCopy, in-DecimalDelta, in-DecimalNullableDelta, in-Parts, in-PartsDefault, in-PartsNullableDefault, in-PartsCopy, in-PartsNullableCopy, in-AsciiPlain, in-AsciiNullablePlain, in-AsciiDefault, in-AsciiNullableDefault, in-AsciiCopy, in-AsciiNullableCopy, in-AsciiTail, in-AsciiNullableTail, in-AsciiDelta, in-AsciiNullableDelta, in-UnicodePlain, in-UnicodeNullablePlain, in-UnicodeDelta, in-UnicodeNullableDelta, in-BytesPlain, in-BytesNullablePlain, in-BytesTail, in-BytesNullableTail, in-Group, in-OptionalGroup, in-Sequence, in-OptionalSequence, in-End, in-General}
 use Rattle.fast_program.proofs.Claims.{claimed}
-use Rattle.fast_program.specs.declared.codes.Code.TheVariants.{UInt32Plain, UInt32NullablePlain, UInt32Default, UInt32NullableDefault, UInt32Copy, UInt32NullableCopy, UInt32Increment, UInt32NullableIncrement, UInt32Delta, UInt32NullableDelta, UInt64Plain, UInt64NullablePlain, UInt64Default, UInt64NullableDefault, UInt64Copy, UInt64NullableCopy, UInt64Increment, UInt64NullableIncrement, UInt64Delta, UInt64NullableDelta, Int32Plain, Int32NullablePlain, Int32Default, Int32NullableDefault, Int32Copy, Int32NullableCopy, Int32Increment, Int32NullableIncrement, Int32Delta, Int32NullableDelta, Int64Plain, Int64NullablePlain, Int64Default, Int64NullableDefault, Int64Copy, Int64NullableCopy, Int64Increment, Int64NullableIncrement, Int64Delta, Int64NullableDelta, Constant, DecimalPlain, DecimalNullablePlain, DecimalCopy, DecimalNullableCopy, DecimalDelta, DecimalNullableDelta, Parts, AsciiPlain, AsciiNullablePlain, AsciiDefault, AsciiNullableDefault, AsciiCopy, AsciiNullableCopy, AsciiTail, AsciiNullableTail, AsciiDelta, AsciiNullableDelta, UnicodePlain, UnicodeNullablePlain, UnicodeDelta, UnicodeNullableDelta, BytesPlain, BytesNullablePlain, BytesTail, BytesNullableTail, Group, OptionalGroup, Sequence, OptionalSequence}
+use Rattle.fast_program.specs.declared.codes.Code.TheVariants.{UInt32Plain, UInt32NullablePlain, UInt32Default, UInt32NullableDefault, UInt32Copy, UInt32NullableCopy, UInt32Increment, UInt32NullableIncrement, UInt32Delta, UInt32NullableDelta, UInt64Plain, UInt64NullablePlain, UInt64Default, UInt64NullableDefault, UInt64Copy, UInt64NullableCopy, UInt64Increment, UInt64NullableIncrement, UInt64Delta, UInt64NullableDelta, Int32Plain, Int32NullablePlain, Int32Default, Int32NullableDefault, Int32Copy, Int32NullableCopy, Int32Increment, Int32NullableIncrement, Int32Delta, Int32NullableDelta, Int64Plain, Int64NullablePlain, Int64Default, Int64NullableDefault, Int64Copy, Int64NullableCopy, Int64Increment, Int64NullableIncrement, Int64Delta, Int64NullableDelta, Constant, DecimalPlain, DecimalNullablePlain, DecimalCopy, DecimalNullableCopy, DecimalDelta, DecimalNullableDelta, Parts, PartsDefault, PartsNullableDefault, PartsCopy, PartsNullableCopy, AsciiPlain, AsciiNullablePlain, AsciiDefault, AsciiNullableDefault, AsciiCopy, AsciiNullableCopy, AsciiTail, AsciiNullableTail, AsciiDelta, AsciiNullableDelta, UnicodePlain, UnicodeNullablePlain, UnicodeDelta, UnicodeNullableDelta, BytesPlain, BytesNullablePlain, BytesTail, BytesNullableTail, Group, OptionalGroup, Sequence, OptionalSequence}
 use Rattle.fast_decoder.proofs.machine.Machine.walk.Goals as goal
 
 -- What the arm did that the code led to.
@@ -76,6 +76,10 @@ went_here g c =
       | in-DecimalDelta w ↦ went_as takes stops set l m from s did.went did.sink did.self did.spot w.self-is w.sink-is w.spot-is w.went-is w.changed_decimal_arm-went.ensures.went
       | in-DecimalNullableDelta w ↦ went_as takes stops set l m from s did.went did.sink did.self did.spot w.self-is w.sink-is w.spot-is w.went-is w.changed_decimal_arm-went-in-DecimalNullableDelta.ensures.went
       | in-Parts w ↦ went_as takes stops set l m from s did.went did.sink did.self did.spot w.self-is w.sink-is w.spot-is w.went-is w.parts_arm-went.ensures.went
+      | in-PartsDefault w ↦ went_as takes stops set l m from s did.went did.sink did.self did.spot w.self-is w.sink-is w.spot-is w.went-is w.changed_parts_arm-went.ensures.went
+      | in-PartsNullableDefault w ↦ went_as takes stops set l m from s did.went did.sink did.self did.spot w.self-is w.sink-is w.spot-is w.went-is w.changed_parts_arm-went-in-PartsNullableDefault.ensures.went
+      | in-PartsCopy w ↦ went_as takes stops set l m from s did.went did.sink did.self did.spot w.self-is w.sink-is w.spot-is w.went-is w.changed_parts_arm-went-in-PartsCopy.ensures.went
+      | in-PartsNullableCopy w ↦ went_as takes stops set l m from s did.went did.sink did.self did.spot w.self-is w.sink-is w.spot-is w.went-is w.changed_parts_arm-went-in-PartsNullableCopy.ensures.went
       | in-AsciiPlain w ↦ went_as takes stops set l m from s did.went did.sink did.self did.spot w.self-is w.sink-is w.spot-is w.went-is w.ascii_arm-went.ensures.went
       | in-AsciiNullablePlain w ↦ went_as takes stops set l m from s did.went did.sink did.self did.spot w.self-is w.sink-is w.spot-is w.went-is w.ascii_arm-went-in-AsciiNullablePlain.ensures.went
       | in-AsciiDefault w ↦ went_as takes stops set l m from s did.went did.sink did.self did.spot w.self-is w.sink-is w.spot-is w.went-is w.ascii_arm-went-in-AsciiDefault.ensures.went
@@ -161,6 +165,10 @@ or_general-requires g c =
       | in-DecimalDelta w ↦ went_as takes stops set l m from s did.went did.sink did.self did.spot w.self-is w.sink-is w.spot-is w.went-is w.changed_decimal_arm-went.ensures.went
       | in-DecimalNullableDelta w ↦ went_as takes stops set l m from s did.went did.sink did.self did.spot w.self-is w.sink-is w.spot-is w.went-is w.changed_decimal_arm-went-in-DecimalNullableDelta.ensures.went
       | in-Parts w ↦ went_as takes stops set l m from s did.went did.sink did.self did.spot w.self-is w.sink-is w.spot-is w.went-is w.parts_arm-went.ensures.went
+      | in-PartsDefault w ↦ went_as takes stops set l m from s did.went did.sink did.self did.spot w.self-is w.sink-is w.spot-is w.went-is w.changed_parts_arm-went.ensures.went
+      | in-PartsNullableDefault w ↦ went_as takes stops set l m from s did.went did.sink did.self did.spot w.self-is w.sink-is w.spot-is w.went-is w.changed_parts_arm-went-in-PartsNullableDefault.ensures.went
+      | in-PartsCopy w ↦ went_as takes stops set l m from s did.went did.sink did.self did.spot w.self-is w.sink-is w.spot-is w.went-is w.changed_parts_arm-went-in-PartsCopy.ensures.went
+      | in-PartsNullableCopy w ↦ went_as takes stops set l m from s did.went did.sink did.self did.spot w.self-is w.sink-is w.spot-is w.went-is w.changed_parts_arm-went-in-PartsNullableCopy.ensures.went
       | in-AsciiPlain w ↦ went_as takes stops set l m from s did.went did.sink did.self did.spot w.self-is w.sink-is w.spot-is w.went-is w.ascii_arm-went.ensures.went
       | in-AsciiNullablePlain w ↦ went_as takes stops set l m from s did.went did.sink did.self did.spot w.self-is w.sink-is w.spot-is w.went-is w.ascii_arm-went-in-AsciiNullablePlain.ensures.went
       | in-AsciiDefault w ↦ went_as takes stops set l m from s did.went did.sink did.self did.spot w.self-is w.sink-is w.spot-is w.went-is w.ascii_arm-went-in-AsciiDefault.ensures.went
@@ -417,6 +425,18 @@ changed_decimal_arm-went-requires-in-DecimalNullableDelta-clause-field g c = λ 
 
 pub parts_arm-went-requires-clause-parts : goal.parts_arm-went-requires-clause-parts
 parts_arm-went-requires-clause-parts g c = λ x found. claimed c.op_at-op.result.now c.op_at-op.result.now.node x.shape Parts (c.op_at-op.ensures.is (λ e. let d = c.in-Parts.is in absurd cc) x found) c.in-Parts.is
+
+pub changed_parts_arm-went-requires-clause-parts : goal.changed_parts_arm-went-requires-clause-parts
+changed_parts_arm-went-requires-clause-parts g c = λ x found. claimed c.op_at-op.result.now c.op_at-op.result.now.node x.shape PartsDefault (c.op_at-op.ensures.is (λ e. let d = c.in-PartsDefault.is in absurd cc) x found) c.in-PartsDefault.is
+
+pub changed_parts_arm-went-requires-in-PartsNullableDefault-clause-parts : goal.changed_parts_arm-went-requires-in-PartsNullableDefault-clause-parts
+changed_parts_arm-went-requires-in-PartsNullableDefault-clause-parts g c = λ x found. claimed c.op_at-op.result.now c.op_at-op.result.now.node x.shape PartsNullableDefault (c.op_at-op.ensures.is (λ e. let d = c.in-PartsNullableDefault.is in absurd cc) x found) c.in-PartsNullableDefault.is
+
+pub changed_parts_arm-went-requires-in-PartsCopy-clause-parts : goal.changed_parts_arm-went-requires-in-PartsCopy-clause-parts
+changed_parts_arm-went-requires-in-PartsCopy-clause-parts g c = λ x found. claimed c.op_at-op.result.now c.op_at-op.result.now.node x.shape PartsCopy (c.op_at-op.ensures.is (λ e. let d = c.in-PartsCopy.is in absurd cc) x found) c.in-PartsCopy.is
+
+pub changed_parts_arm-went-requires-in-PartsNullableCopy-clause-parts : goal.changed_parts_arm-went-requires-in-PartsNullableCopy-clause-parts
+changed_parts_arm-went-requires-in-PartsNullableCopy-clause-parts g c = λ x found. claimed c.op_at-op.result.now c.op_at-op.result.now.node x.shape PartsNullableCopy (c.op_at-op.ensures.is (λ e. let d = c.in-PartsNullableCopy.is in absurd cc) x found) c.in-PartsNullableCopy.is
 
 pub ascii_arm-went-requires-clause-field : goal.ascii_arm-went-requires-clause-field
 ascii_arm-went-requires-clause-field g c = λ x found. claimed c.op_at-op.result.now c.op_at-op.result.now.node x.shape AsciiPlain (c.op_at-op.ensures.is (λ e. let d = c.in-AsciiPlain.is in absurd cc) x found) c.in-AsciiPlain.is
