@@ -128,11 +128,11 @@ fn with_word(sum: u64, word: u64) -> u64 {
     (sum ^ word).wrapping_mul(PRIME)
 }
 
-/// The checksum with a text, eight bytes a word and the last word filled with zeros, behind a word for its length.
+/// The checksum with bytes, eight of them a word and the last word filled with zeros.
 #[inline(never)]
-fn with_text(sum: u64, kind: u64, node: u32, text: &[u8]) -> u64 {
-    let mut sum = with_word(sum, key(kind, node).wrapping_add(text.len() as u64));
-    for bytes in text.chunks(8) {
+fn with_words(sum: u64, bytes: &[u8]) -> u64 {
+    let mut sum = sum;
+    for bytes in bytes.chunks(8) {
         sum = with_word(sum, word_of(bytes));
     }
     sum
@@ -140,22 +140,59 @@ fn with_text(sum: u64, kind: u64, node: u32, text: &[u8]) -> u64 {
 
 /// The checksum of bytes alone, as that of one field of bytes at node 0.
 pub fn with_bytes(bytes: &[u8]) -> u64 {
-    with_text(BASIS, 7, 0, bytes)
+    with_words(
+        with_word(BASIS, key(7, 0).wrapping_add(bytes.len() as u64)),
+        bytes,
+    )
 }
 
-/// The checksum with a field's value.
+/// The kind of a value, and the number that stands for it beside its kind and node: of a text its length.
 #[inline(always)]
-fn with_field(sum: u64, node: u32, value: Scalar<'_>) -> u64 {
+fn value_told(value: Scalar<'_>) -> (u64, u64) {
     match value {
-        Scalar::U(number) => with_word(sum, key(2, node).wrapping_add(number)),
-        Scalar::I(number) => with_word(sum, key(3, node).wrapping_add(number.cast_unsigned())),
-        Scalar::Dec { exponent, mantissa } => {
-            let sum = with_word(sum, key(4, node).wrapping_add(mantissa.cast_unsigned()));
-            with_word(sum, (exponent as i64).cast_unsigned())
+        Scalar::U(number) => (2, number),
+        Scalar::I(number) => (3, number.cast_unsigned()),
+        Scalar::Dec {
+            exponent: _,
+            mantissa,
+        } => (4, mantissa.cast_unsigned()),
+        Scalar::Ascii(text) => (5, text.len() as u64),
+        Scalar::Unicode(text) => (6, text.len() as u64),
+        Scalar::Bytes(bytes) => (7, bytes.len() as u64),
+    }
+}
+
+/// The kind of an event, its node or template, and the number beside them.
+#[inline(always)]
+fn told(event: Event<'_>) -> (u64, u32, u64) {
+    match event {
+        Event::MessageStart { template } => (1, template, 0),
+        Event::Field { node, value } => {
+            let (kind, number) = value_told(value);
+            (kind, node, number)
         }
-        Scalar::Ascii(text) => with_text(sum, 5, node, text),
-        Scalar::Unicode(text) => with_text(sum, 6, node, text),
-        Scalar::Bytes(bytes) => with_text(sum, 7, node, bytes),
+        Event::GroupStart { node } => (8, node, 0),
+        Event::GroupEnd => (9, 0, 0),
+        Event::SequenceStart { node, count } => (10, node, count as u64),
+        Event::ElementStart => (11, 0, 0),
+        Event::ElementEnd => (12, 0, 0),
+        Event::SequenceEnd => (13, 0, 0),
+        Event::MessageEnd => (14, 0, 0),
+    }
+}
+
+/// The checksum with what of a value has no room in its first word: an exponent, or the bytes of a text.
+#[inline(always)]
+fn with_rest(sum: u64, value: Scalar<'_>) -> u64 {
+    match value {
+        Scalar::U(_) | Scalar::I(_) => sum,
+        Scalar::Dec {
+            exponent,
+            mantissa: _,
+        } => with_word(sum, (exponent as i64).cast_unsigned()),
+        Scalar::Ascii(text) => with_words(sum, text),
+        Scalar::Unicode(text) => with_words(sum, text),
+        Scalar::Bytes(bytes) => with_words(sum, bytes),
     }
 }
 
@@ -175,20 +212,12 @@ impl Sink for Check {
     #[inline(always)]
     fn take(&mut self, event: Event<'_>) -> Result<(), Stop> {
         self.tally.events = self.tally.events.wrapping_add(1);
-        let sum = self.tally.sum;
-        self.tally.sum = match event {
-            Event::MessageStart { template } => with_word(sum, key(1, template)),
-            Event::Field { node, value } => with_field(sum, node, value),
-            Event::GroupStart { node } => with_word(sum, key(8, node)),
-            Event::GroupEnd => with_word(sum, key(9, 0)),
-            Event::SequenceStart { node, count } => {
-                with_word(sum, key(10, node).wrapping_add(count as u64))
-            }
-            Event::ElementStart => with_word(sum, key(11, 0)),
-            Event::ElementEnd => with_word(sum, key(12, 0)),
-            Event::SequenceEnd => with_word(sum, key(13, 0)),
-            Event::MessageEnd => with_word(sum, key(14, 0)),
-        };
+        let (kind, node, number) = told(event);
+        let word = key(kind, node).wrapping_add(number);
+        self.tally.sum = with_word(self.tally.sum, word);
+        if let Event::Field { node: _, value } = event {
+            self.tally.sum = with_rest(self.tally.sum, value);
+        }
         Ok(())
     }
 }
