@@ -1,6 +1,6 @@
 //! Decimals in the machine's loop: of one field, or by parts.
 
-ghost use Rattle.std.specs.Prelude.{◌≡◌, ◌⊎◌, ◌<◌, ◌≤◌, true, false, if◌then◌else◌, length, Some, IfSome, option_map};
+ghost use Rattle.std.specs.Prelude.{◌≡◌, ◌⊎◌, ℕ, None, ◌<◌, ◌≤◌, true, false, if◌then◌else◌, length, Some, IfSome, option_map};
 ghost use Rattle.fast_wire.specs.meaning.Integers.{IsWithin, exponent_range};
 ghost use Rattle.fast_wire.specs.meaning.Maps.{first_bit, later_bits};
 ghost use Rattle.fast_value.specs.declared.settings.Limits.{Limits};
@@ -18,18 +18,19 @@ ghost use Rattle.fast_decoder.specs.device.Positions.{Set, set_of};
 
 use crate::integer_arms::scalar_of;
 use crate::machine::{Machine, Turn};
+use crate::settling::hand;
 use crate::spot::{Spot, Standing, Went, hand_taken, hand_unsent, pass_value, stands};
 use crate::turns::Turns;
 use fast_cursor::place::Place;
 use fast_program::Op;
-use fast_stream::Sink;
+use fast_stream::{Event, Sink};
 use fast_template::{FieldInstruction, Operator, Shape, Templates};
 use fast_units::decimal_items::{changed_decimal, copied_decimal, plain_decimal};
 use fast_units::decimal_parts::{
     changed_part, exponent_part, keep_exponent, keep_mantissa, keep_part, leaves_mantissa,
     mantissa_part, usual_exponent,
 };
-use fast_units::unsent_items::unsent_integer;
+use fast_units::unsent_items::copied_at;
 use fast_value::{Kind, Limits, Scalar};
 
 impl<'t> Machine<'t> {
@@ -84,13 +85,7 @@ impl<'t> Machine<'t> {
     {
         match stands(&spot.place, true) {
             Standing::Spent => Went::Declined,
-            Standing::Unsent => match unsent_integer(
-                &mut self.slots,
-                op.entry,
-                Kind::Decimal,
-                optional,
-                Operator::Copy,
-            ) {
+            Standing::Unsent => match copied_at(&self.slots, op.entry, Kind::Decimal, optional) {
                 Some(item) => {
                     let value = scalar_of(item);
                     hand_unsent(&mut self.turns, spot, op.node, true, value, sink)
@@ -243,10 +238,9 @@ impl<'t> Machine<'t> {
             Some(number) => self.changed_mantissa_arm(
                 templates, limits, spot, node, entry, exponent, mantissa, bit, number, used, sink,
             ),
-            None if used == 0 => hand_behind(&mut self.turns, spot, node, true, None, 0, sink),
             None => {
                 keep_exponent(&mut self.slots, exponent, None, used);
-                hand_sent(&mut self.turns, spot, node, true, None, used, sink)
+                pass_absent(&mut self.turns, spot, used, sink)
             }
         }
     }
@@ -437,6 +431,32 @@ fn hand_behind<S: Sink>(
     }
 }
 
+/// The same of an absent decimal, whose exponent has a bit. Nothing is handed over; the sink is there for what the clause says.
+#[inline(always)]
+fn pass_absent<S: Sink>(
+    turns: &mut Turns,
+    spot: &mut Spot<'_, '_>,
+    bytes: usize,
+    sink: &mut S,
+) -> Went
+    requires left { 0 < length (place_left spot.old.place) }
+    requires bit { HasBits spot.old.place }
+    requires within { bytes ≤ length spot.old.rest.now }
+    ensures went { (set : Set) (l : Limits) (m m1 : Machine) (from : Spot) (node : ℕ) (f : FieldData) → true ≡ uses_bit f
+        → turns.old ≡ m.turns → from.rest.now ≡ spot.old.rest.now
+        → IsLedTo set l m m1 from spot.old.place node f None bytes
+        → HasWent S.takes S.stops set l m from sink.old result sink.new (record m1 { turns = turns.new }) spot.new }
+{
+    let _ = sink;
+    *turns = Turns::after(turns);
+    spot.rest = &spot.rest[bytes..];
+    spot.place.pass(true);
+    if bytes > 0 {
+        return Went::Took;
+    }
+    Went::Silent
+}
+
 /// The same past an instruction that took bytes.
 #[inline(always)]
 fn hand_sent<S: Sink>(
@@ -459,9 +479,19 @@ fn hand_sent<S: Sink>(
 {
     *turns = Turns::after(turns);
     spot.rest = &spot.rest[bytes..];
-    match pass_value(&mut spot.place, u32::from(node), has_bit, value, sink) {
-        Ok(_) => Went::Took,
-        Err(_) => Went::Stopped,
+    let node = u32::from(node);
+    match value {
+        Some(value) => {
+            if let Err(_) = hand(sink, Event::Field { node, value }) {
+                return Went::Stopped;
+            }
+            spot.place.pass(has_bit);
+            Went::Took
+        }
+        None => {
+            spot.place.pass(has_bit);
+            Went::Took
+        }
     }
 }
 

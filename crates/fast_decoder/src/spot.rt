@@ -167,9 +167,19 @@ pub fn hand_taken<S: Sink>(
 {
     *turns = Turns::after(turns);
     spot.rest = &spot.rest[bytes..];
-    match pass_value(&mut spot.place, u32::from(node), has_bit, value, sink) {
-        Ok(_) => Went::Took,
-        Err(_) => Went::Stopped,
+    let node = u32::from(node);
+    match value {
+        Some(value) => {
+            if let Err(_) = hand(sink, Event::Field { node, value }) {
+                return Went::Stopped;
+            }
+            spot.place.pass(has_bit);
+            Went::Took
+        }
+        None => {
+            spot.place.pass(has_bit);
+            Went::Took
+        }
     }
 }
 

@@ -37,7 +37,7 @@ fn held_item(kind: Kind, optional: bool, entry: Entry) -> Option<Option<Number>>
 
 /// Copy: what the entry holds, decimals included.
 #[inline(always)]
-fn copied_at(slots: &Slots, entry: u32, kind: Kind, optional: bool) -> Option<Option<Number>>
+pub fn copied_at(slots: &Slots, entry: u32, kind: Kind, optional: bool) -> Option<Option<Number>>
     requires within { entry < length (slots_dictionary slots.now) }
     ensures { IfSome result (IsUnsentItem kind optional Operator.Copy entry slots.now slots.now) }
 {

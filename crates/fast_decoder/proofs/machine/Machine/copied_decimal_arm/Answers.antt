@@ -40,11 +40,11 @@ returns-in-Some-copied_decimal g c =
           (c.in-Sent.ensures.sent refl m.cursor c.requires.spot.place) c.in-Some-copied_decimal.ensures.terms c.in-Some-copied_decimal.ensures.unit));
     }
 
-pub unsent_integer-requires : goal.unsent_integer-requires
-unsent_integer-requires g c =
+pub copied_at-requires : goal.copied_at-requires
+copied_at-requires g c =
     let m = c.args.self.now in
     let (x, found) = op_node c.args.templates.now m c.args.spot.now.place c.args.op.now c.requires.at in
-    record { within = entry_there c.args.templates.now c.args.limits m c.args.spot.now.place c.args.op.now Decimal Copy c.args.optional c.requires.spot c.requires.at c.requires.field x found }
+    record { within = entry_there c.args.templates.now c.args.limits m c.args.spot.now.place c.args.op.now Decimal Copy c.args.optional c.requires.spot c.requires.at c.requires.field x found refl }
 
 pub returns-in-Some : goal.returns-in-Some
 returns-in-Some g c =
@@ -53,13 +53,12 @@ returns-in-Some g c =
     let m = c.args.self.now in
     let p = c.args.spot.now.place in
     let op = c.args.op.now in
-    let slots = c.unsent_integer.new.slots in
     let (x, found) = op_node t m p op c.requires.at in
     let f = field_of t l m p op Decimal Copy c.args.optional c.requires.spot c.requires.at c.requires.field x found in
     record {
-      went = c.hand_unsent.ensures.went (set_of t) l m (record m { slots = slots }) f false
+      went = c.hand_unsent.ensures.went (set_of t) l m m f false
           (sym (uses_as t l m p op Decimal Copy c.args.optional c.requires.spot c.requires.at c.requires.field x found)) refl
-          (subst (λ (v : Option ScalarData). IsFieldUnsent (set_of t) l m (record m { slots = slots }) p op.node f false v) (sym c.scalar_of-value.ensures)
-          (item_unsent t l m p op Decimal Copy c.args.optional c.requires.spot c.requires.at c.requires.field x found slots c.in-Some.item refl
-          (unneeded Copy c.args.optional (λ e. cc e) refl) ((c.in-Unsent.ensures.unsent refl).1 m.cursor c.requires.spot.place) c.in-Some.ensures.terms c.in-Some.ensures.decided));
+          (subst (λ (v : Option ScalarData). IsFieldUnsent (set_of t) l m m p op.node f false v) (sym c.scalar_of-value.ensures)
+          (item_unsent t l m p op Decimal Copy c.args.optional c.requires.spot c.requires.at c.requires.field x found m.slots c.in-Some.item refl
+          (unneeded Copy c.args.optional (λ e. cc e) refl) ((c.in-Unsent.ensures.unsent refl).1 m.cursor c.requires.spot.place) refl c.in-Some.ensures));
     }

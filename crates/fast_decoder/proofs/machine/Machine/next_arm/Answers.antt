@@ -1,5 +1,5 @@
 -- The next message, or the wait for it.
-use Rattle.std.proofs.Common.{◌≡◌, ◌<◌, ◌≤◌, ap, ◌∙◌, arith, rules, get_or, length}
+use Rattle.std.proofs.Common.{◌≡◌, ap, ◌∙◌, arith}
 use Rattle.std.specs.Prelude.{[]}
 use Rattle.std.proofs.lemmas.Option.{slice_get_within}
 use Rattle.fast_dict.specs.meaning.Slots.{slots_dictionary}
@@ -8,10 +8,7 @@ use Rattle.fast_decoder.specs.declared.machine.Machine.{Machine}
 use Rattle.fast_decoder.specs.declared.machine.Waiting.TheVariants.{Map}
 use Rattle.fast_decoder.specs.device.Arms.{placed}
 use Rattle.fast_decoder.specs.device.Positions.{set_of}
-use Rattle.fast_decoder.specs.device.Starts.{IsMessageAhead}
 use Rattle.fast_decoder.proofs.arms.Starts.{none_went, start_went}
-use Rattle.fast_decoder.proofs.machines.Ahead.{ahead_again}
-use Rattle.fast_decoder.proofs.steps.FieldTurns.{entries_here}
 use Rattle.fast_decoder.proofs.machine.Machine.next_arm.Goals as goal
 
 pub returns-in_default : goal.returns-in_default

@@ -1,7 +1,7 @@
 -- The exponent, and what is behind it.
-use Rattle.std.proofs.Common.{refl, sym, ap, ◌∙◌, subst, arith, rules, FitsSigned, Option, ℤ}
+use Rattle.std.proofs.Common.{refl, sym, ap, ◌∙◌, subst, rules, FitsSigned, Option, ℤ}
 use Rattle.std.specs.Int.{w32}
-use Rattle.std.specs.Prelude.{◌≡◌, ℕ, Bool, true, Some, None, if◌then◌else◌}
+use Rattle.std.specs.Prelude.{Bool, true, Some, if◌then◌else◌}
 use Rattle.fast_wire.specs.meaning.Maps.{first_bit}
 use Rattle.fast_tree.specs.device.Nodes.{field_data}
 use Rattle.fast_cursor.specs.device.Cursors.{bits_left}
@@ -31,8 +31,8 @@ changed_mantissa_arm-requires-clause-part g c =
     (c.in-Some-part.is ∙ ap Some (sym (again w32 c.in-Some-part.number fits)))
     (c.in-Some-read.ensures.part c.args.limits.strict)
 
-pub hand_sent-requires-clause-within : goal.hand_sent-requires-clause-within
-hand_sent-requires-clause-within g c =
+pub pass_absent-requires-clause-within : goal.pass_absent-requires-clause-within
+pass_absent-requires-clause-within g c =
     part_within c.args.exponent.now c.in-Some.bit c.args.limits.strict c.args.spot.now.rest.now c.args.self.now.slots c.in-Some-read.part c.in-Some-read.used (c.in-Some-read.ensures.part c.args.limits.strict)
 
 pub returns-in-None : goal.returns-in-None
@@ -44,30 +44,10 @@ returns-in-None g c =
     let e = c.args.exponent.now in
     let f = c.args.mantissa.now in
     let at = c.requires.decimal in
-    let uses = sym (usual_uses e c.requires.usual) in
-    let part = subst (λ (x : Option ℤ). IsPart e c.in-Some.bit l.strict from.rest.now m.slots x c.in-Some-read.used) c.in-None.is (c.in-Some-read.ensures.part l.strict) in
-    let none : c.in-Some-read.used ≡ 0 = search rules in
-    record {
-      went = c.hand_behind.ensures.went set l m m from (field_data e) uses refl refl
-          (absent_led set l m from c.args.node e f at m.slots c.in-Some.bit
-          (c.in-Some.ensures.bit m.cursor at.spot.place ∙ ap (λ (b : Bool). if b then first_bit (bits_left (at_place m.cursor from.place)) else true) uses)
-          refl 0
-          (subst (λ (k : ℕ). IsPart e c.in-Some.bit l.strict from.rest.now m.slots None k) none part) (λ some. absurd (omega (arith, some))) (λ _. refl));
-    }
-
-pub returns-in-None-2 : goal.returns-in-None-2
-returns-in-None-2 g c =
-    let set = set_of c.args.templates.now in
-    let l = c.args.limits in
-    let m = c.args.self.now in
-    let from = c.args.spot.now in
-    let e = c.args.exponent.now in
-    let f = c.args.mantissa.now in
-    let at = c.requires.decimal in
     let mid = c.keep_exponent.new.slots in
     let uses = sym (usual_uses e c.requires.usual) in
     record {
-      went = c.hand_sent.ensures.went set l m (record m { slots = mid }) from (field_data e) uses refl refl
+      went = c.pass_absent.ensures.went set l m (record m { slots = mid }) from c.args.node (field_data e) uses refl refl
           (absent_led set l m from c.args.node e f at mid c.in-Some.bit
           (c.in-Some.ensures.bit m.cursor at.spot.place ∙ ap (λ (b : Bool). if b then first_bit (bits_left (at_place m.cursor from.place)) else true) uses)
           c.keep_exponent.ensures.terms c.in-Some-read.used
