@@ -26,6 +26,5 @@ pub mod text_deltas;
 pub mod text_outcomes;
 pub mod texts;
 pub mod units;
-pub mod unsent_integers;
 pub mod unsent_items;
 pub mod vector_items;
