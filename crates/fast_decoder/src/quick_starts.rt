@@ -77,7 +77,7 @@ impl<'t> Machine<'t> {
 
     /// The template of the message that the piece goes on with, whose map is one byte, and has the first bit set, and how many bytes lead
     /// to its instructions: if the identifier stands whole in the piece and is a template's. Its entry holds it then.
-    #[inline(never)]
+    #[inline(always)]
     pub fn sent_message(
         &mut self,
         templates: &'t Templates,
