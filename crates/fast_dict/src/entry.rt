@@ -1,7 +1,7 @@
 //! An entry of a block store.
 
 ghost use Rattle.std.specs.Prelude.{◌≡◌, [], length};
-ghost use Rattle.fast_value.specs.meaning.Kinds.{text_of, U, I};
+ghost use Rattle.fast_value.specs.meaning.Kinds.{text_of, U, I, Dec};
 ghost use Rattle.fast_value.specs.meaning.Values.{scalar_data};
 ghost use Rattle.fast_dict.specs.meaning.Dictionary.{assigned};
 ghost use Rattle.fast_dict.specs.device.Entry.{text_length, with_text};
@@ -57,10 +57,7 @@ impl Entry {
         match scalar {
             Scalar::U(number) => Entry::of_unsigned(kind, number),
             Scalar::I(number) => Entry::of_signed(kind, number),
-            Scalar::Dec { exponent, mantissa } => match kind {
-                Kind::Decimal => Entry::Decimal(exponent, mantissa),
-                _ => Entry::OtherDecimal(kind, exponent, mantissa),
-            },
+            Scalar::Dec { exponent, mantissa } => Entry::of_decimal(kind, exponent, mantissa),
             Scalar::Ascii(text) => match kind {
                 Kind::Ascii => Entry::Ascii(text.len()),
                 _ => Entry::OtherAscii(kind, text.len()),
@@ -76,9 +73,23 @@ impl Entry {
         }
     }
 
+    /// Changes the entry to another one. Where both hold an integer under the same kind, the number alone is written.
+    #[inline(always)]
+    pub(crate) fn change(&mut self, to: Entry)
+        ensures { self.new ≡ to }
+    {
+        match (&mut *self, to) {
+            (Entry::UInt32(held), Entry::UInt32(number)) => *held = number,
+            (Entry::Int32(held), Entry::Int32(number)) => *held = number,
+            (Entry::UInt64(held), Entry::UInt64(number)) => *held = number,
+            (Entry::Int64(held), Entry::Int64(number)) => *held = number,
+            _ => *self = to,
+        }
+    }
+
     /// The entry of an unsigned number under a kind.
     #[inline(always)]
-    fn of_unsigned(kind: Kind, number: u64) -> Entry
+    pub fn of_unsigned(kind: Kind, number: u64) -> Entry
         ensures value { with_text result [] ≡ assigned kind (U number) }
         ensures size { text_length result ≡ 0 }
     {
@@ -91,7 +102,7 @@ impl Entry {
 
     /// The entry of a signed number under a kind.
     #[inline(always)]
-    fn of_signed(kind: Kind, number: i64) -> Entry
+    pub fn of_signed(kind: Kind, number: i64) -> Entry
         ensures value { with_text result [] ≡ assigned kind (I number) }
         ensures size { text_length result ≡ 0 }
     {
@@ -99,6 +110,18 @@ impl Entry {
             Kind::Int32 => Entry::Int32(number),
             Kind::Int64 => Entry::Int64(number),
             _ => Entry::OtherSigned(kind, number),
+        }
+    }
+
+    /// The entry of a decimal under a kind.
+    #[inline(always)]
+    pub fn of_decimal(kind: Kind, exponent: i32, mantissa: i64) -> Entry
+        ensures value { with_text result [] ≡ assigned kind (Dec exponent mantissa) }
+        ensures size { text_length result ≡ 0 }
+    {
+        match kind {
+            Kind::Decimal => Entry::Decimal(exponent, mantissa),
+            _ => Entry::OtherDecimal(kind, exponent, mantissa),
         }
     }
 }

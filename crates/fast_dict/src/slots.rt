@@ -89,6 +89,19 @@ impl Slots {
         self.put(entry, held);
     }
 
+    /// The same as [`Slots::set_number`], for an entry that holds an integer under the kind: the number alone is written
+    /// then.
+    #[inline(always)]
+    pub fn change_number(&mut self, entry: usize, held: Entry)
+        requires there { entry < length (slots_dictionary self.old) }
+        requires number { text_length held ≡ 0 }
+        ensures entry { slots_dictionary self.new
+            ≡ write_at (Some entry) (with_text held []) (slots_dictionary self.old) }
+        ensures same { slots_terms self.new ≡ slots_terms self.old }
+    {
+        self.entries[entry].change(held);
+    }
+
     /// The entry without the bytes of its text.
     #[inline(always)]
     fn entry(&self, entry: usize) -> Entry

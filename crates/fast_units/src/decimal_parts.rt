@@ -358,5 +358,5 @@ pub fn keep_mantissa(slots: &mut Slots, entry: u32, number: i64)
         → KeepsPart field slots.old slots.new (Some number) }
     ensures terms { slots_terms slots.new ≡ slots_terms slots.old }
 {
-    slots.set_number(entry as usize, Entry::Int64(number));
+    slots.change_number(entry as usize, Entry::Int64(number));
 }

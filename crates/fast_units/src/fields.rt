@@ -1,12 +1,12 @@
 //! Fields and their entries: where values stand, and what a field leaves of which nothing is sent.
 
-ghost use Rattle.std.specs.Prelude.{◌≡◌, ◌≢◌, IfSome, ℕ, ◌<◌, ◌≤◌, ◌^◌, true, false, List, Some, None, Ok, option_map, pos, neg_ℤ, ◌≤ℤ◌};
+ghost use Rattle.std.specs.Prelude.{◌≡◌, ◌≢◌, IfSome, [], ℕ, ◌<◌, ◌≤◌, ◌^◌, true, false, List, Some, None, Ok, option_map, pos, neg_ℤ, ◌≤ℤ◌};
 ghost use Rattle.fast_value.specs.meaning.Kinds.{integer_of, value_of_integer, value_of_text};
 ghost use Rattle.fast_value.specs.meaning.Values.{scalar_data};
 ghost use Rattle.fast_value.specs.meaning.Limits.{Bounds};
 ghost use Rattle.fast_tree.specs.device.Nodes.{field_data};
 ghost use Rattle.fast_tree.specs.meaning.Tree.{FieldData};
-ghost use Rattle.fast_dict.specs.device.Entry.{with_text};
+ghost use Rattle.fast_dict.specs.device.Entry.{text_length, with_text};
 ghost use Rattle.fast_dict.specs.meaning.Dictionary.{Dictionary, PreviousData, assigned, empty, write_at};
 ghost use Rattle.fast_dict.specs.meaning.Operators.{incremented, decide, nothing, unsent, from_initial, range_of};
 ghost use Rattle.fast_dict.specs.meaning.Previous.{previous_data};
@@ -65,6 +65,19 @@ impl Number {
             Number::Unsigned(number) => Scalar::U(number),
             Number::Signed(number) => Scalar::I(number),
             Number::Decimal { exponent, mantissa } => Scalar::Dec { exponent, mantissa },
+        }
+    }
+
+    /// What an entry holds that keeps the number under the kind.
+    #[inline(always)]
+    pub fn held_under(self, kind: Kind) -> Entry
+        ensures value { with_text result [] ≡ assigned kind (number_data self) }
+        ensures number { text_length result ≡ 0 }
+    {
+        match self {
+            Number::Unsigned(number) => Entry::of_unsigned(kind, number),
+            Number::Signed(number) => Entry::of_signed(kind, number),
+            Number::Decimal { exponent, mantissa } => Entry::of_decimal(kind, exponent, mantissa),
         }
     }
 

@@ -16,7 +16,7 @@ ghost use Rattle.fast_units.specs.device.IntegerItems.{KeepsItem, IsBehindDelta}
 
 use crate::fields::{Number, number_under};
 use crate::taken::TakenItem;
-use fast_dict::{Entry, Slots, Store};
+use fast_dict::{Slots, Store};
 use fast_tree::Operator;
 use fast_value::{Code, Kind};
 use fast_wire::{whole_delta, whole_signed, whole_unsigned};
@@ -29,7 +29,18 @@ pub fn keep_at(slots: &mut Slots, entry: u32, kind: Kind, number: Number)
         ≡ write_at (Some entry) (assigned kind (number_data number)) (slots_dictionary slots.old) }
     ensures terms { slots_terms slots.new ≡ slots_terms slots.old }
 {
-    slots.set_number(entry as usize, Entry::of(kind, number.as_scalar()));
+    slots.set_number(entry as usize, number.held_under(kind));
+}
+
+/// The same as [`keep_at`], for an entry that holds an integer under the kind: the number alone is written then.
+#[inline(always)]
+pub fn keep_changed_at(slots: &mut Slots, entry: u32, kind: Kind, number: Number)
+    requires within { entry < length (slots_dictionary slots.old) }
+    ensures entry { slots_dictionary slots.new
+        ≡ write_at (Some entry) (assigned kind (number_data number)) (slots_dictionary slots.old) }
+    ensures terms { slots_terms slots.new ≡ slots_terms slots.old }
+{
+    slots.change_number(entry as usize, number.held_under(kind));
 }
 
 /// Keeps a number that is sent at the entry, or makes this empty behind NULL, if the operator keeps a value.
@@ -214,7 +225,7 @@ fn change_at(slots: &mut Slots, entry: u32, kind: Kind, delta: i64) -> Option<Nu
 {
     let number = number_under(kind, slots.held(entry as usize))?;
     let sum = sum_of(kind, number, delta)?;
-    keep_at(slots, entry, kind, sum);
+    keep_changed_at(slots, entry, kind, sum);
     Some(sum)
 }
 

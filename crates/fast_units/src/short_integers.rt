@@ -20,8 +20,8 @@ ghost use Rattle.fast_units.specs.device.Words.{ServesField, HasEntryOf, previou
 
 use crate::fields::{Number, assign_empty, number_under};
 use crate::progress::Progress;
+use fast_dict::Slots;
 use fast_dict::operators::integers::{integer_of, range_of, sum_in};
-use fast_dict::{Entry, Slots};
 use fast_tree::{FieldInstruction, Operator};
 use fast_value::{Code, Kind};
 use fast_wire::{
@@ -100,7 +100,7 @@ pub fn keep_integer(slots: &mut Slots, field: &FieldInstruction, kind: Kind, num
     ensures terms { slots_terms slots.new ≡ slots_terms slots.old }
 {
     if let Some(entry) = field.entry {
-        slots.set_number(entry as usize, Entry::of(kind, number.as_scalar()));
+        slots.set_number(entry as usize, number.held_under(kind));
     }
 }
 

@@ -15,7 +15,7 @@ ghost use Rattle.fast_units.specs.device.FieldsAs.{IsEntryFor, IsUnsentItem};
 ghost use Rattle.fast_units.specs.device.IntegerItems.{item_held, IsDefaultItem};
 
 use crate::fields::{Number, number_under};
-use crate::integer_items::keep_at;
+use crate::integer_items::keep_changed_at;
 use fast_dict::{Entry, Slots};
 use fast_tree::{FieldInstruction, Operator};
 use fast_value::{Kind, Value};
@@ -70,7 +70,7 @@ fn increased_at(slots: &mut Slots, entry: u32, kind: Kind, optional: bool) -> Op
     match held_item(kind, optional, slots.held(entry as usize))? {
         Some(number) => {
             let next = next_number(kind, number)?;
-            keep_at(slots, entry, kind, next);
+            keep_changed_at(slots, entry, kind, next);
             Some(Some(next))
         }
         None => Some(None),

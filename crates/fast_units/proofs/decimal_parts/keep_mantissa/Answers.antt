@@ -12,7 +12,7 @@ use Rattle.fast_units.proofs.decimal_parts.keep_mantissa.Goals as goal
 pub returns-clause-kept : goal.returns-clause-kept
 returns-clause-kept c = λ field is.
     let fits : FitsSigned w64 c.args.number = search rules in
-    c.set_number.ensures.entry
+    c.change_number.ensures.entry
     ∙ ap (λ x. write_at (Some c.args.entry) (assigned Int64 (I x)) (slots_dictionary c.args.slots.now)) (again w64 c.args.number fits)
     ∙ ap (λ e. write_at e (assigned Int64 (I c.args.number)) (slots_dictionary c.args.slots.now)) (sym is.entry)
     ∙ ap (λ k. write_at field.entry (assigned k (I c.args.number)) (slots_dictionary c.args.slots.now)) (sym is.kind)

@@ -15,7 +15,7 @@ use Rattle.fast_units.proofs.integer_items.change_at.Goals as goal
 pub returns-clause-decided : goal.returns-clause-decided
 returns-clause-decided c f kind entry =
     let old = slots_dictionary c.args.slots.now in
-    let new = slots_dictionary c.keep_at.new.slots in
+    let new = slots_dictionary c.keep_changed_at.new.slots in
     let p = previous_at f.entry old in
     let v = number_data c.in_ok-number.number in
     let n = c.in_ok-sum.sum in
@@ -31,5 +31,5 @@ returns-clause-decided c f kind entry =
     ∙ ap (keeps c.args.kind) (sym kept)
     ∙ ap (λ k. keeps k (number_data n)) (sym kind) in
     let there : new ≡ write_at f.entry (assigned f.kind (number_data n)) old =
-    c.keep_at.ensures.entry ∙ ap (λ e. write_at e (assigned c.args.kind (number_data n)) old) (sym entry) ∙ ap (λ k. write_at f.entry (assigned k (number_data n)) old) (sym kind) in
+    c.keep_changed_at.ensures.entry ∙ ap (λ e. write_at e (assigned c.args.kind (number_data n)) old) (sym entry) ∙ ap (λ k. write_at f.entry (assigned k (number_data n)) old) (sym kind) in
     decided_as f old new (Ok (source_of (Some n))) step (keep_decided f old new (number_data n) (source_of (Some n)) there (item_value (Some n) f))

@@ -16,9 +16,9 @@ returns-in_ok-next-in-Some-clause-decided c =
     let v = number_data c.in-Some.number in
     let held : previous_at (Some c.args.entry) (slots_dictionary c.args.slots.now) ≡ assigned kind v =
     sym c.held.ensures.1 ∙ c.in_ok-number.ensures.held c.held.ensures.0 ∙ ap (item_held kind) c.in-Some.is in
-    increased_item kind c.args.optional c.args.entry c.args.slots.now c.keep_at.new.slots v c.in_ok-next-in-Some.next held
+    increased_item kind c.args.optional c.args.entry c.args.slots.now c.keep_changed_at.new.slots v c.in_ok-next-in-Some.next held
     c.in_ok-next-in-Some.ensures
-    c.keep_at.ensures.entry
+    c.keep_changed_at.ensures.entry
 
 pub returns-in-None-clause-decided : goal.returns-in-None-clause-decided
 returns-in-None-clause-decided c f so serves =
