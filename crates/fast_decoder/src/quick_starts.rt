@@ -147,6 +147,7 @@ fn template_with(templates: &Templates, id: u32, latest: u32) -> Option<u32>
 }
 
 /// The same where it is none that is more likely than others.
+#[cold]
 #[inline(never)]
 fn other_template(templates: &Templates, id: u32) -> Option<u32>
     ensures { IfSome result (λ i. (t : Template) × (slice_get (templates_of templates.now) i ≡ Some t)

@@ -96,6 +96,7 @@ impl<'t> Machine<'t> {
     }
 
     /// The same of a map of any such length.
+    #[cold]
     #[inline(never)]
     fn take_short_map(&mut self, limits: Limits, width: usize, rest: &[u8]) -> usize
         ensures map { 0 < result → IsMapTaken self.old.cursor.map rest.now self.new.cursor.map (MapFront.Whole result) }

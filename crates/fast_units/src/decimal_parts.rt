@@ -238,6 +238,7 @@ fn sent_mantissa(
 
 /// A mantissa that is there, and the bytes that it takes. The bit is its presence bit, set if it has none. It is called out
 /// of line: its body is longer than the build inlines.
+#[cold]
 #[inline(never)]
 pub fn mantissa_part(
     slots: &Slots,
