@@ -1,5 +1,5 @@
 -- The template of the next message.
-use Rattle.std.proofs.Common.{◌≡◌, ◌<◌, ◌≤◌, arith, rules, get_or, length}
+use Rattle.std.proofs.Common.{◌<◌, ◌≤◌, arith, rules, get_or, length}
 use Rattle.fast_decoder.specs.device.Positions.{set_of}
 use Rattle.fast_decoder.proofs.machines.Ahead.{ahead_again}
 use Rattle.fast_decoder.proofs.steps.FieldTurns.{entries_here}
