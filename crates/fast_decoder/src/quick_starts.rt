@@ -3,7 +3,9 @@
 ghost use Rattle.std.specs.Prelude.{◌≡◌, ◌≢◌, ◌+◌, ◌<◌, ◌≤◌, ℕ, [], length, slice_get, slice_index, Ok, Some, IfSome, IfNone};
 ghost use Rattle.fast_value.specs.declared.kinds.Kind.{Kind};
 ghost use Rattle.fast_value.specs.meaning.Kinds.{U};
+ghost use Rattle.fast_program.specs.device.Starts.{IsStartOf};
 ghost use Rattle.fast_template.specs.meaning.Flat.{templates_of};
+ghost use Rattle.fast_template.specs.device.Programs.{program_of};
 ghost use Rattle.fast_tree.specs.declared.instructions.Template.{Template};
 ghost use Rattle.fast_dict.specs.meaning.Dictionary.{assigned, previous_at};
 ghost use Rattle.fast_dict.specs.meaning.Slots.{slots_dictionary, slots_terms};
@@ -14,9 +16,10 @@ ghost use Rattle.fast_decoder.specs.device.TurnsLeft.{Way, HasTurns, HasTurnsBeh
 
 use crate::machine::{Machine, Turn, Waiting};
 use crate::quick_units::UnitTaken;
-use crate::taking::{has_id, walk_to};
+use crate::taking::walk_to;
 use crate::turns::Turns;
 use fast_dict::Entry;
+use fast_program::{NO_ID, Start};
 use fast_stream::Sink;
 use fast_template::Templates;
 use fast_value::Limits;
@@ -69,10 +72,10 @@ impl<'t> Machine<'t> {
         if self.latest >= templates.count() {
             return None;
         }
-        match templates.template(self.latest).id {
-            Some(id) if u64::from(id) == held => Some(self.latest),
-            _ => None,
+        if held == NO_ID || templates.start_of(self.latest).id != held {
+            return None;
         }
+        Some(self.latest)
     }
 
     /// The template of the message that the piece goes on with, whose map is one byte, and has the first bit set, and how many bytes lead
@@ -102,20 +105,23 @@ impl<'t> Machine<'t> {
         Some((number, 1 + len))
     }
 
-    /// The template of the message that the piece goes on with, whose map is one byte, and how many bytes lead to its instructions: the
-    /// latest one's, if the first bit is clear, else the one whose identifier stands behind the map.
+    /// The template of the message that the piece goes on with, whose map is one byte, how many bytes lead to its instructions, and
+    /// where its messages start: the latest one's, if the first bit is clear, else the one whose identifier stands behind the map.
     #[inline(always)]
     pub fn next_message(
         &mut self,
         templates: &'t Templates,
         limits: Limits,
         rest: &[u8],
-    ) -> Option<(u32, usize)>
+    ) -> Option<(u32, usize, &'t Start)>
         requires supplied { IsSupplied (set_of templates.now) limits self.old }
         requires unused { self.old.entity.bytes ≡ [] }
         ensures none { IfNone result (self.new ≡ self.old) }
         ensures ahead { IfSome result (λ r. IsMessageAhead (set_of templates.now) limits
             (slots_dictionary self.old.slots) (slots_dictionary self.new.slots) rest.now r.0 r.1) }
+        ensures start { IfSome result (λ r. (t : Template)
+            × (slice_get (templates_of templates.now) r.0 ≡ Some t)
+            × IsStartOf (program_of templates.now) r.2.now t) }
         ensures same { self.new ≡ record self.old { slots = self.new.slots; latest = self.new.latest } }
         ensures terms { slots_terms self.new.slots ≡ slots_terms self.old.slots }
     {
@@ -124,9 +130,10 @@ impl<'t> Machine<'t> {
         }
         if rest[0] < 0xc0 {
             let number = self.latest_again(templates)?;
-            return Some((number, 1));
+            return Some((number, 1, templates.start_of(number)));
         }
-        self.sent_message(templates, limits, rest)
+        let (number, bytes) = self.sent_message(templates, limits, rest)?;
+        Some((number, bytes, templates.start_of(number)))
     }
 }
 
@@ -140,7 +147,7 @@ fn template_with(templates: &Templates, id: u32, latest: u32) -> Option<u32>
         × (t.id ≡ Some id)
         × ((j : ℕ) (u : Template) → j < i → slice_get (templates_of templates.now) j ≡ Some u → u.id ≢ Some id)) }
 {
-    if latest < templates.count() && has_id(templates.template(latest), u128::from(id)) {
+    if latest < templates.count() && templates.start_of(latest).id == u64::from(id) {
         return Some(latest);
     }
     other_template(templates, id)

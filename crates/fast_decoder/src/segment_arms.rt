@@ -9,6 +9,7 @@ ghost use Rattle.fast_tree.specs.device.Numbers.{AreBelow};
 ghost use Rattle.fast_tree.specs.meaning.Tree.{FieldData, bits_of};
 ghost use Rattle.fast_dict.specs.meaning.Slots.{slots_dictionary};
 ghost use Rattle.fast_program.specs.device.Codes.{IsGroupCoded, IsSequenceCoded};
+ghost use Rattle.fast_program.specs.device.Starts.{IsStartOf};
 ghost use Rattle.fast_stream.specs.meaning.Messages.{within_limits};
 ghost use Rattle.fast_stream.specs.meaning.Events.{MessageEnd};
 ghost use Rattle.fast_stream.specs.device.GrammarReaders.{reader_of};
@@ -33,7 +34,7 @@ use crate::settling::{count_within, hand};
 use crate::spot::{Spot, Went};
 use crate::taking::{is_overlong, is_too_wide, reset_if};
 use crate::turns::Turns;
-use fast_program::Op;
+use fast_program::{Op, Start};
 use fast_stream::{Event, FaultCode, Sink};
 use fast_template::{Shape, Templates};
 use fast_value::Limits;
@@ -183,10 +184,10 @@ impl<'t> Machine<'t> {
             → self.old.turns.count ≡ m.turns.count + 1 → S.takes s MessageEnd sink.old
             → HasWent S.takes S.stops (set_of templates.now) limits m spot.old s result sink.new self.new spot.new }
     {
-        let Some((number, bytes)) = self.next_message(templates, limits, spot.rest) else {
+        let Some((number, bytes, start)) = self.next_message(templates, limits, spot.rest) else {
             return self.no_message(spot);
         };
-        self.message_begins(templates, limits, number, bytes, spot, sink)
+        self.message_begins(templates, limits, number, bytes, start, spot, sink)
     }
 
     /// The message is whole, and the machine waits for the next one.
@@ -226,13 +227,15 @@ impl<'t> Machine<'t> {
         limits: Limits,
         number: u32,
         bytes: usize,
+        start: &Start,
         spot: &mut Spot<'t, '_>,
         sink: &mut S,
     ) -> Went
         requires place { IsPlaceOf self.old.cursor spot.old.place }
         requires outermost { self.old.cursor.frames ≡ [] }
         requires behind { IsBehindMap (set_of templates.now) limits (mapped_by self.old spot.old.rest.now) }
-        requires number { number < length (set_of templates.now).templates }
+        requires start { (t : Template) × (slice_get (set_of templates.now).templates number ≡ Some t)
+            × IsStartOf (set_of templates.now).program start.now t }
         requires some { 0 < length spot.old.rest.now }
         requires within { bytes ≤ length spot.old.rest.now }
         ensures answer { (result ≡ Went.Took) ⊎ (result ≡ Went.Stopped) }
@@ -254,11 +257,9 @@ impl<'t> Machine<'t> {
         if let Err(_) = hand(sink, Event::MessageStart { template: number }) {
             return Went::Stopped;
         }
-        let template = templates.template(number);
-        reset_if(&mut self.slots, template.reset);
+        reset_if(&mut self.slots, start.reset);
         self.counted = 0;
-        self.cursor
-            .begin_message(&mut spot.place, byte, templates.template_start(number));
+        self.cursor.begin_message(&mut spot.place, byte, start.at);
         let unit = Turns::after(&self.turns);
         self.turns = Turns::after(&unit);
         Went::Took

@@ -284,12 +284,12 @@ impl<'t> Machine<'t> {
         ensures turns { PaysMessage (set_of templates.now) limits self.old result self.new }
     {
         hand(sink, Event::MessageStart { template: number })?;
-        let template = templates.template(number);
-        reset_if(&mut self.slots, template.reset);
+        let start = templates.start_of(number);
+        reset_if(&mut self.slots, start.reset);
         self.counted = 0;
         self.latest = number;
         self.cursor.use_bit();
-        self.cursor.begin(templates.template_start(number));
+        self.cursor.begin(start.at);
         self.turns = Turns::after(&self.turns);
         Ok(Turn::Handed)
     }

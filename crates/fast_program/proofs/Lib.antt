@@ -1,5 +1,5 @@
 pub mod Claims
 pub mod OpLists
 pub mod Runs
-pub mod Starts
+pub mod StartLists
 pub mod KeptPrograms

@@ -2,4 +2,5 @@
 pub mod Codes
 pub mod Ops
 pub mod Runs
+pub mod Starts
 pub mod Programs

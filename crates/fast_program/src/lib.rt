@@ -4,7 +4,9 @@
 pub mod codes;
 pub mod ops;
 pub mod programs;
+pub mod starts;
 
 pub use codes::Code;
 pub use ops::{Op, ops_of};
 pub use programs::Program;
+pub use starts::{NO_ID, Start};

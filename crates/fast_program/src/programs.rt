@@ -3,10 +3,12 @@
 ghost use Rattle.std.specs.Prelude.{◌≡◌, ◌≤◌, [], IfOk, OnOk, length};
 ghost use Rattle.fast_tree.specs.device.Numbers.{numbers_of, AreBelow, NameNodes, NameLaterNodes};
 ghost use Rattle.fast_program.specs.device.Runs.{Begins};
-ghost use Rattle.fast_program.specs.device.Programs.{Extends, AreStarts, template_body, node_body, IsProgramOf};
+ghost use Rattle.fast_program.specs.device.Starts.{IsStartOf};
+ghost use Rattle.fast_program.specs.device.Programs.{Extends, AreStarts, BeginsNode, IsProgramOf};
 
 use crate::codes::Code;
 use crate::ops::Op;
+use crate::starts::Start;
 use fast_tree::{Node, Shape, Template};
 use std::alloc::{AllocError, Global};
 
@@ -16,8 +18,8 @@ use std::alloc::{AllocError, Global};
 pub struct Program {
     /// The runs, one behind the other.
     pub ops: Vec<Op>,
-    /// Where the body of each template begins.
-    pub template_starts: Vec<usize>,
+    /// Where the messages of each template start.
+    pub template_starts: Vec<Start>,
     /// Where the body of each node begins: that of a group, of an element of a sequence, or none.
     pub body_starts: Vec<usize>,
 }
@@ -63,23 +65,23 @@ fn add_body(ops: &mut Vec<Op>, nodes: &[Node], body: &[u32]) -> Result<usize, Al
     Ok(start)
 }
 
-/// Puts the runs of templates behind the others, and says where they begin.
+/// Puts the runs of templates behind the others, and says where their messages start.
 fn add_templates(
     alloc: Global,
     ops: &mut Vec<Op>,
     templates: &[Template],
     nodes: &[Node],
-) -> Result<Vec<usize>, AllocError>
+) -> Result<Vec<Start>, AllocError>
     requires few { length nodes.now ≤ 65536 }
     requires below { NameNodes (length nodes.now) templates.now }
     requires rests { Begins ops.old.items 0 [] }
-    ensures starts { IfOk result (λ starts. AreStarts template_body ops.new.items starts.items templates.now) }
+    ensures starts { IfOk result (λ starts. AreStarts IsStartOf ops.new.items starts.items templates.now) }
     ensures extends { OnOk result (Extends nodes.now ops.old.items ops.new.items) }
 {
     let mut starts = Vec::with_capacity(alloc, templates.len())?;
     for template in templates {
-        let start = add_body(ops, nodes, &template.body)?;
-        starts.push(start)?;
+        let at = add_body(ops, nodes, &template.body)?;
+        starts.push(Start::of(template, at))?;
     }
     Ok(starts)
 }
@@ -89,7 +91,7 @@ fn add_bodies(alloc: Global, ops: &mut Vec<Op>, nodes: &[Node]) -> Result<Vec<us
     requires few { length nodes.now ≤ 65536 }
     requires later { NameLaterNodes nodes.now }
     requires rests { Begins ops.old.items 0 [] }
-    ensures starts { IfOk result (λ starts. AreStarts node_body ops.new.items starts.items nodes.now) }
+    ensures starts { IfOk result (λ starts. AreStarts BeginsNode ops.new.items starts.items nodes.now) }
     ensures extends { OnOk result (Extends nodes.now ops.old.items ops.new.items) }
 {
     let mut starts = Vec::with_capacity(alloc, nodes.len())?;

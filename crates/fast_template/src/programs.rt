@@ -6,11 +6,12 @@ ghost use Rattle.fast_tree.specs.declared.instructions.Template.{Template};
 ghost use Rattle.fast_tree.specs.device.Numbers.{numbers_of};
 ghost use Rattle.fast_program.specs.device.Runs.{Begins};
 ghost use Rattle.fast_program.specs.device.Programs.{SuitNodes};
+ghost use Rattle.fast_program.specs.device.Starts.{IsStartOf};
 ghost use Rattle.fast_template.specs.meaning.Flat.{templates_of, nodes_of};
 ghost use Rattle.fast_template.specs.device.Programs.{program_of};
 
 use crate::sets::Templates;
-use fast_program::Op;
+use fast_program::{Op, Start};
 
 impl Templates {
     /// The bodies of all templates, groups and sequences, each a run of its nodes' ops with an end behind it. The first op is
@@ -24,14 +25,14 @@ impl Templates {
         &self.program.ops
     }
 
-    /// Where the body of a template begins in the program.
-    #[inline]
-    pub fn template_start(&self, i: u32) -> usize
+    /// Where the messages of a template start.
+    #[inline(always)]
+    pub fn start_of(&self, i: u32) -> &Start
         requires { i < length (templates_of self.now) }
-        ensures { (t : Template) → slice_get (templates_of self.now) i ≡ Some t
-            → Begins (program_of self.now) result t.body.items }
+        ensures { (t : Template) × (slice_get (templates_of self.now) i ≡ Some t)
+            × IsStartOf (program_of self.now) result.now t }
     {
-        self.program.template_starts[i as usize]
+        &self.program.template_starts[i as usize]
     }
 
     /// Where the body of a node begins in the program: that of a group, or of an element of a sequence.

@@ -7,6 +7,7 @@ use Rattle.fast_program.specs.declared.ops.Op.{Op}
 use Rattle.fast_program.specs.declared.programs.Program.{Program}
 use Rattle.fast_program.specs.device.Ops.{IsOpOf}
 use Rattle.fast_program.specs.device.Runs.{is_end, Begins}
+use Rattle.fast_program.specs.device.Starts.{IsStartOf}
 
 -- Each op but an End is of its node.
 abbrev pub SuitNodes : List Op → List Node → Type 0
@@ -17,23 +18,20 @@ pub record Extends (ns : List Node) (old new : List Op) : Type 0 where
   pub kept : (at : ℕ) (body : List ℕ) → Begins old at body → Begins new at body
   pub suit : SuitNodes old ns → SuitNodes new ns
 
--- At each place the run of its body begins.
-abbrev pub AreStarts : {X : Type 0} → (X → List ℕ) → List Op → List ℕ → List X → Type 0
-AreStarts body ops [] [] = Unit {0}
-AreStarts body ops [] (x ∷ xs) = ⊥
-AreStarts body ops (at ∷ starts) [] = ⊥
-AreStarts body ops (at ∷ starts) (x ∷ xs) = Begins ops at (body x) × AreStarts body ops starts xs
+-- Each start is that of its template or node.
+abbrev pub AreStarts : {S X : Type 0} → (List Op → S → X → Type 0) → List Op → List S → List X → Type 0
+AreStarts Is ops [] [] = Unit {0}
+AreStarts Is ops [] (x ∷ xs) = ⊥
+AreStarts Is ops (s ∷ starts) [] = ⊥
+AreStarts Is ops (s ∷ starts) (x ∷ xs) = Is ops s x × AreStarts Is ops starts xs
 
--- the bodies of a template and of a node
-abbrev pub template_body : Template → List ℕ
-template_body t = t.body.items
-
-abbrev pub node_body : Node → List ℕ
-node_body x = numbers_of x.shape
+-- At a place the run of a node's body begins.
+abbrev pub BeginsNode : List Op → ℕ → Node → Type 0
+BeginsNode ops at x = Begins ops at (numbers_of x.shape)
 
 -- A program holds the run of each body of templates and nodes, and first an empty one.
 pub record IsProgramOf (p : Program) (ts : List Template) (ns : List Node) : Type 0 where
   pub rests : Begins p.ops.items 0 []
   pub suits : SuitNodes p.ops.items ns
-  pub templates : AreStarts template_body p.ops.items p.template_starts.items ts
-  pub bodies : AreStarts node_body p.ops.items p.body_starts.items ns
+  pub templates : AreStarts IsStartOf p.ops.items p.template_starts.items ts
+  pub bodies : AreStarts BeginsNode p.ops.items p.body_starts.items ns

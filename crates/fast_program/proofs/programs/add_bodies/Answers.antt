@@ -3,8 +3,8 @@ use Rattle.std.proofs.lemmas.Option.{slice_get_read}
 use Rattle.fast_tree.specs.declared.instructions.Node.{Node}
 use Rattle.fast_program.specs.declared.ops.Op.{Op}
 use Rattle.fast_program.specs.device.Runs.{Begins}
-use Rattle.fast_program.specs.device.Programs.{node_body}
-use Rattle.fast_program.proofs.Starts.{one_more_start, kept_starts, extends_both}
+use Rattle.fast_program.specs.device.Programs.{BeginsNode}
+use Rattle.fast_program.proofs.StartLists.{one_more_start, kept_starts, kept_node, extends_both}
 use Rattle.fast_program.proofs.programs.add_bodies.Goals as goal
 
 pub add_body-requires-clause-rests : goal.add_body-requires-clause-rests
@@ -19,6 +19,6 @@ loop-node-preserved c =
     let before : List Op = c.loop-node.ops.items in
     let now : List Op = c.add_body.new.ops.items in
     let found : slice_get ns i ≡ Some x = slice_get_read ns (length ns) i x refl c.loop-node-test.true c.node-item.is in
-    let begins : Begins now c.in_ok-start.start (node_body x) = subst (Begins now c.in_ok-start.start) c.body_of.ensures c.in_ok-start.ensures.begins in
-    let more = one_more_start node_body now i c.loop-node.starts.items ns c.in_ok-start.start x found (kept_starts node_body ns before now c.loop-node.starts.items _ c.in_ok-start.ensures.extends starts) begins in
+    let begins : BeginsNode now c.in_ok-start.start x = subst (Begins now c.in_ok-start.start) c.body_of.ensures c.in_ok-start.ensures.begins in
+    let more = one_more_start BeginsNode now i c.loop-node.starts.items ns c.in_ok-start.start x found (kept_starts BeginsNode before now c.loop-node.starts.items _ (kept_node ns before now c.in_ok-start.ensures.extends) starts) begins in
     (extends_both ns c.args.ops.now.items before now extends c.in_ok-start.ensures.extends, rw (c.in_ok-push.ensures.items, add-one) more)

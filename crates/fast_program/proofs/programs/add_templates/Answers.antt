@@ -1,11 +1,12 @@
-use Rattle.std.proofs.Common.{refl, subst, List, ◌≡◌, length, Some, slice_get, add-one}
+use Rattle.std.proofs.Common.{refl, sym, subst, List, ◌≡◌, length, Some, slice_get, add-one}
 use Rattle.std.proofs.lemmas.Option.{slice_get_read}
 use Rattle.fast_tree.specs.declared.instructions.Node.{Node}
 use Rattle.fast_tree.specs.declared.instructions.Template.{Template}
 use Rattle.fast_program.specs.declared.ops.Op.{Op}
+use Rattle.fast_program.specs.declared.starts.Start.{Start}
 use Rattle.fast_program.specs.device.Runs.{Begins}
-use Rattle.fast_program.specs.device.Programs.{template_body}
-use Rattle.fast_program.proofs.Starts.{one_more_start, kept_starts, extends_both}
+use Rattle.fast_program.specs.device.Starts.{IsStartOf}
+use Rattle.fast_program.proofs.StartLists.{one_more_start, kept_starts, kept_start, extends_both}
 use Rattle.fast_program.proofs.programs.add_templates.Goals as goal
 
 pub add_body-requires-clause-rests : goal.add_body-requires-clause-rests
@@ -21,6 +22,9 @@ loop-template-preserved c =
     let before : List Op = c.loop-template.ops.items in
     let now : List Op = c.add_body.new.ops.items in
     let found : slice_get ts i ≡ Some t = slice_get_read ts (length ts) i t refl c.loop-template-test.true c.template-item.is in
-    let begins : Begins now c.in_ok-start.start (template_body t) = subst (Begins now c.in_ok-start.start) c.deref.ensures.value c.in_ok-start.ensures.begins in
-    let more = one_more_start template_body now i c.loop-template.starts.items ts c.in_ok-start.start t found (kept_starts template_body ns before now c.loop-template.starts.items _ c.in_ok-start.ensures.extends starts) begins in
-    (extends_both ns c.args.ops.now.items before now extends c.in_ok-start.ensures.extends, rw (c.in_ok-push.ensures.items, add-one) more)
+    let at = c.in_ok-at.at in
+    let run : Begins now at t.body.items = subst (Begins now at) c.deref.ensures.value c.in_ok-at.ensures.begins in
+    let start : Start = c.of.result in
+    let is : IsStartOf now start t = record { body = subst (λ n. Begins now n t.body.items) (sym c.of.ensures.at) run; id = c.of.ensures.id; reset = c.of.ensures.reset } in
+    let more = one_more_start IsStartOf now i c.loop-template.starts.items ts start t found (kept_starts IsStartOf before now c.loop-template.starts.items _ (kept_start ns before now c.in_ok-at.ensures.extends) starts) is in
+    (extends_both ns c.args.ops.now.items before now extends c.in_ok-at.ensures.extends, rw (c.in_ok-push.ensures.items, add-one) more)

@@ -1,10 +1,11 @@
 -- The first event of a message, behind its map and its identifier.
 use Rattle.std.proofs.Common.{refl, ◌≡◌, ◌+◌, ◌≤◌, ap, sym, ◌∙◌, subst, arith, get_or, List}
-use Rattle.std.specs.Prelude.{Some, Ok, take}
+use Rattle.std.specs.Prelude.{Bool, if◌then◌else◌, Some, Ok, take}
 use Rattle.fast_tree.specs.declared.instructions.Template.{Template}
 use Rattle.fast_tree.specs.device.Nodes.{template_data, instructions_from}
 use Rattle.fast_tree.specs.meaning.Tree.{identifier}
 use Rattle.fast_value.specs.meaning.Limits.{bounds}
+use Rattle.fast_dict.specs.meaning.Dictionary.{reset}
 use Rattle.fast_dict.specs.meaning.Slots.{slots_dictionary}
 use Rattle.fast_program.specs.declared.ops.Op.{Op}
 use Rattle.fast_cursor.specs.device.Runs.{run_at, IsRun}
@@ -43,8 +44,7 @@ returns-in-Err-clause-turn g c t found =
 
 pub begin_message-requires-clause-run : goal.begin_message-requires-clause-run
 begin_message-requires-clause-run g c =
-    subst (λ (ops : List Op). IsRun ops c.template_start.result) (sym c.requires.behind.supplied.program)
-    (c.template_start.ensures c.template-template.result.now c.template-template.ensures.found).run
+    subst (λ (ops : List Op). IsRun ops c.args.start.now.at) (sym c.requires.behind.supplied.program) c.requires.start.2.body.run
 
 pub returns-clause-turn : goal.returns-clause-turn
 returns-clause-turn g c t found =
@@ -53,20 +53,20 @@ returns-clause-turn g c t found =
     let m = c.args.self.now in
     let rest = c.args.spot.now.rest.now in
     let d = slots_dictionary m.slots in
-    let u = c.template-template.result.now in
-    let both : Some u ≡ Some t = sym c.template-template.ensures.found ∙ found in
+    let u = c.requires.start.0 in
+    let both : Some u ≡ Some t = sym c.requires.start.1 ∙ found in
     let same : u ≡ t = cc both in
     let x : CursorData = at_place c.begin_message.new.self c.begin_message.new.place in
     let at : IsBegunAt m.cursor x rest u.body.items =
-    begun_at m.cursor c.begin_message.new.self x rest u.body.items (get_or rest 0 0) c.template_start.result c.requires.outermost (first_byte rest c.requires.some) c.begin_message.ensures.same c.begin_message.ensures.at c.begin_message.ensures.bits
-    (ap (λ (ops : List Op). run_at ops c.template_start.result) c.requires.behind.supplied.program ∙ (c.template_start.ensures u c.template-template.ensures.found).nodes) in
+    begun_at m.cursor c.begin_message.new.self x rest u.body.items (get_or rest 0 0) c.args.start.now.at c.requires.outermost (first_byte rest c.requires.some) c.begin_message.ensures.same c.begin_message.ensures.at c.begin_message.ensures.bits
+    (ap (λ (ops : List Op). run_at ops c.args.start.now.at) c.requires.behind.supplied.program ∙ c.requires.start.2.body.nodes) in
     let b : Machine = mapped_by m rest in
     let m' : Machine = record m { cursor = x; slots = c.reset_if.new.slots; counted = 0; turns = c.after-self.result } in
     let can : CanTurn set l m' =
-    begun_turns set l b c.args.number u x c.reset_if.new.slots c.after-self.result m.latest c.requires.behind c.template-template.ensures.found c.template-template.ensures.body c.reset_if.ensures.terms at.frames at.left at.map at.rests in
+    begun_turns set l b c.args.number u x c.reset_if.new.slots c.after-self.result m.latest c.requires.behind c.requires.start.1 (c.args.templates.now.templates_name_nodes c.args.number u c.requires.start.1) c.reset_if.ensures.terms at.frames at.left at.map at.rests in
     subst (λ (v : Template). IsTurn g.S.Sink.takes g.S.Sink.stops set l (reader_of l.strict (message_from set (bounds l) c.args.number v d (take 1 rest))) c.args.sink.now (Ok Handed) c.hand.new.sink m') same
     (turn_one g.S.Sink.takes g.S.Sink.stops set l (reader_of l.strict (message_from set (bounds l) c.args.number u d (take 1 rest))) (MessageStart c.args.number) c.args.sink.now c.hand.new.sink m'
-    (begun set l.strict (bounds l) c.args.number u d (slots_dictionary c.reset_if.new.slots) b.cursor x c.reset_if.ensures.entries at.frames at.left at.bits)
+    (begun set l.strict (bounds l) c.args.number u d (slots_dictionary c.reset_if.new.slots) b.cursor x (c.reset_if.ensures.entries ∙ ap (λ (r : Bool). if r then reset d else d) c.requires.start.2.reset) at.frames at.left at.bits)
     c.in_default.ensures can)
 
 pub returns-clause-turns : goal.returns-clause-turns
@@ -75,11 +75,11 @@ returns-clause-turns g c way n h =
     let l = c.args.limits in
     let m = c.args.self.now in
     let rest = c.args.spot.now.rest.now in
-    let u = c.template-template.result.now in
+    let u = c.requires.start.0 in
     let x : CursorData = at_place c.begin_message.new.self c.begin_message.new.place in
     let at : IsBegunAt m.cursor x rest u.body.items =
-    begun_at m.cursor c.begin_message.new.self x rest u.body.items (get_or rest 0 0) c.template_start.result c.requires.outermost (first_byte rest c.requires.some) c.begin_message.ensures.same c.begin_message.ensures.at c.begin_message.ensures.bits
-    (ap (λ (ops : List Op). run_at ops c.template_start.result) c.requires.behind.supplied.program ∙ (c.template_start.ensures u c.template-template.ensures.found).nodes) in
+    begun_at m.cursor c.begin_message.new.self x rest u.body.items (get_or rest 0 0) c.args.start.now.at c.requires.outermost (first_byte rest c.requires.some) c.begin_message.ensures.same c.begin_message.ensures.at c.begin_message.ensures.bits
+    (ap (λ (ops : List Op). run_at ops c.args.start.now.at) c.requires.behind.supplied.program ∙ c.requires.start.2.body.nodes) in
     let unit = c.after-unit.ensures in
     let paid : c.after-unit.result.count + most_by way (tree_in set) l ≤ 1 + n = omega (arith, unit, h) in
-    message_begun way set l (1 + n) c.after-unit.result.count c.after-self.result.count c.args.number u x paid c.template-template.ensures.found c.after-self.ensures at.left at.frames
+    message_begun way set l (1 + n) c.after-unit.result.count c.after-self.result.count c.args.number u x paid c.requires.start.1 c.after-self.ensures at.left at.frames

@@ -1,7 +1,6 @@
 -- The next message, or the wait for it.
 use Rattle.std.proofs.Common.{◌≡◌, ap, ◌∙◌, arith}
 use Rattle.std.specs.Prelude.{[]}
-use Rattle.std.proofs.lemmas.Option.{slice_get_within}
 use Rattle.fast_dict.specs.meaning.Slots.{slots_dictionary}
 use Rattle.fast_cursor.specs.device.Places.{at_place}
 use Rattle.fast_decoder.specs.declared.machine.Machine.{Machine}
@@ -21,9 +20,6 @@ returns-in_default g c = record {
       none.result none.new.self none.new.spot none.ensures.waits none.ensures.rest none.ensures.place
       (none.ensures.at ∙ ap (λ (y : Machine). record (placed y from.place) { waiting = Map; cursor = record (at_place y.cursor from.place) { map = []; used = 0; ends = 8 } }) c.in_default.ensures.none);
 }
-
-pub message_begins-requires-clause-number : goal.message_begins-requires-clause-number
-message_begins-requires-clause-number g c = slice_get_within (set_of c.args.templates.now).templates c.in-Some.number c.in-Some.ensures.ahead.template c.in-Some.ensures.ahead.found
 
 pub returns : goal.returns
 returns g c = record {

@@ -3,9 +3,10 @@ use Rattle.fast_tree.specs.declared.instructions.Node.{Node}
 use Rattle.fast_program.specs.declared.codes.Code.TheVariants.{End}
 use Rattle.fast_program.specs.declared.ops.Op.{Op}
 use Rattle.fast_program.specs.device.Runs.{is_end, Begins}
-use Rattle.fast_program.specs.device.Programs.{SuitNodes, template_body}
+use Rattle.fast_program.specs.device.Starts.{IsStartOf}
+use Rattle.fast_program.specs.device.Programs.{SuitNodes}
 use Rattle.fast_program.proofs.Runs.{closed, suit_none, suit_end}
-use Rattle.fast_program.proofs.Starts.{kept_starts}
+use Rattle.fast_program.proofs.StartLists.{kept_starts, kept_start}
 use Rattle.fast_program.proofs.programs.Program.of.Goals as goal
 
 -- what stands before any body
@@ -32,6 +33,6 @@ returns c =
     record {
       rests = bodies.extends.kept 0 [] (templates.extends.kept 0 [] (rests_first c.push.new.self.items c.end.result is c.end.ensures));
       suits = bodies.extends.suit (templates.extends.suit (suit_first ns c.push.new.self.items c.end.result is c.end.ensures));
-      templates = kept_starts template_body ns c.add_templates.new.ops.items c.add_bodies.new.ops.items c.in_ok-template_starts.template_starts.items c.args.templates.now bodies.extends templates.starts;
+      templates = kept_starts IsStartOf c.add_templates.new.ops.items c.add_bodies.new.ops.items c.in_ok-template_starts.template_starts.items c.args.templates.now (kept_start ns c.add_templates.new.ops.items c.add_bodies.new.ops.items bodies.extends) templates.starts;
       bodies = bodies.starts;
     }

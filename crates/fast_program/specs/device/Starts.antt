@@ -1,0 +1,17 @@
+-- Where the messages of templates start.
+use Rattle.std.specs.Prelude.{◌≡◌, ℕ, List, Option, Some, None}
+use Rattle.fast_tree.specs.declared.instructions.Template.{Template}
+use Rattle.fast_program.specs.declared.ops.Op.{Op}
+use Rattle.fast_program.specs.declared.starts.Start.{Start}
+use Rattle.fast_program.specs.device.Runs.{Begins}
+
+-- the number that stands for a template's identifier: the greatest of 64 bits for none
+abbrev pub id_number : Option ℕ → ℕ
+id_number None = 18446744073709551615
+id_number (Some id) = id
+
+-- A start tells where the run of a template's body begins, its identifier, and whether it resets.
+pub record IsStartOf (ops : List Op) (s : Start) (t : Template) : Type 0 where
+  pub body : Begins ops s.at t.body.items
+  pub id : s.id ≡ id_number t.id
+  pub reset : s.reset ≡ t.reset

@@ -1,0 +1,39 @@
+//! Where the messages of a template start.
+
+ghost use Rattle.std.specs.Prelude.{◌≡◌};
+ghost use Rattle.fast_program.specs.device.Starts.{id_number};
+
+use fast_tree::Template;
+
+/// What stands for the identifier of a template that has none.
+pub const NO_ID: u64 = u64::MAX;
+
+/// What has to be known of a template where its message starts, in one record.
+#[derive(Clone, Copy, Debug)]
+pub struct Start {
+    /// The template identifier, or [`NO_ID`].
+    pub id: u64,
+    /// Where its body begins.
+    pub at: usize,
+    /// Whether a message of it resets the dictionary.
+    pub reset: bool,
+}
+
+impl Start {
+    /// The start of a template whose body begins there.
+    pub fn of(template: &Template, at: usize) -> Start
+        ensures id { result.id ≡ id_number template.now.id }
+        ensures at { result.at ≡ at }
+        ensures reset { result.reset ≡ template.now.reset }
+    {
+        let id = match template.id {
+            Some(id) => u64::from(id),
+            None => NO_ID,
+        };
+        Start {
+            id,
+            at,
+            reset: template.reset,
+        }
+    }
+}
