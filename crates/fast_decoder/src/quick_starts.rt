@@ -78,31 +78,33 @@ impl<'t> Machine<'t> {
         Some(self.latest)
     }
 
-    /// The template of the message that the piece goes on with, whose map is one byte, and has the first bit set, and how many bytes lead
-    /// to its instructions: if the identifier stands whole in the piece and is a template's. Its entry holds it then.
-    #[inline(always)]
-    pub fn sent_message(
-        &mut self,
-        templates: &'t Templates,
-        limits: Limits,
-        rest: &[u8],
-    ) -> Option<(u32, usize)>
+    /// How many bytes lead to the instructions of the message that the piece goes on with, whose map is one byte, and has the first bit
+    /// set: if the identifier stands whole in the piece and is a template's, which is the latest one then, else 0.
+    #[inline(never)]
+    pub fn sent_message(&mut self, templates: &'t Templates, limits: Limits, rest: &[u8]) -> usize
         requires supplied { IsSupplied (set_of templates.now) limits self.old }
         requires unused { self.old.entity.bytes ≡ [] }
         requires some { 0 < length rest.now }
         requires first { 192 ≤ slice_index rest.now 0 }
-        ensures none { IfNone result (self.new ≡ self.old) }
-        ensures ahead { IfSome result (λ r. IsMessageAhead (set_of templates.now) limits
-            (slots_dictionary self.old.slots) (slots_dictionary self.new.slots) rest.now r.0 r.1) }
+        ensures none { result ≡ 0 → self.new ≡ self.old }
+        ensures ahead { 0 < result → IsMessageAhead (set_of templates.now) limits
+            (slots_dictionary self.old.slots) (slots_dictionary self.new.slots) rest.now self.new.latest result }
         ensures same { self.new ≡ record self.old { slots = self.new.slots; latest = self.new.latest } }
         ensures terms { slots_terms self.new.slots ≡ slots_terms self.old.slots }
     {
-        let (read, len) = whole_unsigned(&rest[1..], false, limits.strict, 4_294_967_295)?;
-        let id = read?;
-        let number = template_with(templates, id as u32, self.latest)?;
+        let read = whole_unsigned(&rest[1..], false, limits.strict, 4_294_967_295);
+        let Some((claimed, len)) = read else {
+            return 0;
+        };
+        let Some(id) = claimed else {
+            return 0;
+        };
+        let Some(number) = template_with(templates, id as u32, self.latest) else {
+            return 0;
+        };
         self.slots.set_number(0, Entry::UInt32(id));
         self.latest = number;
-        Some((number, 1 + len))
+        1 + len
     }
 
     /// The template of the message that the piece goes on with, whose map is one byte, how many bytes lead to its instructions, and
@@ -132,7 +134,11 @@ impl<'t> Machine<'t> {
             let number = self.latest_again(templates)?;
             return Some((number, 1, templates.start_of(number)));
         }
-        let (number, bytes) = self.sent_message(templates, limits, rest)?;
+        let bytes = self.sent_message(templates, limits, rest);
+        if bytes == 0 {
+            return None;
+        }
+        let number = self.latest;
         Some((number, bytes, templates.start_of(number)))
     }
 }
