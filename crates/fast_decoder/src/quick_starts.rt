@@ -80,7 +80,7 @@ impl<'t> Machine<'t> {
 
     /// How many bytes lead to the instructions of the message that the piece goes on with, whose map is one byte, and has the first bit
     /// set: if the identifier stands whole in the piece and is a template's, which is the latest one then, else 0.
-    #[inline(never)]
+    #[inline(always)]
     pub fn sent_message(&mut self, templates: &'t Templates, limits: Limits, rest: &[u8]) -> usize
         requires supplied { IsSupplied (set_of templates.now) limits self.old }
         requires unused { self.old.entity.bytes ≡ [] }
