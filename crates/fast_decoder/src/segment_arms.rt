@@ -96,7 +96,7 @@ impl<'t> Machine<'t> {
         self.take_short_map(limits, width, rest)
     }
 
-    /// The same of a map of any such length.
+    /// The same of a map of any such length. Cold, as all that the loop calls rarely, for its registers.
     #[cold]
     #[inline(never)]
     fn take_short_map(&mut self, limits: Limits, width: usize, rest: &[u8]) -> usize
