@@ -5,6 +5,7 @@ pub mod Judging
 pub mod Packing
 pub mod Signs
 pub mod SignExtension
+pub mod Spreading
 pub mod Writing
 pub mod Whole
 pub mod Spellings

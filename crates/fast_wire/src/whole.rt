@@ -8,9 +8,13 @@ ghost use Rattle.std.specs.Prelude.{◌≡◌, ◌≤◌, ◌≤ℤ◌, ◌↔�
 ghost use Rattle.fast_wire.specs.meaning.Entities.{number, has_sign, signed};
 ghost use Rattle.fast_wire.specs.meaning.Integers.{Means, IsWithin, unsigned_up_to, signed_between, delta_range};
 ghost use Rattle.fast_wire.specs.device.Fronts.{IsFirstInt, NoneIsOverlong};
+ghost use Rattle.fast_wire.specs.device.Words.{IsFrontWord};
 ghost use Rattle.fast_wire.specs.declared.fronts.First.TheVariants.{Whole};
 
-use crate::words::{four_bytes, long_eight_bytes, lowered, one_byte};
+use crate::words::{
+    byte_in, eight_in, extended, first_in, four_in, four_signed_in, front_word, lowered, one_byte,
+    second_in,
+};
 
 /// The first entity as an integer from 0 to `top`, or NULL where it may be, and its length: one byte, or up to eight
 /// where eight bytes are there. One of up to four bytes is within any `top`. One with a byte too many is not taken.
@@ -25,19 +29,19 @@ pub fn whole_unsigned(
     ensures { IfSome result (λ r. IsFirstInt (λ y. option_map pos y) strict (unsigned_up_to top) nullable
         (Whole r.0 r.1) bytes.now) }
 {
-    if bytes.len() < 8 {
+    let Some(word) = front_word(bytes) else {
         let sum = one_byte(bytes)?;
         return Some((meant(sum, nullable), 1));
-    }
+    };
     let _ = strict;
-    if !goes_on(bytes) {
-        let sum = one_byte(bytes)?;
+    if !goes_on(word, bytes) {
+        let sum = byte_in(word, bytes)?;
         return Some((meant(sum, nullable), 1));
     }
-    if let Some((sum, len)) = four_bytes(bytes) {
+    if let Some((sum, len)) = four_in(word, bytes) {
         return Some((meant(sum, nullable), len));
     }
-    let (sum, len) = long_eight_bytes(bytes)?;
+    let (sum, len) = eight_in(word, bytes)?;
     let number = meant(sum, nullable);
     if !is_up_to(number, top) {
         return None;
@@ -60,20 +64,20 @@ pub fn whole_signed(
     ensures { IfSome result (λ r. IsFirstInt (λ y. y) strict (signed_between low top) nullable
         (Whole r.0 r.1) bytes.now) }
 {
-    if bytes.len() < 8 {
+    let Some(word) = front_word(bytes) else {
         let sum = one_byte(bytes)?;
         return Some((meant_signed(sum, 1, nullable), 1));
-    }
-    if let Some(sum) = one_byte(bytes) {
+    };
+    if let Some(sum) = byte_in(word, bytes) {
         return Some((meant_signed(sum, 1, nullable), 1));
     }
-    if is_refused_signed_front(bytes, strict) {
+    if is_refused_signed_front(word, bytes, strict) {
         return None;
     }
-    if let Some((sum, len)) = four_bytes(bytes) {
-        return Some((meant_signed(sum, len, nullable), len));
+    if let Some((number, len)) = four_signed_in(word, bytes) {
+        return Some((meant_integer(number, nullable), len));
     }
-    let (sum, len) = long_eight_bytes(bytes)?;
+    let (sum, len) = eight_in(word, bytes)?;
     let number = meant_signed(sum, len, nullable);
     if !is_between(number, low, top) {
         return None;
@@ -121,42 +125,39 @@ fn meant_signed(sum: u64, len: usize, nullable: bool) -> Option<i64>
     requires short { len ≤ 8 }
     ensures { (w : List ℕ) → length w ≡ len → sum ≡ number w → Means nullable (signed w) result }
 {
-    let n = extended(sum, len);
+    meant_integer(extended(sum, len), nullable)
+}
+
+/// What is sent as an integer: `None` is NULL, where that may be.
+#[inline(always)]
+fn meant_integer(n: i64, nullable: bool) -> Option<i64>
+    ensures { Means nullable n result }
+{
     if !nullable {
         return Some(n);
     }
     lowered(n)
 }
 
-/// The number of that entity.
-#[inline(always)]
-fn extended(sum: u64, len: usize) -> i64
-    requires some { 1 ≤ len }
-    requires short { len ≤ 8 }
-    ensures { (w : List ℕ) → length w ≡ len → sum ≡ number w → result ≡ signed w }
-{
-    let spare = 64 - 7 * len;
-    (sum << spare).cast_signed() >> spare
-}
-
 /// Whether the first byte has no stop bit, and is not zero, which in front would be a byte too many. Few senders write such a byte, so
 /// in neither mode it is taken here: that spares all others a look at the mode. Both are one test of the byte's sign.
 #[inline(always)]
-fn goes_on(bytes: &[u8]) -> bool
-    requires { 1 ≤ length bytes.now }
+fn goes_on(word: u64, bytes: &[u8]) -> bool
+    requires front { IsFrontWord word bytes.now }
     ensures { result ≡ true → NoneIsOverlong (λ v. pos (number v)) bytes.now }
 {
-    bytes[0] != 0 && bytes[0] < 0x80
+    let first = first_in(word, bytes);
+    first != 0 && first < 0x80
 }
 
 /// Whether a signed integer in front, of two bytes and more, has a byte too many, in strict mode: seven bits in front that repeat
 /// the sign behind them.
 #[inline(always)]
-fn is_refused_signed_front(bytes: &[u8], strict: bool) -> bool
-    requires { 2 ≤ length bytes.now }
+fn is_refused_signed_front(word: u64, bytes: &[u8], strict: bool) -> bool
+    requires front { IsFrontWord word bytes.now }
     ensures { result ≡ false → IsTrue strict → NoneIsOverlong signed bytes.now }
 {
-    strict && repeats_sign(bytes[0], bytes[1])
+    strict && repeats_sign(first_in(word, bytes), second_in(word, bytes))
 }
 
 /// Whether the seven bits of a byte are all like the sign of the byte behind it.

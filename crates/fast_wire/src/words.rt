@@ -1,9 +1,10 @@
 //! Entities of at most eight bytes, taken as one word.
 
-ghost use Rattle.std.specs.Prelude.{◌≡◌, ℕ, ◌<◌, ◌≤◌, true, All, List, IfSome, pos, option_map, length, take};
+ghost use Rattle.std.specs.Prelude.{◌≡◌, ℕ, ◌*◌, ◌++◌, ◌<◌, ◌≤◌, true, All, List, IfSome, pos, option_map, length, take, get_or};
+ghost use Rattle.std.specs.Int.{w32, from_le_bytes};
 ghost use Rattle.fast_wire.specs.meaning.Entities.{IsEntity, number, signed};
 ghost use Rattle.fast_wire.specs.meaning.Integers.{Means};
-ghost use Rattle.fast_wire.specs.device.Words.{word_of, IsShortEntity, IsWordInFront};
+ghost use Rattle.fast_wire.specs.device.Words.{word_of, IsShortEntity, IsWordInFront, IsFrontWord, IsSpread};
 
 /// The stop bits of eight bytes.
 const STOP_BITS: u64 = 0x8080_8080_8080_8080;
@@ -73,15 +74,6 @@ pub(crate) fn eight_bytes(bytes: &[u8]) -> Option<(u64, usize)>
     Some((packed(word), len))
 }
 
-/// The same where more than four bytes are expected.
-#[inline(always)]
-pub(crate) fn long_eight_bytes(bytes: &[u8]) -> Option<(u64, usize)>
-    ensures { IfSome result (λ e. IsShortEntity e.0 e.1 bytes.now) }
-{
-    let (word, len) = word_in_front(bytes)?;
-    Some((packed_whole(word), len))
-}
-
 /// The first entity as the lower bytes of a word, and its length, if eight bytes are there and it ends among them.
 #[inline(always)]
 fn word_in_front(bytes: &[u8]) -> Option<(u64, usize)>
@@ -95,6 +87,123 @@ fn word_in_front(bytes: &[u8]) -> Option<(u64, usize)>
     let bits = stops.trailing_zeros() + 1;
     let word = u64::from_be_bytes(chunk) >> (64 - bits);
     Some((word, bits as usize / 8))
+}
+
+/// The eight bytes in front as one word, the first one the lowest, if so many are there: what asks for their bytes one by one and for
+/// some of them together is then one load. Those who take the word take the bytes too, for what their clauses say of them.
+#[inline(always)]
+pub(crate) fn front_word(bytes: &[u8]) -> Option<u64>
+    ensures { IfSome result (λ word. IsFrontWord word bytes.now) }
+{
+    let chunk = bytes.first_chunk::<8>()?;
+    Some(u64::from_le_bytes(*chunk))
+}
+
+/// The first byte.
+#[inline(always)]
+pub(crate) fn first_in(word: u64, bytes: &[u8]) -> u8
+    requires front { IsFrontWord word bytes.now }
+    ensures { result ≡ get_or bytes.now 0 0 }
+{
+    let _ = bytes;
+    (word & 0xff) as u8
+}
+
+/// The second byte.
+#[inline(always)]
+pub(crate) fn second_in(word: u64, bytes: &[u8]) -> u8
+    requires front { IsFrontWord word bytes.now }
+    ensures { result ≡ get_or bytes.now 1 0 }
+{
+    let _ = bytes;
+    (word >> 8 & 0xff) as u8
+}
+
+/// The first four bytes.
+#[inline(always)]
+fn four_of(word: u64, bytes: &[u8]) -> u32
+    requires front { IsFrontWord word bytes.now }
+    ensures { result ≡ from_le_bytes w32 (take 4 bytes.now) }
+{
+    let _ = bytes;
+    (word & 0xffff_ffff) as u32
+}
+
+/// The number of the first entity, if it is one byte.
+#[inline(always)]
+pub(crate) fn byte_in(word: u64, bytes: &[u8]) -> Option<u64>
+    requires front { IsFrontWord word bytes.now }
+    ensures { IfSome result (λ sum. IsShortEntity sum 1 bytes.now) }
+{
+    let byte = first_in(word, bytes);
+    if byte < 0x80 {
+        return None;
+    }
+    Some(u64::from(byte & 0x7f))
+}
+
+/// The number and the length of the first entity, if it ends among four bytes.
+#[inline(always)]
+pub(crate) fn four_in(word: u64, bytes: &[u8]) -> Option<(u64, usize)>
+    requires front { IsFrontWord word bytes.now }
+    ensures entity { IfSome result (λ e. IsShortEntity e.0 e.1 bytes.now) }
+    ensures few { IfSome result (λ e. e.1 ≤ 4) }
+{
+    let four = four_of(word, bytes);
+    let stops = four & SHORT_STOP_BITS;
+    if stops == 0 {
+        return None;
+    }
+    let bits = stops.trailing_zeros() + 1;
+    let low = four.swap_bytes() >> (32 - bits);
+    Some((u64::from(packed_short(low)), bits as usize / 8))
+}
+
+/// The integer in two's complement and the length of the first entity, if it ends among four bytes. Its sign is spread over the word
+/// before its bytes are packed, which takes fewer steps than to do so for each length behind that.
+#[inline(always)]
+pub(crate) fn four_signed_in(word: u64, bytes: &[u8]) -> Option<(i64, usize)>
+    requires front { IsFrontWord word bytes.now }
+    ensures entity { IfSome result (λ e. IsShortEntity (number (take e.1 bytes.now)) e.1 bytes.now
+        × (e.0 ≡ signed (take e.1 bytes.now))) }
+    ensures few { IfSome result (λ e. e.1 ≤ 4) }
+{
+    let four = four_of(word, bytes);
+    let stops = four & SHORT_STOP_BITS;
+    if stops == 0 {
+        return None;
+    }
+    let bits = stops.trailing_zeros() + 1;
+    let low = with_sign(four.swap_bytes(), bits);
+    let sum = u64::from(packed_short(low));
+    Some((extended(sum, 4), bits as usize / 8))
+}
+
+/// So many upper bits of four bytes, which are an entity, at the lower end of four bytes that are the same integer.
+#[inline(always)]
+fn with_sign(word: u32, bits: u32) -> u32
+    requires some { 8 ≤ bits }
+    requires few { bits ≤ 32 }
+    ensures { (front rest : List ℕ) → bits ≡ 8 * length front → length (front ++ rest) ≡ 4
+        → All (λ byte. byte < 256) (front ++ rest) → word ≡ word_of (front ++ rest) → IsSpread result front }
+{
+    ((word << 1).cast_signed() >> (33 - bits)).cast_unsigned()
+}
+
+/// The number and the length of the first entity, if it ends among the eight bytes. More than four bytes are expected.
+#[inline(always)]
+pub(crate) fn eight_in(word: u64, bytes: &[u8]) -> Option<(u64, usize)>
+    requires front { IsFrontWord word bytes.now }
+    ensures { IfSome result (λ e. IsShortEntity e.0 e.1 bytes.now) }
+{
+    let _ = bytes;
+    let stops = word & STOP_BITS;
+    if stops == 0 {
+        return None;
+    }
+    let bits = stops.trailing_zeros() + 1;
+    let low = word.swap_bytes() >> (64 - bits);
+    Some((packed_whole(low), bits as usize / 8))
 }
 
 /// The lower seven bits of each of eight bytes, side by side. Most entities have four bytes at most.
@@ -138,6 +247,17 @@ fn packed_short(word: u32) -> u32
     let sevens = word & 0x7f7f_7f7f;
     let pairs = sevens - ((sevens & 0x7f00_7f00) >> 1);
     pairs - (pairs >> 16) * 0xc000
+}
+
+/// The number in two's complement of so many bytes, by the number that their lower seven bits make up.
+#[inline(always)]
+pub(crate) fn extended(sum: u64, len: usize) -> i64
+    requires some { 1 ≤ len }
+    requires short { len ≤ 8 }
+    ensures { (w : List ℕ) → length w ≡ len → sum ≡ number w → result ≡ signed w }
+{
+    let spare = 64 - 7 * len;
+    (sum << spare).cast_signed() >> spare
 }
 
 /// The number of a short entity in two's complement.

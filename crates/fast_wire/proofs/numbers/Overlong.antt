@@ -1,6 +1,6 @@
 -- Which entities are overlong.
 use Rattle.std.proofs.Common.{◌≡◌, ℕ, zero, suc, ◌+◌, ◌*◌, ◌%◌, ◌^◌, ◌<◌, ◌≤◌, List, [], ◌∷◌, refl, ap, sym, ◌∙◌, ◌⊎◌, inl, inr, length, length-append, take, get_or, arith, lit<, eqb, leb}
-use Rattle.std.specs.Prelude.{ℤ, pos, ◌-ℤ◌, ◌↔◌, Bool, true, false, if◌then◌else◌, bit_and}
+use Rattle.std.specs.Prelude.{ℤ, pos, ◌-ℤ◌, ◌↔◌, Bool, true, false, if◌then◌else◌, IsTrue, bit_and}
 use Rattle.std.proofs.Math.Nat.{one-le-pow, mul-le-mul_right, pow-suc, le_of_mul-le-mul_right}
 use Rattle.std.proofs.lemmas.Int.{ints}
 use Rattle.std.proofs.Math.Bool.{not}
@@ -137,6 +137,10 @@ none_by_first bytes some n entity o =
     let long : 1 < length (take n bytes) = overlong_is_long (λ v. pos (number v)) (take n bytes) o in
     let first : get_or (take n bytes) 0 0 ≡ get_or bytes 0 0 = get_or-take n bytes 0 0 (omega (arith, take_is_short n bytes)) in
     not_from_Decides (eqb (get_or bytes 0 0) 0) (Decides-eqb (get_or bytes 0 0) 0) some (sym first ∙ overlong_is_zero (take n bytes) entity o)
+
+-- the test answers whether the seven bits of the first byte are all like the sign of the second
+abbrev pub RepeatsSign : Bool → ℕ → ℕ → Type 0
+RepeatsSign answer first second = IsTrue answer ↔ (first ≡ (if has_sign (second ∷ []) then 127 else 0))
 
 pub none_by_sign : (bytes : List ℕ) → (get_or bytes 0 0 ≡ (if has_sign (get_or bytes 1 0 ∷ []) then 127 else 0) → ⊥) → NoneIsOverlong signed bytes
 none_by_sign bytes other n entity o =

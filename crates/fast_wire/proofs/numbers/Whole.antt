@@ -89,8 +89,21 @@ pub tested_signed : (x : Option ℤ) (low top : ℤ) → SFits w64 low → SFits
 tested_signed x low top f g h =
     subst (λ l. IfSome x (IsWithin (signed_between l top))) (to_z-of_z w64 low f) (subst (λ t. IfSome x (IsWithin (signed_between (to_z w64 (of_z w64 low)) t))) (to_z-of_z w64 top g) h)
 
--- what a few bytes mean
-pub few_signed : (nullable : Bool) (x : Option ℤ) (sum len : ℕ) (low top : ℤ) (bytes : List ℕ) → IsShortEntity sum len bytes → len ≤ 4 → MeansSigned nullable sum len x
+-- the same of an integer that is told itself
+pub integer_is : (strict nullable : Bool) (low top : ℤ) (x : Option ℤ) (len : ℕ) (bytes : List ℕ) → IsShortEntity (number (take len bytes)) len bytes
+    → (IsTrue strict → NoneIsOverlong signed bytes) → Means nullable (signed (take len bytes)) x → IfSome x (IsWithin (signed_between low top))
+    → IsFirstInt (λ y. y) strict (signed_between low top) nullable (Whole x len) bytes
+integer_is strict nullable low top x len bytes e shortest meaning fits =
+    whole_is (λ y. y) strict nullable (signed_between low top) x (number (take len bytes)) len bytes e (λ t. shortest t len e.entity) meaning fits
+
+pub few_integer : (nullable : Bool) (x : Option ℤ) (len : ℕ) (low top : ℤ) (bytes : List ℕ) → IsShortEntity (number (take len bytes)) len bytes → len ≤ 4 → Means nullable (signed (take len bytes)) x
     → low ≤ℤ neg_ℤ (pos 134217728) → pos 134217727 ≤ℤ top → IfSome x (IsWithin (signed_between low top))
-few_signed nullable x sum len low top bytes e few meaning deep wide =
-    small_signed nullable x (signed (take len bytes)) low top (meaning (take len bytes) (length-take-le len bytes e.whole) e.value) (reach_of_few sum len bytes e few) deep wide
+few_integer nullable x len low top bytes e few meaning deep wide =
+    small_signed nullable x (signed (take len bytes)) low top meaning (reach_of_few (number (take len bytes)) len bytes e few) deep wide
+
+-- as the call has its argument, in 64 bits
+pub means_of_few : (nullable : Bool) (x : Option ℤ) (n : ℤ) (len : ℕ) (bytes : List ℕ) → IsShortEntity (number (take len bytes)) len bytes → len ≤ 4 → n ≡ signed (take len bytes)
+    → Means nullable (to_z w64 (of_z w64 n)) x → Means nullable (signed (take len bytes)) x
+means_of_few nullable x n len bytes e few is means =
+    let small : mag (signed (take len bytes)) < 134217728 = reach_of_few (number (take len bytes)) len bytes e few in
+    subst (λ m. Means nullable m x) (to_z-of_z w64 (signed (take len bytes)) (record { sfits = omega arith })) (subst (λ m. Means nullable (to_z w64 (of_z w64 m)) x) is means)

@@ -167,7 +167,7 @@ word-loaded_short (a ∷ b ∷ c ∷ []) l = absurd (omega arith)
 word-loaded_short (a ∷ b ∷ c ∷ d ∷ []) l = omega arith
 word-loaded_short (a ∷ b ∷ c ∷ d ∷ e ∷ w) l = absurd (omega arith)
 
-turned-loaded_short : (w : List ℕ) → length w ≡ 4 → from_le_bytes w32 w ≡ turned_of w
+pub turned-loaded_short : (w : List ℕ) → length w ≡ 4 → from_le_bytes w32 w ≡ turned_of w
 turned-loaded_short [] l = absurd (omega arith)
 turned-loaded_short (a ∷ []) l = absurd (omega arith)
 turned-loaded_short (a ∷ b ∷ []) l = absurd (omega arith)
@@ -175,7 +175,7 @@ turned-loaded_short (a ∷ b ∷ c ∷ []) l = absurd (omega arith)
 turned-loaded_short (a ∷ b ∷ c ∷ d ∷ []) l = omega arith
 turned-loaded_short (a ∷ b ∷ c ∷ d ∷ e ∷ w) l = absurd (omega arith)
 
-turned-loaded : (w : List ℕ) → length w ≡ 8 → from_le_bytes w64 w ≡ turned_of w
+pub turned-loaded : (w : List ℕ) → length w ≡ 8 → from_le_bytes w64 w ≡ turned_of w
 turned-loaded [] l = absurd (omega arith)
 turned-loaded (a ∷ []) l = absurd (omega arith)
 turned-loaded (a ∷ b ∷ []) l = absurd (omega arith)
@@ -196,7 +196,7 @@ pub number-zeros : (k : ℕ) (w : List ℕ) → number (replicate k 0 ++ w) ≡ 
 number-zeros zero w = refl
 number-zeros (suc k) w = rw (number-zeros k w) (omega arith)
 
-rest_are_bytes : (u v : List ℕ) → AreBytes (u ++ v) → AreBytes v
+pub rest_are_bytes : (u v : List ℕ) → AreBytes (u ++ v) → AreBytes v
 rest_are_bytes u v bytes = λ k d h. subst (λ n. n < 256) (get_or-append-add u v k d) (bytes (length u + k) d (omega (arith, length-append u v)))
 
 pub entity_is_long : (w : List ℕ) → IsEntity w → 0 < length w

@@ -1,13 +1,14 @@
 use Rattle.std.proofs.Common.{refl}
-use Rattle.fast_wire.proofs.numbers.Whole.{signed_is, few_signed, tested_signed}
+use Rattle.fast_wire.proofs.numbers.Whole.{signed_is, few_integer, integer_is, means_of_few, tested_signed}
 use Rattle.fast_wire.proofs.whole.whole_signed.Goals as goal
 
-pub returns-in-Some-four_bytes : goal.returns-in-Some-four_bytes
-returns-in-Some-four_bytes c =
-    let i = c.in-Some-four_bytes in
-    let meant = c.meant_signed-in-Some-four_bytes in
-    signed_is c.args.strict c.args.nullable c.args.low c.args.top meant.result i.sum i.len c.args.bytes.now i.ensures.entity (c.if-is_refused_signed_front.ensures refl) meant.ensures
-    (few_signed c.args.nullable meant.result i.sum i.len c.args.low c.args.top c.args.bytes.now i.ensures.entity i.ensures.few meant.ensures c.requires.low c.requires.top)
+pub returns-in-Some-four_signed_in : goal.returns-in-Some-four_signed_in
+returns-in-Some-four_signed_in c =
+    let i = c.in-Some-four_signed_in in
+    let x = c.meant_integer.result in
+    let means = means_of_few c.args.nullable x i.number i.len c.args.bytes.now i.ensures.entity.0 i.ensures.few i.ensures.entity.1 c.meant_integer.ensures in
+    integer_is c.args.strict c.args.nullable c.args.low c.args.top x i.len c.args.bytes.now i.ensures.entity.0 (c.if-is_refused_signed_front.ensures refl) means
+    (few_integer c.args.nullable x i.len c.args.low c.args.top c.args.bytes.now i.ensures.entity.0 i.ensures.few means c.requires.low c.requires.top)
 
 pub returns : goal.returns
 returns c =

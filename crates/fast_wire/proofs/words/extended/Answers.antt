@@ -1,6 +1,6 @@
 use Rattle.std.proofs.Common.{◌≡◌, ◌+◌, ◌-◌, ◌*◌, suc, length, arith}
 use Rattle.fast_wire.proofs.numbers.SignExtension.{short_is_signed}
-use Rattle.fast_wire.proofs.whole.extended.Goals as goal
+use Rattle.fast_wire.proofs.words.extended.Goals as goal
 
 pub returns : goal.returns
 returns c = λ w l sum.
