@@ -1,12 +1,13 @@
 -- Runs of a program's ops.
 use Rattle.std.proofs.Common.{refl, sym, ap, subst, ◌∙◌, arith, rules, get_or, set, inl, inr}
-use Rattle.std.specs.Prelude.{◌≡◌, ℕ, ◌+◌, ◌<◌, Bool, true, false, if◌then◌else◌, List, [], ◌∷◌, ◌++◌, length, take, drop}
+use Rattle.std.specs.Prelude.{◌≡◌, ℕ, ◌+◌, ◌-◌, ◌<◌, ◌≤◌, Bool, true, false, if◌then◌else◌, List, [], ◌∷◌, ◌++◌, length, take, drop}
 use Rattle.std.proofs.lemmas.Bool.{cases_lt}
-use Rattle.std.proofs.lemmas.List.{drop_all, drop-drop, take_more, take_more_set}
+use Rattle.std.proofs.lemmas.List.{drop_all, take_all, drop-drop, length-drop, take_more, take_more_set}
 use Rattle.fast_program.specs.declared.ops.Op.{Op}
 use Rattle.fast_program.specs.device.Runs.{is_end, run_nodes, has_end, HasEnd}
 use Rattle.fast_cursor.specs.device.Runs.{run_at, IsRun}
 use Rattle.fast_cursor.specs.declared.cursor.Frame.{Frame}
+use Rattle.fast_cursor.specs.device.Places.{IsAhead}
 use Rattle.fast_cursor.specs.device.Segments.{IsRunning, AreRunning}
 
 -- behind the first op of some
@@ -45,6 +46,40 @@ run-next ops at some = ap run_nodes (sym (drop-drop 1 at ops)) ∙ nodes-past (d
 
 pub run-goes_on : (ops : List Op) (at : ℕ) → 0 < length (run_at ops at) → IsRun ops at → IsRun ops (at + 1)
 run-goes_on ops at some h = subst HasEnd (drop-drop 1 at ops) (ends-past (drop at ops) some h)
+
+-- the ops from a place on, as a slice has them
+pub from_on : (at : ℕ) (ops : List Op) → take (length ops - at) (drop at ops) ≡ drop at ops
+from_on at ops = let h : length (drop at ops) ≤ length ops - at = omega (arith, length-drop at ops) in take_all (length ops - at) (drop at ops) h
+
+-- What is ahead of a place: an op is there, and behind it goes on what is ahead of the next place.
+pub ahead-there : (ahead : List Op) → HasEnd ahead → 0 < length ahead
+ahead-there ahead h = run-within ahead 0 h
+
+pub ahead-next : (ops ahead : List Op) → 0 < length (run_nodes ahead) → IsAhead ops ahead → IsAhead ops (drop 1 ahead)
+ahead-next ops ahead some h =
+    let (n, within, is) = h.end in
+    let there : n < length ops = run-within ops n (subst HasEnd is h.run) in
+    record { run = ends-past ahead some h.run; end = (n + 1, omega arith, ap (drop 1) is ∙ drop-drop 1 n ops) }
+
+pub ahead-at : (ops : List Op) (at : ℕ) → IsRun ops at → IsAhead ops (take (length ops - at) (drop at ops))
+ahead-at ops at h =
+    let there : at < length ops = run-within ops at h in
+    let on : take (length ops - at) (drop at ops) ≡ drop at ops = from_on at ops in
+    record { run = subst HasEnd (sym on) h; end = (at, omega arith, on) }
+
+-- where it begins, by how much it is
+pub ahead-from : (ops ahead : List Op) → IsAhead ops ahead → drop (length ops - length ahead) ops ≡ ahead
+ahead-from ops ahead h =
+    let (n, within, is) = h.end in
+    let long : length ahead ≡ length ops - n = ap length is ∙ length-drop n ops in
+    let at : length ops - length ahead ≡ n = omega arith in
+    ap (λ k. drop k ops) at ∙ sym is
+
+pub ahead-fits : (ops ahead : List Op) → IsAhead ops ahead → length ahead ≤ length ops
+ahead-fits ops ahead h =
+    let (n, within, is) = h.end in
+    let long : length ahead ≡ length ops - n = ap length is ∙ length-drop n ops in
+    omega arith
 
 -- The frame that is written goes on.
 pub running-push : (ops : List Op) (fs : List Frame) (f : Frame) → AreRunning ops fs → IsRunning ops f → AreRunning ops (fs ++ f ∷ [])

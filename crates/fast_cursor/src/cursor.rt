@@ -11,7 +11,7 @@ ghost use Rattle.fast_cursor.specs.device.Cursors.{CursorData, FrameData, Elemen
 ghost use Rattle.fast_cursor.specs.device.Cursors.{at_rest, resting, entered, left_to};
 ghost use Rattle.fast_cursor.specs.device.Nexts.{next_of, gone_on};
 ghost use Rattle.fast_cursor.specs.device.Segments.{elements_data, frame_elements, first_node, IsRunOf};
-ghost use Rattle.fast_cursor.specs.device.Places.{place_left, at_place, IsPlaceOf};
+ghost use Rattle.fast_cursor.specs.device.Places.{place_left, at_place, IsAhead, IsPlaceOf};
 ghost use Rattle.fast_cursor.specs.device.MapTaking.{IsMapTaken};
 
 use crate::map_place::{MapPlace, NO_MAP, SPENT};
@@ -171,8 +171,7 @@ impl<'t> Cursor<'t> {
         ensures place { IsPlaceOf self.now result }
     {
         Place {
-            ops: self.ops,
-            ip: self.ip,
+            ahead: &self.ops[self.ip..],
             word: self.map.word,
         }
     }
@@ -183,7 +182,7 @@ impl<'t> Cursor<'t> {
         requires { IsPlaceOf self.old place }
         ensures { self.new ≡ at_place self.old place.entry }
     {
-        self.ip = place.ip;
+        self.ip = self.ops.len() - place.ahead.len();
         self.map.word = place.word;
     }
 
@@ -273,7 +272,7 @@ impl<'t> Cursor<'t> {
     {
         self.maps[self.start] = byte;
         self.map = MapPlace::of_byte(byte);
-        place.ip = start;
+        place.ahead = &self.ops[start..];
         place.word = self.map.word;
         place.use_bit();
     }
@@ -281,8 +280,7 @@ impl<'t> Cursor<'t> {
     /// Brings a place to the next bit of the innermost segment's map. Where it is in the program stays.
     #[inline(always)]
     pub fn show_map(&self, place: &mut Place<'t>)
-        requires ops { place.old.ops.now ≡ self.now.ops }
-        requires run { IsRun self.now.ops place.old.ip }
+        requires ahead { IsAhead self.now.ops place.old.ahead.now }
         ensures at { at_place self.now place.new ≡ record self.now { left = place_left place.old } }
         ensures place { IsPlaceOf self.now place.new }
     {

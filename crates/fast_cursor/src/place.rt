@@ -3,8 +3,7 @@
 ghost use Rattle.std.specs.Prelude.{◌≡◌, ◌↔◌, ◌+◌, ◌<◌, [], ◌∷◌, length, drop, true, false, if◌then◌else◌};
 ghost use Rattle.std.specs.Prelude.{IsTrue, Some, slice_get};
 ghost use Rattle.fast_wire.specs.meaning.Maps.{first_bit, later_bits};
-ghost use Rattle.fast_program.specs.device.Runs.{is_end};
-ghost use Rattle.fast_cursor.specs.device.Runs.{run_at, IsRun};
+ghost use Rattle.fast_program.specs.device.Runs.{is_end, run_nodes, HasEnd};
 ghost use Rattle.fast_cursor.specs.device.Cursors.{CursorData, bits_left};
 ghost use Rattle.fast_cursor.specs.device.Segments.{first_node};
 ghost use Rattle.fast_cursor.specs.device.Places.{place_left, at_place, HasBits, IsPlaceOf};
@@ -15,10 +14,8 @@ use fast_program::{Code, Op};
 /// Where a cursor is in the innermost segment. It stands apart from the cursor, so that a loop can keep it in registers.
 #[derive(Clone, Copy)]
 pub struct Place<'t> {
-    /// The program.
-    pub ops: &'t [Op],
-    /// Where the next instruction stands in it.
-    pub ip: usize,
+    /// The program, from the next instruction on.
+    pub ahead: &'t [Op],
     /// The next bits of the segment's map, as in a `MapPlace`.
     pub word: u64,
 }
@@ -27,20 +24,20 @@ impl<'t> Place<'t> {
     /// What there is to do next. It is lent, so that each arm of a loop loads what it needs of it.
     #[inline(always)]
     pub fn op(&self) -> &'t Op
-        requires run { IsRun self.now.ops.now self.now.ip }
-        ensures here { slice_get self.now.ops.now self.now.ip ≡ Some result.now }
+        requires run { HasEnd self.now.ahead.now }
+        ensures here { slice_get self.now.ahead.now 0 ≡ Some result.now }
         ensures end { is_end result.now.code ≡ true → place_left self.now ≡ [] }
         ensures more { is_end result.now.code ≡ false
-            → place_left self.now ≡ result.now.node ∷ run_at self.now.ops.now (self.now.ip + 1) }
+            → place_left self.now ≡ result.now.node ∷ run_nodes (drop 1 self.now.ahead.now) }
     {
-        let ops: &'t [Op] = self.ops;
-        &ops[self.ip]
+        let ahead: &'t [Op] = self.ahead;
+        &ahead[0]
     }
 
     /// The next instruction's node, if one is left.
     #[inline(always)]
     pub fn next(&self) -> Option<u32>
-        requires run { IsRun self.now.ops.now self.now.ip }
+        requires run { HasEnd self.now.ahead.now }
         ensures { (c : CursorData) → result ≡ first_node (at_place c self.now).left }
     {
         let op = self.op();
@@ -58,17 +55,7 @@ impl<'t> Place<'t> {
             → at_place c self.new ≡ record (at_place c self.old) { left = drop 1 (at_place c self.old).left } }
         ensures place { (c : CursorData) → IsPlaceOf c self.old → IsPlaceOf c self.new }
     {
-        self.ip += 1;
-    }
-
-    /// The instructions are to come that begin at a place in the program.
-    #[inline(always)]
-    pub fn begin(&mut self, start: usize)
-        ensures left { (c : CursorData)
-            → at_place c self.new ≡ record (at_place c self.old) { left = run_at self.old.ops.now start } }
-        ensures place { (c : CursorData) → IsPlaceOf c self.old → IsRun c.ops start → IsPlaceOf c self.new }
-    {
-        self.ip = start;
+        self.ahead = &self.ahead[1..];
     }
 
     /// The next bit, where one is left in the word. Behind the last one stand zeros for ever. Of a word that is spent the answer is

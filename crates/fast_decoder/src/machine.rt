@@ -49,12 +49,12 @@ pub enum Turn {
 /// What a machine keeps between two units. All its memory is taken when it is made.
 #[derive(Drop)]
 pub struct Machine<'t> {
+    /// The previous values.
+    pub slots: Slots,
     /// The unit in hand.
     pub waiting: Waiting,
     /// Where it stands in the message.
     pub cursor: Cursor<'t>,
-    /// The previous values.
-    pub slots: Slots,
     /// The bytes of an integer that a piece has cut.
     pub entity: Pending,
     /// The bytes of a text that a piece has cut, and the last text that was not lent from the piece.

@@ -127,12 +127,13 @@ impl<'t> Machine<'t> {
         ensures same { self.new ≡ record self.old { slots = self.new.slots; latest = self.new.latest } }
         ensures terms { slots_terms self.new.slots ≡ slots_terms self.old.slots }
     {
-        if rest.is_empty() || rest[0] < 0x80 {
-            return None;
-        }
-        if rest[0] < 0xc0 {
+        let byte = *rest.first()?;
+        if byte >= 0x80 && byte < 0xc0 {
             let number = self.latest_again(templates)?;
             return Some((number, 1, templates.start_of(number)));
+        }
+        if byte < 0x80 {
+            return None;
         }
         let bytes = self.sent_message(templates, limits, rest);
         if bytes == 0 {

@@ -4,12 +4,13 @@ use Rattle.fast_wire.specs.meaning.Maps.{map_limit, bits, later_bits}
 use Rattle.fast_cursor.specs.device.Runs.{run_at, IsRun}
 use Rattle.fast_cursor.specs.device.Cursors.{CursorData}
 use Rattle.fast_cursor.specs.device.MapPlaces.{used_at, IsPlace, IsWord}
-use Rattle.fast_cursor.specs.device.Places.{IsPlaceOf}
+use Rattle.fast_cursor.specs.device.Places.{IsAhead, IsPlaceOf}
 use Rattle.fast_cursor.specs.device.Segments.{map_at, frames_on, cursor_data}
 use Rattle.fast_cursor.specs.declared.cursor.Cursor.TheInside.{Inside}
 use Rattle.fast_cursor.specs.declared.map_place.MapPlace.{MapPlace}
 use Rattle.fast_cursor.specs.declared.place.Place.{Place}
 use Rattle.fast_cursor.proofs.Segments.{cells-there, only-map, only-places, one-before, one-inner}
+use Rattle.fast_cursor.proofs.Runs.{ahead-at}
 use Rattle.fast_cursor.proofs.MapMarks.{word-spent}
 use Rattle.fast_cursor.proofs.cursor.Cursor.begin_message.Goals as goal
 
@@ -52,8 +53,8 @@ returns-clause-same c =
     (only-map i c.args.self.now cells (b ∷ []) (cursor_data i).used i.map.end c.self.invariant c.self.view_is (one-before i.maps.items i.start b (omega (arith, there))) refl refl)
 
 -- The place before the first bit is one of the cursor.
-before : (d : CursorData) (p : Place) (b : ℕ) → p.ops.now ≡ d.ops → IsRun p.ops.now p.ip → d.map ≡ b ∷ [] → IsWord (b ∷ []) d.ends p.word → IsPlaceOf d p
-before d p b ops run map word = record { ops = ops; run = run; word = subst (λ w. IsWord w d.ends p.word) (sym map) word }
+before : (d : CursorData) (p : Place) (b : ℕ) → IsAhead d.ops p.ahead.now → d.map ≡ b ∷ [] → IsWord (b ∷ []) d.ends p.word → IsPlaceOf d p
+before d p b ahead map word = record { ahead = ahead; word = subst (λ w. IsWord w d.ends p.word) (sym map) word }
 
 pub returns-clause-bits : goal.returns-clause-bits
 returns-clause-bits c =
@@ -65,10 +66,8 @@ returns-clause-bits c =
     let map : List ℕ = map_at cells i.start p.len in
     let is : map ≡ b ∷ [] = here i b p there c.of_byte-self-inside.ensures.len in
     let d : CursorData = record { ops = i.ops.now; frames = frames_on i.ops.now cells 0 (take i.level i.frames.items) []; left = run_at i.ops.now i.ip; map = map; used = used_at map p.end p.word; ends = p.end; depth = length i.frames.items } in
-    let at : Place = record c.args.place.now { ip = c.args.start; word = p.word } in
-    let run : IsRun at.ops.now c.args.start = subst (λ ops. IsRun ops c.args.start) (sym c.requires.place.ops) c.requires.run in
-    let ops : at.ops.now ≡ i.ops.now = c.requires.place.ops ∙ ap (λ (x : CursorData). x.ops) (sym c.self.view_is) in
-    c.use_bit.ensures.bits d (before d at b ops run is c.of_byte-self-inside.ensures.place.is)
+    let run : IsRun i.ops.now c.args.start = subst (λ (x : CursorData). IsRun x.ops c.args.start) (sym c.self.view_is) c.requires.run in
+    c.use_bit.ensures.bits d (before d _ b (ahead-at i.ops.now c.args.start run) is c.of_byte-self-inside.ensures.place.is)
     ∙ ap (λ n. later_bits (drop n (bits map))) (c.of_byte-self-inside.ensures.used map)
     ∙ ap (λ w. later_bits (bits w)) is
 
@@ -82,7 +81,5 @@ returns-clause-place c =
     let map : List ℕ = map_at cells i.start p.len in
     let is : map ≡ b ∷ [] = here i b p there c.of_byte-self-inside.ensures.len in
     let d : CursorData = record { ops = i.ops.now; frames = frames_on i.ops.now cells 0 (take i.level i.frames.items) []; left = run_at i.ops.now i.ip; map = map; used = used_at map p.end p.word; ends = p.end; depth = length i.frames.items } in
-    let at : Place = record c.args.place.now { ip = c.args.start; word = p.word } in
-    let run : IsRun at.ops.now c.args.start = subst (λ ops. IsRun ops c.args.start) (sym c.requires.place.ops) c.requires.run in
-    let ops : at.ops.now ≡ i.ops.now = c.requires.place.ops ∙ ap (λ (x : CursorData). x.ops) (sym c.self.view_is) in
-    c.use_bit.ensures.place d (before d at b ops run is c.of_byte-self-inside.ensures.place.is)
+    let run : IsRun i.ops.now c.args.start = subst (λ (x : CursorData). IsRun x.ops c.args.start) (sym c.self.view_is) c.requires.run in
+    c.use_bit.ensures.place d (before d _ b (ahead-at i.ops.now c.args.start run) is c.of_byte-self-inside.ensures.place.is)

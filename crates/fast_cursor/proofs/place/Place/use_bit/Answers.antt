@@ -5,4 +5,4 @@ pub returns-clause-bits : goal.returns-clause-bits
 returns-clause-bits c d h = word-later d.map d.ends c.args.self.now.word h.word c.requires.more
 
 pub returns-clause-place : goal.returns-clause-place
-returns-clause-place c d h = record { ops = h.ops; run = h.run; word = word-used d.map d.ends c.args.self.now.word h.word c.requires.more }
+returns-clause-place c d h = record { ahead = h.ahead; word = word-used d.map d.ends c.args.self.now.word h.word c.requires.more }
