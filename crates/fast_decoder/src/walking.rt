@@ -128,7 +128,7 @@ impl<'t> Machine<'t> {
     }
 
     /// Takes steps for as long as there are any for the arms: what is left then waits for a byte, in the general way.
-    #[inline(always)]
+    #[inline(never)]
     pub fn walk<S: Sink>(
         &mut self,
         templates: &'t Templates,
@@ -141,32 +141,6 @@ impl<'t> Machine<'t> {
             self.new }
         ensures ends { (t : Turn) → result.turn ≡ Ok t → t ≡ Turn.Waits }
     {
-        if limits.strict {
-            return self.walk_in::<S, true>(templates, limits, piece, sink);
-        }
-        self.walk_in::<S, false>(templates, limits, piece, sink)
-    }
-
-    /// The same in a mode that is a constant of the loop, in which no arm has to look for it then.
-    #[inline(never)]
-    fn walk_in<S: Sink, const STRICT: bool>(
-        &mut self,
-        templates: &'t Templates,
-        limits: Limits,
-        piece: &[u8],
-        sink: &mut S,
-    ) -> UnitTaken
-        requires turn { CanTurn (set_of templates.now) limits self.old }
-        ensures step { IsStep S.takes S.stops (set_of templates.now) limits self.old piece.now sink.old result sink.new
-            self.new }
-        ensures ends { (t : Turn) → result.turn ≡ Ok t → t ≡ Turn.Waits }
-    {
-        let limits = Limits {
-            strict: STRICT,
-            max_text: limits.max_text,
-            max_elements: limits.max_elements,
-            max_total: limits.max_total,
-        };
         self.wait_for_field();
         let mut spot = Spot {
             place: self.cursor.place(),

@@ -1,10 +1,10 @@
 -- The op at a place.
 use Rattle.std.proofs.Common.{refl, sym, ◌∙◌, inl, inr}
-use Rattle.std.specs.Prelude.{◌≡◌, ◌≢◌, ◌⊎◌, ℕ, ◌<◌, ◌≤◌, false, List, length, slice_get, Some, None}
+use Rattle.std.specs.Prelude.{◌≡◌, ◌≢◌, ◌⊎◌, ℕ, zero, suc, ◌<◌, ◌≤◌, false, List, [], ◌∷◌, length, drop, slice_get, get_or, Some, None}
 use Rattle.std.proofs.lemmas.Option.{slice_get_cases}
-use Rattle.std.specs.Prelude.{◌≡◌, ◌≢◌, ◌⊎◌, ℕ, ◌<◌, ◌≤◌, false, length, slice_get, get_or, Some, None}
 use Rattle.fast_tree.specs.declared.instructions.Node.{Node}
 use Rattle.fast_program.specs.declared.codes.Code.{Code}
+use Rattle.fast_program.specs.declared.ops.Op.{Op}
 use Rattle.fast_program.specs.declared.codes.Code.TheVariants.{General, End, UInt32Plain, UInt32NullablePlain, UInt32Default, UInt32NullableDefault, UInt32Copy, UInt32NullableCopy, UInt32Increment, UInt32NullableIncrement, UInt32Delta, UInt32NullableDelta, Int32Plain, Int32NullablePlain, Int32Default, Int32NullableDefault, Int32Copy, Int32NullableCopy, Int32Increment, Int32NullableIncrement, Int32Delta, Int32NullableDelta, UInt64Plain, UInt64NullablePlain, UInt64Default, UInt64NullableDefault, UInt64Copy, UInt64NullableCopy, UInt64Increment, UInt64NullableIncrement, UInt64Delta, UInt64NullableDelta, Int64Plain, Int64NullablePlain, Int64Default, Int64NullableDefault, Int64Copy, Int64NullableCopy, Int64Increment, Int64NullableIncrement, Int64Delta, Int64NullableDelta, Constant, DecimalPlain, DecimalNullablePlain, DecimalCopy, DecimalNullableCopy, DecimalDelta, DecimalNullableDelta, AsciiPlain, AsciiNullablePlain, AsciiDefault, AsciiNullableDefault, AsciiCopy, AsciiNullableCopy, AsciiTail, AsciiNullableTail, AsciiDelta, AsciiNullableDelta, UnicodePlain, UnicodeNullablePlain, UnicodeDelta, UnicodeNullableDelta, BytesPlain, BytesNullablePlain, BytesTail, BytesNullableTail, Parts, PartsDefault, PartsNullableDefault, PartsCopy, PartsNullableCopy, Group, OptionalGroup, Sequence, OptionalSequence}
 use Rattle.fast_program.specs.device.Runs.{is_end}
 
@@ -94,3 +94,9 @@ node_below ns n x found = by (slice_get_cases ns n).1
     by : ((y : Node) × (n < length ns) × (slice_get ns n ≡ Some y) × (get_or ns n y ≡ y)) ⊎ ((length ns ≤ n) × (slice_get ns n ≡ None)) → n < length ns
     by (inl (y, below, is, same)) = below
     by (inr (past, none)) = absurd (let never : Some x ≡ None = sym found ∙ none in cc never)
+
+-- what is ahead of a place begins with the op at it
+pub get_behind : (ops : List Op) (n : ℕ) → slice_get (drop n ops) 0 ≡ slice_get ops n
+get_behind ops zero = refl
+get_behind [] (suc n) = refl
+get_behind (op ∷ ops) (suc n) = get_behind ops n
