@@ -24,11 +24,11 @@ mod worked;
 ghost use Rattle.std.specs.Prelude.{◌<◌};
 
 use fast_decoder::{Decoder, Event, Fault, MakeError, Sink, Stop};
-use fast_template::Templates;
+use fast_template::{StaticFault, Templates, VECTORS};
 use fast_value::{Limits, Scalar};
 use itoa::{Buffer, Integer};
 use rows::{Columns, Row, bytes_of, row_of};
-use std::alloc::Global;
+use std::alloc::{AllocError, Global};
 use std::process::Abort;
 use std::test::Fail;
 
@@ -202,12 +202,28 @@ fn push<S: Sink>(decoder: &mut Decoder<'_>, byte: u8, sink: &mut S) -> Result<()
     decoder.push(byte, sink)
 }
 
+fn reset(decoder: &mut Decoder<'_>) {
+    decoder.reset();
+}
+
+fn read(alloc: Global, text: &str) -> Result<Templates, StaticFault> {
+    Templates::read(alloc, text)
+}
+
 fn set_of(alloc: Global, text: &str) -> Result<Templates, Fail> {
-    Ok(Templates::read(alloc, text)?)
+    Ok(read(alloc, text)?)
 }
 
 fn decoder_of(alloc: Global, set: &Templates, limits: Limits) -> Result<Decoder<'_>, MakeError> {
     Decoder::new(alloc, set, limits)
+}
+
+/// Puts pieces behind a text.
+fn put(text: &mut String, pieces: &[&str]) -> Result<(), AllocError> {
+    for piece in pieces {
+        text.push_str(piece)?;
+    }
+    Ok(())
 }
 
 /// One comparison, of what a test names so.
@@ -244,22 +260,23 @@ fn push_all<S: Sink>(decoder: &mut Decoder<'_>, bytes: &[u8], sink: &mut S) -> A
     account_of(decoder, answer)
 }
 
-/// Feeds the bytes in two pieces, as far as there is no fault.
-fn feed_cut<S: Sink>(decoder: &mut Decoder<'_>, bytes: &[u8], cut: usize, sink: &mut S) -> Account {
-    let (front, rest) = bytes.split_at_checked(cut).unwrap_or((bytes, &[]));
-    let mut answer = feed(decoder, front, sink);
-    if answer.is_ok() {
-        answer = feed(decoder, rest, sink);
+/// Feeds the pieces one after the other, as far as there is no fault.
+fn feed_each<S: Sink>(decoder: &mut Decoder<'_>, pieces: &[&[u8]], sink: &mut S) -> Account {
+    let mut answer = Ok(());
+    for piece in pieces {
+        if answer.is_ok() {
+            answer = feed(decoder, piece, sink);
+        }
     }
     account_of(decoder, answer)
 }
 
 /// Whether the row comes of its bytes in pieces of this size, and what is fed behind a fault changes nothing.
-fn is_played_in_pieces(decoder: &mut Decoder<'_>, row: Row<'_>, size: usize) -> bool
+fn is_played_in_pieces(decoder: &mut Decoder<'_>, row: &Row<'_>, size: usize) -> bool
     requires { 0 < size }
 {
     let mut script = Script::of(row.events);
-    decoder.reset();
+    reset(decoder);
     let heard = feed_pieces(decoder, row.bytes, size, &mut script);
     let is_played = row.is_end(heard) && script.is_played();
     if heard.fault.is_none() {
@@ -270,21 +287,22 @@ fn is_played_in_pieces(decoder: &mut Decoder<'_>, row: Row<'_>, size: usize) -> 
 }
 
 /// Whether the row comes of its bytes one after the other.
-fn is_played_by_bytes(decoder: &mut Decoder<'_>, row: Row<'_>) -> bool {
+fn is_played_by_bytes(decoder: &mut Decoder<'_>, row: &Row<'_>) -> bool {
     let mut script = Script::of(row.events);
-    decoder.reset();
+    reset(decoder);
     row.is_end(push_all(decoder, row.bytes, &mut script)) && script.is_played()
 }
 
 /// Whether the row comes of its bytes in two pieces.
-fn is_played_cut(decoder: &mut Decoder<'_>, row: Row<'_>, cut: usize) -> bool {
+fn is_played_cut(decoder: &mut Decoder<'_>, row: &Row<'_>, cut: usize) -> bool {
+    let (front, rest) = row.bytes.split_at_checked(cut).unwrap_or((row.bytes, &[]));
     let mut script = Script::of(row.events);
-    decoder.reset();
-    row.is_end(feed_cut(decoder, row.bytes, cut, &mut script)) && script.is_played()
+    reset(decoder);
+    row.is_end(feed_each(decoder, &[front, rest], &mut script)) && script.is_played()
 }
 
 /// A row that is fed to a decoder, reset before each time: whole, in pieces, and byte after byte. No memory is taken.
-fn expect_row(rt: &impl Abort, decoder: &mut Decoder<'_>, row: Row<'_>) {
+fn expect_row(rt: &impl Abort, decoder: &mut Decoder<'_>, row: &Row<'_>) {
     for size in [1, 2, 3, 16, 17, 4096] {
         let is_played = is_played_in_pieces(decoder, row, size);
         expect(rt, is_played, row.name, size);
@@ -294,7 +312,7 @@ fn expect_row(rt: &impl Abort, decoder: &mut Decoder<'_>, row: Row<'_>) {
 }
 
 /// A row that is cut once, at each of its bytes.
-fn expect_row_cut(rt: &impl Abort, decoder: &mut Decoder<'_>, row: Row<'_>) {
+fn expect_row_cut(rt: &impl Abort, decoder: &mut Decoder<'_>, row: &Row<'_>) {
     for cut in 0..row.bytes.len() {
         let is_played = is_played_cut(decoder, row, cut);
         expect(rt, is_played, row.name, cut);
@@ -310,7 +328,21 @@ fn expect_line(
 ) -> Result<(), Fail> {
     let columns = Columns::of(line);
     let bytes = bytes_of(alloc, columns.bytes)?;
-    expect_row(rt, decoder, row_of(columns, &bytes)?);
+    let row = row_of(columns, &bytes)?;
+    expect_row(rt, decoder, &row);
+    Ok(())
+}
+
+/// The row comes of a new decoder, however it is cut.
+fn expect_row_anyhow(
+    rt: &impl Abort,
+    alloc: Global,
+    set: &Templates,
+    row: &Row<'_>,
+) -> Result<(), Fail> {
+    let mut decoder = decoder_of(alloc, set, row.limits)?;
+    expect_row(rt, &mut decoder, row);
+    expect_row_cut(rt, &mut decoder, row);
     Ok(())
 }
 
@@ -324,9 +356,14 @@ fn expect_line_cut(
     let columns = Columns::of(line);
     let bytes = bytes_of(alloc, columns.bytes)?;
     let row = row_of(columns, &bytes)?;
-    let mut decoder = decoder_of(alloc, set, row.limits)?;
-    expect_row(rt, &mut decoder, row);
-    expect_row_cut(rt, &mut decoder, row);
+    expect_row_anyhow(rt, alloc, set, &row)
+}
+
+/// Each row of a table comes of the template set.
+fn expect_table(rt: &impl Abort, alloc: Global, set: &Templates, table: &str) -> Result<(), Fail> {
+    for line in table.lines() {
+        expect_line_cut(rt, alloc, set, line)?;
+    }
     Ok(())
 }
 
@@ -334,9 +371,49 @@ fn expect_line_cut(
 fn expect_rows(rt: &impl Abort, alloc: Global, text: &str, tables: &[&str]) -> Result<(), Fail> {
     let set = set_of(alloc, text)?;
     for table in tables {
-        for line in table.lines() {
-            expect_line_cut(rt, alloc, &set, line)?;
-        }
+        expect_table(rt, alloc, &set, table)?;
     }
     Ok(())
+}
+
+/// What is shown by a new decoder of the built-in set.
+#[derive(Clone, Copy)]
+enum Case {
+    /// Pieces are fed as one.
+    AsOne,
+    /// Pieces are fed up to a fault.
+    UpToFault,
+    /// A sink stops the decoder.
+    StopsBySink,
+    /// A fault stays until a reset.
+    StaysStopped,
+    /// A reset forgets.
+    Forgets,
+    /// Events come as soon as they are decided.
+    InTime,
+}
+
+/// The decoder shows it.
+fn expect_shown(
+    rt: &impl Abort,
+    alloc: Global,
+    decoder: &mut Decoder<'_>,
+    case: Case,
+) -> Result<(), Fail> {
+    match case {
+        Case::AsOne => pieces::expect_as_one(rt, decoder),
+        Case::UpToFault => pieces::expect_up_to_fault(rt, decoder),
+        Case::StopsBySink => sinks::expect_stops(rt, decoder),
+        Case::StaysStopped => return sinks::expect_stays(rt, alloc, decoder),
+        Case::Forgets => return sinks::expect_forgets(rt, alloc, decoder),
+        Case::InTime => worked::expect_in_time(rt, decoder),
+    }
+    Ok(())
+}
+
+/// A new decoder shows it. A function that makes a decoder is dear to prove, so that there is one for all.
+fn expect_case(rt: &impl Abort, alloc: Global, case: Case) -> Result<(), Fail> {
+    let set = set_of(alloc, VECTORS)?;
+    let mut decoder = decoder_of(alloc, &set, LENIENT)?;
+    expect_shown(rt, alloc, &mut decoder, case)
 }

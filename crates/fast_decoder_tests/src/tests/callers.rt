@@ -1,6 +1,6 @@
 //! Each caller once, over two trades.
 
-use super::set_of;
+use super::{expect, set_of};
 use fast_callers::{Columns, Price, Stopped, last_price, messages_in, up_to_fault};
 use fast_decoder::{Fault, FaultCode};
 use fast_value::{Code, Limits};
@@ -26,13 +26,17 @@ const WRONG: &[u8] = &[
     0xE0, 0x87, 0x41, 0x42, 0xC3, 0x01, 0x4F, 0x8A, 0x80, 0xFB, 0xC0, 0x88,
 ];
 
-#[test]
-fn messages_are_counted(rt: HostRuntime) -> Result<(), Fail> {
-    let alloc = rt.alloc();
+/// How many messages the two trades are, in two pieces. Without a contract, as the next two, so that a call is cheap to prove.
+fn count_of(alloc: Global) -> Result<u64, Fail> {
     let set = set_of(alloc, TEXT)?;
     let (front, rest) = TRADES.split_at(5);
-    let counted = messages_in(alloc, &set, Limits::default(), &[front, rest])?;
-    assert_eq!(rt; counted, 2);
+    Ok(messages_in(alloc, &set, Limits::default(), &[front, rest])?)
+}
+
+#[test]
+fn messages_are_counted(rt: HostRuntime) -> Result<(), Fail> {
+    let count = count_of(rt.alloc())?;
+    expect(&rt, count == 2, "messages", 2);
     Ok(())
 }
 
@@ -53,15 +57,21 @@ fn the_last_price_is_found(rt: HostRuntime) -> Result<(), Fail> {
         exponent: -2,
         mantissa: 26501,
     };
-    assert_eq!(rt; price_of(rt.alloc(), b"ABC")?, Some(due));
-    assert_eq!(rt; price_of(rt.alloc(), b"XYZ")?, None);
+    let found = price_of(rt.alloc(), b"ABC")?;
+    expect(&rt, found == Some(due), "a price", 0);
+    let found = price_of(rt.alloc(), b"XYZ")?;
+    expect(&rt, found.is_none(), "no price", 0);
     Ok(())
+}
+
+/// Where a stream stops.
+fn stopped(alloc: Global, stream: &[u8]) -> Result<Stopped, Fail> {
+    let set = set_of(alloc, TEXT)?;
+    Ok(up_to_fault(alloc, &set, Limits::default(), stream)?)
 }
 
 #[test]
 fn a_stream_stops_at_its_fault(rt: HostRuntime) -> Result<(), Fail> {
-    let alloc = rt.alloc();
-    let set = set_of(alloc, TEXT)?;
     let due = Stopped {
         messages: 2,
         bytes: 12,
@@ -71,9 +81,10 @@ fn a_stream_stops_at_its_fault(rt: HostRuntime) -> Result<(), Fail> {
         }),
         is_between: false,
     };
-    assert_eq!(rt; up_to_fault(alloc, &set, Limits::default(), WRONG)?, due);
-    let cut = up_to_fault(alloc, &set, Limits::default(), &TRADES[..9])?;
-    assert!(rt; cut.fault.is_none() && !cut.is_between);
-    assert_eq!(rt; cut.messages, 1);
+    let found = stopped(rt.alloc(), WRONG)?;
+    expect(&rt, found == due, "a fault", 12);
+    let cut = stopped(rt.alloc(), &TRADES[..9])?;
+    let is_right = cut.fault.is_none() && !cut.is_between && cut.messages == 1;
+    expect(&rt, is_right, "a cut", 9);
     Ok(())
 }

@@ -82,16 +82,26 @@ fn is_made(
     is_encoded(encoder, message, &mut out, due)
 }
 
+/// Whether the message of these words comes of the encoder.
+fn is_message(
+    alloc: Global,
+    encoder: &mut Encoder<'_>,
+    words: &str,
+    due: &str,
+) -> Result<bool, AllocError> {
+    match message_of(alloc, words)? {
+        Some(message) => is_made(alloc, encoder, &message, due),
+        None => Ok(false),
+    }
+}
+
 /// Whether a step comes of the encoder.
-fn is_taken(alloc: Global, encoder: &mut Encoder<'_>, step: Step<'_>) -> Result<bool, AllocError> {
+fn is_taken(alloc: Global, encoder: &mut Encoder<'_>, step: &Step<'_>) -> Result<bool, AllocError> {
     if step.is_reset() {
         reset(encoder);
         return Ok(true);
     }
-    match message_of(alloc, step.words)? {
-        Some(message) => is_made(alloc, encoder, &message, step.due),
-        None => Ok(false),
-    }
+    is_message(alloc, encoder, step.words, step.due)
 }
 
 /// The steps come of the encoder, with or without the messages that are refused.
@@ -99,13 +109,13 @@ fn expect_taken(
     rt: &impl Abort,
     alloc: Global,
     encoder: &mut Encoder<'_>,
-    row: Row<'_>,
+    row: &Row<'_>,
     with_refused: bool,
 ) -> Result<(), Fail> {
     for line in row.steps.lines() {
         let step = Step::of(line);
         if with_refused || !step.is_refused() {
-            let is_taken = is_taken(alloc, encoder, step)?;
+            let is_taken = is_taken(alloc, encoder, &step)?;
             expect(rt, is_taken, row.name, line);
         }
     }
@@ -117,7 +127,7 @@ fn expect_encoded(
     rt: &impl Abort,
     alloc: Global,
     set: &Templates,
-    row: Row<'_>,
+    row: &Row<'_>,
     with_refused: bool,
 ) -> Result<(), Fail> {
     let mut encoder = encoder_of(alloc, set, row.limits)?;
@@ -142,9 +152,9 @@ fn is_heard(
 }
 
 /// Whether the decoder reads a step back.
-fn is_read(alloc: Global, decoder: &mut Decoder<'_>, step: Step<'_>) -> Result<bool, AllocError> {
+fn is_read(alloc: Global, decoder: &mut Decoder<'_>, step: &Step<'_>) -> Result<bool, AllocError> {
     if step.is_reset() {
-        decoder.reset();
+        super::reset(decoder);
         return Ok(true);
     }
     let events = events_of(alloc, step.words)?;
@@ -156,12 +166,12 @@ fn expect_heard(
     rt: &impl Abort,
     alloc: Global,
     decoder: &mut Decoder<'_>,
-    row: Row<'_>,
+    row: &Row<'_>,
 ) -> Result<(), Fail> {
     for line in row.steps.lines() {
         let step = Step::of(line);
         if !step.is_refused() {
-            let is_read = is_read(alloc, decoder, step)?;
+            let is_read = is_read(alloc, decoder, &step)?;
             expect(rt, is_read, row.name, line);
         }
     }
@@ -173,7 +183,7 @@ fn expect_read(
     rt: &impl Abort,
     alloc: Global,
     set: &Templates,
-    row: Row<'_>,
+    row: &Row<'_>,
     strict: bool,
 ) -> Result<(), Fail> {
     let limits = Limits {
@@ -184,14 +194,23 @@ fn expect_read(
     expect_heard(rt, alloc, &mut decoder, row)
 }
 
+/// A row comes of the set, with or without the messages that are refused, and is read back in strict mode or in lenient.
+fn expect_so(
+    rt: &impl Abort,
+    alloc: Global,
+    set: &Templates,
+    row: &Row<'_>,
+    is_so: bool,
+) -> Result<(), Fail> {
+    expect_encoded(rt, alloc, set, row, is_so)?;
+    expect_read(rt, alloc, set, row, is_so)
+}
+
 /// A row comes of the set, also if the messages that are refused are left out, and is read back in both modes.
 fn expect_row(rt: &impl Abort, alloc: Global, set: &Templates, text: &str) -> Result<(), Fail> {
     let row = Row::of(text)?;
-    for is_so in [true, false] {
-        expect_encoded(rt, alloc, set, row, is_so)?;
-        expect_read(rt, alloc, set, row, is_so)?;
-    }
-    Ok(())
+    expect_so(rt, alloc, set, &row, true)?;
+    expect_so(rt, alloc, set, &row, false)
 }
 
 /// Each row comes of the template set with this text.

@@ -1,6 +1,6 @@
 //! The limits of a decoder, and streams that come near them.
 
-use super::{LENIENT, decoder_of, expect, expect_rows, set_of};
+use super::{LENIENT, decoder_of, expect, expect_rows, put, set_of};
 use fast_decoder::MakeError;
 use fast_decoder::layout::has_long_initial;
 use fast_template::VECTORS;
@@ -26,45 +26,47 @@ id = 1
 fields = [{kind="sequence", name="a", fields=[{kind="sequence", name="b", fields=[{kind="uInt32", name="c", op="constant", value="7"}]}]}]
 "#;
 
+/// Limits with this length of texts.
+fn texts_of(max_text: usize) -> Limits {
+    Limits {
+        max_text,
+        ..LENIENT
+    }
+}
+
 /// Why no decoder of the set with this text is made.
 fn make_error(alloc: Global, text: &str, limits: Limits) -> Result<Option<MakeError>, Fail> {
     let set = set_of(alloc, text)?;
     Ok(decoder_of(alloc, &set, limits).err())
 }
 
-/// A decoder of the set with this text and texts of this length is made, or there is this error.
-fn expect_made(
-    rt: &impl Abort,
-    alloc: Global,
-    text: &str,
-    max_text: usize,
-    error: Option<MakeError>,
-) -> Result<(), Fail> {
-    let limits = Limits {
-        max_text,
-        ..LENIENT
-    };
-    let is_right = make_error(alloc, text, limits)? == error;
-    expect(rt, is_right, text, max_text);
-    Ok(())
-}
+/// Lengths of texts, and why no decoder has them as its limit.
+type Bounds = &'static [(usize, Option<MakeError>)];
 
-#[test]
-fn the_length_of_texts_has_bounds(rt: HostRuntime) -> Result<(), Fail> {
-    for (max_text, error) in [
-        (0, Some(MakeError::BadLimits)),
-        (15, Some(MakeError::BadLimits)),
-        (16, None),
-        (1_048_576, None),
-        (1_048_577, Some(MakeError::BadLimits)),
-    ] {
-        expect_made(&rt, rt.alloc(), CONSTANTS, max_text, error)?;
+/// A decoder of the set with this text is made for each length of texts, or there is this error.
+fn expect_made(rt: &impl Abort, alloc: Global, text: &str, bounds: Bounds) -> Result<(), Fail> {
+    for (max_text, error) in bounds {
+        let found = make_error(alloc, text, texts_of(*max_text))?;
+        expect(rt, found == *error, text, *max_text);
     }
     Ok(())
 }
 
+const BOUNDS: Bounds = &[
+    (0, Some(MakeError::BadLimits)),
+    (15, Some(MakeError::BadLimits)),
+    (16, None),
+    (1_048_576, None),
+    (1_048_577, Some(MakeError::BadLimits)),
+];
+
+#[test]
+fn the_length_of_texts_has_bounds(rt: HostRuntime) -> Result<(), Fail> {
+    expect_made(&rt, rt.alloc(), CONSTANTS, BOUNDS)
+}
+
 /// Initial values of 17 bytes, one of them in a template without identifier.
-const LONG_INITIALS: [&str; 4] = [
+const LONG_INITIALS: &[&str] = &[
     "[[template]]\nname = 'T'\nid = 1\nfields = [{kind='ascii', name='f', op='default', value='12345678901234567'}]",
     "[[template]]\nname = 'T'\nfields = [{kind='ascii', name='f', op='constant', value='12345678901234567'}]",
     "[[template]]\nname = 'T'\nid = 1\nfields = [{kind='unicode', name='f', op='tail', value='123456789012345é'}]",
@@ -72,17 +74,17 @@ const LONG_INITIALS: [&str; 4] = [
 {kind='bytes', name='f', op='copy', value='0102030405060708090A0B0C0D0E0F1011'}]}]",
 ];
 
+const BOUNDS_OF_LONG_INITIALS: Bounds = &[
+    (15, Some(MakeError::BadLimits)),
+    (16, Some(MakeError::InitialTooLong)),
+    (17, None),
+    (1_048_577, Some(MakeError::BadLimits)),
+];
+
 #[test]
 fn initial_texts_are_within_the_limit(rt: HostRuntime) -> Result<(), Fail> {
     for text in LONG_INITIALS {
-        for (max_text, error) in [
-            (15, Some(MakeError::BadLimits)),
-            (16, Some(MakeError::InitialTooLong)),
-            (17, None),
-            (1_048_577, Some(MakeError::BadLimits)),
-        ] {
-            expect_made(&rt, rt.alloc(), text, max_text, error)?;
-        }
+        expect_made(&rt, rt.alloc(), text, BOUNDS_OF_LONG_INITIALS)?;
     }
     Ok(())
 }
@@ -95,20 +97,23 @@ const FOUR: &str =
 const FIVE_AS_VALUE: &str =
     "[[template]]\nname = 'T'\nfields = [{kind='uInt32', name='f', op='default', value='5'}]";
 
+/// Whether the set with this text has an initial value that is longer. Without a contract, so that a call is cheap to prove.
+fn is_long(alloc: Global, text: &str, max_text: usize) -> Result<bool, Fail> {
+    let set = set_of(alloc, text)?;
+    Ok(has_long_initial(&set, max_text))
+}
+
+const GREATEST: &[(&str, usize, bool)] = &[
+    (FOUR, 3, true),
+    (FOUR, 4, false),
+    (FIVE_AS_VALUE, 0, false),
+];
+
 #[test]
 fn an_initial_value_may_have_the_greatest_length(rt: HostRuntime) -> Result<(), Fail> {
-    for (text, max_text, is_long) in [
-        (FOUR, 3, true),
-        (FOUR, 4, false),
-        (FIVE_AS_VALUE, 0, false),
-    ] {
-        let set = set_of(rt.alloc(), text)?;
-        expect(
-            &rt,
-            has_long_initial(&set, max_text) == is_long,
-            text,
-            max_text,
-        );
+    for (text, max_text, due) in GREATEST {
+        let is_long = is_long(rt.alloc(), text, *max_text)?;
+        expect(&rt, is_long == *due, text, *max_text);
     }
     Ok(())
 }
@@ -128,43 +133,31 @@ fn every_number_of_elements_may_be_allowed(rt: HostRuntime) -> Result<(), Fail> 
 /// A message of a thousand elements of `CONSTANTS`.
 pub const THOUSAND: &[u8] = &[0xC0, 0x82, 0x07, 0xE8];
 
-/// Adds to a text, without a contract, so that a call is cheap to prove.
-fn push_text(text: &mut String, more: &str) -> Result<(), AllocError> {
-    text.push_str(more)
-}
-
-/// Adds a number behind a word.
-fn push_number(text: &mut String, before: &str, number: u32) -> Result<(), AllocError> {
-    push_text(text, before)?;
-    push_text(text, Buffer::new().format(number))
-}
-
 /// Its events.
 pub fn thousand_events(alloc: Global) -> Result<String, AllocError> {
     let mut events = String::new(alloc);
-    push_text(&mut events, "m0 s0*1000")?;
+    put(&mut events, &["m0 s0*1000"])?;
     for _ in 0..1000 {
-        push_text(&mut events, " e u1=7 /e")?;
+        put(&mut events, &[" e u1=7 /e"])?;
     }
-    push_text(&mut events, " /s /m")?;
+    put(&mut events, &[" /s /m"])?;
     Ok(events)
+}
+
+/// The row of two such messages.
+fn thousand_line(alloc: Global) -> Result<String, AllocError> {
+    let events = thousand_events(alloc)?;
+    let events = events.as_str();
+    let bytes = "a thousand elements, twice | strict | C0 82 07 E8 C0 82 07 E8 | ";
+    let mut line = String::new(alloc);
+    put(&mut line, &[bytes, events, " ", events, " | between"])?;
+    Ok(line)
 }
 
 #[test]
 fn a_thousand_elements_of_four_bytes(rt: HostRuntime) -> Result<(), Fail> {
-    let alloc = rt.alloc();
-    let events = thousand_events(alloc)?;
-    let mut line = String::new(alloc);
-    for part in [
-        "a thousand elements, twice | strict | C0 82 07 E8 C0 82 07 E8 | ",
-        &events,
-        " ",
-        &events,
-        " | between",
-    ] {
-        push_text(&mut line, part)?;
-    }
-    expect_rows(&rt, alloc, CONSTANTS, &[&line])
+    let line = thousand_line(rt.alloc())?;
+    expect_rows(&rt, rt.alloc(), CONSTANTS, &[&line])
 }
 
 const ELEMENTS_WITHIN_ONE_LIMIT: &str = "\
@@ -202,19 +195,29 @@ fn the_longest_maps(rt: HostRuntime) -> Result<(), Fail> {
     expect_rows(&rt, rt.alloc(), VECTORS, &[THE_LONGEST_MAPS])
 }
 
+/// Adds a number between two texts.
+fn put_number(text: &mut String, before: &str, number: u32, after: &str) -> Result<(), AllocError> {
+    let mut buffer = Buffer::new();
+    put_between(text, before, buffer.format(number), after)
+}
+
+fn put_between(text: &mut String, front: &str, word: &str, after: &str) -> Result<(), AllocError> {
+    put(text, &[front, word, after])
+}
+
+const FIELD: &str = "{kind='uInt32', optional=true, op='copy', name='f";
+
 /// A template of 300 optional copies.
 fn wide_text(alloc: Global) -> Result<String, AllocError> {
     let mut text = String::new(alloc);
-    push_text(&mut text, "[[template]]\nname = 'Wide'\nid = 1\nfields = [")?;
+    put(
+        &mut text,
+        &["[[template]]\nname = 'Wide'\nid = 1\nfields = ["],
+    )?;
     for field in 0..300 {
-        push_number(
-            &mut text,
-            "{kind='uInt32', optional=true, op='copy', name='f",
-            field,
-        )?;
-        push_text(&mut text, "'},")?;
+        put_number(&mut text, FIELD, field, "'},")?;
     }
-    push_text(&mut text, "]")?;
+    put(&mut text, &["]"])?;
     Ok(text)
 }
 
@@ -230,51 +233,56 @@ fn a_wide_segment(rt: HostRuntime) -> Result<(), Fail> {
     expect_rows(&rt, rt.alloc(), text.as_str(), &[A_WIDE_SEGMENT])
 }
 
+const INNERMOST: &str =
+    "[[template]]\nname = 'G0'\nfields = [{kind='uInt32', name='x', op='copy'}]\n";
+
+const AROUND: (&str, &str) = (
+    "fields = [{kind='group', name='g', fields=[{kind='ref', name='G",
+    "'}]}, {kind='uInt32', name='y', op='copy'}]\n",
+);
+
+/// Adds the template with a group of the one before.
+fn put_group(text: &mut String, before: u32) -> Result<(), AllocError> {
+    let after = if before == 63 { "'\nid = 1\n" } else { "'\n" };
+    put_number(
+        text,
+        "[[template]]\nname = 'G",
+        before.saturating_add(1),
+        after,
+    )?;
+    put_number(text, AROUND.0, before, AROUND.1)
+}
+
 /// Groups in one another, 64 of them: each has a group and a field y but the innermost, which has a field x.
 fn deep_text(alloc: Global) -> Result<String, AllocError> {
     let mut text = String::new(alloc);
-    push_text(
-        &mut text,
-        "[[template]]\nname = 'G0'\nfields = [{kind='uInt32', name='x', op='copy'}]\n",
-    )?;
+    put(&mut text, &[INNERMOST])?;
     for before in 0..64 {
-        push_number(&mut text, "[[template]]\nname = 'G", before + 1)?;
-        push_text(&mut text, if before == 63 { "'\nid = 1\n" } else { "'\n" })?;
-        push_number(
-            &mut text,
-            "fields = [{kind='group', name='g', fields=[{kind='ref', name='G",
-            before,
-        )?;
-        push_text(&mut text, "'}]}, {kind='uInt32', name='y', op='copy'}]\n")?;
+        put_group(&mut text, before)?;
     }
     Ok(text)
 }
+
+const DEEP: &[&str] = &[
+    "groups | strict | E0 81 C0*64 85 81 82 83 84 85 86 87 88 89 8A 8B 8C 8D 8E 8F ",
+    "90 91 92 93 94 95 96 97 98 99 9A 9B 9C 9D 9E 9F A0 A1 A2 A3 A4 A5 A6 A7 A8 A9 AA AB AC AD AE AF ",
+    "B0 B1 B2 B3 B4 B5 B6 B7 B8 B9 BA BB BC BD BE BF C0 | m64",
+];
 
 /// A message of the groups in one another: maps of one bit each, x, and the fields y from the innermost on, numbered from 1. The
 /// template of `k` groups has `2 * k + 1` nodes, so those before the last have 4096.
 fn deep_line(alloc: Global) -> Result<String, AllocError> {
     let mut line = String::new(alloc);
-    push_text(
-        &mut line,
-        "groups | strict | E0 81 C0*64 85 81 82 83 84 85 86 87 88 89 8A 8B 8C 8D 8E 8F ",
-    )?;
-    push_text(
-        &mut line,
-        "90 91 92 93 94 95 96 97 98 99 9A 9B 9C 9D 9E 9F A0 A1 A2 A3 A4 A5 A6 A7 A8 A9 AA AB AC AD AE AF ",
-    )?;
-    push_text(
-        &mut line,
-        "B0 B1 B2 B3 B4 B5 B6 B7 B8 B9 BA BB BC BD BE BF C0 | m64",
-    )?;
+    put(&mut line, DEEP)?;
     for node in 4096..4160 {
-        push_number(&mut line, " g", node)?;
+        put_number(&mut line, " g", node, "")?;
     }
-    push_text(&mut line, " u4160=5")?;
+    put(&mut line, &[" u4160=5"])?;
     for y in 1..65 {
-        push_number(&mut line, " /g u", 4160 + y)?;
-        push_number(&mut line, "=", y)?;
+        put_number(&mut line, " /g u", 4160 + y, "=")?;
+        put_number(&mut line, "", y, "")?;
     }
-    push_text(&mut line, " /m | between")?;
+    put(&mut line, &[" /m | between"])?;
     Ok(line)
 }
 

@@ -21,7 +21,7 @@ pub struct Row<'t> {
 
 impl Row<'_> {
     /// Whether a decoder that says this behind the bytes is at the end that is due.
-    pub fn is_end(self, heard: Account) -> bool {
+    pub fn is_end(&self, heard: Account) -> bool {
         let mut script = Script::of(self.end);
         let due = match heard.answer {
             Ok(()) => {

@@ -4,11 +4,11 @@ use super::limits::{CONSTANTS, THOUSAND, thousand_events};
 use super::rows::{Columns, row_of};
 use super::worked::{LONG, LONG_EVENTS};
 use super::{
-    LENIENT, STRICT, Script, account_of, decoder_of, expect, expect_line, expect_row, feed,
-    feed_pieces, push, set_of, stopped_at,
+    Case, LENIENT, STRICT, Script, account_of, decoder_of, expect, expect_case, expect_line,
+    expect_row, feed, feed_each, push, read, reset, set_of, stopped_at,
 };
 use fast_decoder::{Decoder, Event, Fault, FaultCode, Recorded, Recorder, Sink, Stop};
-use fast_template::{Templates, VECTORS};
+use fast_template::VECTORS;
 use fast_value::Code;
 use std::alloc::Global;
 use std::process::Abort;
@@ -38,7 +38,7 @@ impl Sink for StopsAt {
 }
 
 /// The bytes of `LONG` that are consumed where the sink takes so many events: none, one, two and so on.
-const PLACES: [u64; 16] = [2, 3, 3, 6, 6, 7, 7, 10, 12, 12, 12, 13, 14, 14, 14, 14];
+const PLACES: &[u64] = &[2, 3, 3, 6, 6, 7, 7, 10, 12, 12, 12, 13, 14, 14, 14, 14];
 
 /// Whether the decoder has stopped with this fault, behind the bytes of its place.
 fn has_stopped(decoder: &Decoder<'_>, answer: Result<(), Fault>, fault: Fault) -> bool {
@@ -68,7 +68,7 @@ fn is_stopped(decoder: &mut Decoder<'_>, most: usize, place: u64) -> bool {
         code: FaultCode::SinkStopped,
         place,
     };
-    decoder.reset();
+    reset(decoder);
     let mut sink = StopsAt { taken: 0, most };
     let answer = feed(decoder, LONG, &mut sink);
     let stops = has_stopped(decoder, answer, fault) && sink.taken == most;
@@ -76,15 +76,17 @@ fn is_stopped(decoder: &mut Decoder<'_>, most: usize, place: u64) -> bool {
     stops && stays_stopped(decoder, &mut sink, fault) && sink.taken == most
 }
 
+/// A sink of each number of events stops the decoder.
+pub fn expect_stops(rt: &impl Abort, decoder: &mut Decoder<'_>) {
+    for (most, place) in PLACES.iter().enumerate() {
+        let is_stopped = is_stopped(decoder, most, *place);
+        expect(rt, is_stopped, "behind so many events", most);
+    }
+}
+
 #[test]
 fn a_sink_stops_the_decoder(rt: HostRuntime) -> Result<(), Fail> {
-    let set = set_of(rt.alloc(), VECTORS)?;
-    let mut decoder = decoder_of(rt.alloc(), &set, LENIENT)?;
-    for (most, place) in PLACES.into_iter().enumerate() {
-        let is_stopped = is_stopped(&mut decoder, most, place);
-        expect(&rt, is_stopped, "behind so many events", most);
-    }
-    Ok(())
+    expect_case(&rt, rt.alloc(), Case::StopsBySink)
 }
 
 /// The event that was kept.
@@ -163,17 +165,20 @@ fn is_stopped_by_a_claim(decoder: &mut Decoder<'_>) -> bool {
 const A_FIRST_MESSAGE: &str =
     "a message as of a new decoder | lenient | C0 81 39 45 A3 | m0 u0=942755 /m | between";
 
+/// A claim of too many elements stops the decoder, until it is reset.
+pub fn expect_stays(rt: &impl Abort, alloc: Global, decoder: &mut Decoder<'_>) -> Result<(), Fail> {
+    let is_stopped = is_stopped_by_a_claim(decoder);
+    expect(rt, is_stopped, "a claim", 0);
+    expect_line(rt, alloc, decoder, A_FIRST_MESSAGE)
+}
+
 #[test]
 fn a_fault_stays_until_reset(rt: HostRuntime) -> Result<(), Fail> {
-    let set = set_of(rt.alloc(), VECTORS)?;
-    let mut decoder = decoder_of(rt.alloc(), &set, LENIENT)?;
-    let is_stopped = is_stopped_by_a_claim(&mut decoder);
-    expect(&rt, is_stopped, "a claim", 0);
-    expect_line(&rt, rt.alloc(), &mut decoder, A_FIRST_MESSAGE)
+    expect_case(&rt, rt.alloc(), Case::StaysStopped)
 }
 
 /// Messages that are cut: within an integer behind the identifier, twice within the first field, and in an element.
-const CUTS: [&[u8]; 4] = [
+const CUTS: &[&[u8]] = &[
     &[0xC0, 0x81, 0x81, 0x00],
     &[0xC0, 0x81, 0x39],
     &[0xC0, 0x93, 0x41],
@@ -193,20 +198,36 @@ fn is_cut(decoder: &mut Decoder<'_>, bytes: &[u8]) -> bool {
     feed(decoder, bytes, &mut sink).is_ok() && !decoder.between()
 }
 
+/// A decoder that is reset behind a message which is cut has forgotten what the row would need.
+fn expect_forgotten(
+    rt: &impl Abort,
+    alloc: Global,
+    decoder: &mut Decoder<'_>,
+    bytes: &[u8],
+    line: &str,
+) -> Result<(), Fail> {
+    reset(decoder);
+    let is_cut = is_cut(decoder, bytes);
+    expect(rt, is_cut, "cut", bytes.len());
+    expect_line(rt, alloc, decoder, line)
+}
+
 /// A reset forgets the identifier, the previous values, and the bytes of a unit that was cut.
-#[test]
-fn a_reset_forgets(rt: HostRuntime) -> Result<(), Fail> {
-    let set = set_of(rt.alloc(), VECTORS)?;
-    let mut decoder = decoder_of(rt.alloc(), &set, LENIENT)?;
+pub fn expect_forgets(
+    rt: &impl Abort,
+    alloc: Global,
+    decoder: &mut Decoder<'_>,
+) -> Result<(), Fail> {
     for bytes in CUTS {
-        for line in [NO_IDENTIFIER, NOTHING_TO_COPY] {
-            decoder.reset();
-            let is_cut = is_cut(&mut decoder, bytes);
-            expect(&rt, is_cut, "cut", bytes.len());
-            expect_line(&rt, rt.alloc(), &mut decoder, line)?;
-        }
+        expect_forgotten(rt, alloc, decoder, bytes, NO_IDENTIFIER)?;
+        expect_forgotten(rt, alloc, decoder, bytes, NOTHING_TO_COPY)?;
     }
     Ok(())
+}
+
+#[test]
+fn a_reset_forgets(rt: HostRuntime) -> Result<(), Fail> {
+    expect_case(&rt, rt.alloc(), Case::Forgets)
 }
 
 /// Texts that are cut and joined.
@@ -214,46 +235,65 @@ const JOINED: &[u8] = &[
     0xC0, 0x84, 0x80, 0x47, 0x45, 0x48, 0xB6, 0x80, 0x82, 0x4D, 0xB6,
 ];
 
+/// The row with these bytes and events comes of a decoder, between two messages.
+fn expect_events(
+    rt: &impl Abort,
+    decoder: &mut Decoder<'_>,
+    bytes: &[u8],
+    events: &str,
+) -> Result<(), Fail> {
+    let columns = Columns {
+        events,
+        ..Columns::of("no memory | lenient | | | between")
+    };
+    let row = row_of(columns, bytes)?;
+    expect_row(rt, decoder, &row);
+    Ok(())
+}
+
 /// A decoder takes all its memory when it is made: where a growth is refused, it is one of the set or of `new`, and rows that are
 /// only compared come out the same.
 #[test]
 fn feeds_take_no_memory(rt: HostRuntime) -> Result<(), Fail> {
-    let alloc = rt.alloc();
-    let Ok(set) = Templates::read(alloc, VECTORS) else {
+    let Ok(set) = read(rt.alloc(), VECTORS) else {
         return Ok(());
     };
-    let Ok(mut decoder) = Decoder::new(alloc, &set, LENIENT) else {
+    let Ok(mut decoder) = decoder_of(rt.alloc(), &set, LENIENT) else {
         return Ok(());
     };
-    for (bytes, events) in [
-        (LONG, LONG_EVENTS),
-        (JOINED, "m3 a4='GEH6' /m m3 a4='GEM6' /m"),
-    ] {
-        let columns = Columns {
-            events,
-            ..Columns::of("no memory | lenient | | | between")
-        };
-        expect_row(&rt, &mut decoder, row_of(columns, bytes)?);
-    }
-    Ok(())
+    expect_events(&rt, &mut decoder, LONG, LONG_EVENTS)?;
+    expect_events(&rt, &mut decoder, JOINED, "m3 a4='GEH6' /m m3 a4='GEM6' /m")
 }
 
-/// Whether two bytes, and two more integers, end in events or in a fault that they can have.
-fn ends_as_it_may(decoder: &mut Decoder<'_>, first: u8, second: u8) -> bool {
-    decoder.reset();
-    let mut sink = StopsAt {
-        taken: 0,
-        most: 1000,
-    };
-    let heard = feed_pieces(decoder, &[first, second, 0x81, 0x81], 3, &mut sink);
-    let is_known = match heard.answer {
+/// Whether two bytes, and two more integers, may end so.
+fn may_end(answer: Result<(), Fault>) -> bool {
+    match answer {
         Ok(()) => true,
         Err(fault) => matches!(
             fault.code,
             FaultCode::Stream(Code::D2 | Code::D5 | Code::D9 | Code::R6 | Code::R7 | Code::R8)
         ),
+    }
+}
+
+/// Whether two bytes, and two more integers, end in events or in a fault that they can have.
+fn ends_as_it_may(decoder: &mut Decoder<'_>, first: u8, second: u8) -> bool {
+    reset(decoder);
+    let mut sink = StopsAt {
+        taken: 0,
+        most: 1000,
     };
-    is_known && heard == account_of(decoder, heard.answer)
+    let heard = feed_each(decoder, &[&[first, second, 0x81], &[0x81]], &mut sink);
+    may_end(heard.answer) && heard == account_of(decoder, heard.answer)
+}
+
+/// Two bytes of which the first is this end in events or a fault.
+fn expect_ends(rt: &impl Abort, decoder: &mut Decoder<'_>, first: u8) {
+    for second in 0..=255u8 {
+        let ends = ends_as_it_may(decoder, first, second);
+        let both = u16::from_be_bytes([first, second]);
+        expect(rt, ends, "two bytes", usize::from(both));
+    }
 }
 
 /// A template with a field.
@@ -264,11 +304,7 @@ fn any_two_bytes_end_in_events_or_a_fault(rt: HostRuntime) -> Result<(), Fail> {
     let set = set_of(rt.alloc(), PLAIN)?;
     let mut decoder = decoder_of(rt.alloc(), &set, STRICT)?;
     for first in 0..=255u8 {
-        for second in 0..=255u8 {
-            let ends = ends_as_it_may(&mut decoder, first, second);
-            let both = u16::from_be_bytes([first, second]);
-            expect(&rt, ends, "two bytes", usize::from(both));
-        }
+        expect_ends(&rt, &mut decoder, first);
     }
     Ok(())
 }

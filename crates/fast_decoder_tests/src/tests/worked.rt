@@ -1,8 +1,9 @@
 //! Streams of a set with templates of every kind.
 
-use super::{LENIENT, Script, decoder_of, expect, expect_rows, push, set_of};
+use super::{Case, Script, expect, expect_case, expect_rows, push};
 use fast_decoder::Decoder;
 use fast_template::VECTORS;
+use std::process::Abort;
 use std::test::Fail;
 
 const MESSAGES: &str = "\
@@ -130,12 +131,12 @@ fn rows_of_worked(rt: HostRuntime) -> Result<(), Fail> {
 }
 
 /// How many events the message is to have handed over behind each of its bytes.
-const COUNTS: [usize; 14] = [0, 1, 3, 3, 3, 5, 7, 7, 7, 8, 8, 11, 12, 16];
+const COUNTS: &[usize] = &[0, 1, 3, 3, 3, 5, 7, 7, 7, 8, 8, 11, 12, 16];
 
 /// Whether each byte of the message hands over the events that it decides, and no other.
 fn comes_in_time(decoder: &mut Decoder<'_>, script: &mut Script<'_>) -> bool {
     for (byte, count) in LONG.iter().zip(COUNTS) {
-        if push(decoder, *byte, script).is_err() || script.taken != count {
+        if push(decoder, *byte, script).is_err() || script.taken != *count {
             return false;
         }
     }
@@ -143,14 +144,15 @@ fn comes_in_time(decoder: &mut Decoder<'_>, script: &mut Script<'_>) -> bool {
 }
 
 /// A message that is cut behind each of its bytes has handed over what those bytes decide.
+pub fn expect_in_time(rt: &impl Abort, decoder: &mut Decoder<'_>) {
+    let mut script = Script::of(LONG_EVENTS);
+    let is_in_time = comes_in_time(decoder, &mut script);
+    expect(rt, is_in_time, "in time", 0);
+}
+
 #[test]
 fn events_come_as_soon_as_they_are_decided(rt: HostRuntime) -> Result<(), Fail> {
-    let set = set_of(rt.alloc(), VECTORS)?;
-    let mut decoder = decoder_of(rt.alloc(), &set, LENIENT)?;
-    let mut script = Script::of(LONG_EVENTS);
-    let is_in_time = comes_in_time(&mut decoder, &mut script);
-    expect(&rt, is_in_time, "in time", 0);
-    Ok(())
+    expect_case(&rt, rt.alloc(), Case::InTime)
 }
 
 /// Fields whose values need not be sent.

@@ -17,7 +17,7 @@ use fast_value::{Code, Scalar, Value};
 use std::alloc::{AllocError, Global};
 
 /// A fault of an operator, or want of memory for a joined text.
-#[derive(Clone, Copy, Debug, PartialEq)]
+#[derive(Clone, Copy, PartialEq)]
 enum Failed {
     Fault(Code),
     Memory,
@@ -57,6 +57,40 @@ fn instruction(
     })
 }
 
+/// Joins two texts in the buffer. Without a contract, so that a call is cheap to prove.
+fn join(buffer: &mut Vec<u8>, front: &[u8], rest: &[u8]) -> Result<(), AllocError> {
+    buffer.extend_from_slice(front)?;
+    buffer.extend_from_slice(rest)
+}
+
+/// Joins a delta's part with what is kept of its base.
+fn join_delta(
+    field: &FieldInstruction,
+    previous: Previous<'_>,
+    length: i128,
+    part: &[u8],
+    buffer: &mut Vec<u8>,
+) -> Result<(), Failed> {
+    match subtract(field, previous, length)? {
+        Kept::AppendTo(kept) => join(buffer, kept, part)?,
+        Kept::PrependTo(kept) => join(buffer, part, kept)?,
+    }
+    Ok(())
+}
+
+/// Joins a tail with what is kept of its base.
+fn join_tail(
+    field: &FieldInstruction,
+    previous: Previous<'_>,
+    value: Scalar<'_>,
+    buffer: &mut Vec<u8>,
+) -> Result<(), Failed> {
+    let part = text_of(value);
+    let base = text_of(tail_base(field, previous)?);
+    join(buffer, tail_keeps(base, part.len()), part)?;
+    Ok(())
+}
+
 /// What an operator gives, with a text joined in the buffer.
 fn answer<'a>(
     field: &'a FieldInstruction,
@@ -69,22 +103,8 @@ fn answer<'a>(
         return Ok(decide(field, previous, bit, sent)?);
     }
     match sent {
-        Sent::TextDelta(length, part) => match subtract(field, previous, length)? {
-            Kept::AppendTo(kept) => {
-                buffer.extend_from_slice(kept)?;
-                buffer.extend_from_slice(part)?;
-            }
-            Kept::PrependTo(kept) => {
-                buffer.extend_from_slice(part)?;
-                buffer.extend_from_slice(kept)?;
-            }
-        },
-        Sent::Value(value) => {
-            let part = text_of(value);
-            let base = text_of(tail_base(field, previous)?);
-            buffer.extend_from_slice(tail_keeps(base, part.len()))?;
-            buffer.extend_from_slice(part)?;
-        }
+        Sent::TextDelta(length, part) => join_delta(field, previous, length, part, buffer)?,
+        Sent::Value(value) => join_tail(field, previous, value, buffer)?,
         _ => {}
     }
     Ok(joined(field.kind, buffer)?)

@@ -7,7 +7,7 @@ mod sets;
 mod texts;
 mod widths;
 
-use fast_template::{StaticCode, Templates};
+use fast_template::{StaticCode, StaticFault, Templates};
 use std::alloc::{AllocError, Global};
 use std::process::Abort;
 use std::test::Fail;
@@ -15,24 +15,37 @@ use std::test::Fail;
 /// The code of a text, and the template at which it stands; nothing where the text is a set.
 type Due = Option<(StaticCode, Option<u32>)>;
 
-/// What a text has. No clause says anything of it, so that the contract of `read` is a matter of this function alone.
+/// Reads a text. No clause says anything of it, so that the contract of `read` is a matter of this function alone.
+fn read(alloc: Global, text: &str) -> Result<Templates, StaticFault> {
+    Templates::read(alloc, text)
+}
+
+/// What a text has.
 fn fault_of(alloc: Global, text: &str) -> Due {
-    match Templates::read(alloc, text) {
+    match read(alloc, text) {
         Ok(_) => None,
         Err(fault) => Some((fault.code, fault.template)),
     }
 }
 
-/// The set of a text, with no clause for the same cause.
+/// The set of a text.
 fn set_of(alloc: Global, text: &str) -> Result<Templates, Fail> {
-    Ok(Templates::read(alloc, text)?)
+    Ok(read(alloc, text)?)
 }
 
-/// Puts three pieces behind a text. No clause says which, so that what a text is made of costs the prover nothing.
-fn put(text: &mut String, first: &str, second: &str, third: &str) -> Result<(), AllocError> {
-    text.push_str(first)?;
-    text.push_str(second)?;
-    text.push_str(third)
+/// Puts pieces behind a text. No clause says which, so that what a text is made of costs the prover nothing.
+fn put(text: &mut String, pieces: &[&str]) -> Result<(), AllocError> {
+    for piece in pieces {
+        text.push_str(piece)?;
+    }
+    Ok(())
+}
+
+/// The text of these pieces.
+fn joined(alloc: Global, pieces: &[&str]) -> Result<String, AllocError> {
+    let mut text = String::new(alloc);
+    put(&mut text, pieces)?;
+    Ok(text)
 }
 
 /// A text has this, and the message says what it shows.
@@ -44,19 +57,42 @@ fn expect_fault(rt: &impl Abort, alloc: Global, text: &str, want: Due, what: &st
 /// What texts have, and the texts.
 type Faults = &'static [(Due, &'static [&'static str])];
 
+/// A text has this, between these texts.
+fn expect_within(
+    rt: &impl Abort,
+    alloc: Global,
+    (before, after): (&str, &str),
+    text: &str,
+    want: Due,
+) -> Result<(), Fail> {
+    let whole = joined(alloc, &[before, text, after])?;
+    expect_fault(rt, alloc, whole.as_str(), want, text);
+    Ok(())
+}
+
+/// Each of the texts has this, between these texts.
+fn expect_all_within(
+    rt: &impl Abort,
+    alloc: Global,
+    around: (&str, &str),
+    texts: &[&str],
+    want: Due,
+) -> Result<(), Fail> {
+    for text in texts {
+        expect_within(rt, alloc, around, text, want)?;
+    }
+    Ok(())
+}
+
 /// Each of the texts has what is due, between these texts.
 fn expect_faults(
     rt: &impl Abort,
     alloc: Global,
-    (before, after): (&str, &str),
+    around: (&str, &str),
     faults: Faults,
 ) -> Result<(), Fail> {
     for (want, texts) in faults {
-        for text in *texts {
-            let mut whole = String::new(alloc);
-            put(&mut whole, before, text, after)?;
-            expect_fault(rt, alloc, whole.as_str(), *want, text);
-        }
+        expect_all_within(rt, alloc, around, texts, *want)?;
     }
     Ok(())
 }

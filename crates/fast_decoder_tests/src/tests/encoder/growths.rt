@@ -1,8 +1,9 @@
 //! An encoder where a growth is refused. The tests hold whichever growth is refused, and where none is.
 
-use super::LENIENT;
+use super::super::read;
 use super::messages::message_of;
 use super::rows::is_hex;
+use super::{LENIENT, encode, encoder_of, expect};
 use fast_decoder::MakeError;
 use fast_encoder::{EncodeFault, Encoder};
 use fast_template::{Templates, VECTORS};
@@ -12,8 +13,8 @@ use std::test::Fail;
 
 /// An encoder of the set, at the second try where memory was refused at the first.
 fn made<'t>(alloc: Global, set: &'t Templates) -> Result<Encoder<'t>, MakeError> {
-    match Encoder::new(alloc, set, LENIENT) {
-        Err(MakeError::Memory) => Encoder::new(alloc, set, LENIENT),
+    match encoder_of(alloc, set, LENIENT) {
+        Err(MakeError::Memory) => encoder_of(alloc, set, LENIENT),
         answer => answer,
     }
 }
@@ -27,15 +28,15 @@ fn is_encoded(
     out: &mut Vec<u8>,
     after: &str,
 ) -> bool {
-    let mut answer = encoder.encode(message, out);
+    let mut answer = encode(encoder, message, out);
     if answer == Err(EncodeFault::Memory) && is_hex(out, before) {
-        answer = encoder.encode(message, out);
+        answer = encode(encoder, message, out);
     }
     answer == Ok(()) && is_hex(out, after)
 }
 
 /// Messages, and the bytes of all so far: a text that is kept, one with a group and elements, and one that changes a text.
-const ENCODED: [(&str, &str); 4] = [
+const ENCODED: &[(&str, &str)] = &[
     ("m2 a3='ABCDE' /m", "E0 83 41 42 43 44 C5"),
     (
         "m14 u15=5 g16 b17=01FF /g s18*2 e a19='AB' i20=100 /e e a19='AB' i20=98 /e /s /m",
@@ -51,10 +52,24 @@ const ENCODED: [(&str, &str); 4] = [
     ),
 ];
 
+/// Whether the message of these words is encoded.
+fn are_encoded(
+    encoder: &mut Encoder<'_>,
+    message: Option<Message>,
+    before: &str,
+    out: &mut Vec<u8>,
+    after: &str,
+) -> bool {
+    match message {
+        Some(message) => is_encoded(encoder, &message, before, out, after),
+        None => false,
+    }
+}
+
 #[test]
 fn a_refused_growth_changes_nothing(rt: HostRuntime) -> Result<(), Fail> {
     let alloc = rt.alloc();
-    let Ok(set) = Templates::read(alloc, VECTORS) else {
+    let Ok(set) = read(alloc, VECTORS) else {
         return Ok(());
     };
     let mut encoder = made(alloc, &set)?;
@@ -64,11 +79,8 @@ fn a_refused_growth_changes_nothing(rt: HostRuntime) -> Result<(), Fail> {
         let Ok(message) = message_of(alloc, words) else {
             return Ok(());
         };
-        let is_encoded = match message {
-            Some(message) => is_encoded(&mut encoder, &message, before, &mut out, after),
-            None => false,
-        };
-        assert!(rt; is_encoded, "{after}");
+        let are_encoded = are_encoded(&mut encoder, message, before, &mut out, after);
+        expect(&rt, are_encoded, "encoded", after);
         before = after;
     }
     Ok(())

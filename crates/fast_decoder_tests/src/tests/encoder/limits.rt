@@ -1,59 +1,64 @@
 //! The limits of an encoder, and messages that come near them.
 
-use super::{LENIENT, expect_rows};
+use super::super::set_of;
+use super::{LENIENT, encoder_of, expect, expect_rows};
 use fast_decoder::MakeError;
-use fast_encoder::{EncodeFault, Encoder};
-use fast_template::{Templates, VECTORS};
+use fast_encoder::EncodeFault;
+use fast_template::VECTORS;
 use fast_value::Limits;
-use std::alloc::Global;
+use std::alloc::{AllocError, Global};
+use std::process::Abort;
 use std::test::Fail;
 
 /// Why no encoder of the set with this text is made.
-fn make_error(alloc: Global, text: &str, max_text: usize) -> Option<MakeError> {
+fn make_error(alloc: Global, text: &str, max_text: usize) -> Result<Option<MakeError>, Fail> {
     let limits = Limits {
         max_text,
         ..LENIENT
     };
-    match Templates::read(alloc, text) {
-        Ok(set) => Encoder::new(alloc, &set, limits).err(),
-        Err(_) => Some(MakeError::Memory),
-    }
+    let set = set_of(alloc, text)?;
+    Ok(encoder_of(alloc, &set, limits).err())
 }
 
 /// Initial values: of four characters, of 17 characters in a template without an identifier, of 17 bytes, and of 17
 /// bytes in a group.
-const INITIAL: [&str; 4] = [
+const INITIAL: &[&str] = &[
     "[[template]]\nname = 'T'\nfields = [{kind='ascii', name='f', op='default', value='ABCD'}]",
     "[[template]]\nname = 'T'\nfields = [{kind='ascii', name='f', op='constant', value='12345678901234567'}]",
     "[[template]]\nname = 'T'\nfields = [{kind='unicode', name='f', op='tail', value='123456789012345é'}]",
     "[[template]]\nname = 'T'\nfields = [{kind='group', name='g', fields=[{kind='bytes', name='f', op='copy', value='0102030405060708090A0B0C0D0E0F1011'}]}]",
 ];
 
-/// Limits, and why no encoder has them over the first of these sets and over the others.
-const MADE: [(usize, Option<MakeError>, Option<MakeError>); 6] = [
+/// A limit, and why no encoder has it over the first of these sets and over the others.
+type Made = (usize, Option<MakeError>, Option<MakeError>);
+
+#[rattlefmt::skip]
+const MADE: &[Made] = &[
     (0, Some(MakeError::BadLimits), Some(MakeError::BadLimits)),
     (15, Some(MakeError::BadLimits), Some(MakeError::BadLimits)),
     (16, None, Some(MakeError::InitialTooLong)),
     (17, None, None),
     (1_048_576, None, None),
-    (
-        1_048_577,
-        Some(MakeError::BadLimits),
-        Some(MakeError::BadLimits),
-    ),
+    (1_048_577, Some(MakeError::BadLimits), Some(MakeError::BadLimits)),
 ];
 
-#[test]
-fn the_length_of_texts_has_bounds(rt: HostRuntime) {
-    for (max_text, short, long) in MADE {
-        for (i, text) in INITIAL.into_iter().enumerate() {
-            let error = make_error(rt.alloc(), text, max_text);
-            assert!(rt;
-                error == if i == 0 { short } else { long },
-                "{i} at {max_text}"
-            );
-        }
+/// Encoders of the sets are made, or not for this cause.
+fn expect_made(rt: &impl Abort, alloc: Global, row: &Made) -> Result<(), Fail> {
+    let (max_text, short, long) = row;
+    for (i, text) in INITIAL.iter().enumerate() {
+        let error = make_error(alloc, text, *max_text)?;
+        let due = if i == 0 { *short } else { *long };
+        expect(rt, error == due, "an encoder of", text);
     }
+    Ok(())
+}
+
+#[test]
+fn the_length_of_texts_has_bounds(rt: HostRuntime) -> Result<(), Fail> {
+    for row in MADE {
+        expect_made(&rt, rt.alloc(), row)?;
+    }
+    Ok(())
 }
 
 const TEXTS: &[&str] = &[
@@ -121,28 +126,25 @@ fn elements(rt: HostRuntime) -> Result<(), Fail> {
     expect_rows(&rt, rt.alloc(), NESTED, ELEMENTS)
 }
 
+#[rattlefmt::skip]
+const FAULTS: &[(EncodeFault, u8, &str)] = &[
+    (EncodeFault::E1, 1, "E1: no template has the number, or that template has no identifier"),
+    (EncodeFault::R9, 5, "R9: an ASCII string that would be sent begins with a zero character"),
+    (EncodeFault::Memory, 6, "Memory: there is no memory left"),
+];
+
+/// A fault with its name and its sentence.
+fn line_of(alloc: Global, fault: EncodeFault) -> Result<String, AllocError> {
+    let name = fault.name();
+    format!(in alloc; "{name}: {fault}")
+}
+
 #[test]
 fn a_fault_has_a_number_a_name_and_a_sentence(rt: HostRuntime) -> Result<(), Fail> {
-    let alloc = rt.alloc();
-    for (fault, number, line) in [
-        (
-            EncodeFault::E1,
-            1,
-            "E1: no template has the number, or that template has no identifier",
-        ),
-        (
-            EncodeFault::R9,
-            5,
-            "R9: an ASCII string that would be sent begins with a zero character",
-        ),
-        (EncodeFault::Memory, 6, "Memory: there is no memory left"),
-    ] {
-        let name = fault.name();
-        let found = format!(in alloc; "{name}: {fault}")?;
-        assert!(rt;
-            found.as_str() == line && fault.number() == number,
-            "{found}"
-        );
+    for (fault, number, line) in FAULTS {
+        let found = line_of(rt.alloc(), *fault)?;
+        let is_right = found.as_str() == *line && fault.number() == *number;
+        expect(&rt, is_right, "a fault", line);
     }
     Ok(())
 }

@@ -1,5 +1,6 @@
 //! Rows that are read from their lines.
 
+use super::super::put;
 use super::super::rows::limits_of;
 use fast_encoder::EncodeFault;
 use fast_value::Limits;
@@ -45,12 +46,12 @@ impl Step<'_> {
         }
     }
 
-    pub fn is_reset(self) -> bool {
+    pub fn is_reset(&self) -> bool {
         self.words == "reset"
     }
 
     /// Whether a fault should come of it.
-    pub fn is_refused(self) -> bool {
+    pub fn is_refused(&self) -> bool {
         is_fault(self.due)
     }
 }
@@ -129,16 +130,13 @@ pub fn bytes_of(alloc: Global, words: &str) -> Result<Vec<u8>, AllocError> {
 }
 
 fn push_word(text: &mut String, word: &str) -> Result<(), AllocError> {
-    text.push_str(word)?;
-    text.push_str(" ")
+    put(text, &[word, " "])
 }
 
 /// Adds the events of so many elements of one field.
 fn push_elements(text: &mut String, count: u32, field: &str) -> Result<(), AllocError> {
     for _ in 0..count {
-        push_word(text, "e")?;
-        push_word(text, field)?;
-        push_word(text, "/e")?;
+        put(text, &["e ", field, " /e "])?;
     }
     Ok(())
 }

@@ -1,5 +1,6 @@
 //! Messages that do not suit their template.
 
+use super::super::put;
 use super::expect_rows;
 use itoa::Buffer;
 use std::alloc::{AllocError, Global};
@@ -61,7 +62,7 @@ fields = [{kind="uInt32", name="p"}]
 "#;
 
 /// What a slot can hold, and slots that are too few and too many.
-const SHAPES: [&str; 11] = [
+const SHAPES: &[&str] = &[
     "u0=5",
     "i0=5",
     "d0=5e0",
@@ -76,22 +77,20 @@ const SHAPES: [&str; 11] = [
 ];
 
 /// Which of these suits each of the first templates.
-const SUITS: [usize; 11] = [0, 1, 0, 1, 2, 3, 4, 5, 2, 6, 7];
+const SUITS: &[usize] = &[0, 1, 0, 1, 2, 3, 4, 5, 2, 6, 7];
+
+/// Adds a message of a template with this shape, which is refused.
+fn put_shape(row: &mut String, number: &str, shape: &str) -> Result<(), AllocError> {
+    put(row, &["\nm", number, " ", shape, " /m > E2"])
+}
 
 /// Adds a step for each shape that does not suit the template.
-fn add_unsuited(
-    alloc: Global,
-    row: &mut String,
-    template: u32,
-    suits: usize,
-) -> Result<(), AllocError> {
-    for (i, shape) in SHAPES.into_iter().enumerate() {
+fn add_unsuited(row: &mut String, template: u32, suits: usize) -> Result<(), AllocError> {
+    let mut buffer = Buffer::new();
+    let number = buffer.format(template);
+    for (i, shape) in SHAPES.iter().enumerate() {
         if i != suits {
-            row.push_str("\nm")?;
-            row.push_str(Buffer::new().format(template))?;
-            row.push_str(" ")?;
-            row.push_str(shape)?;
-            row.push_str(" /m > E2")?;
+            put_shape(row, number, shape)?;
         }
     }
     Ok(())
@@ -99,11 +98,12 @@ fn add_unsuited(
 
 /// Messages of all shapes but those that suit, and then one that suits.
 fn unsuited(alloc: Global) -> Result<String, AllocError> {
-    let mut row = String::from_str(alloc, "another shape | lenient")?;
+    let mut row = String::new(alloc);
+    put(&mut row, &["another shape | lenient"])?;
     for (template, suits) in (0..11u32).zip(SUITS) {
-        add_unsuited(alloc, &mut row, template, suits)?;
+        add_unsuited(&mut row, template, *suits)?;
     }
-    row.push_str("\nm0 u0=5 /m > C0 81 85")?;
+    put(&mut row, &["\nm0 u0=5 /m > C0 81 85"])?;
     Ok(row)
 }
 

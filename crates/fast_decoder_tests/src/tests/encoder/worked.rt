@@ -1,5 +1,6 @@
 //! Messages of a set with templates of every kind.
 
+use super::super::put;
 use super::expect_rows;
 use fast_template::VECTORS;
 use itoa::Buffer;
@@ -110,15 +111,30 @@ fn texts(rt: HostRuntime) -> Result<(), Fail> {
     expect_rows(&rt, rt.alloc(), VECTORS, TEXTS)
 }
 
+/// Adds a field with this number.
+fn put_field(text: &mut String, number: u32) -> Result<(), AllocError> {
+    let mut buffer = Buffer::new();
+    put(
+        text,
+        &[
+            "{kind='uInt32', name='f",
+            buffer.format(number),
+            "', optional=true, op='copy'},",
+        ],
+    )
+}
+
 /// A template of 300 optional fields.
 fn wide_text(alloc: Global) -> Result<String, AllocError> {
-    let mut text = String::from_str(alloc, "[[template]]\nname = 'Wide'\nid = 1\nfields = [")?;
+    let mut text = String::new(alloc);
+    put(
+        &mut text,
+        &["[[template]]\nname = 'Wide'\nid = 1\nfields = ["],
+    )?;
     for i in 0..300u32 {
-        text.push_str("{kind='uInt32', name='f")?;
-        text.push_str(Buffer::new().format(i))?;
-        text.push_str("', optional=true, op='copy'},")?;
+        put_field(&mut text, i)?;
     }
-    text.push_str("]")?;
+    put(&mut text, &["]"])?;
     Ok(text)
 }
 

@@ -1,15 +1,23 @@
 //! Fields one after the other, each under what the one before left in the entry.
 
+use super::super::expect;
 use super::{Failed, answer, instruction, is_same_answer};
 use fast_dict::operators::{Outcome, Sent, sized};
 use fast_dict::previous::Previous;
-use fast_tree::{FieldInstruction, Operator};
+use fast_tree::Operator;
 use fast_value::{Code, Kind, Scalar};
 use std::alloc::{AllocError, Global};
 use std::test::Fail;
 
-/// A field: what the entry holds, the presence bit, what was sent, and what that gives.
-type Step = (Previous<'static>, bool, Sent<'static>, Given);
+/// The operator, the kind and whether the field is optional, of a field without an initial value, and then what the entry holds, the
+/// presence bit, what was sent, and what that gives.
+type Example = (
+    (Operator, Kind, bool),
+    Previous<'static>,
+    bool,
+    Sent<'static>,
+    Given,
+);
 
 /// What is wanted of a field.
 #[derive(Clone, Copy)]
@@ -29,28 +37,24 @@ use Previous::{Assigned, Empty, Undefined};
 use Scalar::{Ascii, Dec, I, U, Unicode};
 use Sent::{DecimalDelta, IntegerDelta, Nothing, Null, TextDelta};
 
-/// Whether the fields give what is wanted.
-fn all_give(alloc: Global, field: &FieldInstruction, steps: &[Step]) -> Result<bool, AllocError> {
-    for step in steps {
-        let (previous, bit, sent, given) = *step;
-        let wanted = match given {
-            Kept(value) => Ok(Outcome {
-                value: Some(value),
-                next: Previous::Assigned(field.kind, value),
-            }),
-            Passed(value) => Ok(Outcome {
-                value: Some(value),
-                next: previous,
-            }),
-            Absent(next) => Ok(Outcome { value: None, next }),
-            Fault(code) => Err(Failed::Fault(code)),
-        };
-        let mut buffer = Vec::new(alloc);
-        if !is_same_answer(answer(field, previous, bit, sent, &mut buffer), wanted) {
-            return Ok(false);
-        }
+/// The answer that is wanted of a field of this kind.
+fn wanted(
+    kind: Kind,
+    previous: Previous<'static>,
+    given: Given,
+) -> Result<Outcome<'static>, Failed> {
+    match given {
+        Kept(value) => Ok(Outcome {
+            value: Some(value),
+            next: Assigned(kind, value),
+        }),
+        Passed(value) => Ok(Outcome {
+            value: Some(value),
+            next: previous,
+        }),
+        Absent(next) => Ok(Outcome { value: None, next }),
+        Fault(code) => Err(Failed::Fault(code)),
     }
-    Ok(true)
 }
 
 const GREATEST_32: Scalar<'static> = U(4_294_967_295);
@@ -75,125 +79,72 @@ const HELD_FIVE: Previous<'static> = Assigned(Kind::Int32, I(5));
 
 const HELD_HIGH: Previous<'static> = Assigned(Kind::Decimal, HIGH);
 
-/// The operator, the kind and whether the field is optional, of a field without an initial value, and then its steps.
+/// Fields, with what the entry holds, the presence bit, what was sent, and what that gives. They stand one behind the other, since lists
+/// within a list are dear to prove where they hold bytes.
 #[rattlefmt::skip]
-const EXAMPLES: [(Operator, Kind, bool, &[Step]); 12] = [
-    (
-        Operator::Tail,
-        Kind::Ascii,
-        false,
-        &[
-            (Undefined, true, Sent::Value(Ascii(b"ABCDE")), Kept(Ascii(b"ABCDE"))),
-            (Assigned(Kind::Ascii, Ascii(b"ABCDE")), true, Sent::Value(Ascii(b"XY")), Kept(Ascii(b"ABCXY"))),
-            (Assigned(Kind::Ascii, Ascii(b"ABCXY")), false, Nothing, Kept(Ascii(b"ABCXY"))),
-        ],
-    ),
-    (
-        Operator::Delta,
-        Kind::Ascii,
-        false,
-        &[
-            (Undefined, true, TextDelta(0, b"GEH6"), Kept(Ascii(b"GEH6"))),
-            (Assigned(Kind::Ascii, Ascii(b"GEH6")), true, TextDelta(2, b"M6"), Kept(Ascii(b"GEM6"))),
-            (Assigned(Kind::Ascii, Ascii(b"GEM6")), true, TextDelta(-1, b"ZZ"), Kept(Ascii(b"ZZGEM6"))),
-            (HELD_ZZGEM6, true, TextDelta(7, b""), Fault(Code::D7)),
-            (HELD_ZZGEM6, true, TextDelta(-8, b""), Fault(Code::D7)),
-            (HELD_ZZGEM6, true, TextDelta(-7, b"A"), Kept(Ascii(b"A"))),
-            (Undefined, true, TextDelta(2_147_483_647, b""), Fault(Code::D7)),
-            (Undefined, true, TextDelta(-2_147_483_648, b""), Fault(Code::D7)),
-        ],
-    ),
-    (
-        Operator::Increment,
-        Kind::UInt32,
-        false,
-        &[
-            (Undefined, true, Sent::Value(GREATEST_32), Kept(GREATEST_32)),
-            (Assigned(Kind::UInt32, GREATEST_32), false, Nothing, Kept(U(0))),
-            (Assigned(Kind::UInt32, U(0)), false, Nothing, Kept(U(1))),
-        ],
-    ),
-    (Operator::Increment, Kind::UInt64, false, &[(Assigned(Kind::UInt64, U(18_446_744_073_709_551_615)), false, Nothing, Kept(U(0)))]),
-    (
-        Operator::Increment,
-        Kind::Int32,
-        false,
-        &[
-            (Assigned(Kind::Int32, I(2_147_483_647)), false, Nothing, Kept(I(-2_147_483_648))),
-            (Assigned(Kind::Int32, I(63)), false, Nothing, Kept(I(64))),
-        ],
-    ),
-    (
-        Operator::Copy,
-        Kind::UInt32,
-        true,
-        &[
-            (Undefined, true, Sent::Value(U(0)), Kept(U(0))),
-            (Assigned(Kind::UInt32, U(0)), true, Null, Absent(Empty)),
-            (Empty, false, Nothing, Absent(Empty)),
-            (Undefined, false, Nothing, Absent(Empty)),
-        ],
-    ),
-    (Operator::Copy, Kind::UInt32, false, &[(Undefined, false, Nothing, Fault(Code::D5))]),
-    (Operator::Copy, Kind::Ascii, false, &[(Assigned(Kind::UInt32, U(0)), false, Nothing, Fault(Code::D4))]),
-    (
-        Operator::Delta,
-        Kind::Int32,
-        true,
-        &[
-            (Undefined, true, IntegerDelta(5), Kept(I(5))),
-            (HELD_FIVE, true, Null, Absent(HELD_FIVE)),
-            (HELD_FIVE, true, IntegerDelta(1), Kept(I(6))),
-            (Undefined, true, IntegerDelta(590_295_810_358_705_651_710), Fault(Code::D2)),
-            (HELD_FIVE, true, IntegerDelta(2_147_483_643), Fault(Code::D2)),
-            (HELD_FIVE, true, IntegerDelta(2_147_483_642), Kept(I(2_147_483_647))),
-            (Empty, true, Null, Absent(Empty)),
-        ],
-    ),
-    (
-        Operator::None,
-        Kind::Unicode,
-        false,
-        &[
-            (Undefined, true, Sent::Value(E_ACUTE), Passed(E_ACUTE)),
-            (Undefined, true, Sent::Value(Unicode(b"\xC3\x28")), Fault(Code::R2)),
-        ],
-    ),
-    (
-        Operator::Delta,
-        Kind::Unicode,
-        false,
-        &[
-            (Undefined, true, TextDelta(0, b"\xC3\xA9"), Kept(E_ACUTE)),
-            (HELD_E_ACUTE, true, TextDelta(1, b""), Fault(Code::R2)),
-            (HELD_E_ACUTE, true, TextDelta(1, b"\xA8"), Kept(Unicode(b"\xC3\xA8"))),
-        ],
-    ),
-    (
-        Operator::Delta,
-        Kind::Decimal,
-        false,
-        &[
-            (Undefined, true, DecimalDelta(63, 1), Kept(HIGH)),
-            (Undefined, true, DecimalDelta(64, 1), Fault(Code::R1)),
-            (HELD_HIGH, true, DecimalDelta(-1, 9_223_372_036_854_775_806), Kept(LAST)),
-            (HELD_HIGH, true, DecimalDelta(0, 9_223_372_036_854_775_807), Fault(Code::R1)),
-            (HELD_HIGH, true, DecimalDelta(-127, 0), Fault(Code::R1)),
-        ],
-    ),
+const EXAMPLES: &[Example] = &[
+    ((Operator::Tail, Kind::Ascii, false), Undefined, true, Sent::Value(Ascii(b"ABCDE")), Kept(Ascii(b"ABCDE"))),
+    ((Operator::Tail, Kind::Ascii, false), Assigned(Kind::Ascii, Ascii(b"ABCDE")), true, Sent::Value(Ascii(b"XY")), Kept(Ascii(b"ABCXY"))),
+    ((Operator::Tail, Kind::Ascii, false), Assigned(Kind::Ascii, Ascii(b"ABCXY")), false, Nothing, Kept(Ascii(b"ABCXY"))),
+    ((Operator::Delta, Kind::Ascii, false), Undefined, true, TextDelta(0, b"GEH6"), Kept(Ascii(b"GEH6"))),
+    ((Operator::Delta, Kind::Ascii, false), Assigned(Kind::Ascii, Ascii(b"GEH6")), true, TextDelta(2, b"M6"), Kept(Ascii(b"GEM6"))),
+    ((Operator::Delta, Kind::Ascii, false), Assigned(Kind::Ascii, Ascii(b"GEM6")), true, TextDelta(-1, b"ZZ"), Kept(Ascii(b"ZZGEM6"))),
+    ((Operator::Delta, Kind::Ascii, false), HELD_ZZGEM6, true, TextDelta(7, b""), Fault(Code::D7)),
+    ((Operator::Delta, Kind::Ascii, false), HELD_ZZGEM6, true, TextDelta(-8, b""), Fault(Code::D7)),
+    ((Operator::Delta, Kind::Ascii, false), HELD_ZZGEM6, true, TextDelta(-7, b"A"), Kept(Ascii(b"A"))),
+    ((Operator::Delta, Kind::Ascii, false), Undefined, true, TextDelta(2_147_483_647, b""), Fault(Code::D7)),
+    ((Operator::Delta, Kind::Ascii, false), Undefined, true, TextDelta(-2_147_483_648, b""), Fault(Code::D7)),
+    ((Operator::Increment, Kind::UInt32, false), Undefined, true, Sent::Value(GREATEST_32), Kept(GREATEST_32)),
+    ((Operator::Increment, Kind::UInt32, false), Assigned(Kind::UInt32, GREATEST_32), false, Nothing, Kept(U(0))),
+    ((Operator::Increment, Kind::UInt32, false), Assigned(Kind::UInt32, U(0)), false, Nothing, Kept(U(1))),
+    ((Operator::Increment, Kind::UInt64, false), Assigned(Kind::UInt64, U(18_446_744_073_709_551_615)), false, Nothing, Kept(U(0))),
+    ((Operator::Increment, Kind::Int32, false), Assigned(Kind::Int32, I(2_147_483_647)), false, Nothing, Kept(I(-2_147_483_648))),
+    ((Operator::Increment, Kind::Int32, false), Assigned(Kind::Int32, I(63)), false, Nothing, Kept(I(64))),
+    ((Operator::Copy, Kind::UInt32, true), Undefined, true, Sent::Value(U(0)), Kept(U(0))),
+    ((Operator::Copy, Kind::UInt32, true), Assigned(Kind::UInt32, U(0)), true, Null, Absent(Empty)),
+    ((Operator::Copy, Kind::UInt32, true), Empty, false, Nothing, Absent(Empty)),
+    ((Operator::Copy, Kind::UInt32, true), Undefined, false, Nothing, Absent(Empty)),
+    ((Operator::Copy, Kind::UInt32, false), Undefined, false, Nothing, Fault(Code::D5)),
+    ((Operator::Copy, Kind::Ascii, false), Assigned(Kind::UInt32, U(0)), false, Nothing, Fault(Code::D4)),
+    ((Operator::Delta, Kind::Int32, true), Undefined, true, IntegerDelta(5), Kept(I(5))),
+    ((Operator::Delta, Kind::Int32, true), HELD_FIVE, true, Null, Absent(HELD_FIVE)),
+    ((Operator::Delta, Kind::Int32, true), HELD_FIVE, true, IntegerDelta(1), Kept(I(6))),
+    ((Operator::Delta, Kind::Int32, true), Undefined, true, IntegerDelta(590_295_810_358_705_651_710), Fault(Code::D2)),
+    ((Operator::Delta, Kind::Int32, true), HELD_FIVE, true, IntegerDelta(2_147_483_643), Fault(Code::D2)),
+    ((Operator::Delta, Kind::Int32, true), HELD_FIVE, true, IntegerDelta(2_147_483_642), Kept(I(2_147_483_647))),
+    ((Operator::Delta, Kind::Int32, true), Empty, true, Null, Absent(Empty)),
+    ((Operator::None, Kind::Unicode, false), Undefined, true, Sent::Value(E_ACUTE), Passed(E_ACUTE)),
+    ((Operator::None, Kind::Unicode, false), Undefined, true, Sent::Value(Unicode(b"\xC3\x28")), Fault(Code::R2)),
+    ((Operator::Delta, Kind::Unicode, false), Undefined, true, TextDelta(0, b"\xC3\xA9"), Kept(E_ACUTE)),
+    ((Operator::Delta, Kind::Unicode, false), HELD_E_ACUTE, true, TextDelta(1, b""), Fault(Code::R2)),
+    ((Operator::Delta, Kind::Unicode, false), HELD_E_ACUTE, true, TextDelta(1, b"\xA8"), Kept(Unicode(b"\xC3\xA8"))),
+    ((Operator::Delta, Kind::Decimal, false), Undefined, true, DecimalDelta(63, 1), Kept(HIGH)),
+    ((Operator::Delta, Kind::Decimal, false), Undefined, true, DecimalDelta(64, 1), Fault(Code::R1)),
+    ((Operator::Delta, Kind::Decimal, false), HELD_HIGH, true, DecimalDelta(-1, 9_223_372_036_854_775_806), Kept(LAST)),
+    ((Operator::Delta, Kind::Decimal, false), HELD_HIGH, true, DecimalDelta(0, 9_223_372_036_854_775_807), Fault(Code::R1)),
+    ((Operator::Delta, Kind::Decimal, false), HELD_HIGH, true, DecimalDelta(-127, 0), Fault(Code::R1)),
 ];
+
+/// Whether the field gives what is wanted.
+fn is_given(alloc: Global, example: &Example) -> Result<bool, AllocError> {
+    let ((operator, kind, optional), previous, bit, sent, given) = *example;
+    let field = instruction(alloc, operator, kind, optional, None)?;
+    let mut buffer = Vec::new(alloc);
+    let answer = answer(&field, previous, bit, sent, &mut buffer);
+    Ok(is_same_answer(answer, wanted(kind, previous, given)))
+}
 
 #[test]
 fn fields_give_what_is_wanted(rt: HostRuntime) -> Result<(), Fail> {
-    for (k, (operator, kind, optional, steps)) in EXAMPLES.iter().enumerate() {
-        let field = instruction(rt.alloc(), *operator, *kind, *optional, None)?;
-        assert!(rt; all_give(rt.alloc(), &field, steps)?, "example {k}");
+    for (k, example) in EXAMPLES.iter().enumerate() {
+        let is_given = is_given(rt.alloc(), example)?;
+        expect(&rt, is_given, "example", k);
     }
     Ok(())
 }
 
 #[test]
 fn texts_are_within_the_limit(rt: HostRuntime) {
-    assert_eq!(rt; sized(16, 16), Ok(16));
-    assert_eq!(rt; sized(17, 16), Err(Code::L1));
+    let is_right = sized(16, 16) == Ok(16) && sized(17, 16) == Err(Code::L1);
+    expect(&rt, is_right, "sizes", 16);
 }

@@ -6,7 +6,7 @@ use fast_tree::Operator;
 use fast_value::Code::{self, D4, D5, D6};
 
 /// Whether the field may be absent.
-#[derive(Clone, Copy, Debug, PartialEq)]
+#[derive(Clone, Copy, PartialEq)]
 pub enum Presence {
     /// It may not.
     Mandatory,
@@ -15,7 +15,7 @@ pub enum Presence {
 }
 
 /// Whether the instruction has an initial value.
-#[derive(Clone, Copy, Debug, PartialEq)]
+#[derive(Clone, Copy, PartialEq)]
 pub enum Start {
     /// It has.
     With,
@@ -24,7 +24,7 @@ pub enum Start {
 }
 
 /// What was sent.
-#[derive(Clone, Copy, Debug, PartialEq)]
+#[derive(Clone, Copy, PartialEq)]
 pub enum Way {
     /// Nothing, with the presence bit clear.
     Unsent,
@@ -37,7 +37,7 @@ pub enum Way {
 }
 
 /// One of the sample values of a kind.
-#[derive(Clone, Copy, Debug, PartialEq)]
+#[derive(Clone, Copy, PartialEq)]
 pub enum Sample {
     /// The value that is sent.
     Sent,
@@ -56,7 +56,7 @@ pub enum Sample {
 }
 
 /// What comes of it.
-#[derive(Clone, Copy, Debug, PartialEq)]
+#[derive(Clone, Copy, PartialEq)]
 pub enum Then {
     /// The value, which the entry then holds.
     Kept(Sample),

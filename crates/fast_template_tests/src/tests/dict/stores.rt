@@ -1,5 +1,6 @@
 //! The two dictionaries under the same commands.
 
+use super::super::expect;
 use super::is_same_previous;
 use fast_dict::commands::{StoreCommand, can_run, run};
 use fast_dict::entry::Entry;
@@ -8,6 +9,7 @@ use fast_dict::previous::Previous;
 use fast_dict::slots::Slots;
 use fast_dict::store::Store;
 use fast_value::{Kind, Scalar};
+use std::alloc::AllocError;
 use std::process::Abort;
 use std::test::Fail;
 
@@ -69,11 +71,12 @@ fn holds<D: Store>(store: &D, wanted: &[Previous<'_>]) -> bool {
 fn carries_out<D: Store>(rt: &impl Abort, store: &mut D, commands: &[StoreCommand<'_>]) {
     let possible = can_run(store, commands);
     assert!(rt; possible);
-    assert_eq!(rt; run(store, commands), commands.len());
+    let count = run(store, commands);
+    expect(rt, count == commands.len(), "commands", count);
 }
 
 /// Lists of commands one after the other, and what the entries then hold.
-const TURNS: [(&[StoreCommand<'static>], &[Previous<'static>]); 5] = [
+const TURNS: &[(&[StoreCommand<'static>], &[Previous<'static>])] = &[
     (&[], &[Previous::Undefined; 5]),
     (&COMMANDS, &AFTER),
     (&[StoreCommand::Reset], &AFTER_RESET),
@@ -85,7 +88,7 @@ const TURNS: [(&[StoreCommand<'static>], &[Previous<'static>]); 5] = [
 fn follows<D: Store>(rt: &impl Abort, store: &mut D) {
     for (commands, after) in TURNS {
         carries_out(rt, store, commands);
-        assert!(rt; holds(store, after));
+        expect(rt, holds(store, after), "behind commands", commands.len());
     }
 }
 
@@ -106,43 +109,60 @@ fn set_int32(rt: &impl Abort, store: &mut Slots, entry: usize, number: i64) {
     store.set_number(entry, Entry::Int32(number));
 }
 
+/// The commands, which a copy keeps when all is reset.
+fn is_kept_by_a_copy(rt: &impl Abort, store: &mut Lists) -> Result<bool, AllocError> {
+    carries_out(rt, store, &COMMANDS);
+    let copy = store.copy()?;
+    store.reset_all();
+    Ok(holds(&copy, &AFTER))
+}
+
 #[test]
 fn lists(rt: HostRuntime) -> Result<(), Fail> {
     let mut store = Lists::new(rt.alloc(), 5, 16)?;
     follows(&rt, &mut store);
-    carries_out(&rt, &mut store, &COMMANDS);
-    let copy = store.copy()?;
-    store.reset_all();
-    assert!(rt; holds(&copy, &AFTER));
-    assert!(rt; store.can_refuse());
-    assert_eq!(rt; store.max_text(), 16);
+    let is_kept = is_kept_by_a_copy(&rt, &mut store)?;
+    expect(&rt, is_kept, "kept by a copy", 5);
+    let is_right = store.can_refuse() && store.max_text() == 16;
+    expect(&rt, is_right, "lists", 16);
     Ok(())
+}
+
+/// The commands, and then a number at an entry which was empty.
+fn takes_a_number(rt: &impl Abort, store: &mut Slots) -> bool {
+    let was_empty = !holds_uint32(store, 0, 7);
+    carries_out(rt, store, &COMMANDS);
+    let is_held = holds_uint32(store, 0, 7);
+    set_int32(rt, store, 4, -9);
+    was_empty && is_held && holds(store, &AFTER_NUMBER)
 }
 
 #[test]
 fn slots(rt: HostRuntime) -> Result<(), Fail> {
     let mut store = Slots::new(rt.alloc(), &[false, true, false, true, false], 16)?;
     follows(&rt, &mut store);
-    assert!(rt; !holds_uint32(&store, 0, 7));
-    carries_out(&rt, &mut store, &COMMANDS);
-    assert!(rt; holds_uint32(&store, 0, 7));
-    set_int32(&rt, &mut store, 4, -9);
-    assert!(rt; holds(&store, &AFTER_NUMBER));
-    assert!(rt; !store.can_refuse());
-    assert_eq!(rt; store.max_text(), 16);
+    expect(&rt, takes_a_number(&rt, &mut store), "a number", 4);
+    let is_right = !store.can_refuse() && store.max_text() == 16;
+    expect(&rt, is_right, "slots", 16);
     Ok(())
+}
+
+/// Whether a text may be set at the entry.
+fn takes_text(store: &Slots, entry: usize) -> bool {
+    let command = StoreCommand::Set {
+        entry,
+        kind: Kind::Ascii,
+        scalar: Scalar::Ascii(b"AB"),
+    };
+    can_run(store, &[command])
 }
 
 #[test]
 fn entries_without_a_slot_take_no_text(rt: HostRuntime) -> Result<(), Fail> {
     let store = Slots::new(rt.alloc(), &[false, true], 16)?;
-    for (entry, is_possible) in [(0, false), (1, true), (2, false)] {
-        let command = StoreCommand::Set {
-            entry,
-            kind: Kind::Ascii,
-            scalar: Scalar::Ascii(b"AB"),
-        };
-        assert_eq!(rt; can_run(&store, &[command]), is_possible, "at {entry}");
+    for (entry, is_possible) in &[(0, false), (1, true), (2, false)] {
+        let is_right = takes_text(&store, *entry) == *is_possible;
+        expect(&rt, is_right, "at entry", *entry);
     }
     Ok(())
 }

@@ -1,5 +1,6 @@
 //! The table of the operators, at each kind.
 
+use super::super::expect;
 use super::rows::{Presence, ROWS, Row, Sample, Start, Then, Way};
 use super::{Failed, answer, instruction, is_same_answer};
 use fast_dict::operators::{Outcome, Sent};
@@ -7,6 +8,7 @@ use fast_dict::previous::Previous;
 use fast_tree::{FieldInstruction, Operator};
 use fast_value::{Kind, Scalar};
 use std::alloc::{AllocError, Global};
+use std::process::Abort;
 use std::test::Fail;
 
 /// The values of one kind that stand for those of the rows.
@@ -86,21 +88,36 @@ fn wanted(
 
 /// Whether a row stands at a kind, whatever the entry holds.
 fn stands(alloc: Global, samples: &Samples, row: Row) -> Result<bool, AllocError> {
-    let (operator, presence, start, way, thens) = row;
+    let (operator, presence, start, way, (undefined, empty, same, other)) = row;
     let initial = match start {
         Start::With => Some(samples.initial),
         Start::Without => None,
     };
     let optional = presence == Presence::Optional;
     let field = instruction(alloc, operator, samples.kind, optional, initial)?;
-    let (undefined, empty, same, other) = thens;
-    let kept = Previous::Assigned(samples.kind, samples.previous);
-    Ok(
-        gives(alloc, samples, &field, way, Previous::Undefined, undefined)
-            && gives(alloc, samples, &field, way, Previous::Empty, empty)
-            && gives(alloc, samples, &field, way, kept, same)
-            && gives(alloc, samples, &field, way, samples.other, other),
-    )
+    let entries = [
+        (Previous::Undefined, undefined),
+        (Previous::Empty, empty),
+        (Previous::Assigned(samples.kind, samples.previous), same),
+        (samples.other, other),
+    ];
+    Ok(all_give(alloc, samples, &field, way, &entries))
+}
+
+/// Whether the field gives what is wanted under each of these previous values.
+fn all_give(
+    alloc: Global,
+    samples: &Samples,
+    field: &FieldInstruction,
+    way: Way,
+    entries: &[(Previous<'static>, Then)],
+) -> bool {
+    for (previous, then) in entries {
+        if !gives(alloc, samples, field, way, *previous, *then) {
+            return false;
+        }
+    }
+    true
 }
 
 /// Whether the field gives what is wanted under a previous value.
@@ -215,9 +232,16 @@ fn texts(kind: Kind, other: Kind) -> Samples {
     }
 }
 
+/// Each row that suits the kind stands.
+fn expect_all(rt: &impl Abort, alloc: Global, samples: &Samples) -> Result<(), Fail> {
+    let all_stand = all_stand(alloc, samples)?;
+    expect(rt, all_stand, "the kind", samples.kind as usize);
+    Ok(())
+}
+
 #[test]
 fn each_row_stands_at_each_kind(rt: HostRuntime) -> Result<(), Fail> {
-    for samples in [
+    for samples in &[
         unsigned(Kind::UInt32),
         unsigned(Kind::UInt64),
         signed(Kind::Int32),
@@ -227,7 +251,7 @@ fn each_row_stands_at_each_kind(rt: HostRuntime) -> Result<(), Fail> {
         texts(Kind::Unicode, Kind::Bytes),
         texts(Kind::Bytes, Kind::Ascii),
     ] {
-        assert!(rt; all_stand(rt.alloc(), &samples)?, "{:?}", samples.kind);
+        expect_all(&rt, rt.alloc(), samples)?;
     }
     Ok(())
 }

@@ -4,6 +4,8 @@ use super::super::expect;
 use super::set_of;
 use fast_template::Templates;
 use fast_value::Limits;
+use std::alloc::Global;
+use std::process::Abort;
 use std::test::Fail;
 
 /// A group in a sequence in a sequence.
@@ -58,7 +60,7 @@ fn limits(max_elements: u32, max_total: u32) -> Limits {
 /// A set, its depth, and the caps by the limits of a sequence and of a message.
 type Caps = (&'static str, u32, &'static [(u32, u32, u64)]);
 
-const ROWS: [Caps; 3] = [
+const ROWS: &[Caps] = &[
     // the cap is that of the longest template
     (FLAT, 0, &[(1000, 1000, 5)]),
     (
@@ -85,20 +87,29 @@ const ROWS: [Caps; 3] = [
     ),
 ];
 
-/// Whether the cap by these limits is this.
-fn has_cap(set: &Templates, max_elements: u32, max_total: u32, cap: u64) -> bool {
-    set.message_cap(limits(max_elements, max_total)) == cap
+/// Whether the caps by these limits are these.
+fn has_caps(set: &Templates, caps: &[(u32, u32, u64)]) -> bool {
+    for (max_elements, max_total, cap) in caps {
+        if set.message_cap(limits(*max_elements, *max_total)) != *cap {
+            return false;
+        }
+    }
+    true
+}
+
+/// The set of a text has this depth, and these caps.
+fn expect_caps(rt: &impl Abort, alloc: Global, row: &Caps) -> Result<(), Fail> {
+    let (text, depth, caps) = row;
+    let set = set_of(alloc, text)?;
+    let is_right = set.depth() == *depth && has_caps(&set, caps);
+    expect(rt, is_right, text, caps.len());
+    Ok(())
 }
 
 #[test]
 fn depths_and_caps(rt: HostRuntime) -> Result<(), Fail> {
-    for (text, depth, caps) in ROWS {
-        let set = set_of(rt.alloc(), text)?;
-        expect(&rt, set.depth() == depth, text, depth as usize);
-        for (max_elements, max_total, cap) in caps {
-            let is_right = has_cap(&set, *max_elements, *max_total, *cap);
-            expect(&rt, is_right, text, *max_elements as usize);
-        }
+    for row in ROWS {
+        expect_caps(&rt, rt.alloc(), row)?;
     }
     Ok(())
 }

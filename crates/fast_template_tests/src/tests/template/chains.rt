@@ -1,9 +1,10 @@
 //! References: circles, chains that are too long or too deep, and too many nodes.
 
-use super::{expect_fault, put};
+use super::{Due, expect_fault, joined, put};
 use fast_template::StaticCode;
 use itoa::Buffer;
 use std::alloc::{AllocError, Global};
+use std::process::Abort;
 use std::test::Fail;
 
 /// Adds a letter. Without a contract, so that a call is cheap to prove.
@@ -11,25 +12,80 @@ fn push_letter(text: &mut String, letter: char) -> Result<(), AllocError> {
     text.push(letter)
 }
 
+/// Adds what a letter of a word stands for.
+fn put_letter(text: &mut String, k: usize, letter: char) -> Result<(), AllocError> {
+    let (before, after) = match k {
+        0 => (
+            "[[template]]\nname='",
+            "'\nfields=[{kind='uInt32', name='x'}",
+        ),
+        _ => (", {kind='ref', name='", "'}"),
+    };
+    put(text, &[before])?;
+    push_letter(text, letter)?;
+    put(text, &[after])
+}
+
+/// Adds the template of a word.
+fn put_word(text: &mut String, word: &str) -> Result<(), AllocError> {
+    for (k, letter) in word.chars().enumerate() {
+        put_letter(text, k, letter)?;
+    }
+    put(text, &["]\n"])
+}
+
 /// A template for each word: its first letter is the name, the others are the names that it refers to.
 fn references(alloc: Global, words: &[&str]) -> Result<String, AllocError> {
     let mut text = String::new(alloc);
     for word in words {
-        for (k, letter) in word.chars().enumerate() {
-            let (before, after) = match k {
-                0 => (
-                    "[[template]]\nname='",
-                    "'\nfields=[{kind='uInt32', name='x'}",
-                ),
-                _ => (", {kind='ref', name='", "'}"),
-            };
-            put(&mut text, before, "", "")?;
-            push_letter(&mut text, letter)?;
-            put(&mut text, after, "", "")?;
-        }
-        put(&mut text, "]\n", "", "")?;
+        put_word(&mut text, word)?;
     }
     Ok(text)
+}
+
+/// Adds a reference to the template of a letter and a number, within these brackets.
+fn put_reference(
+    text: &mut String,
+    letter: &str,
+    number: &str,
+    (open, close): (&str, &str),
+) -> Result<(), AllocError> {
+    let piece = "{kind='ref', name='";
+    put(text, &[open, piece, letter, number, "'}", close, ", "])
+}
+
+/// Adds so many references.
+fn put_references(
+    text: &mut String,
+    letter: &str,
+    number: u32,
+    times: u32,
+    brackets: (&str, &str),
+) -> Result<(), AllocError> {
+    let mut buffer = Buffer::new();
+    let number = buffer.format(number);
+    for _ in 0..times {
+        put_reference(text, letter, number, brackets)?;
+    }
+    Ok(())
+}
+
+/// Adds the template of a letter and a number.
+fn put_link(
+    text: &mut String,
+    letter: &str,
+    number: u32,
+    times: u32,
+    brackets: (&str, &str),
+) -> Result<(), AllocError> {
+    let mut buffer = Buffer::new();
+    let name = buffer.format(number);
+    put(text, &["[[template]]\nname='", letter, name, "'\nfields=["])?;
+    match number.checked_sub(1) {
+        Some(before) => put_references(text, letter, before, times, brackets)?,
+        None => put(text, &[brackets.0, "{kind='uInt32', name='x'}", brackets.1])?,
+    }
+    put(text, &["]\n"])
 }
 
 /// Templates of one letter and a number, of which the first has a field and each other refers so many times to the
@@ -39,23 +95,11 @@ fn chain(
     letter: &str,
     count: u32,
     times: u32,
-    (open, close): (&str, &str),
+    brackets: (&str, &str),
 ) -> Result<String, AllocError> {
     let mut text = String::new(alloc);
-    let mut number = Buffer::new();
-    for k in 0..count {
-        put(&mut text, "[[template]]\nname='", letter, number.format(k))?;
-        put(&mut text, "'\nfields=[", "", "")?;
-        if k == 0 {
-            put(&mut text, open, "{kind='uInt32', name='x'}", close)?;
-        } else {
-            for _ in 0..times {
-                put(&mut text, open, "{kind='ref', name='", letter)?;
-                put(&mut text, number.format(k - 1), "'}", close)?;
-                put(&mut text, ", ", "", "")?;
-            }
-        }
-        put(&mut text, "]\n", "", "")?;
+    for number in 0..count {
+        put_link(&mut text, letter, number, times, brackets)?;
     }
     Ok(text)
 }
@@ -67,7 +111,7 @@ const GROUPS: (&str, &str) = ("{kind='group', name='g', fields=[", "]}");
 const SEQUENCES: (&str, &str) = ("{kind='sequence', name='s', fields=[", "]}");
 
 /// Words, and the first template of a circle.
-const CYCLES: [(&[&str], Option<u32>); 9] = [
+const CYCLES: &[(&[&str], Option<u32>)] = &[
     (&["AA"], Some(0)),
     (&["A", "BA", "CBC"], Some(2)),
     (&["AB", "BA"], Some(0)),
@@ -79,74 +123,168 @@ const CYCLES: [(&[&str], Option<u32>); 9] = [
     (&["ABBC", "BC", "C"], None),
 ];
 
-#[test]
-fn cycles_of_references(rt: HostRuntime) -> Result<(), Fail> {
-    for (words, template) in CYCLES {
-        let text = references(rt.alloc(), words)?;
-        let want = match template {
-            Some(_) => Some((StaticCode::C3, template)),
-            None => None,
-        };
-        expect_fault(&rt, rt.alloc(), text.as_str(), want, text.as_str());
-    }
-    for (open, close) in [GROUPS, SEQUENCES] {
-        let (before, field) = ("[[template]]\nname='A'\nfields=[", "{kind='ref', name='A'}");
-        let mut text = String::new(rt.alloc());
-        put(&mut text, before, open, open)?;
-        put(&mut text, field, close, close)?;
-        put(&mut text, "]", "", "")?;
-        let want = Some((StaticCode::C3, Some(0)));
-        expect_fault(&rt, rt.alloc(), text.as_str(), want, text.as_str());
-    }
+/// The templates of these words refer to one another in a circle, or in none.
+fn expect_cycle(
+    rt: &impl Abort,
+    alloc: Global,
+    words: &[&str],
+    template: Option<u32>,
+) -> Result<(), Fail> {
+    let text = references(alloc, words)?;
+    let want = match template {
+        Some(_) => Some((StaticCode::C3, template)),
+        None => None,
+    };
+    expect_fault(rt, alloc, text.as_str(), want, text.as_str());
+    Ok(())
+}
+
+/// A reference to itself, within two of these brackets.
+const BEFORE: &str = "[[template]]\nname='A'\nfields=[";
+
+const ITSELF: &str = "{kind='ref', name='A'}";
+
+/// A template that refers to itself within these brackets twice is a circle.
+fn expect_cycle_within(
+    rt: &impl Abort,
+    alloc: Global,
+    (open, close): (&str, &str),
+) -> Result<(), Fail> {
+    let text = joined(alloc, &[BEFORE, open, open, ITSELF, close, close, "]"])?;
+    let want = Some((StaticCode::C3, Some(0)));
+    expect_fault(rt, alloc, text.as_str(), want, open);
     Ok(())
 }
 
 #[test]
+fn cycles_of_references(rt: HostRuntime) -> Result<(), Fail> {
+    for (words, template) in CYCLES {
+        expect_cycle(&rt, rt.alloc(), words, *template)?;
+    }
+    expect_cycle_within(&rt, rt.alloc(), GROUPS)?;
+    expect_cycle_within(&rt, rt.alloc(), SEQUENCES)
+}
+
+/// A chain of so many templates, behind a template in front, has this.
+fn expect_chain(
+    rt: &impl Abort,
+    alloc: Global,
+    (before, letter): (&[&str], &str),
+    brackets: (&str, &str),
+    (count, want): (u32, Due),
+) -> Result<(), Fail> {
+    let front = references(alloc, before)?;
+    let links = chain(alloc, letter, count, 1, brackets)?;
+    let text = joined(alloc, &[front.as_str(), links.as_str()])?;
+    expect_fault(rt, alloc, text.as_str(), want, brackets.0);
+    Ok(())
+}
+
+const LONGEST: (u32, Due) = (65, None);
+
+const TOO_LONG: (u32, Due) = (66, Some((StaticCode::C4, Some(65))));
+
+const DEEPEST: (u32, Due) = (64, None);
+
+const TOO_DEEP: (u32, Due) = (65, Some((StaticCode::C4, Some(65))));
+
+/// What stands in front, the letter, the brackets, the count, and what is due.
+type Chain = (
+    (&'static [&'static str], &'static str),
+    (&'static str, &'static str),
+    (u32, Due),
+);
+
+const CHAINS: &[Chain] = &[
+    ((&[], "B"), PLAIN, LONGEST),
+    ((&[], "B"), PLAIN, TOO_LONG),
+    ((&["A"], "G"), GROUPS, DEEPEST),
+    ((&["A"], "G"), GROUPS, TOO_DEEP),
+    ((&["A"], "G"), SEQUENCES, DEEPEST),
+    ((&["A"], "G"), SEQUENCES, TOO_DEEP),
+];
+
+#[test]
 fn the_longest_and_the_deepest_chain(rt: HostRuntime) -> Result<(), Fail> {
-    for (count, want) in [(65, None), (66, Some((StaticCode::C4, Some(65))))] {
-        let text = chain(rt.alloc(), "B", count, 1, PLAIN)?;
-        expect_fault(&rt, rt.alloc(), text.as_str(), want, "plain references");
+    for (names, brackets, due) in CHAINS {
+        expect_chain(&rt, rt.alloc(), *names, *brackets, *due)?;
     }
-    for brackets in [GROUPS, SEQUENCES] {
-        for (count, want) in [(64, None), (65, Some((StaticCode::C4, Some(65))))] {
-            let mut text = references(rt.alloc(), &["A"])?;
-            let nested = chain(rt.alloc(), "G", count, 1, brackets)?;
-            put(&mut text, nested.as_str(), "", "")?;
-            expect_fault(&rt, rt.alloc(), text.as_str(), want, brackets.0);
-        }
-    }
+    Ok(())
+}
+
+/// The letter of a chain of templates that refer twice to the one before, how many there are, words behind it, and what they have.
+type Doubled = (u32, &'static [&'static str], Due);
+
+/// The third is of 65,535 nodes and two more, and the fourth of two more than that.
+const DOUBLED: &[Doubled] = &[
+    (41, &[], Some((StaticCode::C6, Some(16)))),
+    (16, &["Y"], None),
+    (16, &["Y", "Z"], Some((StaticCode::C6, Some(17)))),
+];
+
+/// A chain of templates that refer twice to the one before, with words behind it, has this.
+fn expect_doubled(rt: &impl Abort, alloc: Global, row: &Doubled) -> Result<(), Fail> {
+    let (count, words, want) = row;
+    let many = chain(alloc, "A", *count, 2, PLAIN)?;
+    let behind = references(alloc, words)?;
+    let text = joined(alloc, &[many.as_str(), behind.as_str()])?;
+    expect_fault(rt, alloc, text.as_str(), *want, "doubled");
     Ok(())
 }
 
 #[test]
 fn the_most_nodes(rt: HostRuntime) -> Result<(), Fail> {
-    let doubled = chain(rt.alloc(), "A", 41, 2, PLAIN)?;
-    let want = Some((StaticCode::C6, Some(16)));
-    expect_fault(&rt, rt.alloc(), doubled.as_str(), want, "doubled 40 times");
-    // 65,535 nodes, and two more.
-    let mut text = chain(rt.alloc(), "A", 16, 2, PLAIN)?;
-    for (name, want) in [("Y", None), ("Z", Some((StaticCode::C6, Some(17))))] {
-        let one = references(rt.alloc(), &[name])?;
-        put(&mut text, one.as_str(), "", "")?;
-        expect_fault(&rt, rt.alloc(), text.as_str(), want, name);
+    for row in DOUBLED {
+        expect_doubled(&rt, rt.alloc(), row)?;
     }
+    Ok(())
+}
+
+/// A text with one of the three faults.
+#[derive(Clone, Copy)]
+enum Part {
+    /// A circle.
+    Cycle,
+    /// A chain that is too long.
+    Long,
+    /// Too many nodes.
+    Many,
+}
+
+/// The text of a part.
+fn text_of(alloc: Global, part: Part) -> Result<String, AllocError> {
+    match part {
+        Part::Cycle => references(alloc, &["CC"]),
+        Part::Long => chain(alloc, "B", 66, 1, PLAIN),
+        Part::Many => chain(alloc, "A", 17, 2, PLAIN),
+    }
+}
+
+/// A part, another behind it, and what both together have.
+type Both = (Part, Part, StaticCode, u32);
+
+const BOTH: &[Both] = &[
+    (Part::Long, Part::Cycle, StaticCode::C3, 66),
+    (Part::Many, Part::Cycle, StaticCode::C3, 17),
+    (Part::Many, Part::Long, StaticCode::C4, 82),
+    (Part::Long, Part::Many, StaticCode::C4, 65),
+];
+
+/// The first part with the second behind it has this.
+fn expect_both(rt: &impl Abort, alloc: Global, row: &Both) -> Result<(), Fail> {
+    let (first, second, code, template) = row;
+    let first = text_of(alloc, *first)?;
+    let second = text_of(alloc, *second)?;
+    let text = joined(alloc, &[first.as_str(), second.as_str()])?;
+    let want = Some((*code, Some(*template)));
+    expect_fault(rt, alloc, text.as_str(), want, "both");
     Ok(())
 }
 
 #[test]
 fn cycles_before_chains_before_nodes(rt: HostRuntime) -> Result<(), Fail> {
-    let cycle = references(rt.alloc(), &["CC"])?;
-    let long = chain(rt.alloc(), "B", 66, 1, PLAIN)?;
-    let many = chain(rt.alloc(), "A", 17, 2, PLAIN)?;
-    for (what, first, second, want) in [
-        ("long, cycle", &long, &cycle, (StaticCode::C3, Some(66))),
-        ("many, cycle", &many, &cycle, (StaticCode::C3, Some(17))),
-        ("many, long", &many, &long, (StaticCode::C4, Some(82))),
-        ("long, many", &long, &many, (StaticCode::C4, Some(65))),
-    ] {
-        let mut text = String::new(rt.alloc());
-        put(&mut text, first.as_str(), second.as_str(), "")?;
-        expect_fault(&rt, rt.alloc(), text.as_str(), Some(want), what);
+    for row in BOTH {
+        expect_both(&rt, rt.alloc(), row)?;
     }
     Ok(())
 }

@@ -2,7 +2,8 @@
 
 use super::super::expect;
 use super::set_of;
-use fast_template::{Opcode, Sending};
+use fast_template::{Opcode, Sending, Templates};
+use std::alloc::{AllocError, Global};
 use std::test::Fail;
 
 /// A field of each operator, mandatory and optional, and then what has no opcode of its own.
@@ -30,7 +31,7 @@ const ALL: &str = r#"
         ]
     "#;
 
-const OPCODES: [Opcode; 16] = [
+const OPCODES: &[Opcode] = &[
     Opcode::UInt32(Sending::Plain),
     Opcode::Int32(Sending::NullablePlain),
     Opcode::UInt64(Sending::Default),
@@ -49,14 +50,19 @@ const OPCODES: [Opcode; 16] = [
     Opcode::Other,
 ];
 
-#[test]
-fn fields_of_integers_have_opcodes(rt: HostRuntime) -> Result<(), Fail> {
-    let set = set_of(rt.alloc(), ALL)?;
-    let mut found = Vec::new(rt.alloc());
+/// The opcode of each node.
+fn opcodes_of(alloc: Global, set: &Templates) -> Result<Vec<Opcode>, AllocError> {
+    let mut found = Vec::new(alloc);
     for n in 0..set.nodes() {
         found.push(set.opcode(n))?;
     }
-    let is_right = found.as_slice() == OPCODES.as_slice();
-    expect(&rt, is_right, "opcodes", found.len());
+    Ok(found)
+}
+
+#[test]
+fn fields_of_integers_have_opcodes(rt: HostRuntime) -> Result<(), Fail> {
+    let set = set_of(rt.alloc(), ALL)?;
+    let found = opcodes_of(rt.alloc(), &set)?;
+    expect(&rt, found.as_slice() == OPCODES, "opcodes", found.len());
     Ok(())
 }

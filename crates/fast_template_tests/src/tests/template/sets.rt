@@ -1,36 +1,46 @@
 //! Sets that are read: their numbers, entries and limits.
 
 use super::super::expect;
-use super::{Faults, expect_faults, finds, put, set_of};
-use fast_template::{FieldInstruction, Operator, Shape, StaticCode, Templates, VECTORS};
+use super::{Faults, expect_faults, finds, joined, put, set_of};
+use fast_template::{FieldInstruction, Node, Operator, Shape, StaticCode, Templates, VECTORS};
 use fast_value::Value;
 use itoa::Buffer;
 use std::alloc::{AllocError, Global};
+use std::process::Abort;
 use std::test::Fail;
 
-/// The set of a text, node by node: the name, and then what each value has: `?` if it may be absent, and its entry.
+/// Adds what each value of a node has: `?` if it may be absent, and its entry.
+fn spell_shape(text: &mut String, shape: &Shape) -> Result<(), AllocError> {
+    match shape {
+        Shape::Field(field) => spell(text, field),
+        Shape::Decimal { exponent, mantissa } => {
+            spell(text, exponent)?;
+            spell(text, mantissa)
+        }
+        Shape::Group { optional, body } => {
+            put(text, &[if *optional { " ?{" } else { " {" }])?;
+            spell_numbers(text, body)
+        }
+        Shape::Sequence { length, body } => {
+            spell(text, length)?;
+            put(text, &[" {"])?;
+            spell_numbers(text, body)
+        }
+    }
+}
+
+/// Adds a node: the name, and then what each value has.
+fn spell_node(text: &mut String, node: &Node) -> Result<(), AllocError> {
+    put(text, &[node.name.as_str()])?;
+    spell_shape(text, &node.shape)?;
+    put(text, &["; "])
+}
+
+/// The set of a text, node by node.
 fn spelled(alloc: Global, set: &Templates) -> Result<String, AllocError> {
     let mut text = String::new(alloc);
     for n in 0..set.nodes() {
-        let node = set.node(n);
-        put(&mut text, node.name.as_str(), "", "")?;
-        match &node.shape {
-            Shape::Field(field) => spell(&mut text, field)?,
-            Shape::Decimal { exponent, mantissa } => {
-                spell(&mut text, exponent)?;
-                spell(&mut text, mantissa)?;
-            }
-            Shape::Group { optional, body } => {
-                put(&mut text, if *optional { " ?{" } else { " {" }, "", "")?;
-                spell_numbers(&mut text, body)?;
-            }
-            Shape::Sequence { length, body } => {
-                spell(&mut text, length)?;
-                put(&mut text, " {", "", "")?;
-                spell_numbers(&mut text, body)?;
-            }
-        }
-        put(&mut text, "; ", "", "")?;
+        spell_node(&mut text, set.node(n))?;
     }
     Ok(text)
 }
@@ -42,14 +52,15 @@ fn spell(text: &mut String, field: &FieldInstruction) -> Result<(), AllocError> 
         Some(entry) => number.format(entry),
         None => "-",
     };
-    put(text, before, entry, "")
+    put(text, &[before])?;
+    put(text, &[entry])
 }
 
 fn spell_numbers(text: &mut String, body: &[u32]) -> Result<(), AllocError> {
     for n in body {
-        put(text, " ", Buffer::new().format(*n), "")?;
+        put(text, &[" ", Buffer::new().format(*n)])?;
     }
-    put(text, " }", "", "")
+    put(text, &[" }"])
 }
 
 /// Whether the template has these nodes, and resets or not.
@@ -78,24 +89,36 @@ fn is_seven(set: &Templates, n: u32) -> bool {
 const VECTORS_SPELLED: &str =
     "x -; s - { 2 }; c -; t 1; d 2; n 3; x ?4; p ?5 6; y 7; u -; z 8; w 4; i -; o ?-; q ?-; x -; g ?{ 17 }; b -; legs ?- { 19 20 }; sym 9; px 10; v ?11; e 12; a -; b ?-; r ?-; ";
 
-#[test]
-fn the_worked_set_has_its_numbers(rt: HostRuntime) -> Result<(), Fail> {
-    let set = set_of(rt.alloc(), VECTORS)?;
+/// Whether the worked set finds its templates, and has so many templates, nodes and entries.
+fn has_numbers(set: &Templates) -> bool {
     let ids = [(15, Some(14)), (0, None)];
     let names = [("T19", Some(18)), ("T", None)];
-    let has_numbers = finds(&set, 19, &ids, &names) && set.nodes() == 26 && set.entries() == 13;
-    expect(&rt, has_numbers, "numbers", 19);
-    let text = spelled(rt.alloc(), &set)?;
-    expect(&rt, text.as_str() == VECTORS_SPELLED, text.as_str(), 19);
-    let has_parts = is_template(&set, 14, &[15, 16, 18], false)
-        && is_template(&set, 8, &[], true)
-        && is_seven(&set, 2);
-    expect(&rt, has_parts, "parts", 19);
+    finds(set, 19, &ids, &names) && set.nodes() == 26 && set.entries() == 13
+}
+
+/// Whether the worked set has some of its parts.
+fn has_parts(set: &Templates) -> bool {
+    is_template(set, 14, &[15, 16, 18], false) && is_template(set, 8, &[], true) && is_seven(set, 2)
+}
+
+/// The set of a text is spelled so.
+fn expect_spelled(rt: &impl Abort, alloc: Global, text: &str, want: &str) -> Result<(), Fail> {
+    let set = set_of(alloc, text)?;
+    let spelled = spelled(alloc, &set)?;
+    expect(rt, spelled.as_str() == want, spelled.as_str(), text.len());
     Ok(())
 }
 
+#[test]
+fn the_worked_set_has_its_numbers(rt: HostRuntime) -> Result<(), Fail> {
+    let set = set_of(rt.alloc(), VECTORS)?;
+    expect(&rt, has_numbers(&set), "numbers", 19);
+    expect(&rt, has_parts(&set), "parts", 19);
+    expect_spelled(&rt, rt.alloc(), VECTORS, VECTORS_SPELLED)
+}
+
 /// The rest of a template, and what it is, spelled.
-const ENTRIES: [(&str, &str); 5] = [
+const ENTRIES: &[(&str, &str)] = &[
     // an exponent before a mantissa, a length before its element, and none for a constant or a default
     (
         "fields = [{kind='sequence', name='s', length={op='delta'}, fields=[{kind='decimal', name='p', mantissa={op='delta'}, exponent={op='copy'}}]}, {kind='uInt32', name='c', op='default', value='1'}]",
@@ -123,32 +146,35 @@ const ENTRIES: [(&str, &str); 5] = [
     ),
 ];
 
+/// A template with this rest is spelled so.
+fn expect_rest(rt: &impl Abort, alloc: Global, rest: &str, want: &str) -> Result<(), Fail> {
+    let text = joined(alloc, &["[[template]]\nname = 'A'\n", rest])?;
+    expect_spelled(rt, alloc, text.as_str(), want)
+}
+
 #[test]
 fn entries_are_those_of_the_text(rt: HostRuntime) -> Result<(), Fail> {
     for (rest, want) in ENTRIES {
-        let mut text = String::new(rt.alloc());
-        put(&mut text, "[[template]]\nname = 'A'\n", rest, "")?;
-        let set = set_of(rt.alloc(), text.as_str())?;
-        let spelled = spelled(rt.alloc(), &set)?;
-        expect(&rt, spelled.as_str() == want, spelled.as_str(), rest.len());
+        expect_rest(&rt, rt.alloc(), rest, want)?;
     }
     Ok(())
 }
 
 /// A template with so many mandatory fields that copy.
 fn copying(alloc: Global, count: usize) -> Result<String, AllocError> {
-    let mut text = String::new(alloc);
-    put(&mut text, "[[template]]\nname = 'A'\nfields = [", "", "")?;
+    let mut text = joined(alloc, &["[[template]]\nname = 'A'\nfields = ["])?;
     let mut number = Buffer::new();
     for n in 0..count {
         put(
             &mut text,
-            "{kind='uInt32', name='f",
-            number.format(n),
-            "', op='copy'},",
+            &[
+                "{kind='uInt32', name='f",
+                number.format(n),
+                "', op='copy'},",
+            ],
         )?;
     }
-    put(&mut text, "]\n", "", "")?;
+    put(&mut text, &["]\n"])?;
     Ok(text)
 }
 
@@ -179,26 +205,31 @@ const TOO_MANY_BITS: Faults = &[
     ),
 ];
 
-#[test]
-fn a_message_has_1022_bits(rt: HostRuntime) -> Result<(), Fail> {
-    for (count, faults) in [(1021, ENOUGH_BITS), (1022, TOO_MANY_BITS)] {
-        let text = copying(rt.alloc(), count)?;
-        expect_faults(&rt, rt.alloc(), (text.as_str(), ""), faults)?;
-    }
-    Ok(())
+/// Texts behind a template with so many fields have what is due.
+fn expect_behind(rt: &impl Abort, alloc: Global, count: usize, faults: Faults) -> Result<(), Fail> {
+    let text = copying(alloc, count)?;
+    expect_faults(rt, alloc, (text.as_str(), ""), faults)
 }
 
 #[test]
-fn entries_of_texts_hold_texts(rt: HostRuntime) -> Result<(), Fail> {
-    let text = r#"
+fn a_message_has_1022_bits(rt: HostRuntime) -> Result<(), Fail> {
+    expect_behind(&rt, rt.alloc(), 1021, ENOUGH_BITS)?;
+    expect_behind(&rt, rt.alloc(), 1022, TOO_MANY_BITS)
+}
+
+/// A number and a text, each with an entry.
+const NUMBER_AND_TEXT: &str = r#"
 [[template]]
 name = "A"
 fields = [{kind="uInt32", name="x", op="copy"}, {kind="ascii", name="y", op="copy"}]
 "#;
-    let set = set_of(rt.alloc(), text)?;
-    for (entry, is_text) in [(0, false), (1, false), (2, true), (3, false)] {
-        let is_right = set.holds_text(entry) == is_text;
-        expect(&rt, is_right, "entry", entry as usize);
+
+#[test]
+fn entries_of_texts_hold_texts(rt: HostRuntime) -> Result<(), Fail> {
+    let set = set_of(rt.alloc(), NUMBER_AND_TEXT)?;
+    for (entry, is_text) in &[(0, false), (1, false), (2, true), (3, false)] {
+        let is_right = set.holds_text(*entry) == *is_text;
+        expect(&rt, is_right, "entry", *entry as usize);
     }
     Ok(())
 }

@@ -177,29 +177,32 @@ const REST: Faults = &[
     (Some((S1, Some(1))), &["[[template]]\nname='B'\nid='1'", "[[template]]\nname='B'\nfields=1\n[[template]]\nname='A'"]),
 ];
 
+/// What stands around texts, and what they have.
+const PASSES: &[((&str, &str), Faults)] = &[
+    (("", ""), WHOLE),
+    (
+        (
+            "[[template]]\nname='A'\n[[template]]\nname='B'\nfields=[",
+            "]",
+        ),
+        SECOND_FIELDS,
+    ),
+    (("[[template]]\nname='A'\n", ""), KEYS),
+    (("[[template]]\nname='A'\nfields=[", "]"), FIELDS),
+    (("[[template]]\nname='A'\nfields=[", "]"), TWO_CODES),
+    (
+        (
+            "[[template]]\nname='A'\nid=1\nfields=[{kind='ref', name='X'}, {kind='uInt32', name='x', op='constant'}]\n",
+            "",
+        ),
+        REST,
+    ),
+];
+
 #[test]
 fn texts_have_the_faults_of_the_passes(rt: HostRuntime) -> Result<(), Fail> {
-    for (around, faults) in [
-        (("", ""), WHOLE),
-        (
-            (
-                "[[template]]\nname='A'\n[[template]]\nname='B'\nfields=[",
-                "]",
-            ),
-            SECOND_FIELDS,
-        ),
-        (("[[template]]\nname='A'\n", ""), KEYS),
-        (("[[template]]\nname='A'\nfields=[", "]"), FIELDS),
-        (("[[template]]\nname='A'\nfields=[", "]"), TWO_CODES),
-        (
-            (
-                "[[template]]\nname='A'\nid=1\nfields=[{kind='ref', name='X'}, {kind='uInt32', name='x', op='constant'}]\n",
-                "",
-            ),
-            REST,
-        ),
-    ] {
-        expect_faults(&rt, rt.alloc(), around, faults)?;
+    for (around, faults) in PASSES {
+        expect_faults(&rt, rt.alloc(), *around, faults)?;
     }
     Ok(())
 }
