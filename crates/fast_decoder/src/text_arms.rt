@@ -17,13 +17,13 @@ ghost use Rattle.fast_decoder.specs.device.Positions.{set_of};
 
 use crate::machine::Machine;
 use crate::spot::{Spot, Standing, Went, hand_taken, hand_unsent, stands};
-use fast_dict::Slots;
 use fast_dict::operators::initial_value;
+use fast_dict::{Slots, Store};
 use fast_program::Op;
 use fast_stream::Sink;
 use fast_template::{FieldInstruction, Operator, Shape, Templates};
-use fast_units::ascii_items::{ascii_at, sent_ascii, unsent_ascii};
-use fast_units::long_ascii::sent_first_tail;
+use fast_units::ascii_items::{ascii_at, sent_ascii, sent_at_once, unsent_ascii};
+use fast_units::long_ascii::{sent_first_tail, sent_long};
 use fast_units::scratch::Scratch;
 use fast_units::source::ValueSource;
 use fast_units::taken::TakenText;
@@ -74,6 +74,44 @@ fn first_tail(
     }
 }
 
+/// The bytes of a tail of the op's field that is not taken at once: no short one, or the first one at its entry. It stands at the entry
+/// then.
+#[inline(never)]
+fn other_tail(
+    templates: &Templates,
+    slots: &mut Slots,
+    scratch: &mut Scratch,
+    op: &Op,
+    optional: bool,
+    rest: &[u8],
+) -> Option<usize>
+    requires node { op.now.node < length templates.now.nodes.items }
+    requires within { op.now.entry < length (slots_dictionary slots.old) }
+    requires room { HasRoomFor slots.old scratch.old }
+    ensures unit { IfSome result (λ n. IsOpText (set_of templates.now) op.now Operator.Tail optional
+        (slots_terms slots.old).max_text rest.now slots.old slots.new scratch.new.text
+        (text_taken Operator.Tail n)) }
+    ensures held { IfSome result (λ _. HoldsAscii slots.new op.now.entry) }
+    ensures none { IfNone result ((slots.new ≡ slots.old) × (scratch.new ≡ scratch.old)) }
+    ensures terms { slots_terms slots.new ≡ slots_terms slots.old }
+    ensures capacity { scratch.new.capacity ≡ scratch.old.capacity }
+{
+    let max_text = slots.max_text();
+    if let Some(bytes) = sent_long(
+        slots,
+        scratch,
+        op.entry,
+        optional,
+        Operator::Tail,
+        rest,
+        max_text,
+    ) {
+        return Some(bytes);
+    }
+    let bytes = first_tail(templates, slots, scratch, op, rest)?;
+    Some(bytes)
+}
+
 /// An ASCII text of the op's field that was sent, if it stands whole in the piece. It stands in the scratch, or at the entry that keeps
 /// it.
 #[inline(always)]
@@ -100,19 +138,22 @@ fn ascii_taken(
     ensures terms { slots_terms slots.new ≡ slots_terms slots.old }
     ensures capacity { scratch.new.capacity ≡ scratch.old.capacity }
 {
-    if let Some(taken) = sent_ascii(slots, scratch, op.entry, optional, operator, rest, max_text) {
-        return Some(taken);
-    }
     match operator {
         Operator::Tail => {
-            let bytes = first_tail(templates, slots, scratch, op, rest)?;
+            if let Some(taken) = sent_at_once(slots, scratch, op.entry, optional, operator, rest) {
+                return Some(taken);
+            }
+            let bytes = other_tail(templates, slots, scratch, op, optional, rest)?;
             Some(TakenText {
                 source: ValueSource::Entry,
                 from: 0,
                 bytes,
             })
         }
-        _ => None,
+        _ => {
+            let taken = sent_ascii(slots, scratch, op.entry, optional, operator, rest, max_text)?;
+            Some(taken)
+        }
     }
 }
 

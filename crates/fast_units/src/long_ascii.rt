@@ -174,7 +174,7 @@ fn sent_characters(
 
 /// The bytes of a text that stands whole in the piece. NULL is none, and so is what begins with zero.
 #[inline(never)]
-pub(crate) fn sent_long(
+pub fn sent_long(
     slots: &mut Slots,
     scratch: &mut Scratch,
     entry: u32,
