@@ -1,28 +1,30 @@
 -- Fields of texts of a kind, an operator and an entry that are known.
 use Rattle.std.proofs.Common.{refl, sym, ap, ◌∙◌, subst, inl, inr, arith, length-append}
-use Rattle.std.specs.Prelude.{◌≡◌, ◌≢◌, ◌⊎◌, ℕ, ◌+◌, ◌<◌, ◌≤◌, Bool, true, false, List, [], ◌++◌, length, take, Some, None, is_some, Ok}
+use Rattle.std.specs.Prelude.{◌≡◌, ◌≢◌, ◌⊎◌, ℕ, ◌+◌, ◌<◌, ◌≤◌, Bool, true, false, nat_le, List, [], ◌∷◌, ◌++◌, length, take, Some, None, is_some, unwrap_or, Ok}
+use Rattle.std.proofs.lemmas.Bool.Decides.{leb_tells}
 use Rattle.fast_value.specs.declared.kinds.Kind.{Kind}
 use Rattle.fast_value.specs.declared.kinds.Kind.TheVariants.{Ascii}
 use Rattle.fast_value.specs.declared.codes.Code.TheVariants.{D6}
-use Rattle.fast_value.specs.meaning.Kinds.{ScalarData, AsciiText, value_of_text}
+use Rattle.fast_value.specs.meaning.Limits.{Bounds}
+use Rattle.fast_value.specs.meaning.Kinds.{ScalarData, AsciiText, family, value_of_text}
 use Rattle.fast_tree.specs.declared.operators.Operator.{Operator}
 use Rattle.fast_tree.specs.declared.operators.Operator.TheVariants as Op
 use Rattle.fast_tree.specs.meaning.Tree.{FieldData}
 use Rattle.fast_tree.specs.meaning.Entries.{keeps_value}
 use Rattle.fast_dict.specs.declared.slots.Slots.{Slots}
 use Rattle.fast_dict.specs.meaning.Answers.{kept_text}
-use Rattle.fast_dict.specs.meaning.Dictionary.{Dictionary, PreviousData, empty, assigned, previous_at, write_at}
-use Rattle.fast_dict.specs.meaning.Operators.{decide, decide_by, nothing, unsent, tail_base, of_kind, with_tail}
+use Rattle.fast_dict.specs.meaning.Dictionary.{Dictionary, PreviousData, undefined, empty, assigned, previous_at, write_at}
+use Rattle.fast_dict.specs.meaning.Operators.{decide, decide_by, nothing, unsent, start_value, zero_in, tail_base, of_kind, with_tail}
 use Rattle.fast_dict.specs.device.Held.{text_size}
 use Rattle.fast_dict.specs.meaning.Slots.{slots_dictionary, slots_texts_fit, HoldsAscii}
 use Rattle.fast_stream.specs.meaning.Fields.{sent_text}
 use Rattle.fast_stream.specs.meaning.Grammar.{give, ascii_text}
 use Rattle.fast_stream.specs.device.GrammarReaders.{reader_of}
 use Rattle.fast_units.specs.device.Deciding.{IsDecided}
-use Rattle.fast_units.specs.device.FieldsAs.{IsFieldAs, reader_in}
+use Rattle.fast_units.specs.device.FieldsAs.{IsFieldAs, GivesWhole, reader_in}
 use Rattle.fast_units.specs.device.NextUnits.{IsNextText, text_or_null}
 use Rattle.fast_units.specs.device.TextDecisions.{is_emptied, IsTextDecided}
-use Rattle.fast_units.specs.device.TextItems.{SendsText, text_source, IsPutText, IsSentText}
+use Rattle.fast_units.specs.device.TextItems.{SendsText, text_source, text_taken, HoldsNothing, IsPutText, IsSentText, IsFirstTail}
 use Rattle.fast_units.specs.declared.progress.Progress.TheVariants.{Whole}
 use Rattle.fast_units.specs.declared.source.ValueSource.{ValueSource}
 use Rattle.fast_units.specs.declared.source.ValueSource.TheVariants as From
@@ -68,22 +70,46 @@ sends_other Op.Increment h = absurd h
 sends_other Op.Delta h = absurd h
 sends_other Op.Tail h = (λ e. absurd (cc e), λ e. absurd (cc e))
 
--- A text, or NULL, stands whole in the bytes, and is put where it stays.
-pub sent_whole : (optional : Bool) (operator : Operator) (entry room : ℕ) (rest : List ℕ) (old new : Slots) (scratch : List ℕ) (source : ValueSource) (text : List ℕ) (is_text : Bool) (n : ℕ)
-    → IsNextText optional room [] rest text (Whole is_text n) → IsPutText operator entry (text_or_null text is_text) old new scratch source
-    → IsSentText Ascii optional operator entry room rest old new scratch (record { source = source; from = 0; bytes = n })
-sent_whole optional operator entry room rest old new scratch source text is_text n next (sends, stands, held, put) f strict l e said serves =
+-- A text, or NULL, of a field stands whole in the bytes, and is decided so.
+given_whole : (f : FieldData) (strict : Bool) (l : Bounds) (optional : Bool) (operator : Operator) (entry : ℕ) (rest : List ℕ) (old new : Slots) (scratch : List ℕ) (source : ValueSource) (text : List ℕ) (is_text : Bool) (n : ℕ)
+    → SendsText operator → IsFieldAs f Ascii optional operator entry → IsNextText optional l.max_text [] rest text (Whole is_text n)
+    → IsTextDecided (decide f (previous_at f.entry (slots_dictionary old)) true (sent_text f.kind (text_or_null text is_text))) f (slots_dictionary old) (slots_dictionary new) scratch (take n rest) (Ok source)
+    → GivesWhole (reader_in old strict l f) f rest (slots_dictionary old) (slots_dictionary new) scratch source 0 n
+given_whole f strict l optional operator entry rest old new scratch source text is_text n sends said next decided =
     let p = previous_at f.entry (slots_dictionary old) in
     let (no_delta, no_constant) = sends_other operator sends in
     let here : reader_in old strict l f ≡ _ = ap (reader_of strict) (text_field l f p said.kind (λ h. no_delta (sym said.operator ∙ h)) (λ h. no_constant (sym said.operator ∙ h))) in
     let g = ascii_text f.optional l.max_text give in
     let x = text_or_null text is_text in
-    let unit : IsNextText f.optional l.max_text [] rest text (Whole is_text n) =
-    subst (λ b. IsNextText b l.max_text [] rest text (Whole is_text n)) (sym said.optional) (subst (λ m. IsNextText optional m [] rest text (Whole is_text n)) (sym e) next) in
+    let unit : IsNextText f.optional l.max_text [] rest text (Whole is_text n) = subst (λ b. IsNextText b l.max_text [] rest text (Whole is_text n)) (sym said.optional) next in
     text_last strict g (behind_text l f p) (reader_in old strict l f) here f [] rest (slots_dictionary old) (slots_dictionary new) scratch n x
     (text_unit strict f.optional l.max_text [] rest text (Whole is_text n) unit)
-    (decide f p true (sent_text f.kind x)) (Ok source) _ refl refl
-    (put f optional (take n rest) said serves)
+    (decide f p true (sent_text f.kind x)) (Ok source) _ refl refl decided
+
+-- A text, or NULL, stands whole in the bytes, and is put where it stays.
+pub sent_whole : (optional : Bool) (operator : Operator) (entry room : ℕ) (rest : List ℕ) (old new : Slots) (scratch : List ℕ) (source : ValueSource) (text : List ℕ) (is_text : Bool) (n : ℕ)
+    → IsNextText optional room [] rest text (Whole is_text n) → IsPutText operator entry (text_or_null text is_text) old new scratch source
+    → IsSentText Ascii optional operator entry room rest old new scratch (record { source = source; from = 0; bytes = n })
+sent_whole optional operator entry room rest old new scratch source text is_text n next (sends, stands, held, put) f strict l e said serves =
+    given_whole f strict l optional operator entry rest old new scratch source text is_text n sends said (subst (λ m. IsNextText optional m [] rest text (Whole is_text n)) (sym e) next) (put f optional (take n rest) said serves)
+
+-- The base of a tail where nothing is held, and of one without initial value.
+base_of : (f : FieldData) (p : PreviousData) → HoldsNothing p → tail_base f p ≡ Ok (start_value f)
+base_of f undefined h = refl
+base_of f empty h = refl
+base_of f (assigned kind v) h = absurd h
+
+starts_empty : (f : FieldData) → f.initial ≡ None → f.kind ≡ Ascii → start_value f ≡ AsciiText []
+starts_empty f none kind = ap (λ i. unwrap_or i (zero_in f.kind (family f.kind))) none ∙ ap (λ k. zero_in k (family k)) kind
+
+-- A tail behind no text is all of the text.
+tail_alone : (part : List ℕ) → with_tail [] part ≡ part
+tail_alone [] = refl
+tail_alone (x ∷ part) = by (leb_tells (length (x ∷ part)) 0)
+  where
+    by : ((nat_le (length (x ∷ part)) 0 ≡ true) × (length (x ∷ part) ≤ 0)) ⊎ ((nat_le (length (x ∷ part)) 0 ≡ false) × (0 < length (x ∷ part))) → with_tail [] (x ∷ part) ≡ x ∷ part
+    by (inl t) = let h = t.1 in absurd (omega (arith, h))
+    by (inr t) = rw t.0 refl
 
 -- What is decided of a text that was sent.
 module _ (f : FieldData) (optional : Bool) (operator : Operator) (entry : ℕ) (old new : Dictionary) (scratch piece text : List ℕ) (said : IsFieldAs f Ascii optional operator entry) where
@@ -120,6 +146,25 @@ module _ (f : FieldData) (optional : Bool) (operator : Operator) (entry : ℕ) (
       text_as f old new scratch piece (Ok From.Entry)
       (decided_tail-ok f (previous_at f.entry old) part (ascii_is_text f.kind said.kind) (AsciiText base) (said.operator ∙ is) found ∙ ap (kept_text f.kind) (sym joined))
       (kept_at (ap keeps_value is) within written)
+
+  -- It is a tail behind no text, since the entry held nothing and the field has no initial value.
+  pub first_kept : operator ≡ Op.Tail → f.initial ≡ None → entry < length old → HoldsNothing (previous_at (Some entry) old) → new ≡ write_at (Some entry) (assigned Ascii (AsciiText text)) old
+      → IsTextDecided (decide f (previous_at f.entry old) true (sent_text f.kind (Some text))) f old new scratch piece (Ok From.Entry)
+  first_kept is none within nothing_held written =
+      let at : f.entry ≡ Some entry = said.entry (ap keeps_value is) in
+      let found : tail_base f (previous_at f.entry old) ≡ Ok (AsciiText []) =
+      base_of f (previous_at f.entry old) (subst (λ e. HoldsNothing (previous_at e old)) (sym at) nothing_held) ∙ ap Ok (starts_empty f none said.kind) in
+      text_as f old new scratch piece (Ok From.Entry)
+      (decided_tail-ok f (previous_at f.entry old) text (ascii_is_text f.kind said.kind) (AsciiText []) (said.operator ∙ is) found ∙ ap (kept_text f.kind) (tail_alone text))
+      (kept_at (ap keeps_value is) within written)
+
+-- A first tail of a field without initial value stands whole in the bytes, and the entry keeps it.
+pub first_whole : (optional : Bool) (entry room : ℕ) (rest : List ℕ) (old new : Slots) (scratch text : List ℕ) (n : ℕ)
+    → IsNextText optional room [] rest text (Whole true n) → entry < length (slots_dictionary old) → HoldsNothing (previous_at (Some entry) (slots_dictionary old))
+    → slots_dictionary new ≡ write_at (Some entry) (assigned Ascii (AsciiText text)) (slots_dictionary old) → IsFirstTail Ascii optional entry room rest old new scratch (text_taken Op.Tail n)
+first_whole optional entry room rest old new scratch text n next within nothing_held written f strict l none e said serves =
+    given_whole f strict l optional Op.Tail entry rest old new scratch From.Entry text true n tt said (subst (λ m. IsNextText optional m [] rest text (Whole true n)) (sym e) next)
+    (first_kept f optional Op.Tail entry (slots_dictionary old) (slots_dictionary new) scratch (take n rest) text said refl none within nothing_held written)
 
 -- The text is put where it stays.
 module _ (operator : Operator) (entry : ℕ) (old new : Slots) (scratch : List ℕ) where

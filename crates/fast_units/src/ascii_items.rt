@@ -202,6 +202,37 @@ fn sent_null(
     }
 }
 
+/// An ASCII text that was sent, if it is a short one or NULL: it then stands in the scratch, or at the entry that keeps it. Under tail
+/// the entry holds one of its own kind.
+#[inline(always)]
+pub fn sent_at_once(
+    slots: &mut Slots,
+    scratch: &mut Scratch,
+    entry: u32,
+    optional: bool,
+    operator: Operator,
+    rest: &[u8],
+) -> Option<TakenText>
+    requires within { IsEntryFor slots.old operator entry }
+    requires least { 16 ≤ (slots_terms slots.old).max_text }
+    requires room { HasRoomFor slots.old scratch.old }
+    ensures unit { IfSome result (λ r. IsSentText Kind.Ascii optional operator entry
+        (slots_terms slots.old).max_text rest.now slots.old slots.new scratch.new.text r) }
+    ensures source { IfSome result (λ r. IsTextSource operator r.source) }
+    ensures held { IfSome result (λ r. IsAsciiAt slots.new entry r.source) }
+    ensures none { IfNone result ((slots.new ≡ slots.old) × (scratch.new ≡ scratch.old)) }
+    ensures terms { slots_terms slots.new ≡ slots_terms slots.old }
+    ensures capacity { scratch.new.capacity ≡ scratch.old.capacity }
+{
+    if let Some(bytes) = sent_short(slots, scratch, entry, operator, rest) {
+        return Some(text_taken(operator, bytes));
+    }
+    if let Some(taken) = sent_null(slots, entry, optional, operator, rest) {
+        return Some(taken);
+    }
+    None
+}
+
 /// An ASCII text that was sent, if it stands whole in the piece: it then stands in the scratch, or at the entry that keeps it. Under tail
 /// the entry holds one of its own kind.
 #[inline(always)]
@@ -226,10 +257,7 @@ pub fn sent_ascii(
     ensures terms { slots_terms slots.new ≡ slots_terms slots.old }
     ensures capacity { scratch.new.capacity ≡ scratch.old.capacity }
 {
-    if let Some(bytes) = sent_short(slots, scratch, entry, operator, rest) {
-        return Some(text_taken(operator, bytes));
-    }
-    if let Some(taken) = sent_null(slots, entry, optional, operator, rest) {
+    if let Some(taken) = sent_at_once(slots, scratch, entry, optional, operator, rest) {
         return Some(taken);
     }
     let bytes = sent_long(slots, scratch, entry, optional, operator, rest, max_text)?;

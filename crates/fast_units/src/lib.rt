@@ -9,7 +9,7 @@ pub mod fields;
 pub mod integer_items;
 mod joined_parts;
 pub mod lent_texts;
-mod long_ascii;
+pub mod long_ascii;
 pub mod numbers;
 pub mod part_items;
 pub mod pending;

@@ -1,19 +1,20 @@
-//! ASCII texts of the quick loop that are no short ones: longer than a block, near the end of the piece, or empty. They are taken out
-//! of line.
+//! ASCII texts of the quick loop that are taken out of line: those that are no short ones, longer than a block, near the end of the
+//! piece, or empty; and tails whose entry holds nothing.
 
-ghost use Rattle.std.specs.Prelude.{◌≡◌, ◌+◌, ◌^◌, ◌<◌, ◌≤◌, ◌++◌, ℕ, Bool, true, false, List, length, Some, None, IfSome, IfNone};
+ghost use Rattle.std.specs.Prelude.{◌≡◌, ◌+◌, ◌^◌, ◌<◌, ◌≤◌, ◌++◌, ℕ, Bool, true, false, List, [], length, Some, None, IfSome, IfNone};
 ghost use Rattle.fast_value.specs.meaning.Kinds.{AsciiText};
 ghost use Rattle.fast_dict.specs.meaning.Dictionary.{assigned, previous_at, write_at};
 ghost use Rattle.fast_dict.specs.meaning.Operators.{with_tail};
 ghost use Rattle.fast_dict.specs.meaning.Slots.{slots_dictionary, slots_terms, HoldsAscii};
 ghost use Rattle.fast_units.specs.device.FieldsAs.{IsEntryFor};
-ghost use Rattle.fast_units.specs.device.NextUnits.{BeginsWithCharacter};
-ghost use Rattle.fast_units.specs.device.TextItems.{with_last, text_source, text_taken, IsTextSource, IsAsciiAt, IsPutText, IsSentText};
+ghost use Rattle.fast_units.specs.declared.progress.Progress.TheVariants.{Whole};
+ghost use Rattle.fast_units.specs.device.NextUnits.{BeginsWithCharacter, IsNextText};
+ghost use Rattle.fast_units.specs.device.TextItems.{with_last, text_source, text_taken, HoldsNothing, IsTextSource, IsAsciiAt, IsPutText, IsSentText, IsFirstTail};
 ghost use Rattle.fast_units.specs.device.Words.{HasRoomFor};
 
 use crate::scratch::Scratch;
 use fast_dict::operators::tail_keeps;
-use fast_dict::{Slots, Store};
+use fast_dict::{Entry, Slots, Store};
 use fast_tree::Operator;
 use fast_value::Kind;
 use fast_wire::find_stop;
@@ -129,6 +130,20 @@ fn put_text(
     }
 }
 
+/// A text that begins with a character, of any length, if it stands whole in the piece: what is in front of its last character, and
+/// that character.
+#[inline(always)]
+fn whole_characters(rest: &[u8], max_text: usize) -> Option<(&[u8], u8)>
+    requires begins { BeginsWithCharacter rest.now }
+    ensures fits { IfSome result (λ r. length (with_last r.0.now (Some r.1)) ≤ max_text) }
+    ensures next { IfSome result (λ r. (nullable : Bool) → IsNextText nullable max_text [] rest.now
+        (with_last r.0.now (Some r.1)) (Whole true (length r.0.now + 1))) }
+{
+    let here = &rest[..rest.len().min(max_text)];
+    let last = find_stop(here)?;
+    Some((&here[..last], here[last] - 0x80))
+}
+
 /// The bytes of a text that begins with a character, of any length.
 fn sent_characters(
     slots: &mut Slots,
@@ -150,18 +165,16 @@ fn sent_characters(
     ensures terms { slots_terms slots.new ≡ slots_terms slots.old }
     ensures capacity { scratch.new.capacity ≡ scratch.old.capacity }
 {
-    let here = &rest[..rest.len().min(max_text)];
-    let last = find_stop(here)?;
-    let (front, end) = (&here[..last], here[last] - 0x80);
-    if !put_text(slots, scratch, entry, operator, front, Some(end)) {
+    let (front, last) = whole_characters(rest, max_text)?;
+    if !put_text(slots, scratch, entry, operator, front, Some(last)) {
         return None;
     }
-    Some(last + 1)
+    Some(front.len() + 1)
 }
 
 /// The bytes of a text that stands whole in the piece. NULL is none, and so is what begins with zero.
 #[inline(never)]
-pub(crate) fn sent_long(
+pub fn sent_long(
     slots: &mut Slots,
     scratch: &mut Scratch,
     entry: u32,
@@ -195,4 +208,59 @@ pub(crate) fn sent_long(
             Some(bytes)
         }
     }
+}
+
+/// Whether the entry holds no value: it is undefined, or empty.
+fn holds_nothing(slots: &Slots, entry: usize) -> bool
+    requires { entry < length (slots_dictionary slots.now) }
+    ensures { result ≡ true → HoldsNothing (previous_at (Some entry) (slots_dictionary slots.now)) }
+{
+    match slots.held(entry) {
+        Entry::Undefined | Entry::Empty => true,
+        _ => false,
+    }
+}
+
+/// Whether the first byte, if there is one, is neither a zero nor a bare stop bit.
+fn begins_with_character(rest: &[u8]) -> bool
+    ensures { result ≡ true → BeginsWithCharacter rest.now }
+{
+    match rest.first() {
+        None => true,
+        Some(0x00) => false,
+        Some(0x80) => false,
+        Some(_) => true,
+    }
+}
+
+/// The bytes of a tail of characters that stands whole in the piece, of a field without initial value, at an entry that holds nothing.
+/// There is no text for the tail to be joined to: it is all of the value, which the entry then holds.
+#[cold]
+#[inline(never)]
+pub fn sent_first_tail(
+    slots: &mut Slots,
+    scratch: &mut Scratch,
+    entry: u32,
+    rest: &[u8],
+) -> Option<usize>
+    requires within { entry < length (slots_dictionary slots.old) }
+    requires room { HasRoomFor slots.old scratch.old }
+    ensures unit { IfSome result (λ n. (optional : Bool) → IsFirstTail Kind.Ascii optional entry
+        (slots_terms slots.old).max_text rest.now slots.old slots.new scratch.new.text (text_taken Operator.Tail n)) }
+    ensures held { IfSome result (λ _. HoldsAscii slots.new entry) }
+    ensures none { IfNone result ((slots.new ≡ slots.old) × (scratch.new ≡ scratch.old)) }
+    ensures terms { slots_terms slots.new ≡ slots_terms slots.old }
+    ensures capacity { scratch.new.capacity ≡ scratch.old.capacity }
+{
+    if !begins_with_character(rest) {
+        return None;
+    }
+    if !holds_nothing(slots, entry as usize) {
+        return None;
+    }
+    let (front, last) = whole_characters(rest, slots.max_text())?;
+    if !copy_long(slots, scratch, entry as usize, front, Some(last)) {
+        return None;
+    }
+    Some(front.len() + 1)
 }

@@ -1,12 +1,13 @@
 -- What an arm of the machine's loop does: the place in the innermost segment, and the rest of the piece, stand apart from the machine.
 use Rattle.std.specs.Prelude.{◌≡◌, ℕ, ◌<◌, ◌≤◌, Bool, true, false, List, length, take, drop, slice_get, Option, Some, Result, Ok, Err}
 use Rattle.fast_value.specs.declared.settings.Limits.{Limits}
-use Rattle.fast_value.specs.meaning.Limits.{bounds}
+use Rattle.fast_value.specs.meaning.Limits.{Bounds, bounds}
 use Rattle.fast_value.specs.meaning.Kinds.{ScalarData}
 use Rattle.fast_tree.specs.meaning.Tree.{FieldData, uses_bit}
 use Rattle.fast_dict.specs.meaning.Dictionary.{previous_at, write_at}
 use Rattle.fast_dict.specs.meaning.Operators.{Outcome, decide, nothing}
 use Rattle.fast_dict.specs.meaning.Slots.{slots_dictionary, slots_terms}
+use Rattle.fast_dict.specs.declared.slots.Slots.{Slots}
 use Rattle.fast_stream.specs.meaning.Events.{EventData}
 use Rattle.fast_stream.specs.meaning.Fields.{field_term}
 use Rattle.fast_stream.specs.meaning.Grammar.{of_result}
@@ -14,11 +15,18 @@ use Rattle.fast_stream.specs.declared.faults.FaultCode.{FaultCode}
 use Rattle.fast_stream.specs.declared.faults.FaultCode.TheVariants.{SinkStopped}
 use Rattle.fast_stream.specs.device.Readers.{Done}
 use Rattle.fast_stream.specs.device.GrammarReaders.{reader_of}
+use Rattle.fast_units.specs.device.FieldsAs.{IsFieldAs, GivesWhole, reader_in}
+use Rattle.fast_units.specs.device.Settling.{Serves}
 use Rattle.fast_units.specs.device.Taking.{Turns}
 use Rattle.fast_units.specs.device.UnitFronts.{IsSent}
+use Rattle.fast_units.specs.declared.taken.TakenText.{TakenText}
 use Rattle.fast_value.specs.declared.kinds.Kind.{Kind}
+use Rattle.fast_value.specs.declared.kinds.Kind.TheVariants.{Ascii}
 use Rattle.fast_tree.specs.declared.operators.Operator.{Operator}
+use Rattle.fast_tree.specs.declared.instructions.FieldInstruction.{FieldInstruction}
 use Rattle.fast_tree.specs.declared.instructions.Node.{Node}
+use Rattle.fast_tree.specs.declared.instructions.Shape.TheVariants as Shape
+use Rattle.fast_tree.specs.device.Nodes.{field_data}
 use Rattle.fast_program.specs.declared.ops.Op.{Op}
 use Rattle.fast_program.specs.device.Codes.{IsFieldCoded}
 use Rattle.fast_cursor.specs.device.Segments.{first_node}
@@ -42,6 +50,12 @@ IsAtOp set p op = (op.node < length set.nodes) × (first_node (place_left p) ≡
 -- The op's node is a field of the kind, under the operator, absent or not, with the op's entry.
 abbrev pub IsFieldOp : Set → Op → Kind → Operator → Bool → Type 0
 IsFieldOp set op kind operator optional = (x : Node) → slice_get set.nodes op.node ≡ Some x → IsFieldCoded kind operator optional op.entry x.shape
+
+-- The op's node, if it is a field of ASCII texts under the operator, absent or not, is this text, or absent, whole in these bytes.
+abbrev pub IsOpText : Set → Op → Operator → Bool → ℕ → List ℕ → Slots → Slots → List ℕ → TakenText → Type 0
+IsOpText set op operator optional room rest old new scratch r = (x : Node) (i : FieldInstruction) (strict : Bool) (b : Bounds) → slice_get set.nodes op.node ≡ Some x → x.shape ≡ Shape.Field i
+    → b.max_text ≡ room → IsFieldAs (field_data i) Ascii optional operator op.entry → Serves (length (slots_dictionary old)) (slots_terms old) (field_data i)
+    → GivesWhole (reader_in old strict b (field_data i)) (field_data i) rest (slots_dictionary old) (slots_dictionary new) scratch r.source r.from r.bytes
 
 -- the machine, at the place
 abbrev pub placed : Machine → Place → Machine

@@ -157,6 +157,15 @@ fields = [{kind="bytes", name="r", op="delta"}]
 name = "initial"
 id = 8
 fields = [{kind="ascii", name="i", op="delta", value="WXYZ"}, {kind="ascii", name="j", op="tail", value="WXYZ"}]
+[[template]]
+name = "optional_initial"
+id = 9
+fields = [{kind="ascii", name="o", op="tail", optional=true, value="WXYZ"}]
+[[template]]
+name = "reset"
+id = 10
+reset = true
+fields = [{kind="ascii", name="a", op="tail", key="k"}]
 "#;
 
 const THE_ROOM_BEHIND_A_BASE: &str = "\
@@ -195,7 +204,33 @@ a copy that is sent takes the place of another kind | lenient | E0 85 83 42 43 E
     | m4 t4='BC' /m m0 a0='A' /m m0 a0='A' /m | between
 ";
 
+const FIRST_TAILS: &str = "\
+a first tail is kept | lenient | E0 83 41 C2 80 A0 C3 | m2 a2='AB' /m m2 a2='AB' /m m2 a2='AC' /m | between
+a first tail of more than a block | lenient | E0 83 41*19 C2 A0 43 C4 \
+    | m2 a2='AAAAAAAAAAAAAAAAAAAB' /m m2 a2='AAAAAAAAAAAAAAAAAACD' /m | between
+a first tail that fills the room | lenient text=16 | E0 83 41*15 C2 80 \
+    | m2 a2='AAAAAAAAAAAAAAAB' /m m2 a2='AAAAAAAAAAAAAAAB' /m | between
+a first tail past the room | lenient text=16 | E0 83 41*16 C2 | m2 | L1@19
+a first tail of no character | lenient | E0 83 80 A0 C1 | m2 a2='' /m m2 a2='A' /m | between
+a first tail behind a reset | lenient | E0 83 41 42 C3 E0 8A C4 E0 8A 45 C6 E0 83 C7 \
+    | m2 a2='ABC' /m m9 a10='D' /m m9 a10='EF' /m m2 a2='EG' /m | between
+a first tail behind NULL | lenient | E0 81 41 42 C3 A0 80 E0 83 C4 80 \
+    | m0 a0='ABC' /m m0 /m m2 a2='D' /m m2 a2='D' /m | between
+a first tail, and one behind NULL, of an initial value | lenient | E0 89 C1 A0 80 A0 42 C3 \
+    | m8 a9='WXYA' /m m8 /m m8 a9='WXBC' /m | between
+first tails of more than an initial value | lenient | E0 89 41 42 43 44 C5 A0 80 A0 46 47 48 49 CA \
+    | m8 a9='ABCDE' /m m8 /m m8 a9='FGHIJ' /m | between
+a first tail of an initial value behind a reset | lenient | E0 89 C1 E0 8A C2 E0 89 C3 \
+    | m8 a9='WXYA' /m m9 a10='B' /m m8 a9='WXYC' /m | between
+a tail, and a previous value of another kind | lenient | E0 85 83 42 43 E0 83 C2 | m4 t4='BC' /m m2 | D4@8
+";
+
 #[test]
 fn rows_of_shared(rt: HostRuntime) -> Result<(), Fail> {
-    expect_rows(&rt, rt.alloc(), SHARED, &[THE_ROOM_BEHIND_A_BASE, BASES])
+    expect_rows(
+        &rt,
+        rt.alloc(),
+        SHARED,
+        &[THE_ROOM_BEHIND_A_BASE, BASES, FIRST_TAILS],
+    )
 }

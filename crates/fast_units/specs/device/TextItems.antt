@@ -8,7 +8,7 @@ use Rattle.fast_tree.specs.declared.operators.Operator.TheVariants as Op
 use Rattle.fast_tree.specs.meaning.Tree.{FieldData}
 use Rattle.fast_tree.specs.meaning.Entries.{keeps_value}
 use Rattle.fast_dict.specs.declared.slots.Slots.{Slots}
-use Rattle.fast_dict.specs.meaning.Dictionary.{previous_at}
+use Rattle.fast_dict.specs.meaning.Dictionary.{PreviousData, undefined, empty, assigned, previous_at}
 use Rattle.fast_dict.specs.meaning.Operators.{decide, nothing}
 use Rattle.fast_dict.specs.meaning.Slots.{slots_dictionary, slots_terms, HoldsAscii}
 use Rattle.fast_stream.specs.meaning.Fields.{sent_text}
@@ -53,6 +53,12 @@ IsAsciiAt slots entry From.Scratch = Unit {0}
 IsAsciiAt slots entry From.Entry = HoldsAscii slots entry
 IsAsciiAt slots entry source = ⊥
 
+-- No value is held: nothing was kept yet, or the field was absent.
+abbrev pub HoldsNothing : PreviousData → Type 0
+HoldsNothing undefined = Unit {0}
+HoldsNothing empty = Unit {0}
+HoldsNothing (assigned kind v) = ⊥
+
 -- where a text stands that was sent under the operator
 abbrev pub text_source : Operator → ValueSource
 text_source Op.None = From.Scratch
@@ -67,6 +73,12 @@ text_taken operator n = record { source = text_source operator; from = 0; bytes 
 abbrev pub IsSentText : Kind → Bool → Operator → ℕ → ℕ → List ℕ → Slots → Slots → List ℕ → TakenText → Type 0
 IsSentText kind optional operator entry room rest old new scratch r = (f : FieldData) (strict : Bool) (l : Bounds) → l.max_text ≡ room
     → IsFieldAs f kind optional operator entry → Serves (length (slots_dictionary old)) (slots_terms old) f
+    → GivesWhole (reader_in old strict l f) f rest (slots_dictionary old) (slots_dictionary new) scratch r.source r.from r.bytes
+
+-- The same of each field under tail that has no initial value.
+abbrev pub IsFirstTail : Kind → Bool → ℕ → ℕ → List ℕ → Slots → Slots → List ℕ → TakenText → Type 0
+IsFirstTail kind optional entry room rest old new scratch r = (f : FieldData) (strict : Bool) (l : Bounds) → f.initial ≡ None → l.max_text ≡ room
+    → IsFieldAs f kind optional Op.Tail entry → Serves (length (slots_dictionary old)) (slots_terms old) f
     → GivesWhole (reader_in old strict l f) f rest (slots_dictionary old) (slots_dictionary new) scratch r.source r.from r.bytes
 
 -- Each field that is so, and does not stand in the stream though it has a bit, has its value there, under copy and tail.

@@ -10,12 +10,12 @@ use Rattle.fast_units.specs.device.Settling.{value_at}
 use Rattle.fast_cursor.specs.device.Cursors.{bits_left}
 use Rattle.fast_cursor.specs.device.Places.{at_place}
 use Rattle.fast_decoder.specs.device.Positions.{set_of}
-use Rattle.fast_decoder.proofs.arms.Fields.{op_node, entry_there, as_coded, served, field_of, uses_as}
+use Rattle.fast_decoder.proofs.arms.Fields.{op_node, entry_there, as_coded, served, field_of, instruction, shape_is, uses_as}
 use Rattle.fast_decoder.proofs.arms.Texts.{text_taken}
 use Rattle.fast_decoder.proofs.machine.Machine.ascii_arm.Goals as goal
 
-pub sent_ascii-requires-clause-within : goal.sent_ascii-requires-clause-within
-sent_ascii-requires-clause-within g c =
+pub ascii_taken-requires-clause-within : goal.ascii_taken-requires-clause-within
+ascii_taken-requires-clause-within g c =
     let m = c.args.self.now in
     let p = c.args.spot.now.place in
     let (x, found) = op_node c.args.templates.now m p c.args.op.now c.requires.at in
@@ -28,7 +28,8 @@ hand_taken-requires-clause-within g c =
     let m = c.args.self.now in
     let p = c.args.spot.now.place in
     let (x, found) = op_node t m p c.args.op.now c.requires.at in
-    (c.in-Some.ensures.unit (field_of t l m p c.args.op.now Ascii c.args.operator c.args.optional c.requires.spot c.requires.at c.requires.field x found) l.strict (bounds l) refl
+    (c.in-Some.ensures.unit x (instruction t l m p c.args.op.now Ascii c.args.operator c.args.optional c.requires.spot c.requires.at c.requires.field x found) l.strict (bounds l) found
+    (shape_is t l m p c.args.op.now Ascii c.args.operator c.args.optional c.requires.spot c.requires.at c.requires.field x found) refl
     (as_coded t l m p c.args.op.now Ascii c.args.operator c.args.optional c.requires.spot c.requires.at c.requires.field x found)
     (served t l m p c.args.op.now Ascii c.args.operator c.args.optional c.requires.spot c.requires.at c.requires.field x found)).1
 
@@ -41,8 +42,8 @@ returns-in-Some g c =
     let op = c.args.op.now in
     let operator = c.args.operator in
     let optional = c.args.optional in
-    let slots = c.sent_ascii.new.slots in
-    let text = c.sent_ascii.new.scratch in
+    let slots = c.ascii_taken.new.slots in
+    let text = c.ascii_taken.new.scratch in
     let taken = c.in-Some.taken in
     let (x, found) = op_node t m from.place op c.requires.at in
     let f = field_of t l m from.place op Ascii operator optional c.requires.spot c.requires.at c.requires.field x found in
@@ -53,7 +54,8 @@ returns-in-Some g c =
           (text_taken t l m from op Ascii operator optional c.requires.spot c.requires.at c.requires.field x found slots text m.joined taken.source taken.from taken.bytes text.text _ c.requires.no_constant
           (subst (λ (b : Bool). (b ≡ false) ⊎ (first_bit (bits_left (at_place m.cursor from.place)) ≡ true)) c.uses_bit-has_bit.ensures (c.in-Sent.ensures.sent refl m.cursor c.requires.spot.place))
           c.in-Some.ensures.terms c.in-Some.ensures.capacity refl
-          (c.in-Some.ensures.unit f l.strict (bounds l) refl same (served t l m from.place op Ascii operator optional c.requires.spot c.requires.at c.requires.field x found))
+          (c.in-Some.ensures.unit x (instruction t l m from.place op Ascii operator optional c.requires.spot c.requires.at c.requires.field x found) l.strict (bounds l) found
+          (shape_is t l m from.place op Ascii operator optional c.requires.spot c.requires.at c.requires.field x found) refl same (served t l m from.place op Ascii operator optional c.requires.spot c.requires.at c.requires.field x found))
           (subst (λ (s : List ℕ). option_map scalar_data c.ascii_at-value.result ≡ value_at taken.source f (slots_dictionary slots) s (drop taken.from (take taken.bytes from.rest.now))) c.as_slice-text.ensures
           (c.ascii_at-value.ensures f optional operator (drop taken.from (take taken.bytes from.rest.now)) same c.in-Some.ensures.source)));
     }
