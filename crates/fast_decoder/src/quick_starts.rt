@@ -127,7 +127,10 @@ impl<'t> Machine<'t> {
         ensures same { self.new ≡ record self.old { slots = self.new.slots; latest = self.new.latest } }
         ensures terms { slots_terms self.new.slots ≡ slots_terms self.old.slots }
     {
-        let byte = *rest.first()?;
+        if rest.is_empty() {
+            return None;
+        }
+        let byte = rest[0];
         if byte >= 0x80 && byte < 0xc0 {
             let number = self.latest_again(templates)?;
             return Some((number, 1, templates.start_of(number)));

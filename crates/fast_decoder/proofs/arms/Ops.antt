@@ -87,13 +87,16 @@ not_end OptionalGroup h = refl
 not_end Sequence h = refl
 not_end OptionalSequence h = refl
 
--- A node that is there.
-pub node_below : (ns : List Node) (n : ℕ) (x : Node) → slice_get ns n ≡ Some x → n < length ns
-node_below ns n x found = by (slice_get_cases ns n).1
+-- An element that is there, as a node.
+pub found_below : {A : Type 0} (ns : List A) (n : ℕ) (x : A) → slice_get ns n ≡ Some x → n < length ns
+found_below {A} ns n x found = by (slice_get_cases ns n).1
   where
-    by : ((y : Node) × (n < length ns) × (slice_get ns n ≡ Some y) × (get_or ns n y ≡ y)) ⊎ ((length ns ≤ n) × (slice_get ns n ≡ None)) → n < length ns
+    by : ((y : A) × (n < length ns) × (slice_get ns n ≡ Some y) × (get_or ns n y ≡ y)) ⊎ ((length ns ≤ n) × (slice_get ns n ≡ None)) → n < length ns
     by (inl (y, below, is, same)) = below
     by (inr (past, none)) = absurd (let never : Some x ≡ None = sym found ∙ none in cc never)
+
+pub node_below : (ns : List Node) (n : ℕ) (x : Node) → slice_get ns n ≡ Some x → n < length ns
+node_below ns n x found = found_below ns n x found
 
 -- what is ahead of a place begins with the op at it
 pub get_behind : (ops : List Op) (n : ℕ) → slice_get (drop n ops) 0 ≡ slice_get ops n
