@@ -22,7 +22,7 @@ use fast_dict::{Slots, Store};
 use fast_program::Op;
 use fast_stream::Sink;
 use fast_template::{FieldInstruction, Operator, Shape, Templates};
-use fast_units::ascii_items::{ascii_at, sent_ascii, sent_at_once, unsent_ascii};
+use fast_units::ascii_items::{ascii_at, sent_at_once, text_taken, unsent_ascii};
 use fast_units::long_ascii::{sent_first_tail, sent_long};
 use fast_units::scratch::Scratch;
 use fast_units::source::ValueSource;
@@ -138,11 +138,11 @@ fn ascii_taken(
     ensures terms { slots_terms slots.new ≡ slots_terms slots.old }
     ensures capacity { scratch.new.capacity ≡ scratch.old.capacity }
 {
+    if let Some(taken) = sent_at_once(slots, scratch, op.entry, optional, operator, rest) {
+        return Some(taken);
+    }
     match operator {
         Operator::Tail => {
-            if let Some(taken) = sent_at_once(slots, scratch, op.entry, optional, operator, rest) {
-                return Some(taken);
-            }
             let bytes = other_tail(templates, slots, scratch, op, optional, rest)?;
             Some(TakenText {
                 source: ValueSource::Entry,
@@ -151,8 +151,8 @@ fn ascii_taken(
             })
         }
         _ => {
-            let taken = sent_ascii(slots, scratch, op.entry, optional, operator, rest, max_text)?;
-            Some(taken)
+            let bytes = sent_long(slots, scratch, op.entry, optional, operator, rest, max_text)?;
+            Some(text_taken(operator, bytes))
         }
     }
 }

@@ -75,7 +75,7 @@ fn text_source(operator: Operator) -> ValueSource
 
 /// A text of so many bytes.
 #[inline(always)]
-fn text_taken(operator: Operator, bytes: usize) -> TakenText
+pub fn text_taken(operator: Operator, bytes: usize) -> TakenText
     ensures { result ≡ text_taken operator bytes }
 {
     TakenText {

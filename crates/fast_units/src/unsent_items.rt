@@ -4,7 +4,7 @@
 //! `None` stands for all else, faults included: nothing has changed then, and the general way finds out. In an answer,
 //! `None` is absent.
 
-ghost use Rattle.std.specs.Prelude.{◌≡◌, ◌<◌, true, ℕ, List, length, Some, None, IfSome, IfNone};
+ghost use Rattle.std.specs.Prelude.{◌≡◌, ◌⊎◌, ◌<◌, true, ℕ, List, length, Some, None, IfSome, IfNone};
 ghost use Rattle.fast_value.specs.meaning.Kinds.{integer_of, value_of_integer};
 ghost use Rattle.fast_dict.specs.device.Entry.{with_text};
 ghost use Rattle.fast_dict.specs.meaning.Operators.{incremented, range_of};
@@ -59,26 +59,37 @@ fn next_number(kind: Kind, number: Number) -> Option<Number>
     }
 }
 
-/// Increment: one more than the number that the entry holds, which it then holds.
+/// The item of a field of which nothing is sent, under copy and increment: where its entry holds a number of its kind,
+/// that or one more, which the entry then holds; absent where the entry is empty and the field may be.
 #[inline(always)]
-fn increased_at(slots: &mut Slots, entry: u32, kind: Kind, optional: bool) -> Option<Option<Number>>
+fn kept_item(
+    slots: &mut Slots,
+    entry: u32,
+    kind: Kind,
+    optional: bool,
+    operator: Operator,
+) -> Option<Option<Number>>
     requires within { entry < length (slots_dictionary slots.old) }
-    ensures decided { IfSome result (IsUnsentItem kind optional Operator.Increment entry slots.old slots.new) }
+    requires operator { (operator ≡ Operator.Copy) ⊎ (operator ≡ Operator.Increment) }
+    ensures decided { IfSome result (IsUnsentItem kind optional operator entry slots.old slots.new) }
     ensures none { IfNone result (slots.new ≡ slots.old) }
     ensures terms { slots_terms slots.new ≡ slots_terms slots.old }
 {
-    match held_item(kind, optional, slots.held(entry as usize))? {
-        Some(number) => {
-            let next = next_number(kind, number)?;
-            keep_changed_at(slots, entry, kind, next);
-            Some(Some(next))
-        }
-        None => Some(None),
+    let item = held_item(kind, optional, slots.held(entry as usize))?;
+    match operator {
+        Operator::Increment => match item {
+            Some(number) => {
+                let next = next_number(kind, number)?;
+                keep_changed_at(slots, entry, kind, next);
+                Some(Some(next))
+            }
+            None => Some(None),
+        },
+        _ => Some(item),
     }
 }
 
-/// The item of a field of which nothing is sent, under copy and increment: where its entry holds a number of its kind,
-/// that or one more, which the entry then holds; absent where the entry is empty and the field may be.
+/// The same under any operator: `None` under others.
 #[inline(always)]
 pub fn unsent_integer(
     slots: &mut Slots,
@@ -93,8 +104,7 @@ pub fn unsent_integer(
     ensures terms { slots_terms slots.new ≡ slots_terms slots.old }
 {
     match operator {
-        Operator::Copy => copied_at(slots, entry, kind, optional),
-        Operator::Increment => increased_at(slots, entry, kind, optional),
+        Operator::Copy | Operator::Increment => kept_item(slots, entry, kind, optional, operator),
         _ => None,
     }
 }
