@@ -15,7 +15,7 @@ use Rattle.fast_spelling.specs.meaning.Refusals.{IsRefused}
 use Rattle.fast_text.specs.meaning.Streams.{Appends, AppendsFront}
 use Rattle.fast_text.proofs.Writing.{appends_both, front_of_second}
 use Rattle.fast_command.specs.declared.faults.RunFault.TheVariants.{Write, Encode, Memory}
-use Rattle.fast_decoder.specs.device.Positions.{Set, tree_in}
+use Rattle.fast_machine.specs.device.Positions.{Set, tree_in}
 use Rattle.fast_encoder.specs.meaning.Encoders.{EncoderData, IsEncoded, IsToldOf, tree}
 use Rattle.fast_convert.specs.meaning.Converting.{form, IsCoded, AreCoded, AreWritten}
 

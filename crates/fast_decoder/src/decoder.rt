@@ -9,12 +9,12 @@ ghost use Rattle.fast_stream.specs.meaning.Streams.{End};
 ghost use Rattle.fast_stream.specs.meaning.Begins.{Begins};
 ghost use Rattle.fast_stream.specs.meaning.Account.{TellsStream, account_at, held};
 ghost use Rattle.fast_decoder.specs.meaning.Decoding.{DecoderData, tree, AreBadLimits, IsUncounted, HasRead, turns, stored, account, answer, Carried};
-ghost use Rattle.fast_decoder.specs.device.AtHand.{in_hand};
+ghost use Rattle.fast_decoder.specs.device.InHand.{in_hand};
 ghost use Rattle.fast_decoder.specs.meaning.Feeding.{IsAtPlace, ConsumesAtMost, all_bytes, Followed};
 
-use crate::in_hand::Due;
-use crate::layout::has_long_initial;
-use crate::machine::Machine;
+use fast_machine::in_hand::Due;
+use fast_machine::layout::has_long_initial;
+use fast_machine::machine::Machine;
 use fast_stream::{Fault, FaultCode, MakeError, Sink};
 use fast_template::Templates;
 use fast_value::{Limits, MAX_TEXT, MIN_TEXT};
@@ -32,7 +32,7 @@ pub struct Decoder<'t> {
 }
 
 impl<'t> Model for Decoder<'t> {
-    ghost use Rattle.fast_decoder.specs.device.Positions.{set_of};
+    ghost use Rattle.fast_machine.specs.device.Positions.{set_of};
     ghost use Rattle.fast_decoder.specs.meaning.Decoding.{DecoderData, IsSound};
 
     ghost Value = { DecoderData };

@@ -17,7 +17,7 @@ ghost use Rattle.fast_spelling.specs.meaning.Suiting.{IsKnown, IsKnownAs, SuitsT
 ghost use Rattle.fast_encoder.specs.meaning.Encoders.{tree, IsEncoded, IsToldOf};
 
 use fast_decoder::MakeError;
-use fast_decoder::layout::{has_long_initial, measure};
+use fast_machine::layout::{has_long_initial, measure};
 use fast_spelling::EncodeFault;
 use fast_spelling::checking::try_message;
 use fast_spelling::draft::Draft;
@@ -40,7 +40,7 @@ pub struct Encoder<'t> {
 }
 
 impl<'t> Model for Encoder<'t> {
-    ghost use Rattle.fast_decoder.specs.device.Positions.{set_of};
+    ghost use Rattle.fast_machine.specs.device.Positions.{set_of};
     ghost use Rattle.fast_encoder.specs.meaning.Encoders.{EncoderData, IsSound};
 
     ghost Value = { EncoderData };

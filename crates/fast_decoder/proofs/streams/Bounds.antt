@@ -5,12 +5,12 @@ use Rattle.std.specs.Prelude.{ℕ, ◌+◌, ◌*◌, ◌≤◌, List, length, ve
 use Rattle.fast_value.specs.declared.settings.Limits.{Limits}
 use Rattle.fast_tree.specs.meaning.Sizes.{set_depth, message_cap, stored_cap}
 use Rattle.fast_dict.specs.meaning.Slots.{slots_dictionary, slots_sized, slots_bounded}
-use Rattle.fast_decoder.specs.declared.machine.Machine.{Machine}
+use Rattle.fast_machine.specs.declared.machine.Machine.{Machine}
 use Rattle.fast_stream.specs.meaning.Events.{EventData}
 use Rattle.fast_stream.specs.meaning.Account.{held, Account, account_at}
 use Rattle.fast_stream.specs.meaning.Streams.{End}
 use Rattle.fast_stream.specs.meaning.Begins.{Begins}
-use Rattle.fast_decoder.specs.device.Positions.{Set, tree_in, IsSupplied}
+use Rattle.fast_machine.specs.device.Positions.{Set, tree_in, IsSupplied}
 use Rattle.fast_decoder.specs.meaning.Decoding.{DecoderData, tree, HasRead, account, stored_by, stored}
 use Rattle.fast_stream.proofs.streams.Bound.{consumed-bound}
 use Rattle.fast_stream.proofs.streams.Caps.{stream_begins, begun_bound}

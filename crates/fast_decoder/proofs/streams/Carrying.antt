@@ -6,56 +6,23 @@ use Rattle.std.proofs.lemmas.Grind.{get_or_default_zero}
 use Rattle.std.proofs.Math.ListN.{take-append-drop}
 use Rattle.std.proofs.lemmas.List.Elements.{All-append}
 use Rattle.std.proofs.Math.Seq.{take-append_seam}
-use Rattle.fast_value.specs.declared.settings.Limits.{Limits}
 use Rattle.fast_value.specs.declared.codes.Code.{Code}
 use Rattle.fast_dict.specs.meaning.Dictionary.{Dictionary}
 use Rattle.fast_stream.specs.declared.faults.Fault.{Fault}
 use Rattle.fast_stream.specs.declared.faults.FaultCode.{FaultCode}
 use Rattle.fast_stream.specs.declared.faults.FaultCode.TheVariants as Why
-use Rattle.fast_decoder.specs.declared.machine.Machine.{Machine}
-use Rattle.fast_decoder.specs.declared.machine.Waiting.{Waiting}
-use Rattle.fast_decoder.specs.declared.machine.Waiting.TheVariants.{Map, Identifier, SegmentMap, Field, Text, Number, Bytes, Mantissa}
-use Rattle.fast_decoder.specs.declared.turns.Turns.{Turns}
+use Rattle.fast_machine.specs.declared.machine.Machine.{Machine}
 use Rattle.fast_stream.specs.meaning.Events.{EventData}
 use Rattle.fast_stream.specs.meaning.Streams.{Stream}
 use Rattle.fast_stream.specs.device.Readers.{AreBytes}
 use Rattle.fast_stream.specs.device.Running.{Position, at_fault, run, message_begun, reading, end_of}
-use Rattle.fast_decoder.specs.device.Positions.{Set, meaning, meaning_at, IsSupplied, IsReady}
-use Rattle.fast_decoder.specs.device.Handing.{waiting_at, TookEvents, Failed, Stopped, Fed}
-use Rattle.fast_decoder.specs.device.TurnsLeft.{IsWithinMessage}
+use Rattle.fast_machine.specs.device.Positions.{meaning, IsSupplied, IsReady}
+use Rattle.fast_machine.specs.device.Handing.{waiting_at, TookEvents, Failed, Stopped, Fed}
+use Rattle.fast_machine.specs.device.TurnsLeft.{IsWithinMessage}
 use Rattle.fast_decoder.specs.meaning.Decoding.{DecoderData, tree, IsSoundAt, IsPaidAt, IsFaultAt, IsAt, HasRead, Carries, SinkEnds, CarriesAt}
 use Rattle.fast_stream.proofs.readers.Binds.{All-front}
 use Rattle.fast_stream.proofs.streams.Streams.{at-fault}
 use Rattle.fast_stream.proofs.streams.Reading.{reading-append, reading-sound}
-
--- The turns that were counted don't change what is still to be read.
-pub meaning-turns : (w : Waiting) (set : Set) (l : Limits) (m : Machine) (n : Turns) → meaning_at w set l (record m { turns = n }) ≡ meaning_at w set l m
-meaning-turns Map set l m n = refl
-meaning-turns Identifier set l m n = refl
-meaning-turns (SegmentMap width) set l m n = refl
-meaning-turns Field set l m n = refl
-meaning-turns Text set l m n = refl
-meaning-turns (Number stage) set l m n = refl
-meaning-turns (Bytes stage) set l m n = refl
-meaning-turns (Mantissa x) set l m n = refl
-
--- They don't change what a machine is made with.
-pub supplied-turns : (set : Set) (l : Limits) (m : Machine) (n : Turns) → IsSupplied set l m → IsSupplied set l (record m { turns = n })
-supplied-turns set l m n h = record {
-  entries = h.entries;
-  serves = h.serves;
-  some_entry = h.some_entry;
-  max_text = h.max_text;
-  least_text = h.least_text;
-  text_room = h.text_room;
-  joined_room = h.joined_room;
-  node_widths = h.node_widths;
-  template_widths = h.template_widths;
-  depth = h.depth;
-  program = h.program;
-  identifier = h.identifier;
-  counted = h.counted;
-}
 
 -- the decoder after a feed
 abbrev pub fed_data : DecoderData → Machine → ℕ → Option Fault → DecoderData

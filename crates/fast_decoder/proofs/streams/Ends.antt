@@ -12,20 +12,20 @@ use Rattle.fast_dict.specs.meaning.Slots.{slots_dictionary}
 use Rattle.fast_stream.specs.declared.faults.Fault.{Fault}
 use Rattle.fast_stream.specs.declared.faults.FaultCode.{FaultCode}
 use Rattle.fast_stream.specs.declared.faults.FaultCode.TheVariants as Why
-use Rattle.fast_decoder.specs.declared.machine.Machine.{Machine}
-use Rattle.fast_decoder.specs.declared.machine.Waiting.{Waiting}
-use Rattle.fast_decoder.specs.declared.machine.Waiting.TheVariants.{Map, Identifier, SegmentMap, Field, Text, Number, Bytes, Mantissa}
+use Rattle.fast_machine.specs.declared.machine.Machine.{Machine}
+use Rattle.fast_machine.specs.declared.machine.Waiting.{Waiting}
+use Rattle.fast_machine.specs.declared.machine.Waiting.TheVariants.{Map, Identifier, SegmentMap, Field, Text, Number, Bytes, Mantissa}
 use Rattle.fast_stream.specs.meaning.Events.{EventData}
 use Rattle.fast_stream.specs.meaning.Streams.{End, between, inside, Stream}
 use Rattle.fast_stream.specs.meaning.Account.{Account, account_at, TellsStream}
 use Rattle.fast_stream.specs.device.Readers.{Reader}
 use Rattle.fast_stream.specs.device.Running.{Position, reading, end_of}
-use Rattle.fast_decoder.specs.device.Handing.{Waits, waiting_at}
-use Rattle.fast_decoder.specs.device.Positions.{Set, map_reader, mapped_reader, meaning, meaning_at, CanTake, IsReady, is_idle_at, is_idle}
+use Rattle.fast_machine.specs.device.Handing.{Waits, waiting_at}
+use Rattle.fast_machine.specs.device.Positions.{Set, map_reader, mapped_reader, meaning, meaning_at, CanTake, IsReady, is_idle_at, is_idle}
 use Rattle.fast_decoder.specs.meaning.Decoding.{DecoderData, tree, IsSoundAt, IsFaultAt, IsAt, HasRead, account}
-use Rattle.fast_decoder.proofs.units.InHand.{open_waits}
-use Rattle.fast_decoder.proofs.units.Takings.{map_reader-some}
-use Rattle.fast_decoder.proofs.units.Waitings.{machine_waits}
+use Rattle.fast_machine.proofs.units.InHand.{open_waits}
+use Rattle.fast_machine.proofs.units.Takings.{map_reader-some}
+use Rattle.fast_machine.proofs.units.Waitings.{machine_waits}
 use Rattle.fast_stream.proofs.streams.Reading.{reading-sound}
 
 -- between two messages or inside one

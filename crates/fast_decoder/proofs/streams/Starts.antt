@@ -8,15 +8,15 @@ use Rattle.fast_value.specs.declared.settings.Limits.{Limits}
 use Rattle.fast_tree.specs.device.Numbers.{NameLaterNodes}
 use Rattle.fast_dict.specs.meaning.Dictionary.{fresh}
 use Rattle.fast_dict.specs.meaning.Slots.{slots_dictionary}
-use Rattle.fast_decoder.specs.declared.machine.Machine.{Machine}
-use Rattle.fast_decoder.specs.declared.machine.Waiting.{Waiting}
+use Rattle.fast_machine.specs.declared.machine.Machine.{Machine}
+use Rattle.fast_machine.specs.declared.machine.Waiting.{Waiting}
 use Rattle.fast_cursor.specs.device.Cursors.{CursorData, resting}
 use Rattle.fast_stream.specs.device.Readers.{Done}
 use Rattle.fast_stream.specs.device.Running.{at_start}
-use Rattle.fast_decoder.specs.device.Handing.{waiting_at}
-use Rattle.fast_decoder.specs.device.Positions.{Set, meaning, meaning_at, map_reader, CanTake, IsSupplied, IsReady, IsFresh}
+use Rattle.fast_machine.specs.device.Handing.{waiting_at}
+use Rattle.fast_machine.specs.device.Positions.{Set, meaning, meaning_at, map_reader, CanTake, IsSupplied, IsReady, IsFresh}
 use Rattle.fast_decoder.specs.meaning.Decoding.{DecoderData, IsSoundAt, IsPaidAt, IsSound, IsAt, HasRead}
-use Rattle.fast_decoder.proofs.steps.TurnCounts.{fresh_turns}
+use Rattle.fast_machine.proofs.steps.TurnCounts.{fresh_turns}
 
 none_open : (m : List ℕ) → m ≡ [] → HaveNoStop m
 none_open m e = subst HaveNoStop (sym e) (All-nil (λ b. b < 128))

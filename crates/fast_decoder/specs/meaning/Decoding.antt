@@ -8,16 +8,16 @@ use Rattle.fast_dict.specs.meaning.Dictionary.{Dictionary}
 use Rattle.fast_stream.specs.declared.faults.Fault.{Fault}
 use Rattle.fast_stream.specs.declared.faults.FaultCode.{FaultCode}
 use Rattle.fast_stream.specs.declared.faults.FaultCode.TheVariants as Why
-use Rattle.fast_decoder.specs.declared.machine.Machine.{Machine}
+use Rattle.fast_machine.specs.declared.machine.Machine.{Machine}
 use Rattle.fast_stream.specs.meaning.Events.{EventData}
 use Rattle.fast_stream.specs.meaning.Sinks.{Takes, TakesUpTo}
 use Rattle.fast_stream.specs.meaning.Streams.{End, Stream}
 use Rattle.fast_stream.specs.meaning.Account.{Stored, Account}
 use Rattle.fast_stream.specs.device.Readers.{AreBytes}
 use Rattle.fast_stream.specs.device.Running.{Position, at_fault, reading}
-use Rattle.fast_decoder.specs.device.Positions.{Set, tree_in, meaning, IsSupplied, IsReady, is_idle}
-use Rattle.fast_decoder.specs.device.Handing.{waiting_at}
-use Rattle.fast_decoder.specs.device.TurnsLeft.{IsWithinMessage}
+use Rattle.fast_machine.specs.device.Positions.{Set, tree_in, meaning, IsSupplied, IsReady, is_idle}
+use Rattle.fast_machine.specs.device.Handing.{waiting_at}
+use Rattle.fast_machine.specs.device.TurnsLeft.{IsWithinMessage}
 
 -- A decoder: its template set and limits, its machine, the bytes that it has consumed, and its fault.
 pub record DecoderData : Type 0 where

@@ -2,7 +2,7 @@
 
 use super::{LENIENT, decoder_of, expect, expect_rows, put, set_of};
 use fast_decoder::MakeError;
-use fast_decoder::layout::has_long_initial;
+use fast_machine::layout::has_long_initial;
 use fast_template::VECTORS;
 use fast_value::Limits;
 use itoa::Buffer;

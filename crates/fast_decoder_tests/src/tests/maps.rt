@@ -1,7 +1,7 @@
 //! Presence maps: the bits that instructions use, and segments within one another.
 
 use super::{expect, expect_rows, set_of};
-use fast_decoder::layout::text_marks;
+use fast_machine::layout::text_marks;
 use std::test::Fail;
 
 /// An instruction each, and behind it a field whose bit shows how many the instruction uses.

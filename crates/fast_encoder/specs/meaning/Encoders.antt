@@ -5,7 +5,7 @@ use Rattle.fast_value.specs.meaning.Limits.{in_mode}
 use Rattle.fast_value.specs.meaning.Messages.{MessageData}
 use Rattle.fast_tree.specs.meaning.Tree.{Tree}
 use Rattle.fast_template.specs.declared.sets.Templates.{Templates}
-use Rattle.fast_decoder.specs.device.Positions.{Set, tree_in}
+use Rattle.fast_machine.specs.device.Positions.{Set, tree_in}
 use Rattle.fast_dict.specs.meaning.Dictionary.{Dictionary}
 use Rattle.fast_stream.specs.meaning.Messages.{SpellsMessage}
 use Rattle.fast_spelling.specs.declared.faults.EncodeFault.{EncodeFault}

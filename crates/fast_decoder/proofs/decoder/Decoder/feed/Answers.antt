@@ -3,14 +3,15 @@ use Rattle.std.specs.Prelude.{List, Ok, Err, Some, Result, IsOk, OnOk, take, len
 use Rattle.std.proofs.lemmas.List.{take_all}
 use Rattle.fast_stream.specs.declared.faults.FaultCode.{FaultCode}
 use Rattle.fast_stream.specs.declared.faults.FaultCode.TheVariants as Why
-use Rattle.fast_decoder.specs.declared.machine.Machine.{Machine}
-use Rattle.fast_decoder.specs.device.Handing.{TookEvents, Fed, waiting_at}
-use Rattle.fast_decoder.specs.device.Positions.{set_of, tree_in, meaning, IsSupplied, IsReady}
-use Rattle.fast_decoder.specs.device.TurnsLeft.{IsWithinMessage}
+use Rattle.fast_machine.specs.declared.machine.Machine.{Machine}
+use Rattle.fast_machine.specs.device.Handing.{TookEvents, Fed, waiting_at}
+use Rattle.fast_machine.specs.device.Positions.{set_of, tree_in, meaning, IsSupplied, IsReady}
+use Rattle.fast_machine.specs.device.TurnsLeft.{IsWithinMessage}
 use Rattle.fast_decoder.specs.meaning.Decoding.{DecoderData, tree, HasRead, IsRefused, CarriesAt}
-use Rattle.fast_decoder.proofs.streams.Carrying.{meaning-turns, supplied-turns, bytes_of, fed_data, carry_ok, carry_stopped, carry_failed}
+use Rattle.fast_decoder.proofs.streams.Carrying.{bytes_of, fed_data, carry_ok, carry_stopped, carry_failed}
+use Rattle.fast_machine.proofs.steps.Recounted.{meaning-turns, supplied-turns}
 use Rattle.fast_decoder.proofs.streams.Following.{carries_follow, fault_follows, failed_follows}
-use Rattle.fast_decoder.proofs.steps.Paying.{feed_paid, all_within, feed_turns, sound_on}
+use Rattle.fast_decoder.proofs.streams.Paying.{feed_paid, all_within, feed_turns, sound_on}
 use Rattle.fast_decoder.proofs.decoder.Decoder.feed.Goals as goal
 
 pub returns-in-Some-clause-carried : goal.returns-in-Some-clause-carried

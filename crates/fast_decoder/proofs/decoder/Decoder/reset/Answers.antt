@@ -1,6 +1,6 @@
 use Rattle.std.proofs.Common.{refl}
 use Rattle.std.specs.Prelude.{None}
-use Rattle.fast_decoder.specs.device.Positions.{set_of, IsSupplied, IsFresh}
+use Rattle.fast_machine.specs.device.Positions.{set_of, IsSupplied, IsFresh}
 use Rattle.fast_decoder.specs.meaning.Decoding.{DecoderData}
 use Rattle.fast_decoder.proofs.streams.Bounds.{stored-bound}
 use Rattle.fast_decoder.proofs.streams.Starts.{sound_fresh, read_fresh}

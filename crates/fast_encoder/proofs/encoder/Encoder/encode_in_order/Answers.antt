@@ -8,7 +8,7 @@ use Rattle.fast_tree.specs.device.Bodies.{body_among}
 use Rattle.fast_template.specs.declared.sets.Templates.{Templates}
 use Rattle.fast_template.specs.meaning.Flat.{nodes_of, tree_of}
 use Rattle.fast_template.proofs.SetTrees.{distinct_ids}
-use Rattle.fast_decoder.specs.device.Positions.{set_of}
+use Rattle.fast_machine.specs.device.Positions.{set_of}
 use Rattle.fast_spelling.specs.declared.faults.EncodeFault.TheVariants.{E2, E4}
 use Rattle.fast_spelling.specs.meaning.Encoding.{EncodesMessage}
 use Rattle.fast_spelling.specs.meaning.Ledgers.{LedgerData}

@@ -6,7 +6,7 @@ use Rattle.fast_value.specs.meaning.Views.{message_data}
 use Rattle.fast_template.specs.declared.sets.Templates.{Templates}
 use Rattle.fast_template.specs.meaning.Flat.{tree_of}
 use Rattle.fast_template.proofs.SetTrees.{distinct_ids}
-use Rattle.fast_decoder.specs.device.Positions.{set_of}
+use Rattle.fast_machine.specs.device.Positions.{set_of}
 use Rattle.fast_spelling.specs.meaning.Encoding.{EncodesMessage}
 use Rattle.fast_spelling.specs.meaning.Ledgers.{LedgerData}
 use Rattle.fast_spelling.proofs.encodings.Encoded.{encoded_is_spelled}

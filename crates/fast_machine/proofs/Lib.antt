@@ -1,0 +1,6 @@
+pub mod machines
+pub mod streams
+pub mod units
+pub mod fields
+pub mod steps
+pub mod arms

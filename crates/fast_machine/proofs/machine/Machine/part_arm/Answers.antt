@@ -1,0 +1,48 @@
+-- The text that the entry holds when the part is joined to it.
+use Rattle.std.proofs.Common.{refl, sym, inl}
+use Rattle.std.specs.Prelude.{[], take, drop, option_map}
+use Rattle.fast_value.specs.meaning.Values.{scalar_data}
+use Rattle.fast_tree.specs.declared.operators.Operator.TheVariants.{Delta}
+use Rattle.fast_machine.specs.device.Positions.{set_of}
+use Rattle.fast_machine.proofs.arms.Fields.{op_node, entry_there, as_coded, served, field_of, uses_as}
+use Rattle.fast_machine.proofs.arms.Texts.{entry_kept, text_taken}
+use Rattle.fast_machine.proofs.machine.Machine.part_arm.Goals as goal
+
+pub sent_delta-requires-clause-there : goal.sent_delta-requires-clause-there
+sent_delta-requires-clause-there g c =
+    let m = c.args.self.now in
+    let p = c.args.spot.now.place in
+    let (x, found) = op_node c.args.templates.now m p c.args.op.now c.requires.at in
+    entry_there c.args.templates.now c.args.limits m p c.args.op.now c.args.kind Delta c.args.optional c.requires.spot c.requires.at c.requires.field x found refl
+
+pub kept_at-value-requires-clause-there : goal.kept_at-value-requires-clause-there
+kept_at-value-requires-clause-there g c =
+    let m = c.args.self.now in
+    let p = c.args.spot.now.place in
+    let (x, found) = op_node c.args.templates.now m p c.args.op.now c.requires.at in
+    entry_kept c.args.op.now.entry m.slots c.sent_delta.new.slots c.in-Some.ensures.terms
+    (entry_there c.args.templates.now c.args.limits m p c.args.op.now c.args.kind Delta c.args.optional c.requires.spot c.requires.at c.requires.field x found refl)
+
+pub returns-in-Some : goal.returns-in-Some
+returns-in-Some g c =
+    let t = c.args.templates.now in
+    let l = c.args.limits in
+    let m = c.args.self.now in
+    let from = c.args.spot.now in
+    let op = c.args.op.now in
+    let kind = c.args.kind in
+    let optional = c.args.optional in
+    let slots = c.sent_delta.new.slots in
+    let joined = c.sent_delta.new.joined in
+    let taken = c.in-Some.taken in
+    let (x, found) = op_node t m from.place op c.requires.at in
+    let f = field_of t l m from.place op kind Delta optional c.requires.spot c.requires.at c.requires.field x found in
+    let same = as_coded t l m from.place op kind Delta optional c.requires.spot c.requires.at c.requires.field x found in
+    record {
+      went = c.hand_taken.ensures.went (set_of t) l m (record m { slots = slots; joined = joined }) f
+          (sym (uses_as t l m from.place op kind Delta optional c.requires.spot c.requires.at c.requires.field x found)) refl
+          (text_taken t l m from op kind Delta optional c.requires.spot c.requires.at c.requires.field x found slots m.text joined taken.source taken.from taken.bytes [] (option_map scalar_data c.kept_at-value.result) (λ e. cc e)
+          (inl refl) c.in-Some.ensures.terms refl c.in-Some.ensures.joined
+          (c.in-Some.ensures.unit f [] same (served t l m from.place op kind Delta optional c.requires.spot c.requires.at c.requires.field x found))
+          (c.kept_at-value.ensures f optional Delta [] (drop taken.from (take taken.bytes from.rest.now)) same refl));
+    }

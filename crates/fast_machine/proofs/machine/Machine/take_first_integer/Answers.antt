@@ -1,0 +1,141 @@
+use Rattle.std.proofs.Common.{sym, ap, ◌∙◌, subst}
+use Rattle.fast_tree.specs.device.Numbers.{numbers_of}
+use Rattle.fast_tree.specs.device.Nodes.{field_data}
+use Rattle.fast_tree.specs.declared.instructions.Shape.TheVariants.{Field}
+use Rattle.fast_dict.specs.meaning.Slots.{slots_dictionary}
+use Rattle.fast_machine.specs.device.Scalars.{IsOfField}
+use Rattle.fast_machine.specs.device.Positions.{set_of, state_in, CanTake}
+use Rattle.fast_machine.specs.declared.machine.Waiting.{Waiting}
+use Rattle.fast_machine.proofs.steps.FieldTurns.{serves_here}
+use Rattle.fast_machine.proofs.machines.ScalarMachines.{still_supplied, first_taken}
+use Rattle.fast_machine.proofs.fields.ScalarNodes.{at_field_node, at_parts_node, at_sequence_node, no_group, first_below, served_node, first_begins}
+use Rattle.fast_machine.proofs.machine.Machine.take_first_integer.Goals as goal
+
+pub take_first-progress-requires-clause-serves : goal.take_first-progress-requires-clause-serves
+take_first-progress-requires-clause-serves g c =
+    let set = set_of c.args.templates.now in
+    let l = c.args.limits in
+    let m = c.args.self.now in
+    let n = c.in-Some.number in
+    let v = c.node.result.now in
+    let later = c.args.templates.now.nodes_name_later_nodes in
+    let first = sym c.next.ensures ∙ c.in-Some.is in
+    serves_here set l m (field_data c.in-Field.field) c.requires.ready.supplied (served_node set l m n v (Field c.in-Field.field) c.requires.ready.supplied c.node.ensures.found c.in-Field.is)
+
+pub take_first-progress-requires-clause-number : goal.take_first-progress-requires-clause-number
+take_first-progress-requires-clause-number g c =
+    let set = set_of c.args.templates.now in
+    let l = c.args.limits in
+    let m = c.args.self.now in
+    let n = c.in-Some.number in
+    let v = c.node.result.now in
+    let later = c.args.templates.now.nodes_name_later_nodes in
+    let first = sym c.next.ensures ∙ c.in-Some.is in
+    let f = field_data c.in-Field.field in
+    let at = at_field_node set m.cursor n v later first c.node.ensures.found c.in-Field.field c.in-Field.is in
+    (first_begins set l m n f c.requires.ready c.requires.waits at).1
+
+pub take_first-progress-requires-clause-varies : goal.take_first-progress-requires-clause-varies
+take_first-progress-requires-clause-varies g c =
+    let set = set_of c.args.templates.now in
+    let l = c.args.limits in
+    let m = c.args.self.now in
+    let n = c.in-Some.number in
+    let v = c.node.result.now in
+    let later = c.args.templates.now.nodes_name_later_nodes in
+    let first = sym c.next.ensures ∙ c.in-Some.is in
+    let f = field_data c.in-Field.field in
+    let at = at_field_node set m.cursor n v later first c.node.ensures.found c.in-Field.field c.in-Field.is in
+    (first_begins set l m n f c.requires.ready c.requires.waits at).0.varies
+
+pub scalar_taken-requires-clause-next : goal.scalar_taken-requires-clause-next
+scalar_taken-requires-clause-next g c =
+    let set = set_of c.args.templates.now in
+    let l = c.args.limits in
+    let m = c.args.self.now in
+    let n = c.in-Some.number in
+    let v = c.node.result.now in
+    let later = c.args.templates.now.nodes_name_later_nodes in
+    let first = sym c.next.ensures ∙ c.in-Some.is in
+    at_field_node set m.cursor n v later first c.node.ensures.found c.in-Field.field c.in-Field.is
+
+pub scalar_taken-requires-clause-progress : goal.scalar_taken-requires-clause-progress
+scalar_taken-requires-clause-progress g c =
+    let set = set_of c.args.templates.now in
+    let l = c.args.limits in
+    let m = c.args.self.now in
+    let n = c.in-Some.number in
+    let v = c.node.result.now in
+    let later = c.args.templates.now.nodes_name_later_nodes in
+    let first = sym c.next.ensures ∙ c.in-Some.is in
+    let f = field_data c.in-Field.field in
+    let at = at_field_node set m.cursor n v later first c.node.ensures.found c.in-Field.field c.in-Field.is in
+    let supplied = still_supplied set l m c.take_first-progress.new.slots c.take_first-progress.new.pending c.take_first-progress.new.scratch c.take_first-progress.new.joined c.take_first-progress.ensures.terms
+    c.take_first-progress.ensures.capacity.0 c.take_first-progress.ensures.capacity.1 c.requires.ready.supplied in
+    let took = first_taken set l m f n c.args.rest.now c.take_first-progress.new.slots c.take_first-progress.new.pending c.take_first-progress.new.scratch c.take_first-progress.new.joined c.requires.ready at supplied c.take_first-progress.result
+    c.requires.waits c.take_first-progress.ensures.unit c.take_first-progress.ensures.next c.take_first-progress.ensures.pending in
+    took.1
+
+pub returns-in-Field-clause-taken : goal.returns-in-Field-clause-taken
+returns-in-Field-clause-taken g c =
+    let set = set_of c.args.templates.now in
+    let l = c.args.limits in
+    let m = c.args.self.now in
+    let n = c.in-Some.number in
+    let v = c.node.result.now in
+    let later = c.args.templates.now.nodes_name_later_nodes in
+    let first = sym c.next.ensures ∙ c.in-Some.is in
+    let f = field_data c.in-Field.field in
+    let at = at_field_node set m.cursor n v later first c.node.ensures.found c.in-Field.field c.in-Field.is in
+    let supplied = still_supplied set l m c.take_first-progress.new.slots c.take_first-progress.new.pending c.take_first-progress.new.scratch c.take_first-progress.new.joined c.take_first-progress.ensures.terms
+    c.take_first-progress.ensures.capacity.0 c.take_first-progress.ensures.capacity.1 c.requires.ready.supplied in
+    let took = first_taken set l m f n c.args.rest.now c.take_first-progress.new.slots c.take_first-progress.new.pending c.take_first-progress.new.scratch c.take_first-progress.new.joined c.requires.ready at supplied c.take_first-progress.result
+    c.requires.waits c.take_first-progress.ensures.unit c.take_first-progress.ensures.next c.take_first-progress.ensures.pending in
+    c.scalar_taken.ensures.taken m c.requires.ready (subst IsOfField (sym c.requires.waits) tt) c.requires.some took.0
+
+pub take_exponent-requires-clause-next : goal.take_exponent-requires-clause-next
+take_exponent-requires-clause-next g c =
+    let set = set_of c.args.templates.now in
+    let l = c.args.limits in
+    let m = c.args.self.now in
+    let n = c.in-Some.number in
+    let v = c.node.result.now in
+    let later = c.args.templates.now.nodes_name_later_nodes in
+    let first = sym c.next.ensures ∙ c.in-Some.is in
+    at_parts_node set m.cursor n v later first c.node.ensures.found c.in-Decimal.exponent c.in-Decimal.mantissa c.in-Decimal.is
+
+pub take_length-requires-clause-next : goal.take_length-requires-clause-next
+take_length-requires-clause-next g c =
+    let set = set_of c.args.templates.now in
+    let l = c.args.limits in
+    let m = c.args.self.now in
+    let n = c.in-Some.number in
+    let v = c.node.result.now in
+    let later = c.args.templates.now.nodes_name_later_nodes in
+    let first = sym c.next.ensures ∙ c.in-Some.is in
+    at_sequence_node set m.cursor n v later first c.node.ensures.found c.in-Sequence.length c.in-Sequence.body _ c.in-Sequence.is
+    ((c.body_start-start.ensures v c.node.ensures.found).nodes ∙ ap numbers_of c.in-Sequence.is)
+
+pub take_length-requires-clause-node : goal.take_length-requires-clause-node
+take_length-requires-clause-node g c =
+    let set = set_of c.args.templates.now in
+    let l = c.args.limits in
+    let m = c.args.self.now in
+    let n = c.in-Some.number in
+    let v = c.node.result.now in
+    let later = c.args.templates.now.nodes_name_later_nodes in
+    let first = sym c.next.ensures ∙ c.in-Some.is in
+    let can = subst (λ (w : Waiting). CanTake w set l m) c.requires.waits c.requires.ready.takes in
+    first_below _ m.cursor.left n can.0.below first
+
+pub returns-in-Group-clause-taken : goal.returns-in-Group-clause-taken
+returns-in-Group-clause-taken g c =
+    let set = set_of c.args.templates.now in
+    let l = c.args.limits in
+    let m = c.args.self.now in
+    let n = c.in-Some.number in
+    let v = c.node.result.now in
+    let later = c.args.templates.now.nodes_name_later_nodes in
+    let first = sym c.next.ensures ∙ c.in-Some.is in
+    let can = subst (λ (w : Waiting). CanTake w set l m) c.requires.waits c.requires.ready.takes in
+    absurd (no_group set m.cursor n v later first c.node.ensures.found (state_in (slots_dictionary m.slots) m.counted m.cursor) c.in-Group.optional c.in-Group.body c.in-Group.is can.2)

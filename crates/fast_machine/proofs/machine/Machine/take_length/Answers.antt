@@ -1,0 +1,67 @@
+use Rattle.std.proofs.Common.{refl, []}
+use Rattle.fast_value.specs.meaning.Limits.{bounds}
+use Rattle.fast_tree.specs.device.Nodes.{field_data}
+use Rattle.fast_dict.specs.meaning.Slots.{slots_dictionary}
+use Rattle.fast_stream.specs.device.Continuations.{sequence_from_then, segment_then, body_then}
+use Rattle.fast_machine.specs.device.Positions.{set_of, run_in, body_in, turning, meaning}
+use Rattle.fast_stream.specs.declared.faults.FaultCode.TheVariants as Why
+use Rattle.fast_machine.proofs.machines.PartTakes.{integer_whole, integer_wrong, integer_cut, length_sees, length_sent, sequence_next, meaning_first, first_cut, first_ready, part_supplied}
+use Rattle.fast_machine.proofs.machines.UnitTaken.{cut_to, wrong_to}
+use Rattle.fast_machine.proofs.steps.FieldTurns.{serves_here, behind}
+use Rattle.fast_machine.proofs.machine.Machine.take_length.Goals as goal
+
+pub take_integer-requires-clause-serves : goal.take_integer-requires-clause-serves
+take_integer-requires-clause-serves g c = serves_here (set_of c.args.templates.now) c.args.limits c.args.self.now (field_data c.args.length.now) c.requires.ready.supplied c.requires.serves
+
+pub returns-in-Cut-clause-taken : goal.returns-in-Cut-clause-taken
+returns-in-Cut-clause-taken g c =
+    let takes = g.S.Sink.takes in
+    let stops = g.S.Sink.stops in
+    let set = set_of c.args.templates.now in
+    let l = c.args.limits in
+    let m = c.args.self.now in
+    let f = field_data c.args.length.now in
+    let n = c.args.node in
+    let k = sequence_from_then (bounds l) n (segment_then (body_in set (run_in (set_of c.args.templates.now) c.args.start)) (body_then (bounds l) (body_in set (run_in (set_of c.args.templates.now) c.args.start)))) (behind set l m) in
+    let sent = length_sent set l m n f (run_in (set_of c.args.templates.now) c.args.start) c.requires.ready c.requires.waits c.requires.next in
+    let next = sequence_next set l m n f (run_in (set_of c.args.templates.now) c.args.start) c.requires.next in
+    let is = meaning_first set l m c.requires.waits in
+    let a = record m { slots = c.take_integer.new.slots; entity = c.take_integer.new.pending } in
+    let (stays, same) = c.in-Cut.ensures.unit (bounds l) [] in
+    cut_to takes stops set l (meaning set l m) c.args.rest.now c.args.sink.now a c.cut.ensures.bytes c.cut.ensures.turn
+    (first_ready set l m c.take_integer.new.slots c.take_integer.new.pending c.requires.ready c.take_integer.ensures.terms c.requires.waits same)
+    (integer_cut takes stops set l m f k (turning set l m) c.args.rest.now sent next is a c.take_integer.new.pending (first_cut set l m c.take_integer.new.slots c.take_integer.new.pending c.requires.waits same) (c.in-Cut.ensures.cut refl) c.requires.some stays c.args.sink.now)
+
+pub returns-in-Wrong-clause-taken : goal.returns-in-Wrong-clause-taken
+returns-in-Wrong-clause-taken g c =
+    let takes = g.S.Sink.takes in
+    let stops = g.S.Sink.stops in
+    let set = set_of c.args.templates.now in
+    let l = c.args.limits in
+    let m = c.args.self.now in
+    let f = field_data c.args.length.now in
+    let n = c.args.node in
+    let k = sequence_from_then (bounds l) n (segment_then (body_in set (run_in (set_of c.args.templates.now) c.args.start)) (body_then (bounds l) (body_in set (run_in (set_of c.args.templates.now) c.args.start)))) (behind set l m) in
+    let sent = length_sent set l m n f (run_in (set_of c.args.templates.now) c.args.start) c.requires.ready c.requires.waits c.requires.next in
+    let next = sequence_next set l m n f (run_in (set_of c.args.templates.now) c.args.start) c.requires.next in
+    let is = meaning_first set l m c.requires.waits in
+    let a = record m { slots = c.take_integer.new.slots; entity = c.take_integer.new.pending } in
+    wrong_to takes stops set l (meaning set l m) c.args.rest.now c.args.sink.now a (Why.Stream c.in-Wrong.code) c.wrong.ensures.bytes c.wrong.ensures.turn
+    (part_supplied set l m c.take_integer.new.slots c.take_integer.new.pending c.requires.ready c.take_integer.ensures.terms)
+    (integer_wrong takes stops set l m f k (turning set l m) c.args.rest.now sent next is (slots_dictionary c.take_integer.new.slots) [] c.in-Wrong.code c.in-Wrong.bytes (c.in-Wrong.ensures.unit (bounds l) []) c.args.sink.now)
+
+pub returns-in-Whole-clause-taken : goal.returns-in-Whole-clause-taken
+returns-in-Whole-clause-taken g c =
+    let takes = g.S.Sink.takes in
+    let stops = g.S.Sink.stops in
+    let set = set_of c.args.templates.now in
+    let l = c.args.limits in
+    let m = c.args.self.now in
+    let f = field_data c.args.length.now in
+    let n = c.args.node in
+    let k = sequence_from_then (bounds l) n (segment_then (body_in set (run_in (set_of c.args.templates.now) c.args.start)) (body_then (bounds l) (body_in set (run_in (set_of c.args.templates.now) c.args.start)))) (behind set l m) in
+    let sent = length_sent set l m n f (run_in (set_of c.args.templates.now) c.args.start) c.requires.ready c.requires.waits c.requires.next in
+    let next = sequence_next set l m n f (run_in (set_of c.args.templates.now) c.args.start) c.requires.next in
+    let is = meaning_first set l m c.requires.waits in
+    integer_whole takes stops set l m f k (turning set l m) c.args.rest.now sent next is (length_sees (bounds l) n (body_in set (run_in (set_of c.args.templates.now) c.args.start)) (behind set l m)) c.take_integer.new.slots m.text.text c.in-Whole.source c.in-Whole.bytes (c.in-Whole.ensures.unit (bounds l) m.text.text)
+    c.args.sink.now c.length_known-turn.result c.length_known-turn.new.sink c.length_known-turn.new.self c.length_known-turn.ensures.turn

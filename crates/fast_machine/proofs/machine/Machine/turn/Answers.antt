@@ -1,0 +1,31 @@
+use Rattle.fast_machine.proofs.fields.Heads.{node_within, field_head, parts_head, group_head, sequence_head}
+use Rattle.std.proofs.Common.{rules, sym, ap, ◌∙◌}
+use Rattle.fast_tree.specs.device.Numbers.{numbers_of}
+use Rattle.fast_machine.proofs.machine.Machine.turn.Goals as goal
+
+pub begin_field-requires-clause-next : goal.begin_field-requires-clause-next
+begin_field-requires-clause-next g c = field_head c.args.templates.now c.args.self.now.cursor c.in-Some.number c.node.result.now (sym c.next.ensures ∙ c.in-Some.is) c.node.ensures.found c.in-Field.field c.in-Field.is
+
+pub begin_decimal-requires-clause-next : goal.begin_decimal-requires-clause-next
+begin_decimal-requires-clause-next g c =
+    parts_head c.args.templates.now c.args.self.now.cursor c.in-Some.number c.node.result.now (sym c.next.ensures ∙ c.in-Some.is) c.node.ensures.found c.in-Decimal.exponent c.in-Decimal.mantissa c.in-Decimal.is
+
+pub begin_group-requires-clause-next : goal.begin_group-requires-clause-next
+begin_group-requires-clause-next g c =
+    group_head c.args.templates.now c.args.self.now.cursor c.in-Some.number c.node.result.now (sym c.next.ensures ∙ c.in-Some.is) c.node.ensures.found c.in-Group.optional c.in-Group.body _ c.in-Group.is
+    ((c.body_start-start.ensures c.node.result.now c.node.ensures.found).nodes ∙ ap numbers_of c.in-Group.is)
+
+pub begin_group-requires-clause-node : goal.begin_group-requires-clause-node
+begin_group-requires-clause-node g c = node_within c.args.templates.now c.args.self.now.cursor c.in-Some.number c.node.result.now (sym c.next.ensures ∙ c.in-Some.is) c.node.ensures.found
+
+pub begin_sequence-requires-clause-next : goal.begin_sequence-requires-clause-next
+begin_sequence-requires-clause-next g c =
+    sequence_head c.args.templates.now c.args.self.now.cursor c.in-Some.number c.node.result.now (sym c.next.ensures ∙ c.in-Some.is) c.node.ensures.found c.in-Sequence.length c.in-Sequence.body _ c.in-Sequence.is
+    ((c.body_start-start-in-Sequence.ensures c.node.result.now c.node.ensures.found).nodes ∙ ap numbers_of c.in-Sequence.is)
+
+pub begin_sequence-requires-clause-node : goal.begin_sequence-requires-clause-node
+begin_sequence-requires-clause-node g c = node_within c.args.templates.now c.args.self.now.cursor c.in-Some.number c.node.result.now (sym c.next.ensures ∙ c.in-Some.is) c.node.ensures.found
+
+-- A goal that a wrong body would leave.
+pub returns-in-Field-clause-turns : goal.returns-in-Field-clause-turns
+returns-in-Field-clause-turns g c = search rules

@@ -1,0 +1,12 @@
+-- Turns of the machine, and their count.
+pub mod Moves
+pub mod FieldTurns
+pub mod SegmentTurns
+pub mod Begun
+pub mod BegunAt
+pub mod Answered
+pub mod Awaiting
+pub mod TurnCounts
+pub mod Opened
+pub mod NextElements
+pub mod Recounted

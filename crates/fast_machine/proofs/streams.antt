@@ -1,0 +1,3 @@
+-- Steps, one after the other.
+pub mod Feeding
+pub mod Running

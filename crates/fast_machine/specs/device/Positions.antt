@@ -1,0 +1,315 @@
+-- Where a machine is in a stream, by what it keeps.
+use Rattle.std.specs.Prelude.{◌≡◌, ◌⊎◌, ℕ, suc, ◌+◌, ◌<◌, ◌≤◌, Bool, true, false, nat_eq, if◌then◌else◌, List, [], ◌∷◌, length, drop, map, slice_get, ℤ, Option, Some, None, Result, Ok, Err}
+use Rattle.fast_wire.specs.meaning.Entities.{HaveNoStop, IsEntity}
+use Rattle.fast_wire.specs.meaning.Maps.{map_limit, bits, first_bit}
+use Rattle.fast_value.specs.declared.settings.Limits.{Limits}
+use Rattle.fast_value.specs.meaning.Limits.{Bounds, bounds}
+use Rattle.fast_value.specs.declared.kinds.Kind.{Kind}
+use Rattle.fast_template.specs.declared.opcodes.Sending.{Sending}
+use Rattle.fast_template.specs.device.Opcodes.{IsSentAs}
+use Rattle.fast_tree.specs.declared.instructions.FieldInstruction.{FieldInstruction}
+use Rattle.fast_tree.specs.declared.instructions.Shape.TheVariants as Shape
+use Rattle.fast_tree.specs.declared.instructions.Node.{Node}
+use Rattle.fast_tree.specs.declared.instructions.Template.{Template}
+use Rattle.fast_tree.specs.device.Numbers.{AreBelow}
+use Rattle.fast_tree.specs.meaning.Sizes.{body_depth, set_depth}
+use Rattle.fast_tree.specs.meaning.Tree.{Label, FieldData, identifier, uses_bit, field, parts, group, sequence, Body, step, bits_of, Tree}
+use Rattle.fast_template.specs.declared.sets.Templates.{Templates}
+use Rattle.fast_template.specs.device.Programs.{program_of}
+use Rattle.fast_template.specs.meaning.Flat.{field_data, instructions_from, template_data, templates_of, nodes_of}
+use Rattle.fast_dict.specs.meaning.Dictionary.{Dictionary, fresh, previous_at}
+use Rattle.fast_dict.specs.meaning.Slots.{slots_dictionary, slots_terms}
+use Rattle.fast_stream.specs.meaning.Events.{EventData}
+use Rattle.fast_machine.specs.device.Moving.{Moves}
+use Rattle.fast_stream.specs.meaning.Phrases.{cut}
+use Rattle.fast_stream.specs.meaning.Units.{ascii_text}
+use Rattle.fast_stream.specs.meaning.Grammar.{Grammar, presence_map, narrow, ◌>>=◌}
+use Rattle.fast_stream.specs.meaning.Messages.{State, begin, field_in, found, decimal_with}
+use Rattle.fast_stream.specs.device.Readers.{Reader, Done, bind}
+use Rattle.fast_stream.specs.device.GrammarReaders.{settles_reader, judged_map, reader_of}
+use Rattle.fast_stream.specs.device.Continuations.{handed_then, message_behind_then, message_then}
+use Rattle.fast_stream.specs.device.Frames.{Frame, open_group, open_element, resume}
+use Rattle.fast_stream.specs.device.Machine.{after_bytes}
+use Rattle.fast_program.specs.declared.ops.Op.{Op}
+use Rattle.fast_cursor.specs.device.Runs.{run_at}
+use Rattle.fast_cursor.specs.device.Cursors.{ElementsData, FrameData, CursorData, bits_behind, bits_left, resting}
+use Rattle.fast_machine.specs.device.Serving.{ServesNodes}
+use Rattle.fast_tree.specs.device.Bodies.{body_among, AreNodeWidths, AreTemplateWidths}
+use Rattle.fast_units.specs.device.Stages.{term_behind, IsStageOf}
+use Rattle.fast_units.specs.device.UnitFronts.{IsSent, IsAsciiFirst, IsNumberStage, IsBytesStage}
+use Rattle.fast_units.specs.declared.stages.Stage.{Stage}
+use Rattle.fast_machine.specs.declared.machine.Machine.{Machine}
+use Rattle.fast_stream.specs.declared.faults.FaultCode.{FaultCode}
+use Rattle.fast_machine.specs.declared.machine.Turn.{Turn}
+use Rattle.fast_machine.specs.declared.machine.Turn.TheVariants.{Silent, Handed, Waits}
+use Rattle.fast_machine.specs.declared.machine.Waiting.{Waiting}
+use Rattle.fast_machine.specs.declared.machine.Waiting.TheVariants.{Map, Identifier, SegmentMap, Field, Text, Number, Bytes, Mantissa}
+
+-- A template set as its templates, its nodes, its program and the number of its entries.
+pub record Set : Type 0 where
+  pub templates : List Template
+  pub nodes : List Node
+  pub program : List Op
+  pub entries : ℕ
+
+-- the tree of a set
+abbrev pub tree_in : Set → Tree
+tree_in set = record { templates = map (template_data (instructions_from 0 set.nodes)) set.templates; entries = set.entries }
+
+-- the set of a checked set of the Rust type
+abbrev pub set_of : Templates → Set
+set_of t = record { templates = templates_of t; nodes = nodes_of t; program = program_of t; entries = t.entries }
+
+-- the body of nodes of a set
+abbrev pub body_in : Set → List ℕ → Body
+body_in set ns = body_among set.nodes ns
+
+-- the nodes of the run that begins at a place in a set's program
+abbrev pub run_in : Set → ℕ → List ℕ
+run_in set start = run_at set.program start
+
+-- an open segment, by what is still to come of a sequence
+abbrev pub frame_by : Set → FrameData → Option ElementsData → Frame
+frame_by set f None = open_group (body_in set f.after) (bits_behind f.map f.used)
+frame_by set f (Some e) = open_element e.more (body_in set e.body) (body_in set f.after) (bits_behind f.map f.used)
+
+-- open segments
+abbrev pub frames_in : Set → List FrameData → List Frame
+frames_in set [] = []
+frames_in set (f ∷ fs) = frame_by set f f.elements ∷ frames_in set fs
+
+-- the state in a segment
+abbrev pub state_in : Dictionary → ℕ → CursorData → State
+state_in d counted c = record { context = record { dictionary = d; counted = counted }; bits = bits_left c }
+
+-- what is to be read from the next instruction on
+abbrev pub going_on : Set → Bounds → Dictionary → ℕ → CursorData → Grammar Dictionary
+going_on set l d counted c = resume l (frames_in set c.frames) (body_in set c.left) (state_in d counted c)
+
+-- the bit of a field: set, if it uses none
+abbrev pub bit_of : FieldData → State → Bool
+bit_of f s = if uses_bit f then first_bit s.bits else true
+
+-- what is read of the next instruction's field from a later unit on, and behind it
+abbrev pub unit_then : Bounds → List Frame → Body → State → Stage → Grammar Dictionary
+unit_then l fs (step (field at f) is) s stage =
+    term_behind l f (previous_at f.entry s.context.dictionary) stage >>= (λ o. handed_then at.node (resume l fs is) (found f s o).0 (found f s o).1)
+unit_then l fs body s stage = resume l fs body s
+
+-- what is read of the next decimal from its mantissa on, and behind it
+abbrev pub mantissa_then : Bounds → List Frame → Body → State → ℤ → Grammar Dictionary
+mantissa_then l fs (step (parts at e m) is) s x = field_in l m s >>= (λ r. handed_then at.node (resume l fs is) (decimal_with x r.0) r.1)
+mantissa_then l fs body s x = resume l fs body s
+
+-- what is read behind a whole map
+abbrev pub behind_map : Set → Bounds → Dictionary → List ℕ → Grammar Dictionary
+behind_map set l d m = field_in l identifier (begin d (bits m)) >>= message_behind_then (tree_in set) l m
+
+-- what is read of a segment from its map on
+abbrev pub segment_behind : Set → Bounds → Dictionary → ℕ → CursorData → ℕ → Grammar Dictionary
+segment_behind set l d counted c width =
+    presence_map (λ m. narrow width m (resume l (frames_in set c.frames) (body_in set c.left) (record { context = record { dictionary = d; counted = counted }; bits = bits m })))
+
+-- what a machine has still to read, from the unit in hand on
+abbrev pub term_at : Waiting → Set → Bounds → Machine → Grammar Dictionary
+term_at Map set l m = message_then (tree_in set) l (slots_dictionary m.slots)
+term_at Identifier set l m = behind_map set l (slots_dictionary m.slots) m.cursor.map
+term_at (SegmentMap width) set l m = segment_behind set l (slots_dictionary m.slots) m.counted m.cursor width
+term_at Field set l m = going_on set l (slots_dictionary m.slots) m.counted m.cursor
+term_at Text set l m = going_on set l (slots_dictionary m.slots) m.counted m.cursor
+term_at (Number stage) set l m = unit_then l (frames_in set m.cursor.frames) (body_in set m.cursor.left) (state_in (slots_dictionary m.slots) m.counted m.cursor) stage
+term_at (Bytes stage) set l m = unit_then l (frames_in set m.cursor.frames) (body_in set m.cursor.left) (state_in (slots_dictionary m.slots) m.counted m.cursor) stage
+term_at (Mantissa x) set l m = mantissa_then l (frames_in set m.cursor.frames) (body_in set m.cursor.left) (state_in (slots_dictionary m.slots) m.counted m.cursor) x
+
+-- the bytes of the unit in hand that have come
+abbrev pub front_at : Waiting → Machine → List ℕ
+front_at Map m = m.cursor.map
+front_at Identifier m = m.entity.bytes
+front_at (SegmentMap width) m = m.cursor.map
+front_at Field m = m.entity.bytes
+front_at Text m = m.text.text
+front_at (Number stage) m = m.entity.bytes
+front_at (Bytes stage) m = m.text.text
+front_at (Mantissa x) m = m.entity.bytes
+
+-- the reader of a message whose map begins with these bytes; without any no message is begun
+abbrev pub map_reader : Set → Limits → Dictionary → List ℕ → Reader Dictionary
+map_reader set l d [] = Done d
+map_reader set l d (b ∷ w) = after_bytes (reader_of l.strict (message_then (tree_in set) (bounds l) d)) (b ∷ w)
+
+-- what is read at a whole map
+abbrev pub mapped_reader : Set → Limits → Dictionary → List ℕ → Reader Dictionary
+mapped_reader set l d w = bind (settles_reader (judged_map l.strict w)) (λ m. reader_of l.strict (behind_map set (bounds l) d m))
+
+-- what a machine has still to read, behind the bytes of a unit that have come
+abbrev pub unit_reader : Waiting → Set → Limits → Machine → Reader Dictionary
+unit_reader w set l m = after_bytes (reader_of l.strict (term_at w set (bounds l) m)) (front_at w m)
+
+-- what a machine has still to read, by the unit that it waits for
+abbrev pub meaning_at : Waiting → Set → Limits → Machine → Reader Dictionary
+meaning_at Map set l m = map_reader set l (slots_dictionary m.slots) m.cursor.map
+meaning_at Identifier set l m = unit_reader Identifier set l m
+meaning_at (SegmentMap width) set l m = unit_reader (SegmentMap width) set l m
+meaning_at Field set l m = unit_reader Field set l m
+meaning_at Text set l m = unit_reader Text set l m
+meaning_at (Number stage) set l m = unit_reader (Number stage) set l m
+meaning_at (Bytes stage) set l m = unit_reader (Bytes stage) set l m
+meaning_at (Mantissa x) set l m = unit_reader (Mantissa x) set l m
+
+-- what a machine has still to read
+abbrev pub meaning : Set → Limits → Machine → Reader Dictionary
+meaning set l m = meaning_at m.waiting set l m
+
+-- A segment has no map, or its map is whole.
+abbrev pub IsMapWhole : List ℕ → Type 0
+IsMapWhole map = (map ≡ []) ⊎ IsEntity map
+
+-- What is still to come of a sequence: the nodes are of the set, nest no deeper than there are frames, and use these bits.
+abbrev pub AreElementsFit : Set → ℕ → ℕ → Option ElementsData → Type 0
+AreElementsFit set depth level None = Unit {0}
+AreElementsFit set depth level (Some e) = AreBelow (length set.nodes) e.body × (suc level + body_depth (body_in set e.body) ≤ depth) × (e.width ≡ bits_of (body_in set e.body))
+
+-- An open segment, with so many around it: its nodes are of the set, and nest no deeper than there are frames.
+pub record IsFrameFit (set : Set) (depth level : ℕ) (f : FrameData) : Type 0 where
+  pub below : AreBelow (length set.nodes) f.after
+  pub nested : level + body_depth (body_in set f.after) ≤ depth
+  pub mapped : IsMapWhole f.map
+  pub elements : AreElementsFit set depth level f.elements
+
+-- so are all
+abbrev pub AreFramesFit : Set → ℕ → List FrameData → Type 0
+AreFramesFit set depth [] = Unit {0}
+AreFramesFit set depth (f ∷ fs) = IsFrameFit set depth (length fs) f × AreFramesFit set depth fs
+
+-- The cursor stands in messages of the set.
+pub record IsPlaced (set : Set) (c : CursorData) : Type 0 where
+  pub below : AreBelow (length set.nodes) c.left
+  pub nested : length c.frames + body_depth (body_in set c.left) ≤ c.depth
+  pub frames : AreFramesFit set c.depth c.frames
+
+-- What a machine is made with, and keeps.
+pub record IsSupplied (set : Set) (l : Limits) (m : Machine) : Type 0 where
+  pub entries : (slots_terms m.slots).entries ≡ set.entries
+  pub serves : ServesNodes set.entries (slots_terms m.slots) set.nodes
+  pub some_entry : 1 ≤ set.entries
+  pub max_text : (slots_terms m.slots).max_text ≡ l.max_text
+  pub least_text : 16 ≤ l.max_text
+  pub text_room : m.text.capacity ≡ l.max_text
+  pub joined_room : m.joined.capacity ≡ l.max_text
+  pub node_widths : AreNodeWidths set.nodes m.widths.nodes.items
+  pub template_widths : AreTemplateWidths set.nodes set.templates m.widths.templates.items
+  pub depth : m.cursor.depth ≡ set_depth (tree_in set)
+  pub program : m.cursor.ops ≡ set.program
+  pub identifier : field_data m.identifier ≡ identifier
+  pub counted : m.counted ≤ l.max_total
+
+-- The next instruction begins with an integer.
+abbrev pub BeginsWithInteger : Body → State → Type 0
+BeginsWithInteger (step (field at f) is) s = IsSent f (bit_of f s) × ¬ (IsAsciiFirst f)
+BeginsWithInteger (step (parts at e m) is) s = IsSent e (bit_of e s)
+BeginsWithInteger (step (sequence at f body) is) s = IsSent f (bit_of f s)
+BeginsWithInteger body s = ⊥
+
+-- The next instruction is an ASCII text, of which these bytes have come.
+abbrev pub BeginsWithText : Limits → Body → State → List ℕ → Type 0
+BeginsWithText l (step (field at f) is) s front = IsSent f (bit_of f s) × IsAsciiFirst f × ascii_text f.optional l.max_text front [] cut
+BeginsWithText l body s front = ⊥
+
+-- The next instruction is a decimal by parts, whose mantissa stands in the stream.
+abbrev pub GoesOnWithMantissa : Body → State → Type 0
+GoesOnWithMantissa (step (parts at e m) is) s = IsSent m (bit_of m s)
+GoesOnWithMantissa body s = ⊥
+
+-- The next instruction is a field that goes on with this stage.
+abbrev pub GoesOnWithNumber : Limits → Body → State → Stage → Type 0
+GoesOnWithNumber l (step (field at f) is) s stage = IsSent f (bit_of f s) × IsStageOf (bounds l) f (previous_at f.entry s.context.dictionary) stage × IsNumberStage f stage
+GoesOnWithNumber l body s stage = ⊥
+
+abbrev pub GoesOnWithBytes : Limits → Body → State → Stage → List ℕ → Type 0
+GoesOnWithBytes l (step (field at f) is) s stage front =
+    IsSent f (bit_of f s) × IsStageOf (bounds l) f (previous_at f.entry s.context.dictionary) stage × IsBytesStage (bounds l) f (previous_at f.entry s.context.dictionary) stage front
+GoesOnWithBytes l body s stage front = ⊥
+
+-- The machine can take the unit that it waits for.
+abbrev pub CanTake : Waiting → Set → Limits → Machine → Type 0
+CanTake Map set l m = HaveNoStop m.cursor.map × (length m.cursor.map < map_limit) × (m.entity.bytes ≡ []) × (m.cursor ≡ record (resting m.cursor) { map = m.cursor.map })
+CanTake Identifier set l m = IsEntity m.cursor.map × (first_bit (bits m.cursor.map) ≡ true) × (m.cursor ≡ record (resting m.cursor) { map = m.cursor.map })
+CanTake (SegmentMap width) set l m = HaveNoStop m.cursor.map × (length m.cursor.map < map_limit) × (m.entity.bytes ≡ []) × (m.cursor.used ≡ 0) × IsPlaced set m.cursor × (width ≡ bits_of (body_in set m.cursor.left))
+CanTake Field set l m = IsPlaced set m.cursor × IsMapWhole m.cursor.map × BeginsWithInteger (body_in set m.cursor.left) (state_in (slots_dictionary m.slots) m.counted m.cursor)
+CanTake Text set l m = IsPlaced set m.cursor × IsMapWhole m.cursor.map × (m.entity.bytes ≡ []) × BeginsWithText l (body_in set m.cursor.left) (state_in (slots_dictionary m.slots) m.counted m.cursor) m.text.text
+CanTake (Number stage) set l m = IsPlaced set m.cursor × IsMapWhole m.cursor.map × GoesOnWithNumber l (body_in set m.cursor.left) (state_in (slots_dictionary m.slots) m.counted m.cursor) stage
+CanTake (Bytes stage) set l m = IsPlaced set m.cursor × IsMapWhole m.cursor.map × (m.entity.bytes ≡ []) × GoesOnWithBytes l (body_in set m.cursor.left) (state_in (slots_dictionary m.slots) m.counted m.cursor) stage m.text.text
+CanTake (Mantissa x) set l m = IsPlaced set m.cursor × IsMapWhole m.cursor.map × GoesOnWithMantissa (body_in set m.cursor.left) (state_in (slots_dictionary m.slots) m.counted m.cursor)
+
+-- The machine can go on.
+pub record IsReady (set : Set) (l : Limits) (m : Machine) : Type 0 where
+  pub supplied : IsSupplied set l m
+  pub takes : CanTake m.waiting set l m
+
+-- The next instruction is a field, and so on.
+abbrev pub IsAtField : Set → CursorData → ℕ → FieldData → Type 0
+IsAtField set c n f = (at : Label) × (at.node ≡ n) × (0 < length c.left) × (body_in set c.left ≡ step (field at f) (body_in set (drop 1 c.left)))
+
+abbrev pub IsAtParts : Set → CursorData → ℕ → FieldData → FieldData → Type 0
+IsAtParts set c n e m = (at : Label) × (at.node ≡ n) × (0 < length c.left) × (body_in set c.left ≡ step (parts at e m) (body_in set (drop 1 c.left)))
+
+abbrev pub IsAtGroup : Set → CursorData → ℕ → Bool → List ℕ → Type 0
+IsAtGroup set c n optional body = (at : Label) × (at.node ≡ n) × (0 < length c.left) × (body_in set c.left ≡ step (group at optional (body_in set body)) (body_in set (drop 1 c.left)))
+
+abbrev pub IsAtSequence : Set → CursorData → ℕ → FieldData → List ℕ → Type 0
+IsAtSequence set c n f body = (at : Label) × (at.node ≡ n) × (0 < length c.left) × (body_in set c.left ≡ step (sequence at f (body_in set body)) (body_in set (drop 1 c.left)))
+
+-- The node is a field of integers of the kind, which stands so.
+abbrev pub IsAtInteger : Set → ℕ → Kind → Sending → Type 0
+IsAtInteger set n kind sending = (n < length set.nodes) × ((x : Node) → slice_get set.nodes n ≡ Some x → (f : FieldInstruction) × (x.shape ≡ Shape.Field f) × IsSentAs f kind sending)
+
+-- The machine is between two units: no byte is in hand, and what is next may need none.
+pub record CanTurn (set : Set) (l : Limits) (m : Machine) : Type 0 where
+  pub supplied : IsSupplied set l m
+  pub placed : IsPlaced set m.cursor
+  pub mapped : IsMapWhole m.cursor.map
+  pub unused : m.entity.bytes ≡ []
+
+-- what is to be read by a machine between two units
+abbrev pub turning : Set → Limits → Machine → Reader Dictionary
+turning set l m = reader_of l.strict (going_on set (bounds l) (slots_dictionary m.slots) m.counted m.cursor)
+
+-- A machine goes on after a turn: it can take the next one, or the unit that it waits for, or it is at an end.
+abbrev pub GoesOn : Set → Limits → Machine → Result Turn FaultCode → Type 0
+GoesOn set l m (Ok Silent) = CanTurn set l m
+GoesOn set l m (Ok Handed) = CanTurn set l m
+GoesOn set l m (Ok Waits) = IsReady set l m
+GoesOn set l m (Err c) = Unit {0}
+
+-- A whole turn: from what was to be read before to what is to be read behind it.
+pub record IsTurn {S : Type 0} (takes stops : S → EventData → S → Type 0) (set : Set) (l : Limits) (r : Reader Dictionary) (s : S) (result : Result Turn FaultCode) (s' : S) (m : Machine) : Type 0 where
+  pub moves : Moves takes stops r s result s' (turning set l m) (meaning set l m)
+  pub supplied : IsSupplied set l m
+  pub goes_on : GoesOn set l m result
+
+-- The map of a message is whole, and nothing is read behind it.
+pub record IsBehindMap (set : Set) (l : Limits) (m : Machine) : Type 0 where
+  pub supplied : IsSupplied set l m
+  pub map : IsEntity m.cursor.map
+  pub outermost : m.cursor ≡ record (resting m.cursor) { map = m.cursor.map }
+  pub unused : m.entity.bytes ≡ []
+
+-- what is read of a segment at its whole map
+abbrev pub segment_reader : Set → Limits → Machine → ℕ → Reader Dictionary
+segment_reader set l m width = bind (settles_reader (judged_map l.strict m.cursor.map)) (λ w. reader_of l.strict (narrow width w (going_on set (bounds l) (slots_dictionary m.slots) m.counted (record m.cursor { map = w }))))
+
+-- No message is begun.
+abbrev pub is_idle_at : Waiting → List ℕ → Bool
+is_idle_at Map map = nat_eq (length map) 0
+is_idle_at waiting map = false
+
+abbrev pub is_idle : Machine → Bool
+is_idle m = is_idle_at m.waiting m.cursor.map
+
+-- Nothing was read.
+pub record IsFresh (set : Set) (m : Machine) : Type 0 where
+  pub waiting : m.waiting ≡ Map
+  pub cursor : m.cursor ≡ resting m.cursor
+  pub dictionary : slots_dictionary m.slots ≡ fresh set.entries
+  pub entity : m.entity.bytes ≡ []
+  pub turns : m.turns.count ≡ 0

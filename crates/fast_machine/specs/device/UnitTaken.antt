@@ -1,0 +1,42 @@
+-- What a machine takes of a unit, and the turn behind it.
+use Rattle.std.specs.Prelude.{◌≡◌, ℕ, ◌<◌, ◌≤◌, true, List, [], length, take, Option, Result}
+use Rattle.fast_value.specs.declared.settings.Limits.{Limits}
+use Rattle.fast_value.specs.meaning.Limits.{bounds}
+use Rattle.fast_tree.specs.meaning.Tree.{FieldData}
+use Rattle.fast_dict.specs.meaning.Dictionary.{Dictionary, previous_at}
+use Rattle.fast_dict.specs.meaning.Slots.{slots_dictionary, slots_terms}
+use Rattle.fast_units.specs.device.Deciding.{source_of}
+use Rattle.fast_stream.specs.meaning.Fields.{field_term}
+use Rattle.fast_stream.specs.device.GrammarReaders.{reader_of}
+use Rattle.fast_units.specs.device.Settling.{IsLastUnit}
+use Rattle.fast_stream.specs.meaning.Events.{EventData}
+use Rattle.fast_stream.specs.device.Readers.{Reader}
+use Rattle.fast_stream.specs.device.Machine.{after_bytes}
+use Rattle.fast_units.specs.device.Taking.{Quiet}
+use Rattle.fast_machine.specs.device.Handing.{due}
+use Rattle.fast_machine.specs.device.Positions.{Set, tree_in, IsAtField, IsReady, IsTurn}
+use Rattle.fast_stream.specs.declared.faults.FaultCode.{FaultCode}
+use Rattle.fast_machine.specs.declared.machine.Machine.{Machine}
+use Rattle.fast_machine.specs.declared.machine.Turn.{Turn}
+use Rattle.fast_machine.specs.declared.machine.Waiting.TheVariants.{Field}
+use Rattle.fast_units.specs.declared.fields.Number.{Number}
+use Rattle.fast_units.specs.declared.progress.Progress.TheVariants.{Whole}
+
+-- A machine that has the reader still to read takes some of the bytes, of which only the last hands something over, and a turn
+-- behind them ends so.
+pub record IsTakenTo {S : Type 0} (takes stops : S → EventData → S → Type 0) (set : Set) (l : Limits) (from : Reader Dictionary) (rest : List ℕ) (s : S) (n : ℕ) (result : Result Turn FaultCode) (s' : S) (m : Machine) : Type 0 where
+  pub some : 0 < n
+  pub within : n ≤ length rest
+  pub quiet : Quiet (due (tree_in set) l from) (take n rest)
+  pub turn : IsTurn takes stops set l (after_bytes (due (tree_in set) l from) (take n rest)) s result s' m
+
+-- A machine waited for a field, none of whose bytes had come, and the bytes begin with the field's last unit: this number, or NULL. The
+-- other machine has kept it, and is the same otherwise.
+pub record IsSentItem (set : Set) (l : Limits) (m m' : Machine) (node : ℕ) (f : FieldData) (rest : List ℕ) (item : Option Number) (n : ℕ) : Type 0 where
+  pub kept : m' ≡ record m { slots = m'.slots }
+  pub terms : slots_terms m'.slots ≡ slots_terms m.slots
+  pub waits : m.waiting ≡ Field
+  pub ready : IsReady set l m
+  pub none : m.entity.bytes ≡ []
+  pub next : IsAtField set m.cursor node f
+  pub unit : (scratch : List ℕ) → IsLastUnit (reader_of l.strict (field_term (bounds l) f (previous_at f.entry (slots_dictionary m.slots)) true)) f [] rest (slots_dictionary m.slots) (slots_dictionary m'.slots) scratch (Whole (source_of item) n)

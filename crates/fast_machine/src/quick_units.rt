@@ -1,0 +1,98 @@
+//! The quick way behind a turn of the machine: units that stand whole in the piece and are of the most common forms. All else is left
+//! to the general way; the quick way has changed nothing then.
+
+ghost use Rattle.std.specs.Prelude.{◌≡◌, ◌≢◌, ◌+◌, ◌<◌, ℕ, List, length, Ok, IfSome, IfNone};
+ghost use Rattle.fast_value.specs.meaning.Kinds.{integers};
+ghost use Rattle.fast_tree.specs.meaning.Tree.{FieldData, uses_bit};
+ghost use Rattle.fast_value.specs.declared.settings.Limits.{Limits};
+ghost use Rattle.fast_machine.specs.declared.machine.Machine.{Machine};
+ghost use Rattle.fast_machine.specs.device.UnitTaken.{IsTakenTo, IsSentItem};
+ghost use Rattle.fast_machine.specs.device.Positions.{Set, set_of, tree_in, IsReady, meaning};
+ghost use Rattle.fast_machine.specs.device.TurnsLeft.{Way, HasTurns, HasTurnsBehind, HasTurnsWaiting, turns_begun_at};
+
+use crate::machine::{Machine, Turn, Waiting};
+use crate::turns::Turns;
+use fast_stream::{FaultCode, Sink};
+use fast_template::Templates;
+use fast_units::fields::Number;
+use fast_value::Limits;
+
+/// A unit that was taken, or as much of it as there is, and the turn behind it.
+#[derive(Clone, Copy, Debug)]
+pub struct UnitTaken {
+    /// The bytes that were taken.
+    pub bytes: usize,
+    /// How the turn ended. Behind a unit that is cut the machine waits.
+    pub turn: Result<Turn, FaultCode>,
+}
+
+impl<'t> Machine<'t> {
+    /// Waits for the first unit of the next instruction. Most often the machine does so already, and nothing is written then.
+    #[inline(always)]
+    pub fn wait_for_field(&mut self)
+        ensures { self.new ≡ record self.old { waiting = Waiting.Field } }
+    {
+        match self.waiting {
+            Waiting::Field => {}
+            _ => self.waiting = Waiting::Field,
+        }
+    }
+
+    /// Behind the entity of the next instruction, a field of integers, whose number or NULL the dictionary has kept: hands a number
+    /// over, and goes past the field.
+    #[inline(always)]
+    pub fn sent<S: Sink>(
+        &mut self,
+        number: u32,
+        has_bit: bool,
+        item: Option<Number>,
+        bytes: usize,
+        sink: &mut S,
+    ) -> UnitTaken
+        requires left { 0 < length self.old.cursor.left }
+        ensures taken { (set : Set) (l : Limits) (m : Machine) (rest : List ℕ) (f : FieldData) → has_bit ≡ uses_bit f
+            → IsSentItem set l m self.old number f rest item bytes
+            → IsTakenTo S.takes S.stops set l (meaning set l m) rest sink.old result.bytes result.turn sink.new
+            self.new }
+        ensures on { result.turn ≢ Ok Turn.Waits }
+        ensures waits { self.new.waiting ≡ self.old.waiting }
+        ensures turns { (set : Set) (l : Limits) (m : Machine) (rest : List ℕ) (f : FieldData)
+            → IsSentItem set l m self.old number f rest item bytes
+            → (way : Way) (n : ℕ) → HasTurns way set l 1 n m → HasTurnsBehind result.turn way set l (1 + n) self.new }
+    {
+        self.turns = Turns::after(&self.turns);
+        let turn = self.finish_item(number, has_bit, item, sink);
+        UnitTaken { bytes, turn }
+    }
+
+    /// Takes the unit that the machine waits for, if it is a mantissa or a map for the quick way.
+    #[inline(always)]
+    pub fn take_whole<S: Sink>(
+        &mut self,
+        templates: &'t Templates,
+        limits: Limits,
+        rest: &[u8],
+        sink: &mut S,
+    ) -> Option<UnitTaken>
+        requires ready { IsReady (set_of templates.now) limits self.old }
+        ensures none { IfNone result ((self.new ≡ self.old) × (sink.new ≡ sink.old)) }
+        ensures taken { IfSome result
+            (λ q. IsTakenTo S.takes S.stops (set_of templates.now) limits
+            (meaning (set_of templates.now) limits self.old) rest.now sink.old q.bytes q.turn sink.new self.new) }
+        ensures on { IfSome result (λ q. q.turn ≢ Ok Turn.Waits) }
+        ensures turns { (way : Way) (n : ℕ) → HasTurnsWaiting way (set_of templates.now) limits n self.old
+            → IfSome result (λ q. HasTurnsBehind q.turn way (set_of templates.now) limits
+            (1 + n + turns_begun_at self.old.waiting self.old.cursor.map way (tree_in (set_of templates.now)) limits)
+            self.new) }
+    {
+        match self.waiting {
+            Waiting::Mantissa(exponent) => {
+                self.take_short_mantissa(templates, limits, exponent, rest, sink)
+            }
+            Waiting::SegmentMap(_) => self.open_quickly(templates, limits, rest, sink),
+            Waiting::Text => self.take_block_text(templates, limits, rest, sink),
+            Waiting::Field => self.take_short_decimal(templates, limits, rest, sink),
+            _ => None,
+        }
+    }
+}

@@ -1,0 +1,418 @@
+//! The arms of the machine's loop for segments and messages.
+
+ghost use Rattle.std.specs.Prelude.{◌≡◌, ◌⊎◌, ◌+◌, ◌<◌, ◌≤◌, ℕ, Bool, [], take, drop, length, slice_get, slice_index, IfErr, Some, Ok};
+ghost use Rattle.fast_value.specs.meaning.Kinds.{U};
+ghost use Rattle.fast_value.specs.meaning.Limits.{bounds};
+ghost use Rattle.fast_tree.specs.declared.instructions.Node.{Node};
+ghost use Rattle.fast_tree.specs.declared.instructions.Template.{Template};
+ghost use Rattle.fast_tree.specs.device.Numbers.{AreBelow};
+ghost use Rattle.fast_tree.specs.meaning.Tree.{FieldData, bits_of};
+ghost use Rattle.fast_dict.specs.meaning.Slots.{slots_dictionary};
+ghost use Rattle.fast_program.specs.device.Codes.{IsGroupCoded, IsSequenceCoded};
+ghost use Rattle.fast_program.specs.device.Starts.{IsStartOf};
+ghost use Rattle.fast_stream.specs.meaning.Messages.{within_limits};
+ghost use Rattle.fast_stream.specs.meaning.Events.{MessageEnd};
+ghost use Rattle.fast_stream.specs.device.GrammarReaders.{reader_of};
+ghost use Rattle.fast_cursor.specs.device.Cursors.{resting};
+ghost use Rattle.fast_cursor.specs.device.Places.{place_left, at_place, IsPlaceOf};
+ghost use Rattle.fast_cursor.specs.device.Runs.{IsRun};
+ghost use Rattle.fast_cursor.specs.device.MapTaking.{IsMapTaken};
+ghost use Rattle.fast_cursor.specs.declared.pending.MapFront.{MapFront};
+ghost use Rattle.fast_machine.specs.device.FitMaps.{IsFitMap};
+ghost use Rattle.fast_stream.specs.declared.faults.FaultCode.{FaultCode};
+ghost use Rattle.fast_machine.specs.device.Arms.{placed, IsAnswer, IsAtOp, IsAtSpot, IsGroupHere, IsLengthTaken, HasWent};
+ghost use Rattle.fast_machine.specs.device.Opening.{opened_result, opened_by};
+ghost use Rattle.fast_machine.specs.device.Positions.{set_of, tree_in, run_in, body_in, IsAtGroup, IsBehindMap, IsTurn, CanTurn};
+ghost use Rattle.fast_machine.specs.device.Starts.{message_from, mapped_by, begun_by};
+ghost use Rattle.fast_machine.specs.device.Steps.{IsStep};
+ghost use Rattle.fast_machine.specs.device.TurnsLeft.{Way, most_by, HasTurnsBehind};
+ghost use Rattle.fast_machine.specs.declared.machine.Machine.{Machine};
+ghost use Rattle.fast_machine.specs.declared.spot.Spot.{Spot};
+
+use crate::machine::{Machine, Waiting};
+use crate::settling::{count_within, hand};
+use crate::spot::{Spot, Went};
+use crate::taking::{is_overlong, is_too_wide, reset_if};
+use crate::turns::Turns;
+use fast_program::{Op, Start};
+use fast_stream::{Event, FaultCode, Sink};
+use fast_template::{Shape, Templates};
+use fast_value::Limits;
+use fast_wire::{short_entity, whole_unsigned};
+
+impl<'t> Machine<'t> {
+    /// Behind the event at which a segment begins, or none does: takes the segment's map, if it has one and that is one
+    /// for the quick way. Without a map the answer is the one given.
+    #[inline(always)]
+    fn segment_arm<S: Sink>(
+        &mut self,
+        templates: &'t Templates,
+        limits: Limits,
+        begun: Result<usize, FaultCode>,
+        went: Went,
+        spot: &mut Spot<'t, '_>,
+        sink: &mut S,
+    ) -> Went
+        requires waits { self.old.waiting ≡ Waiting.Field }
+        requires stopped { IfErr begun (λ code. code ≡ FaultCode.SinkStopped) }
+        ensures went { (m : Machine) (from : Spot) (s : S) (n : ℕ) → spot.old.rest.now ≡ drop n from.rest.now
+            → IsAnswer went n
+            → IsStep S.takes S.stops (set_of templates.now) limits (placed m from.place) from.rest.now s
+            (record { bytes = n; turn = opened_result begun }) sink.old (opened_by begun self.old)
+            → HasWent S.takes S.stops (set_of templates.now) limits m from s result sink.new self.new spot.new }
+    {
+        let Ok(width) = begun else {
+            spot.stand(&self.cursor, 0);
+            return Went::Stopped;
+        };
+        if width == 0 {
+            spot.stand(&self.cursor, 0);
+            return went;
+        }
+        let bytes = self.take_open_map(limits, width, spot.rest);
+        if bytes == 0 {
+            self.waiting = Waiting::SegmentMap(width);
+            spot.stand(&self.cursor, 0);
+            return Went::Waits;
+        }
+        self.turns = Turns::after(&self.turns);
+        spot.stand(&self.cursor, bytes);
+        Went::Took
+    }
+
+    /// Takes the map of a segment whose instructions use so many bits, if it stands whole in the piece, has eight bytes at
+    /// most and is not refused. The answer is how many it has, or 0. Most maps are one byte.
+    #[inline(always)]
+    fn take_open_map(&mut self, limits: Limits, width: usize, rest: &[u8]) -> usize
+        ensures map { 0 < result → IsMapTaken self.old.cursor.map rest.now self.new.cursor.map (MapFront.Whole result) }
+        ensures fit { 0 < result → IsFitMap limits.strict width self.new.cursor.map }
+        ensures same { self.new
+            ≡ record self.old { cursor = record self.old.cursor { map = self.new.cursor.map } } }
+        ensures left { result ≡ 0 → self.new ≡ self.old }
+    {
+        if self.cursor.take_byte(rest) {
+            return 1;
+        }
+        self.take_short_map(limits, width, rest)
+    }
+
+    /// The same of a map of any such length. Cold, as all that the loop calls rarely, for its registers.
+    #[cold]
+    #[inline(never)]
+    fn take_short_map(&mut self, limits: Limits, width: usize, rest: &[u8]) -> usize
+        ensures map { 0 < result → IsMapTaken self.old.cursor.map rest.now self.new.cursor.map (MapFront.Whole result) }
+        ensures fit { 0 < result → IsFitMap limits.strict width self.new.cursor.map }
+        ensures same { self.new
+            ≡ record self.old { cursor = record self.old.cursor { map = self.new.cursor.map } } }
+        ensures left { result ≡ 0 → self.new ≡ self.old }
+    {
+        let Some(entity) = short_entity(rest) else {
+            return 0;
+        };
+        let strict = limits.strict;
+        if is_overlong(strict, &rest[..entity.len]) || is_too_wide(strict, entity.len, width) {
+            return 0;
+        }
+        if !self.cursor.take_short(rest, entity) {
+            return 0;
+        }
+        entity.len
+    }
+
+    /// The innermost segment has no instruction left: a group, an element or the message ends, and what follows is begun.
+    #[inline(always)]
+    pub fn end_arm<S: Sink>(
+        &mut self,
+        templates: &'t Templates,
+        limits: Limits,
+        spot: &mut Spot<'t, '_>,
+        sink: &mut S,
+    ) -> Went
+        requires spot { IsAtSpot (set_of templates.now) limits self.old spot.old.place }
+        requires end { place_left spot.old.place ≡ [] }
+        ensures went { HasWent S.takes S.stops (set_of templates.now) limits self.old spot.old sink.old result sink.new
+            self.new spot.new }
+    {
+        self.turns = Turns::after(&self.turns);
+        if self.cursor.is_outermost() {
+            return self.message_arm(templates, limits, spot, sink);
+        }
+        let begun = self.leave_segment(templates, limits, spot.place, sink);
+        self.segment_arm(templates, limits, begun, Went::Handed, spot, sink)
+    }
+
+    /// The message is whole: the next one begins, if its presence map is one byte and its template is known.
+    #[inline(always)]
+    fn message_arm<S: Sink>(
+        &mut self,
+        templates: &'t Templates,
+        limits: Limits,
+        spot: &mut Spot<'t, '_>,
+        sink: &mut S,
+    ) -> Went
+        requires waits { self.old.waiting ≡ Waiting.Field }
+        requires place { IsPlaceOf self.old.cursor spot.old.place }
+        requires turn { CanTurn (set_of templates.now) limits (placed self.old spot.old.place) }
+        requires end { place_left spot.old.place ≡ [] }
+        requires outermost { self.old.cursor.frames ≡ [] }
+        ensures went { (m : Machine) → self.old ≡ record m { turns = self.old.turns }
+            → self.old.turns.count ≡ m.turns.count + 1
+            → HasWent S.takes S.stops (set_of templates.now) limits m spot.old sink.old result sink.new self.new
+            spot.new }
+    {
+        if let Err(_) = hand(sink, Event::MessageEnd) {
+            return Went::Stopped;
+        }
+        self.next_arm(templates, limits, spot, sink)
+    }
+
+    /// Behind the end of a message: the next one begins, if its presence map is one byte and its template is known.
+    #[inline(always)]
+    fn next_arm<S: Sink>(
+        &mut self,
+        templates: &'t Templates,
+        limits: Limits,
+        spot: &mut Spot<'t, '_>,
+        sink: &mut S,
+    ) -> Went
+        requires waits { self.old.waiting ≡ Waiting.Field }
+        requires place { IsPlaceOf self.old.cursor spot.old.place }
+        requires turn { CanTurn (set_of templates.now) limits (placed self.old spot.old.place) }
+        requires end { place_left spot.old.place ≡ [] }
+        requires outermost { self.old.cursor.frames ≡ [] }
+        ensures went { (m : Machine) (s : S) → self.old ≡ record m { turns = self.old.turns }
+            → self.old.turns.count ≡ m.turns.count + 1 → S.takes s MessageEnd sink.old
+            → HasWent S.takes S.stops (set_of templates.now) limits m spot.old s result sink.new self.new spot.new }
+    {
+        let Some((number, bytes, start)) = self.next_message(templates, limits, spot.rest) else {
+            return self.no_message(spot);
+        };
+        self.message_begins(templates, limits, number, bytes, start, spot, sink)
+    }
+
+    /// The message is whole, and the machine waits for the next one.
+    #[inline(always)]
+    fn no_message(&mut self, spot: &mut Spot<'t, '_>) -> Went
+        requires place { IsPlaceOf self.old.cursor spot.old.place }
+        requires end { place_left spot.old.place ≡ [] }
+        requires outermost { self.old.cursor.frames ≡ [] }
+        ensures waits { result ≡ Went.Waits }
+        ensures rest { spot.new.rest.now ≡ spot.old.rest.now }
+        ensures place { IsPlaceOf self.new.cursor spot.new.place }
+        ensures at { placed self.new spot.new.place ≡ record (placed self.old spot.old.place) {
+          waiting = Waiting.Map;
+          cursor = record (at_place self.old.cursor spot.old.place) { map = []; used = 0; ends = 8 };
+        } }
+    {
+        self.wait_for_message();
+        self.cursor.show_map(&mut spot.place);
+        Went::Waits
+    }
+
+    /// Waits for the map of a message.
+    #[cold]
+    #[inline(never)]
+    fn wait_for_message(&mut self)
+        ensures { self.new ≡ record self.old { waiting = Waiting.Map; cursor = resting self.old.cursor } }
+    {
+        self.waiting = Waiting::Map;
+        self.cursor.reset();
+    }
+
+    /// A message of a template begins, whose map is the first byte, and whose instructions begin behind so many bytes.
+    #[inline(always)]
+    fn message_begins<S: Sink>(
+        &mut self,
+        templates: &'t Templates,
+        limits: Limits,
+        number: u32,
+        bytes: usize,
+        start: &Start,
+        spot: &mut Spot<'t, '_>,
+        sink: &mut S,
+    ) -> Went
+        requires place { IsPlaceOf self.old.cursor spot.old.place }
+        requires outermost { self.old.cursor.frames ≡ [] }
+        requires behind { IsBehindMap (set_of templates.now) limits (mapped_by self.old spot.old.rest.now) }
+        requires start { (t : Template) × (slice_get (set_of templates.now).templates number ≡ Some t)
+            × IsStartOf (set_of templates.now).program start.now t }
+        requires some { 0 < length spot.old.rest.now }
+        requires within { bytes ≤ length spot.old.rest.now }
+        ensures answer { (result ≡ Went.Took) ⊎ (result ≡ Went.Stopped) }
+        ensures waits { self.new.waiting ≡ self.old.waiting }
+        ensures place { IsPlaceOf self.new.cursor spot.new.place }
+        ensures rest { spot.new.rest.now ≡ drop bytes spot.old.rest.now }
+        ensures turn { (t : Template) → slice_get (set_of templates.now).templates number ≡ Some t
+            → IsTurn S.takes S.stops (set_of templates.now) limits
+            (reader_of limits.strict (message_from (set_of templates.now) (bounds limits) number t
+            (slots_dictionary self.old.slots) (take 1 spot.old.rest.now)))
+            sink.old (begun_by result) sink.new (placed self.new spot.new.place) }
+        ensures turns { (way : Way) (n : ℕ)
+            → self.old.turns.count + most_by way (tree_in (set_of templates.now)) limits ≤ n
+            → HasTurnsBehind (begun_by result) way (set_of templates.now) limits (1 + n)
+            (placed self.new spot.new.place) }
+    {
+        let byte = spot.rest[0];
+        spot.rest = &spot.rest[bytes..];
+        if let Err(_) = hand(sink, Event::MessageStart { template: number }) {
+            return Went::Stopped;
+        }
+        reset_if(&mut self.slots, start.reset);
+        self.counted = 0;
+        self.cursor.begin_message(&mut spot.place, byte, start.at);
+        let unit = Turns::after(&self.turns);
+        self.turns = Turns::after(&unit);
+        Went::Took
+    }
+
+    /// The next instruction, a sequence whose length has no operator: its length, and what follows. A length beyond the limits is for the
+    /// general way.
+    #[inline(always)]
+    pub fn sequence_arm<S: Sink>(
+        &mut self,
+        templates: &'t Templates,
+        limits: Limits,
+        spot: &mut Spot<'t, '_>,
+        op: &Op,
+        optional: bool,
+        sink: &mut S,
+    ) -> Went
+        requires spot { IsAtSpot (set_of templates.now) limits self.old spot.old.place }
+        requires at { IsAtOp (set_of templates.now) spot.old.place op.now }
+        requires sequence { (x : Node) → slice_get (set_of templates.now).nodes op.now.node ≡ Some x
+            → IsSequenceCoded optional x.shape }
+        ensures went { HasWent S.takes S.stops (set_of templates.now) limits self.old spot.old sink.old result sink.new
+            self.new spot.new }
+    {
+        let node = u32::from(op.node);
+        let Shape::Sequence { .. } = &templates.node(node).shape else {
+            unreachable!()
+        };
+        let start = templates.body_start(node);
+        let read = whole_unsigned(spot.rest, optional, limits.strict, 4_294_967_295);
+        let Some((claimed, bytes)) = read else {
+            return Went::Declined;
+        };
+        let Some(claimed) = claimed else {
+            self.turns = Turns::after(&self.turns);
+            spot.rest = &spot.rest[bytes..];
+            spot.place.advance();
+            return Went::Took;
+        };
+        match count_within(limits, self.counted, u128::from(claimed)) {
+            Err(_) => Went::Declined,
+            Ok(count) => {
+                self.elements_arm(templates, limits, spot, node, start, count, bytes, sink)
+            }
+        }
+    }
+
+    /// Behind the length of the next instruction, a sequence of so many elements.
+    #[inline(always)]
+    fn elements_arm<S: Sink>(
+        &mut self,
+        templates: &'t Templates,
+        limits: Limits,
+        spot: &mut Spot<'t, '_>,
+        node: u32,
+        start: usize,
+        count: u32,
+        bytes: usize,
+        sink: &mut S,
+    ) -> Went
+        requires length { (f : FieldData) × (claimed : ℕ)
+            × IsLengthTaken (set_of templates.now) limits self.old spot.old node f
+            (run_in (set_of templates.now) start) (Some (U claimed)) bytes
+            × (within_limits (bounds limits) self.old.counted claimed ≡ Ok count) }
+        requires total { self.old.counted + count ≤ limits.max_total }
+        requires node { node < length (set_of templates.now).nodes }
+        requires run { IsRun (set_of templates.now).program start }
+        requires width { slice_index self.old.widths.nodes.items node
+            ≡ bits_of (body_in (set_of templates.now) (run_in (set_of templates.now) start)) }
+        requires below { AreBelow (length (set_of templates.now).nodes) (run_in (set_of templates.now) start) }
+        ensures went { HasWent S.takes S.stops (set_of templates.now) limits self.old spot.old sink.old result sink.new
+            self.new spot.new }
+    {
+        self.turns = Turns::after(&self.turns);
+        self.counted += count;
+        self.cursor.set_place(spot.place);
+        self.cursor.advance();
+        spot.rest = &spot.rest[bytes..];
+        if let Err(_) = hand(sink, Event::SequenceStart { node, count }) {
+            spot.stand(&self.cursor, 0);
+            return Went::Stopped;
+        }
+        let width = self.widths.nodes[node as usize];
+        let begun = self.begin_element(templates, limits, count, start, width, sink);
+        self.segment_arm(templates, limits, begun, Went::Took, spot, sink)
+    }
+
+    /// The next instruction, a group, and its map.
+    #[inline(always)]
+    pub fn group_arm<S: Sink>(
+        &mut self,
+        templates: &'t Templates,
+        limits: Limits,
+        spot: &mut Spot<'t, '_>,
+        op: &Op,
+        optional: bool,
+        sink: &mut S,
+    ) -> Went
+        requires spot { IsAtSpot (set_of templates.now) limits self.old spot.old.place }
+        requires at { IsAtOp (set_of templates.now) spot.old.place op.now }
+        requires group { (x : Node) → slice_get (set_of templates.now).nodes op.now.node ≡ Some x
+            → IsGroupCoded optional x.shape }
+        ensures went { HasWent S.takes S.stops (set_of templates.now) limits self.old spot.old sink.old result sink.new
+            self.new spot.new }
+    {
+        let node = u32::from(op.node);
+        let Shape::Group { .. } = &templates.node(node).shape else {
+            unreachable!()
+        };
+        let start = templates.body_start(node);
+        if !optional {
+            return self.enter_arm(templates, limits, spot, node, start, sink);
+        }
+        if !spot.place.bit() {
+            self.turns = Turns::after(&self.turns);
+            spot.place.pass(true);
+            return Went::Silent;
+        }
+        if spot.place.is_spent() {
+            return Went::Declined;
+        }
+        spot.place.use_bit();
+        self.enter_arm(templates, limits, spot, node, start, sink)
+    }
+
+    /// The next instruction, a group that is there, whose bit is used, if it has one.
+    #[inline(always)]
+    fn enter_arm<S: Sink>(
+        &mut self,
+        templates: &'t Templates,
+        limits: Limits,
+        spot: &mut Spot<'t, '_>,
+        node: u32,
+        start: usize,
+        sink: &mut S,
+    ) -> Went
+        requires spot { IsAtSpot (set_of templates.now) limits self.old spot.old.place }
+        requires next { (optional : Bool)
+            × IsAtGroup (set_of templates.now) (at_place self.old.cursor spot.old.place) node optional
+            (run_in (set_of templates.now) start) }
+        requires node { node < length (set_of templates.now).nodes }
+        requires run { IsRun (set_of templates.now).program start }
+        requires width { slice_index self.old.widths.nodes.items node
+            ≡ bits_of (body_in (set_of templates.now) (run_in (set_of templates.now) start)) }
+        requires below { AreBelow (length (set_of templates.now).nodes) (run_in (set_of templates.now) start) }
+        ensures went { (from : Spot)
+            → IsGroupHere (set_of templates.now) limits self.old from spot.old node (run_in (set_of templates.now) start)
+            → HasWent S.takes S.stops (set_of templates.now) limits self.old from sink.old result sink.new self.new
+            spot.new }
+    {
+        self.turns = Turns::after(&self.turns);
+        self.cursor.set_place(spot.place);
+        let begun = self.enter_group(templates, limits, node, start, sink);
+        self.segment_arm(templates, limits, begun, Went::Handed, spot, sink)
+    }
+}

@@ -1,0 +1,194 @@
+//! Where the segments of groups and elements begin and end. The answer is how many bits the instructions of the segment use that now
+//! begins, and 0 where none does.
+
+ghost use Rattle.std.specs.Prelude.{◌≡◌, ◌≢◌, ◌⊎◌, ◌+◌, ◌<◌, ◌≤◌, ℕ, suc, [], Bool, length, slice_index};
+ghost use Rattle.std.specs.Prelude.{IfErr, MatchResult};
+ghost use Rattle.fast_stream.specs.meaning.Events.{ElementStart, ElementEnd};
+ghost use Rattle.fast_value.specs.meaning.Limits.{bounds};
+ghost use Rattle.fast_tree.specs.device.Numbers.{AreBelow};
+ghost use Rattle.fast_tree.specs.meaning.Sizes.{body_depth};
+ghost use Rattle.fast_tree.specs.meaning.Tree.{bits_of};
+ghost use Rattle.fast_dict.specs.meaning.Slots.{slots_dictionary};
+ghost use Rattle.fast_stream.specs.declared.faults.FaultCode.{FaultCode};
+ghost use Rattle.fast_stream.specs.device.GrammarReaders.{reader_of};
+ghost use Rattle.fast_cursor.specs.device.Places.{place_left};
+ghost use Rattle.fast_cursor.specs.device.Runs.{IsRun};
+ghost use Rattle.fast_machine.specs.device.Arms.{placed};
+ghost use Rattle.fast_machine.specs.device.Opening.{opened_result, opened_by};
+ghost use Rattle.fast_machine.specs.device.Passing.{group_from, elements_from};
+ghost use Rattle.fast_machine.specs.device.Positions.{set_of, run_in, body_in, IsAtGroup, CanTurn, IsTurn, turning};
+ghost use Rattle.fast_machine.specs.device.TurnsLeft.{Way, HasTurns, HasTurnsFrom, HasTurnsBehind};
+
+use crate::machine::Machine;
+use crate::settling::hand;
+use fast_cursor::cursor::Elements;
+use fast_cursor::place::Place;
+use fast_stream::{Event, FaultCode, Sink};
+use fast_template::Templates;
+use fast_value::Limits;
+
+/// Hands over that an element ends and that the next one begins.
+#[inline(always)]
+fn hand_next<S: Sink>(sink: &mut S) -> Result<(), FaultCode>
+    ensures { MatchResult result
+        (λ _. (mid : S) × S.takes sink.old ElementEnd mid × S.takes mid ElementStart sink.new)
+        (λ code. (code ≡ FaultCode.SinkStopped) × (S.stops sink.old ElementEnd sink.new
+        ⊎ ((mid : S) × S.takes sink.old ElementEnd mid × S.stops mid ElementStart sink.new))) }
+{
+    hand(sink, Event::ElementEnd)?;
+    hand(sink, Event::ElementStart)
+}
+
+impl<'t> Machine<'t> {
+    /// The next instruction, a group, begins. Its bit is used, if it has one.
+    #[inline(always)]
+    pub fn enter_group<S: Sink>(
+        &mut self,
+        templates: &'t Templates,
+        limits: Limits,
+        node: u32,
+        start: usize,
+        sink: &mut S,
+    ) -> Result<usize, FaultCode>
+        requires turn { CanTurn (set_of templates.now) limits self.old }
+        requires left { 0 < length self.old.cursor.left }
+        requires run { IsRun (set_of templates.now).program start }
+        requires below { AreBelow (length (set_of templates.now).nodes) (run_in (set_of templates.now) start) }
+        requires nested { suc (length self.old.cursor.frames)
+            + body_depth (body_in (set_of templates.now) (run_in (set_of templates.now) start))
+            ≤ self.old.cursor.depth }
+        requires width { slice_index self.old.widths.nodes.items node
+            ≡ bits_of (body_in (set_of templates.now) (run_in (set_of templates.now) start)) }
+        requires node { node < length (set_of templates.now).nodes }
+        ensures turn { IsTurn S.takes S.stops (set_of templates.now) limits
+            (reader_of limits.strict
+            (group_from (set_of templates.now) (bounds limits) node (run_in (set_of templates.now) start)
+            (slots_dictionary self.old.slots) self.old.counted self.old.cursor))
+            sink.old (opened_result result) sink.new (opened_by result self.new) }
+        ensures turns { (way : Way) (n : ℕ) (optional : Bool)
+            → IsAtGroup (set_of templates.now) self.old.cursor node optional (run_in (set_of templates.now) start)
+            → HasTurns way (set_of templates.now) limits 1 n self.old
+            → HasTurnsBehind (opened_result result) way (set_of templates.now) limits n (opened_by result self.new) }
+        ensures stopped { IfErr result (λ code. code ≡ FaultCode.SinkStopped) }
+        ensures same { self.new ≡ record self.old { cursor = self.new.cursor } }
+    {
+        hand(sink, Event::GroupStart { node })?;
+        let width = self.widths.nodes[node as usize];
+        self.cursor.advance();
+        self.cursor.open_group(start);
+        Ok(width)
+    }
+
+    /// So many elements of a sequence are still to come: the next one begins, or the sequence is whole.
+    #[inline(always)]
+    pub fn begin_element<S: Sink>(
+        &mut self,
+        templates: &'t Templates,
+        limits: Limits,
+        count: u32,
+        start: usize,
+        width: usize,
+        sink: &mut S,
+    ) -> Result<usize, FaultCode>
+        requires turn { CanTurn (set_of templates.now) limits self.old }
+        requires run { IsRun (set_of templates.now).program start }
+        requires below { AreBelow (length (set_of templates.now).nodes) (run_in (set_of templates.now) start) }
+        requires nested { suc (length self.old.cursor.frames)
+            + body_depth (body_in (set_of templates.now) (run_in (set_of templates.now) start))
+            ≤ self.old.cursor.depth }
+        requires width { width ≡ bits_of (body_in (set_of templates.now) (run_in (set_of templates.now) start)) }
+        ensures turn { IsTurn S.takes S.stops (set_of templates.now) limits
+            (reader_of limits.strict
+            (elements_from (set_of templates.now) (bounds limits) count (run_in (set_of templates.now) start)
+            (slots_dictionary self.old.slots) self.old.counted self.old.cursor))
+            sink.old (opened_result result) sink.new (opened_by result self.new) }
+        ensures turns { (way : Way) (n : ℕ)
+            → HasTurnsFrom way (set_of templates.now) limits n count (run_in (set_of templates.now) start) self.old
+            → HasTurnsBehind (opened_result result) way (set_of templates.now) limits n (opened_by result self.new) }
+        ensures stopped { IfErr result (λ code. code ≡ FaultCode.SinkStopped) }
+        ensures same { self.new ≡ record self.old { cursor = self.new.cursor } }
+    {
+        if count == 0 {
+            hand(sink, Event::SequenceEnd)?;
+            return Ok(0);
+        }
+        hand(sink, Event::ElementStart)?;
+        self.cursor.open_element(Elements {
+            more: count - 1,
+            start,
+            width,
+        });
+        Ok(width)
+    }
+
+    /// The innermost segment, a group or an element, is whole. Behind an element the next one begins, if there is one:
+    /// then the frame around it stays. The place where the segment ends is there for what the clauses say: the cursor
+    /// leaves it, and need not be there.
+    #[inline(always)]
+    pub fn leave_segment<S: Sink>(
+        &mut self,
+        templates: &'t Templates,
+        limits: Limits,
+        place: Place<'t>,
+        sink: &mut S,
+    ) -> Result<usize, FaultCode>
+        requires turn { CanTurn (set_of templates.now) limits (placed self.old place) }
+        requires end { place_left place ≡ [] }
+        requires inner { ¬ (self.old.cursor.frames ≡ []) }
+        ensures turn { IsTurn S.takes S.stops (set_of templates.now) limits
+            (turning (set_of templates.now) limits (placed self.old place.entry))
+            sink.old (opened_result result) sink.new (opened_by result self.new) }
+        ensures turns { (way : Way) (n : ℕ)
+            → HasTurns way (set_of templates.now) limits 1 n (placed self.old place.entry)
+            → HasTurnsBehind (opened_result result) way (set_of templates.now) limits n (opened_by result self.new) }
+        ensures stopped { IfErr result (λ code. code ≡ FaultCode.SinkStopped) }
+        ensures same { self.new ≡ record self.old { cursor = self.new.cursor } }
+    {
+        let Some(width) = self.cursor.next_element() else {
+            return self.close_segment(templates, limits, place, sink);
+        };
+        hand_next(sink)?;
+        Ok(width)
+    }
+
+    /// The same, by the way of the segment around it.
+    #[inline(always)]
+    fn close_segment<S: Sink>(
+        &mut self,
+        templates: &'t Templates,
+        limits: Limits,
+        place: Place<'t>,
+        sink: &mut S,
+    ) -> Result<usize, FaultCode>
+        requires turn { CanTurn (set_of templates.now) limits (placed self.old place) }
+        requires end { place_left place ≡ [] }
+        requires inner { ¬ (self.old.cursor.frames ≡ []) }
+        ensures turn { IsTurn S.takes S.stops (set_of templates.now) limits
+            (turning (set_of templates.now) limits (placed self.old place.entry))
+            sink.old (opened_result result) sink.new (opened_by result self.new) }
+        ensures turns { (way : Way) (n : ℕ)
+            → HasTurns way (set_of templates.now) limits 1 n (placed self.old place.entry)
+            → HasTurnsBehind (opened_result result) way (set_of templates.now) limits n (opened_by result self.new) }
+        ensures stopped { IfErr result (λ code. code ≡ FaultCode.SinkStopped) }
+        ensures same { self.new ≡ record self.old { cursor = self.new.cursor } }
+    {
+        let _ = place;
+        match self.cursor.close() {
+            None => {
+                hand(sink, Event::GroupEnd)?;
+                Ok(0)
+            }
+            Some(elements) => {
+                hand(sink, Event::ElementEnd)?;
+                self.begin_element(
+                    templates,
+                    limits,
+                    elements.more,
+                    elements.start,
+                    elements.width,
+                    sink,
+                )
+            }
+        }
+    }
+}
