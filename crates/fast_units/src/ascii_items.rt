@@ -14,7 +14,6 @@ ghost use Rattle.fast_units.specs.device.Settling.{value_at};
 ghost use Rattle.fast_units.specs.device.TextItems.{without_stops, text_source, text_taken, IsTextSource, IsAsciiAt, IsShortText, IsPutText, IsSentText, IsUnsentText};
 ghost use Rattle.fast_units.specs.device.Words.{HasRoomFor};
 
-use crate::long_ascii::sent_long;
 use crate::scratch::Scratch;
 use crate::source::ValueSource;
 use crate::taken::TakenText;
@@ -231,37 +230,6 @@ pub fn sent_at_once(
         return Some(taken);
     }
     None
-}
-
-/// An ASCII text that was sent, if it stands whole in the piece: it then stands in the scratch, or at the entry that keeps it. Under tail
-/// the entry holds one of its own kind.
-#[inline(always)]
-pub fn sent_ascii(
-    slots: &mut Slots,
-    scratch: &mut Scratch,
-    entry: u32,
-    optional: bool,
-    operator: Operator,
-    rest: &[u8],
-    max_text: usize,
-) -> Option<TakenText>
-    requires within { IsEntryFor slots.old operator entry }
-    requires limit { (slots_terms slots.old).max_text ≡ max_text }
-    requires least { 16 ≤ max_text }
-    requires room { HasRoomFor slots.old scratch.old }
-    ensures unit { IfSome result (λ r. IsSentText Kind.Ascii optional operator entry max_text rest.now slots.old
-        slots.new scratch.new.text r) }
-    ensures source { IfSome result (λ r. IsTextSource operator r.source) }
-    ensures held { IfSome result (λ r. IsAsciiAt slots.new entry r.source) }
-    ensures none { IfNone result ((slots.new ≡ slots.old) × (scratch.new ≡ scratch.old)) }
-    ensures terms { slots_terms slots.new ≡ slots_terms slots.old }
-    ensures capacity { scratch.new.capacity ≡ scratch.old.capacity }
-{
-    if let Some(taken) = sent_at_once(slots, scratch, entry, optional, operator, rest) {
-        return Some(taken);
-    }
-    let bytes = sent_long(slots, scratch, entry, optional, operator, rest, max_text)?;
-    Some(text_taken(operator, bytes))
 }
 
 /// Copy and tail where nothing is sent: the ASCII text that the entry holds, or absent where it is empty.
