@@ -29,6 +29,7 @@ ready-behind i m s place left len same = record {
     place = subst (λ n. IsPlace (map_at i.maps.items i.start n) m) (sym len) place;
     around = s.around;
     rest = s.rest;
+    numbered = s.numbered;
     run = s.run;
     behind = s.behind;
   };
@@ -48,6 +49,7 @@ behind-cursor i j r = record {
   place = record { short = r.cursor.place.short; is = word-used (map_at j.maps.items j.start j.map.len) j.map.end j.map.word r.cursor.place.is r.more };
   around = r.cursor.around;
   rest = r.cursor.rest;
+  numbered = r.cursor.numbered;
   run = r.cursor.run;
   behind = r.cursor.behind;
 }

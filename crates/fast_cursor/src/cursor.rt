@@ -5,7 +5,7 @@ ghost use Rattle.std.specs.Prelude.{IfOk, IsTrue, Some, None, option_map, slice_
 ghost use Rattle.fast_wire.specs.device.Words.{IsShortEntity};
 ghost use Rattle.fast_wire.specs.meaning.Entities.{HaveNoStop};
 ghost use Rattle.fast_wire.specs.meaning.Maps.{map_limit, bits, first_bit, later_bits};
-ghost use Rattle.fast_program.specs.device.Runs.{is_end, Begins};
+ghost use Rattle.fast_program.specs.device.Runs.{is_end, AreNumbered, Begins};
 ghost use Rattle.fast_cursor.specs.device.Runs.{run_at, IsRun};
 ghost use Rattle.fast_cursor.specs.device.Cursors.{CursorData, FrameData, ElementsData, bits_left};
 ghost use Rattle.fast_cursor.specs.device.Cursors.{at_rest, resting, entered, left_to};
@@ -121,13 +121,15 @@ impl<'t> Model for Cursor<'t> {
 }
 
 impl<'t> Cursor<'t> {
-    /// A cursor before a message, for at most so many open groups and elements at once. The program begins with an End.
+    /// A cursor before a message, for at most so many open groups and elements at once. The program begins with an End, and its ops tell
+    /// where they stand.
     ///
     /// # Errors
     ///
     /// Memory was refused.
     pub fn new(alloc: Global, ops: &'t [Op], depth: usize) -> Result<Cursor<'t>, AllocError>
         requires rest { Begins ops.now 0 [] }
+        requires numbered { AreNumbered ops.now }
         ensures { IfOk result (λ c. c ≡ at_rest ops.entry.now depth) }
     {
         let levels = depth.checked_add(1).ok_or(AllocError)?;
@@ -182,7 +184,7 @@ impl<'t> Cursor<'t> {
         requires { IsPlaceOf self.old place }
         ensures { self.new ≡ at_place self.old place.entry }
     {
-        self.ip = self.ops.len() - place.ahead.len();
+        self.ip = place.op().at as usize;
         self.map.word = place.word;
     }
 

@@ -29,6 +29,7 @@ impl<'t> Machine<'t> {
     #[inline(always)]
     fn op_at(&self, templates: &'t Templates, limits: Limits, place: &Place<'t>) -> &'t Op
         requires spot { IsAtSpot (set_of templates.now) limits self.now place.now }
+        ensures here { slice_get place.now.ahead.now 0 ≡ Some result.now }
         ensures end { result.now.code ≡ Code.End → place_left place.now ≡ [] }
         ensures at { result.now.code ≢ Code.End → IsAtOp (set_of templates.now) place.now result.now }
         ensures is { result.now.code ≢ Code.End → (x : Node)
@@ -148,6 +149,7 @@ impl<'t> Machine<'t> {
         };
         'units: loop {
             'events: loop {
+                let mut code = self.op_at(templates, limits, &spot.place).code;
                 'silent: loop {
                     let op = self.op_at(templates, limits, &spot.place);
                     // an arm, with what all of them take and what is constant for the code
@@ -159,7 +161,7 @@ impl<'t> Machine<'t> {
                             self.$arm(templates, limits, &mut spot, op $(, $constant)*, sink)
                         };
                     }
-                    let went = match op.code {
+                    let went = match code {
                         Code::UInt32Plain => arm!(uint32_arm, None, false),
                         Code::UInt32NullablePlain => arm!(uint32_arm, None, true),
                         Code::UInt32Default => arm!(uint32_arm, Default, false),
@@ -230,17 +232,37 @@ impl<'t> Machine<'t> {
                         Code::BytesNullablePlain => arm!(vector_arm, Kind::Bytes, true),
                         Code::BytesTail => arm!(tail_arm, Kind::Bytes, false),
                         Code::BytesNullableTail => arm!(tail_arm, Kind::Bytes, true),
-                        Code::Group => arm!(group_arm, false),
-                        Code::OptionalGroup => arm!(group_arm, true),
-                        Code::Sequence => arm!(sequence_arm, false),
-                        Code::OptionalSequence => arm!(sequence_arm, true),
-                        Code::End => self.end_arm(templates, limits, &mut spot, sink),
+                        Code::Group => match arm!(group_arm, false) {
+                            Went::Took => break 'events,
+                            Went::Handed => break 'silent,
+                            other => other,
+                        },
+                        Code::OptionalGroup => match arm!(group_arm, true) {
+                            Went::Took => break 'events,
+                            Went::Handed => break 'silent,
+                            other => other,
+                        },
+                        Code::Sequence => match arm!(sequence_arm, false) {
+                            Went::Took => break 'events,
+                            Went::Handed => break 'silent,
+                            other => other,
+                        },
+                        Code::OptionalSequence => match arm!(sequence_arm, true) {
+                            Went::Took => break 'events,
+                            Went::Handed => break 'silent,
+                            other => other,
+                        },
+                        Code::End => match self.end_arm(templates, limits, &mut spot, sink) {
+                            Went::Took => break 'events,
+                            Went::Handed => break 'silent,
+                            other => other,
+                        },
                         Code::General => Went::Declined,
                     };
                     match self.or_general(templates, limits, went, &mut spot, sink) {
                         Gone::Took => break 'events,
                         Gone::Handed => break 'silent,
-                        Gone::Silent => {}
+                        Gone::Silent => code = self.op_at(templates, limits, &spot.place).code,
                         Gone::Ended(outcome) => {
                             return UnitTaken {
                                 bytes: piece.len() - spot.rest.len(),

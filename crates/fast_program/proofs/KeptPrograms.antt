@@ -9,7 +9,7 @@ use Rattle.fast_program.specs.declared.ops.Op.{Op}
 use Rattle.fast_program.specs.declared.programs.Program.{Program}
 use Rattle.fast_program.specs.device.Ops.{IsOpOf}
 use Rattle.fast_program.specs.declared.starts.Start.{Start}
-use Rattle.fast_program.specs.device.Runs.{Begins}
+use Rattle.fast_program.specs.device.Runs.{AreNumbered, Begins}
 use Rattle.fast_program.specs.device.Starts.{IsStartOf}
 use Rattle.fast_program.specs.device.Programs.{SuitNodes, BeginsNode, IsProgramOf}
 use Rattle.fast_program.proofs.Claims.{op_again}
@@ -40,6 +40,9 @@ module _ (p : Program) (ts : List Template) (ns : List Node) (is : ∥ IsProgram
 
   pub kept_rests : Begins p.ops.items 0 []
   kept_rests = begins_again p.ops.items 0 [] (∥∥₁_map is (λ of. of.rests))
+
+  pub kept_numbered : AreNumbered p.ops.items
+  kept_numbered i op here = ∥∥₁_elim is (hlevel props) (λ of. of.numbered i op here)
 
   pub template_starts : length p.template_starts.items ≡ length ts
   template_starts = ∥∥₁_elim is (hlevel props) (λ of. as_many_starts IsStartOf p.ops.items p.template_starts.items ts of.templates)

@@ -7,7 +7,7 @@ use Rattle.std.proofs.Math.Seq.{drop-append_seam}
 use Rattle.fast_tree.specs.declared.instructions.Node.{Node}
 use Rattle.fast_program.specs.declared.ops.Op.{Op}
 use Rattle.fast_program.specs.device.Ops.{IsOpOf}
-use Rattle.fast_program.specs.device.Runs.{is_end, run_nodes, has_end, HasEnd, Begins}
+use Rattle.fast_program.specs.device.Runs.{is_end, run_nodes, has_end, HasEnd, AreNumbered, Begins}
 use Rattle.fast_program.specs.device.Programs.{SuitNodes}
 
 -- Ops of these nodes, without an End.
@@ -85,6 +85,25 @@ last_or [] last zero op h = inr (cc h)
 last_or [] last (suc i) op h = absurd (cc h)
 last_or (o ∷ os) last zero op h = inl h
 last_or (o ∷ os) last (suc i) op h = last_or os last i op h
+
+-- no op, or one more, which tells how many are in front of it
+pub numbered_none : AreNumbered []
+numbered_none i op here = absurd (cc here)
+
+last_at : (ops : List Op) (last : Op) (i : ℕ) (op : Op) → slice_get (ops ++ last ∷ []) i ≡ Some op → (slice_get ops i ≡ Some op) ⊎ ((last ≡ op) × (i ≡ length ops))
+last_at [] last zero op h = inr (cc h, refl)
+last_at [] last (suc i) op h = absurd (cc h)
+last_at (o ∷ os) last zero op h = inl h
+last_at (o ∷ os) last (suc i) op h = elim (last_at os last i op h) [
+  | inl before ↦ inl before
+  | inr same ↦ inr (same.0, ap suc same.1)
+]
+
+pub numbered_more : (ops : List Op) (op : Op) → AreNumbered ops → op.at ≡ length ops → AreNumbered (ops ++ op ∷ [])
+numbered_more ops op numbered at i o here = elim (last_at ops op i o here) [
+  | inl before ↦ numbered i o before
+  | inr same ↦ ap (λ (p : Op). p.at) (sym same.0) ∙ at ∙ sym same.1
+]
 
 -- no op, one more op that suits its node, or an End
 pub suit_none : (ns : List Node) → SuitNodes [] ns

@@ -58,7 +58,7 @@ start_at Is ops (suc i) (r ∷ rs) (y ∷ ys) s x h here found = start_at Is ops
 
 -- more behind more
 pub extends_none : (ns : List Node) (ops : List Op) → Extends ns ops ops
-extends_none ns ops = record { kept = λ at body b. b; suit = λ s. s }
+extends_none ns ops = record { kept = λ at body b. b; suit = λ s. s; numbered = λ h. h }
 
 pub extends_both : (ns : List Node) (a b c : List Op) → Extends ns a b → Extends ns b c → Extends ns a c
-extends_both ns a b c first next = record { kept = λ at body h. next.kept at body (first.kept at body h); suit = λ s. next.suit (first.suit s) }
+extends_both ns a b c first next = record { kept = λ at body h. next.kept at body (first.kept at body h); suit = λ s. next.suit (first.suit s); numbered = λ h. next.numbered (first.numbered h) }

@@ -10,7 +10,7 @@ use crate::codes::Code;
 use fast_tree::{FieldInstruction, Node, Operator, Shape};
 use std::alloc::{AllocError, Global};
 
-/// All that a decoder's loop has to know of a node, in eight bytes.
+/// All that a decoder's loop has to know of a node.
 #[derive(Clone, Copy, Debug)]
 pub struct Op {
     /// What there is to do.
@@ -20,6 +20,8 @@ pub struct Op {
     /// The number of the entry of the field, or of the mantissa under Delta, where it has one and its operator keeps a value there,
     /// else 0.
     pub entry: u32,
+    /// Where it stands in the program.
+    pub at: u32,
 }
 
 /// Whether an operator keeps a value in the dictionary.
@@ -35,21 +37,29 @@ fn keeps_value(operator: Operator) -> bool
 impl Op {
     /// That of a field.
     #[tactic(auto, unfolding(crate::specs::device::Codes::IsCoded))]
-    fn of_field(node: u16, field: &FieldInstruction) -> Op
-        ensures { IsOpOf result node (Field field.now) }
+    fn of_field(at: u32, node: u16, field: &FieldInstruction) -> Op
+        ensures is { IsOpOf result node (Field field.now) }
+        ensures at { result.at ≡ at }
     {
         let code = Code::of_field(field.kind, field.operator, field.optional);
         match field.entry {
-            Some(entry) => Op { code, node, entry },
+            Some(entry) => Op {
+                code,
+                node,
+                entry,
+                at,
+            },
             None if keeps_value(field.operator) => Op {
                 code: Code::General,
                 node,
                 entry: 0,
+                at,
             },
             None => Op {
                 code,
                 node,
                 entry: 0,
+                at,
             },
         }
     }
@@ -70,19 +80,22 @@ impl Op {
 
     /// That of a decimal by parts. Where its code is one of a mantissa under delta, the entry is the mantissa's.
     #[tactic(auto, unfolding(crate::specs::device::Codes::IsCoded))]
-    fn of_parts(node: u16, exponent: &FieldInstruction, mantissa: &FieldInstruction) -> Op
-        ensures { IsOpOf result node (by_parts exponent.now mantissa.now) }
+    fn of_parts(at: u32, node: u16, exponent: &FieldInstruction, mantissa: &FieldInstruction) -> Op
+        ensures is { IsOpOf result node (by_parts exponent.now mantissa.now) }
+        ensures at { result.at ≡ at }
     {
         match (mantissa.operator, mantissa.optional, mantissa.entry) {
             (Operator::Delta, false, Some(entry)) => Op {
                 code: Op::parts_code(exponent),
                 node,
                 entry,
+                at,
             },
             _ => Op {
                 code: Code::Parts,
                 node,
                 entry: 0,
+                at,
             },
         }
     }
@@ -113,12 +126,15 @@ impl Op {
 
     /// That of a node with this number and shape.
     #[tactic(auto, unfolding(crate::specs::device::Codes::IsCoded))]
-    pub fn of(node: u16, shape: &Shape) -> Op
-        ensures { IsOpOf result node shape.now }
+    pub fn of(at: u32, node: u16, shape: &Shape) -> Op
+        ensures is { IsOpOf result node shape.now }
+        ensures at { result.at ≡ at }
     {
         let code = match shape {
-            Shape::Field(field) => return Op::of_field(node, field),
-            Shape::Decimal { exponent, mantissa } => return Op::of_parts(node, exponent, mantissa),
+            Shape::Field(field) => return Op::of_field(at, node, field),
+            Shape::Decimal { exponent, mantissa } => return Op::of_parts(
+                at, node, exponent, mantissa,
+            ),
             Shape::Group { optional, .. } => Op::group_code(*optional),
             Shape::Sequence { length, .. } => Op::sequence_code(length),
         };
@@ -126,6 +142,7 @@ impl Op {
             code,
             node,
             entry: 0,
+            at,
         }
     }
 }
@@ -137,7 +154,7 @@ pub fn ops_of(alloc: Global, nodes: &[Node]) -> Result<Vec<Op>, AllocError>
 {
     let mut ops = Vec::with_capacity(alloc, nodes.len())?;
     for (n, node) in nodes.iter().enumerate() {
-        ops.push(Op::of(n as u16, &node.shape))?;
+        ops.push(Op::of(0, n as u16, &node.shape))?;
     }
     Ok(ops)
 }

@@ -25,13 +25,15 @@ pub struct Program {
 }
 
 /// The end of a body.
-fn end() -> Op
-    ensures { result.code ≡ Code.End }
+fn end(at: u32) -> Op
+    ensures code { result.code ≡ Code.End }
+    ensures at { result.at ≡ at }
 {
     Op {
         code: Code::End,
         node: 0,
         entry: 0,
+        at,
     }
 }
 
@@ -43,6 +45,13 @@ fn body_of(node: &Node) -> &[u32]
         Shape::Field(_) | Shape::Decimal { .. } => &[],
         Shape::Group { body, .. } | Shape::Sequence { body, .. } => body.as_slice(),
     }
+}
+
+/// Where the next op will stand.
+fn next_place(ops: &Vec<Op>) -> Result<u32, AllocError>
+    ensures { IfOk result (λ at. at ≡ length ops.now.items) }
+{
+    u32::try_from(ops.len()).map_err(|_| AllocError)
 }
 
 /// Puts the run of a body behind the others, and says where it begins.
@@ -59,9 +68,11 @@ fn add_body(ops: &mut Vec<Op>, nodes: &[Node], body: &[u32]) -> Result<usize, Al
     let start = ops.len();
     for number in body {
         let node = &nodes[*number as usize];
-        ops.push(Op::of(*number as u16, &node.shape))?;
+        let at = next_place(ops)?;
+        ops.push(Op::of(at, *number as u16, &node.shape))?;
     }
-    ops.push(end())?;
+    let at = next_place(ops)?;
+    ops.push(end(at))?;
     Ok(start)
 }
 
@@ -111,7 +122,7 @@ impl Program {
         ensures { IfOk result (λ program. IsProgramOf program templates.now nodes.now) }
     {
         let mut ops = Vec::with_capacity(alloc, nodes.len())?;
-        ops.push(end())?;
+        ops.push(end(0))?;
         let template_starts = add_templates(alloc, &mut ops, templates, nodes)?;
         let body_starts = add_bodies(alloc, &mut ops, nodes)?;
         Ok(Program {

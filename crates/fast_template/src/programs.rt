@@ -4,7 +4,7 @@ ghost use Rattle.std.specs.Prelude.{◌≡◌, ◌<◌, [], Some, length, slice_
 ghost use Rattle.fast_tree.specs.declared.instructions.Node.{Node};
 ghost use Rattle.fast_tree.specs.declared.instructions.Template.{Template};
 ghost use Rattle.fast_tree.specs.device.Numbers.{numbers_of};
-ghost use Rattle.fast_program.specs.device.Runs.{Begins};
+ghost use Rattle.fast_program.specs.device.Runs.{AreNumbered, Begins};
 ghost use Rattle.fast_program.specs.device.Programs.{SuitNodes};
 ghost use Rattle.fast_program.specs.device.Starts.{IsStartOf};
 ghost use Rattle.fast_template.specs.meaning.Flat.{templates_of, nodes_of};
@@ -20,6 +20,7 @@ impl Templates {
     pub fn program(&self) -> &[Op]
         ensures is { result.now ≡ program_of self.now }
         ensures rests { Begins result.now 0 [] }
+        ensures numbered { AreNumbered result.now }
         ensures suits { SuitNodes result.now (nodes_of self.now) }
     {
         &self.program.ops

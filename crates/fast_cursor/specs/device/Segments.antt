@@ -2,7 +2,7 @@
 use Rattle.std.specs.Prelude.{◌≡◌, ℕ, zero, suc, ◌+◌, ◌*◌, ◌≤◌, List, [], ◌∷◌, take, drop, length, Option, Some, None, option_map}
 use Rattle.fast_wire.specs.meaning.Maps.{map_limit}
 use Rattle.fast_program.specs.declared.ops.Op.{Op}
-use Rattle.fast_program.specs.device.Runs.{Begins}
+use Rattle.fast_program.specs.device.Runs.{AreNumbered, Begins}
 use Rattle.fast_cursor.specs.device.Runs.{run_at, IsRun}
 use Rattle.fast_cursor.specs.device.Cursors.{ElementsData, FrameData, CursorData}
 use Rattle.fast_cursor.specs.device.MapPlaces.{used_at, IsPlace}
@@ -73,7 +73,7 @@ cursor_data c = record {
 }
 
 -- The cells are those of one map for each level, and the innermost segment's begin behind those around it. Nothing is left at
--- the program's first op.
+-- the program's first op, and each op tells where it stands.
 pub record IsCursor (c : Inside) : Type 0 where
   pub within : c.level ≤ length c.frames.items
   pub cells : length c.maps.items ≡ map_limit * (length c.frames.items + 1)
@@ -81,5 +81,6 @@ pub record IsCursor (c : Inside) : Type 0 where
   pub place : IsPlace (map_at c.maps.items c.start c.map.len) c.map
   pub around : ArePlaces c.maps.items 0 (take c.level c.frames.items)
   pub rest : Begins c.ops.now 0 []
+  pub numbered : AreNumbered c.ops.now
   pub run : IsRun c.ops.now c.ip
   pub behind : AreRunning c.ops.now (take c.level c.frames.items)

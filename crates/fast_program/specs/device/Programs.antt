@@ -6,17 +6,18 @@ use Rattle.fast_tree.specs.device.Numbers.{numbers_of}
 use Rattle.fast_program.specs.declared.ops.Op.{Op}
 use Rattle.fast_program.specs.declared.programs.Program.{Program}
 use Rattle.fast_program.specs.device.Ops.{IsOpOf}
-use Rattle.fast_program.specs.device.Runs.{is_end, Begins}
+use Rattle.fast_program.specs.device.Runs.{is_end, AreNumbered, Begins}
 use Rattle.fast_program.specs.device.Starts.{IsStartOf}
 
 -- Each op but an End is of its node.
 abbrev pub SuitNodes : List Op → List Node → Type 0
 SuitNodes ops ns = (i : ℕ) (op : Op) → slice_get ops i ≡ Some op → is_end op.code ≡ false → (x : Node) × (slice_get ns op.node ≡ Some x) × IsOpOf op op.node x.shape
 
--- Ops behind which others were put: runs are what they were, and what suits the nodes does so still.
+-- Ops behind which others were put: runs are what they were, and what suits the nodes, or tells where it stands, does so still.
 pub record Extends (ns : List Node) (old new : List Op) : Type 0 where
   pub kept : (at : ℕ) (body : List ℕ) → Begins old at body → Begins new at body
   pub suit : SuitNodes old ns → SuitNodes new ns
+  pub numbered : AreNumbered old → AreNumbered new
 
 -- Each start is that of its template or node.
 abbrev pub AreStarts : {S X : Type 0} → (List Op → S → X → Type 0) → List Op → List S → List X → Type 0
@@ -33,5 +34,6 @@ BeginsNode ops at x = Begins ops at (numbers_of x.shape)
 pub record IsProgramOf (p : Program) (ts : List Template) (ns : List Node) : Type 0 where
   pub rests : Begins p.ops.items 0 []
   pub suits : SuitNodes p.ops.items ns
+  pub numbered : AreNumbered p.ops.items
   pub templates : AreStarts IsStartOf p.ops.items p.template_starts.items ts
   pub bodies : AreStarts BeginsNode p.ops.items p.body_starts.items ns

@@ -1,5 +1,5 @@
 -- Runs of ops: those of a body, behind which an End stands.
-use Rattle.std.specs.Prelude.{◌≡◌, ℕ, Bool, true, false, if◌then◌else◌, List, [], ◌∷◌, drop}
+use Rattle.std.specs.Prelude.{◌≡◌, ℕ, Bool, true, false, if◌then◌else◌, List, [], ◌∷◌, drop, slice_get, Some}
 use Rattle.fast_program.specs.declared.codes.Code.{Code}
 use Rattle.fast_program.specs.declared.codes.Code.TheVariants.{End}
 use Rattle.fast_program.specs.declared.ops.Op.{Op}
@@ -22,6 +22,10 @@ has_end (op ∷ ops) = if is_end op.code then true else has_end ops
 -- An End is among them.
 abbrev pub HasEnd : List Op → Type 0
 HasEnd ops = has_end ops ≡ true
+
+-- Each tells where it stands.
+abbrev pub AreNumbered : List Op → Type 0
+AreNumbered ops = (i : ℕ) (op : Op) → slice_get ops i ≡ Some op → op.at ≡ i
 
 -- At a place the run of a body begins.
 pub record Begins (ops : List Op) (at : ℕ) (body : List ℕ) : Type 0 where

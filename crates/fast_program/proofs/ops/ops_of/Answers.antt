@@ -10,5 +10,5 @@ loop-n-preserved c =
     let x = c.index-nodes-n.result in
     let found : slice_get ns n ≡ Some x = slice_get_read ns (length ns) n x refl c.loop-n-test.true c.index-nodes-n.is in
     let number : 0 + n ≡ n = omega arith in
-    let more = one_more 0 n c.loop-n.ops.items ns c.of.result x found c.loop-n.invariant (rw number c.of.ensures) in
+    let more = one_more 0 n c.loop-n.ops.items ns c.of.result x found c.loop-n.invariant (rw number c.of.ensures.is) in
     rw (c.in_ok-push.ensures.items, add-one) more

@@ -16,6 +16,7 @@ invariant_of-self c =
       place = c.self.invariant.place;
       around = c.self.invariant.around;
       rest = c.self.invariant.rest;
+      numbered = c.self.invariant.numbered;
       run = run-goes_on c.self.inside.ops.now c.self.inside.ip some c.self.invariant.run;
       behind = c.self.invariant.behind;
     }

@@ -29,6 +29,7 @@ invariant_of-self c =
       place = subst (λ m. IsPlace m c.of_byte-self-inside.result) (sym (here i c.args.byte c.of_byte-self-inside.result there c.of_byte-self-inside.ensures.len)) c.of_byte-self-inside.ensures.place;
       around = only-places i (set i.maps.items i.start c.args.byte) c.self.invariant (one-before i.maps.items i.start c.args.byte (omega (arith, there)));
       rest = c.self.invariant.rest;
+      numbered = c.self.invariant.numbered;
       run = c.self.invariant.run;
       behind = c.self.invariant.behind;
     }

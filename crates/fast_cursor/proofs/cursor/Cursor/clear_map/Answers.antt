@@ -9,6 +9,7 @@ invariant_of-self c = record {
   place = place-none;
   around = c.self.invariant.around;
   rest = c.self.invariant.rest;
+  numbered = c.self.invariant.numbered;
   run = c.self.invariant.run;
   behind = c.self.invariant.behind;
 }

@@ -18,7 +18,7 @@ invariant_of-self c =
     (subst (λ n. ArePlaces c.self.inside.maps.items 0 (take n c.self.inside.frames.items)) one c.self.invariant.around) in
     let (behind, last) = running-less c.self.inside.ops.now c.self.inside.frames.items (c.self.inside.level - 1) c.index-frame.result.now (omega arith) c.index-frame.ensures
     (subst (λ n. AreRunning c.self.inside.ops.now (take n c.self.inside.frames.items)) one c.self.invariant.behind) in
-    record { within = omega arith; cells = c.self.invariant.cells; starts = omega arith; place = place; around = around; rest = c.self.invariant.rest; run = last.after; behind = behind }
+    record { within = omega arith; cells = c.self.invariant.cells; starts = omega arith; place = place; around = around; rest = c.self.invariant.rest; numbered = c.self.invariant.numbered; run = last.after; behind = behind }
 
 pub returns-clause-left : goal.returns-clause-left
 returns-clause-left c =

@@ -35,6 +35,7 @@ invariant_of-self c =
       place = place-none;
       around = places-more c.self.inside.maps.items c.self.inside.frames.items c.self.inside.level c.self.inside.start f room c.self.invariant.starts c.self.invariant.around place;
       rest = c.self.invariant.rest;
+      numbered = c.self.invariant.numbered;
       run = subst (λ o. IsRun o c.args.start) ops c.requires.run;
       behind = running-more c.self.inside.ops.now c.self.inside.frames.items c.self.inside.level f room c.self.invariant.behind (record { after = after; elements = elements });
     }

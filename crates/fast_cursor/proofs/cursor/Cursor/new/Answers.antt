@@ -10,6 +10,7 @@ invariant_of-result c = record {
   place = place-none;
   around = tt;
   rest = c.requires.rest;
+  numbered = c.requires.numbered;
   run = c.requires.rest.run;
   behind = tt;
 }

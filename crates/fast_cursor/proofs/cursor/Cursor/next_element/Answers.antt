@@ -73,6 +73,7 @@ invariant_of-self c =
       around = subst (λ k. ArePlaces i.maps.items 0 (take k (set i.frames.items n g))) (sym one)
           (places-more i.maps.items i.frames.items n (i.start - map_limit) g (omega arith) (omega arith) below written);
       rest = s.rest;
+      numbered = s.numbered;
       run = run;
       behind = subst (λ k. AreRunning i.ops.now (take k (set i.frames.items n g))) (sym one)
           (running-more i.ops.now i.frames.items n g (omega arith) behind (subst (λ (x : Frame). IsRunning i.ops.now (record x { more = r.more - 1 })) (sym same) running));

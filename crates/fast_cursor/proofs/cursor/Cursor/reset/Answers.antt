@@ -10,6 +10,7 @@ invariant_of-self c = record {
   place = place-none;
   around = tt;
   rest = c.self.invariant.rest;
+  numbered = c.self.invariant.numbered;
   run = c.self.invariant.rest.run;
   behind = tt;
 }

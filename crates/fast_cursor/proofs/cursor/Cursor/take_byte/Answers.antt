@@ -26,6 +26,7 @@ invariant_of-self c =
       place = subst (λ m. IsPlace m c.of_byte-self-inside.result) here c.of_byte-self-inside.ensures.place;
       around = only-places c.self.inside (set cells start b) c.self.invariant (one-before cells start b (omega arith));
       rest = c.self.invariant.rest;
+      numbered = c.self.invariant.numbered;
       run = c.self.invariant.run;
       behind = c.self.invariant.behind;
     }

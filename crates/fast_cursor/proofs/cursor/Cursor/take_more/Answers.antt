@@ -23,6 +23,7 @@ invariant_of-self c =
       place = subst (λ m. IsPlace m c.in_map-self-inside.result) read c.in_map-self-inside.ensures.place;
       around = only-places c.self.inside now.items c.self.invariant filled.before;
       rest = c.self.invariant.rest;
+      numbered = c.self.invariant.numbered;
       run = c.self.invariant.run;
       behind = c.self.invariant.behind;
     }

@@ -30,6 +30,7 @@ invariant_of-self c =
       place = subst (λ m. IsPlace m c.of_entity-self-inside.result) here (c.of_entity-self-inside.ensures.place c.args.rest.now c.requires.entity);
       around = only-places i now.items c.self.invariant filled.before;
       rest = c.self.invariant.rest;
+      numbered = c.self.invariant.numbered;
       run = c.self.invariant.run;
       behind = c.self.invariant.behind;
     }

@@ -1,4 +1,5 @@
-use Rattle.std.proofs.Common.{◌≡◌, ◌≤◌, length}
+use Rattle.std.proofs.Common.{◌≡◌, ◌≤◌, length, slice_get, Some}
+use Rattle.fast_program.specs.declared.ops.Op.{Op}
 use Rattle.fast_cursor.specs.device.Places.{place_left, IsPlaceOf}
 use Rattle.fast_machine.specs.declared.machine.Waiting.TheVariants.{Field}
 use Rattle.fast_machine.specs.device.Arms.{placed}
@@ -30,13 +31,14 @@ invariant-events g l = record {
 abbrev pub decreases-events : goal.decreases-events
 decreases-events g l = events_due (turning (set_of l.templates) l.limits (placed l.self l.spot.place))
 
--- Turns that hand nothing over leave what is to be read.
+-- Turns that hand nothing over leave what is to be read. The code at hand is that of the op at the place.
 abbrev pub invariant-silent : goal.invariant-silent
 invariant-silent g l = record {
   far : IsSoFar g.S.Sink.takes g.S.Sink.stops (set_of l.templates) l.limits l.fn.self l.piece l.fn.sink l.spot.rest.now l.sink (placed l.self l.spot.place);
   waits : l.self.waiting ≡ Field;
   place : IsPlaceOf l.self.cursor l.spot.place;
   left : length l.spot.rest.now ≤ length l.initial.spot.rest.now;
+  code : (op : Op) → slice_get l.spot.place.ahead.now 0 ≡ Some op → l.code ≡ op.code;
   same : turning (set_of l.templates) l.limits (placed l.self l.spot.place) ≡ turning (set_of l.templates) l.limits (placed l.initial.self l.initial.spot.place);
 }
 
