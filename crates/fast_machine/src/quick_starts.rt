@@ -107,8 +107,37 @@ impl<'t> Machine<'t> {
         1 + len
     }
 
-    /// The template of the message that the piece goes on with, whose map is one byte, how many bytes lead to its instructions, and
-    /// where its messages start: the latest one's, if the first bit is clear, else the one whose identifier stands behind the map.
+    /// The latest template, and where its messages start, if the piece goes on with a message of it whose map is one byte, and has the
+    /// first bit clear.
+    #[inline(always)]
+    pub fn message_again(
+        &self,
+        templates: &'t Templates,
+        limits: Limits,
+        rest: &[u8],
+    ) -> Option<(u32, &'t Start)>
+        requires supplied { IsSupplied (set_of templates.now) limits self.now }
+        requires unused { self.now.entity.bytes ≡ [] }
+        ensures ahead { IfSome result (λ r. IsMessageAhead (set_of templates.now) limits
+            (slots_dictionary self.now.slots) (slots_dictionary self.now.slots) rest.now r.0 1) }
+        ensures start { IfSome result (λ r. (t : Template)
+            × (slice_get (templates_of templates.now) r.0 ≡ Some t)
+            × IsStartOf (program_of templates.now) r.1.now t) }
+    {
+        let _ = limits;
+        if rest.is_empty() {
+            return None;
+        }
+        let byte = rest[0];
+        if byte >= 0x80 && byte < 0xc0 {
+            let number = self.latest_again(templates)?;
+            return Some((number, templates.start_of(number)));
+        }
+        None
+    }
+
+    /// The template of the message that the piece goes on with, whose map is one byte, and has the first bit set, how many bytes lead to
+    /// its instructions, and where its messages start, if the identifier behind the map is a template's.
     #[inline(always)]
     pub fn next_message(
         &mut self,
@@ -131,11 +160,7 @@ impl<'t> Machine<'t> {
             return None;
         }
         let byte = rest[0];
-        if byte >= 0x80 && byte < 0xc0 {
-            let number = self.latest_again(templates)?;
-            return Some((number, 1, templates.start_of(number)));
-        }
-        if byte < 0x80 {
+        if byte < 0xc0 {
             return None;
         }
         let bytes = self.sent_message(templates, limits, rest);

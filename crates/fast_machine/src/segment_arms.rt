@@ -184,6 +184,9 @@ impl<'t> Machine<'t> {
             → self.old.turns.count ≡ m.turns.count + 1 → S.takes s MessageEnd sink.old
             → HasWent S.takes S.stops (set_of templates.now) limits m spot.old s result sink.new self.new spot.new }
     {
+        if let Some((number, start)) = self.message_again(templates, limits, spot.rest) {
+            return self.message_begins(templates, limits, number, 1, start, spot, sink);
+        }
         let Some((number, bytes, start)) = self.next_message(templates, limits, spot.rest) else {
             return self.no_message(spot);
         };
