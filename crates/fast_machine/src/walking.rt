@@ -149,6 +149,7 @@ impl<'t> Machine<'t> {
         };
         'units: loop {
             'events: loop {
+                // The code at the place. Behind an absent field it is loaded where that is passed, so that such arms lead straight there.
                 let mut code = self.op_at(templates, limits, &spot.place).code;
                 'silent: loop {
                     let op = self.op_at(templates, limits, &spot.place);
@@ -232,6 +233,7 @@ impl<'t> Machine<'t> {
                         Code::BytesNullablePlain => arm!(vector_arm, Kind::Bytes, true),
                         Code::BytesTail => arm!(tail_arm, Kind::Bytes, false),
                         Code::BytesNullableTail => arm!(tail_arm, Kind::Bytes, true),
+                        // These arms have many ends: how the loop goes on is told here, and not behind all arms.
                         Code::Group => match arm!(group_arm, false) {
                             Went::Took => break 'events,
                             Went::Handed => break 'silent,

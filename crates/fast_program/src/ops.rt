@@ -147,7 +147,7 @@ impl Op {
     }
 }
 
-/// Those of nodes, in order.
+/// Those of nodes, in order. They stand in no program, and do not tell where.
 pub fn ops_of(alloc: Global, nodes: &[Node]) -> Result<Vec<Op>, AllocError>
     requires { length nodes.now ≤ 65536 }
     ensures { IfOk result (λ ops. AreOpsFrom 0 ops.items nodes.now) }

@@ -47,7 +47,7 @@ fn body_of(node: &Node) -> &[u32]
     }
 }
 
-/// Where the next op will stand.
+/// Where the next op will stand. Of more ops than a `u32` can tell there is no program, as if memory were out.
 fn next_place(ops: &Vec<Op>) -> Result<u32, AllocError>
     ensures { IfOk result (λ at. at ≡ length ops.now.items) }
 {
