@@ -67,20 +67,6 @@ ahead-at ops at h =
     let on : take (length ops - at) (drop at ops) ≡ drop at ops = from_on at ops in
     record { run = subst HasEnd (sym on) h; end = (at, omega arith, on) }
 
--- where it begins, by how much it is
-pub ahead-from : (ops ahead : List Op) → IsAhead ops ahead → drop (length ops - length ahead) ops ≡ ahead
-ahead-from ops ahead h =
-    let (n, within, is) = h.end in
-    let long : length ahead ≡ length ops - n = ap length is ∙ length-drop n ops in
-    let at : length ops - length ahead ≡ n = omega arith in
-    ap (λ k. drop k ops) at ∙ sym is
-
-pub ahead-fits : (ops ahead : List Op) → IsAhead ops ahead → length ahead ≤ length ops
-ahead-fits ops ahead h =
-    let (n, within, is) = h.end in
-    let long : length ahead ≡ length ops - n = ap length is ∙ length-drop n ops in
-    omega arith
-
 -- The frame that is written goes on.
 pub running-push : (ops : List Op) (fs : List Frame) (f : Frame) → AreRunning ops fs → IsRunning ops f → AreRunning ops (fs ++ f ∷ [])
 running-push ops [] f all h = (h, tt)
