@@ -1,4 +1,4 @@
-//! Template sets as programs: what a decoder's loop has to know of each node, in the fewest bytes.
+//! Template sets as programs: what a decoder's loop has to know of each node, in few bytes.
 #![tactic(auto)]
 
 pub mod codes;
