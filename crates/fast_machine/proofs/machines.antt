@@ -11,3 +11,4 @@ pub mod SentItems
 pub mod PartTakes
 pub mod ScalarMachines
 pub mod ScalarSteps
+pub mod Gathers

@@ -15,3 +15,4 @@ pub mod Opening
 pub mod Parts
 pub mod FitMaps
 pub mod Starts
+pub mod Gathered

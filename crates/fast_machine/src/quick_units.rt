@@ -65,7 +65,7 @@ impl<'t> Machine<'t> {
         UnitTaken { bytes, turn }
     }
 
-    /// Takes the unit that the machine waits for, if it is a mantissa or a map for the quick way.
+    /// Takes the unit that the machine waits for, if it is one for the quick way.
     #[inline(always)]
     pub fn take_whole<S: Sink>(
         &mut self,
@@ -91,7 +91,7 @@ impl<'t> Machine<'t> {
             }
             Waiting::SegmentMap(_) => self.open_quickly(templates, limits, rest, sink),
             Waiting::Text => self.take_block_text(templates, limits, rest, sink),
-            Waiting::Field => self.take_short_decimal(templates, limits, rest, sink),
+            Waiting::Field => self.take_short_number(templates, limits, rest, sink),
             _ => None,
         }
     }

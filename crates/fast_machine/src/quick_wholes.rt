@@ -1,21 +1,83 @@
-//! The quick way of whole decimals, behind a turn at whose end the machine waits for one: those under delta, both units at once.
+//! The quick way of fields that are numbers, behind a turn at whose end the machine waits for one, or at the start of a piece: integers,
+//! and whole decimals under delta, both units at once.
 
-ghost use Rattle.std.specs.Prelude.{◌≡◌, ◌≢◌, ◌+◌, ℕ, Ok, IfSome, IfNone};
+ghost use Rattle.std.specs.Prelude.{◌≡◌, ◌≢◌, ◌+◌, ℕ, List, [], length, Ok, IfSome, IfNone};
+ghost use Rattle.fast_wire.specs.device.Words.{IsShortEntity};
+ghost use Rattle.fast_value.specs.meaning.Limits.{Bounds};
+ghost use Rattle.fast_tree.specs.device.Nodes.{field_data};
+ghost use Rattle.fast_dict.specs.meaning.Slots.{slots_terms};
+ghost use Rattle.fast_units.specs.device.Deciding.{source_of};
+ghost use Rattle.fast_units.specs.device.Words.{ServesField, sent_reader, IsLastUnitOf};
 ghost use Rattle.fast_machine.specs.device.UnitTaken.{IsTakenTo};
 ghost use Rattle.fast_machine.specs.device.Positions.{set_of, IsReady, meaning};
 ghost use Rattle.fast_machine.specs.device.TurnsLeft.{Way, HasTurns, HasTurnsBehind};
 
 use crate::machine::{Machine, Turn, Waiting};
 use crate::quick_units::UnitTaken;
+use fast_dict::Slots;
 use fast_stream::Sink;
-use fast_template::{Operator, Shape, Templates};
+use fast_template::{FieldInstruction, Operator, Shape, Templates};
+use fast_units::fields::{Number, source_of};
+use fast_units::progress::Progress;
 use fast_units::short_decimals::delta_decimal;
+use fast_units::short_integers::{delta_item, signed_item, unsigned_item};
 use fast_value::{Kind, Limits};
+use fast_wire::{ShortEntity, short_entity};
+
+/// What an integer field comes to that stands in the stream as this entity.
+#[inline(always)]
+fn integer_item(
+    slots: &mut Slots,
+    field: &FieldInstruction,
+    rest: &[u8],
+    entity: ShortEntity,
+    strict: bool,
+) -> Option<Option<Number>>
+    requires first { IsShortEntity entity.number entity.len rest.now }
+    requires serves { ServesField slots.old field.now }
+    requires varies { field.now.operator ≢ Operator.Constant }
+    ensures unit { IfSome result (λ r. (l : Bounds) (scratch : List ℕ)
+        → IsLastUnitOf (sent_reader strict l slots.old field.now) field.now [] rest.now slots.old slots.new scratch
+        (Progress.Whole (source_of r) entity.len)) }
+    ensures none { IfNone result (slots.new ≡ slots.old) }
+    ensures terms { slots_terms slots.new ≡ slots_terms slots.old }
+{
+    let kind = field.kind;
+    let optional = field.optional;
+    let operator = field.operator;
+    if operator == Operator::Delta {
+        return match kind {
+            Kind::UInt32 | Kind::Int32 | Kind::UInt64 | Kind::Int64 => {
+                delta_item(slots, field, kind, optional, rest, entity, strict)
+            }
+            Kind::Decimal | Kind::Ascii | Kind::Unicode | Kind::Bytes => None,
+        };
+    }
+    match kind {
+        Kind::UInt32 => {
+            let top = 4_294_967_295;
+            unsigned_item(slots, field, kind, optional, operator, rest, entity, strict, top)
+        }
+        Kind::UInt64 => {
+            let top = u64::MAX;
+            unsigned_item(slots, field, kind, optional, operator, rest, entity, strict, top)
+        }
+        Kind::Int32 => {
+            let (low, top) = (-2_147_483_648, 2_147_483_647);
+            signed_item(slots, field, kind, optional, operator, rest, entity, strict, low, top)
+        }
+        Kind::Int64 => {
+            let (low, top) = (-9_223_372_036_854_775_808, 9_223_372_036_854_775_807);
+            signed_item(slots, field, kind, optional, operator, rest, entity, strict, low, top)
+        }
+        Kind::Decimal | Kind::Ascii | Kind::Unicode | Kind::Bytes => None,
+    }
+}
 
 impl<'t> Machine<'t> {
-    /// Takes both units of the next instruction, if it is a whole decimal under delta.
+    /// Takes the next instruction, if it is an integer, or a whole decimal under delta, of which both units are taken.
     #[inline(always)]
-    pub fn take_short_decimal<S: Sink>(
+    pub fn take_short_number<S: Sink>(
         &mut self,
         templates: &'t Templates,
         limits: Limits,
@@ -39,11 +101,18 @@ impl<'t> Machine<'t> {
         let Shape::Field(field) = &templates.node(number).shape else {
             return None;
         };
-        if field.kind != Kind::Decimal || field.operator != Operator::Delta {
-            return None;
+        match field.kind {
+            Kind::UInt32 | Kind::Int32 | Kind::UInt64 | Kind::Int64 => {
+                let entity = short_entity(rest)?;
+                let item = integer_item(&mut self.slots, field, rest, entity, limits.strict)?;
+                Some(self.sent(number, field.uses_bit(), item, entity.len, sink))
+            }
+            Kind::Decimal if field.operator == Operator::Delta => {
+                let decimal = delta_decimal(&mut self.slots, field, rest, limits.strict)?;
+                let item = Some(decimal.number);
+                Some(self.sent(number, false, item, decimal.bytes, sink))
+            }
+            Kind::Decimal | Kind::Ascii | Kind::Unicode | Kind::Bytes => None,
         }
-        let decimal = delta_decimal(&mut self.slots, field, rest, limits.strict)?;
-        let item = Some(decimal.number);
-        Some(self.sent(number, false, item, decimal.bytes, sink))
     }
 }

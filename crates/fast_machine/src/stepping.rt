@@ -29,6 +29,21 @@ impl UnitTaken {
             Err(code) => Err(code),
         }
     }
+
+    /// Whether the machine goes on without a byte.
+    #[inline(always)]
+    pub fn goes_on(&self) -> bool
+        ensures on { result ≡ true → (t : Turn) × (self.now.turn ≡ Ok t) × (t ≢ Turn.Waits) }
+        ensures off { result ≡ false → (t : Turn) → self.now.turn ≡ Ok t → t ≡ Turn.Waits }
+    {
+        match self.turn {
+            Ok(turn) => match turn {
+                Turn::Waits => false,
+                Turn::Silent | Turn::Handed => true,
+            },
+            Err(_) => false,
+        }
+    }
 }
 
 impl<'t> Machine<'t> {
@@ -58,7 +73,7 @@ impl<'t> Machine<'t> {
     /// Whether the next instruction is a field that stands in the stream: the machine then waits for its first unit. Nothing is handed
     /// over; the sink is there for what the clauses say of the step.
     #[inline(always)]
-    fn waits_at_once<S: Sink>(
+    pub fn waits_at_once<S: Sink>(
         &mut self,
         templates: &'t Templates,
         limits: Limits,
@@ -66,8 +81,11 @@ impl<'t> Machine<'t> {
     ) -> bool
         requires turn { CanTurn (set_of templates.now) limits self.old }
         ensures none { result ≡ false → self.new ≡ self.old }
-        ensures step { (rest : List ℕ) → result ≡ true → IsStep S.takes S.stops (set_of templates.now) limits self.old
-            rest sink.old (record { bytes = 0; turn = Ok Turn.Waits }) sink.old self.new }
+        ensures hands { result ≡ true → Hands S.takes S.stops (turning (set_of templates.now) limits self.old) sink.old
+            (Ok tt) sink.new (meaning (set_of templates.now) limits self.new) }
+        ensures ready { result ≡ true → IsReady (set_of templates.now) limits self.new }
+        ensures turns { result ≡ true → (way : Way) (n : ℕ) → HasTurns way (set_of templates.now) limits 0 n self.old
+            → HasTurnsWaiting way (set_of templates.now) limits n self.new }
         ensures same { sink.new ≡ sink.old }
     {
         let Some(number) = self.cursor.next() else {
@@ -83,7 +101,7 @@ impl<'t> Machine<'t> {
         true
     }
 
-    /// A step by a turn of the machine. Where it waits behind that, its unit is taken, if it is a mantissa or a map for the quick way.
+    /// A step by a turn of the machine, and the unit that it waits for behind that, or as much of it as there is.
     #[inline(always)]
     pub fn step_by_turn<S: Sink>(
         &mut self,
@@ -116,9 +134,9 @@ impl<'t> Machine<'t> {
         }
     }
 
-    /// Takes the unit that the machine waits for, if it is a mantissa or a map for the quick way.
+    /// Takes the unit that the machine waits for behind a turn, or as much of it as there is.
     #[inline(always)]
-    fn take_behind<S: Sink>(
+    pub fn take_behind<S: Sink>(
         &mut self,
         templates: &'t Templates,
         limits: Limits,
@@ -134,15 +152,19 @@ impl<'t> Machine<'t> {
             → IsStep S.takes S.stops (set_of templates.now) limits m rest.now s result sink.new self.new }
         ensures waits { (t : Turn) → result.turn ≡ Ok t → t ≢ Turn.Waits → self.new.waiting ≡ Waiting.Field }
     {
-        match self.take_whole(templates, limits, rest, sink) {
-            Some(quick) => {
-                self.wait_for_field();
-                quick
-            }
-            None => UnitTaken {
+        if rest.is_empty() {
+            return UnitTaken {
                 bytes: 0,
                 turn: Ok(Turn::Waits),
-            },
+            };
         }
+        if self.gathers(templates, limits, rest) {
+            return UnitTaken::cut(rest);
+        }
+        let unit = self.take_next(templates, limits, rest, sink);
+        if unit.goes_on() {
+            self.wait_for_field();
+        }
+        unit
     }
 }

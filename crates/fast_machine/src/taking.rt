@@ -19,6 +19,7 @@ ghost use Rattle.fast_machine.specs.declared.machine.Machine.{Machine};
 ghost use Rattle.fast_dict.specs.meaning.Dictionary.{reset};
 ghost use Rattle.fast_machine.specs.device.Handing.{Fed, waiting_at};
 ghost use Rattle.fast_machine.specs.device.Steps.{IsCountedBy};
+ghost use Rattle.fast_machine.specs.device.Gathered.{IsGatheredBy};
 ghost use Rattle.fast_machine.specs.device.Words.{TakesUnit, IsServedBy, PaysTurns, PaysMessage};
 ghost use Rattle.fast_units.specs.device.Settling.{value_at};
 ghost use Rattle.fast_machine.specs.device.Passing.{state_past, identified_then};
@@ -47,6 +48,7 @@ use fast_units::scalars::{take_bytes, take_first, take_first_text, take_number};
 use fast_units::scratch::Scratch;
 use fast_units::source::ValueSource;
 use fast_units::stages::{FieldStep, Stage};
+use fast_units::units::{keeps_characters, keeps_run};
 use fast_value::{Code, Kind, Limits, Scalar};
 use fast_wire::map_overlong;
 use std::alloc::{AllocError, Global};
@@ -63,7 +65,7 @@ pub struct PieceTaken {
 impl UnitTaken {
     /// All bytes of the rest, and the unit is cut.
     #[inline]
-    fn cut(rest: &[u8]) -> UnitTaken
+    pub fn cut(rest: &[u8]) -> UnitTaken
         ensures bytes { result.bytes ≡ length rest.now }
         ensures turn { result.turn ≡ Ok Turn.Waits }
     {
@@ -701,6 +703,72 @@ impl<'t> Machine<'t> {
         }
     }
 
+    /// Keeps all of the rest in hand, if none of its bytes is the last one of the unit that the machine waits for: no more is to be done for
+    /// it then. Where it keeps nothing, it has not been told apart whether one is.
+    #[inline(always)]
+    pub fn gathers(&mut self, templates: &'t Templates, limits: Limits, rest: &[u8]) -> bool
+        requires ready { IsReady (set_of templates.now) limits self.old }
+        ensures gathered { result ≡ true → IsGatheredBy (set_of templates.now) limits self.old self.new rest.now }
+        ensures same { result ≡ false → self.new ≡ self.old }
+    {
+        let _ = templates;
+        match self.waiting {
+            Waiting::Identifier | Waiting::Field | Waiting::Number(_) | Waiting::Mantissa(_) => {
+                self.entity.keeps(rest)
+            }
+            Waiting::Text => keeps_characters(&mut self.text, rest, limits.max_text),
+            Waiting::Bytes(stage) => match stage {
+                Stage::Vector(size) | Stage::PartVector(_, size) => {
+                    keeps_run(&mut self.text, rest, size as usize)
+                }
+                _ => false,
+            },
+            Waiting::Map | Waiting::SegmentMap(_) => false,
+        }
+    }
+
+    /// How many bytes of the rest are kept in hand: all of them, if they are known to be bytes of the unit that the machine waits for, of
+    /// which none is the last one, else none.
+    #[inline(always)]
+    fn gather(&mut self, templates: &'t Templates, limits: Limits, rest: &[u8]) -> usize
+        requires ready { IsReady (set_of templates.now) limits self.old }
+        ensures kept { 0 < result → (result ≡ length rest.now)
+            × IsGatheredBy (set_of templates.now) limits self.old self.new rest.now }
+        ensures none { result ≡ 0 → self.new ≡ self.old }
+    {
+        if rest.is_empty() {
+            return 0;
+        }
+        if self.gathers(templates, limits, rest) {
+            return rest.len();
+        }
+        0
+    }
+
+    /// Takes one unit, or as much of it as there is, in the quick way, if it is one for that.
+    #[inline(always)]
+    pub fn take_next<S: Sink>(
+        &mut self,
+        templates: &'t Templates,
+        limits: Limits,
+        rest: &[u8],
+        sink: &mut S,
+    ) -> UnitTaken
+        requires ready { IsReady (set_of templates.now) limits self.old }
+        requires some { 0 < length rest.now }
+        ensures taken { TakesUnit S.takes S.stops (set_of templates.now) limits self.old rest.now sink.old result
+            sink.new self.new }
+        ensures turns { (way : Way) (n : ℕ) → HasTurnsWaiting way (set_of templates.now) limits n self.old
+            → HasTurnsBehind result.turn way (set_of templates.now) limits
+            (1 + n + turns_begun_at self.old.waiting self.old.cursor.map way (tree_in (set_of templates.now)) limits)
+            self.new }
+    {
+        match self.take_whole(templates, limits, rest, sink) {
+            Some(quick) => quick,
+            None => self.take_unit(templates, limits, rest, sink),
+        }
+    }
+
     /// Takes one unit, or as much of it as there is, in the general way.
     #[inline(never)]
     fn take_unit<S: Sink>(
@@ -757,7 +825,7 @@ impl<'t> Machine<'t> {
         }
     }
 
-    /// Takes one unit in the general way, and all units behind it that are for the quick way.
+    /// Takes one unit, or as much of it as there is, and all units behind it that are for the loop.
     #[inline(always)]
     fn take_some<S: Sink>(
         &mut self,
@@ -778,7 +846,7 @@ impl<'t> Machine<'t> {
         ensures turns { (way : Way) → IsCountedBy result.outcome way (set_of templates.now) limits result.bytes self.old
             self.new }
     {
-        let unit = self.take_unit(templates, limits, rest, sink);
+        let unit = self.take_next(templates, limits, rest, sink);
         match unit.turn {
             Err(code) => PieceTaken {
                 bytes: unit.bytes,
@@ -786,7 +854,7 @@ impl<'t> Machine<'t> {
             },
             Ok(turn) => match turn {
                 Turn::Waits => PieceTaken {
-                    bytes: unit.bytes,
+                    bytes: unit.bytes + self.gather(templates, limits, &rest[unit.bytes..]),
                     outcome: Ok(()),
                 },
                 _ => {
@@ -800,9 +868,43 @@ impl<'t> Machine<'t> {
         }
     }
 
-    /// Takes the units of a piece, up to its end, a fault, or where the sink stops.
-    #[inline(never)]
+    /// Takes the units of a piece, up to its end, a fault, or where the sink stops. A piece that ends inside the unit in hand, as most do of
+    /// a text that comes byte by byte, is kept here.
+    #[inline]
     pub fn take_all<S: Sink>(
+        &mut self,
+        templates: &'t Templates,
+        limits: Limits,
+        piece: &[u8],
+        sink: &mut S,
+    ) -> PieceTaken
+        requires ready { IsReady (set_of templates.now) limits self.old }
+        ensures within { result.bytes ≤ length piece.now }
+        ensures all { IsOk result.outcome → result.bytes ≡ length piece.now }
+        ensures fed { Fed S.takes S.stops (tree_in (set_of templates.now)) limits
+            (waiting_at (meaning (set_of templates.now) limits self.old)) (take result.bytes piece.now)
+            sink.old result.outcome sink.new (waiting_at (meaning (set_of templates.now) limits self.new)) }
+        ensures ready { OnOk result.outcome (IsReady (set_of templates.now) limits self.new) }
+        ensures supplied { IsSupplied (set_of templates.now) limits self.new }
+        ensures turns { (way : Way) → self.old.turns.count ≡ 0
+            → HasTurnsWaiting way (set_of templates.now) limits (most_by way (tree_in (set_of templates.now)) limits)
+            self.old
+            → (self.new.turns.count ≤ result.bytes * (1 + most_by way (tree_in (set_of templates.now)) limits))
+            × OnOk result.outcome ((k : ℕ) × HasTurnsWaiting way (set_of templates.now) limits k self.new) }
+    {
+        let kept = self.gather(templates, limits, piece);
+        if kept > 0 {
+            return PieceTaken {
+                bytes: kept,
+                outcome: Ok(()),
+            };
+        }
+        self.take_units(templates, limits, piece, sink)
+    }
+
+    /// The same of a piece that is not known to end inside the unit in hand.
+    #[inline(never)]
+    fn take_units<S: Sink>(
         &mut self,
         templates: &'t Templates,
         limits: Limits,

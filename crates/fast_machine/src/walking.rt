@@ -41,7 +41,8 @@ impl<'t> Machine<'t> {
         place.op()
     }
 
-    /// A step in the general way. It is marked as cold so that the loop's registers are given out by what the arms want.
+    /// A step in the general way: that a field waits for its unit is by far the most common turn, and is asked for first. It is marked as
+    /// cold so that the loop's registers are given out by what the arms want.
     #[cold]
     #[inline(never)]
     fn general_step<S: Sink>(
@@ -56,6 +57,9 @@ impl<'t> Machine<'t> {
             self.new }
         ensures waits { (t : Turn) → result.turn ≡ Ok t → t ≢ Turn.Waits → self.new.waiting ≡ Waiting.Field }
     {
+        if self.waits_at_once(templates, limits, sink) {
+            return self.take_behind(templates, limits, rest, sink);
+        }
         self.step_by_turn(templates, limits, rest, sink)
     }
 

@@ -1,12 +1,12 @@
 //! The bytes of an integer that a piece has cut, and how those of the next pieces complete it.
 
-ghost use Rattle.std.specs.Prelude.{◌≡◌, ◌<◌, ◌≤◌, ◌==◌, false, [], length, Some, pos, IfOk, IfErr};
+ghost use Rattle.std.specs.Prelude.{◌≡◌, ◌<◌, ◌≤◌, ◌==◌, true, false, [], ◌++◌, length, Some, pos, IfOk, IfErr};
 ghost use Rattle.fast_wire.specs.meaning.Entities.{HaveNoStop, IsEntity};
 ghost use Rattle.fast_wire.specs.meaning.Integers.{unsigned_up_to, SpellsInt};
 ghost use Rattle.fast_units.specs.device.NextUnits.{range_data, IsRefusedInt, IsGathered, IsNextInteger};
 
 use crate::progress::Progress;
-use crate::units::IntegerRange;
+use crate::units::{IntegerRange, has_stop};
 use fast_value::Code;
 use fast_wire::{
     Entity, Step, WireFault, read_nullable_signed, read_nullable_unsigned, read_signed,
@@ -46,6 +46,19 @@ impl Pending {
         ensures { self.new.bytes ≡ [] }
     {
         self.bytes.clear();
+    }
+
+    /// Keeps all of the rest, if none of its bytes is the integer's last one.
+    #[inline(always)]
+    pub fn keeps(&mut self, rest: &[u8]) -> bool
+        ensures kept { result ≡ true → self.new.bytes ≡ self.old.bytes ++ rest.now }
+        ensures same { result ≡ false → self.new ≡ self.old }
+    {
+        if self.bytes.len() + rest.len() >= 10 || has_stop(rest) {
+            return false;
+        }
+        let _ = gather(&mut self.bytes, rest);
+        true
     }
 
     /// The integer, or NULL where it may be, byte by byte.

@@ -83,6 +83,20 @@ impl Scratch {
         self.len = end;
     }
 
+    /// Takes more bytes, which may well be a single one: that is written in place.
+    #[inline(always)]
+    pub(crate) fn keep(&mut self, bytes: &[u8])
+        requires { length self.old.text + length bytes.now ≤ self.old.capacity }
+        ensures text { self.new.text ≡ self.old.text ++ bytes.now }
+        ensures capacity { self.new.capacity ≡ self.old.capacity }
+    {
+        if bytes.len() == 1 {
+            self.push(bytes[0]);
+        } else {
+            self.append(bytes);
+        }
+    }
+
     /// Takes the first bytes of a block. All 16 bytes of the block are written, which is one move, and those behind are not counted.
     #[inline(always)]
     pub fn append_front(&mut self, block: &[u8], count: usize)

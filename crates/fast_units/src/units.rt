@@ -103,6 +103,58 @@ pub fn next_ascii(scratch: &mut Scratch, rest: &[u8], room: usize, nullable: boo
     characters(scratch, rest, room)
 }
 
+/// Whether one of the bytes has a stop bit. A single byte, as of a stream that comes byte by byte, is looked at in place.
+#[inline(always)]
+pub(crate) fn has_stop(bytes: &[u8]) -> bool
+    ensures { result ≡ false → HaveNoStop bytes.now }
+{
+    if bytes.len() == 1 {
+        return bytes[0] >= 0x80;
+    }
+    find_stop(bytes).is_some()
+}
+
+/// Keeps all of the rest of a text of at most `room` characters, if it begins with a character and goes on behind the rest.
+#[inline(always)]
+pub fn keeps_characters(scratch: &mut Scratch, rest: &[u8], room: usize) -> bool
+    requires fits { room ≤ scratch.old.capacity }
+    ensures kept { result ≡ true → scratch.new.text ≡ scratch.old.text ++ rest.now }
+    ensures open { result ≡ true → (nullable : Bool) → ascii_phrase nullable room scratch.old.text [] cut
+        → ascii_phrase nullable room scratch.new.text [] cut }
+    ensures same { result ≡ false → scratch.new ≡ scratch.old }
+    ensures capacity { scratch.new.capacity ≡ scratch.old.capacity }
+{
+    let first = match scratch.as_slice().first() {
+        Some(byte) => *byte,
+        None => match rest.first() {
+            Some(byte) => *byte,
+            None => return false,
+        },
+    };
+    if first == 0x00 || scratch.len() + rest.len() > room || has_stop(rest) {
+        return false;
+    }
+    scratch.keep(rest);
+    true
+}
+
+/// Keeps all of the rest of a run of `size` bytes, if the run goes on behind it.
+#[inline(always)]
+pub fn keeps_run(scratch: &mut Scratch, rest: &[u8], size: usize) -> bool
+    requires more { length scratch.old.text < size }
+    requires fits { size ≤ scratch.old.capacity }
+    ensures kept { result ≡ true → (scratch.new.text ≡ scratch.old.text ++ rest.now)
+        × (length scratch.new.text < size) }
+    ensures same { result ≡ false → scratch.new ≡ scratch.old }
+    ensures capacity { scratch.new.capacity ≡ scratch.old.capacity }
+{
+    if rest.len() >= size - scratch.len() {
+        return false;
+    }
+    scratch.keep(rest);
+    true
+}
+
 /// Where the bytes of a run stand that is whole.
 #[derive(Clone, Copy)]
 pub enum Run {

@@ -150,7 +150,7 @@ module _ (set : Set) (l : Limits) (m : Machine) (later : NameLaterNodes set.node
       by (n ∷ ns) h = some n ns (first_of set.nodes n ns later h)
 
   -- By the unit that it waits for.
-  waits_at : (w : Waiting) → w ≢ Map → CanTake w set l m → Stays (reader_of l.strict (term_at w set (bounds l) m)) (front_at w m)
+  pub waits_at : (w : Waiting) → w ≢ Map → CanTake w set l m → Stays (reader_of l.strict (term_at w set (bounds l) m)) (front_at w m)
   waits_at Map h c = absurd (h refl)
   waits_at Identifier h c = identifier_waits c
   waits_at (SegmentMap width) h c = map_open l.strict (λ w. narrow width w (resume (bounds l) fs (body_in set m.cursor.left) (record { context = record { dictionary = slots_dictionary m.slots; counted = m.counted }; bits = bits w }))) m.cursor.map c.0 c.1
