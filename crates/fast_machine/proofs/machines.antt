@@ -1,5 +1,4 @@
 -- What the machine's functions do with each kind of unit.
-pub mod BlockTexts
 pub mod CutMaps
 pub mod UnitTaken
 pub mod QuickSteps

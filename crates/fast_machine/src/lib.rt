@@ -9,7 +9,6 @@ pub mod layout;
 pub mod machine;
 mod quick_decimals;
 mod quick_starts;
-mod quick_texts;
 mod quick_units;
 mod quick_wholes;
 mod segment_arms;

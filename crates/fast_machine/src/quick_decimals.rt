@@ -71,7 +71,7 @@ fn mantissa_item(
 
 impl<'t> Machine<'t> {
     /// Takes the mantissa of the next instruction, a decimal by parts with this exponent.
-    #[inline(always)]
+    #[inline(never)]
     pub fn take_short_mantissa<S: Sink>(
         &mut self,
         templates: &'t Templates,

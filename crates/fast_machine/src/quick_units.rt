@@ -90,7 +90,6 @@ impl<'t> Machine<'t> {
                 self.take_short_mantissa(templates, limits, exponent, rest, sink)
             }
             Waiting::SegmentMap(_) => self.open_quickly(templates, limits, rest, sink),
-            Waiting::Text => self.take_block_text(templates, limits, rest, sink),
             Waiting::Field => self.take_short_number(templates, limits, rest, sink),
             _ => None,
         }

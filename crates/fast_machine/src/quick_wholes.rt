@@ -76,7 +76,7 @@ fn integer_item(
 
 impl<'t> Machine<'t> {
     /// Takes the next instruction, if it is an integer, or a whole decimal under delta, of which both units are taken.
-    #[inline(always)]
+    #[inline(never)]
     pub fn take_short_number<S: Sink>(
         &mut self,
         templates: &'t Templates,

@@ -158,10 +158,14 @@ impl<'t> Machine<'t> {
                 turn: Ok(Turn::Waits),
             };
         }
+        if let Some(quick) = self.take_whole(templates, limits, rest, sink) {
+            self.wait_for_field();
+            return quick;
+        }
         if self.gathers(templates, limits, rest) {
             return UnitTaken::cut(rest);
         }
-        let unit = self.take_next(templates, limits, rest, sink);
+        let unit = self.take_unit(templates, limits, rest, sink);
         if unit.goes_on() {
             self.wait_for_field();
         }

@@ -747,7 +747,7 @@ impl<'t> Machine<'t> {
 
     /// Takes one unit, or as much of it as there is, in the quick way, if it is one for that.
     #[inline(always)]
-    pub fn take_next<S: Sink>(
+    fn take_next<S: Sink>(
         &mut self,
         templates: &'t Templates,
         limits: Limits,
@@ -771,7 +771,7 @@ impl<'t> Machine<'t> {
 
     /// Takes one unit, or as much of it as there is, in the general way.
     #[inline(never)]
-    fn take_unit<S: Sink>(
+    pub fn take_unit<S: Sink>(
         &mut self,
         templates: &'t Templates,
         limits: Limits,

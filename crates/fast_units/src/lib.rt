@@ -18,7 +18,6 @@ pub mod scalars;
 pub mod scratch;
 pub mod short_decimals;
 pub mod short_integers;
-pub mod short_texts;
 pub mod source;
 pub mod stages;
 pub mod taken;
