@@ -21,7 +21,7 @@ pub struct ShortEntity {
     pub len: usize,
 }
 
-/// The first entity, if it is one byte, or ends within eight bytes that are there.
+/// The first entity, if it ends within eight bytes that are there, within the first four, or within the last three of a piece.
 #[inline(always)]
 pub fn short_entity(bytes: &[u8]) -> Option<ShortEntity>
     ensures { IfSome result (λ e. IsShortEntity e.number e.len bytes.now) }
@@ -30,6 +30,9 @@ pub fn short_entity(bytes: &[u8]) -> Option<ShortEntity>
         return Some(ShortEntity { number, len: 1 });
     }
     if let Some((number, len)) = four_bytes(bytes) {
+        return Some(ShortEntity { number, len });
+    }
+    if let Some((number, len)) = few_bytes(bytes) {
         return Some(ShortEntity { number, len });
     }
     let (number, len) = eight_bytes(bytes)?;
@@ -63,6 +66,24 @@ pub(crate) fn four_bytes(bytes: &[u8]) -> Option<(u64, usize)>
     let bits = stops.trailing_zeros() + 1;
     let word = u32::from_be_bytes(chunk) >> (32 - bits);
     Some((u64::from(packed_short(word)), bits as usize / 8))
+}
+
+/// The number and the length of the first entity, if two or three bytes are there and it ends among them: those of four bytes with zeros
+/// behind, of which none is a last byte.
+#[inline(always)]
+fn few_bytes(bytes: &[u8]) -> Option<(u64, usize)>
+    ensures { IfSome result (λ e. IsShortEntity e.0 e.1 bytes.now) }
+{
+    let third = match bytes.len() {
+        2 => 0,
+        3 => bytes[2],
+        _ => return None,
+    };
+    let (number, len) = four_bytes(&[bytes[0], bytes[1], third, 0])?;
+    if len > bytes.len() {
+        return None;
+    }
+    Some((number, len))
 }
 
 /// The number and the length of the first entity, if eight bytes are there and it ends among them.
