@@ -6,6 +6,7 @@ pub mod OpenMaps
 pub mod ShortMaps
 pub mod StartMaps
 pub mod Ahead
+pub mod KnownStarts
 pub mod SentItems
 pub mod PartTakes
 pub mod ScalarMachines

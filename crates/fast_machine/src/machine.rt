@@ -9,6 +9,7 @@ use crate::layout::Widths;
 use crate::turns::Turns;
 use fast_cursor::cursor::Cursor;
 use fast_dict::Slots;
+use fast_program::Start;
 use fast_template::FieldInstruction;
 use fast_units::pending::Pending;
 use fast_units::scratch::Scratch;
@@ -69,6 +70,6 @@ pub struct Machine<'t> {
     pub identifier: FieldInstruction,
     /// The turns of the last call.
     pub turns: Turns,
-    /// The number of the last message's template, which the next one most likely has.
-    pub latest: u32,
+    /// The start of the last message's template, which the next one most likely has.
+    pub latest: Option<&'t Start>,
 }

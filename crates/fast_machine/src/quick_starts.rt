@@ -3,15 +3,13 @@
 ghost use Rattle.std.specs.Prelude.{◌≡◌, ◌≢◌, ◌+◌, ◌<◌, ◌≤◌, ℕ, [], length, slice_get, slice_index, Ok, Some, IfSome, IfNone};
 ghost use Rattle.fast_value.specs.declared.kinds.Kind.{Kind};
 ghost use Rattle.fast_value.specs.meaning.Kinds.{U};
-ghost use Rattle.fast_program.specs.device.Starts.{IsStartOf};
 ghost use Rattle.fast_template.specs.meaning.Flat.{templates_of};
-ghost use Rattle.fast_template.specs.device.Programs.{program_of};
 ghost use Rattle.fast_tree.specs.declared.instructions.Template.{Template};
 ghost use Rattle.fast_dict.specs.meaning.Dictionary.{assigned, previous_at};
 ghost use Rattle.fast_dict.specs.meaning.Slots.{slots_dictionary, slots_terms};
 ghost use Rattle.fast_machine.specs.device.UnitTaken.{IsTakenTo};
-ghost use Rattle.fast_machine.specs.device.Positions.{set_of, IsReady, IsSupplied, meaning};
-ghost use Rattle.fast_machine.specs.device.Starts.{IsMessageAhead};
+ghost use Rattle.fast_machine.specs.device.Positions.{set_of, IsReady, IsStartIn, IsSupplied, meaning};
+ghost use Rattle.fast_machine.specs.device.Starts.{IsMessageAhead, IsStartWith};
 ghost use Rattle.fast_machine.specs.device.TurnsLeft.{Way, HasTurns, HasTurnsBehind};
 
 use crate::machine::{Machine, Turn, Waiting};
@@ -56,73 +54,69 @@ impl<'t> Machine<'t> {
         })
     }
 
-    /// The number of the latest template, if it has the identifier that the identifier's entry holds.
+    /// The start of the latest template, if it has the identifier that the identifier's entry holds. The set is there for what the
+    /// clauses say.
     #[inline(always)]
-    pub fn latest_again(&self, templates: &Templates) -> Option<u32>
+    pub fn latest_again(&self, templates: &'t Templates) -> Option<&'t Start>
         requires some { 0 < length (slots_dictionary self.now.slots) }
+        requires latest { IfSome self.now.latest (λ s. IsStartIn (set_of templates.now) s.now) }
         ensures { IfSome result
-            (λ i. (id : ℕ) × (t : Template)
-            × (previous_at (Some 0) (slots_dictionary self.now.slots) ≡ assigned Kind.UInt32 (U id))
-            × (slice_get (templates_of templates.now) i ≡ Some t) × (t.id ≡ Some id)
-            × ((j : ℕ) (u : Template) → j < i → slice_get (templates_of templates.now) j ≡ Some u → u.id ≢ Some id)) }
+            (λ s. (id : ℕ) × (previous_at (Some 0) (slots_dictionary self.now.slots) ≡ assigned Kind.UInt32 (U id))
+            × IsStartWith (set_of templates.now) id s.now) }
     {
         let Entry::UInt32(held) = self.slots.held(0) else {
             return None;
         };
-        if self.latest >= templates.count() {
+        let start = self.latest?;
+        if held == NO_ID || start.id != held {
             return None;
         }
-        if held == NO_ID || templates.start_of(self.latest).id != held {
-            return None;
-        }
-        Some(self.latest)
+        Some(start)
     }
 
     /// How many bytes lead to the instructions of the message that the piece goes on with, whose map is one byte, and has the first bit
-    /// set: if the identifier stands whole in the piece and is a template's, which is the latest one then, else 0.
+    /// set, and the start of its template: if the identifier stands whole in the piece and is a template's, which is the latest one then.
     #[inline(always)]
-    pub fn sent_message(&mut self, templates: &'t Templates, limits: Limits, rest: &[u8]) -> usize
+    pub fn sent_message(
+        &mut self,
+        templates: &'t Templates,
+        limits: Limits,
+        rest: &[u8],
+    ) -> Option<(usize, &'t Start)>
         requires supplied { IsSupplied (set_of templates.now) limits self.old }
         requires unused { self.old.entity.bytes ≡ [] }
         requires some { 0 < length rest.now }
         requires first { 192 ≤ slice_index rest.now 0 }
-        ensures none { result ≡ 0 → self.new ≡ self.old }
-        ensures ahead { 0 < result → IsMessageAhead (set_of templates.now) limits
-            (slots_dictionary self.old.slots) (slots_dictionary self.new.slots) rest.now self.new.latest result }
+        ensures none { IfNone result (self.new ≡ self.old) }
+        ensures ahead { IfSome result (λ r. IsMessageAhead (set_of templates.now) limits
+            (slots_dictionary self.old.slots) (slots_dictionary self.new.slots) rest.now r.1.now.number r.0) }
+        ensures start { IfSome result (λ r. IsStartIn (set_of templates.now) r.1.now) }
+        ensures supplied { IsSupplied (set_of templates.now) limits self.new }
         ensures same { self.new ≡ record self.old { slots = self.new.slots; latest = self.new.latest } }
         ensures terms { slots_terms self.new.slots ≡ slots_terms self.old.slots }
     {
         let read = whole_unsigned(&rest[1..], false, limits.strict, 4_294_967_295);
-        let Some((claimed, len)) = read else {
-            return 0;
-        };
-        let Some(id) = claimed else {
-            return 0;
-        };
-        let Some(number) = template_with(templates, id as u32, self.latest) else {
-            return 0;
-        };
+        let (claimed, len) = read?;
+        let id = claimed?;
+        let start = template_with(templates, id as u32, self.latest)?;
         self.slots.set_number(0, Entry::UInt32(id));
-        self.latest = number;
-        1 + len
+        self.latest = Some(start);
+        Some((1 + len, start))
     }
 
-    /// The latest template, and where its messages start, if the piece goes on with a message of it whose map is one byte, and has the
-    /// first bit clear.
+    /// The start of the latest template, if the piece goes on with a message of it whose map is one byte, and has the first bit clear.
     #[inline(always)]
     pub fn message_again(
         &self,
         templates: &'t Templates,
         limits: Limits,
         rest: &[u8],
-    ) -> Option<(u32, &'t Start)>
+    ) -> Option<&'t Start>
         requires supplied { IsSupplied (set_of templates.now) limits self.now }
         requires unused { self.now.entity.bytes ≡ [] }
-        ensures ahead { IfSome result (λ r. IsMessageAhead (set_of templates.now) limits
-            (slots_dictionary self.now.slots) (slots_dictionary self.now.slots) rest.now r.0 1) }
-        ensures start { IfSome result (λ r. (t : Template)
-            × (slice_get (templates_of templates.now) r.0 ≡ Some t)
-            × IsStartOf (program_of templates.now) r.1.now t) }
+        ensures ahead { IfSome result (λ s. IsMessageAhead (set_of templates.now) limits
+            (slots_dictionary self.now.slots) (slots_dictionary self.now.slots) rest.now s.now.number 1) }
+        ensures start { IfSome result (λ s. IsStartIn (set_of templates.now) s.now) }
     {
         let _ = limits;
         if rest.is_empty() {
@@ -130,29 +124,27 @@ impl<'t> Machine<'t> {
         }
         let byte = rest[0];
         if byte >= 0x80 && byte < 0xc0 {
-            let number = self.latest_again(templates)?;
-            return Some((number, templates.start_of(number)));
+            return self.latest_again(templates);
         }
         None
     }
 
-    /// The template of the message that the piece goes on with, whose map is one byte, and has the first bit set, how many bytes lead to
-    /// its instructions, and where its messages start, if the identifier behind the map is a template's.
+    /// How many bytes lead to the instructions of the message that the piece goes on with, whose map is one byte, and has the first bit
+    /// set, and the start of its template, if the identifier behind the map is a template's.
     #[inline(always)]
     pub fn next_message(
         &mut self,
         templates: &'t Templates,
         limits: Limits,
         rest: &[u8],
-    ) -> Option<(u32, usize, &'t Start)>
+    ) -> Option<(usize, &'t Start)>
         requires supplied { IsSupplied (set_of templates.now) limits self.old }
         requires unused { self.old.entity.bytes ≡ [] }
         ensures none { IfNone result (self.new ≡ self.old) }
         ensures ahead { IfSome result (λ r. IsMessageAhead (set_of templates.now) limits
-            (slots_dictionary self.old.slots) (slots_dictionary self.new.slots) rest.now r.0 r.1) }
-        ensures start { IfSome result (λ r. (t : Template)
-            × (slice_get (templates_of templates.now) r.0 ≡ Some t)
-            × IsStartOf (program_of templates.now) r.2.now t) }
+            (slots_dictionary self.old.slots) (slots_dictionary self.new.slots) rest.now r.1.now.number r.0) }
+        ensures start { IfSome result (λ r. IsStartIn (set_of templates.now) r.1.now) }
+        ensures supplied { IsSupplied (set_of templates.now) limits self.new }
         ensures same { self.new ≡ record self.old { slots = self.new.slots; latest = self.new.latest } }
         ensures terms { slots_terms self.new.slots ≡ slots_terms self.old.slots }
     {
@@ -163,38 +155,51 @@ impl<'t> Machine<'t> {
         if byte < 0xc0 {
             return None;
         }
-        let bytes = self.sent_message(templates, limits, rest);
-        if bytes == 0 {
-            return None;
-        }
-        let number = self.latest;
-        Some((number, bytes, templates.start_of(number)))
+        self.sent_message(templates, limits, rest)
     }
 }
 
 /// Among so few templates a walk is the shortest way to one.
 const FEW: u32 = 8;
 
-/// The number of the template with an identifier, which is most likely the latest one's.
+/// The start of the template with an identifier, which is most likely the latest one.
 #[inline(always)]
-fn template_with(templates: &Templates, id: u32, latest: u32) -> Option<u32>
-    ensures { IfSome result (λ i. (t : Template) × (slice_get (templates_of templates.now) i ≡ Some t)
-        × (t.id ≡ Some id)
-        × ((j : ℕ) (u : Template) → j < i → slice_get (templates_of templates.now) j ≡ Some u → u.id ≢ Some id)) }
+pub fn template_with<'t>(
+    templates: &'t Templates,
+    id: u32,
+    latest: Option<&'t Start>,
+) -> Option<&'t Start>
+    requires latest { IfSome latest (λ s. IsStartIn (set_of templates.now) s.now) }
+    ensures some { IfSome result (λ s. IsStartWith (set_of templates.now) id s.now) }
+    ensures none { IfNone result
+        ((j : ℕ) (t : Template) → slice_get (templates_of templates.now) j ≡ Some t → t.id ≢ Some id) }
 {
-    if latest < templates.count() && templates.start_of(latest).id == u64::from(id) {
-        return Some(latest);
+    match latest {
+        Some(start) if start.id == u64::from(id) => Some(start),
+        _ => other_template(templates, id),
     }
-    other_template(templates, id)
 }
 
 /// The same where it is none that is more likely than others.
 #[cold]
 #[inline(never)]
-fn other_template(templates: &Templates, id: u32) -> Option<u32>
-    ensures { IfSome result (λ i. (t : Template) × (slice_get (templates_of templates.now) i ≡ Some t)
+fn other_template(templates: &Templates, id: u32) -> Option<&Start>
+    ensures some { IfSome result (λ s. IsStartWith (set_of templates.now) id s.now) }
+    ensures none { IfNone result
+        ((j : ℕ) (t : Template) → slice_get (templates_of templates.now) j ≡ Some t → t.id ≢ Some id) }
+{
+    let number = number_with(templates, id)?;
+    Some(templates.start_of(number))
+}
+
+/// The number of the template with an identifier.
+#[inline]
+fn number_with(templates: &Templates, id: u32) -> Option<u32>
+    ensures some { IfSome result (λ i. (t : Template) × (slice_get (templates_of templates.now) i ≡ Some t)
         × (t.id ≡ Some id)
         × ((j : ℕ) (u : Template) → j < i → slice_get (templates_of templates.now) j ≡ Some u → u.id ≢ Some id)) }
+    ensures none { IfNone result
+        ((j : ℕ) (t : Template) → slice_get (templates_of templates.now) j ≡ Some t → t.id ≢ Some id) }
 {
     if templates.count() > FEW {
         return templates.by_id(id);

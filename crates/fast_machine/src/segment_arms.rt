@@ -9,7 +9,6 @@ ghost use Rattle.fast_tree.specs.device.Numbers.{AreBelow};
 ghost use Rattle.fast_tree.specs.meaning.Tree.{FieldData, bits_of};
 ghost use Rattle.fast_dict.specs.meaning.Slots.{slots_dictionary};
 ghost use Rattle.fast_program.specs.device.Codes.{IsGroupCoded, IsSequenceCoded};
-ghost use Rattle.fast_program.specs.device.Starts.{IsStartOf};
 ghost use Rattle.fast_stream.specs.meaning.Messages.{within_limits};
 ghost use Rattle.fast_stream.specs.meaning.Events.{MessageEnd};
 ghost use Rattle.fast_stream.specs.device.GrammarReaders.{reader_of};
@@ -22,7 +21,7 @@ ghost use Rattle.fast_machine.specs.device.FitMaps.{IsFitMap};
 ghost use Rattle.fast_stream.specs.declared.faults.FaultCode.{FaultCode};
 ghost use Rattle.fast_machine.specs.device.Arms.{placed, IsAnswer, IsAtOp, IsAtSpot, IsGroupHere, IsLengthTaken, HasWent};
 ghost use Rattle.fast_machine.specs.device.Opening.{opened_result, opened_by};
-ghost use Rattle.fast_machine.specs.device.Positions.{set_of, tree_in, run_in, body_in, IsAtGroup, IsBehindMap, IsTurn, CanTurn};
+ghost use Rattle.fast_machine.specs.device.Positions.{set_of, tree_in, run_in, body_in, IsAtGroup, IsBehindMap, IsStartIn, IsTurn, CanTurn};
 ghost use Rattle.fast_machine.specs.device.Starts.{message_from, mapped_by, begun_by};
 ghost use Rattle.fast_machine.specs.device.Steps.{IsStep};
 ghost use Rattle.fast_machine.specs.device.TurnsLeft.{Way, most_by, HasTurnsBehind};
@@ -184,13 +183,13 @@ impl<'t> Machine<'t> {
             → self.old.turns.count ≡ m.turns.count + 1 → S.takes s MessageEnd sink.old
             → HasWent S.takes S.stops (set_of templates.now) limits m spot.old s result sink.new self.new spot.new }
     {
-        if let Some((number, start)) = self.message_again(templates, limits, spot.rest) {
-            return self.message_begins(templates, limits, number, 1, start, spot, sink);
+        if let Some(start) = self.message_again(templates, limits, spot.rest) {
+            return self.message_begins(templates, limits, start, 1, spot, sink);
         }
-        let Some((number, bytes, start)) = self.next_message(templates, limits, spot.rest) else {
+        let Some((bytes, start)) = self.next_message(templates, limits, spot.rest) else {
             return self.no_message(spot);
         };
-        self.message_begins(templates, limits, number, bytes, start, spot, sink)
+        self.message_begins(templates, limits, start, bytes, spot, sink)
     }
 
     /// The message is whole, and the machine waits for the next one.
@@ -228,26 +227,24 @@ impl<'t> Machine<'t> {
         &mut self,
         templates: &'t Templates,
         limits: Limits,
-        number: u32,
-        bytes: usize,
         start: &Start,
+        bytes: usize,
         spot: &mut Spot<'t, '_>,
         sink: &mut S,
     ) -> Went
         requires place { IsPlaceOf self.old.cursor spot.old.place }
         requires outermost { self.old.cursor.frames ≡ [] }
         requires behind { IsBehindMap (set_of templates.now) limits (mapped_by self.old spot.old.rest.now) }
-        requires start { (t : Template) × (slice_get (set_of templates.now).templates number ≡ Some t)
-            × IsStartOf (set_of templates.now).program start.now t }
+        requires start { IsStartIn (set_of templates.now) start.now }
         requires some { 0 < length spot.old.rest.now }
         requires within { bytes ≤ length spot.old.rest.now }
         ensures answer { (result ≡ Went.Took) ⊎ (result ≡ Went.Stopped) }
         ensures waits { self.new.waiting ≡ self.old.waiting }
         ensures place { IsPlaceOf self.new.cursor spot.new.place }
         ensures rest { spot.new.rest.now ≡ drop bytes spot.old.rest.now }
-        ensures turn { (t : Template) → slice_get (set_of templates.now).templates number ≡ Some t
+        ensures turn { (t : Template) → slice_get (set_of templates.now).templates start.now.number ≡ Some t
             → IsTurn S.takes S.stops (set_of templates.now) limits
-            (reader_of limits.strict (message_from (set_of templates.now) (bounds limits) number t
+            (reader_of limits.strict (message_from (set_of templates.now) (bounds limits) start.now.number t
             (slots_dictionary self.old.slots) (take 1 spot.old.rest.now)))
             sink.old (begun_by result) sink.new (placed self.new spot.new.place) }
         ensures turns { (way : Way) (n : ℕ)
@@ -257,7 +254,8 @@ impl<'t> Machine<'t> {
     {
         let byte = spot.rest[0];
         spot.rest = &spot.rest[bytes..];
-        if let Err(_) = hand(sink, Event::MessageStart { template: number }) {
+        let template = start.number;
+        if let Err(_) = hand(sink, Event::MessageStart { template }) {
             return Went::Stopped;
         }
         reset_if(&mut self.slots, start.reset);

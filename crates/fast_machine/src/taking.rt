@@ -26,11 +26,13 @@ ghost use Rattle.fast_machine.specs.device.Passing.{state_past, identified_then}
 ghost use Rattle.fast_machine.specs.device.Scalars.{IsOfField, IsOfFieldLater, IsScalarUnit, CanStep, CanProgress, step_then};
 ghost use Rattle.fast_units.specs.device.UnitFronts.{IsNumberStage};
 ghost use Rattle.fast_stream.specs.device.Continuations.{message_of_then};
+ghost use Rattle.fast_machine.specs.device.Starts.{IsStartWith};
 ghost use Rattle.fast_machine.specs.device.TurnsLeft.{Way, most_by, HasTurns, HasTurnsWaiting, HasTurnsBehind, turns_begun_at};
-ghost use Rattle.fast_machine.specs.device.Positions.{Set, set_of, tree_in, run_in, body_in, IsAtField, IsAtParts, IsAtSequence, CanTurn, GoesOn, IsBehindMap, IsSupplied, IsReady, IsTurn, IsFresh, segment_reader, mapped_reader, is_idle, meaning};
+ghost use Rattle.fast_machine.specs.device.Positions.{Set, set_of, tree_in, run_in, body_in, IsAtField, IsAtParts, IsAtSequence, CanTurn, GoesOn, IsBehindMap, IsStartIn, IsSupplied, IsReady, IsTurn, IsFresh, segment_reader, mapped_reader, is_idle, meaning};
 
 use crate::layout::{make_slots, measure};
 use crate::machine::{Machine, Turn, Waiting};
+use crate::quick_starts::template_with;
 use crate::quick_units::UnitTaken;
 use crate::settling::hand;
 use crate::turns::Turns;
@@ -38,6 +40,7 @@ use fast_cursor::cursor::Cursor;
 use fast_cursor::pending::MapFront;
 use fast_dict::operators::integers::integer_of;
 use fast_dict::{Slots, Store};
+use fast_program::Start;
 use fast_stream::{Event, FaultCode, Sink};
 use fast_template::{FieldInstruction, Operator, Shape, Template, Templates};
 use fast_units::fields::{unsent, value_at};
@@ -128,29 +131,30 @@ fn id_of(value: Option<Scalar<'_>>) -> Option<u128>
     }
 }
 
-/// The number of the template with an identifier, which is most likely the latest one's.
+/// The start of the template with an identifier, which is most likely the latest one.
 #[inline]
-fn template_of(templates: &Templates, identifier: Option<u128>, latest: u32) -> Option<u32>
+fn template_of<'t>(
+    templates: &'t Templates,
+    identifier: Option<u128>,
+    latest: Option<&'t Start>,
+) -> Option<&'t Start>
+    requires latest { IfSome latest (λ s. IsStartIn (set_of templates.now) s.now) }
     ensures some { IfSome result
-        (λ i. (id : ℕ) × (t : Template) × (identifier ≡ Some id) × (slice_get (templates_of templates.now) i ≡ Some t)
-        × (t.id ≡ Some id)
-        × ((j : ℕ) (u : Template) → j < i → slice_get (templates_of templates.now) j ≡ Some u → u.id ≢ Some id)) }
+        (λ s. (id : ℕ) × (identifier ≡ Some id) × IsStartWith (set_of templates.now) id s.now) }
     ensures none { IfNone result
         ((id j : ℕ) (t : Template) → identifier ≡ Some id → slice_get (templates_of templates.now) j ≡ Some t
         → t.id ≢ Some id) }
 {
     let id = identifier?;
-    if latest < templates.count() && has_id(templates.template(latest), id) {
-        return Some(latest);
-    }
     if id > u128::from(u32::MAX) {
-        return walk_to(templates, id);
+        let number = walk_to(templates, id)?;
+        return Some(templates.start_of(number));
     }
-    templates.by_id(id as u32)
+    template_with(templates, id as u32, latest)
 }
 
-/// The same by a walk through all templates. Where the identifier has more than 32 bits no template has it: the walk says so without a
-/// promise of the set.
+/// The number of the template with an identifier, by a walk through all templates. Where the identifier has more than 32 bits no template
+/// has it: the walk says so without a promise of the set.
 #[inline]
 pub fn walk_to(templates: &Templates, id: u128) -> Option<u32>
     ensures some { IfSome result
@@ -252,14 +256,14 @@ impl<'t> Machine<'t> {
     {
         let text = self.text.as_slice();
         let value = value_at(&self.slots, &self.identifier, text, piece, source);
-        let Some(number) = template_of(templates, id_of(value), self.latest) else {
+        let Some(start) = template_of(templates, id_of(value), self.latest) else {
             return Err(FaultCode::Stream(Code::D9));
         };
-        let width = self.widths.templates[number as usize];
+        let width = self.widths.templates[start.number as usize];
         if is_too_wide(limits.strict, self.cursor.map_len(), width) {
             return Err(FaultCode::Stream(Code::R8));
         }
-        self.start_message(templates, limits, number, sink)
+        self.start_message(templates, limits, start, sink)
     }
 
     /// The first event of a message of a template, behind which its instructions are to come.
@@ -268,15 +272,16 @@ impl<'t> Machine<'t> {
         &mut self,
         templates: &'t Templates,
         limits: Limits,
-        number: u32,
+        start: &'t Start,
         sink: &mut S,
     ) -> Result<Turn, FaultCode>
         requires behind { IsBehindMap (set_of templates.now) limits self.old }
-        requires number { number < length (set_of templates.now).templates }
-        ensures turn { (t : Template) → slice_get (set_of templates.now).templates number ≡ Some t
+        requires start { IsStartIn (set_of templates.now) start.now }
+        ensures turn { (t : Template) → slice_get (set_of templates.now).templates start.now.number ≡ Some t
             → IsTurn S.takes S.stops (set_of templates.now) limits
             (reader_of limits.strict
-            (message_of_then (bounds limits) number (template_data (instructions_from 0 (set_of templates.now).nodes) t)
+            (message_of_then (bounds limits) start.now.number
+            (template_data (instructions_from 0 (set_of templates.now).nodes) t)
             (state_past identifier (slots_dictionary self.old.slots) 0 self.old.cursor)))
             sink.old result sink.new self.new }
         ensures goes_on { GoesOn (set_of templates.now) limits self.new result }
@@ -285,11 +290,11 @@ impl<'t> Machine<'t> {
         ensures stopped { IfErr result (λ code. code ≡ FaultCode.SinkStopped) }
         ensures turns { PaysMessage (set_of templates.now) limits self.old result self.new }
     {
-        hand(sink, Event::MessageStart { template: number })?;
-        let start = templates.start_of(number);
+        let template = start.number;
+        hand(sink, Event::MessageStart { template })?;
         reset_if(&mut self.slots, start.reset);
         self.counted = 0;
-        self.latest = number;
+        self.latest = Some(start);
         self.cursor.use_bit();
         self.cursor.begin(start.at);
         self.turns = Turns::after(&self.turns);
@@ -974,7 +979,7 @@ impl<'t> Machine<'t> {
                 entry: Some(0),
             },
             turns: Turns::none(),
-            latest: 0,
+            latest: None,
         })
     }
 

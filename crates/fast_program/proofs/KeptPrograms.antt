@@ -53,5 +53,8 @@ module _ (p : Program) (ts : List Template) (ns : List Node) (is : ∥ IsProgram
   pub template_start : (i : ℕ) (s : Start) (t : Template) → slice_get p.template_starts.items i ≡ Some s → slice_get ts i ≡ Some t → IsStartOf p.ops.items s t
   template_start i s t here found = start_again p.ops.items s t (∥∥₁_map is (λ of. start_at IsStartOf p.ops.items i p.template_starts.items ts s t of.templates here found))
 
+  pub start_number : (i : ℕ) (s : Start) → slice_get p.template_starts.items i ≡ Some s → s.number ≡ i
+  start_number i s here = ∥∥₁_elim is (hlevel props) (λ of. of.order i s here)
+
   pub body_begins : (n at : ℕ) (x : Node) → slice_get p.body_starts.items n ≡ Some at → slice_get ns n ≡ Some x → Begins p.ops.items at (numbers_of x.shape)
   body_begins n at x here found = begins_again p.ops.items at (numbers_of x.shape) (∥∥₁_map is (λ of. start_at BeginsNode p.ops.items n p.body_starts.items ns at x of.bodies here found))

@@ -90,11 +90,11 @@ last_or (o ∷ os) last (suc i) op h = last_or os last i op h
 pub numbered_none : AreNumbered []
 numbered_none i op here = absurd (cc here)
 
-last_at : (ops : List Op) (last : Op) (i : ℕ) (op : Op) → slice_get (ops ++ last ∷ []) i ≡ Some op → (slice_get ops i ≡ Some op) ⊎ ((last ≡ op) × (i ≡ length ops))
-last_at [] last zero op h = inr (cc h, refl)
-last_at [] last (suc i) op h = absurd (cc h)
-last_at (o ∷ os) last zero op h = inl h
-last_at (o ∷ os) last (suc i) op h = elim (last_at os last i op h) [
+pub last_at : {X : Type 0} (xs : List X) (last : X) (i : ℕ) (x : X) → slice_get (xs ++ last ∷ []) i ≡ Some x → (slice_get xs i ≡ Some x) ⊎ ((last ≡ x) × (i ≡ length xs))
+last_at [] last zero x h = inr (cc h, refl)
+last_at [] last (suc i) x h = absurd (cc h)
+last_at (y ∷ ys) last zero x h = inl h
+last_at (y ∷ ys) last (suc i) x h = elim (last_at ys last i x h) [
   | inl before ↦ inl before
   | inr same ↦ inr (same.0, ap suc same.1)
 ]

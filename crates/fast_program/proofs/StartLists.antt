@@ -1,13 +1,14 @@
 -- Lists of starts: where the bodies of templates and nodes begin.
-use Rattle.std.proofs.Common.{refl, sym, ap, subst, take}
+use Rattle.std.proofs.Common.{refl, sym, ap, subst, inl, inr, ◌∙◌, take}
 use Rattle.std.specs.Prelude.{◌≡◌, ◌≢◌, ℕ, zero, suc, List, [], ◌∷◌, ◌++◌, length, slice_get, Option, Some, None}
 use Rattle.fast_tree.specs.declared.instructions.Node.{Node}
 use Rattle.fast_tree.specs.declared.instructions.Template.{Template}
 use Rattle.fast_tree.specs.device.Numbers.{numbers_of}
 use Rattle.fast_program.specs.declared.ops.Op.{Op}
 use Rattle.fast_program.specs.declared.starts.Start.{Start}
-use Rattle.fast_program.specs.device.Starts.{id_number, IsStartOf}
+use Rattle.fast_program.specs.device.Starts.{id_number, IsStartOf, AreInOrder}
 use Rattle.fast_program.specs.device.Programs.{Extends, AreStarts, BeginsNode}
+use Rattle.fast_program.proofs.Runs.{last_at}
 
 -- one more at the end
 pub one_more_start : {S X : Type 0} (Is : List Op → S → X → Type 0) (ops : List Op) (i : ℕ) (starts : List S) (xs : List X) (s : S) (x : X)
@@ -19,6 +20,16 @@ one_more_start Is ops zero [] (y ∷ ys) s x found h is =
 one_more_start Is ops zero (r ∷ rs) (y ∷ ys) s x found h is = absurd h
 one_more_start Is ops (suc i) [] (y ∷ ys) s x found h is = absurd h
 one_more_start Is ops (suc i) (r ∷ rs) (y ∷ ys) s x found h is = (h.0, one_more_start Is ops i rs ys s x found h.1 is)
+
+-- no start, or one more, whose number is how many are in front of it
+pub order_none : AreInOrder []
+order_none i s here = absurd (cc here)
+
+pub order_more : (starts : List Start) (s : Start) → AreInOrder starts → s.number ≡ length starts → AreInOrder (starts ++ s ∷ [])
+order_more starts s order number i r here = elim (last_at starts s i r here) [
+  | inl before ↦ order i r before
+  | inr same ↦ ap (λ (q : Start). q.number) (sym same.0) ∙ number ∙ sym same.1
+]
 
 -- they stay where each does
 pub kept_starts : {S X : Type 0} (Is : List Op → S → X → Type 0) (old new : List Op) (starts : List S) (xs : List X) → ((s : S) (x : X) → Is old s x → Is new s x) → AreStarts Is old starts xs → AreStarts Is new starts xs

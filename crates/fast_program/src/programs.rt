@@ -1,9 +1,9 @@
 //! A template set as one row of ops.
 
-ghost use Rattle.std.specs.Prelude.{◌≡◌, ◌≤◌, [], IfOk, OnOk, length};
+ghost use Rattle.std.specs.Prelude.{◌≡◌, ◌<◌, ◌≤◌, ◌^◌, [], IfOk, OnOk, length};
 ghost use Rattle.fast_tree.specs.device.Numbers.{numbers_of, AreBelow, NameNodes, NameLaterNodes};
 ghost use Rattle.fast_program.specs.device.Runs.{Begins};
-ghost use Rattle.fast_program.specs.device.Starts.{IsStartOf};
+ghost use Rattle.fast_program.specs.device.Starts.{IsStartOf, AreInOrder};
 ghost use Rattle.fast_program.specs.device.Programs.{Extends, AreStarts, BeginsNode, IsProgramOf};
 
 use crate::codes::Code;
@@ -84,15 +84,17 @@ fn add_templates(
     nodes: &[Node],
 ) -> Result<Vec<Start>, AllocError>
     requires few { length nodes.now ≤ 65536 }
+    requires few_templates { length templates.now < 2 ^ 32 }
     requires below { NameNodes (length nodes.now) templates.now }
     requires rests { Begins ops.old.items 0 [] }
     ensures starts { IfOk result (λ starts. AreStarts IsStartOf ops.new.items starts.items templates.now) }
+    ensures order { IfOk result (λ starts. AreInOrder starts.items) }
     ensures extends { OnOk result (Extends nodes.now ops.old.items ops.new.items) }
 {
     let mut starts = Vec::with_capacity(alloc, templates.len())?;
-    for template in templates {
+    for (number, template) in templates.iter().enumerate() {
         let at = add_body(ops, nodes, &template.body)?;
-        starts.push(Start::of(template, at))?;
+        starts.push(Start::of(template, number as u32, at))?;
     }
     Ok(starts)
 }
@@ -117,6 +119,7 @@ impl Program {
     /// The program of a template set.
     pub fn of(alloc: Global, templates: &[Template], nodes: &[Node]) -> Result<Program, AllocError>
         requires few { length nodes.now ≤ 65536 }
+        requires few_templates { length templates.now < 2 ^ 32 }
         requires below { NameNodes (length nodes.now) templates.now }
         requires later { NameLaterNodes nodes.now }
         ensures { IfOk result (λ program. IsProgramOf program templates.now nodes.now) }

@@ -17,14 +17,17 @@ pub struct Start {
     pub at: usize,
     /// Whether a message of it resets the dictionary.
     pub reset: bool,
+    /// The number of the template in its set.
+    pub number: u32,
 }
 
 impl Start {
-    /// The start of a template whose body begins there.
-    pub fn of(template: &Template, at: usize) -> Start
+    /// The start of the template with the number, whose body begins there.
+    pub fn of(template: &Template, number: u32, at: usize) -> Start
         ensures id { result.id ≡ id_number template.now.id }
         ensures at { result.at ≡ at }
         ensures reset { result.reset ≡ template.now.reset }
+        ensures number { result.number ≡ number }
     {
         let id = match template.id {
             Some(id) => u64::from(id),
@@ -34,6 +37,7 @@ impl Start {
             id,
             at,
             reset: template.reset,
+            number,
         }
     }
 }

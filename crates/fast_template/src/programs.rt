@@ -30,8 +30,9 @@ impl Templates {
     #[inline(always)]
     pub fn start_of(&self, i: u32) -> &Start
         requires { i < length (templates_of self.now) }
-        ensures { (t : Template) × (slice_get (templates_of self.now) i ≡ Some t)
+        ensures start { (t : Template) × (slice_get (templates_of self.now) i ≡ Some t)
             × IsStartOf (program_of self.now) result.now t }
+        ensures number { result.now.number ≡ i }
     {
         &self.program.template_starts[i as usize]
     }

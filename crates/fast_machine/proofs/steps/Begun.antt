@@ -1,6 +1,7 @@
 -- A message that begins.
 use Rattle.std.proofs.Common.{refl, sym, ap, ◌∙◌, subst, arith, inr}
-use Rattle.std.specs.Prelude.{◌≡◌, ℕ, zero, suc, ◌≤◌, Bool, true, false, if◌then◌else◌, map, List, [], ◌∷◌, length, slice_get, Some}
+use Rattle.std.specs.Prelude.{◌≡◌, ℕ, zero, suc, ◌≤◌, Bool, true, false, if◌then◌else◌, map, List, [], ◌∷◌, length, slice_get, Option, Some, IfSome}
+use Rattle.std.specs.Borrow.{Bor}
 use Rattle.fast_wire.specs.meaning.Entities.{IsEntity}
 use Rattle.fast_wire.specs.meaning.Maps.{later_bits}
 use Rattle.fast_value.specs.declared.settings.Limits.{Limits}
@@ -13,6 +14,7 @@ use Rattle.fast_tree.specs.device.Nodes.{template_data, instructions_from}
 use Rattle.fast_dict.specs.meaning.Dictionary.{Dictionary, reset}
 use Rattle.fast_dict.specs.meaning.Slots.{slots_terms}
 use Rattle.fast_dict.specs.declared.slots.Slots.{Slots}
+use Rattle.fast_program.specs.declared.starts.Start.{Start}
 use Rattle.fast_cursor.specs.device.Cursors.{CursorData, resting, bits_left}
 use Rattle.fast_stream.specs.meaning.Events.{MessageStart}
 use Rattle.fast_stream.specs.device.Frames.{resume}
@@ -22,7 +24,7 @@ use Rattle.fast_stream.specs.device.Continuations.{message_of_then}
 use Rattle.fast_machine.specs.device.Passing.{state_past}
 use Rattle.fast_stream.specs.device.Readers.{Emit}
 use Rattle.fast_machine.specs.device.Serving.{ServesNodes}
-use Rattle.fast_machine.specs.device.Positions.{Set, body_in, frames_in, state_in, going_on, IsBehindMap, CanTurn, AreFramesFit}
+use Rattle.fast_machine.specs.device.Positions.{Set, body_in, frames_in, state_in, going_on, IsBehindMap, IsStartIn, CanTurn, AreFramesFit}
 use Rattle.fast_machine.specs.declared.machine.Machine.{Machine}
 use Rattle.fast_machine.specs.declared.turns.Turns.{Turns}
 use Rattle.fast_stream.proofs.streams.Frames.{begin_message}
@@ -54,9 +56,9 @@ begun set s l n t d d' c c' dictionary frames left bits =
     ∙ ap (λ fs. Emit (MessageStart n) (reader_of s (resume l (frames_in set fs) (body_in set c'.left) (state_in d' 0 c')))) (sym frames)
 
 -- The machine can turn.
-pub begun_turns : (set : Set) (l : Limits) (m : Machine) (n : ℕ) (t : Template) (c : CursorData) (s : Slots) (turns : Turns) (latest : ℕ) → IsBehindMap set l m → slice_get set.templates n ≡ Some t → AreBelow (length set.nodes) t.body.items
+pub begun_turns : (set : Set) (l : Limits) (m : Machine) (n : ℕ) (t : Template) (c : CursorData) (s : Slots) (turns : Turns) (latest : Option (Bor Start)) → IfSome latest (λ s. IsStartIn set s.now) → IsBehindMap set l m → slice_get set.templates n ≡ Some t → AreBelow (length set.nodes) t.body.items
     → slots_terms s ≡ slots_terms m.slots → c.frames ≡ [] → c.left ≡ t.body.items → c.map ≡ m.cursor.map → resting c ≡ resting m.cursor → CanTurn set l (record m { cursor = c; slots = s; counted = 0; turns = turns; latest = latest })
-begun_turns set l m n t c s turns latest h found below terms frames left map rests =
+begun_turns set l m n t c s turns latest known h found below terms frames left map rests =
     let depth : c.depth ≡ m.cursor.depth = ap (λ (x : CursorData). x.depth) rests in
     let deep = no_deeper (instructions_from 0 set.nodes) set.templates n t found in
     let room = h.supplied.depth in
@@ -77,6 +79,7 @@ begun_turns set l m n t c s turns latest h found below terms frames left map res
         program = ap (λ (x : CursorData). x.ops) rests ∙ h.supplied.program;
         identifier = h.supplied.identifier;
         counted = omega arith;
+        latest = known;
       };
       placed = record {
         below = subst (AreBelow (length set.nodes)) (sym left) below;

@@ -35,4 +35,5 @@ supplied-turns set l m n h = record {
   program = h.program;
   identifier = h.identifier;
   counted = h.counted;
+  latest = h.latest;
 }

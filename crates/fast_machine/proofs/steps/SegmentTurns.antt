@@ -57,7 +57,7 @@ map_waits s g = (_, refl)
 
 -- the machine with another cursor is like it, if there are as many frames
 pub like_at : (m : Machine) (c : CursorData) → resting c ≡ resting m.cursor → IsLike m (record m { cursor = c })
-like_at m c e = record { terms = refl; text = refl; joined = refl; widths = refl; identifier = refl; rests = e }
+like_at m c e = record { terms = refl; text = refl; joined = refl; widths = refl; identifier = refl; rests = e; latest = refl }
 
 -- The cursor stands in a segment that begins.
 pub placed_in : (set : Set) (c : CursorData) (elements : Option ElementsData) (body : List ℕ) → IsPlaced set c → IsMapWhole c.map → AreBelow (length set.nodes) body
@@ -120,7 +120,7 @@ module _ {S : Type 0} (takes stops : S → EventData → S → Type 0) (set : Se
       let (turn, machine) = waits (omega arith) in
       let k : List Bool → Grammar Dictionary = λ b. resume (bounds l) (frame_by set (frame_here m.cursor elements) elements ∷ frames_in set m.cursor.frames) (body_in set body) (record { context = record { dictionary = slots_dictionary m.slots; counted = m.counted }; bits = b }) in
       let g : List ℕ → Grammar Dictionary = λ w. narrow (suc n) w (k (bits w)) in
-      let supplied = supplied_like set l m (record m { waiting = SegmentMap (suc n); cursor = entered m.cursor elements body }) h.supplied (record { terms = refl; text = refl; joined = refl; widths = refl; identifier = refl; rests = refl }) h.supplied.counted in
+      let supplied = supplied_like set l m (record m { waiting = SegmentMap (suc n); cursor = entered m.cursor elements body }) h.supplied (record { terms = refl; text = refl; joined = refl; widths = refl; identifier = refl; rests = refl; latest = refl }) h.supplied.counted in
       rw (turn, machine, is, same ∙ ap (λ j. Emit e (reader_of l.strict (opened_by j k))) (sym wide) ∙ ap (λ q. Emit e (reader_of l.strict q)) (opened_mapped (suc n) k (omega arith))) (record {
         moves = hands_more takes stops e (reader_of l.strict (presence_map g)) s s' (Ok tt) s' (reader_of l.strict (presence_map g)) taken (hands_waits takes stops (reader_of l.strict (presence_map g)) s' (map_waits l.strict g));
         supplied = supplied;
@@ -161,7 +161,7 @@ module _ {S : Type 0} (takes stops : S → EventData → S → Type 0) (set : Se
   turn_end r s s' m c h end outermost is same taken =
       let m' = record m { waiting = Map; cursor = c } in
       let rest : c ≡ resting m.cursor = is ∙ ap (λ f. record m.cursor { frames = f; map = []; used = 0; ends = 8 }) outermost ∙ ap (λ ns. record (resting m.cursor) { left = ns }) end in
-      let supplied = supplied_like set l m (record m { waiting = Map; cursor = resting m.cursor }) h.supplied (record { terms = refl; text = refl; joined = refl; widths = refl; identifier = refl; rests = refl }) h.supplied.counted in
+      let supplied = supplied_like set l m (record m { waiting = Map; cursor = resting m.cursor }) h.supplied (record { terms = refl; text = refl; joined = refl; widths = refl; identifier = refl; rests = refl; latest = refl }) h.supplied.counted in
       rw (rest, same) (record {
         moves = hands_last takes stops MessageEnd (slots_dictionary m.slots) s s' (Ok tt) taken;
         supplied = supplied;
@@ -338,7 +338,7 @@ pub can_turn_behind : (set : Set) (l : Limits) (f : FieldData) (m m' : Machine) 
 can_turn_behind set l f m m' counted h behind few =
     let past : CursorData = record m.cursor { left = drop 1 m.cursor.left; used = behind.used; ends = behind.ends } in
     subst (CanTurn set l) (sym behind.same)
-    (can_turn_past set l m (record m { cursor = past; counted = counted }) h (record { terms = refl; text = refl; joined = refl; widths = refl; identifier = refl; rests = refl }) few refl (record { same = refl }))
+    (can_turn_past set l m (record m { cursor = past; counted = counted }) h (record { terms = refl; text = refl; joined = refl; widths = refl; identifier = refl; rests = refl; latest = refl }) few refl (record { same = refl }))
 
 -- what is to be read of the next instruction, a sequence, once its length is known
 abbrev pub length_from : Set → Limits → Machine → ℕ → Option ScalarData → FieldData → List ℕ → Reader Dictionary

@@ -1,5 +1,5 @@
 -- Where a machine is in a stream, by what it keeps.
-use Rattle.std.specs.Prelude.{◌≡◌, ◌⊎◌, ℕ, suc, ◌+◌, ◌<◌, ◌≤◌, Bool, true, false, nat_eq, if◌then◌else◌, List, [], ◌∷◌, length, drop, map, slice_get, ℤ, Option, Some, None, Result, Ok, Err}
+use Rattle.std.specs.Prelude.{◌≡◌, ◌⊎◌, ℕ, suc, ◌+◌, ◌<◌, ◌≤◌, Bool, true, false, nat_eq, if◌then◌else◌, List, [], ◌∷◌, length, drop, map, slice_get, ℤ, Option, Some, None, IfSome, Result, Ok, Err}
 use Rattle.fast_wire.specs.meaning.Entities.{HaveNoStop, IsEntity}
 use Rattle.fast_wire.specs.meaning.Maps.{map_limit, bits, first_bit}
 use Rattle.fast_value.specs.declared.settings.Limits.{Limits}
@@ -31,6 +31,8 @@ use Rattle.fast_stream.specs.device.Continuations.{handed_then, message_behind_t
 use Rattle.fast_stream.specs.device.Frames.{Frame, open_group, open_element, resume}
 use Rattle.fast_stream.specs.device.Machine.{after_bytes}
 use Rattle.fast_program.specs.declared.ops.Op.{Op}
+use Rattle.fast_program.specs.declared.starts.Start.{Start}
+use Rattle.fast_program.specs.device.Starts.{IsStartOf}
 use Rattle.fast_cursor.specs.device.Runs.{run_at}
 use Rattle.fast_cursor.specs.device.Cursors.{ElementsData, FrameData, CursorData, bits_behind, bits_left, resting}
 use Rattle.fast_machine.specs.device.Serving.{ServesNodes}
@@ -187,6 +189,10 @@ pub record IsPlaced (set : Set) (c : CursorData) : Type 0 where
   pub nested : length c.frames + body_depth (body_in set c.left) ≤ c.depth
   pub frames : AreFramesFit set c.depth c.frames
 
+-- The start is that of the set's template with its number.
+abbrev pub IsStartIn : Set → Start → Type 0
+IsStartIn set s = (t : Template) × (slice_get set.templates s.number ≡ Some t) × IsStartOf set.program s t
+
 -- What a machine is made with, and keeps.
 pub record IsSupplied (set : Set) (l : Limits) (m : Machine) : Type 0 where
   pub entries : (slots_terms m.slots).entries ≡ set.entries
@@ -202,6 +208,7 @@ pub record IsSupplied (set : Set) (l : Limits) (m : Machine) : Type 0 where
   pub program : m.cursor.ops ≡ set.program
   pub identifier : field_data m.identifier ≡ identifier
   pub counted : m.counted ≤ l.max_total
+  pub latest : IfSome m.latest (λ s. IsStartIn set s.now)
 
 -- The next instruction begins with an integer.
 abbrev pub BeginsWithInteger : Body → State → Type 0

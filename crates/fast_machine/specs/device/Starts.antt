@@ -1,10 +1,12 @@
 -- How a message begins in the loop: what the bytes of a piece begin with, and what an arm did.
-use Rattle.std.specs.Prelude.{◌≡◌, ℕ, ◌<◌, ◌≤◌, List, length, take, slice_get, Some, Result, Ok, Err}
+use Rattle.std.specs.Prelude.{◌≡◌, ◌≢◌, ℕ, ◌<◌, ◌≤◌, List, length, take, slice_get, Some, Result, Ok, Err}
 use Rattle.fast_wire.specs.meaning.Entities.{IsEntity}
 use Rattle.fast_wire.specs.meaning.Maps.{bits, later_bits}
 use Rattle.fast_value.specs.declared.settings.Limits.{Limits}
 use Rattle.fast_value.specs.meaning.Limits.{Bounds, bounds}
 use Rattle.fast_tree.specs.declared.instructions.Template.{Template}
+use Rattle.fast_program.specs.declared.starts.Start.{Start}
+use Rattle.fast_program.specs.device.Starts.{IsStartOf}
 use Rattle.fast_template.specs.meaning.Flat.{instructions_from, template_data}
 use Rattle.fast_dict.specs.meaning.Dictionary.{Dictionary}
 use Rattle.fast_stream.specs.meaning.Grammar.{Grammar}
@@ -19,6 +21,14 @@ use Rattle.fast_machine.specs.declared.machine.Turn.{Turn}
 use Rattle.fast_machine.specs.declared.machine.Turn.TheVariants.{Handed}
 use Rattle.fast_machine.specs.declared.spot.Went.{Went}
 use Rattle.fast_machine.specs.device.Positions.{Set, tree_in}
+
+-- The start is that of the set's template with the identifier, of which none in front of it has that.
+pub record IsStartWith (set : Set) (id : ℕ) (s : Start) : Type 0 where
+  pub template : Template
+  pub found : slice_get set.templates s.number ≡ Some template
+  pub is : IsStartOf set.program s template
+  pub own : template.id ≡ Some id
+  pub first : (j : ℕ) (u : Template) → j < s.number → slice_get set.templates j ≡ Some u → u.id ≢ Some id
 
 -- what is read of a message of a template behind its map and its identifier
 abbrev pub message_from : Set → Bounds → ℕ → Template → Dictionary → List ℕ → Grammar Dictionary

@@ -7,7 +7,7 @@ use Rattle.fast_program.specs.declared.ops.Op.{Op}
 use Rattle.fast_program.specs.declared.programs.Program.{Program}
 use Rattle.fast_program.specs.device.Ops.{IsOpOf}
 use Rattle.fast_program.specs.device.Runs.{is_end, AreNumbered, Begins}
-use Rattle.fast_program.specs.device.Starts.{IsStartOf}
+use Rattle.fast_program.specs.device.Starts.{IsStartOf, AreInOrder}
 
 -- Each op but an End is of its node.
 abbrev pub SuitNodes : List Op → List Node → Type 0
@@ -36,4 +36,5 @@ pub record IsProgramOf (p : Program) (ts : List Template) (ns : List Node) : Typ
   pub suits : SuitNodes p.ops.items ns
   pub numbered : AreNumbered p.ops.items
   pub templates : AreStarts IsStartOf p.ops.items p.template_starts.items ts
+  pub order : AreInOrder p.template_starts.items
   pub bodies : AreStarts BeginsNode p.ops.items p.body_starts.items ns

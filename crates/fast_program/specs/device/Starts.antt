@@ -1,5 +1,5 @@
 -- Where the messages of templates start.
-use Rattle.std.specs.Prelude.{◌≡◌, ℕ, List, Option, Some, None}
+use Rattle.std.specs.Prelude.{◌≡◌, ℕ, List, slice_get, Option, Some, None}
 use Rattle.fast_tree.specs.declared.instructions.Template.{Template}
 use Rattle.fast_program.specs.declared.ops.Op.{Op}
 use Rattle.fast_program.specs.declared.starts.Start.{Start}
@@ -15,3 +15,7 @@ pub record IsStartOf (ops : List Op) (s : Start) (t : Template) : Type 0 where
   pub body : Begins ops s.at t.body.items
   pub id : s.id ≡ id_number t.id
   pub reset : s.reset ≡ t.reset
+
+-- Each has the number of its place.
+abbrev pub AreInOrder : List Start → Type 0
+AreInOrder starts = (i : ℕ) (s : Start) → slice_get starts i ≡ Some s → s.number ≡ i

@@ -1,10 +1,9 @@
-use Rattle.std.proofs.Common.{sym, ap, ◌∙◌}
-use Rattle.std.specs.Prelude.{Some}
-use Rattle.fast_machine.proofs.steps.Answered.{some_as, some_both}
+use Rattle.fast_machine.specs.device.Positions.{set_of}
+use Rattle.fast_machine.proofs.machines.KnownStarts.{start_numbered}
 use Rattle.fast_machine.proofs.quick_starts.other_template.Goals as goal
 
-pub returns-then-count-gt-FEW : goal.returns-then-count-gt-FEW
-returns-then-count-gt-FEW c = some_both c.by_id.result (λ i h first. (h.0, h.1, h.2, first)) c.by_id.ensures.found c.by_id.ensures.first
-
-pub returns : goal.returns
-returns c = some_as c.walk_to.result (λ i h. (h.0, h.1, h.2 ∙ ap Some c.from.ensures, λ j u before there its. h.3 j u before there (its ∙ ap Some (sym c.from.ensures)))) c.walk_to.ensures.some
+pub returns-clause-some : goal.returns-clause-some
+returns-clause-some c =
+    let (t, found, own, first) = c.in_ok-number.ensures.some in
+    let (u, there, is) = c.start_of.ensures.start in
+    start_numbered (set_of c.args.templates.now) c.args.id c.in_ok-number.number c.start_of.result.now t u c.start_of.ensures.number there is found own first

@@ -1,4 +1,5 @@
-use Rattle.std.proofs.Common.{refl, sym, subst, List, ◌≡◌, length, Some, slice_get, add-one}
+use Rattle.std.proofs.Common.{refl, sym, ◌∙◌, subst, List, ◌≡◌, length, take, Some, slice_get, add-one}
+use Rattle.std.proofs.lemmas.List.{length-take-le}
 use Rattle.std.proofs.lemmas.Option.{slice_get_read}
 use Rattle.fast_tree.specs.declared.instructions.Node.{Node}
 use Rattle.fast_tree.specs.declared.instructions.Template.{Template}
@@ -6,25 +7,26 @@ use Rattle.fast_program.specs.declared.ops.Op.{Op}
 use Rattle.fast_program.specs.declared.starts.Start.{Start}
 use Rattle.fast_program.specs.device.Runs.{Begins}
 use Rattle.fast_program.specs.device.Starts.{IsStartOf}
-use Rattle.fast_program.proofs.StartLists.{one_more_start, kept_starts, kept_start, extends_both}
+use Rattle.fast_program.proofs.StartLists.{one_more_start, order_more, kept_starts, kept_start, as_many_starts, extends_both}
 use Rattle.fast_program.proofs.programs.add_templates.Goals as goal
 
 pub add_body-requires-clause-rests : goal.add_body-requires-clause-rests
-add_body-requires-clause-rests c = c.loop-template.invariant.0.kept 0 _ c.requires.rests
+add_body-requires-clause-rests c = c.loop-number.invariant.0.kept 0 _ c.requires.rests
 
-pub loop-template-preserved : goal.loop-template-preserved
-loop-template-preserved c =
-    let (extends, starts) = c.loop-template.invariant in
+pub loop-number-preserved : goal.loop-number-preserved
+loop-number-preserved c =
+    let (extends, starts, order) = c.loop-number.invariant in
     let ns : List Node = c.args.nodes.now in
     let ts : List Template = c.args.templates.now in
-    let i = c.loop-template.template-index in
-    let t : Template = c.template-item.result in
-    let before : List Op = c.loop-template.ops.items in
+    let i = c.loop-number.number in
+    let t : Template = c.index-templates-number.result in
+    let before : List Op = c.loop-number.ops.items in
     let now : List Op = c.add_body.new.ops.items in
-    let found : slice_get ts i ≡ Some t = slice_get_read ts (length ts) i t refl c.loop-template-test.true c.template-item.is in
+    let found : slice_get ts i ≡ Some t = slice_get_read ts (length ts) i t refl c.loop-number-test.true c.index-templates-number.is in
     let at = c.in_ok-at.at in
     let run : Begins now at t.body.items = subst (Begins now at) c.deref.ensures.value c.in_ok-at.ensures.begins in
     let start : Start = c.of.result in
     let is : IsStartOf now start t = record { body = subst (λ n. Begins now n t.body.items) (sym c.of.ensures.at) run; id = c.of.ensures.id; reset = c.of.ensures.reset } in
-    let more = one_more_start IsStartOf now i c.loop-template.starts.items ts start t found (kept_starts IsStartOf before now c.loop-template.starts.items _ (kept_start ns before now c.in_ok-at.ensures.extends) starts) is in
-    (extends_both ns c.args.ops.now.items before now extends c.in_ok-at.ensures.extends, rw (c.in_ok-push.ensures.items, add-one) more)
+    let long : length c.loop-number.starts.items ≡ i = as_many_starts IsStartOf before c.loop-number.starts.items (take i ts) starts ∙ length-take-le i ts c.loop-number.auto.number-end in
+    let more = one_more_start IsStartOf now i c.loop-number.starts.items ts start t found (kept_starts IsStartOf before now c.loop-number.starts.items _ (kept_start ns before now c.in_ok-at.ensures.extends) starts) is in
+    (extends_both ns c.args.ops.now.items before now extends c.in_ok-at.ensures.extends, rw (c.in_ok-push.ensures.items, add-one) more, rw c.in_ok-push.ensures.items (order_more c.loop-number.starts.items start order (c.of.ensures.number ∙ sym long)))

@@ -14,6 +14,7 @@ use Rattle.fast_machine.specs.device.Passing.{state_past}
 use Rattle.fast_stream.specs.device.Continuations.{message_of_then}
 use Rattle.fast_machine.specs.device.Positions.{set_of}
 use Rattle.fast_machine.proofs.steps.FieldTurns.{turn_fault, turn_as}
+use Rattle.fast_machine.proofs.machines.KnownStarts.{start_in}
 use Rattle.fast_machine.proofs.fields.Identifiers.{id_of, named_none, named_first, behind_unknown, behind_known, narrow-wide, narrow-fits, identifier_served}
 use Rattle.fast_machine.proofs.machine.Machine.identified.Goals as goal
 
@@ -35,8 +36,10 @@ returns-in_default-clause-turn g c =
 
 pub index-width-requires : goal.index-width-requires
 index-width-requires g c =
-    let (id, t, is, found, own, first) = c.in-Some.ensures.some in
-    let within : c.in-Some.number < length (set_of c.args.templates.now).templates = slice_get_within (set_of c.args.templates.now).templates c.in-Some.number t found in
+    let (id, is, w) = c.in-Some.ensures.some in
+    let t = w.template in
+    let found = w.found in
+    let within : c.in-Some.start.now.number < length (set_of c.args.templates.now).templates = slice_get_within (set_of c.args.templates.now).templates c.in-Some.start.now.number t found in
     let long = c.requires.behind.supplied.template_widths.long in
     let ok = c.args.self.now.widths.templates.ok.0 in
     omega (arith, within, long, ok)
@@ -49,28 +52,30 @@ returns-then-is_too_wide-clause-turn g c =
     let m = c.args.self.now.cursor.map in
     let widths = c.args.self.now.widths.templates.items in
     let st = state_past identifier d 0 c.args.self.now.cursor in
-    let (id, t, is, found, own, first) = c.in-Some.ensures.some in
+    let (id, is, w) = c.in-Some.ensures.some in
+    let t = w.template in
+    let found = w.found in
     let named = template_data (instructions_from 0 set.nodes) t in
     let v : Option ScalarData = value_at c.args.source identifier d c.args.self.now.text.text c.args.piece.now in
     let same : c.id_of.result ≡ id_of v =
     c.id_of.ensures ∙ ap id_of c.value_at-value.ensures ∙ ap (λ f. id_of (value_at c.args.source f d c.as_slice-text.result.now c.args.piece.now)) c.requires.behind.supplied.identifier
     ∙ ap (λ w. id_of (value_at c.args.source identifier d w c.args.piece.now)) c.as_slice-text.ensures in
-    let within : c.in-Some.number < length set.templates = slice_get_within set.templates c.in-Some.number t found in
+    let within : c.in-Some.start.now.number < length set.templates = slice_get_within set.templates c.in-Some.start.now.number t found in
     let long = c.requires.behind.supplied.template_widths.long in
-    let there : c.in-Some.number < length widths = omega (arith, within, long) in
+    let there : c.in-Some.start.now.number < length widths = omega (arith, within, long) in
     let width : c.index-width.result.now ≡ message_bits named =
-    c.index-width.ensures ∙ get_or_default_zero widths c.in-Some.number c.index-width.result.now there ∙ c.requires.behind.supplied.template_widths.each c.in-Some.number t found in
+    c.index-width.ensures ∙ get_or_default_zero widths c.in-Some.start.now.number c.index-width.result.now there ∙ c.requires.behind.supplied.template_widths.each c.in-Some.start.now.number t found in
     let wide : (strict && not (nat_le (length m) (bytes_for (message_bits named)))) ≡ true =
     ap (λ n. strict && not (nat_le (length m) (bytes_for n))) (sym width) ∙ ap (λ n. strict && not (nat_le n (bytes_for c.index-width.result.now))) (sym c.map_len.ensures) ∙ sym c.is_too_wide.ensures ∙ c.if-is_too_wide.true in
     turn_fault g.S.Sink.takes g.S.Sink.stops set c.args.limits _ c.args.sink.now R8 c.args.self.now
-    (behind_known set strict (bounds c.args.limits) m v st c.in-Some.number t (named_first set v id c.in-Some.number t (sym same ∙ is) found own first)
-    ∙ narrow-wide strict (message_bits named) m (message_of_then (bounds c.args.limits) c.in-Some.number named st) wide)
+    (behind_known set strict (bounds c.args.limits) m v st c.in-Some.start.now.number t (named_first set v id c.in-Some.start.now.number t (sym same ∙ is) found w.own w.first)
+    ∙ narrow-wide strict (message_bits named) m (message_of_then (bounds c.args.limits) c.in-Some.start.now.number named st) wide)
     c.requires.behind.supplied
 
-pub start_message-requires-clause-number : goal.start_message-requires-clause-number
-start_message-requires-clause-number g c =
-    let (id, t, is, found, own, first) = c.in-Some.ensures.some in
-    slice_get_within (set_of c.args.templates.now).templates c.in-Some.number t found
+pub start_message-requires-clause-start : goal.start_message-requires-clause-start
+start_message-requires-clause-start g c =
+    let (id, is, w) = c.in-Some.ensures.some in
+    start_in (set_of c.args.templates.now) id c.in-Some.start.now w
 
 pub returns-clause-turn : goal.returns-clause-turn
 returns-clause-turn g c =
@@ -80,20 +85,22 @@ returns-clause-turn g c =
     let m = c.args.self.now.cursor.map in
     let widths = c.args.self.now.widths.templates.items in
     let st = state_past identifier d 0 c.args.self.now.cursor in
-    let (id, t, is, found, own, first) = c.in-Some.ensures.some in
+    let (id, is, w) = c.in-Some.ensures.some in
+    let t = w.template in
+    let found = w.found in
     let named = template_data (instructions_from 0 set.nodes) t in
     let v : Option ScalarData = value_at c.args.source identifier d c.args.self.now.text.text c.args.piece.now in
     let same : c.id_of.result ≡ id_of v =
     c.id_of.ensures ∙ ap id_of c.value_at-value.ensures ∙ ap (λ f. id_of (value_at c.args.source f d c.as_slice-text.result.now c.args.piece.now)) c.requires.behind.supplied.identifier
     ∙ ap (λ w. id_of (value_at c.args.source identifier d w c.args.piece.now)) c.as_slice-text.ensures in
-    let within : c.in-Some.number < length set.templates = slice_get_within set.templates c.in-Some.number t found in
+    let within : c.in-Some.start.now.number < length set.templates = slice_get_within set.templates c.in-Some.start.now.number t found in
     let long = c.requires.behind.supplied.template_widths.long in
-    let there : c.in-Some.number < length widths = omega (arith, within, long) in
+    let there : c.in-Some.start.now.number < length widths = omega (arith, within, long) in
     let width : c.index-width.result.now ≡ message_bits named =
-    c.index-width.ensures ∙ get_or_default_zero widths c.in-Some.number c.index-width.result.now there ∙ c.requires.behind.supplied.template_widths.each c.in-Some.number t found in
+    c.index-width.ensures ∙ get_or_default_zero widths c.in-Some.start.now.number c.index-width.result.now there ∙ c.requires.behind.supplied.template_widths.each c.in-Some.start.now.number t found in
     let fits : (strict && not (nat_le (length m) (bytes_for (message_bits named)))) ≡ false =
     ap (λ n. strict && not (nat_le (length m) (bytes_for n))) (sym width) ∙ ap (λ n. strict && not (nat_le n (bytes_for c.index-width.result.now))) (sym c.map_len.ensures) ∙ sym c.is_too_wide.ensures ∙ c.if-is_too_wide.false in
     turn_as g.S.Sink.takes g.S.Sink.stops set c.args.limits _ _ c.args.sink.now c.start_message.result c.start_message.new.sink c.start_message.new.self
-    (behind_known set strict (bounds c.args.limits) m v st c.in-Some.number t (named_first set v id c.in-Some.number t (sym same ∙ is) found own first)
-    ∙ narrow-fits strict (message_bits named) m (message_of_then (bounds c.args.limits) c.in-Some.number named st) fits)
+    (behind_known set strict (bounds c.args.limits) m v st c.in-Some.start.now.number t (named_first set v id c.in-Some.start.now.number t (sym same ∙ is) found w.own w.first)
+    ∙ narrow-fits strict (message_bits named) m (message_of_then (bounds c.args.limits) c.in-Some.start.now.number named st) fits)
     (c.start_message.ensures.turn t found)

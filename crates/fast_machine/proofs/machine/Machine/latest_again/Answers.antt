@@ -1,20 +1,10 @@
--- The identifiers of a set are distinct, so the template is the first one.
-use Rattle.std.proofs.Common.{◌≡◌, sym, ◌∙◌, arith}
-use Rattle.std.specs.Prelude.{Some}
-use Rattle.fast_program.proofs.StartLists.{told_id}
+use Rattle.std.proofs.Common.{sym}
+use Rattle.fast_machine.specs.device.Positions.{set_of}
+use Rattle.fast_machine.proofs.machines.KnownStarts.{latest_in, start_with}
 use Rattle.fast_machine.proofs.machine.Machine.latest_again.Goals as goal
 
 pub returns : goal.returns
 returns c =
-    let i = c.args.self.now.latest in
-    let id = c.in-UInt32.held in
-    let (t, found, start) = c.start_of.ensures in
-    let own : t.id ≡ Some id = told_id t.id id (sym c.if-start_of-held.false ∙ start.id) c.if-held.false in (
-      id,
-      t,
-      sym c.in-UInt32.ensures.1,
-      found,
-      own,
-      λ j u before there its.
-          (let again : j ≡ i = c.args.templates.now.distinct_ids j i id u t there found its own in omega (arith, before, again)),
-    )
+    let start = c.in_ok-start.start in
+    let known = latest_in (set_of c.args.templates.now) c.args.self.now.latest start c.in_ok-start.was c.requires.latest in
+    (c.in-UInt32.held, sym c.in-UInt32.ensures.1, start_with c.args.templates.now start.now c.in-UInt32.held known c.if-start-held.false c.if-held.false)

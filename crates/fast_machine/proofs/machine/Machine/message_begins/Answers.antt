@@ -37,10 +37,10 @@ returns-in-Err-clause-turn g c t found =
     let m = c.args.self.now in
     let rest = c.args.spot.now.rest.now in
     let x : Machine = placed m c.args.spot.now.place in
-    turn_halt g.S.Sink.takes g.S.Sink.stops set l (reader_of l.strict (message_from set (bounds l) c.args.number t (slots_dictionary m.slots) (take 1 rest))) _ (MessageStart c.args.number) c.args.sink.now SinkStopped c.hand.new.sink x
-    (ap (reader_of l.strict) (begin_message (bounds l) c.args.number (template_data (instructions_from 0 set.nodes) t) (state_past identifier (slots_dictionary m.slots) 0 (mapped_by m rest).cursor)))
+    turn_halt g.S.Sink.takes g.S.Sink.stops set l (reader_of l.strict (message_from set (bounds l) c.args.start.now.number t (slots_dictionary m.slots) (take 1 rest))) _ (MessageStart c.args.start.now.number) c.args.sink.now SinkStopped c.hand.new.sink x
+    (ap (reader_of l.strict) (begin_message (bounds l) c.args.start.now.number (template_data (instructions_from 0 set.nodes) t) (state_past identifier (slots_dictionary m.slots) 0 (mapped_by m rest).cursor)))
     (refl, c.in-Err.ensures.1)
-    (supplied_like set l (mapped_by m rest) x c.requires.behind.supplied (record { terms = refl; text = refl; joined = refl; widths = refl; identifier = refl; rests = refl }) c.requires.behind.supplied.counted)
+    (supplied_like set l (mapped_by m rest) x c.requires.behind.supplied (record { terms = refl; text = refl; joined = refl; widths = refl; identifier = refl; rests = refl; latest = refl }) c.requires.behind.supplied.counted)
 
 pub begin_message-requires-clause-run : goal.begin_message-requires-clause-run
 begin_message-requires-clause-run g c =
@@ -63,10 +63,10 @@ returns-clause-turn g c t found =
     let b : Machine = mapped_by m rest in
     let m' : Machine = record m { cursor = x; slots = c.reset_if.new.slots; counted = 0; turns = c.after-self.result } in
     let can : CanTurn set l m' =
-    begun_turns set l b c.args.number u x c.reset_if.new.slots c.after-self.result m.latest c.requires.behind c.requires.start.1 (c.args.templates.now.templates_name_nodes c.args.number u c.requires.start.1) c.reset_if.ensures.terms at.frames at.left at.map at.rests in
-    subst (λ (v : Template). IsTurn g.S.Sink.takes g.S.Sink.stops set l (reader_of l.strict (message_from set (bounds l) c.args.number v d (take 1 rest))) c.args.sink.now (Ok Handed) c.hand.new.sink m') same
-    (turn_one g.S.Sink.takes g.S.Sink.stops set l (reader_of l.strict (message_from set (bounds l) c.args.number u d (take 1 rest))) (MessageStart c.args.number) c.args.sink.now c.hand.new.sink m'
-    (begun set l.strict (bounds l) c.args.number u d (slots_dictionary c.reset_if.new.slots) b.cursor x (c.reset_if.ensures.entries ∙ ap (λ (r : Bool). if r then reset d else d) c.requires.start.2.reset) at.frames at.left at.bits)
+    begun_turns set l b c.args.start.now.number u x c.reset_if.new.slots c.after-self.result m.latest c.requires.behind.supplied.latest c.requires.behind c.requires.start.1 (c.args.templates.now.templates_name_nodes c.args.start.now.number u c.requires.start.1) c.reset_if.ensures.terms at.frames at.left at.map at.rests in
+    subst (λ (v : Template). IsTurn g.S.Sink.takes g.S.Sink.stops set l (reader_of l.strict (message_from set (bounds l) c.args.start.now.number v d (take 1 rest))) c.args.sink.now (Ok Handed) c.hand.new.sink m') same
+    (turn_one g.S.Sink.takes g.S.Sink.stops set l (reader_of l.strict (message_from set (bounds l) c.args.start.now.number u d (take 1 rest))) (MessageStart c.args.start.now.number) c.args.sink.now c.hand.new.sink m'
+    (begun set l.strict (bounds l) c.args.start.now.number u d (slots_dictionary c.reset_if.new.slots) b.cursor x (c.reset_if.ensures.entries ∙ ap (λ (r : Bool). if r then reset d else d) c.requires.start.2.reset) at.frames at.left at.bits)
     c.in_default.ensures can)
 
 pub returns-clause-turns : goal.returns-clause-turns
@@ -82,4 +82,4 @@ returns-clause-turns g c way n h =
     (ap (λ (ops : List Op). run_at ops c.args.start.now.at) c.requires.behind.supplied.program ∙ c.requires.start.2.body.nodes) in
     let unit = c.after-unit.ensures in
     let paid : c.after-unit.result.count + most_by way (tree_in set) l ≤ 1 + n = omega (arith, unit, h) in
-    message_begun way set l (1 + n) c.after-unit.result.count c.after-self.result.count c.args.number u x paid c.requires.start.1 c.after-self.ensures at.left at.frames
+    message_begun way set l (1 + n) c.after-unit.result.count c.after-self.result.count c.args.start.now.number u x paid c.requires.start.1 c.after-self.ensures at.left at.frames

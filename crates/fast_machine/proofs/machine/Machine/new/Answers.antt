@@ -22,4 +22,5 @@ returns-clause-supplied c =
       program = ap (λ (x : CursorData). x.ops) c.in_ok-new.ensures ∙ c.program.ensures.is;
       identifier = refl;
       counted = omega arith;
+      latest = tt;
     }

@@ -32,7 +32,7 @@ returns-in-Some g c = record {
       let some = c.in-Some in
       let b = c.message_begins in
       start_went g.S.Sink.takes g.S.Sink.stops set l m a from (ap (λ (z : Machine). placed z from.place) same) counts c.requires.turn c.requires.end c.requires.outermost s c.args.sink.now taken
-      some.number 1 (slots_dictionary y.slots) b.result b.new.sink b.new.self b.new.spot some.ensures.ahead b.ensures.answer b.ensures.rest (b.ensures.waits ∙ c.requires.waits) b.ensures.place b.ensures.turn
+      some.start.now.number 1 (slots_dictionary y.slots) b.result b.new.sink b.new.self b.new.spot some.ensures.ahead b.ensures.answer b.ensures.rest (b.ensures.waits ∙ c.requires.waits) b.ensures.place b.ensures.turn
       b.ensures.turns;
 }
 
@@ -49,6 +49,6 @@ returns g c = record {
       let b = c.message_begins-2 in
       let turns : y.turns.count ≡ a.turns.count = ap (λ (z : Machine). z.turns.count) kept in
       start_went g.S.Sink.takes g.S.Sink.stops set l m a from (ap (λ (z : Machine). placed z from.place) same) counts c.requires.turn c.requires.end c.requires.outermost s c.args.sink.now taken
-      some.number some.bytes (slots_dictionary y.slots) b.result b.new.sink b.new.self b.new.spot some.ensures.ahead b.ensures.answer b.ensures.rest (b.ensures.waits ∙ ap (λ (z : Machine). z.waiting) kept ∙ c.requires.waits) b.ensures.place b.ensures.turn
+      some.start.now.number some.bytes (slots_dictionary y.slots) b.result b.new.sink b.new.self b.new.spot some.ensures.ahead b.ensures.answer b.ensures.rest (b.ensures.waits ∙ ap (λ (z : Machine). z.waiting) kept ∙ c.requires.waits) b.ensures.place b.ensures.turn
       (λ way k h. b.ensures.turns way k (omega (arith, h, turns)));
 }
