@@ -3,7 +3,6 @@
 ghost use Rattle.std.specs.Prelude.{◌≡◌, ◌⊎◌, ◌↔◌, ℕ, length, IfOk, IfErr, OnOk, OnErr, IfSome, IfNone, IsTrue, Err, Some, slice_get};
 ghost use Rattle.std.specs.Bool.{IsFalse};
 ghost use Rattle.fast_value.specs.meaning.Views.{message_data, slots_data};
-ghost use Rattle.fast_tree.specs.device.Bodies.{AreNodeWidths};
 ghost use Rattle.fast_tree.specs.declared.instructions.Template.{Template};
 ghost use Rattle.fast_template.specs.meaning.Flat.{tree_of, nodes_of, templates_of};
 ghost use Rattle.fast_dict.specs.meaning.Dictionary.{fresh};
@@ -17,7 +16,7 @@ ghost use Rattle.fast_spelling.specs.meaning.Suiting.{IsKnown, IsKnownAs, SuitsT
 ghost use Rattle.fast_encoder.specs.meaning.Encoders.{tree, IsEncoded, IsToldOf};
 
 use fast_decoder::MakeError;
-use fast_machine::layout::{has_long_initial, measure};
+use fast_machine::layout::has_long_initial;
 use fast_spelling::EncodeFault;
 use fast_spelling::checking::try_message;
 use fast_spelling::draft::Draft;
@@ -79,9 +78,6 @@ impl<'t> Encoder<'t> {
         if has_long_initial(templates, limits.max_text) {
             return Err(MakeError::InitialTooLong);
         }
-        let Ok(widths) = measure(alloc, templates) else {
-            return Err(MakeError::Memory);
-        };
         let Ok(steps) = steps_of(alloc, templates) else {
             return Err(MakeError::Memory);
         };
@@ -91,7 +87,6 @@ impl<'t> Encoder<'t> {
                 plan: Plan {
                     templates,
                     limits,
-                    widths: widths.nodes,
                     steps,
                 },
                 work: Work {
@@ -185,7 +180,6 @@ impl<'t> Encoder<'t> {
         let written = write_message(
             plan.templates,
             plan.limits,
-            &plan.widths,
             id,
             message,
             &mut self.work.draft,

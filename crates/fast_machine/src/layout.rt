@@ -1,9 +1,9 @@
-//! What a decoder works out once, when it is made: the widths of presence maps, and its dictionary.
+//! What a decoder works out once, when it is made: its dictionary.
 
 ghost use Rattle.std.specs.Prelude.{◌≡◌, ◌⊎◌, ◌↔◌, ℕ, ◌<◌, length, slice_index_or, false, Some, IsTrue, IfOk};
 ghost use Rattle.fast_value.specs.meaning.Kinds.{family, texts, text_of};
 ghost use Rattle.fast_value.specs.meaning.Values.{value_data};
-ghost use Rattle.fast_template.specs.meaning.Flat.{tree_of, nodes_of, templates_of, field_data};
+ghost use Rattle.fast_template.specs.meaning.Flat.{tree_of, nodes_of, field_data};
 ghost use Rattle.fast_tree.specs.device.NodeData.{shape_data};
 ghost use Rattle.fast_tree.specs.device.Usable.{IsUsableShape};
 ghost use Rattle.fast_dict.specs.meaning.Dictionary.{fresh};
@@ -11,59 +11,11 @@ ghost use Rattle.fast_dict.specs.meaning.Slots.{slots_dictionary, slots_terms};
 ghost use Rattle.fast_dict.specs.meaning.Stores.{IsText};
 ghost use Rattle.fast_dict.specs.device.EntryTexts.{AnyField, IsLongText, HasLongInitial, MayHoldText, HoldsTextAt, NeedsText};
 ghost use Rattle.fast_machine.specs.device.Serving.{ServesNodes};
-ghost use Rattle.fast_tree.specs.device.Bodies.{AreNodeWidths, AreTemplateWidths};
 
 use fast_dict::Slots;
 use fast_template::{FieldInstruction, Node, Shape, Templates};
 use fast_value::{Kind, Value};
 use std::alloc::{AllocError, Global};
-
-/// How many bits of a presence map segments use at most.
-#[derive(Drop)]
-pub struct Widths {
-    /// Of the body of each node, by the node's number.
-    pub nodes: Vec<usize>,
-    /// Of each template's messages, by the template's number, with the bit of the identifier.
-    pub templates: Vec<usize>,
-}
-
-/// The bits that the segment within each node uses.
-fn node_widths(alloc: Global, templates: &Templates) -> Result<Vec<usize>, AllocError>
-    ensures { IfOk result (λ w. AreNodeWidths (nodes_of templates.now) w.items) }
-{
-    let mut widths = Vec::with_capacity(alloc, templates.nodes() as usize)?;
-    for n in 0..templates.nodes() {
-        widths.push(templates.segment_bits(n))?;
-    }
-    Ok(widths)
-}
-
-/// The bits that a message of each template uses.
-fn template_widths(alloc: Global, templates: &Templates) -> Result<Vec<usize>, AllocError>
-    ensures { IfOk result (λ w. AreTemplateWidths (nodes_of templates.now) (templates_of templates.now) w.items) }
-{
-    let mut widths = Vec::with_capacity(alloc, templates.count() as usize)?;
-    for i in 0..templates.count() {
-        widths.push(templates.message_bits(i))?;
-    }
-    Ok(widths)
-}
-
-/// The widths of all segments of a set.
-///
-/// # Errors
-///
-/// Memory was refused.
-pub fn measure(alloc: Global, templates: &Templates) -> Result<Widths, AllocError>
-    ensures nodes { IfOk result (λ w. AreNodeWidths (nodes_of templates.now) w.nodes.items) }
-    ensures templates { IfOk result
-        (λ w. AreTemplateWidths (nodes_of templates.now) (templates_of templates.now) w.templates.items) }
-{
-    Ok(Widths {
-        nodes: node_widths(alloc, templates)?,
-        templates: template_widths(alloc, templates)?,
-    })
-}
 
 /// The length of a text, 0 of a number.
 fn text_len(value: &Value) -> usize

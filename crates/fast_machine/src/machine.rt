@@ -5,7 +5,6 @@
 
 ghost use Rattle.std.specs.Prelude.{◌≡◌};
 
-use crate::layout::Widths;
 use crate::turns::Turns;
 use fast_cursor::cursor::Cursor;
 use fast_dict::Slots;
@@ -64,8 +63,6 @@ pub struct Machine<'t> {
     pub joined: Scratch,
     /// The elements of the message's sequences so far.
     pub counted: u32,
-    /// The bits that segments use.
-    pub widths: Widths,
     /// The template identifier, as a field.
     pub identifier: FieldInstruction,
     /// The turns of the last call.

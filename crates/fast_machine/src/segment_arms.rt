@@ -1,12 +1,12 @@
 //! The arms of the machine's loop for segments and messages.
 
-ghost use Rattle.std.specs.Prelude.{◌≡◌, ◌⊎◌, ◌+◌, ◌<◌, ◌≤◌, ℕ, Bool, [], take, drop, length, slice_get, slice_index, IfErr, Some, Ok};
+ghost use Rattle.std.specs.Prelude.{◌≡◌, ◌⊎◌, ◌+◌, ◌<◌, ◌≤◌, ℕ, Bool, [], take, drop, length, slice_get, IfErr, Some, Ok};
 ghost use Rattle.fast_value.specs.meaning.Kinds.{U};
 ghost use Rattle.fast_value.specs.meaning.Limits.{bounds};
 ghost use Rattle.fast_tree.specs.declared.instructions.Node.{Node};
 ghost use Rattle.fast_tree.specs.declared.instructions.Template.{Template};
 ghost use Rattle.fast_tree.specs.device.Numbers.{AreBelow};
-ghost use Rattle.fast_tree.specs.meaning.Tree.{FieldData, bits_of};
+ghost use Rattle.fast_tree.specs.meaning.Tree.{FieldData};
 ghost use Rattle.fast_dict.specs.meaning.Slots.{slots_dictionary};
 ghost use Rattle.fast_program.specs.device.Codes.{IsGroupCoded, IsSequenceCoded};
 ghost use Rattle.fast_stream.specs.meaning.Messages.{within_limits};
@@ -21,7 +21,7 @@ ghost use Rattle.fast_machine.specs.device.FitMaps.{IsFitMap};
 ghost use Rattle.fast_stream.specs.declared.faults.FaultCode.{FaultCode};
 ghost use Rattle.fast_machine.specs.device.Arms.{placed, IsAnswer, IsAtOp, IsAtSpot, IsGroupHere, IsLengthTaken, HasWent};
 ghost use Rattle.fast_machine.specs.device.Opening.{opened_result, opened_by};
-ghost use Rattle.fast_machine.specs.device.Positions.{set_of, tree_in, run_in, body_in, IsAtGroup, IsBehindMap, IsStartIn, IsTurn, CanTurn};
+ghost use Rattle.fast_machine.specs.device.Positions.{set_of, tree_in, run_in, IsBodyOf, IsAtGroup, IsBehindMap, IsStartIn, IsTurn, CanTurn};
 ghost use Rattle.fast_machine.specs.device.Starts.{message_from, mapped_by, begun_by};
 ghost use Rattle.fast_machine.specs.device.Steps.{IsStep};
 ghost use Rattle.fast_machine.specs.device.TurnsLeft.{Way, most_by, HasTurnsBehind};
@@ -328,8 +328,7 @@ impl<'t> Machine<'t> {
         requires total { self.old.counted + count ≤ limits.max_total }
         requires node { node < length (set_of templates.now).nodes }
         requires run { IsRun (set_of templates.now).program start }
-        requires width { slice_index self.old.widths.nodes.items node
-            ≡ bits_of (body_in (set_of templates.now) (run_in (set_of templates.now) start)) }
+        requires body { IsBodyOf (set_of templates.now) node start }
         requires below { AreBelow (length (set_of templates.now).nodes) (run_in (set_of templates.now) start) }
         ensures went { HasWent S.takes S.stops (set_of templates.now) limits self.old spot.old sink.old result sink.new
             self.new spot.new }
@@ -343,7 +342,7 @@ impl<'t> Machine<'t> {
             spot.stand(&self.cursor, 0);
             return Went::Stopped;
         }
-        let width = self.widths.nodes[node as usize];
+        let width = templates.segment_bits(node);
         let begun = self.begin_element(templates, limits, count, start, width, sink);
         self.segment_arm(templates, limits, begun, Went::Took, spot, sink)
     }
@@ -403,8 +402,7 @@ impl<'t> Machine<'t> {
             (run_in (set_of templates.now) start) }
         requires node { node < length (set_of templates.now).nodes }
         requires run { IsRun (set_of templates.now).program start }
-        requires width { slice_index self.old.widths.nodes.items node
-            ≡ bits_of (body_in (set_of templates.now) (run_in (set_of templates.now) start)) }
+        requires body { IsBodyOf (set_of templates.now) node start }
         requires below { AreBelow (length (set_of templates.now).nodes) (run_in (set_of templates.now) start) }
         ensures went { (from : Spot)
             → IsGroupHere (set_of templates.now) limits self.old from spot.old node (run_in (set_of templates.now) start)

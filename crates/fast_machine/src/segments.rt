@@ -1,7 +1,7 @@
 //! Where the segments of groups and elements begin and end. The answer is how many bits the instructions of the segment use that now
 //! begins, and 0 where none does.
 
-ghost use Rattle.std.specs.Prelude.{◌≡◌, ◌≢◌, ◌⊎◌, ◌+◌, ◌<◌, ◌≤◌, ℕ, suc, [], Bool, length, slice_index};
+ghost use Rattle.std.specs.Prelude.{◌≡◌, ◌≢◌, ◌⊎◌, ◌+◌, ◌<◌, ◌≤◌, ℕ, suc, [], Bool, length};
 ghost use Rattle.std.specs.Prelude.{IfErr, MatchResult};
 ghost use Rattle.fast_stream.specs.meaning.Events.{ElementStart, ElementEnd};
 ghost use Rattle.fast_value.specs.meaning.Limits.{bounds};
@@ -16,7 +16,7 @@ ghost use Rattle.fast_cursor.specs.device.Runs.{IsRun};
 ghost use Rattle.fast_machine.specs.device.Arms.{placed};
 ghost use Rattle.fast_machine.specs.device.Opening.{opened_result, opened_by};
 ghost use Rattle.fast_machine.specs.device.Passing.{group_from, elements_from};
-ghost use Rattle.fast_machine.specs.device.Positions.{set_of, run_in, body_in, IsAtGroup, CanTurn, IsTurn, turning};
+ghost use Rattle.fast_machine.specs.device.Positions.{set_of, run_in, IsBodyOf, body_in, IsAtGroup, CanTurn, IsTurn, turning};
 ghost use Rattle.fast_machine.specs.device.TurnsLeft.{Way, HasTurns, HasTurnsFrom, HasTurnsBehind};
 
 use crate::machine::Machine;
@@ -57,8 +57,7 @@ impl<'t> Machine<'t> {
         requires nested { suc (length self.old.cursor.frames)
             + body_depth (body_in (set_of templates.now) (run_in (set_of templates.now) start))
             ≤ self.old.cursor.depth }
-        requires width { slice_index self.old.widths.nodes.items node
-            ≡ bits_of (body_in (set_of templates.now) (run_in (set_of templates.now) start)) }
+        requires body { IsBodyOf (set_of templates.now) node start }
         requires node { node < length (set_of templates.now).nodes }
         ensures turn { IsTurn S.takes S.stops (set_of templates.now) limits
             (reader_of limits.strict
@@ -73,7 +72,7 @@ impl<'t> Machine<'t> {
         ensures same { self.new ≡ record self.old { cursor = self.new.cursor } }
     {
         hand(sink, Event::GroupStart { node })?;
-        let width = self.widths.nodes[node as usize];
+        let width = templates.segment_bits(node);
         self.cursor.advance();
         self.cursor.open_group(start);
         Ok(width)

@@ -1,6 +1,6 @@
 //! What a machine does without a byte: values that the bytes before decide, starts and ends of segments.
 
-ghost use Rattle.std.specs.Prelude.{◌≡◌, ◌≢◌, ◌+◌, ◌<◌, ◌≤◌, ℕ, suc, [], false, Bool, Ok, drop, length, length as list_length, OnOk, IfOk, MatchResult, slice_index, Some, None, option_map, if◌then◌else◌};
+ghost use Rattle.std.specs.Prelude.{◌≡◌, ◌≢◌, ◌+◌, ◌<◌, ◌≤◌, ℕ, suc, [], false, Bool, Ok, drop, length, length as list_length, OnOk, IfOk, MatchResult, Some, None, option_map, if◌then◌else◌};
 ghost use Rattle.fast_wire.specs.meaning.Maps.{later_bits};
 ghost use Rattle.fast_value.specs.meaning.Kinds.{exponent_range, integer_of};
 ghost use Rattle.fast_value.specs.meaning.Values.{scalar_data};
@@ -26,7 +26,7 @@ ghost use Rattle.fast_machine.specs.device.TurnsLeft.{Way, HasTurns, HasTurnsFro
 ghost use Rattle.fast_units.specs.device.UnitFronts.{IsAsciiFirst};
 ghost use Rattle.fast_machine.specs.device.Opening.{opened_result, opened_by};
 ghost use Rattle.fast_machine.specs.device.Passing.{IsPast, value_then, exponent_then, decimal_then, length_then, elements_from};
-ghost use Rattle.fast_machine.specs.device.Positions.{Set, set_of, run_in, body_in, frames_in, mantissa_then, IsAtField, IsAtParts, IsAtGroup, IsAtSequence, CanTurn, IsTurn, turning, IsMapWhole, bit_of, state_in, going_on};
+ghost use Rattle.fast_machine.specs.device.Positions.{Set, set_of, run_in, IsBodyOf, body_in, frames_in, mantissa_then, IsAtField, IsAtParts, IsAtGroup, IsAtSequence, CanTurn, IsTurn, turning, IsMapWhole, bit_of, state_in, going_on};
 
 use crate::machine::{Machine, Turn, Waiting};
 use crate::turns::Turns;
@@ -496,8 +496,7 @@ impl<'t> Machine<'t> {
             (run_in (set_of templates.now) start) }
         requires run { IsRun (set_of templates.now).program start }
         requires below { AreBelow (length (set_of templates.now).nodes) (run_in (set_of templates.now) start) }
-        requires width { slice_index self.old.widths.nodes.items node
-            ≡ bits_of (body_in (set_of templates.now) (run_in (set_of templates.now) start)) }
+        requires body { IsBodyOf (set_of templates.now) node start }
         requires node { node < length (set_of templates.now).nodes }
         ensures turn { IsTurn S.takes S.stops (set_of templates.now) limits
             (turning (set_of templates.now) limits self.old) sink.old result sink.new self.new }
@@ -552,8 +551,7 @@ impl<'t> Machine<'t> {
         requires run { IsRun (set_of templates.now).program start }
         requires serves { Serves (set_of templates.now).entries (slots_terms self.old.slots) (field_data length.now) }
         requires below { AreBelow (list_length (set_of templates.now).nodes) (run_in (set_of templates.now) start) }
-        requires width { slice_index self.old.widths.nodes.items node
-            ≡ bits_of (body_in (set_of templates.now) (run_in (set_of templates.now) start)) }
+        requires body { IsBodyOf (set_of templates.now) node start }
         requires node { node < list_length (set_of templates.now).nodes }
         ensures turn { IsTurn S.takes S.stops (set_of templates.now) limits
             (turning (set_of templates.now) limits self.old) sink.old result sink.new self.new }
@@ -590,8 +588,7 @@ impl<'t> Machine<'t> {
         requires run { IsRun (set_of templates.now).program start }
         requires serves { Serves (set_of templates.now).entries (slots_terms self.old.slots) (field_data length.now) }
         requires below { AreBelow (list_length (set_of templates.now).nodes) (run_in (set_of templates.now) start) }
-        requires width { slice_index self.old.widths.nodes.items node
-            ≡ bits_of (body_in (set_of templates.now) (run_in (set_of templates.now) start)) }
+        requires body { IsBodyOf (set_of templates.now) node start }
         requires node { node < list_length (set_of templates.now).nodes }
         ensures turn { IsTurn S.takes S.stops (set_of templates.now) limits
             (reader_of limits.strict
@@ -615,7 +612,7 @@ impl<'t> Machine<'t> {
             Ok(count) => {
                 self.counted += count;
                 hand(sink, Event::SequenceStart { node, count })?;
-                let width = self.widths.nodes[node as usize];
+                let width = templates.segment_bits(node);
                 self.next_element(templates, limits, count, start, width, sink)
             }
         }

@@ -1,6 +1,6 @@
 //! What a machine does with the bytes of a piece: it takes units, and all that they decide.
 
-ghost use Rattle.std.specs.Prelude.{◌≡◌, ◌≢◌, ◌⊎◌, ◌+◌, ◌*◌, ◌<◌, ◌≤◌, ◌&&◌, not, nat_le, true, false, ℕ, [], length, length as list_length, slice_get, IfSome, IfNone, Err, take, IsTrue, ◌↔◌, IsOk, IfOk, IfErr, OnOk, Some, None, Ok, slice_index, option_map, nat_abs, if◌then◌else◌};
+ghost use Rattle.std.specs.Prelude.{◌≡◌, ◌≢◌, ◌⊎◌, ◌+◌, ◌*◌, ◌<◌, ◌≤◌, ◌&&◌, not, nat_le, true, false, ℕ, [], length, length as list_length, slice_get, IfSome, IfNone, Err, take, IsTrue, ◌↔◌, IsOk, IfOk, IfErr, OnOk, Some, None, Ok, option_map, nat_abs, if◌then◌else◌};
 ghost use Rattle.fast_wire.specs.meaning.Entities.{IsEntity};
 ghost use Rattle.fast_wire.specs.meaning.Maps.{map_limit, bits, bytes_for};
 ghost use Rattle.fast_value.specs.meaning.Kinds.{integer_of};
@@ -10,7 +10,7 @@ ghost use Rattle.fast_template.specs.meaning.Flat.{field_data, nodes_of, templat
 ghost use Rattle.fast_tree.specs.device.Numbers.{AreBelow};
 ghost use Rattle.fast_tree.specs.declared.instructions.Template.{Template};
 ghost use Rattle.fast_value.specs.declared.settings.Limits.{Limits};
-ghost use Rattle.fast_tree.specs.meaning.Tree.{bits_of, identifier};
+ghost use Rattle.fast_tree.specs.meaning.Tree.{identifier};
 ghost use Rattle.fast_dict.specs.meaning.Slots.{slots_dictionary, slots_terms};
 ghost use Rattle.fast_stream.specs.device.GrammarReaders.{spare, reader_of};
 ghost use Rattle.fast_dict.specs.device.EntryTexts.{HasLongInitial};
@@ -28,9 +28,9 @@ ghost use Rattle.fast_units.specs.device.UnitFronts.{IsNumberStage};
 ghost use Rattle.fast_stream.specs.device.Continuations.{message_of_then};
 ghost use Rattle.fast_machine.specs.device.Starts.{IsStartWith};
 ghost use Rattle.fast_machine.specs.device.TurnsLeft.{Way, most_by, HasTurns, HasTurnsWaiting, HasTurnsBehind, turns_begun_at};
-ghost use Rattle.fast_machine.specs.device.Positions.{Set, set_of, tree_in, run_in, body_in, IsAtField, IsAtParts, IsAtSequence, CanTurn, GoesOn, IsBehindMap, IsStartIn, IsSupplied, IsReady, IsTurn, IsFresh, segment_reader, mapped_reader, is_idle, meaning};
+ghost use Rattle.fast_machine.specs.device.Positions.{Set, set_of, tree_in, run_in, IsBodyOf, IsAtField, IsAtParts, IsAtSequence, CanTurn, GoesOn, IsBehindMap, IsStartIn, IsSupplied, IsReady, IsTurn, IsFresh, segment_reader, mapped_reader, is_idle, meaning};
 
-use crate::layout::{make_slots, measure};
+use crate::layout::make_slots;
 use crate::machine::{Machine, Turn, Waiting};
 use crate::quick_starts::template_with;
 use crate::quick_units::UnitTaken;
@@ -259,7 +259,7 @@ impl<'t> Machine<'t> {
         let Some(start) = template_of(templates, id_of(value), self.latest) else {
             return Err(FaultCode::Stream(Code::D9));
         };
-        let width = self.widths.templates[start.number as usize];
+        let width = templates.message_bits(start.number);
         if is_too_wide(limits.strict, self.cursor.map_len(), width) {
             return Err(FaultCode::Stream(Code::R8));
         }
@@ -489,8 +489,7 @@ impl<'t> Machine<'t> {
         requires serves { IsServedBy (set_of templates.now) self.old (field_data length.now) }
         requires kind { length.now.kind ≡ Kind.UInt32 }
         requires below { AreBelow (list_length (set_of templates.now).nodes) (run_in (set_of templates.now) start) }
-        requires width { slice_index self.old.widths.nodes.items node
-            ≡ bits_of (body_in (set_of templates.now) (run_in (set_of templates.now) start)) }
+        requires body { IsBodyOf (set_of templates.now) node start }
         requires node { node < list_length (set_of templates.now).nodes }
         ensures taken { TakesUnit S.takes S.stops (set_of templates.now) limits self.old rest.now sink.old result
             sink.new self.new }
@@ -970,7 +969,6 @@ impl<'t> Machine<'t> {
             text: Scratch::new(alloc, limits.max_text)?,
             joined: Scratch::new(alloc, limits.max_text)?,
             counted: 0,
-            widths: measure(alloc, templates)?,
             identifier: FieldInstruction {
                 kind: Kind::UInt32,
                 optional: false,

@@ -651,7 +651,7 @@ fn try_item(plan: &Plan<'_>, node: u32, item: &Item, work: &mut Work) -> bool
             if work.draft.push_bit_if(*optional, true).is_err() {
                 return false;
             }
-            let has_map = plan.widths[node as usize] > 0;
+            let has_map = plan.templates.segment_bits(node) > 0;
             try_segment(plan, has_map, body, slots, work).is_ok()
         }
         (Shape::Sequence { length, body }, Item::Sequence(rows)) => {
@@ -662,7 +662,7 @@ fn try_item(plan: &Plan<'_>, node: u32, item: &Item, work: &mut Work) -> bool
             if write_field(&mut work.draft, &mut work.ledger, length, count).is_err() {
                 return false;
             }
-            let has_map = plan.widths[node as usize] > 0;
+            let has_map = plan.templates.segment_bits(node) > 0;
             work.room -= rows.len() as u32;
             for row in rows {
                 if try_segment(plan, has_map, body, row, work).is_err() {

@@ -5,8 +5,7 @@ ghost use Rattle.fast_value.specs.meaning.Views.{message_data, slots_data};
 ghost use Rattle.fast_value.specs.meaning.Kinds.{U};
 ghost use Rattle.fast_tree.specs.meaning.Tree.{identifier};
 ghost use Rattle.fast_tree.specs.device.Nodes.{field_data};
-ghost use Rattle.fast_tree.specs.device.Bodies.{AreNodeWidths};
-ghost use Rattle.fast_template.specs.meaning.Flat.{nodes_of, templates_of, tree_of};
+ghost use Rattle.fast_template.specs.meaning.Flat.{templates_of, tree_of};
 ghost use Rattle.fast_dict.specs.meaning.Dictionary.{reset};
 ghost use Rattle.fast_spelling.specs.declared.faults.EncodeFault.TheVariants.{Memory};
 ghost use Rattle.fast_spelling.specs.device.Drafts.{IsTold};
@@ -33,14 +32,12 @@ use fast_value::{Kind, Limits, Message, Scalar};
 pub fn write_message(
     templates: &Templates,
     limits: Limits,
-    widths: &[usize],
     id: u32,
     message: &Message,
     draft: &mut Draft,
     ledger: &mut Ledger,
 ) -> Result<(), EncodeFault>
     requires known { IsKnownAs (tree_of templates.now) (message_data message.now) id }
-    requires widths { AreNodeWidths (nodes_of templates.now) widths.now }
     requires ready { IsReady templates.now limits ledger.old }
     requires suits { SuitsTemplate (tree_of templates.now) (message_data message.now) }
     requires fits { FitsLimits limits (slots_data message.now.items.items) }
@@ -59,7 +56,6 @@ pub fn write_message(
     write_body(
         templates,
         limits,
-        widths,
         &template.body,
         &message.items,
         draft,

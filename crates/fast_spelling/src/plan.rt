@@ -2,7 +2,6 @@
 
 ghost use Rattle.std.specs.Prelude.{◌≡◌};
 ghost use Rattle.fast_template.specs.meaning.Flat.{nodes_of};
-ghost use Rattle.fast_tree.specs.device.Bodies.{AreNodeWidths};
 ghost use Rattle.fast_spelling.specs.device.Forms.{steps_of};
 
 use crate::draft::Draft;
@@ -18,11 +17,8 @@ pub struct Plan<'t> {
     pub templates: &'t Templates,
     /// The limits.
     pub limits: Limits,
-    /// How many presence bits the segment within each node uses, by the node's number.
-    pub widths: Vec<usize>,
     /// What is done at each node, by its number.
     pub steps: Vec<Step>,
-    ghost widths_fit: { AreNodeWidths (nodes_of templates.now) widths.items },
     ghost steps_fit: { steps.items ≡ steps_of (nodes_of templates.now) },
 }
 

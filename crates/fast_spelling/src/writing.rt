@@ -4,7 +4,7 @@ ghost use Rattle.std.specs.Prelude.{◌≡◌, ◌<◌, ℕ, length, Some, OnOk,
 ghost use Rattle.fast_value.specs.meaning.Views.{item_data, slots_data};
 ghost use Rattle.fast_template.specs.meaning.Flat.{nodes_of};
 ghost use Rattle.fast_tree.specs.device.Numbers.{AreBelow};
-ghost use Rattle.fast_tree.specs.device.Bodies.{body_among, AreNodeWidths};
+ghost use Rattle.fast_tree.specs.device.Bodies.{body_among};
 ghost use Rattle.fast_spelling.specs.device.Drafts.{IsTold};
 ghost use Rattle.fast_spelling.specs.meaning.Encoding.{Encodes, EncodesBody};
 ghost use Rattle.fast_spelling.specs.device.Fields.{Wrote};
@@ -29,14 +29,12 @@ use fast_value::{Item, Limits, Scalar};
 pub fn write_body(
     templates: &Templates,
     limits: Limits,
-    widths: &[usize],
     body: &[u32],
     slots: &[Option<Item>],
     draft: &mut Draft,
     ledger: &mut Ledger,
 ) -> Result<(), EncodeFault>
     requires nodes { AreBelow (length (nodes_of templates.now)) body.now }
-    requires widths { AreNodeWidths (nodes_of templates.now) widths.now }
     requires ready { IsReady templates.now limits ledger.old }
     requires suits { SuitsBody (body_among (nodes_of templates.now) body.now) (slots_data slots.now) }
     requires fits { AreWithinLimits limits (slots_data slots.now) }
@@ -55,7 +53,7 @@ pub fn write_body(
         let node = body[i];
         match slot {
             None => write_absent(templates, limits, node, draft, ledger)?,
-            Some(item) => write_item(templates, limits, widths, node, item, draft, ledger)?,
+            Some(item) => write_item(templates, limits, node, item, draft, ledger)?,
         }
     }
     Ok(())
@@ -67,14 +65,12 @@ pub fn write_body(
 fn write_item(
     templates: &Templates,
     limits: Limits,
-    widths: &[usize],
     node: u32,
     item: &Item,
     draft: &mut Draft,
     ledger: &mut Ledger,
 ) -> Result<(), EncodeFault>
     requires node { node < length (nodes_of templates.now) }
-    requires widths { AreNodeWidths (nodes_of templates.now) widths.now }
     requires ready { IsReady templates.now limits ledger.old }
     requires suits { Suits (instruction_in (nodes_of templates.now) node) (Some (item_data item.now)) }
     requires fits { IsWithinLimits limits (item_data item.now) }
@@ -96,15 +92,15 @@ fn write_item(
         (Shape::Group { optional, body }, Item::Group(slots)) => {
             draft.push_bit_if(*optional, true)?;
             let mark = draft.mark();
-            write_body(templates, limits, widths, body, slots, draft, ledger)?;
-            draft.close(mark, widths[node as usize] > 0)
+            write_body(templates, limits, body, slots, draft, ledger)?;
+            draft.close(mark, templates.segment_bits(node) > 0)
         }
         (Shape::Sequence { length, body }, Item::Sequence(rows)) => {
             write_field(draft, ledger, length, Some(Scalar::U(rows.len() as u64)))?;
             for row in rows {
                 let mark = draft.mark();
-                write_body(templates, limits, widths, body, row, draft, ledger)?;
-                draft.close(mark, widths[node as usize] > 0)?;
+                write_body(templates, limits, body, row, draft, ledger)?;
+                draft.close(mark, templates.segment_bits(node) > 0)?;
             }
             Ok(())
         }

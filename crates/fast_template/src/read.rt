@@ -11,6 +11,7 @@ ghost use Rattle.fast_tree.specs.meaning.Tree.{Tree};
 
 use crate::opcodes::opcodes_of;
 use crate::sets::Templates;
+use crate::widths::{message_widths_of, segment_widths_of};
 use fast_notation::{CheckedSet, StaticCode, StaticFault};
 use fast_program::{Program, ops_of};
 use std::alloc::Global;
@@ -51,12 +52,20 @@ impl Templates {
         let Ok(program) = Program::of(alloc, &set.templates, &set.nodes) else {
             return Err(no_memory());
         };
+        let Ok(segment_widths) = segment_widths_of(alloc, &set.nodes) else {
+            return Err(no_memory());
+        };
+        let Ok(message_widths) = message_widths_of(alloc, &set.templates, &set.nodes) else {
+            return Err(no_memory());
+        };
         Ok(Templates {
             templates: set.templates,
             nodes: set.nodes,
             opcodes,
             ops,
             program,
+            segment_widths,
+            message_widths,
             entries: set.entries,
             names: set.names,
             ids: set.ids,

@@ -8,6 +8,7 @@ ghost use Rattle.fast_template.specs.device.Opcodes.{opcodes_of};
 ghost use Rattle.fast_program.specs.device.Ops.{AreOpsFrom};
 ghost use Rattle.fast_program.specs.device.Programs.{IsProgramOf};
 ghost use Rattle.fast_tree.specs.device.Usable.{AreUsable};
+ghost use Rattle.fast_tree.specs.device.Bodies.{AreNodeWidths, AreTemplateWidths};
 
 use crate::opcodes::Opcode;
 use fast_program::{Op, Program};
@@ -23,6 +24,8 @@ pub struct Templates {
     pub(crate) opcodes: Vec<Opcode>,
     pub(crate) ops: Vec<Op>,
     pub(crate) program: Program,
+    pub(crate) segment_widths: Vec<usize>,
+    pub(crate) message_widths: Vec<usize>,
     pub(crate) entries: u32,
     pub(crate) names: HashMap<String, u32>,
     pub(crate) ids: HashMap<u32, u32>,
@@ -36,6 +39,8 @@ pub struct Templates {
     ghost nodes_have_opcodes: { opcodes.items ≡ opcodes_of nodes.items },
     ghost nodes_have_ops: { ∥ AreOpsFrom 0 ops.items nodes.items ∥₁ },
     ghost program_of_set: { ∥ IsProgramOf program templates.items nodes.items ∥₁ },
+    ghost widths_of_nodes: { AreNodeWidths nodes.items segment_widths.items },
+    ghost widths_of_templates: { AreTemplateWidths nodes.items templates.items message_widths.items },
     ghost distinct_ids: { HaveDistinctIds templates.items },
     ghost names_index: { (q : List ℕ) → get_by_text names q ≡ number_of_name q templates.items },
     ghost ids_index: { (q : ℕ) → get nat_eq ids q ≡ number_of_id q templates.items },

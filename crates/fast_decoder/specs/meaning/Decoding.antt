@@ -83,7 +83,7 @@ turns d = d.machine.turns.count
 -- What a decoder's machine stores of a stream: all cells of both scratches, the whole block of the dictionary's texts, the entries, a
 -- frame for each level of nesting, and the cells of one map for the message and for each level: a cursor's model shows only the
 -- maps that have come, and `IsCursor` counts the cells. Not among them are what is fixed whatever the set is, such as the few bytes
--- of an integer in hand, and what is made once of the set alone, such as the widths.
+-- of an integer in hand, and what is made once and stays: a number for each entry, where its text begins in the block (`slots.places`).
 abbrev pub stored_by : Machine → Stored
 stored_by m = record { scratch = m.text.capacity + m.joined.capacity; texts = vec_len m.slots.block; entries = vec_len m.slots.entries; frames = m.cursor.depth; maps = map_limit * (m.cursor.depth + 1) }
 

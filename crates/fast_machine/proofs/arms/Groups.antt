@@ -92,7 +92,7 @@ module _ {S : Type 0} (takes stops : S → EventData → S → Type 0) (set : Se
       let counting : Machine = record before { turns = t } in
       let mid : CursorData = record before.cursor { used = (at_place m.cursor p).used } in
       let ready : CanTurn set l counting = record {
-        supplied = supplied_like set l before counting can.supplied (record { terms = refl; text = refl; joined = refl; widths = refl; identifier = refl; rests = refl; latest = refl }) can.supplied.counted;
+        supplied = supplied_like set l before counting can.supplied (record { terms = refl; text = refl; joined = refl; identifier = refl; rests = refl; latest = refl }) can.supplied.counted;
         placed = can.placed;
         mapped = can.mapped;
         unused = can.unused;

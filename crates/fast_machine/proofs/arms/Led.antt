@@ -56,7 +56,7 @@ module _ {S : Type 0} (takes stops : S → EventData → S → Type 0) (set : Se
 
   can_keep : CanTurn set l keeping
   can_keep = record {
-    supplied = supplied_like set l before keeping h.spot.can.supplied (record { terms = h.terms; text = refl; joined = refl; widths = refl; identifier = refl; rests = refl; latest = refl }) h.spot.can.supplied.counted;
+    supplied = supplied_like set l before keeping h.spot.can.supplied (record { terms = h.terms; text = refl; joined = refl; identifier = refl; rests = refl; latest = refl }) h.spot.can.supplied.counted;
     placed = h.spot.can.placed;
     mapped = h.spot.can.mapped;
     unused = h.spot.can.unused;

@@ -41,7 +41,7 @@ waiting m = record m { waiting = Map; cursor = resting m.cursor }
 -- Its map is whole then.
 pub behind_map : (set : Set) (l : Limits) (m : Machine) (rest : List ℕ) → IsSupplied set l m → m.entity.bytes ≡ [] → IsEntity (take 1 rest) → IsBehindMap set l (mapped_by m rest)
 behind_map set l m rest h unused map = record {
-  supplied = supplied_like set l m (mapped_by m rest) h (record { terms = refl; text = refl; joined = refl; widths = refl; identifier = refl; rests = refl; latest = refl }) h.counted;
+  supplied = supplied_like set l m (mapped_by m rest) h (record { terms = refl; text = refl; joined = refl; identifier = refl; rests = refl; latest = refl }) h.counted;
   map = map;
   outermost = refl;
   unused = unused;
@@ -51,7 +51,7 @@ module _ (set : Set) (l : Limits) (m : Machine) (rest : List ℕ) (h : IsSupplie
     (id i : ℕ) (t : Template) (found : slice_get set.templates i ≡ Some t) (own : t.id ≡ Some id) (first : (j : ℕ) (u : Template) → j < i → slice_get set.templates j ≡ Some u → u.id ≢ Some id) where
   ready : IsReady set l (waiting m)
   ready = record {
-    supplied = supplied_like set l m (waiting m) h (record { terms = refl; text = refl; joined = refl; widths = refl; identifier = refl; rests = refl; latest = refl }) h.counted;
+    supplied = supplied_like set l m (waiting m) h (record { terms = refl; text = refl; joined = refl; identifier = refl; rests = refl; latest = refl }) h.counted;
     takes = (below-nil, omega arith, unused, refl);
   }
 

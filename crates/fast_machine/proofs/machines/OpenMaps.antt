@@ -52,7 +52,7 @@ module _ (set : Set) (l : Limits) (m : Machine) (width : ℕ) (c : CursorData) (
   pub map_turns : CanTurn set l (record m { cursor = c; turns = turns })
   map_turns = record {
     supplied = supplied_like set l m (record m { cursor = c; turns = turns }) ready.supplied
-        (record { terms = refl; text = refl; joined = refl; widths = refl; identifier = refl; rests = ap resting same; latest = refl }) ready.supplied.counted;
+        (record { terms = refl; text = refl; joined = refl; identifier = refl; rests = ap resting same; latest = refl }) ready.supplied.counted;
     placed = let p : IsPlaced set m.cursor = can.4 in subst (IsPlaced set) (sym same) (record { below = p.below; nested = p.nested; frames = p.frames });
     mapped = inr (rw taken.4 taken.3);
     unused = can.2;

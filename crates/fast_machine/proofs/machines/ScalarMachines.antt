@@ -60,7 +60,7 @@ with_units m s e t j = record m { slots = s; entity = e; text = t; joined = j }
 pub still_supplied : (set : Set) (l : Limits) (m : Machine) (s : Slots) (e : Pending) (t j : Scratch) → slots_terms s ≡ slots_terms m.slots → t.capacity ≡ m.text.capacity → j.capacity ≡ m.joined.capacity
     → IsSupplied set l m → IsSupplied set l (with_units m s e t j)
 still_supplied set l m s e t j terms text joined h =
-    supplied_like set l m (with_units m s e t j) h (record { terms = terms; text = text; joined = joined; widths = refl; identifier = refl; rests = refl; latest = refl }) h.counted
+    supplied_like set l m (with_units m s e t j) h (record { terms = terms; text = text; joined = joined; identifier = refl; rests = refl; latest = refl }) h.counted
 
 -- Where the unit in hand is one of a field, the cursor stands in a message.
 pub placed_by : (w : Waiting) (set : Set) (l : Limits) (m : Machine) → IsOfField w → CanTake w set l m → IsPlaced set m.cursor × IsMapWhole m.cursor.map

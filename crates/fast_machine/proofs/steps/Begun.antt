@@ -73,8 +73,6 @@ begun_turns set l m n t c s turns latest known h found below terms frames left m
         least_text = h.supplied.least_text;
         text_room = h.supplied.text_room;
         joined_room = h.supplied.joined_room;
-        node_widths = h.supplied.node_widths;
-        template_widths = h.supplied.template_widths;
         depth = depth ∙ room;
         program = ap (λ (x : CursorData). x.ops) rests ∙ h.supplied.program;
         identifier = h.supplied.identifier;

@@ -59,7 +59,6 @@ pub record IsLike (m m' : Machine) : Type 0 where
   pub terms : slots_terms m'.slots ≡ slots_terms m.slots
   pub text : m'.text.capacity ≡ m.text.capacity
   pub joined : m'.joined.capacity ≡ m.joined.capacity
-  pub widths : m'.widths ≡ m.widths
   pub identifier : m'.identifier ≡ m.identifier
   pub rests : resting m'.cursor ≡ resting m.cursor
   pub latest : m'.latest ≡ m.latest
@@ -74,8 +73,6 @@ supplied_like set l m m' h i counted = record {
   least_text = h.least_text;
   text_room = i.text ∙ h.text_room;
   joined_room = i.joined ∙ h.joined_room;
-  node_widths = rw i.widths h.node_widths;
-  template_widths = rw i.widths h.template_widths;
   depth = ap (λ (c : CursorData). c.depth) i.rests ∙ h.depth;
   program = ap (λ (c : CursorData). c.ops) i.rests ∙ h.program;
   identifier = rw i.identifier h.identifier;
@@ -313,7 +310,7 @@ field_wrong s l f bit st k c e unsent decided =
 -- A machine that waits, or has another text in hand, has all that it had.
 pub can_turn_waits : (set : Set) (l : Limits) (m : Machine) (w : Waiting) (t : Held) → CanTurn set l m → t.capacity ≡ m.text.capacity → CanTurn set l (record m { waiting = w; text = t })
 can_turn_waits set l m w t h room = record {
-  supplied = supplied_like set l m (record m { waiting = w; text = t }) h.supplied (record { terms = refl; text = room; joined = refl; widths = refl; identifier = refl; rests = refl; latest = refl }) h.supplied.counted;
+  supplied = supplied_like set l m (record m { waiting = w; text = t }) h.supplied (record { terms = refl; text = room; joined = refl; identifier = refl; rests = refl; latest = refl }) h.supplied.counted;
   placed = h.placed;
   mapped = h.mapped;
   unused = h.unused;
@@ -322,7 +319,7 @@ can_turn_waits set l m w t h room = record {
 -- So has one with other values in the slots.
 pub can_turn_slots : (set : Set) (l : Limits) (m : Machine) (slots : Slots) → CanTurn set l m → slots_terms slots ≡ slots_terms m.slots → CanTurn set l (record m { slots = slots })
 can_turn_slots set l m slots h terms = record {
-  supplied = supplied_like set l m (record m { slots = slots }) h.supplied (record { terms = terms; text = refl; joined = refl; widths = refl; identifier = refl; rests = refl; latest = refl }) h.supplied.counted;
+  supplied = supplied_like set l m (record m { slots = slots }) h.supplied (record { terms = terms; text = refl; joined = refl; identifier = refl; rests = refl; latest = refl }) h.supplied.counted;
   placed = h.placed;
   mapped = h.mapped;
   unused = h.unused;
@@ -331,7 +328,7 @@ can_turn_slots set l m slots h terms = record {
 -- So has one that has used a bit.
 used_by : (set : Set) (l : Limits) (m : Machine) (u v : ℕ) → CanTurn set l m → CanTurn set l (record m { cursor = record m.cursor { used = u; ends = v } })
 used_by set l m u v h = record {
-  supplied = supplied_like set l m (record m { cursor = record m.cursor { used = u; ends = v } }) h.supplied (record { terms = refl; text = refl; joined = refl; widths = refl; identifier = refl; rests = refl; latest = refl }) h.supplied.counted;
+  supplied = supplied_like set l m (record m { cursor = record m.cursor { used = u; ends = v } }) h.supplied (record { terms = refl; text = refl; joined = refl; identifier = refl; rests = refl; latest = refl }) h.supplied.counted;
   placed = record { below = h.placed.below; nested = h.placed.nested; frames = h.placed.frames };
   mapped = h.mapped;
   unused = h.unused;
@@ -355,7 +352,6 @@ like_moved m m' same rests = record {
   terms = ap (λ x. slots_terms x.slots) same;
   text = ap (λ x. x.text.capacity) same;
   joined = ap (λ x. x.joined.capacity) same;
-  widths = ap (λ x. x.widths) same;
   identifier = ap (λ x. x.identifier) same;
   rests = rests;
   latest = ap (λ x. x.latest) same;

@@ -1,15 +1,16 @@
 -- What holds of a machine behind a turn at which a segment begins or ends.
-use Rattle.std.proofs.Common.{refl, sym, ap, ◌∙◌, subst, inl, arith}
-use Rattle.std.specs.Prelude.{◌≡◌, ◌≢◌, ℕ, zero, suc, ◌+◌, ◌-◌, ◌<◌, ◌≤◌, max, Bool, true, false, nat_lt, List, [], ◌∷◌, drop, length, slice_index, slice_index_or, ℤ, nat_abs, Option, Some, None, option_map, Result, Ok, Err}
+use Rattle.std.proofs.Common.{refl, sym, ap, ◌∙◌, subst, inl, inr, arith}
+use Rattle.std.specs.Prelude.{◌≡◌, ◌≢◌, ℕ, zero, suc, ◌+◌, ◌-◌, ◌<◌, ◌≤◌, max, Bool, true, false, nat_lt, List, [], ◌∷◌, drop, length, slice_get, ℤ, nat_abs, Option, Some, None, option_map, Result, Ok, Err}
 use Rattle.std.proofs.Math.Nat.{le-max_left}
 use Rattle.std.proofs.lemmas.Bool.{lt-ltb}
-use Rattle.std.proofs.lemmas.Grind.{get_or_default_zero}
+use Rattle.std.proofs.lemmas.Option.{slice_get_cases}
 use Rattle.fast_wire.specs.meaning.Maps.{bits, first_bit, later_bits}
 use Rattle.fast_value.specs.declared.settings.Limits.{Limits}
 use Rattle.fast_value.specs.declared.codes.Code.{Code}
 use Rattle.fast_value.specs.meaning.Kinds.{ScalarData, integer_of}
 use Rattle.fast_value.specs.meaning.Limits.{Bounds, bounds}
-use Rattle.fast_tree.specs.device.Numbers.{AreBelow}
+use Rattle.fast_tree.specs.declared.instructions.Node.{Node}
+use Rattle.fast_tree.specs.device.Numbers.{AreBelow, numbers_of}
 use Rattle.fast_tree.specs.meaning.Sizes.{depth, body_depth}
 use Rattle.fast_tree.specs.meaning.Tree.{FieldData, Instruction, step, Body, bits_of}
 use Rattle.fast_dict.specs.meaning.Dictionary.{Dictionary, previous_at}
@@ -18,7 +19,6 @@ use Rattle.fast_dict.specs.meaning.Slots.{slots_dictionary, slots_terms}
 use Rattle.fast_dict.specs.declared.slots.Slots.{Slots}
 use Rattle.fast_stream.specs.declared.faults.FaultCode.{FaultCode}
 use Rattle.fast_stream.specs.declared.faults.FaultCode.TheVariants as Why
-use Rattle.fast_machine.specs.declared.layout.Widths.{Widths}
 use Rattle.fast_machine.specs.declared.machine.Machine.{Machine}
 use Rattle.fast_machine.specs.declared.machine.Turn.{Turn}
 use Rattle.fast_machine.specs.declared.machine.Turn.TheVariants.{Silent, Handed, Waits as TurnWaits}
@@ -41,7 +41,7 @@ use Rattle.fast_program.specs.declared.ops.Op.{Op}
 use Rattle.fast_cursor.specs.declared.cursor.Elements.{Elements}
 use Rattle.fast_cursor.specs.device.Segments.{elements_data}
 use Rattle.fast_cursor.specs.device.Cursors.{ElementsData, FrameData, CursorData, bits_behind, bits_left, resting, frame_here, entered, left_to}
-use Rattle.fast_machine.specs.device.Positions.{Set, body_in, frame_by, frames_in, state_in, IsMapWhole, AreElementsFit, AreFramesFit, IsPlaced, IsSupplied, CanTurn, IsTurn, IsAtGroup, IsAtSequence, BeginsWithInteger, bit_of, turning, meaning}
+use Rattle.fast_machine.specs.device.Positions.{Set, run_in, body_in, IsBodyOf, frame_by, frames_in, state_in, IsMapWhole, AreElementsFit, AreFramesFit, IsPlaced, IsSupplied, CanTurn, IsTurn, IsAtGroup, IsAtSequence, BeginsWithInteger, bit_of, turning, meaning}
 use Rattle.fast_stream.proofs.streams.Frames.{sequence-same, counting, at_end, at_group, group_turn, at_optional_group, close_group, close_element, close_message}
 use Rattle.fast_units.proofs.Turning.{result_done, result_stop}
 use Rattle.fast_machine.proofs.units.Hanging.{hands_waits, hands_more, hands_last}
@@ -57,7 +57,7 @@ map_waits s g = (_, refl)
 
 -- the machine with another cursor is like it, if there are as many frames
 pub like_at : (m : Machine) (c : CursorData) → resting c ≡ resting m.cursor → IsLike m (record m { cursor = c })
-like_at m c e = record { terms = refl; text = refl; joined = refl; widths = refl; identifier = refl; rests = e; latest = refl }
+like_at m c e = record { terms = refl; text = refl; joined = refl; identifier = refl; rests = e; latest = refl }
 
 -- The cursor stands in a segment that begins.
 pub placed_in : (set : Set) (c : CursorData) (elements : Option ElementsData) (body : List ℕ) → IsPlaced set c → IsMapWhole c.map → AreBelow (length set.nodes) body
@@ -120,7 +120,7 @@ module _ {S : Type 0} (takes stops : S → EventData → S → Type 0) (set : Se
       let (turn, machine) = waits (omega arith) in
       let k : List Bool → Grammar Dictionary = λ b. resume (bounds l) (frame_by set (frame_here m.cursor elements) elements ∷ frames_in set m.cursor.frames) (body_in set body) (record { context = record { dictionary = slots_dictionary m.slots; counted = m.counted }; bits = b }) in
       let g : List ℕ → Grammar Dictionary = λ w. narrow (suc n) w (k (bits w)) in
-      let supplied = supplied_like set l m (record m { waiting = SegmentMap (suc n); cursor = entered m.cursor elements body }) h.supplied (record { terms = refl; text = refl; joined = refl; widths = refl; identifier = refl; rests = refl; latest = refl }) h.supplied.counted in
+      let supplied = supplied_like set l m (record m { waiting = SegmentMap (suc n); cursor = entered m.cursor elements body }) h.supplied (record { terms = refl; text = refl; joined = refl; identifier = refl; rests = refl; latest = refl }) h.supplied.counted in
       rw (turn, machine, is, same ∙ ap (λ j. Emit e (reader_of l.strict (opened_by j k))) (sym wide) ∙ ap (λ q. Emit e (reader_of l.strict q)) (opened_mapped (suc n) k (omega arith))) (record {
         moves = hands_more takes stops e (reader_of l.strict (presence_map g)) s s' (Ok tt) s' (reader_of l.strict (presence_map g)) taken (hands_waits takes stops (reader_of l.strict (presence_map g)) s' (map_waits l.strict g));
         supplied = supplied;
@@ -161,7 +161,7 @@ module _ {S : Type 0} (takes stops : S → EventData → S → Type 0) (set : Se
   turn_end r s s' m c h end outermost is same taken =
       let m' = record m { waiting = Map; cursor = c } in
       let rest : c ≡ resting m.cursor = is ∙ ap (λ f. record m.cursor { frames = f; map = []; used = 0; ends = 8 }) outermost ∙ ap (λ ns. record (resting m.cursor) { left = ns }) end in
-      let supplied = supplied_like set l m (record m { waiting = Map; cursor = resting m.cursor }) h.supplied (record { terms = refl; text = refl; joined = refl; widths = refl; identifier = refl; rests = refl; latest = refl }) h.supplied.counted in
+      let supplied = supplied_like set l m (record m { waiting = Map; cursor = resting m.cursor }) h.supplied (record { terms = refl; text = refl; joined = refl; identifier = refl; rests = refl; latest = refl }) h.supplied.counted in
       rw (rest, same) (record {
         moves = hands_last takes stops MessageEnd (slots_dictionary m.slots) s s' (Ok tt) taken;
         supplied = supplied;
@@ -307,11 +307,13 @@ module _ {S : Type 0} (takes stops : S → EventData → S → Type 0) (set : Se
         goes_on = can;
       })
 
--- The bits that the segment within a node uses, read where the widths are kept.
-pub width_at : (set : Set) (l : Limits) (m m' : Machine) (width node : ℕ) → IsSupplied set l m → m'.widths ≡ m.widths → node < length set.nodes → width ≡ slice_index_or m'.widths.nodes.items node width → width ≡ slice_index m.widths.nodes.items node
-width_at set l m m' width node h same within is =
-    let long = h.node_widths.long in
-    is ∙ ap (λ (w : Widths). slice_index_or w.nodes.items node width) same ∙ get_or_default_zero m.widths.nodes.items node width (omega (arith, long, within))
+-- The bits that the body of a node uses, by where it begins in the program.
+pub width_from : (set : Set) (node start width : ℕ) → node < length set.nodes → IsBodyOf set node start → ((x : Node) → slice_get set.nodes node ≡ Some x → width ≡ bits_of (body_in set (numbers_of x.shape)))
+    → width ≡ bits_of (body_in set (run_in set start))
+width_from set node start width within body bits = elim (slice_get_cases set.nodes node).1 [
+  | inl there ↦ bits there.0 there.2 ∙ ap (λ ns. bits_of (body_in set ns)) (sym (body there.0 there.2))
+  | inr past ↦ absurd (let beyond = past.0 in omega (arith, within, beyond))
+]
 
 -- A machine behind a field that gives no event of its own: past the next instruction, and behind the field's bit.
 pub record IsBehind (f : FieldData) (m m' : Machine) (counted : ℕ) : Type 0 where
@@ -338,7 +340,7 @@ pub can_turn_behind : (set : Set) (l : Limits) (f : FieldData) (m m' : Machine) 
 can_turn_behind set l f m m' counted h behind few =
     let past : CursorData = record m.cursor { left = drop 1 m.cursor.left; used = behind.used; ends = behind.ends } in
     subst (CanTurn set l) (sym behind.same)
-    (can_turn_past set l m (record m { cursor = past; counted = counted }) h (record { terms = refl; text = refl; joined = refl; widths = refl; identifier = refl; rests = refl; latest = refl }) few refl (record { same = refl }))
+    (can_turn_past set l m (record m { cursor = past; counted = counted }) h (record { terms = refl; text = refl; joined = refl; identifier = refl; rests = refl; latest = refl }) few refl (record { same = refl }))
 
 -- what is to be read of the next instruction, a sequence, once its length is known
 abbrev pub length_from : Set → Limits → Machine → ℕ → Option ScalarData → FieldData → List ℕ → Reader Dictionary

@@ -204,7 +204,7 @@ module _ {S : Type 0} (takes stops : S → EventData → S → Type 0) (set : Se
       by (Err c) on h = record {
         within = h.within;
         runs = h.runs;
-        supplied = supplied_like set l b a h.supplied (record { terms = refl; text = refl; joined = refl; widths = refl; identifier = refl; rests = refl; latest = refl }) h.supplied.counted;
+        supplied = supplied_like set l b a h.supplied (record { terms = refl; text = refl; joined = refl; identifier = refl; rests = refl; latest = refl }) h.supplied.counted;
         goes_on = tt;
         silent = h.silent;
         handed = h.handed;

@@ -11,7 +11,7 @@ use Rattle.fast_tree.specs.declared.instructions.FieldInstruction.{FieldInstruct
 use Rattle.fast_tree.specs.declared.instructions.Shape.TheVariants as Shape
 use Rattle.fast_tree.specs.declared.instructions.Node.{Node}
 use Rattle.fast_tree.specs.declared.instructions.Template.{Template}
-use Rattle.fast_tree.specs.device.Numbers.{AreBelow}
+use Rattle.fast_tree.specs.device.Numbers.{AreBelow, numbers_of}
 use Rattle.fast_tree.specs.meaning.Sizes.{body_depth, set_depth}
 use Rattle.fast_tree.specs.meaning.Tree.{Label, FieldData, identifier, uses_bit, field, parts, group, sequence, Body, step, bits_of, Tree}
 use Rattle.fast_template.specs.declared.sets.Templates.{Templates}
@@ -36,7 +36,7 @@ use Rattle.fast_program.specs.device.Starts.{IsStartOf}
 use Rattle.fast_cursor.specs.device.Runs.{run_at}
 use Rattle.fast_cursor.specs.device.Cursors.{ElementsData, FrameData, CursorData, bits_behind, bits_left, resting}
 use Rattle.fast_machine.specs.device.Serving.{ServesNodes}
-use Rattle.fast_tree.specs.device.Bodies.{body_among, AreNodeWidths, AreTemplateWidths}
+use Rattle.fast_tree.specs.device.Bodies.{body_among}
 use Rattle.fast_units.specs.device.Stages.{term_behind, IsStageOf}
 use Rattle.fast_units.specs.device.UnitFronts.{IsSent, IsAsciiFirst, IsNumberStage, IsBytesStage}
 use Rattle.fast_units.specs.declared.stages.Stage.{Stage}
@@ -69,6 +69,10 @@ body_in set ns = body_among set.nodes ns
 -- the nodes of the run that begins at a place in a set's program
 abbrev pub run_in : Set → ℕ → List ℕ
 run_in set start = run_at set.program start
+
+-- The run that begins at a place is the body of the node.
+abbrev pub IsBodyOf : Set → ℕ → ℕ → Type 0
+IsBodyOf set node start = (x : Node) → slice_get set.nodes node ≡ Some x → run_in set start ≡ numbers_of x.shape
 
 -- an open segment, by what is still to come of a sequence
 abbrev pub frame_by : Set → FrameData → Option ElementsData → Frame
@@ -202,8 +206,6 @@ pub record IsSupplied (set : Set) (l : Limits) (m : Machine) : Type 0 where
   pub least_text : 16 ≤ l.max_text
   pub text_room : m.text.capacity ≡ l.max_text
   pub joined_room : m.joined.capacity ≡ l.max_text
-  pub node_widths : AreNodeWidths set.nodes m.widths.nodes.items
-  pub template_widths : AreTemplateWidths set.nodes set.templates m.widths.templates.items
   pub depth : m.cursor.depth ≡ set_depth (tree_in set)
   pub program : m.cursor.ops ≡ set.program
   pub identifier : field_data m.identifier ≡ identifier

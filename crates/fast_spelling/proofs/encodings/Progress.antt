@@ -1,6 +1,6 @@
 -- One slot more, one element more, and a segment that is closed.
 use Rattle.std.proofs.Common.{◌≡◌, inl, inr, ℕ, suc, ◌+◌, ◌<◌, ◌≤◌, List, [], ◌∷◌, ◌++◌, length, take, drop, get_or, refl, ap, sym, subst, ◌∙◌, arith}
-use Rattle.std.specs.Prelude.{zero, Bool, true, nat_lt, Option, Some, None, option_map, slice_index, slice_get, Result, Ok, Err, OnOk}
+use Rattle.std.specs.Prelude.{zero, Bool, true, nat_lt, Option, Some, None, option_map, slice_index, Result, Ok, Err, OnOk}
 use Rattle.std.specs.declared.vec.Vec.{Vec}
 use Rattle.std.specs.declared.alloc.Global.{Global}
 use Rattle.std.proofs.lemmas.List.{append_assoc, append-nil, drop_all}
@@ -17,7 +17,7 @@ use Rattle.fast_tree.specs.device.Nodes.{instructions_from}
 use Rattle.fast_notation.proofs.nodes.Bodies.{next_instruction}
 use Rattle.fast_dict.specs.meaning.Dictionary.{Dictionary}
 use Rattle.fast_stream.specs.meaning.Messages.{with_slot}
-use Rattle.fast_tree.specs.device.Bodies.{body_among, AreNodeWidths}
+use Rattle.fast_tree.specs.device.Bodies.{body_among}
 use Rattle.fast_spelling.specs.declared.draft.Draft.{Draft}
 use Rattle.fast_spelling.specs.declared.faults.EncodeFault.{EncodeFault}
 use Rattle.fast_spelling.specs.declared.faults.EncodeFault.TheVariants.{E3}
@@ -251,6 +251,6 @@ rows_done l body rs i d a now b past h =
     let k = subst (λ (z : Elements). AreWritten l body (elements_data rs) d a z now b) (ap elements_data (drop_all i rs past)) h in
     (k.bytes, k.bits_are, k.bytes_are, rw (append-nil k.bytes) at (k.goes [] now (refl, refl)))
 
--- the width of a node's own segment tells whether it has a map
-pub has_width : (nodes : List Node) (widths : List ℕ) (n : ℕ) (v : Node) (s : Shape) → AreNodeWidths nodes widths → slice_get nodes n ≡ Some v → v.shape ≡ s → nat_lt 0 (slice_index widths n) ≡ has_map (body_among nodes (numbers_of s))
-has_width nodes widths n v s w found is = ap (nat_lt 0) (w.each n v found ∙ ap (λ (z : Shape). bits_of (body_among nodes (numbers_of z))) is)
+-- the bits of a node's own segment tell whether it has a map
+pub has_bits : (nodes : List Node) (bits : ℕ) (v : Node) (s : Shape) → bits ≡ bits_of (body_among nodes (numbers_of v.shape)) → v.shape ≡ s → nat_lt 0 bits ≡ has_map (body_among nodes (numbers_of s))
+has_bits nodes bits v s e is = ap (nat_lt 0) (e ∙ ap (λ (z : Shape). bits_of (body_among nodes (numbers_of z))) is)

@@ -1,7 +1,6 @@
 -- Slots, groups and sequences are written as they are encoded, and suit and fit.
 use Rattle.std.proofs.Common.{◌≡◌, ◌<◌, ◌≤◌, ◌+◌, ◌*◌, ℕ, List, length, refl, ap, sym, subst, ◌∙◌, arith}
-use Rattle.std.specs.Prelude.{◌^◌, nat_lt, true, Option, Some, None, option_map, Result, Ok, Err, OnOk, is_ok}
-use Rattle.std.proofs.lemmas.Grind.{get_or_default_zero}
+use Rattle.std.specs.Prelude.{◌^◌, true, Option, Some, None, option_map, Result, Ok, Err, OnOk, is_ok}
 use Rattle.fast_value.specs.declared.messages.Item.{Item}
 use Rattle.fast_value.specs.declared.settings.Limits.{Limits}
 use Rattle.fast_value.specs.meaning.Kinds.{ScalarData, U, text_of}
@@ -24,7 +23,7 @@ use Rattle.fast_spelling.specs.device.Fields.{Wrote}
 use Rattle.fast_spelling.specs.meaning.Suiting.{SuitsBody}
 use Rattle.fast_spelling.proofs.encodings.Instructions.{at_shape, usable_at, short_at, served, encodes_as, group_encodes, sequence_encodes}
 use Rattle.fast_spelling.proofs.limits.Depths.{item_depth, option_depth, slots_depth, rows_depth, option_depth_at, row_depth}
-use Rattle.fast_spelling.proofs.encodings.Progress.{written_start, more_at, all_written, IsClosed, ready_kept, keeps_on, keeps_all, row_more, rows_start, rows_done, has_width}
+use Rattle.fast_spelling.proofs.encodings.Progress.{written_start, more_at, all_written, IsClosed, ready_kept, keeps_on, keeps_all, row_more, rows_start, rows_done, has_bits}
 use Rattle.fast_spelling.proofs.limits.Suited.{one_suits, no_slot_suits, no_row_suits}
 use Rattle.fast_spelling.proofs.limits.Checked.{accepted_as, one_fits, one_total, one_row_right, one_row_fits, one_row_total, no_row_fits, no_row_total}
 use Rattle.fast_spelling.proofs.encodings.Sealed.{sealed}
@@ -266,12 +265,11 @@ try_item-try_segment-requires t c =
     let nodes = nodes_of c.args.plan.now.templates.now in
     let shape = Group c.in-Group-Group.optional c.in-Group-Group.body in
     let later = subst (λ (z : Shape). AreBetween c.args.node (length nodes) (numbers_of z)) c.in-Group-Group.is-0 c.node.ensures.body in
-    let has = has_width nodes c.args.plan.now.widths.items c.args.node c.node.result.now shape c.args.plan.now.widths_fit c.node.ensures.found c.in-Group-Group.is-0 in
-    let there : c.args.node < length c.args.plan.now.widths.items = let low = c.requires.node in let long = c.args.plan.now.widths_fit.long in omega (arith, low, long) in
+    let has = has_bits nodes c.segment_bits-has_map.result c.node.result.now shape (c.segment_bits-has_map.ensures c.node.result.now c.node.ensures.found) c.in-Group-Group.is-0 in
     let d : 4 * item_depth (item_data c.args.item.now) ≡ t = c.decreases in
     let deep : item_depth (item_data c.args.item.now) ≡ item_depth (group_item (slots_data c.in-Group-Group.slots.items)) = ap item_depth (ap item_data c.in-Group-Group.is-1 ∙ item_data-Group c.in-Group-Group.slots) in
     let smaller : 4 * slots_depth (slots_data c.deref-in-Group-Group.result.now) + 3 < t = rw c.deref-in-Group-Group.ensures.value (omega (arith, d, deep)) in
-    (smaller, (rw c.deref.ensures.value (ap (nat_lt 0) (c.index.ensures ∙ get_or_default_zero c.args.plan.now.widths.items c.args.node c.index.result.now there) ∙ has), (rw c.deref.ensures.value (λ k h. (later k h).1), c.requires.ready)))
+    (smaller, (rw c.deref.ensures.value has, (rw c.deref.ensures.value (λ k h. (later k h).1), c.requires.ready)))
 
 pub try_item-returns-else-is_err-clause-accepted : goal.try_item-returns-else-is_err-clause-accepted
 try_item-returns-else-is_err-clause-accepted t c = λ e.
@@ -344,13 +342,12 @@ try_item-try_segment-requires-in-loop-row t c =
     let nodes = nodes_of c.args.plan.now.templates.now in
     let shape = Sequence c.in-Sequence-Sequence.length c.in-Sequence-Sequence.body in
     let later = subst (λ (z : Shape). AreBetween c.args.node (length nodes) (numbers_of z)) c.in-Sequence-Sequence.is-0 c.node.ensures.body in
-    let has = has_width nodes c.args.plan.now.widths.items c.args.node c.node.result.now shape c.args.plan.now.widths_fit c.node.ensures.found c.in-Sequence-Sequence.is-0 in
-    let there : c.args.node < length c.args.plan.now.widths.items = let low = c.requires.node in let long = c.args.plan.now.widths_fit.long in omega (arith, low, long) in
+    let has = has_bits nodes c.segment_bits-has_map-in-Sequence-Sequence.result c.node.result.now shape (c.segment_bits-has_map-in-Sequence-Sequence.ensures c.node.result.now c.node.ensures.found) c.in-Sequence-Sequence.is-0 in
     let d : 4 * item_depth (item_data c.args.item.now) ≡ t = c.decreases in
     let deep : item_depth (item_data c.args.item.now) ≡ item_depth (sequence_item (elements_data c.in-Sequence-Sequence.rows.items)) = ap item_depth (ap item_data c.in-Sequence-Sequence.is-1 ∙ item_data-Sequence c.in-Sequence-Sequence.rows) in
     let own : slots_depth (slots_data c.row-item.result.items) ≤ rows_depth (elements_data c.in-Sequence-Sequence.rows.items) = rw c.deref-row-items.ensures.value at (row_depth c.deref-row-items.result.now c.loop-row.row-index c.row-item.result c.loop-row-test.true c.row-item.is) in
     let smaller : 4 * slots_depth (slots_data c.deref-in-loop-row-2.result.now) + 3 < t = rw c.deref-in-loop-row-2.ensures.value (omega (arith, d, deep, own)) in
-    (smaller, (rw c.deref-in-loop-row.ensures.value (ap (nat_lt 0) (c.index-in-Sequence-Sequence.ensures ∙ get_or_default_zero c.args.plan.now.widths.items c.args.node c.index-in-Sequence-Sequence.result.now there) ∙ has), (rw c.deref-in-loop-row.ensures.value (λ k h. (later k h).1), c.loop-row.invariant.ready)))
+    (smaller, (rw c.deref-in-loop-row.ensures.value has, (rw c.deref-in-loop-row.ensures.value (λ k h. (later k h).1), c.loop-row.invariant.ready)))
 
 pub try_item-loop-row-preserved : goal.try_item-loop-row-preserved
 try_item-loop-row-preserved t c =

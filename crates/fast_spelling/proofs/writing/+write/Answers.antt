@@ -27,7 +27,7 @@ use Rattle.fast_spelling.specs.meaning.Encoding.{EncodesField, EncodesBody, Enco
 use Rattle.fast_spelling.specs.device.Fields.{Wrote}
 use Rattle.fast_tree.specs.declared.instructions.Shape.{Shape}
 use Rattle.fast_tree.specs.device.Numbers.{numbers_of, AreBetween}
-use Rattle.fast_spelling.proofs.encodings.Progress.{written_start, more_at, refused_at, suits_more, fits_more, all_written, ready_kept, keeps_on, keeps_all, on_both, suits_here, fits_here, closed, unclosed, row_more, row_refused, row_right, row_fits, rows_start, rows_done, has_width}
+use Rattle.fast_spelling.proofs.encodings.Progress.{written_start, more_at, refused_at, suits_more, fits_more, all_written, ready_kept, keeps_on, keeps_all, on_both, suits_here, fits_here, closed, unclosed, row_more, row_refused, row_right, row_fits, rows_start, rows_done, has_bits}
 use Rattle.fast_spelling.proofs.writing.+write.Goals as goal
 use Rattle.fast_spelling.proofs.writing.+write.Goals.{write_body-in-None+in_ok-write_absent-in-None, write_body-in-Some+in_ok-write_item-in-Some}
 
@@ -151,11 +151,8 @@ write_item-write_body-requires t c =
       (
         rw c.deref.ensures.value (λ k h. (later k h).1),
         (
-          c.requires.widths,
-          (
-            c.requires.ready,
-            (rw (c.deref.ensures.value, c.deref-in-Group-Group.ensures.value) right, rw c.deref-in-Group-Group.ensures.value fits),
-          ),
+          c.requires.ready,
+          (rw (c.deref.ensures.value, c.deref-in-Group-Group.ensures.value) right, rw c.deref-in-Group-Group.ensures.value fits),
         ),
       ),
     )
@@ -264,11 +261,8 @@ write_item-write_body-requires-in-loop-row t c =
       (
         rw c.deref-in-loop-row.ensures.value (λ k h. (later k h).1),
         (
-          c.requires.widths,
-          (
-            inv.ready,
-            (rw (c.deref-in-loop-row.ensures.value, c.deref-in-loop-row-2.ensures.value) (row_right c.args.limits body c.deref-row-items.result.now c.loop-row.row-index c.row-item.result c.loop-row-test.true c.row-item.is inv.right).0, rw c.deref-in-loop-row-2.ensures.value (row_fits c.args.limits body c.deref-row-items.result.now c.loop-row.row-index c.row-item.result c.loop-row-test.true c.row-item.is inv.fits).0),
-          ),
+          inv.ready,
+          (rw (c.deref-in-loop-row.ensures.value, c.deref-in-loop-row-2.ensures.value) (row_right c.args.limits body c.deref-row-items.result.now c.loop-row.row-index c.row-item.result c.loop-row-test.true c.row-item.is inv.right).0, rw c.deref-in-loop-row-2.ensures.value (row_fits c.args.limits body c.deref-row-items.result.now c.loop-row.row-index c.row-item.result c.loop-row-test.true c.row-item.is inv.fits).0),
         ),
       ),
     )
@@ -321,13 +315,13 @@ write_item-returns-in_err-close-in-Sequence-Sequence-clause-err t c =
     let after = c.write_field-in-Sequence-Sequence.new in
     let whole = c.deref-row-items.ensures.value in
     let inv = c.loop-row.invariant in
-    let has = has_width nodes c.args.widths.now c.args.node v (Sequence c.in-Sequence-Sequence.length c.in-Sequence-Sequence.body) c.requires.widths c.node.ensures.found c.in-Sequence-Sequence.is-0 in
+    let has = has_bits nodes c.segment_bits-in-loop-row.result v (Sequence c.in-Sequence-Sequence.length c.in-Sequence-Sequence.body) (c.segment_bits-in-loop-row.ensures v c.node.ensures.found) c.in-Sequence-Sequence.is-0 in
     let wrote = rw (c.deref-in-loop-row.ensures.value, c.deref-in-loop-row-2.ensures.value) at c.in_ok-write_body-in-Sequence-Sequence.ensures.ok in
     let n = c.mark-mark-in-loop-row.ensures.bits ∙ c.loop-row.draft.bits.ok.0 in
     let p = err_from_is_err_and c.from_residual-in_err-close-in-Sequence-Sequence.result c.from_residual-in_err-close-in-Sequence-Sequence.ensures.1 in
     let g = c.in_err-close-in-Sequence-Sequence.field-0.0 in
     let Q = Refuses c.args.limits i c.args.ledger.now.now (Some (item_data c.args.item.now)) in
-    let h = told_at (λ (e : EncodeFault). (e ≡ E3) × (nat_lt 0 (slice_index c.args.widths.now c.args.node) ≡ true) × HaveNoMap (drop c.mark-mark-in-loop-row.result.bits c.write_body-in-loop-row.new.draft.bits.items)) Q g c.in_err-close-in-Sequence-Sequence.ensures.err
+    let h = told_at (λ (e : EncodeFault). (e ≡ E3) × (nat_lt 0 c.segment_bits-in-loop-row.result ≡ true) × HaveNoMap (drop c.mark-mark-in-loop-row.result.bits c.write_body-in-loop-row.new.draft.bits.items)) Q g c.in_err-close-in-Sequence-Sequence.ensures.err
     (λ r. refuses_as c.args.limits i j (Some (item_data c.args.item.now)) y c.args.ledger.now.now g here item (elements_refuse c.args.limits at f body rows c.args.ledger.now.now after.ledger.now c.args.draft.now after.draft g first
     (rw whole at (row_refused c.args.limits body c.deref-row-items.result.now c.loop-row.row-index c.row-item.result c.loop-row-test.true c.row-item.is after.ledger.now after.draft c.loop-row.ledger.now c.loop-row.draft g inv.written (unclosed c.args.limits body (slots_data c.row-item.result.items) c.loop-row.ledger.now c.write_body-in-loop-row.new.ledger.now c.loop-row.draft c.write_body-in-loop-row.new.draft _ _ g wrote has n r))))) in
     rw p.1 (subst (IsTold Q) (sym p.2) h)
@@ -402,7 +396,7 @@ write_item-returns-in_ok-write_body-in-Group-Group-clause-ok t c =
     let item : Some (item_data c.args.item.now) ≡ y = ap (λ (z : Item). Some (item_data z)) c.in-Group-Group.is-1 ∙ ap Some (item_data-Group c.in-Group-Group.slots) in
     let body = body_among nodes c.in-Group-Group.body.items in
     let vs = slots_data c.in-Group-Group.slots.items in
-    let has = has_width nodes c.args.widths.now c.args.node v (Group c.in-Group-Group.optional c.in-Group-Group.body) c.requires.widths c.node.ensures.found c.in-Group-Group.is-0 in
+    let has = has_bits nodes c.segment_bits.result v (Group c.in-Group-Group.optional c.in-Group-Group.body) (c.segment_bits.ensures v c.node.ensures.found) c.in-Group-Group.is-0 in
     let wrote = rw (c.deref.ensures.value, c.deref-in-Group-Group.ensures.value) at c.in_ok-write_body-in-Group-Group.ensures.ok in
     let m = c.mark-mark.ensures.bytes ∙ c.push_bit_if.new.self.bytes.ok.0 in
     let n = c.mark-mark.ensures.bits ∙ c.push_bit_if.new.self.bits.ok.0 in
@@ -423,7 +417,7 @@ write_item-returns-in_ok-write_body-in-Group-Group-clause-err t c =
     let item : Some (item_data c.args.item.now) ≡ y = ap (λ (z : Item). Some (item_data z)) c.in-Group-Group.is-1 ∙ ap Some (item_data-Group c.in-Group-Group.slots) in
     let body = body_among nodes c.in-Group-Group.body.items in
     let vs = slots_data c.in-Group-Group.slots.items in
-    let has = has_width nodes c.args.widths.now c.args.node v (Group c.in-Group-Group.optional c.in-Group-Group.body) c.requires.widths c.node.ensures.found c.in-Group-Group.is-0 in
+    let has = has_bits nodes c.segment_bits.result v (Group c.in-Group-Group.optional c.in-Group-Group.body) (c.segment_bits.ensures v c.node.ensures.found) c.in-Group-Group.is-0 in
     let wrote = rw (c.deref.ensures.value, c.deref-in-Group-Group.ensures.value) at c.in_ok-write_body-in-Group-Group.ensures.ok in
     let m = c.mark-mark.ensures.bytes ∙ c.push_bit_if.new.self.bytes.ok.0 in
     let n = c.mark-mark.ensures.bits ∙ c.push_bit_if.new.self.bits.ok.0 in
@@ -469,7 +463,7 @@ write_item-loop-row-preserved t c =
     let body = body_among nodes c.in-Sequence-Sequence.body.items in
     let inv = c.loop-row.invariant in
     let after = c.write_field-in-Sequence-Sequence.new in
-    let has = has_width nodes c.args.widths.now c.args.node v (Sequence c.in-Sequence-Sequence.length c.in-Sequence-Sequence.body) c.requires.widths c.node.ensures.found c.in-Sequence-Sequence.is-0 in
+    let has = has_bits nodes c.segment_bits-in-loop-row.result v (Sequence c.in-Sequence-Sequence.length c.in-Sequence-Sequence.body) (c.segment_bits-in-loop-row.ensures v c.node.ensures.found) c.in-Sequence-Sequence.is-0 in
     let wrote = rw (c.deref-in-loop-row.ensures.value, c.deref-in-loop-row-2.ensures.value) at c.in_ok-write_body-in-Sequence-Sequence.ensures.ok in
     let m = c.mark-mark-in-loop-row.ensures.bytes ∙ c.loop-row.draft.bytes.ok.0 in
     let n = c.mark-mark-in-loop-row.ensures.bits ∙ c.loop-row.draft.bits.ok.0 in
@@ -495,13 +489,10 @@ write_body-write_item-requires t c =
       (
         c.requires.nodes i inside,
         (
-          c.requires.widths,
+          c.loop-i.invariant.ready,
           (
-            c.loop-i.invariant.ready,
-            (
-              suits_here c.args.limits nodes c.args.body.now c.args.slots.now i (Some c.in-Some.item) inside c.loop-i-test.true slot c.loop-i.invariant.suits,
-              fits_here c.args.limits nodes c.args.body.now c.args.slots.now i (Some c.in-Some.item) inside c.loop-i-test.true slot c.loop-i.invariant.fits,
-            ),
+            suits_here c.args.limits nodes c.args.body.now c.args.slots.now i (Some c.in-Some.item) inside c.loop-i-test.true slot c.loop-i.invariant.suits,
+            fits_here c.args.limits nodes c.args.body.now c.args.slots.now i (Some c.in-Some.item) inside c.loop-i-test.true slot c.loop-i.invariant.fits,
           ),
         ),
       ),

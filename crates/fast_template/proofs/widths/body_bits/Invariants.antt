@@ -1,13 +1,12 @@
 use Rattle.std.proofs.Common.{◌≡◌, ◌≤◌, ◌+◌, ◌*◌}
 use Rattle.std.specs.Prelude.{drop}
 use Rattle.fast_tree.specs.meaning.Tree.{bits_of}
-use Rattle.fast_template.specs.meaning.Flat.{nodes_of}
 use Rattle.fast_tree.specs.device.Bodies.{body_among}
 use Rattle.fast_template.proofs.widths.body_bits.Given as goal
 
 -- the bits so far, and those of the nodes that are left
 abbrev pub invariant-loop-n : goal.invariant-loop-n
 invariant-loop-n l = record {
-  sum : l.bits + bits_of (body_among (nodes_of l.templates) (drop l.n-index l.body)) ≡ bits_of (body_among (nodes_of l.templates) l.body);
+  sum : l.bits + bits_of (body_among l.nodes (drop l.n-index l.body)) ≡ bits_of (body_among l.nodes l.body);
   few : l.bits ≤ 2 * l.n-index;
 }

@@ -89,7 +89,7 @@ ruled c = rw c.commit.ensures.now c.in_default-written.ensures.ok
 encoded : (c : goal.After-commit) → IsEncoded (before c.self.inside.plan.templates.now c.self.inside.plan.limits c.self.inside.work.ledger) (message_data c.args.message.now) c.args.out.now.items (before c.self.inside.plan.templates.now c.self.inside.plan.limits c.commit.new.self) c.extend_from_slice.new.self.items
 encoded c = record {
   bytes = c.write_message-written.new.draft.bytes.items;
-  appended = c.extend_from_slice.ensures.items ∙ ap (λ (b : Bool). if b then c.args.out.now.items ++ c.deref-5.result.now else c.args.out.now.items) c.if-is_err.ensures.negation ∙ ap (λ (z : List ℕ). c.args.out.now.items ++ z) c.deref-5.ensures.value;
+  appended = c.extend_from_slice.ensures.items ∙ ap (λ (b : Bool). if b then c.args.out.now.items ++ c.deref-4.result.now else c.args.out.now.items) c.if-is_err.ensures.negation ∙ ap (λ (z : List ℕ). c.args.out.now.items ++ z) c.deref-4.ensures.value;
   suits = all_suit c;
   fits = all_fit c;
   ruled = ruled c;

@@ -8,6 +8,7 @@ use Rattle.fast_cursor.specs.device.Places.{at_place}
 use Rattle.fast_machine.specs.device.Positions.{set_of, run_in}
 use Rattle.fast_machine.proofs.arms.Back.{went_stopped}
 use Rattle.fast_machine.proofs.arms.Lengths.{can_behind, stopped_step, elements_step}
+use Rattle.fast_machine.proofs.steps.SegmentTurns.{width_from}
 use Rattle.fast_machine.proofs.machine.Machine.elements_arm.Goals as goal
 
 pub returns-in-Err : goal.returns-in-Err
@@ -54,3 +55,6 @@ returns g c =
           (elements_step takes stops set l m from c.args.node f (run_in set c.args.start) (Some (U claimed)) c.args.bytes h c.after-self.result c.after-self.ensures c.advance.new.self is claimed c.args.count refl fits c.requires.total
           c.args.sink.now c.hand.new.sink begun.result begun.new.sink begun.new.self c.in_default.ensures begun.ensures.turn begun.ensures.turns);
     }
+
+pub begin_element-begun-requires-clause-width : goal.begin_element-begun-requires-clause-width
+begin_element-begun-requires-clause-width g c = width_from (set_of c.args.templates.now) c.args.node c.args.start c.segment_bits-width.result c.requires.node c.requires.body c.segment_bits-width.ensures

@@ -1,6 +1,6 @@
 -- The group's event, and the cursor in the group.
 use Rattle.std.proofs.Common.{refl, sym, ap, subst, ◌∙◌}
-use Rattle.std.specs.Prelude.{◌≡◌, List, drop, None, slice_index}
+use Rattle.std.specs.Prelude.{List, drop, None}
 use Rattle.fast_value.specs.meaning.Limits.{bounds}
 use Rattle.fast_dict.specs.meaning.Slots.{slots_dictionary}
 use Rattle.fast_program.specs.declared.ops.Op.{Op}
@@ -14,7 +14,7 @@ use Rattle.fast_machine.specs.device.Passing.{group_from}
 use Rattle.fast_machine.specs.device.Positions.{set_of, run_in}
 use Rattle.fast_machine.proofs.steps.FieldTurns.{can_turn_past}
 use Rattle.fast_machine.proofs.steps.Opened.{opened_waits, opened_goes, awaiting_turns, group_opened}
-use Rattle.fast_machine.proofs.steps.SegmentTurns.{like_at, turn_in, width_at}
+use Rattle.fast_machine.proofs.steps.SegmentTurns.{like_at, turn_in, width_from}
 use Rattle.fast_machine.proofs.machine.Machine.enter_group.Goals as goal
 
 pub returns-clause-turn : goal.returns-clause-turn
@@ -24,9 +24,9 @@ returns-clause-turn g c =
     let l = c.args.limits in
     let past : CursorData = record m.cursor { left = drop 1 m.cursor.left } in
     let m1 : Machine = record m { cursor = past } in
-    let w = c.index-width.result.now in
+    let w = c.segment_bits-width.result in
     let behind : Machine = record m { cursor = c.open_group.new.self } in
-    let width : w ≡ slice_index m.widths.nodes.items c.args.node = width_at set l m m w c.args.node c.requires.turn.supplied refl c.requires.node c.index-width.ensures in
+    let width = width_from set c.args.node c.args.start w c.requires.node c.requires.body c.segment_bits-width.ensures in
     let can = can_turn_past set l m m1 c.requires.turn (like_at m past refl) c.requires.turn.supplied.counted refl (record { same = refl }) in
     turn_in g.S.Sink.takes g.S.Sink.stops set l m1 (awaiting w behind) c.open_group.new.self (opened_turn w) w None (run_in (set_of c.args.templates.now) c.args.start)
     (reader_of l.strict (group_from set (bounds l) c.args.node (run_in (set_of c.args.templates.now) c.args.start) (slots_dictionary m.slots) m.counted m.cursor))
@@ -34,13 +34,13 @@ returns-clause-turn g c =
     (opened_waits w behind) (opened_goes w behind) (c.open_group.ensures
     ∙ ap (λ (ops : List Op). entered c.advance.new.self None (run_at ops c.args.start)) (ap (λ (x : CursorData). x.ops) c.advance.ensures ∙ c.requires.turn.supplied.program)
     ∙ ap (λ x. entered x None (run_in (set_of c.args.templates.now) c.args.start)) c.advance.ensures)
-    can (width ∙ c.requires.width) c.requires.below c.requires.nested tt refl c.in_ok-hand.ensures
+    can width c.requires.below c.requires.nested tt refl c.in_ok-hand.ensures
 
 pub returns-clause-turns : goal.returns-clause-turns
 returns-clause-turns g c way n optional (at, number, some, next) h =
     let m = c.args.self.now in
     let set = set_of c.args.templates.now in
-    awaiting_turns way set c.args.limits n (record m { cursor = c.open_group.new.self }) c.index-width.result.now
+    awaiting_turns way set c.args.limits n (record m { cursor = c.open_group.new.self }) c.segment_bits-width.result
     (group_opened way set c.args.limits n m.turns.count m.counted m.cursor c.open_group.new.self at optional (run_in (set_of c.args.templates.now) c.args.start) next (c.open_group.ensures
     ∙ ap (λ (ops : List Op). entered c.advance.new.self None (run_at ops c.args.start)) (ap (λ (x : CursorData). x.ops) c.advance.ensures ∙ c.requires.turn.supplied.program)
     ∙ ap (λ x. entered x None (run_in (set_of c.args.templates.now) c.args.start)) c.advance.ensures) h)

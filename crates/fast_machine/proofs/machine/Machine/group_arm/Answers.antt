@@ -2,9 +2,8 @@
 use Rattle.std.proofs.Common.{refl, sym, subst, ap, ◌∙◌}
 use Rattle.std.specs.Prelude.{ℕ, List, length}
 use Rattle.fast_tree.specs.device.Numbers.{numbers_of, AreBelow}
-use Rattle.fast_tree.specs.meaning.Tree.{bits_of}
 use Rattle.fast_cursor.specs.device.Places.{at_place}
-use Rattle.fast_machine.specs.device.Positions.{set_of, run_in, body_in, IsAtGroup}
+use Rattle.fast_machine.specs.device.Positions.{set_of, run_in, IsAtGroup}
 use Rattle.fast_machine.proofs.arms.Groups.{group_here, group_always, group_by_bit, absent_group}
 use Rattle.fast_machine.proofs.machine.Machine.group_arm.Goals as goal
 
@@ -68,11 +67,6 @@ returns g c =
 pub enter_arm-requires-clause-run : goal.enter_arm-requires-clause-run
 enter_arm-requires-clause-run g c = (c.body_start-start.ensures c.node.result.now c.node.ensures.found).run
 
-pub enter_arm-requires-clause-width : goal.enter_arm-requires-clause-width
-enter_arm-requires-clause-width g c =
-    let begins = (c.body_start-start.ensures c.node.result.now c.node.ensures.found) in
-    c.requires.spot.can.supplied.node_widths.each c.from-node.result c.node.result.now c.node.ensures.found ∙ ap (λ (ns : List ℕ). bits_of (body_in (set_of c.args.templates.now) ns)) (sym begins.nodes)
-
 pub enter_arm-requires-clause-below : goal.enter_arm-requires-clause-below
 enter_arm-requires-clause-below g c =
     let begins = (c.body_start-start.ensures c.node.result.now c.node.ensures.found) in
@@ -80,11 +74,6 @@ enter_arm-requires-clause-below g c =
 
 pub enter_arm-requires-2-clause-run : goal.enter_arm-requires-2-clause-run
 enter_arm-requires-2-clause-run g c = (c.body_start-start.ensures c.node.result.now c.node.ensures.found).run
-
-pub enter_arm-requires-2-clause-width : goal.enter_arm-requires-2-clause-width
-enter_arm-requires-2-clause-width g c =
-    let begins = (c.body_start-start.ensures c.node.result.now c.node.ensures.found) in
-    c.requires.spot.can.supplied.node_widths.each c.from-node.result c.node.result.now c.node.ensures.found ∙ ap (λ (ns : List ℕ). bits_of (body_in (set_of c.args.templates.now) ns)) (sym begins.nodes)
 
 pub enter_arm-requires-2-clause-below : goal.enter_arm-requires-2-clause-below
 enter_arm-requires-2-clause-below g c =

@@ -1,7 +1,6 @@
-use Rattle.std.proofs.Common.{◌≡◌, ◌<◌, ap, ◌∙◌, sym, arith, length}
+use Rattle.std.proofs.Common.{◌≡◌, ap, ◌∙◌, sym, length}
 use Rattle.std.specs.Prelude.{true, false, ◌&&◌, not, nat_le, Option}
 use Rattle.std.proofs.lemmas.Option.{slice_get_within}
-use Rattle.std.proofs.lemmas.Grind.{get_or_default_zero}
 use Rattle.fast_wire.specs.meaning.Maps.{bytes_for}
 use Rattle.fast_value.specs.meaning.Kinds.{ScalarData}
 use Rattle.fast_value.specs.meaning.Limits.{bounds}
@@ -34,15 +33,10 @@ returns-in_default-clause-turn g c =
     (named_none set v (λ id j t e. c.in_default.ensures.none id j t (is ∙ e))))
     c.requires.behind.supplied
 
-pub index-width-requires : goal.index-width-requires
-index-width-requires g c =
+pub message_bits-width-requires : goal.message_bits-width-requires
+message_bits-width-requires g c =
     let (id, is, w) = c.in-Some.ensures.some in
-    let t = w.template in
-    let found = w.found in
-    let within : c.in-Some.start.now.number < length (set_of c.args.templates.now).templates = slice_get_within (set_of c.args.templates.now).templates c.in-Some.start.now.number t found in
-    let long = c.requires.behind.supplied.template_widths.long in
-    let ok = c.args.self.now.widths.templates.ok.0 in
-    omega (arith, within, long, ok)
+    slice_get_within (set_of c.args.templates.now).templates c.in-Some.start.now.number w.template w.found
 
 pub returns-then-is_too_wide-clause-turn : goal.returns-then-is_too_wide-clause-turn
 returns-then-is_too_wide-clause-turn g c =
@@ -50,7 +44,6 @@ returns-then-is_too_wide-clause-turn g c =
     let d = slots_dictionary c.args.self.now.slots in
     let strict = c.args.limits.strict in
     let m = c.args.self.now.cursor.map in
-    let widths = c.args.self.now.widths.templates.items in
     let st = state_past identifier d 0 c.args.self.now.cursor in
     let (id, is, w) = c.in-Some.ensures.some in
     let t = w.template in
@@ -60,13 +53,9 @@ returns-then-is_too_wide-clause-turn g c =
     let same : c.id_of.result ≡ id_of v =
     c.id_of.ensures ∙ ap id_of c.value_at-value.ensures ∙ ap (λ f. id_of (value_at c.args.source f d c.as_slice-text.result.now c.args.piece.now)) c.requires.behind.supplied.identifier
     ∙ ap (λ w. id_of (value_at c.args.source identifier d w c.args.piece.now)) c.as_slice-text.ensures in
-    let within : c.in-Some.start.now.number < length set.templates = slice_get_within set.templates c.in-Some.start.now.number t found in
-    let long = c.requires.behind.supplied.template_widths.long in
-    let there : c.in-Some.start.now.number < length widths = omega (arith, within, long) in
-    let width : c.index-width.result.now ≡ message_bits named =
-    c.index-width.ensures ∙ get_or_default_zero widths c.in-Some.start.now.number c.index-width.result.now there ∙ c.requires.behind.supplied.template_widths.each c.in-Some.start.now.number t found in
+    let width : c.message_bits-width.result ≡ message_bits named = c.message_bits-width.ensures t found in
     let wide : (strict && not (nat_le (length m) (bytes_for (message_bits named)))) ≡ true =
-    ap (λ n. strict && not (nat_le (length m) (bytes_for n))) (sym width) ∙ ap (λ n. strict && not (nat_le n (bytes_for c.index-width.result.now))) (sym c.map_len.ensures) ∙ sym c.is_too_wide.ensures ∙ c.if-is_too_wide.true in
+    ap (λ n. strict && not (nat_le (length m) (bytes_for n))) (sym width) ∙ ap (λ n. strict && not (nat_le n (bytes_for c.message_bits-width.result))) (sym c.map_len.ensures) ∙ sym c.is_too_wide.ensures ∙ c.if-is_too_wide.true in
     turn_fault g.S.Sink.takes g.S.Sink.stops set c.args.limits _ c.args.sink.now R8 c.args.self.now
     (behind_known set strict (bounds c.args.limits) m v st c.in-Some.start.now.number t (named_first set v id c.in-Some.start.now.number t (sym same ∙ is) found w.own w.first)
     ∙ narrow-wide strict (message_bits named) m (message_of_then (bounds c.args.limits) c.in-Some.start.now.number named st) wide)
@@ -83,7 +72,6 @@ returns-clause-turn g c =
     let d = slots_dictionary c.args.self.now.slots in
     let strict = c.args.limits.strict in
     let m = c.args.self.now.cursor.map in
-    let widths = c.args.self.now.widths.templates.items in
     let st = state_past identifier d 0 c.args.self.now.cursor in
     let (id, is, w) = c.in-Some.ensures.some in
     let t = w.template in
@@ -93,13 +81,9 @@ returns-clause-turn g c =
     let same : c.id_of.result ≡ id_of v =
     c.id_of.ensures ∙ ap id_of c.value_at-value.ensures ∙ ap (λ f. id_of (value_at c.args.source f d c.as_slice-text.result.now c.args.piece.now)) c.requires.behind.supplied.identifier
     ∙ ap (λ w. id_of (value_at c.args.source identifier d w c.args.piece.now)) c.as_slice-text.ensures in
-    let within : c.in-Some.start.now.number < length set.templates = slice_get_within set.templates c.in-Some.start.now.number t found in
-    let long = c.requires.behind.supplied.template_widths.long in
-    let there : c.in-Some.start.now.number < length widths = omega (arith, within, long) in
-    let width : c.index-width.result.now ≡ message_bits named =
-    c.index-width.ensures ∙ get_or_default_zero widths c.in-Some.start.now.number c.index-width.result.now there ∙ c.requires.behind.supplied.template_widths.each c.in-Some.start.now.number t found in
+    let width : c.message_bits-width.result ≡ message_bits named = c.message_bits-width.ensures t found in
     let fits : (strict && not (nat_le (length m) (bytes_for (message_bits named)))) ≡ false =
-    ap (λ n. strict && not (nat_le (length m) (bytes_for n))) (sym width) ∙ ap (λ n. strict && not (nat_le n (bytes_for c.index-width.result.now))) (sym c.map_len.ensures) ∙ sym c.is_too_wide.ensures ∙ c.if-is_too_wide.false in
+    ap (λ n. strict && not (nat_le (length m) (bytes_for n))) (sym width) ∙ ap (λ n. strict && not (nat_le n (bytes_for c.message_bits-width.result))) (sym c.map_len.ensures) ∙ sym c.is_too_wide.ensures ∙ c.if-is_too_wide.false in
     turn_as g.S.Sink.takes g.S.Sink.stops set c.args.limits _ _ c.args.sink.now c.start_message.result c.start_message.new.sink c.start_message.new.self
     (behind_known set strict (bounds c.args.limits) m v st c.in-Some.start.now.number t (named_first set v id c.in-Some.start.now.number t (sym same ∙ is) found w.own w.first)
     ∙ narrow-fits strict (message_bits named) m (message_of_then (bounds c.args.limits) c.in-Some.start.now.number named st) fits)

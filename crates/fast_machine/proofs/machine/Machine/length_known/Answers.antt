@@ -13,7 +13,7 @@ use Rattle.fast_units.specs.device.Settling.{value_at}
 use Rattle.fast_machine.specs.device.Positions.{set_of, run_in}
 use Rattle.fast_machine.proofs.steps.FieldTurns.{entry_here, turn_silent}
 use Rattle.fast_units.proofs.LastUnits.{again}
-use Rattle.fast_machine.proofs.steps.SegmentTurns.{IsBehind, behind_field, counted_still, can_turn_behind, length_from, length_absent, elements_of, length_within, turn_halt, turn_more}
+use Rattle.fast_machine.proofs.steps.SegmentTurns.{IsBehind, behind_field, counted_still, can_turn_behind, length_from, length_absent, elements_of, length_within, turn_halt, turn_more, width_from}
 use Rattle.fast_machine.proofs.steps.TurnCounts.{length_passed, claim_within}
 use Rattle.fast_machine.proofs.machine.Machine.length_known.Goals as goal
 
@@ -95,3 +95,6 @@ returns-in_ok-hand-in-Ok-clause-turns g c way k h =
     (claim_within c.args.limits mid.counted c.unsigned_abs.result n (sym c.in-Ok.ensures.count))
     (ap (λ (x : CursorData). x.left) c.advance.ensures ∙ ap (λ (x : Machine). drop 1 x.cursor.left) c.use_bit_of.ensures.same)
     (ap (λ (x : CursorData). x.frames) c.advance.ensures ∙ ap (λ (x : Machine). x.cursor.frames) c.use_bit_of.ensures.same) h)
+
+pub next_element-requires-clause-width : goal.next_element-requires-clause-width
+next_element-requires-clause-width g c = width_from (set_of c.args.templates.now) c.args.node c.args.start c.segment_bits-width.result c.requires.node c.requires.body c.segment_bits-width.ensures

@@ -44,7 +44,7 @@ returns-then-bit-clause-turn g c =
     let r : Reader Dictionary = reader_of strict (behind_map set l d m) in
     let judged = map_judged strict m (λ w. reader_of strict (behind_map set l d w)) long in
     let waiting : Machine = record c.args.self.now { waiting = Identifier } in
-    let supplied : IsSupplied set c.args.limits waiting = supplied_like set c.args.limits c.args.self.now waiting c.requires.behind.supplied (record { terms = refl; text = refl; joined = refl; widths = refl; identifier = refl; rests = refl; latest = refl }) c.requires.behind.supplied.counted in
+    let supplied : IsSupplied set c.args.limits waiting = supplied_like set c.args.limits c.args.self.now waiting c.requires.behind.supplied (record { terms = refl; text = refl; joined = refl; identifier = refl; rests = refl; latest = refl }) c.requires.behind.supplied.counted in
     turn_waits g.S.Sink.takes g.S.Sink.stops set c.args.limits _ c.args.sink.now waiting (judged ∙ ap (after_bytes r) (sym c.requires.behind.unused))
     (subst Waits (sym judged) (field_sent_waits strict l identifier (begin d (bits m)) (message_behind_then (tree_in set) l m) (identifier_sent (begin d (bits m)) bit)))
     (ready_at set c.args.limits waiting Identifier supplied refl (c.requires.behind.map, bit, c.requires.behind.outermost))

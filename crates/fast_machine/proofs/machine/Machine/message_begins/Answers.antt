@@ -40,7 +40,7 @@ returns-in-Err-clause-turn g c t found =
     turn_halt g.S.Sink.takes g.S.Sink.stops set l (reader_of l.strict (message_from set (bounds l) c.args.start.now.number t (slots_dictionary m.slots) (take 1 rest))) _ (MessageStart c.args.start.now.number) c.args.sink.now SinkStopped c.hand.new.sink x
     (ap (reader_of l.strict) (begin_message (bounds l) c.args.start.now.number (template_data (instructions_from 0 set.nodes) t) (state_past identifier (slots_dictionary m.slots) 0 (mapped_by m rest).cursor)))
     (refl, c.in-Err.ensures.1)
-    (supplied_like set l (mapped_by m rest) x c.requires.behind.supplied (record { terms = refl; text = refl; joined = refl; widths = refl; identifier = refl; rests = refl; latest = refl }) c.requires.behind.supplied.counted)
+    (supplied_like set l (mapped_by m rest) x c.requires.behind.supplied (record { terms = refl; text = refl; joined = refl; identifier = refl; rests = refl; latest = refl }) c.requires.behind.supplied.counted)
 
 pub begin_message-requires-clause-run : goal.begin_message-requires-clause-run
 begin_message-requires-clause-run g c =

@@ -47,4 +47,4 @@ returns-clause-supplied c =
     let known : Machine = record m { latest = Some c.in_ok-start.start } in
     let supplied = supplied_latest set l m (Some c.in_ok-start.start) c.requires.supplied (start_in set c.in_ok-id.id c.in_ok-start.start.now c.in_ok-start.ensures.some) in
     supplied_like set l known (record known { slots = c.set_number.new.self }) supplied
-    (record { terms = c.set_number.ensures.same; text = refl; joined = refl; widths = refl; identifier = refl; rests = refl; latest = refl }) c.requires.supplied.counted
+    (record { terms = c.set_number.ensures.same; text = refl; joined = refl; identifier = refl; rests = refl; latest = refl }) c.requires.supplied.counted
