@@ -17,7 +17,7 @@ use crate::quick_units::UnitTaken;
 use crate::taking::walk_to;
 use crate::turns::Turns;
 use fast_dict::Entry;
-use fast_program::{NO_ID, Start};
+use fast_program::Start;
 use fast_stream::Sink;
 use fast_template::Templates;
 use fast_value::Limits;
@@ -68,7 +68,7 @@ impl<'t> Machine<'t> {
             return None;
         };
         let start = self.latest?;
-        if held == NO_ID || start.id != held {
+        if start.id != held {
             return None;
         }
         Some(start)

@@ -45,11 +45,6 @@ kept_start ns old new e s t h = record { body = e.kept s.at t.body.items h.body;
 pub kept_node : (ns : List Node) (old new : List Op) → Extends ns old new → (at : ℕ) (x : Node) → BeginsNode old at x → BeginsNode new at x
 kept_node ns old new e at x h = e.kept at (numbers_of x.shape) h
 
--- the identifier that a start tells, where it is not the number for none
-pub told_id : (o : Option ℕ) (n : ℕ) → n ≡ id_number o → n ≢ id_number None → o ≡ Some n
-told_id None n is some = absurd (some is)
-told_id (Some id) n is some = ap Some (sym is)
-
 -- there are as many
 pub as_many_starts : {S X : Type 0} (Is : List Op → S → X → Type 0) (ops : List Op) (starts : List S) (xs : List X) → AreStarts Is ops starts xs → length starts ≡ length xs
 as_many_starts Is ops [] [] h = refl

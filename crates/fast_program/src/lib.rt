@@ -9,4 +9,4 @@ pub mod starts;
 pub use codes::Code;
 pub use ops::{Op, ops_of};
 pub use programs::Program;
-pub use starts::{NO_ID, Start};
+pub use starts::Start;

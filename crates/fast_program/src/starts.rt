@@ -6,12 +6,12 @@ ghost use Rattle.fast_program.specs.device.Starts.{id_number};
 use fast_tree::Template;
 
 /// What stands for the identifier of a template that has none.
-pub const NO_ID: u64 = u64::MAX;
+const NO_ID: u64 = u64::MAX;
 
 /// What has to be known of a template where its message starts, in one record.
 #[derive(Clone, Copy, Debug)]
 pub struct Start {
-    /// The template identifier, or [`NO_ID`].
+    /// The template identifier, or the greatest of 64 bits for none.
     pub id: u64,
     /// Where its body begins.
     pub at: usize,

@@ -1,12 +1,11 @@
 -- Where the messages of a template start that has an identifier.
-use Rattle.std.proofs.Common.{sym, ◌∙◌, subst, arith}
+use Rattle.std.proofs.Common.{sym, ap, ◌∙◌, subst, arith}
 use Rattle.std.specs.Prelude.{◌≡◌, ◌≢◌, ℕ, ◌<◌, slice_get, Option, Some, IfSome}
 use Rattle.std.specs.Borrow.{Bor}
 use Rattle.fast_value.specs.declared.settings.Limits.{Limits}
 use Rattle.fast_tree.specs.declared.instructions.Template.{Template}
 use Rattle.fast_program.specs.declared.starts.Start.{Start}
-use Rattle.fast_program.specs.device.Starts.{IsStartOf}
-use Rattle.fast_program.proofs.StartLists.{told_id}
+use Rattle.fast_program.specs.device.Starts.{id_number, IsStartOf}
 use Rattle.fast_template.specs.declared.sets.Templates.{Templates}
 use Rattle.fast_machine.specs.declared.machine.Machine.{Machine}
 use Rattle.fast_machine.specs.device.Positions.{Set, set_of, IsStartIn, IsSupplied}
@@ -17,9 +16,9 @@ pub latest_in : (set : Set) (latest : Option (Bor Start)) (s : Bor Start) → la
 latest_in set latest s is h = subst (λ (o : Option (Bor Start)). IfSome o (λ r. IsStartIn set r.now)) is h
 
 -- The identifiers of a set are distinct, so a start that tells the identifier is that of the first template with it.
-pub start_with : (ts : Templates) (s : Start) (id : ℕ) → IsStartIn (set_of ts) s → s.id ≡ id → id ≢ 18446744073709551615 → IsStartWith (set_of ts) id s
-start_with ts s id (t, found, is) same some =
-    let own : t.id ≡ Some id = told_id t.id id (sym same ∙ is.id) some in
+pub start_with : (ts : Templates) (s : Start) (id : ℕ) → IsStartIn (set_of ts) s → s.id ≡ id → IsStartWith (set_of ts) id s
+start_with ts s id (t, found, is, named, its) same =
+    let own : t.id ≡ Some id = its ∙ ap Some (ap id_number (sym its) ∙ sym is.id ∙ same) in
     record {
       template = t;
       found = found;
@@ -44,7 +43,7 @@ start_numbered set id i s t u number there is found own first =
 
 -- A start with an identifier is one of the set.
 pub start_in : (set : Set) (id : ℕ) (s : Start) → IsStartWith set id s → IsStartIn set s
-start_in set id s w = (w.template, w.found, w.is)
+start_in set id s w = (w.template, w.found, w.is, id, w.own)
 
 -- With another start that it knows a machine has all that it needs.
 pub supplied_latest : (set : Set) (l : Limits) (m : Machine) (latest : Option (Bor Start)) → IsSupplied set l m → IfSome latest (λ s. IsStartIn set s.now) → IsSupplied set l (record m { latest = latest })
@@ -56,8 +55,6 @@ supplied_latest set l m latest h known = record {
   least_text = h.least_text;
   text_room = h.text_room;
   joined_room = h.joined_room;
-  node_widths = h.node_widths;
-  template_widths = h.template_widths;
   depth = h.depth;
   program = h.program;
   identifier = h.identifier;

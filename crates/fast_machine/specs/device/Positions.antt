@@ -193,9 +193,9 @@ pub record IsPlaced (set : Set) (c : CursorData) : Type 0 where
   pub nested : length c.frames + body_depth (body_in set c.left) ≤ c.depth
   pub frames : AreFramesFit set c.depth c.frames
 
--- The start is that of the set's template with its number.
+-- The start is that of the set's template with its number, which has an identifier.
 abbrev pub IsStartIn : Set → Start → Type 0
-IsStartIn set s = (t : Template) × (slice_get set.templates s.number ≡ Some t) × IsStartOf set.program s t
+IsStartIn set s = (t : Template) × (slice_get set.templates s.number ≡ Some t) × IsStartOf set.program s t × (id : ℕ) × (t.id ≡ Some id)
 
 -- What a machine is made with, and keeps.
 pub record IsSupplied (set : Set) (l : Limits) (m : Machine) : Type 0 where
