@@ -12,9 +12,9 @@ ghost use Rattle.fast_machine.specs.device.Positions.{set_of, IsReady, IsStartIn
 ghost use Rattle.fast_machine.specs.device.Starts.{IsMessageAhead, IsStartWith};
 ghost use Rattle.fast_machine.specs.device.TurnsLeft.{Way, HasTurns, HasTurnsBehind};
 
+use crate::heads::walk_to;
 use crate::machine::{Machine, Turn, Waiting};
 use crate::quick_units::UnitTaken;
-use crate::taking::walk_to;
 use crate::turns::Turns;
 use fast_dict::Entry;
 use fast_program::Start;

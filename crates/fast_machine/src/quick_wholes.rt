@@ -56,19 +56,27 @@ fn integer_item(
     match kind {
         Kind::UInt32 => {
             let top = 4_294_967_295;
-            unsigned_item(slots, field, kind, optional, operator, rest, entity, strict, top)
+            unsigned_item(
+                slots, field, kind, optional, operator, rest, entity, strict, top,
+            )
         }
         Kind::UInt64 => {
             let top = u64::MAX;
-            unsigned_item(slots, field, kind, optional, operator, rest, entity, strict, top)
+            unsigned_item(
+                slots, field, kind, optional, operator, rest, entity, strict, top,
+            )
         }
         Kind::Int32 => {
             let (low, top) = (-2_147_483_648, 2_147_483_647);
-            signed_item(slots, field, kind, optional, operator, rest, entity, strict, low, top)
+            signed_item(
+                slots, field, kind, optional, operator, rest, entity, strict, low, top,
+            )
         }
         Kind::Int64 => {
             let (low, top) = (-9_223_372_036_854_775_808, 9_223_372_036_854_775_807);
-            signed_item(slots, field, kind, optional, operator, rest, entity, strict, low, top)
+            signed_item(
+                slots, field, kind, optional, operator, rest, entity, strict, low, top,
+            )
         }
         Kind::Decimal | Kind::Ascii | Kind::Unicode | Kind::Bytes => None,
     }

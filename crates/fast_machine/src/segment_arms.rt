@@ -28,10 +28,11 @@ ghost use Rattle.fast_machine.specs.device.TurnsLeft.{Way, most_by, HasTurnsBehi
 ghost use Rattle.fast_machine.specs.declared.machine.Machine.{Machine};
 ghost use Rattle.fast_machine.specs.declared.spot.Spot.{Spot};
 
+use crate::heads::{is_overlong, is_too_wide, reset_if};
 use crate::machine::{Machine, Waiting};
-use crate::settling::{count_within, hand};
+use crate::sequence_turns::count_within;
+use crate::settling::hand;
 use crate::spot::{Spot, Went};
-use crate::taking::{is_overlong, is_too_wide, reset_if};
 use crate::turns::Turns;
 use fast_program::{Op, Start};
 use fast_stream::{Event, FaultCode, Sink};

@@ -1,6 +1,6 @@
 use Rattle.fast_machine.specs.device.Positions.{set_of}
 use Rattle.fast_machine.proofs.machines.KnownStarts.{start_numbered}
-use Rattle.fast_machine.proofs.taking.template_of.Goals as goal
+use Rattle.fast_machine.proofs.heads.template_of.Goals as goal
 
 pub returns-then-id-from-clause-some : goal.returns-then-id-from-clause-some
 returns-then-id-from-clause-some c =

@@ -1,7 +1,7 @@
 use Rattle.std.proofs.Common.{refl, ◌<◌, arith, length}
 use Rattle.std.proofs.lemmas.Option.{slice_get_within}
 use Rattle.fast_template.specs.meaning.Flat.{templates_of}
-use Rattle.fast_machine.proofs.taking.walk_to.Goals as goal
+use Rattle.fast_machine.proofs.heads.walk_to.Goals as goal
 
 pub returns-then-has_id-clause-some : goal.returns-then-has_id-clause-some
 returns-then-has_id-clause-some c = (c.template.result.now, c.template.ensures.found, c.if-has_id.ensures.0 refl, c.loop-number.invariant)

@@ -1,0 +1,247 @@
+//! What a machine does without a byte: fields that are not sent, starts and ends of segments.
+
+ghost use Rattle.std.specs.Prelude.{◌≡◌, ◌≢◌, ◌<◌, ℕ, [], false, Ok, drop, length, Some, None};
+ghost use Rattle.fast_tree.specs.device.Nodes.{field_data};
+ghost use Rattle.fast_tree.specs.device.Numbers.{AreBelow};
+ghost use Rattle.fast_dict.specs.meaning.Dictionary.{previous_at};
+ghost use Rattle.fast_dict.specs.meaning.Operators.{decide, nothing};
+ghost use Rattle.fast_dict.specs.meaning.Slots.{slots_dictionary, slots_terms};
+ghost use Rattle.fast_cursor.specs.device.Runs.{IsRun};
+ghost use Rattle.fast_units.specs.device.Settling.{Serves};
+ghost use Rattle.fast_units.specs.device.Deciding.{needs_bytes, IsDecided};
+ghost use Rattle.fast_machine.specs.device.TurnsLeft.{Way, HasTurns, HasTurnsBehind};
+ghost use Rattle.fast_units.specs.device.UnitFronts.{IsAsciiFirst};
+ghost use Rattle.fast_machine.specs.device.Opening.{opened_result, opened_by};
+ghost use Rattle.fast_machine.specs.device.Positions.{set_of, run_in, IsBodyOf, IsAtField, IsAtGroup, CanTurn, IsTurn, turning};
+
+use crate::machine::{Machine, Turn, Waiting};
+use crate::settling::hand;
+use crate::turns::Turns;
+use fast_dict::Slots;
+use fast_stream::{Event, FaultCode, Sink};
+use fast_template::{FieldInstruction, Operator, Shape, Templates};
+use fast_units::fields::{needs_bytes, unsent};
+use fast_units::source::ValueSource;
+use fast_value::{Code, Kind, Limits};
+
+/// What a field leaves of which nothing is sent, out of line: for fields that are seldom left out.
+///
+/// # Errors
+///
+/// Those of [`unsent`].
+#[inline(never)]
+pub fn unsent_seldom(
+    slots: &mut Slots,
+    field: &FieldInstruction,
+    bit: bool,
+) -> Result<ValueSource, Code>
+    requires serves { Serves (length (slots_dictionary slots.old)) (slots_terms slots.old) (field_data field.now) }
+    requires no_bytes { needs_bytes field.now.operator bit ≡ false }
+    ensures decided { IsDecided
+        (decide (field_data field.now) (previous_at (field_data field.now).entry (slots_dictionary slots.old)) bit
+        nothing)
+        (field_data field.now) (slots_dictionary slots.old) (slots_dictionary slots.new) result }
+    ensures terms { slots_terms slots.new ≡ slots_terms slots.old }
+{
+    unsent(slots, field, bit)
+}
+
+impl<'t> Machine<'t> {
+    /// A field is next: the machine waits for its first unit, or nothing is sent of it.
+    #[inline(always)]
+    fn begin_field<S: Sink>(
+        &mut self,
+        templates: &'t Templates,
+        limits: Limits,
+        node: u32,
+        field: &FieldInstruction,
+        sink: &mut S,
+    ) -> Result<Turn, FaultCode>
+        requires turn { CanTurn (set_of templates.now) limits self.old }
+        requires next { IsAtField (set_of templates.now) self.old.cursor node (field_data field.now) }
+        requires serves { Serves (set_of templates.now).entries (slots_terms self.old.slots) (field_data field.now) }
+        ensures turn { IsTurn S.takes S.stops (set_of templates.now) limits
+            (turning (set_of templates.now) limits self.old) sink.old result sink.new self.new }
+        ensures past { result ≡ Ok Turn.Silent → self.new.cursor.left ≡ drop 1 self.old.cursor.left }
+        ensures turns { (way : Way) (n : ℕ) → HasTurns way (set_of templates.now) limits 1 n self.old
+            → HasTurnsBehind result way (set_of templates.now) limits n self.new }
+    {
+        // The same call again and again: in each arm the compiler knows the operator, and folds all later looks at it.
+        match field.operator {
+            Operator::None | Operator::Delta => self.begin_under(
+                templates, limits, node, field, sink,
+            ),
+            Operator::Default => self.begin_under(templates, limits, node, field, sink),
+            Operator::Copy => self.begin_under(templates, limits, node, field, sink),
+            Operator::Constant => self.begin_under(templates, limits, node, field, sink),
+            Operator::Increment | Operator::Tail => self.begin_under(
+                templates, limits, node, field, sink,
+            ),
+        }
+    }
+
+    /// The same, where the caller has told operators apart, so that the compiler makes one copy of it for each.
+    #[inline(always)]
+    fn begin_under<S: Sink>(
+        &mut self,
+        templates: &'t Templates,
+        limits: Limits,
+        node: u32,
+        field: &FieldInstruction,
+        sink: &mut S,
+    ) -> Result<Turn, FaultCode>
+        requires turn { CanTurn (set_of templates.now) limits self.old }
+        requires next { IsAtField (set_of templates.now) self.old.cursor node (field_data field.now) }
+        requires serves { Serves (set_of templates.now).entries (slots_terms self.old.slots) (field_data field.now) }
+        ensures turn { IsTurn S.takes S.stops (set_of templates.now) limits
+            (turning (set_of templates.now) limits self.old) sink.old result sink.new self.new }
+        ensures past { result ≡ Ok Turn.Silent → self.new.cursor.left ≡ drop 1 self.old.cursor.left }
+        ensures turns { (way : Way) (n : ℕ) → HasTurns way (set_of templates.now) limits 1 n self.old
+            → HasTurnsBehind result way (set_of templates.now) limits n self.new }
+    {
+        let has_bit = field.uses_bit();
+        let bit = self.presence(field);
+        if needs_bytes(field, bit) {
+            self.wait_first(field);
+            return Ok(Turn::Waits);
+        }
+        match unsent(&mut self.slots, field, bit) {
+            Err(code) => Err(FaultCode::Stream(code)),
+            Ok(source) => self.finish_by(node, field, has_bit, source, &[], sink),
+        }
+    }
+
+    /// Waits for the first unit of a field.
+    #[inline]
+    pub fn wait_first(&mut self, field: &FieldInstruction)
+        ensures text { IsAsciiFirst (field_data field.now)
+            → (self.new.waiting ≡ Waiting.Text) × (self.new.text.text ≡ []) }
+        ensures number { ¬ (IsAsciiFirst (field_data field.now)) → self.new.waiting ≡ Waiting.Field }
+        ensures same { self.new ≡ record self.old { waiting = self.new.waiting; text = self.new.text } }
+        ensures capacity { self.new.text.capacity ≡ self.old.text.capacity }
+    {
+        if field.kind == Kind::Ascii && field.operator != Operator::Delta {
+            self.text.clear();
+            self.waiting = Waiting::Text;
+        } else {
+            self.waiting = Waiting::Field;
+        }
+    }
+
+    /// A group is next, which may be absent.
+    #[inline(always)]
+    fn begin_group<S: Sink>(
+        &mut self,
+        templates: &'t Templates,
+        limits: Limits,
+        node: u32,
+        optional: bool,
+        start: usize,
+        sink: &mut S,
+    ) -> Result<Turn, FaultCode>
+        requires turn { CanTurn (set_of templates.now) limits self.old }
+        requires next { IsAtGroup (set_of templates.now) self.old.cursor node optional
+            (run_in (set_of templates.now) start) }
+        requires run { IsRun (set_of templates.now).program start }
+        requires below { AreBelow (length (set_of templates.now).nodes) (run_in (set_of templates.now) start) }
+        requires body { IsBodyOf (set_of templates.now) node start }
+        requires node { node < length (set_of templates.now).nodes }
+        ensures turn { IsTurn S.takes S.stops (set_of templates.now) limits
+            (turning (set_of templates.now) limits self.old) sink.old result sink.new self.new }
+        ensures past { result ≡ Ok Turn.Silent → self.new.cursor.left ≡ drop 1 self.old.cursor.left }
+        ensures turns { (way : Way) (n : ℕ) → HasTurns way (set_of templates.now) limits 1 n self.old
+            → HasTurnsBehind result way (set_of templates.now) limits n self.new }
+    {
+        if optional {
+            let bit = self.cursor.bit();
+            self.cursor.use_bit();
+            if !bit {
+                self.cursor.advance();
+                return Ok(Turn::Silent);
+            }
+        }
+        let begun = self.enter_group(templates, limits, node, start, sink);
+        self.open_segment(begun)
+    }
+
+    /// The segment of a group or an element has begun, with its map if its instructions use any bits.
+    #[inline(always)]
+    pub fn open_segment(&mut self, begun: Result<usize, FaultCode>) -> Result<Turn, FaultCode>
+        ensures turn { result ≡ opened_result begun }
+        ensures waits { self.new ≡ opened_by begun self.old }
+    {
+        match begun {
+            Err(code) => Err(code),
+            Ok(width) => {
+                if width == 0 {
+                    return Ok(Turn::Handed);
+                }
+                self.waiting = Waiting::SegmentMap(width);
+                Ok(Turn::Waits)
+            }
+        }
+    }
+
+    /// The innermost segment is whole: a group, an element or the message.
+    #[inline(always)]
+    fn close<S: Sink>(
+        &mut self,
+        templates: &'t Templates,
+        limits: Limits,
+        sink: &mut S,
+    ) -> Result<Turn, FaultCode>
+        requires turn { CanTurn (set_of templates.now) limits self.old }
+        requires end { self.old.cursor.left ≡ [] }
+        ensures turn { IsTurn S.takes S.stops (set_of templates.now) limits
+            (turning (set_of templates.now) limits self.old) sink.old result sink.new self.new }
+        ensures on { result ≢ Ok Turn.Silent }
+        ensures turns { (way : Way) (n : ℕ) → HasTurns way (set_of templates.now) limits 1 n self.old
+            → HasTurnsBehind result way (set_of templates.now) limits n self.new }
+    {
+        if self.cursor.is_outermost() {
+            hand(sink, Event::MessageEnd)?;
+            self.cursor.clear_map();
+            self.waiting = Waiting::Map;
+            return Ok(Turn::Waits);
+        }
+        let place = self.cursor.place();
+        let begun = self.leave_segment(templates, limits, place, sink);
+        self.open_segment(begun)
+    }
+
+    /// What is next needs no byte, or the machine waits.
+    #[inline(always)]
+    pub fn turn<S: Sink>(
+        &mut self,
+        templates: &'t Templates,
+        limits: Limits,
+        sink: &mut S,
+    ) -> Result<Turn, FaultCode>
+        requires turn { CanTurn (set_of templates.now) limits self.old }
+        ensures turn { IsTurn S.takes S.stops (set_of templates.now) limits
+            (turning (set_of templates.now) limits self.old) sink.old result sink.new self.new }
+        ensures past { result ≡ Ok Turn.Silent
+            → (0 < length self.old.cursor.left) × (self.new.cursor.left ≡ drop 1 self.old.cursor.left) }
+        ensures turns { (way : Way) (n : ℕ) → HasTurns way (set_of templates.now) limits 0 n self.old
+            → HasTurnsBehind result way (set_of templates.now) limits n self.new }
+    {
+        self.turns = Turns::after(&self.turns);
+        let Some(number) = self.cursor.next() else {
+            return self.close(templates, limits, sink);
+        };
+        match &templates.node(number).shape {
+            Shape::Field(field) => self.begin_field(templates, limits, number, field, sink),
+            Shape::Decimal { exponent, mantissa } => {
+                self.begin_decimal(templates, limits, number, exponent, mantissa, sink)
+            }
+            Shape::Group { optional, .. } => {
+                let start = templates.body_start(number);
+                self.begin_group(templates, limits, number, *optional, start, sink)
+            }
+            Shape::Sequence { length, .. } => {
+                let start = templates.body_start(number);
+                self.begin_sequence(templates, limits, number, length, start, sink)
+            }
+        }
+    }
+}
