@@ -1,6 +1,6 @@
 //! The heads of messages and segments: presence maps, template identifiers, starts of messages.
 
-ghost use Rattle.std.specs.Prelude.{◌≡◌, ◌≢◌, ◌<◌, ◌≤◌, ◌&&◌, not, nat_le, false, ℕ, [], length, slice_get, IfSome, IfNone, Err, IsTrue, ◌↔◌, IfErr, Some, None, Ok, option_map, nat_abs};
+ghost use Rattle.std.specs.Prelude.{◌≡◌, ◌≢◌, ◌<◌, ◌≤◌, ◌&&◌, not, nat_le, false, ℕ, [], length, slice_get, IfSome, IfNone, Err, IsTrue, ◌↔◌, IfErr, Some, None, Ok, option_map, nat_abs, if◌then◌else◌};
 ghost use Rattle.fast_wire.specs.meaning.Entities.{IsEntity};
 ghost use Rattle.fast_wire.specs.meaning.Maps.{map_limit, bits, bytes_for};
 ghost use Rattle.fast_value.specs.meaning.Kinds.{integer_of};

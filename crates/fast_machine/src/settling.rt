@@ -1,6 +1,6 @@
 //! Values go to the sink: a field that has one now, or none.
 
-ghost use Rattle.std.specs.Prelude.{◌≡◌, ◌≢◌, ◌<◌, ℕ, [], Bool, Ok, length, OnOk, MatchResult, Some, None, option_map};
+ghost use Rattle.std.specs.Prelude.{◌≡◌, ◌≢◌, ◌<◌, ℕ, [], Bool, Ok, length, OnOk, MatchResult, Some, None, option_map, if◌then◌else◌};
 ghost use Rattle.fast_wire.specs.meaning.Maps.{later_bits};
 ghost use Rattle.fast_value.specs.meaning.Kinds.{integer_of};
 ghost use Rattle.fast_value.specs.meaning.Values.{scalar_data};
