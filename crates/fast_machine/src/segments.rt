@@ -21,6 +21,7 @@ ghost use Rattle.fast_machine.specs.device.TurnsLeft.{Way, HasTurns, HasTurnsFro
 
 use crate::machine::Machine;
 use crate::settling::hand;
+use crate::turns::Turns;
 use fast_cursor::cursor::Elements;
 use fast_cursor::place::Place;
 use fast_stream::{Event, FaultCode, Sink};
@@ -78,7 +79,8 @@ impl<'t> Machine<'t> {
         Ok(width)
     }
 
-    /// So many elements of a sequence are still to come: the next one begins, or the sequence is whole.
+    /// So many elements of a sequence are still to come: the next one begins, or the sequence is whole. An element that
+    /// begins is a turn of its own.
     #[inline(always)]
     pub fn begin_element<S: Sink>(
         &mut self,
@@ -105,7 +107,7 @@ impl<'t> Machine<'t> {
             → HasTurnsFrom way (set_of templates.now) limits n count (run_in (set_of templates.now) start) self.old
             → HasTurnsBehind (opened_result result) way (set_of templates.now) limits n (opened_by result self.new) }
         ensures stopped { IfErr result (λ code. code ≡ FaultCode.SinkStopped) }
-        ensures same { self.new ≡ record self.old { cursor = self.new.cursor } }
+        ensures same { self.new ≡ record self.old { cursor = self.new.cursor; turns = self.new.turns } }
     {
         if count == 0 {
             hand(sink, Event::SequenceEnd)?;
@@ -117,6 +119,7 @@ impl<'t> Machine<'t> {
             start,
             width,
         });
+        self.turns = Turns::after(&self.turns);
         Ok(width)
     }
 
@@ -141,12 +144,13 @@ impl<'t> Machine<'t> {
             → HasTurns way (set_of templates.now) limits 1 n (placed self.old place.entry)
             → HasTurnsBehind (opened_result result) way (set_of templates.now) limits n (opened_by result self.new) }
         ensures stopped { IfErr result (λ code. code ≡ FaultCode.SinkStopped) }
-        ensures same { self.new ≡ record self.old { cursor = self.new.cursor } }
+        ensures same { self.new ≡ record self.old { cursor = self.new.cursor; turns = self.new.turns } }
     {
         let Some(width) = self.cursor.next_element() else {
             return self.close_segment(templates, limits, place, sink);
         };
         hand_next(sink)?;
+        self.turns = Turns::after(&self.turns);
         Ok(width)
     }
 
@@ -169,7 +173,7 @@ impl<'t> Machine<'t> {
             → HasTurns way (set_of templates.now) limits 1 n (placed self.old place.entry)
             → HasTurnsBehind (opened_result result) way (set_of templates.now) limits n (opened_by result self.new) }
         ensures stopped { IfErr result (λ code. code ≡ FaultCode.SinkStopped) }
-        ensures same { self.new ≡ record self.old { cursor = self.new.cursor } }
+        ensures same { self.new ≡ record self.old { cursor = self.new.cursor; turns = self.new.turns } }
     {
         let _ = place;
         match self.cursor.close() {

@@ -1,6 +1,6 @@
 -- An element ends, and the next one of its sequence begins.
 use Rattle.std.proofs.Common.{refl, sym, ap, ◌∙◌, subst, arith}
-use Rattle.std.specs.Prelude.{◌≡◌, ℕ, zero, suc, ◌-◌, List, [], ◌∷◌, length, Option, Some, None, option_map, Ok, Err}
+use Rattle.std.specs.Prelude.{◌≡◌, ℕ, zero, suc, ◌+◌, ◌-◌, List, [], ◌∷◌, length, Option, Some, None, option_map, Ok, Err}
 use Rattle.fast_value.specs.declared.settings.Limits.{Limits}
 use Rattle.fast_value.specs.meaning.Limits.{bounds}
 use Rattle.fast_dict.specs.meaning.Slots.{slots_dictionary}
@@ -15,12 +15,14 @@ use Rattle.fast_cursor.specs.device.Cursors.{ElementsData, FrameData, CursorData
 use Rattle.fast_cursor.specs.device.Nexts.{next_by, next_of, gone_on}
 use Rattle.fast_cursor.specs.declared.place.Place.{Place}
 use Rattle.fast_machine.specs.declared.machine.Machine.{Machine}
+use Rattle.fast_machine.specs.declared.turns.Turns.{Turns}
 use Rattle.fast_machine.specs.device.Arms.{placed}
 use Rattle.fast_machine.specs.device.Opening.{opened_turn, awaiting}
 use Rattle.fast_machine.specs.device.Passing.{elements_from}
 use Rattle.fast_machine.specs.device.Positions.{Set, body_in, frame_by, frames_in, AreElementsFit, IsSupplied, CanTurn, IsTurn, turning}
 use Rattle.fast_machine.specs.device.TurnsLeft.{Way, HasTurns, HasTurnsBehind}
 use Rattle.fast_machine.proofs.steps.FieldTurns.{supplied_like}
+use Rattle.fast_machine.proofs.steps.Recounted.{can_turn-turns}
 use Rattle.fast_machine.proofs.steps.Opened.{opened_waits, opened_goes, opened_not_silent, awaiting_turns}
 use Rattle.fast_machine.proofs.steps.SegmentTurns.{IsClosed, closed, some_frame, like_at, turn_in, turn_halt, turn_more}
 use Rattle.fast_machine.proofs.steps.TurnCounts.{element_left, element_opened}
@@ -78,15 +80,16 @@ module _ (set : Set) (l : Limits) (m : Machine) (c : CursorData) (width : ℕ) (
       let rest : b.fs ≡ fs = cc in
       (ap (λ (x : FrameData). left_to m.cursor x b.fs) first ∙ ap (left_to m.cursor f) rest, sym b.elements ∙ ap (λ (x : FrameData). x.elements) first)
 
-  -- The turns that are left.
-  pub next_counts : (way : Way) (n : ℕ) → HasTurns way set l 1 n m → HasTurnsBehind (Ok (opened_turn width)) way set l n (awaiting width (record m { cursor = c }))
-  next_counts way n h =
+  -- The turns that are left, with one for the next element.
+  pub next_counts : (t : Turns) → t.count ≡ m.turns.count + 1 → (way : Way) (n : ℕ) → HasTurns way set l 1 n m
+      → HasTurnsBehind (Ok (opened_turn width)) way set l n (awaiting width (record m { cursor = c; turns = t }))
+  next_counts t counts way n h =
       let less : b.e.more ≡ suc b.e.more - 1 = omega arith in
       let is : c ≡ entered between (Some (record { more = suc b.e.more - 1; body = b.e.body; width = width })) b.e.body
       = b.cursor ∙ ap (λ k. entered between (Some (record { more = k; body = b.e.body; width = b.e.width })) b.e.body) less
       ∙ ap (λ k. entered between (Some (record { more = suc b.e.more - 1; body = b.e.body; width = k })) b.e.body) (sym b.bits) in
-      awaiting_turns way set l n (record m { cursor = c }) width
-      (element_opened way set l n m.turns.count m.turns.count m.counted m.counted between c b.e.body (suc b.e.more) width (omega arith) refl refl is
+      awaiting_turns way set l n (record m { cursor = c; turns = t }) width
+      (element_opened way set l n m.turns.count t.count m.counted m.counted between c b.e.body (suc b.e.more) width (omega arith) counts refl is
       (element_left way set l n m.turns.count m.counted m.cursor between (Some whole) whole end inside left refl h))
 
   module _ {S : Type 0} (takes stops : S → EventData → S → Type 0) (can : CanTurn set l m) where
@@ -122,12 +125,13 @@ module _ (set : Set) (l : Limits) (m : Machine) (c : CursorData) (width : ℕ) (
         (turn_halt takes stops set l behind then ElementStart mid code s' (record m { cursor = c }) second (is, stopped) supplied) (λ e. cc e)
 
     -- or takes both.
-    pub next_begins : (s mid s' : S) → takes s ElementEnd mid → takes mid ElementStart s'
-        → IsTurn takes stops set l (turning set l m) s (Ok (opened_turn width)) s' (awaiting width (record m { cursor = c }))
-    next_begins s mid s' taken started =
-        let n : Machine = record m { cursor = between } in
+    pub next_begins : (t : Turns) (s mid s' : S) → takes s ElementEnd mid → takes mid ElementStart s'
+        → IsTurn takes stops set l (turning set l m) s (Ok (opened_turn width)) s' (awaiting width (record m { cursor = c; turns = t }))
+    next_begins t s mid s' taken started =
+        let n : Machine = record m { cursor = between; turns = t } in
+        let begun : Machine = record m { cursor = c; turns = t } in
         let fit : AreElementsFit set between.depth (length between.frames) (Some whole) = ends.elements_fit whole refl in
-        turn_more takes stops set l (turning set l m) behind ElementEnd s mid (Ok (opened_turn width)) s' (awaiting width (record m { cursor = c })) first taken
-        (turn_in takes stops set l n (awaiting width (record m { cursor = c })) c (opened_turn width) width (Some b.e) b.e.body behind ElementStart mid s'
-        (opened_waits width (record m { cursor = c })) (opened_goes width (record m { cursor = c })) b.cursor ends.can (b.bits ∙ fit.2) fit.0 fit.1 fit second started)
+        turn_more takes stops set l (turning set l m) behind ElementEnd s mid (Ok (opened_turn width)) s' (awaiting width begun) first taken
+        (turn_in takes stops set l n (awaiting width begun) c (opened_turn width) width (Some b.e) b.e.body behind ElementStart mid s'
+        (opened_waits width begun) (opened_goes width begun) b.cursor (can_turn-turns set l (record m { cursor = between }) t ends.can) (b.bits ∙ fit.2) fit.0 fit.1 fit second started)
         (opened_not_silent (Ok width))

@@ -6,7 +6,7 @@ use Rattle.fast_machine.specs.declared.machine.Machine.{Machine}
 use Rattle.fast_machine.specs.declared.machine.Waiting.{Waiting}
 use Rattle.fast_machine.specs.declared.machine.Waiting.TheVariants.{Map, Identifier, SegmentMap, Field, Text, Number, Bytes, Mantissa}
 use Rattle.fast_machine.specs.declared.turns.Turns.{Turns}
-use Rattle.fast_machine.specs.device.Positions.{Set, meaning_at, IsSupplied}
+use Rattle.fast_machine.specs.device.Positions.{Set, meaning_at, IsSupplied, CanTurn}
 
 -- The turns that were counted don't change what is still to be read.
 pub meaning-turns : (w : Waiting) (set : Set) (l : Limits) (m : Machine) (n : Turns) → meaning_at w set l (record m { turns = n }) ≡ meaning_at w set l m
@@ -35,3 +35,7 @@ supplied-turns set l m n h = record {
   counted = h.counted;
   latest = h.latest;
 }
+
+-- It goes on as before.
+pub can_turn-turns : (set : Set) (l : Limits) (m : Machine) (n : Turns) → CanTurn set l m → CanTurn set l (record m { turns = n })
+can_turn-turns set l m n h = record { supplied = supplied-turns set l m n h.supplied; placed = h.placed; mapped = h.mapped; unused = h.unused }

@@ -87,6 +87,23 @@ moved way set l k j n t t' counted counted' c c' h same body frames less = recor
     all : (t y x k j n : ℕ) → y + k ≤ x + j → t + x ≤ n + k → t + y ≤ n + j
     all t y x k j n e i = omega (arith, e, i)
 
+-- The same with a turn, for which the place leaves one fewer.
+pub moved_on : (way : Way) (set : Set) (l : Limits) (k j n t t' counted counted' : ℕ) (c c' : CursorData) (h : IsWithinTurns way set l k n t counted c) → t' ≡ t + 1 → AreWithin way h.each (body_in set c'.left) → AreFramesWithin way set h.each c'.frames
+    → turns_left way set l h.each counted' c' + k + 1 ≤ turns_left way set l h.each counted c + j → IsWithinTurns way set l j n t' counted' c'
+moved_on way set l k j n t t' counted counted' c c' h same body frames less = record {
+  each = h.each;
+  body = body;
+  frames = frames;
+  most = fewer (turns_left way set l h.each counted' c') (turns_left way set l h.each counted c) k j (most_by way (tree_in set) l) less h.most;
+  all = rw same (all t (turns_left way set l h.each counted' c') (turns_left way set l h.each counted c) k j n less h.all);
+}
+  where
+    fewer : (y x k j m : ℕ) → y + k + 1 ≤ x + j → x ≤ m + k → y ≤ m + j
+    fewer y x k j m e i = omega (arith, e, i)
+
+    all : (t y x k j n : ℕ) → y + k + 1 ≤ x + j → t + x ≤ n + k → t + 1 + y ≤ n + j
+    all t y x k j n e i = omega (arith, e, i)
+
 -- The turns taken are within the number.
 pub turns_taken : (way : Way) (set : Set) (l : Limits) (n t counted : ℕ) (c : CursorData) → IsWithinTurns way set l 1 n t counted c → t ≤ n
 turns_taken way set l n t counted c h = taken t (body_turns way l (body_in set c.left)) (frames_turns way set l c.frames) ((l.max_total - counted) * h.each) n (some_end way set l c.frames) h.all
@@ -136,8 +153,8 @@ length_passed way set l n t t' counted counted' c c' at f body count next turns 
     fewer : (s r x f e w : ℕ) → 3 + x ≤ s + w → 0 + (1 + r + x + f) + e + 1 ≤ (s + r) + f + (e + w) + 1
     fewer s r x f e w h = omega (arith, h)
 
--- An element begins, behind which come others.
-pub element_opened : (way : Way) (set : Set) (l : Limits) (n t t' counted counted' : ℕ) (c c' : CursorData) (body : List ℕ) (count width : ℕ) → 0 < count → t' ≡ t → counted' ≡ counted
+-- An element begins, behind which come others. It is a turn.
+pub element_opened : (way : Way) (set : Set) (l : Limits) (n t t' counted counted' : ℕ) (c c' : CursorData) (body : List ℕ) (count width : ℕ) → 0 < count → t' ≡ t + 1 → counted' ≡ counted
     → c' ≡ entered c (Some (record { more = count - 1; body = body; width = width })) body
     → IsWithinTurns way set l 1 n t counted (entered c (Some (record { more = count; body = body; width = 0 })) []) → IsWithinTurns way set l 0 n t' counted' c'
 element_opened way set l n t t' counted counted' c c' body zero width some turns same is h = absurd (omega (arith, some))
@@ -151,12 +168,12 @@ element_opened way set l n t t' counted counted' c c' body (suc m) width some tu
     let one : suc m - 1 ≡ m = omega arith in
     let now : turns_left way set l h.each counted' c' ≡ b + (1 + r + m * (2 + b) + fs) + e
     = ap (turns_left way set l h.each counted') is ∙ ap (λ x. b + (1 + r + (suc m - 1) * (2 + b) + fs) + (l.max_total - x) * h.each) same ∙ ap (λ x. b + (1 + r + x * (2 + b) + fs) + e) one in
-    moved way set l 1 0 n t t' counted counted' (entered c (Some (record { more = suc m; body = body; width = 0 })) []) c' h turns
+    moved_on way set l 1 0 n t t' counted counted' (entered c (Some (record { more = suc m; body = body; width = 0 })) []) c' h turns
     (subst (λ (x : CursorData). AreWithin way h.each (body_in set x.left)) (sym is) h.frames.1)
     (subst (λ (x : CursorData). AreFramesWithin way set h.each x.frames) (sym is) h.frames)
     (rw (less, now) (fewer b r (m * (2 + b)) fs e))
   where
-    fewer : (b r x f e : ℕ) → b + (1 + r + x + f) + e + 1 ≤ 0 + (1 + r + (x + (2 + b)) + f) + e + 0
+    fewer : (b r x f e : ℕ) → b + (1 + r + x + f) + e + 1 + 1 ≤ 0 + (1 + r + (x + (2 + b)) + f) + e + 0
     fewer b r x f e = omega arith
 
 -- A group ends.

@@ -38,11 +38,11 @@ returns-clause-turn g c =
     let d = c.next_element.new.self in
     let b = next_begun c.args.self.now c.args.place d c.next_element.result c.in-Some.width c.in-Some.is c.requires.inner c.next_element.ensures.next c.next_element.ensures.width in
     let (mid, taken, started) = c.in_ok-hand_next.ensures in
-    next_begins (set_of c.args.templates.now) c.args.limits m d c.in-Some.width b c.requires.end g.S.Sink.takes g.S.Sink.stops c.requires.turn c.args.sink.now mid c.hand_next.new.sink taken started
+    next_begins (set_of c.args.templates.now) c.args.limits m d c.in-Some.width b c.requires.end g.S.Sink.takes g.S.Sink.stops c.requires.turn c.after-self.result c.args.sink.now mid c.hand_next.new.sink taken started
 
 pub returns-clause-turns : goal.returns-clause-turns
 returns-clause-turns g c way n h =
     let m = placed c.args.self.now c.args.place in
     let d = c.next_element.new.self in
     let b = next_begun c.args.self.now c.args.place d c.next_element.result c.in-Some.width c.in-Some.is c.requires.inner c.next_element.ensures.next c.next_element.ensures.width in
-    next_counts (set_of c.args.templates.now) c.args.limits m d c.in-Some.width b c.requires.end way n h
+    next_counts (set_of c.args.templates.now) c.args.limits m d c.in-Some.width b c.requires.end c.after-self.result c.after-self.ensures way n h
