@@ -18,11 +18,9 @@ use Rattle.fast_stream.specs.device.Machine.{after_bytes}
 use Rattle.fast_units.specs.device.Taking.{Stays}
 use Rattle.fast_units.specs.declared.pending.Pending.{Pending}
 use Rattle.fast_units.specs.declared.scratch.Scratch.{Scratch}
-use Rattle.fast_units.specs.declared.stages.Stage.{Stage}
 use Rattle.fast_units.specs.declared.stages.Stage.TheVariants.{Vector, PartVector}
 use Rattle.fast_machine.specs.declared.machine.Machine.{Machine}
 use Rattle.fast_machine.specs.declared.machine.Turn.{Turn}
-use Rattle.fast_machine.specs.declared.machine.Turn.TheVariants as Turn
 use Rattle.fast_machine.specs.declared.machine.Waiting.{Waiting}
 use Rattle.fast_machine.specs.declared.machine.Waiting.TheVariants.{Map, Identifier, SegmentMap, Field, Text, Number, Bytes, Mantissa}
 use Rattle.fast_machine.specs.device.Gathered.{IsGatheredBy}

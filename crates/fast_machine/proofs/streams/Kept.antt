@@ -1,7 +1,6 @@
 -- Behind a unit, and at the start of a piece, bytes may be kept of a unit that goes on behind the piece.
-use Rattle.std.proofs.Common.{refl, sym, ap, ◌∙◌, subst, arith}
-use Rattle.std.specs.Prelude.{◌≡◌, ℕ, zero, suc, ◌+◌, ◌*◌, ◌-◌, ◌<◌, ◌≤◌, List, [], length, take, drop, Result, Ok}
-use Rattle.std.proofs.lemmas.List.{length-drop, take_rest, take_all}
+use Rattle.std.proofs.Common.{refl, sym, subst, arith}
+use Rattle.std.specs.Prelude.{◌≡◌, ℕ, zero, suc, ◌+◌, ◌-◌, ◌<◌, ◌≤◌, List, [], length, take, drop, Ok}
 use Rattle.std.proofs.Math.Nat.{le_refl}
 use Rattle.fast_value.specs.declared.settings.Limits.{Limits}
 use Rattle.fast_tree.specs.device.Numbers.{NameLaterNodes}
@@ -12,10 +11,10 @@ use Rattle.fast_machine.specs.device.Gathered.{IsGatheredBy}
 use Rattle.fast_machine.specs.device.Handing.{waiting_at, TookEvents}
 use Rattle.fast_machine.specs.device.Positions.{Set, tree_in, IsReady, meaning}
 use Rattle.fast_machine.specs.device.Steps.{IsCountedBy}
-use Rattle.fast_machine.specs.device.TurnsLeft.{Way, most_by, HasTurnsWaiting}
+use Rattle.fast_machine.specs.device.TurnsLeft.{Way, HasTurnsWaiting}
 use Rattle.fast_machine.specs.device.UnitTaken.{IsTakenTo}
 use Rattle.fast_machine.proofs.machines.Gathers.{gathered_to, gathered_turns}
-use Rattle.fast_machine.proofs.streams.Feeding.{fed_behind, took_none, within_piece}
+use Rattle.fast_machine.proofs.streams.Feeding.{fed_behind, took_none}
 use Rattle.fast_machine.proofs.streams.Running.{unit_alone}
 
 -- So many of the bytes are kept: all of them, or none.

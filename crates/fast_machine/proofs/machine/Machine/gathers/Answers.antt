@@ -1,5 +1,5 @@
 use Rattle.fast_machine.specs.device.Positions.{set_of}
-use Rattle.fast_machine.proofs.machines.Gathers.{integer_gathered, text_gathered, run_gathered, part_gathered}
+use Rattle.fast_machine.proofs.machines.Gathers.{text_gathered}
 use Rattle.fast_machine.proofs.machine.Machine.gathers.Goals as goal
 
 pub returns-in-Text-clause-gathered : goal.returns-in-Text-clause-gathered

@@ -1,5 +1,5 @@
 -- A field waits, or the machine takes a turn.
-use Rattle.std.proofs.Common.{sym, subst}
+use Rattle.std.proofs.Common.{subst}
 use Rattle.fast_machine.specs.declared.machine.Machine.{Machine}
 use Rattle.fast_machine.specs.device.Positions.{set_of}
 use Rattle.fast_machine.specs.device.Steps.{IsStep}

@@ -6,7 +6,6 @@ use Rattle.fast_machine.specs.declared.machine.Turn.TheVariants.{Waits}
 use Rattle.fast_machine.specs.declared.machine.Waiting.TheVariants.{Field}
 use Rattle.fast_machine.specs.device.Handing.{Hands}
 use Rattle.fast_machine.specs.device.Positions.{set_of, turning, meaning}
-use Rattle.fast_machine.specs.device.Steps.{IsStep}
 use Rattle.fast_machine.specs.device.TurnsLeft.{HasTurnsWaiting}
 use Rattle.fast_machine.proofs.machines.Gathers.{gathered_to, gathered_behind}
 use Rattle.fast_machine.proofs.streams.Running.{turn_step, unit_step, step_waits}
