@@ -1,6 +1,6 @@
 -- A machine that keeps bytes of a unit which goes on behind them is ready for more.
 use Rattle.std.proofs.Common.{refl, sym, ap, ◌∙◌, subst, arith}
-use Rattle.std.specs.Prelude.{◌≡◌, ◌≢◌, ℕ, ℤ, ◌+◌, ◌<◌, ◌≤◌, Bool, List, [], ◌++◌, length, Result, Ok}
+use Rattle.std.specs.Prelude.{◌≡◌, ◌≢◌, ℕ, ◌+◌, ◌<◌, ◌≤◌, Bool, List, [], ◌++◌, length, Result, Ok}
 use Rattle.fast_value.specs.declared.settings.Limits.{Limits}
 use Rattle.fast_value.specs.meaning.Limits.{bounds}
 use Rattle.fast_tree.specs.device.Numbers.{NameLaterNodes}
@@ -18,14 +18,13 @@ use Rattle.fast_stream.specs.device.Machine.{after_bytes}
 use Rattle.fast_units.specs.device.Taking.{Stays}
 use Rattle.fast_units.specs.declared.pending.Pending.{Pending}
 use Rattle.fast_units.specs.declared.scratch.Scratch.{Scratch}
-use Rattle.fast_units.specs.declared.stages.Stage.TheVariants.{Vector, PartVector}
 use Rattle.fast_machine.specs.declared.machine.Machine.{Machine}
 use Rattle.fast_machine.specs.declared.machine.Turn.{Turn}
 use Rattle.fast_machine.specs.declared.machine.Waiting.{Waiting}
 use Rattle.fast_machine.specs.declared.machine.Waiting.TheVariants.{Map, Identifier, SegmentMap, Field, Text, Number, Bytes, Mantissa}
 use Rattle.fast_machine.specs.device.Gathered.{IsGatheredBy}
 use Rattle.fast_machine.specs.device.Handing.{IsTaken}
-use Rattle.fast_machine.specs.device.Positions.{Set, tree_in, body_in, state_in, term_at, front_at, meaning_at, meaning, BeginsWithText, GoesOnWithBytes, CanTake, IsReady}
+use Rattle.fast_machine.specs.device.Positions.{Set, tree_in, body_in, state_in, term_at, front_at, meaning_at, meaning, BeginsWithText, CanTake, IsReady}
 use Rattle.fast_machine.specs.device.TurnsLeft.{Way, HasTurnsAt, HasTurnsWaiting, HasTurnsBehind, turns_begun_at}
 use Rattle.fast_machine.specs.device.UnitTaken.{IsTakenTo}
 use Rattle.fast_machine.proofs.units.Takes.{taken_stays}
@@ -35,17 +34,6 @@ use Rattle.fast_machine.proofs.steps.TurnCounts.{more_behind}
 use Rattle.fast_machine.proofs.machines.UnitTaken.{cut_to}
 use Rattle.fast_machine.proofs.machines.ScalarMachines.{still_supplied}
 
--- The unit in hand is an integer.
-abbrev pub IsInteger : Waiting → Type 0
-IsInteger Map = ⊥
-IsInteger Identifier = Unit {0}
-IsInteger (SegmentMap width) = ⊥
-IsInteger Field = Unit {0}
-IsInteger Text = ⊥
-IsInteger (Number stage) = Unit {0}
-IsInteger (Bytes stage) = ⊥
-IsInteger (Mantissa x) = Unit {0}
-
 -- A text of which more has come, and which still goes on, is still what the next instruction begins with.
 text_still : (l : Limits) (body : Body) (s : State) (front after : List ℕ) → ((nullable : Bool) → ascii_text nullable l.max_text front [] cut → ascii_text nullable l.max_text after [] cut) → BeginsWithText l body s front → BeginsWithText l body s after
 text_still l end s front after more h = absurd h
@@ -53,21 +41,6 @@ text_still l (step (field at f) is) s front after more h = (h.0, h.1, more f.opt
 text_still l (step (parts at e m) is) s front after more h = absurd h
 text_still l (step (group at optional body) is) s front after more h = absurd h
 text_still l (step (sequence at f body) is) s front after more h = absurd h
-
--- So is a run.
-run_still : (l : Limits) (body : Body) (s : State) (n : ℕ) (front after : List ℕ) → length after < n → GoesOnWithBytes l body s (Vector n) front → GoesOnWithBytes l body s (Vector n) after
-run_still l end s n front after more h = absurd h
-run_still l (step (field at f) is) s n front after more h = (h.0, h.1, more)
-run_still l (step (parts at e m) is) s n front after more h = absurd h
-run_still l (step (group at optional body) is) s n front after more h = absurd h
-run_still l (step (sequence at f body) is) s n front after more h = absurd h
-
-part_still : (l : Limits) (body : Body) (s : State) (k : ℤ) (n : ℕ) (front after : List ℕ) → length after < n → GoesOnWithBytes l body s (PartVector k n) front → GoesOnWithBytes l body s (PartVector k n) after
-part_still l end s k n front after more h = absurd h
-part_still l (step (field at f) is) s k n front after more h = (h.0, h.1, more)
-part_still l (step (parts at e m) is) s k n front after more h = absurd h
-part_still l (step (group at optional body) is) s k n front after more h = absurd h
-part_still l (step (sequence at f body) is) s k n front after more h = absurd h
 
 module _ (set : Set) (l : Limits) (m : Machine) (rest : List ℕ) (ready : IsReady set l m) where
   by_unit : (w : Waiting) → w ≢ Map → m.waiting ≡ w → (e : Pending) (t : Scratch) → t.capacity ≡ m.text.capacity → CanTake w set l (record m { entity = e; text = t }) → front_at w (record m { entity = e; text = t }) ≡ front_at w m ++ rest
@@ -85,20 +58,6 @@ module _ (set : Set) (l : Limits) (m : Machine) (rest : List ℕ) (ready : IsRea
   can_by : (w : Waiting) → m.waiting ≡ w → CanTake w set l m
   can_by w is = subst (λ (v : Waiting). CanTake v set l m) is ready.takes
 
-  -- More of an integer.
-  integer_by : (w : Waiting) → m.waiting ≡ w → IsInteger w → (e : Pending) → e.bytes ≡ m.entity.bytes ++ rest → IsGatheredBy set l m (record m { entity = e }) rest
-  integer_by Map is of e front = absurd of
-  integer_by Identifier is of e front = by_unit Identifier (λ i. cc i) is e m.text refl (can_by Identifier is) front
-  integer_by (SegmentMap width) is of e front = absurd of
-  integer_by Field is of e front = by_unit Field (λ i. cc i) is e m.text refl (can_by Field is) front
-  integer_by Text is of e front = absurd of
-  integer_by (Number stage) is of e front = by_unit (Number stage) (λ i. cc i) is e m.text refl (can_by (Number stage) is) front
-  integer_by (Bytes stage) is of e front = absurd of
-  integer_by (Mantissa x) is of e front = by_unit (Mantissa x) (λ i. cc i) is e m.text refl (can_by (Mantissa x) is) front
-
-  pub integer_gathered : IsInteger m.waiting → (e : Pending) → e.bytes ≡ m.entity.bytes ++ rest → IsGatheredBy set l m (record m { entity = e }) rest
-  integer_gathered of e front = integer_by m.waiting refl of e front
-
   -- More of a text.
   pub text_gathered : m.waiting ≡ Text → (t : Scratch) → t.capacity ≡ m.text.capacity → t.text ≡ m.text.text ++ rest
       → ((nullable : Bool) → ascii_text nullable l.max_text m.text.text [] cut → ascii_text nullable l.max_text t.text [] cut) → IsGatheredBy set l m (record m { text = t }) rest
@@ -106,19 +65,6 @@ module _ (set : Set) (l : Limits) (m : Machine) (rest : List ℕ) (ready : IsRea
       let can = can_by Text is in
       by_unit Text (λ i. cc i) is m.entity t room
       (can.0, can.1, can.2, text_still l (body_in set m.cursor.left) (state_in (slots_dictionary m.slots) m.counted m.cursor) m.text.text t.text more can.3) front
-
-  -- More of a run.
-  pub run_gathered : (n : ℕ) → m.waiting ≡ Bytes (Vector n) → (t : Scratch) → t.capacity ≡ m.text.capacity → t.text ≡ m.text.text ++ rest → length t.text < n → IsGatheredBy set l m (record m { text = t }) rest
-  run_gathered n is t room front short =
-      let can = can_by (Bytes (Vector n)) is in
-      by_unit (Bytes (Vector n)) (λ i. cc i) is m.entity t room
-      (can.0, can.1, can.2, run_still l (body_in set m.cursor.left) (state_in (slots_dictionary m.slots) m.counted m.cursor) n m.text.text t.text short can.3) front
-
-  pub part_gathered : (k : ℤ) (n : ℕ) → m.waiting ≡ Bytes (PartVector k n) → (t : Scratch) → t.capacity ≡ m.text.capacity → t.text ≡ m.text.text ++ rest → length t.text < n → IsGatheredBy set l m (record m { text = t }) rest
-  part_gathered k n is t room front short =
-      let can = can_by (Bytes (PartVector k n)) is in
-      by_unit (Bytes (PartVector k n)) (λ i. cc i) is m.entity t room
-      (can.0, can.1, can.2, part_still l (body_in set m.cursor.left) (state_in (slots_dictionary m.slots) m.counted m.cursor) k n m.text.text t.text short can.3) front
 
 -- What takes bytes so has taken a unit that is cut.
 pub gathered_to : {S : Type 0} (takes stops : S → EventData → S → Type 0) (set : Set) (l : Limits) (m a : Machine) (rest : List ℕ) → NameLaterNodes set.nodes → IsGatheredBy set l m a rest → 0 < length rest → (s : S) (bytes : ℕ) (turn : Result Turn FaultCode)
