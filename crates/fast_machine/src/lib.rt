@@ -1,6 +1,7 @@
 //! The machine of the decoder: it goes from unit to unit through messages, and hands their events over.
 #![tactic(auto)]
 
+mod bits;
 mod decimal_arms;
 mod field_units;
 mod heads;
@@ -10,6 +11,7 @@ mod kind_arms;
 pub mod layout;
 pub mod machine;
 mod making;
+mod part_arms;
 mod part_turns;
 mod quick_decimals;
 mod quick_starts;
@@ -20,6 +22,7 @@ mod segments;
 mod sequence_turns;
 mod settling;
 mod spot;
+mod start_arms;
 mod stepping;
 pub mod taking;
 mod text_arms;

@@ -1,19 +1,14 @@
 //! The arms of the machine's loop for segments and messages.
 
-ghost use Rattle.std.specs.Prelude.{◌≡◌, ◌⊎◌, ◌+◌, ◌<◌, ◌≤◌, ℕ, Bool, [], take, drop, length, slice_get, IfErr, Some, Ok};
+ghost use Rattle.std.specs.Prelude.{◌≡◌, ◌+◌, ◌<◌, ◌≤◌, ℕ, Bool, [], drop, length, slice_get, IfErr, Some, Ok};
 ghost use Rattle.fast_value.specs.meaning.Kinds.{U};
 ghost use Rattle.fast_value.specs.meaning.Limits.{bounds};
 ghost use Rattle.fast_tree.specs.declared.instructions.Node.{Node};
-ghost use Rattle.fast_tree.specs.declared.instructions.Template.{Template};
 ghost use Rattle.fast_tree.specs.device.Numbers.{AreBelow};
 ghost use Rattle.fast_tree.specs.meaning.Tree.{FieldData};
-ghost use Rattle.fast_dict.specs.meaning.Slots.{slots_dictionary};
 ghost use Rattle.fast_program.specs.device.Codes.{IsGroupCoded, IsSequenceCoded};
 ghost use Rattle.fast_stream.specs.meaning.Messages.{within_limits};
-ghost use Rattle.fast_stream.specs.meaning.Events.{MessageEnd};
-ghost use Rattle.fast_stream.specs.device.GrammarReaders.{reader_of};
-ghost use Rattle.fast_cursor.specs.device.Cursors.{resting};
-ghost use Rattle.fast_cursor.specs.device.Places.{place_left, at_place, IsPlaceOf};
+ghost use Rattle.fast_cursor.specs.device.Places.{place_left, at_place};
 ghost use Rattle.fast_cursor.specs.device.Runs.{IsRun};
 ghost use Rattle.fast_cursor.specs.device.MapTaking.{IsMapTaken};
 ghost use Rattle.fast_cursor.specs.declared.pending.MapFront.{MapFront};
@@ -21,20 +16,18 @@ ghost use Rattle.fast_machine.specs.device.FitMaps.{IsFitMap};
 ghost use Rattle.fast_stream.specs.declared.faults.FaultCode.{FaultCode};
 ghost use Rattle.fast_machine.specs.device.Arms.{placed, IsAnswer, IsAtOp, IsAtSpot, IsGroupHere, IsLengthTaken, HasWent};
 ghost use Rattle.fast_machine.specs.device.Opening.{opened_result, opened_by};
-ghost use Rattle.fast_machine.specs.device.Positions.{set_of, tree_in, run_in, IsBodyOf, IsAtGroup, IsBehindMap, IsStartIn, IsTurn, CanTurn};
-ghost use Rattle.fast_machine.specs.device.Starts.{message_from, mapped_by, begun_by};
+ghost use Rattle.fast_machine.specs.device.Positions.{set_of, run_in, IsBodyOf, IsAtGroup};
 ghost use Rattle.fast_machine.specs.device.Steps.{IsStep};
-ghost use Rattle.fast_machine.specs.device.TurnsLeft.{Way, most_by, HasTurnsBehind};
 ghost use Rattle.fast_machine.specs.declared.machine.Machine.{Machine};
 ghost use Rattle.fast_machine.specs.declared.spot.Spot.{Spot};
 
-use crate::heads::{is_overlong, is_too_wide, reset_if};
+use crate::heads::{is_overlong, is_too_wide};
 use crate::machine::{Machine, Waiting};
 use crate::sequence_turns::count_within;
 use crate::settling::hand;
 use crate::spot::{Spot, Went};
 use crate::turns::Turns;
-use fast_program::{Op, Start};
+use fast_program::Op;
 use fast_stream::{Event, FaultCode, Sink};
 use fast_template::{Shape, Templates};
 use fast_value::Limits;
@@ -139,132 +132,6 @@ impl<'t> Machine<'t> {
         }
         let begun = self.leave_segment(templates, limits, spot.place, sink);
         self.segment_arm(templates, limits, begun, Went::Handed, spot, sink)
-    }
-
-    /// The message is whole: the next one begins, if its presence map is one byte and its template is known.
-    #[inline(always)]
-    fn message_arm<S: Sink>(
-        &mut self,
-        templates: &'t Templates,
-        limits: Limits,
-        spot: &mut Spot<'t, '_>,
-        sink: &mut S,
-    ) -> Went
-        requires waits { self.old.waiting ≡ Waiting.Field }
-        requires place { IsPlaceOf self.old.cursor spot.old.place }
-        requires turn { CanTurn (set_of templates.now) limits (placed self.old spot.old.place) }
-        requires end { place_left spot.old.place ≡ [] }
-        requires outermost { self.old.cursor.frames ≡ [] }
-        ensures went { (m : Machine) → self.old ≡ record m { turns = self.old.turns }
-            → self.old.turns.count ≡ m.turns.count + 1
-            → HasWent S.takes S.stops (set_of templates.now) limits m spot.old sink.old result sink.new self.new
-            spot.new }
-    {
-        if let Err(_) = hand(sink, Event::MessageEnd) {
-            return Went::Stopped;
-        }
-        self.next_arm(templates, limits, spot, sink)
-    }
-
-    /// Behind the end of a message: the next one begins, if its presence map is one byte and its template is known.
-    #[inline(always)]
-    fn next_arm<S: Sink>(
-        &mut self,
-        templates: &'t Templates,
-        limits: Limits,
-        spot: &mut Spot<'t, '_>,
-        sink: &mut S,
-    ) -> Went
-        requires waits { self.old.waiting ≡ Waiting.Field }
-        requires place { IsPlaceOf self.old.cursor spot.old.place }
-        requires turn { CanTurn (set_of templates.now) limits (placed self.old spot.old.place) }
-        requires end { place_left spot.old.place ≡ [] }
-        requires outermost { self.old.cursor.frames ≡ [] }
-        ensures went { (m : Machine) (s : S) → self.old ≡ record m { turns = self.old.turns }
-            → self.old.turns.count ≡ m.turns.count + 1 → S.takes s MessageEnd sink.old
-            → HasWent S.takes S.stops (set_of templates.now) limits m spot.old s result sink.new self.new spot.new }
-    {
-        if let Some(start) = self.message_again(templates, limits, spot.rest) {
-            return self.message_begins(templates, limits, start, 1, spot, sink);
-        }
-        let Some((bytes, start)) = self.next_message(templates, limits, spot.rest) else {
-            return self.no_message(spot);
-        };
-        self.message_begins(templates, limits, start, bytes, spot, sink)
-    }
-
-    /// The message is whole, and the machine waits for the next one.
-    #[inline(always)]
-    fn no_message(&mut self, spot: &mut Spot<'t, '_>) -> Went
-        requires place { IsPlaceOf self.old.cursor spot.old.place }
-        requires end { place_left spot.old.place ≡ [] }
-        requires outermost { self.old.cursor.frames ≡ [] }
-        ensures waits { result ≡ Went.Waits }
-        ensures rest { spot.new.rest.now ≡ spot.old.rest.now }
-        ensures place { IsPlaceOf self.new.cursor spot.new.place }
-        ensures at { placed self.new spot.new.place ≡ record (placed self.old spot.old.place) {
-          waiting = Waiting.Map;
-          cursor = record (at_place self.old.cursor spot.old.place) { map = []; used = 0; ends = 8 };
-        } }
-    {
-        self.wait_for_message();
-        self.cursor.show_map(&mut spot.place);
-        Went::Waits
-    }
-
-    /// Waits for the map of a message.
-    #[cold]
-    #[inline(never)]
-    fn wait_for_message(&mut self)
-        ensures { self.new ≡ record self.old { waiting = Waiting.Map; cursor = resting self.old.cursor } }
-    {
-        self.waiting = Waiting::Map;
-        self.cursor.reset();
-    }
-
-    /// A message of a template begins, whose map is the first byte, and whose instructions begin behind so many bytes.
-    #[inline(always)]
-    fn message_begins<S: Sink>(
-        &mut self,
-        templates: &'t Templates,
-        limits: Limits,
-        start: &Start,
-        bytes: usize,
-        spot: &mut Spot<'t, '_>,
-        sink: &mut S,
-    ) -> Went
-        requires place { IsPlaceOf self.old.cursor spot.old.place }
-        requires outermost { self.old.cursor.frames ≡ [] }
-        requires behind { IsBehindMap (set_of templates.now) limits (mapped_by self.old spot.old.rest.now) }
-        requires start { IsStartIn (set_of templates.now) start.now }
-        requires some { 0 < length spot.old.rest.now }
-        requires within { bytes ≤ length spot.old.rest.now }
-        ensures answer { (result ≡ Went.Took) ⊎ (result ≡ Went.Stopped) }
-        ensures waits { self.new.waiting ≡ self.old.waiting }
-        ensures place { IsPlaceOf self.new.cursor spot.new.place }
-        ensures rest { spot.new.rest.now ≡ drop bytes spot.old.rest.now }
-        ensures turn { (t : Template) → slice_get (set_of templates.now).templates start.now.number ≡ Some t
-            → IsTurn S.takes S.stops (set_of templates.now) limits
-            (reader_of limits.strict (message_from (set_of templates.now) (bounds limits) start.now.number t
-            (slots_dictionary self.old.slots) (take 1 spot.old.rest.now)))
-            sink.old (begun_by result) sink.new (placed self.new spot.new.place) }
-        ensures turns { (way : Way) (n : ℕ)
-            → self.old.turns.count + most_by way (tree_in (set_of templates.now)) limits ≤ n
-            → HasTurnsBehind (begun_by result) way (set_of templates.now) limits (1 + n)
-            (placed self.new spot.new.place) }
-    {
-        let byte = spot.rest[0];
-        spot.rest = &spot.rest[bytes..];
-        let template = start.number;
-        if let Err(_) = hand(sink, Event::MessageStart { template }) {
-            return Went::Stopped;
-        }
-        reset_if(&mut self.slots, start.reset);
-        self.counted = 0;
-        self.cursor.begin_message(&mut spot.place, byte, start.at);
-        let unit = Turns::after(&self.turns);
-        self.turns = Turns::after(&unit);
-        Went::Took
     }
 
     /// The next instruction, a sequence whose length has no operator: its length, and what follows. A length beyond the limits is for the

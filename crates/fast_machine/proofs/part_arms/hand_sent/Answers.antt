@@ -18,7 +18,7 @@ use Rattle.fast_machine.specs.device.Positions.{going_on}
 use Rattle.fast_machine.proofs.arms.Passed.{passed_on}
 use Rattle.fast_machine.proofs.arms.Led.{led_took, led_stopped}
 use Rattle.fast_machine.proofs.steps.Moves.{moves_one, moves_halt}
-use Rattle.fast_machine.proofs.decimal_arms.hand_sent.Goals as goal
+use Rattle.fast_machine.proofs.part_arms.hand_sent.Goals as goal
 
 pub returns-in_default : goal.returns-in_default
 returns-in_default g c = record {

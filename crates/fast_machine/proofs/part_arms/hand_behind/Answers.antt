@@ -15,7 +15,7 @@ use Rattle.fast_machine.specs.device.Parts.{IsLedTo}
 use Rattle.fast_machine.specs.device.Passing.{value_then}
 use Rattle.fast_machine.specs.device.Positions.{going_on}
 use Rattle.fast_machine.proofs.arms.Led.{led_went, led_took, led_stopped}
-use Rattle.fast_machine.proofs.decimal_arms.hand_behind.Goals as goal
+use Rattle.fast_machine.proofs.part_arms.hand_behind.Goals as goal
 
 -- A turn that neither hands something over nor waits is silent.
 silent : (t : Turn) → t ≢ Handed → t ≢ Waits → t ≡ Silent

@@ -9,7 +9,7 @@ use Rattle.fast_cursor.specs.device.Places.{at_place}
 use Rattle.fast_machine.specs.declared.machine.Turn.TheVariants.{Silent}
 use Rattle.fast_machine.proofs.arms.Led.{led_went, led_took}
 use Rattle.fast_machine.proofs.arms.Passed.{passed_on}
-use Rattle.fast_machine.proofs.decimal_arms.pass_absent.Goals as goal
+use Rattle.fast_machine.proofs.part_arms.pass_absent.Goals as goal
 
 pub returns-then-bytes-gt0 : goal.returns-then-bytes-gt0
 returns-then-bytes-gt0 g c = record {
