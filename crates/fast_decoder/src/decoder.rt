@@ -116,7 +116,7 @@ impl<'t> Decoder<'t> {
             → Followed S.takes S.stops (tree self.old) self.old.limits w es piece.now sink.old result self.new
             sink.new }
         // The turns of the call are at most the cap of a message and one for each byte that it consumes.
-        // A turn is one part settled, or one frame or element opened or closed.
+        // A turn is a part settled, or a frame or element opened or closed; docs/DEFINITIONS.md tells what counts as one.
         ensures turns { turns self.new
             ≤ (self.new.consumed - self.old.consumed) * (1 + turn_cap (tree self.new) self.new.limits) }
     {

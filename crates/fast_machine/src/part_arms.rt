@@ -1,14 +1,12 @@
 //! The arms of decimals by parts: an exponent and a mantissa, each with an operator of its own.
 
-ghost use Rattle.std.specs.Prelude.{◌≡◌, ◌⊎◌, ℕ, None, ◌<◌, ◌≤◌, true, false, if◌then◌else◌, length, Some, IfSome, option_map};
+ghost use Rattle.std.specs.Prelude.{◌≡◌, ◌⊎◌, ℕ, None, ◌<◌, ◌≤◌, true, false, length, Some, option_map};
 ghost use Rattle.fast_wire.specs.meaning.Integers.{IsWithin, exponent_range};
-ghost use Rattle.fast_wire.specs.meaning.Maps.{first_bit, later_bits};
 ghost use Rattle.fast_value.specs.declared.settings.Limits.{Limits};
 ghost use Rattle.fast_value.specs.meaning.Values.{scalar_data};
 ghost use Rattle.fast_tree.specs.meaning.Tree.{FieldData, uses_bit};
 ghost use Rattle.fast_tree.specs.device.Nodes.{field_data};
-ghost use Rattle.fast_cursor.specs.device.Cursors.{CursorData, bits_left};
-ghost use Rattle.fast_cursor.specs.device.Places.{place_left, at_place, IsPlaceOf, HasBits};
+ghost use Rattle.fast_cursor.specs.device.Places.{place_left, HasBits};
 ghost use Rattle.fast_units.specs.device.DecimalParts.{IsPart, IsUsualExponent};
 ghost use Rattle.fast_machine.specs.declared.machine.Machine.{Machine};
 ghost use Rattle.fast_machine.specs.declared.spot.Spot.{Spot};
@@ -21,7 +19,6 @@ use crate::machine::{Machine, Turn};
 use crate::settling::hand;
 use crate::spot::{Spot, Went, pass_value};
 use crate::turns::Turns;
-use fast_cursor::place::Place;
 use fast_program::Op;
 use fast_stream::{Event, Sink};
 use fast_template::{FieldInstruction, Operator, Shape, Templates};

@@ -7,7 +7,7 @@ ghost use Rattle.fast_value.specs.meaning.Limits.{Bounds, bounds};
 ghost use Rattle.fast_tree.specs.device.Nodes.{field_data};
 ghost use Rattle.fast_tree.specs.meaning.Tree.{FieldData};
 ghost use Rattle.fast_dict.specs.meaning.Dictionary.{Dictionary};
-ghost use Rattle.fast_dict.specs.meaning.Operators.{nothing, ranged};
+ghost use Rattle.fast_dict.specs.meaning.Operators.{ranged};
 ghost use Rattle.fast_dict.specs.meaning.Slots.{slots_dictionary, slots_terms};
 ghost use Rattle.fast_cursor.specs.device.Cursors.{resting};
 ghost use Rattle.fast_stream.specs.device.GrammarReaders.{reader_of};

@@ -1,4 +1,4 @@
-//! The quick way behind a turn of the machine: units that stand whole in the piece and are of the most common forms. All else is left
+//! The quick way behind a turn, and where a piece begins: units that stand whole in the piece and are of common forms. All else is left
 //! to the general way; the quick way has changed nothing then.
 
 ghost use Rattle.std.specs.Prelude.{◌≡◌, ◌≢◌, ◌+◌, ◌<◌, ℕ, List, length, Ok, IfSome, IfNone};

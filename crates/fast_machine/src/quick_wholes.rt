@@ -1,10 +1,9 @@
 //! The quick way of fields that are numbers, behind a turn at whose end the machine waits for one, or at the start of a piece: integers,
 //! and whole decimals under delta, both units at once.
 
-ghost use Rattle.std.specs.Prelude.{◌≡◌, ◌≢◌, ◌+◌, ℕ, List, [], length, Ok, IfSome, IfNone};
+ghost use Rattle.std.specs.Prelude.{◌≡◌, ◌≢◌, ◌+◌, ℕ, List, [], Ok, IfSome, IfNone};
 ghost use Rattle.fast_wire.specs.device.Words.{IsShortEntity};
 ghost use Rattle.fast_value.specs.meaning.Limits.{Bounds};
-ghost use Rattle.fast_tree.specs.device.Nodes.{field_data};
 ghost use Rattle.fast_dict.specs.meaning.Slots.{slots_terms};
 ghost use Rattle.fast_units.specs.device.Deciding.{source_of};
 ghost use Rattle.fast_units.specs.device.Words.{ServesField, sent_reader, IsLastUnitOf};

@@ -6,7 +6,6 @@ ghost use Rattle.fast_tree.specs.device.Nodes.{field_data};
 ghost use Rattle.fast_tree.specs.device.Numbers.{AreBelow};
 ghost use Rattle.fast_tree.specs.meaning.Sizes.{body_depth};
 ghost use Rattle.fast_tree.specs.meaning.Tree.{bits_of};
-ghost use Rattle.fast_dict.specs.meaning.Operators.{nothing};
 ghost use Rattle.fast_dict.specs.meaning.Slots.{slots_dictionary, slots_terms};
 ghost use Rattle.fast_cursor.specs.device.Runs.{IsRun};
 ghost use Rattle.fast_stream.specs.device.GrammarReaders.{reader_of};

@@ -1,6 +1,6 @@
 //! Steps in the general way: a turn of the machine, and the unit that it waits for, if that is one for the quick way.
 
-ghost use Rattle.std.specs.Prelude.{◌≡◌, ◌≢◌, ℕ, List, true, false, Ok, Err};
+ghost use Rattle.std.specs.Prelude.{◌≡◌, ◌≢◌, ℕ, true, false, Ok, Err};
 ghost use Rattle.fast_machine.specs.declared.machine.Waiting.{Waiting};
 ghost use Rattle.fast_stream.specs.declared.faults.FaultCode.{FaultCode};
 ghost use Rattle.fast_machine.specs.device.Handing.{Hands};

@@ -1,6 +1,6 @@
 //! What a machine does with the bytes of a piece: it takes units, and all that they decide.
 
-ghost use Rattle.std.specs.Prelude.{◌≡◌, ◌+◌, ◌*◌, ◌<◌, ◌≤◌, not, true, false, ℕ, length, Err, take, IsOk, OnOk, Some, None, Ok};
+ghost use Rattle.std.specs.Prelude.{◌≡◌, ◌+◌, ◌*◌, ◌<◌, ◌≤◌, true, false, ℕ, length, Err, take, IsOk, OnOk, Some, None, Ok};
 ghost use Rattle.fast_value.specs.declared.settings.Limits.{Limits};
 ghost use Rattle.fast_machine.specs.declared.machine.Machine.{Machine};
 ghost use Rattle.fast_machine.specs.device.Handing.{Fed, waiting_at};
@@ -12,7 +12,6 @@ ghost use Rattle.fast_machine.specs.device.Positions.{set_of, tree_in, IsSupplie
 
 use crate::machine::{Machine, Turn, Waiting};
 use crate::quick_units::UnitTaken;
-use crate::settling::hand;
 use crate::turns::Turns;
 use fast_stream::{FaultCode, Sink};
 use fast_template::Templates;
@@ -57,7 +56,7 @@ impl UnitTaken {
 
 impl<'t> Machine<'t> {
     /// Keeps all of the rest in hand, if none of its bytes is the last one of the unit that the machine waits for: no more is to be done for
-    /// it then. Where it keeps nothing, it has not been told apart whether one is.
+    /// it then. Where it answers `false` nothing has changed, and one of them may be.
     #[inline(always)]
     pub fn gathers(&mut self, templates: &'t Templates, limits: Limits, rest: &[u8]) -> bool
         requires ready { IsReady (set_of templates.now) limits self.old }
