@@ -1,7 +1,6 @@
 -- What the machine's functions do with each kind of unit.
 pub mod CutMaps
 pub mod UnitTaken
-pub mod QuickSteps
 pub mod OpenMaps
 pub mod ShortMaps
 pub mod StartMaps

@@ -214,6 +214,7 @@ impl<'t> Machine<'t> {
     }
 
     /// Takes bytes of a text or of a later unit of a field.
+    #[inline(always)]
     fn take_scalar(
         &mut self,
         templates: &'t Templates,

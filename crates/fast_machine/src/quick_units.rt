@@ -90,7 +90,13 @@ impl<'t> Machine<'t> {
                 self.take_short_mantissa(templates, limits, exponent, rest, sink)
             }
             Waiting::SegmentMap(_) => self.open_quickly(templates, limits, rest, sink),
-            Waiting::Field => self.take_short_number(templates, limits, rest, sink),
+            Waiting::Field => {
+                if self.entity.is_empty() {
+                    self.take_short_number(templates, limits, rest, sink)
+                } else {
+                    self.take_held_number(templates, limits, rest, sink)
+                }
+            }
             _ => None,
         }
     }

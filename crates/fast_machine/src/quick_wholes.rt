@@ -1,14 +1,19 @@
 //! The quick way of fields that are numbers, behind a turn at whose end the machine waits for one, or at the start of a piece: integers,
 //! and whole decimals under delta, both units at once.
 
-ghost use Rattle.std.specs.Prelude.{◌≡◌, ◌≢◌, ◌+◌, ℕ, List, [], Ok, IfSome, IfNone};
+ghost use Rattle.std.specs.Prelude.{◌≡◌, ◌≢◌, ◌⊎◌, ◌+◌, ◌<◌, true, false, ℕ, List, [], Ok, IfSome, IfNone};
+ghost use Rattle.fast_wire.specs.meaning.Maps.{first_bit};
 ghost use Rattle.fast_wire.specs.device.Words.{IsShortEntity};
 ghost use Rattle.fast_value.specs.meaning.Limits.{Bounds};
+ghost use Rattle.fast_tree.specs.meaning.Tree.{uses_bit};
+ghost use Rattle.fast_tree.specs.device.Nodes.{field_data};
 ghost use Rattle.fast_dict.specs.meaning.Slots.{slots_terms};
+ghost use Rattle.fast_cursor.specs.device.Cursors.{bits_left};
 ghost use Rattle.fast_units.specs.device.Deciding.{source_of};
 ghost use Rattle.fast_units.specs.device.Words.{ServesField, sent_reader, IsLastUnitOf};
 ghost use Rattle.fast_machine.specs.device.UnitTaken.{IsTakenTo};
-ghost use Rattle.fast_machine.specs.device.Positions.{set_of, IsReady, meaning};
+ghost use Rattle.fast_machine.specs.device.Positions.{set_of, CanTurn, IsReady, meaning};
+ghost use Rattle.fast_machine.specs.device.Steps.{IsStep};
 ghost use Rattle.fast_machine.specs.device.TurnsLeft.{Way, HasTurns, HasTurnsBehind};
 
 use crate::machine::{Machine, Turn, Waiting};
@@ -82,9 +87,96 @@ fn integer_item(
 }
 
 impl<'t> Machine<'t> {
-    /// Takes the next instruction, if it is an integer, or a whole decimal under delta, of which both units are taken.
+    /// Whether the next instruction, this field, uses a presence bit, if it stands in the stream.
+    #[inline(always)]
+    fn bit_of_sent(&self, field: &FieldInstruction) -> Option<bool>
+        ensures uses { IfSome result (λ has_bit. has_bit ≡ uses_bit (field_data field.now)) }
+        ensures varies { IfSome result (λ _. field.now.operator ≢ Operator.Constant) }
+        ensures sent { IfSome result
+            (λ has_bit. (has_bit ≡ false) ⊎ (first_bit (bits_left self.now.cursor) ≡ true)) }
+    {
+        let has_bit = field.uses_bit();
+        if field.operator == Operator::Constant {
+            return None;
+        }
+        if has_bit && !self.cursor.bit() {
+            return None;
+        }
+        Some(has_bit)
+    }
+
+    /// The same as [`Machine::take_short_number`] where a byte is left, and else nothing.
+    #[inline(always)]
+    pub fn take_last_number<S: Sink>(
+        &mut self,
+        templates: &'t Templates,
+        limits: Limits,
+        rest: &[u8],
+        sink: &mut S,
+    ) -> Option<UnitTaken>
+        requires waits { self.old.waiting ≡ Waiting.Field }
+        requires turn { CanTurn (set_of templates.now) limits self.old }
+        ensures none { IfNone result ((self.new ≡ self.old) × (sink.new ≡ sink.old)) }
+        ensures step { IfSome result (λ q. IsStep S.takes S.stops (set_of templates.now) limits self.old rest.now
+            sink.old q sink.new self.new) }
+        ensures some { IfSome result (λ q. 0 < q.bytes) }
+        ensures on { IfSome result (λ q. q.turn ≢ Ok Turn.Waits) }
+        ensures waits { self.new.waiting ≡ Waiting.Field }
+    {
+        if rest.is_empty() {
+            return None;
+        }
+        self.take_short_number(templates, limits, rest, sink)
+    }
+
+    /// Takes the next instruction, if it is an integer that stands in the stream, or a whole decimal under delta, of which both units are
+    /// taken.
     #[inline(never)]
     pub fn take_short_number<S: Sink>(
+        &mut self,
+        templates: &'t Templates,
+        limits: Limits,
+        rest: &[u8],
+        sink: &mut S,
+    ) -> Option<UnitTaken>
+        requires waits { self.old.waiting ≡ Waiting.Field }
+        requires turn { CanTurn (set_of templates.now) limits self.old }
+        ensures none { IfNone result ((self.new ≡ self.old) × (sink.new ≡ sink.old)) }
+        ensures step { IfSome result (λ q. IsStep S.takes S.stops (set_of templates.now) limits self.old rest.now
+            sink.old q sink.new self.new) }
+        ensures some { IfSome result (λ q. 0 < q.bytes) }
+        ensures taken { IfSome result
+            (λ q. IsTakenTo S.takes S.stops (set_of templates.now) limits
+            (meaning (set_of templates.now) limits self.old) rest.now sink.old q.bytes q.turn sink.new self.new) }
+        ensures on { IfSome result (λ q. q.turn ≢ Ok Turn.Waits) }
+        ensures waits { self.new.waiting ≡ Waiting.Field }
+        ensures turns { (way : Way) (n : ℕ) → HasTurns way (set_of templates.now) limits 1 n self.old
+            → IfSome result (λ q. HasTurnsBehind q.turn way (set_of templates.now) limits (1 + n) self.new) }
+    {
+        let number = self.cursor.next()?;
+        let Shape::Field(field) = &templates.node(number).shape else {
+            return None;
+        };
+        let has_bit = self.bit_of_sent(field)?;
+        match field.kind {
+            Kind::UInt32 | Kind::Int32 | Kind::UInt64 | Kind::Int64 => {
+                let entity = short_entity(rest)?;
+                let item = integer_item(&mut self.slots, field, rest, entity, limits.strict)?;
+                Some(self.sent(number, has_bit, item, entity.len, sink))
+            }
+            Kind::Decimal if field.operator == Operator::Delta => {
+                let decimal = delta_decimal(&mut self.slots, field, rest, limits.strict)?;
+                let item = Some(decimal.number);
+                Some(self.sent(number, false, item, decimal.bytes, sink))
+            }
+            Kind::Decimal | Kind::Ascii | Kind::Unicode | Kind::Bytes => None,
+        }
+    }
+
+    /// Takes the next instruction, an integer of which some bytes are in hand, if it ends within eight bytes. The bytes in hand and those
+    /// behind them are put together apart from the machine, so that nothing has changed where it isn't taken.
+    #[inline(never)]
+    pub fn take_held_number<S: Sink>(
         &mut self,
         templates: &'t Templates,
         limits: Limits,
@@ -101,25 +193,18 @@ impl<'t> Machine<'t> {
         ensures turns { (way : Way) (n : ℕ) → HasTurns way (set_of templates.now) limits 1 n self.old
             → IfSome result (λ q. HasTurnsBehind q.turn way (set_of templates.now) limits (1 + n) self.new) }
     {
-        if !self.entity.is_empty() {
-            return None;
-        }
         let number = self.cursor.next()?;
         let Shape::Field(field) = &templates.node(number).shape else {
             return None;
         };
-        match field.kind {
-            Kind::UInt32 | Kind::Int32 | Kind::UInt64 | Kind::Int64 => {
-                let entity = short_entity(rest)?;
-                let item = integer_item(&mut self.slots, field, rest, entity, limits.strict)?;
-                Some(self.sent(number, field.uses_bit(), item, entity.len, sink))
-            }
-            Kind::Decimal if field.operator == Operator::Delta => {
-                let decimal = delta_decimal(&mut self.slots, field, rest, limits.strict)?;
-                let item = Some(decimal.number);
-                Some(self.sent(number, false, item, decimal.bytes, sink))
-            }
-            Kind::Decimal | Kind::Ascii | Kind::Unicode | Kind::Bytes => None,
+        let held = self.entity.len();
+        let (bytes, count) = self.entity.joined(rest)?;
+        let entity = short_entity(&bytes)?;
+        if entity.len <= held || entity.len > held + count {
+            return None;
         }
+        let item = integer_item(&mut self.slots, field, &bytes, entity, limits.strict)?;
+        self.entity.clear();
+        Some(self.sent(number, field.uses_bit(), item, entity.len - held, sink))
     }
 }

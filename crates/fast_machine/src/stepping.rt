@@ -1,6 +1,6 @@
 //! Steps in the general way: a turn of the machine, and the unit that it waits for, if that is one for the quick way.
 
-ghost use Rattle.std.specs.Prelude.{◌≡◌, ◌≢◌, ℕ, true, false, Ok, Err};
+ghost use Rattle.std.specs.Prelude.{◌≡◌, ◌≢◌, ◌<◌, ℕ, true, false, Ok, Err};
 ghost use Rattle.fast_machine.specs.declared.machine.Waiting.{Waiting};
 ghost use Rattle.fast_stream.specs.declared.faults.FaultCode.{FaultCode};
 ghost use Rattle.fast_machine.specs.device.Handing.{Hands};
@@ -18,6 +18,18 @@ use fast_units::fields::needs_bytes;
 use fast_value::Limits;
 
 impl UnitTaken {
+    /// So many bytes, behind which the machine goes on.
+    #[inline(always)]
+    pub fn gone_on(bytes: usize) -> UnitTaken
+        ensures bytes { result.bytes ≡ bytes }
+        ensures turn { result.turn ≡ Ok Turn.Silent }
+    {
+        UnitTaken {
+            bytes,
+            turn: Ok(Turn::Silent),
+        }
+    }
+
     /// Whether the machine goes on, and why not.
     #[inline(always)]
     pub fn outcome(&self) -> Result<(), FaultCode>
@@ -27,6 +39,17 @@ impl UnitTaken {
         match self.turn {
             Ok(_) => Ok(()),
             Err(code) => Err(code),
+        }
+    }
+
+    /// Whether the machine waits for a byte.
+    #[inline(always)]
+    pub fn waits(&self) -> bool
+        ensures { result ≡ true → self.now.turn ≡ Ok Turn.Waits }
+    {
+        match self.turn {
+            Ok(turn) => turn == Turn::Waits,
+            Err(_) => false,
         }
     }
 
@@ -152,15 +175,37 @@ impl<'t> Machine<'t> {
             → IsStep S.takes S.stops (set_of templates.now) limits m rest.now s result sink.new self.new }
         ensures waits { (t : Turn) → result.turn ≡ Ok t → t ≢ Turn.Waits → self.new.waiting ≡ Waiting.Field }
     {
+        if let Some(quick) = self.take_whole(templates, limits, rest, sink) {
+            self.wait_for_field();
+            return quick;
+        }
+        self.take_slowly(templates, limits, rest, sink)
+    }
+
+    /// The same of a unit that is not for the quick way.
+    #[inline(always)]
+    pub fn take_slowly<S: Sink>(
+        &mut self,
+        templates: &'t Templates,
+        limits: Limits,
+        rest: &[u8],
+        sink: &mut S,
+    ) -> UnitTaken
+        requires ready { IsReady (set_of templates.now) limits self.old }
+        ensures step { (m : Machine) (s : S)
+            → Hands S.takes S.stops (turning (set_of templates.now) limits m) s (Ok tt) sink.old
+            (meaning (set_of templates.now) limits self.old)
+            → ((way : Way) (n : ℕ) → HasTurns way (set_of templates.now) limits 0 n m
+            → HasTurnsWaiting way (set_of templates.now) limits n self.old)
+            → IsStep S.takes S.stops (set_of templates.now) limits m rest.now s result sink.new self.new }
+        ensures waits { (t : Turn) → result.turn ≡ Ok t → t ≢ Turn.Waits → self.new.waiting ≡ Waiting.Field }
+        ensures some { (t : Turn) → result.turn ≡ Ok t → t ≢ Turn.Waits → 0 < result.bytes }
+    {
         if rest.is_empty() {
             return UnitTaken {
                 bytes: 0,
                 turn: Ok(Turn::Waits),
             };
-        }
-        if let Some(quick) = self.take_whole(templates, limits, rest, sink) {
-            self.wait_for_field();
-            return quick;
         }
         if self.gathers(templates, limits, rest) {
             return UnitTaken::cut(rest);
@@ -168,6 +213,13 @@ impl<'t> Machine<'t> {
         let unit = self.take_unit(templates, limits, rest, sink);
         if unit.goes_on() {
             self.wait_for_field();
+            return unit;
+        }
+        if unit.waits() && unit.bytes < rest.len() {
+            // the next unit of the same field, most often the bytes of a vector behind their number
+            if self.gathers(templates, limits, &rest[unit.bytes..]) {
+                return UnitTaken::cut(rest);
+            }
         }
         unit
     }

@@ -24,6 +24,9 @@ use fast_stream::{FaultCode, Sink};
 use fast_template::{Operator, Templates};
 use fast_value::{Kind, Limits};
 
+/// The arms of integers take eight bytes at once, so the last integers of a piece are taken one after the other in the general way.
+const FEW: usize = 8;
+
 impl<'t> Machine<'t> {
     /// The op at a place: the next instruction's, or the end of the innermost segment.
     #[inline(always)]
@@ -41,8 +44,9 @@ impl<'t> Machine<'t> {
         place.op()
     }
 
-    /// A step in the general way: that a field waits for its unit is by far the most common turn, and is asked for first. It is marked as
-    /// cold so that the loop's registers are given out by what the arms want.
+    /// A step in the general way, or several, where few bytes are left: the last integers of a piece. That a field waits for its unit is by far
+    /// the most common turn of the others, and is asked for first. It is marked as cold so that the loop's registers are given out by what the
+    /// arms want.
     #[cold]
     #[inline(never)]
     fn general_step<S: Sink>(
@@ -53,12 +57,38 @@ impl<'t> Machine<'t> {
         sink: &mut S,
     ) -> UnitTaken
         requires turn { CanTurn (set_of templates.now) limits self.old }
+        requires waits { self.old.waiting ≡ Waiting.Field }
         ensures step { IsStep S.takes S.stops (set_of templates.now) limits self.old rest.now sink.old result sink.new
             self.new }
         ensures waits { (t : Turn) → result.turn ≡ Ok t → t ≢ Turn.Waits → self.new.waiting ≡ Waiting.Field }
     {
+        let mut left = rest;
+        while let Some(quick) = self.take_last_number(templates, limits, left, sink) {
+            left = &left[quick.bytes..];
+            if !quick.goes_on() {
+                return UnitTaken {
+                    bytes: rest.len() - left.len(),
+                    turn: quick.turn,
+                };
+            }
+            if left.len() >= FEW {
+                return UnitTaken::gone_on(rest.len() - left.len());
+            }
+        }
         if self.waits_at_once(templates, limits, sink) {
-            return self.take_behind(templates, limits, rest, sink);
+            let step = self.take_slowly(templates, limits, left, sink);
+            left = &left[step.bytes..];
+            let bytes = rest.len() - left.len();
+            if step.goes_on() {
+                return UnitTaken::gone_on(bytes);
+            }
+            return UnitTaken {
+                bytes,
+                turn: step.turn,
+            };
+        }
+        if left.len() < rest.len() {
+            return UnitTaken::gone_on(rest.len() - left.len());
         }
         self.step_by_turn(templates, limits, rest, sink)
     }

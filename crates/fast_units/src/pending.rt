@@ -1,6 +1,6 @@
 //! The bytes of an integer that a piece has cut, and how those of the next pieces complete it.
 
-ghost use Rattle.std.specs.Prelude.{◌≡◌, ◌<◌, ◌≤◌, ◌==◌, true, false, [], ◌++◌, length, Some, pos, IfOk, IfErr};
+ghost use Rattle.std.specs.Prelude.{◌≡◌, ◌+◌, ◌<◌, ◌≤◌, ◌==◌, true, false, [], ◌++◌, length, take, Some, pos, IfOk, IfErr, IfSome};
 ghost use Rattle.fast_wire.specs.meaning.Entities.{HaveNoStop, IsEntity};
 ghost use Rattle.fast_wire.specs.meaning.Integers.{unsigned_up_to, SpellsInt};
 ghost use Rattle.fast_units.specs.device.NextUnits.{range_data, IsRefusedInt, IsGathered, IsNextInteger};
@@ -59,6 +59,32 @@ impl Pending {
         }
         let _ = gather(&mut self.bytes, rest);
         true
+    }
+
+    /// How many bytes are in hand.
+    #[inline]
+    pub fn len(&self) -> usize
+        ensures { result ≡ length self.now.bytes }
+    {
+        self.bytes.len()
+    }
+
+    /// Eight bytes: those in hand, and behind them as many of the rest as there is place for, which are counted. What is in hand stays so.
+    #[inline(always)]
+    pub fn joined(&self, rest: &[u8]) -> Option<([u8; 8], usize)>
+        ensures within { IfSome result (λ r. r.1 ≤ length rest.now) }
+        ensures joined { IfSome result (λ r. take (length self.now.bytes + r.1) r.0
+            ≡ self.now.bytes ++ take r.1 rest.now) }
+    {
+        let held = self.bytes.len();
+        if held > 8 {
+            return None;
+        }
+        let mut cells = [0; 8];
+        cells[..held].copy_from_slice(self.bytes.as_slice());
+        let count = rest.len().min(8 - held);
+        cells[held..held + count].copy_from_slice(&rest[..count]);
+        Some((cells, count))
     }
 
     /// The integer, or NULL where it may be, byte by byte.

@@ -48,6 +48,7 @@ pub fn take_only(
 }
 
 /// The first unit of a field that begins with an integer.
+#[inline(always)]
 pub fn take_first(
     slots: &mut Slots,
     pending: &mut Pending,
@@ -158,6 +159,7 @@ pub fn take_number(
 }
 
 /// A later unit, which is an ASCII text or a run of bytes.
+#[inline(always)]
 pub fn take_bytes(
     slots: &mut Slots,
     scratch: &mut Scratch,

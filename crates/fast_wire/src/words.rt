@@ -21,7 +21,7 @@ pub struct ShortEntity {
     pub len: usize,
 }
 
-/// The first entity, if it ends within eight bytes that are there, within the first four, or within the last three of a piece.
+/// The first entity, if it ends within eight bytes. Where fewer are left of a piece, those that are there are enough.
 #[inline(always)]
 pub fn short_entity(bytes: &[u8]) -> Option<ShortEntity>
     ensures { IfSome result (λ e. IsShortEntity e.number e.len bytes.now) }
@@ -33,6 +33,9 @@ pub fn short_entity(bytes: &[u8]) -> Option<ShortEntity>
         return Some(ShortEntity { number, len });
     }
     if let Some((number, len)) = few_bytes(bytes) {
+        return Some(ShortEntity { number, len });
+    }
+    if let Some((number, len)) = seven_bytes(bytes) {
         return Some(ShortEntity { number, len });
     }
     let (number, len) = eight_bytes(bytes)?;
@@ -80,6 +83,24 @@ fn few_bytes(bytes: &[u8]) -> Option<(u64, usize)>
         _ => return None,
     };
     let (number, len) = four_bytes(&[bytes[0], bytes[1], third, 0])?;
+    if len > bytes.len() {
+        return None;
+    }
+    Some((number, len))
+}
+
+/// The same of five to seven bytes, by eight bytes with zeros behind.
+#[cold]
+#[inline(never)]
+fn seven_bytes(bytes: &[u8]) -> Option<(u64, usize)>
+    ensures { IfSome result (λ e. IsShortEntity e.0 e.1 bytes.now) }
+{
+    if bytes.len() < 5 || bytes.len() > 7 {
+        return None;
+    }
+    let mut cells = [0; 8];
+    cells[..bytes.len()].copy_from_slice(bytes);
+    let (number, len) = eight_bytes(&cells)?;
     if len > bytes.len() {
         return None;
     }

@@ -211,6 +211,39 @@ module _ {S : Type 0} (takes stops : S → EventData → S → Type 0) (set : Se
         turns = h.turns;
       }
 
+  -- Behind a unit at whose end the machine waits for another one, bytes of that.
+  pub step_and_unit : (m b : Machine) (rest : List ℕ) (s mid : S) (q : UnitTaken) (k : ℕ) (all : UnitTaken) (s' : S) (m' : Machine) → q.turn ≡ Ok TurnWaits → all.bytes ≡ q.bytes + k → all.turn ≡ Ok TurnWaits
+      → IsStep takes stops set l m rest s q mid b → IsTakenTo takes stops set l (meaning set l b) (take (length rest - q.bytes) (drop q.bytes rest)) mid k (Ok TurnWaits) s' m'
+      → ((way : Way) (n : ℕ) → HasTurnsWaiting way set l n b → HasTurnsWaiting way set l n m')
+      → IsStep takes stops set l m rest s all s' m'
+  step_and_unit m b rest s mid q k all s' m' waits size is step taken turns =
+      subst (λ (x : ℕ). IsStep takes stops set l m rest s (record { bytes = x; turn = all.turn }) s' m') (sym size)
+      (subst (λ (x : Result Turn FaultCode). IsStep takes stops set l m rest s (record { bytes = q.bytes + k; turn = x }) s' m') (sym is) (record {
+        within = omega (arith, inside, here, most);
+        runs = subst (λ (w : List ℕ). Runs takes stops set l m s w (Ok TurnWaits) s' m') (ap (λ w. take q.bytes rest ++ take k w) (take_rest rest q.bytes) ∙ sym (take-add q.bytes k rest))
+            (unit_behind m (meaning set l b) s mid (take q.bytes rest) left k (Ok TurnWaits) s' m' (subst (λ (t : Result Turn FaultCode). Runs takes stops set l m s (take q.bytes rest) t mid b) waits step.runs) taken);
+        supplied = taken.turn.supplied;
+        goes_on = taken.turn.goes_on;
+        silent = λ none e. absurd (cc e);
+        handed = λ none e. absurd (cc e);
+        turns = λ way n h.
+            let w : ℕ = 1 + most_by way (tree_in set) l in
+            more_behind (Ok TurnWaits) way set l (n + q.bytes * w) (n + (q.bytes + k) * w) m' (rw (add-mul q.bytes k w) (omega arith))
+            (turns way (n + q.bytes * w) (subst (λ (t : Result Turn FaultCode). HasTurnsBehind t way set l (n + q.bytes * w) b) waits (step.turns way n h)));
+      }))
+    where
+      left : List ℕ
+      left = take (length rest - q.bytes) (drop q.bytes rest)
+
+      here : length left ≡ length rest - q.bytes
+      here = ap length (take_rest rest q.bytes) ∙ length-drop q.bytes rest
+
+      inside : q.bytes ≤ length rest
+      inside = step.within
+
+      most : k ≤ length left
+      most = taken.within
+
   -- A machine between two units has taken steps up to here, where some of the piece is left.
   pub record IsSoFar (m : Machine) (piece : List ℕ) (s : S) (rest : List ℕ) (s' : S) (m' : Machine) : Type 0 where
     pub within : length rest ≤ length piece
@@ -274,6 +307,30 @@ module _ {S : Type 0} (takes stops : S → EventData → S → Type 0) (set : Se
       runs_on m s w Silent s' m' on h = h
       runs_on m s w Handed s' m' on h = h
       runs_on m s w TurnWaits s' m' on h = absurd (on refl)
+
+  -- Fewer bytes are left behind a step that took some.
+  pub fewer_left : (rest : List ℕ) (n k : ℕ) → 0 < n → n ≤ length rest → length rest ≤ k → length (take (length rest - n) (drop n rest)) < k
+  fewer_left rest n k some inside less =
+      let size : length (take (length rest - n) (drop n rest)) ≡ length rest - n = ap length (take_rest rest n) ∙ length-drop n rest in
+      omega (arith, size, some, inside, less)
+
+  -- The same under other names.
+  pub so_far_as : (m : Machine) (piece : List ℕ) (s : S) (rest : List ℕ) {s' : S} {m' : Machine} (s'' : S) (m'' : Machine) → s'' ≡ s' → m'' ≡ m' → IsSoFar m piece s rest s' m' → IsSoFar m piece s rest s'' m''
+  so_far_as m piece s rest {s'} {m'} s'' m'' e f h = subst (λ (x : S). IsSoFar m piece s rest x m'') (sym e) (subst (λ (x : Machine). IsSoFar m piece s rest s' x) (sym f) h)
+
+  -- Steps that took bytes, behind which the machine goes on, are one step.
+  pub so_far_on : (m : Machine) (piece : List ℕ) (s : S) (rest : List ℕ) (q : UnitTaken) (s' : S) (m' : Machine) → q.bytes ≡ length piece - length rest → q.turn ≡ Ok Silent → length rest < length piece → IsSoFar m piece s rest s' m' → IsStep takes stops set l m piece s q s' m'
+  so_far_on m piece s rest q s' m' size is_turn some h =
+      subst (λ (x : ℕ). IsStep takes stops set l m piece s (record { bytes = x; turn = q.turn }) s' m') (sym size)
+      (subst (λ (x : Result Turn FaultCode). IsStep takes stops set l m piece s (record { bytes = length piece - length rest; turn = x }) s' m') (sym is_turn) (record {
+        within = omega arith;
+        runs = h.runs;
+        supplied = h.turn.supplied;
+        goes_on = h.turn;
+        silent = λ none e. absurd (omega (arith, none, some));
+        handed = λ none e. absurd (omega (arith, none, some));
+        turns = λ way n c. h.turns way n c;
+      }))
 
   -- the last one
   pub so_far_end : (m : Machine) (piece : List ℕ) (s : S) (rest : List ℕ) (mid : S) (b : Machine) (q : UnitTaken) (turn : Result Turn FaultCode) (s' : S) (m' : Machine) → q.turn ≡ turn → ((t : Turn) → turn ≡ Ok t → t ≡ TurnWaits)

@@ -30,13 +30,13 @@ pub record IsTakenTo {S : Type 0} (takes stops : S → EventData → S → Type 
   pub quiet : Quiet (due (tree_in set) l from) (take n rest)
   pub turn : IsTurn takes stops set l (after_bytes (due (tree_in set) l from) (take n rest)) s result s' m
 
--- A machine waited for a field, none of whose bytes had come, and the bytes begin with the field's last unit: this number, or NULL. The
--- other machine has kept it, and is the same otherwise.
+-- A machine waited for a field, of which some bytes may be in hand, and those that come end its last unit: this number, or NULL. The other
+-- machine has kept it, has no byte in hand, and is the same otherwise.
 pub record IsSentItem (set : Set) (l : Limits) (m m' : Machine) (node : ℕ) (f : FieldData) (rest : List ℕ) (item : Option Number) (n : ℕ) : Type 0 where
-  pub kept : m' ≡ record m { slots = m'.slots }
+  pub kept : m' ≡ record m { slots = m'.slots; entity = m'.entity }
+  pub none : m'.entity.bytes ≡ []
   pub terms : slots_terms m'.slots ≡ slots_terms m.slots
   pub waits : m.waiting ≡ Field
   pub ready : IsReady set l m
-  pub none : m.entity.bytes ≡ []
   pub next : IsAtField set m.cursor node f
-  pub unit : (scratch : List ℕ) → IsLastUnit (reader_of l.strict (field_term (bounds l) f (previous_at f.entry (slots_dictionary m.slots)) true)) f [] rest (slots_dictionary m.slots) (slots_dictionary m'.slots) scratch (Whole (source_of item) n)
+  pub unit : (scratch : List ℕ) → IsLastUnit (reader_of l.strict (field_term (bounds l) f (previous_at f.entry (slots_dictionary m.slots)) true)) f m.entity.bytes rest (slots_dictionary m.slots) (slots_dictionary m'.slots) scratch (Whole (source_of item) n)

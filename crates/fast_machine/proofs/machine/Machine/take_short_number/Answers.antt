@@ -1,56 +1,151 @@
 -- The number, and what follows it.
 use Rattle.std.proofs.Common.{rules, sym, ◌∙◌}
-use Rattle.std.specs.Prelude.{◌≡◌, false, Some}
+use Rattle.std.specs.Prelude.{◌≡◌, ◌≢◌, false, Some}
+use Rattle.fast_value.specs.declared.kinds.Kind.TheVariants.{Ascii}
 use Rattle.fast_value.specs.meaning.Limits.{bounds}
 use Rattle.fast_tree.specs.device.Nodes.{field_data}
 use Rattle.fast_tree.specs.meaning.Tree.{uses_bit}
 use Rattle.fast_tree.specs.declared.instructions.Shape.TheVariants.{Field}
-use Rattle.fast_units.proofs.NextUnits.{none_in_hand}
 use Rattle.fast_machine.specs.device.Positions.{set_of}
-use Rattle.fast_machine.proofs.steps.FieldTurns.{serves_here}
-use Rattle.fast_machine.proofs.fields.Heads.{field_head}
-use Rattle.fast_machine.proofs.fields.ScalarNodes.{served_node, first_begins}
-use Rattle.fast_machine.proofs.machines.SentItems.{sent_item}
+use Rattle.fast_machine.proofs.steps.FieldTurns.{serves_here, state_of}
+use Rattle.fast_machine.proofs.fields.QuickFields.{sent_by_bit}
+use Rattle.fast_machine.proofs.fields.ScalarNodes.{served_node}
+use Rattle.fast_machine.proofs.machines.SentItems.{sent_item, number_waits, number_step}
 use Rattle.fast_machine.proofs.machine.Machine.take_short_number.Goals as goal
 
 pub integer_item-requires-clause-serves : goal.integer_item-requires-clause-serves
 integer_item-requires-clause-serves g c =
-    serves_here (set_of c.args.templates.now) c.args.limits c.args.self.now (field_data c.in-Field.field) c.requires.ready.supplied
-    (served_node (set_of c.args.templates.now) c.args.limits c.args.self.now c.in_ok-number.number c.node.result.now (Field c.in-Field.field) c.requires.ready.supplied c.node.ensures.found c.in-Field.is)
-
-pub integer_item-requires-clause-varies : goal.integer_item-requires-clause-varies
-integer_item-requires-clause-varies g c =
-    (first_begins (set_of c.args.templates.now) c.args.limits c.args.self.now c.in_ok-number.number (field_data c.in-Field.field) c.requires.ready c.requires.waits
-    (field_head c.args.templates.now c.args.self.now.cursor c.in_ok-number.number c.node.result.now (sym c.next.ensures ∙ c.in_ok-number.was) c.node.ensures.found c.in-Field.field c.in-Field.is)).0.varies
+    serves_here (set_of c.args.templates.now) c.args.limits c.args.self.now (field_data c.in-Field.field) c.requires.turn.supplied
+    (served_node (set_of c.args.templates.now) c.args.limits c.args.self.now c.in_ok-number.number c.node.result.now (Field c.in-Field.field) c.requires.turn.supplied c.node.ensures.found c.in-Field.is)
 
 pub delta_decimal-requires-clause-serves : goal.delta_decimal-requires-clause-serves
 delta_decimal-requires-clause-serves g c =
-    serves_here (set_of c.args.templates.now) c.args.limits c.args.self.now (field_data c.in-Field.field) c.requires.ready.supplied
-    (served_node (set_of c.args.templates.now) c.args.limits c.args.self.now c.in_ok-number.number c.node.result.now (Field c.in-Field.field) c.requires.ready.supplied c.node.ensures.found c.in-Field.is)
+    serves_here (set_of c.args.templates.now) c.args.limits c.args.self.now (field_data c.in-Field.field) c.requires.turn.supplied
+    (served_node (set_of c.args.templates.now) c.args.limits c.args.self.now c.in_ok-number.number c.node.result.now (Field c.in-Field.field) c.requires.turn.supplied c.node.ensures.found c.in-Field.is)
 
 pub returns-in_ok-item-in-UInt32-clause-taken : goal.returns-in_ok-item-in-UInt32-clause-taken
 returns-in_ok-item-in-UInt32-clause-taken g c =
-    c.sent.ensures.taken (set_of c.args.templates.now) c.args.limits c.args.self.now c.args.rest.now (field_data c.in-Field.field)
-    c.uses_bit.ensures
-    (sent_item c.args.templates.now c.args.limits c.args.self.now c.integer_item.new.slots c.in_ok-number.number c.node.result.now c.in-Field.field c.args.rest.now c.in_ok-item-in-UInt32.item c.in_ok-entity-in-UInt32.entity.len
-    c.requires.waits c.requires.ready (none_in_hand c.args.self.now.entity.bytes c.if-not-is_empty.ensures) (sym c.next.ensures ∙ c.in_ok-number.was) c.node.ensures.found c.in-Field.is c.integer_item.ensures.terms (c.in_ok-item-in-UInt32.ensures.unit (bounds c.args.limits)))
+    let set = set_of c.args.templates.now in
+    let l = c.args.limits in
+    let m = c.args.self.now in
+    let field = c.in-Field.field in
+    let here = sym c.next.ensures ∙ c.in_ok-number.was in
+    let other : field.kind ≢ Ascii = search rules in
+    let uses = c.in_ok-has_bit.ensures in
+    let waits = number_waits g.S.Sink.takes g.S.Sink.stops c.args.templates.now l m c.args.sink.now c.in_ok-number.number c.node.result.now field c.requires.waits c.requires.turn here c.node.ensures.found c.in-Field.is
+    (sent_by_bit (field_data field) (state_of m) c.in_ok-has_bit.has_bit uses.varies (sym uses.uses) uses.sent) other in
+    let item = sent_item c.args.templates.now l m c.integer_item.new.slots c.in_ok-number.number c.node.result.now field c.requires.waits waits.goes_on here c.node.ensures.found c.in-Field.is c.integer_item.ensures.terms
+    c.args.rest.now c.in_ok-item-in-UInt32.item c.in_ok-entity-in-UInt32.entity.len c.requires.turn.unused (c.in_ok-item-in-UInt32.ensures.unit (bounds l)) in
+    c.sent.ensures.taken set l m c.args.rest.now (field_data field) uses.uses item
 
 pub returns-in_ok-item-in-UInt32-clause-turns : goal.returns-in_ok-item-in-UInt32-clause-turns
 returns-in_ok-item-in-UInt32-clause-turns g c way n h =
-    c.sent.ensures.turns (set_of c.args.templates.now) c.args.limits c.args.self.now c.args.rest.now (field_data c.in-Field.field)
-    (sent_item c.args.templates.now c.args.limits c.args.self.now c.integer_item.new.slots c.in_ok-number.number c.node.result.now c.in-Field.field c.args.rest.now c.in_ok-item-in-UInt32.item c.in_ok-entity-in-UInt32.entity.len
-    c.requires.waits c.requires.ready (none_in_hand c.args.self.now.entity.bytes c.if-not-is_empty.ensures) (sym c.next.ensures ∙ c.in_ok-number.was) c.node.ensures.found c.in-Field.is c.integer_item.ensures.terms (c.in_ok-item-in-UInt32.ensures.unit (bounds c.args.limits))) way n h
+    let set = set_of c.args.templates.now in
+    let l = c.args.limits in
+    let m = c.args.self.now in
+    let field = c.in-Field.field in
+    let here = sym c.next.ensures ∙ c.in_ok-number.was in
+    let other : field.kind ≢ Ascii = search rules in
+    let uses = c.in_ok-has_bit.ensures in
+    let waits = number_waits g.S.Sink.takes g.S.Sink.stops c.args.templates.now l m c.args.sink.now c.in_ok-number.number c.node.result.now field c.requires.waits c.requires.turn here c.node.ensures.found c.in-Field.is
+    (sent_by_bit (field_data field) (state_of m) c.in_ok-has_bit.has_bit uses.varies (sym uses.uses) uses.sent) other in
+    let item = sent_item c.args.templates.now l m c.integer_item.new.slots c.in_ok-number.number c.node.result.now field c.requires.waits waits.goes_on here c.node.ensures.found c.in-Field.is c.integer_item.ensures.terms
+    c.args.rest.now c.in_ok-item-in-UInt32.item c.in_ok-entity-in-UInt32.entity.len c.requires.turn.unused (c.in_ok-item-in-UInt32.ensures.unit (bounds l)) in
+    c.sent.ensures.turns set l m c.args.rest.now (field_data field) item way n h
+
+pub returns-in_ok-item-in-UInt32-clause-some : goal.returns-in_ok-item-in-UInt32-clause-some
+returns-in_ok-item-in-UInt32-clause-some g c =
+    let set = set_of c.args.templates.now in
+    let l = c.args.limits in
+    let m = c.args.self.now in
+    let field = c.in-Field.field in
+    let here = sym c.next.ensures ∙ c.in_ok-number.was in
+    let other : field.kind ≢ Ascii = search rules in
+    let uses = c.in_ok-has_bit.ensures in
+    let waits = number_waits g.S.Sink.takes g.S.Sink.stops c.args.templates.now l m c.args.sink.now c.in_ok-number.number c.node.result.now field c.requires.waits c.requires.turn here c.node.ensures.found c.in-Field.is
+    (sent_by_bit (field_data field) (state_of m) c.in_ok-has_bit.has_bit uses.varies (sym uses.uses) uses.sent) other in
+    let item = sent_item c.args.templates.now l m c.integer_item.new.slots c.in_ok-number.number c.node.result.now field c.requires.waits waits.goes_on here c.node.ensures.found c.in-Field.is c.integer_item.ensures.terms
+    c.args.rest.now c.in_ok-item-in-UInt32.item c.in_ok-entity-in-UInt32.entity.len c.requires.turn.unused (c.in_ok-item-in-UInt32.ensures.unit (bounds l)) in
+    (c.sent.ensures.taken set l m c.args.rest.now (field_data field) uses.uses item).some
+
+pub returns-in_ok-item-in-UInt32-clause-step : goal.returns-in_ok-item-in-UInt32-clause-step
+returns-in_ok-item-in-UInt32-clause-step g c =
+    let set = set_of c.args.templates.now in
+    let l = c.args.limits in
+    let m = c.args.self.now in
+    let field = c.in-Field.field in
+    let here = sym c.next.ensures ∙ c.in_ok-number.was in
+    let other : field.kind ≢ Ascii = search rules in
+    let uses = c.in_ok-has_bit.ensures in
+    let waits = number_waits g.S.Sink.takes g.S.Sink.stops c.args.templates.now l m c.args.sink.now c.in_ok-number.number c.node.result.now field c.requires.waits c.requires.turn here c.node.ensures.found c.in-Field.is
+    (sent_by_bit (field_data field) (state_of m) c.in_ok-has_bit.has_bit uses.varies (sym uses.uses) uses.sent) other in
+    let item = sent_item c.args.templates.now l m c.integer_item.new.slots c.in_ok-number.number c.node.result.now field c.requires.waits waits.goes_on here c.node.ensures.found c.in-Field.is c.integer_item.ensures.terms
+    c.args.rest.now c.in_ok-item-in-UInt32.item c.in_ok-entity-in-UInt32.entity.len c.requires.turn.unused (c.in_ok-item-in-UInt32.ensures.unit (bounds l)) in
+    number_step g.S.Sink.takes g.S.Sink.stops set l m c.sent.new.self c.args.rest.now c.args.sink.now c.sent.result c.sent.new.sink c.requires.waits waits
+    (c.sent.ensures.taken set l m c.args.rest.now (field_data field) uses.uses item)
+    (λ way n h. c.sent.ensures.turns set l m c.args.rest.now (field_data field) item way n h)
 
 pub returns-in_ok-decimal-in-Decimal-clause-taken : goal.returns-in_ok-decimal-in-Decimal-clause-taken
 returns-in_ok-decimal-in-Decimal-clause-taken g c =
-    let bit : false ≡ uses_bit (field_data c.in-Field.field) = search rules in
-    c.sent-in-Decimal.ensures.taken (set_of c.args.templates.now) c.args.limits c.args.self.now c.args.rest.now (field_data c.in-Field.field)
-    bit
-    (sent_item c.args.templates.now c.args.limits c.args.self.now c.delta_decimal.new.slots c.in_ok-number.number c.node.result.now c.in-Field.field c.args.rest.now (Some c.in_ok-decimal-in-Decimal.decimal.number) c.in_ok-decimal-in-Decimal.decimal.bytes
-    c.requires.waits c.requires.ready (none_in_hand c.args.self.now.entity.bytes c.if-not-is_empty.ensures) (sym c.next.ensures ∙ c.in_ok-number.was) c.node.ensures.found c.in-Field.is c.delta_decimal.ensures.terms (c.in_ok-decimal-in-Decimal.ensures.unit (bounds c.args.limits)))
+    let set = set_of c.args.templates.now in
+    let l = c.args.limits in
+    let m = c.args.self.now in
+    let field = c.in-Field.field in
+    let here = sym c.next.ensures ∙ c.in_ok-number.was in
+    let other : field.kind ≢ Ascii = search rules in
+    let uses = c.in_ok-has_bit.ensures in
+    let waits = number_waits g.S.Sink.takes g.S.Sink.stops c.args.templates.now l m c.args.sink.now c.in_ok-number.number c.node.result.now field c.requires.waits c.requires.turn here c.node.ensures.found c.in-Field.is
+    (sent_by_bit (field_data field) (state_of m) c.in_ok-has_bit.has_bit uses.varies (sym uses.uses) uses.sent) other in
+    let item = sent_item c.args.templates.now l m c.delta_decimal.new.slots c.in_ok-number.number c.node.result.now field c.requires.waits waits.goes_on here c.node.ensures.found c.in-Field.is c.delta_decimal.ensures.terms
+    c.args.rest.now (Some c.in_ok-decimal-in-Decimal.decimal.number) c.in_ok-decimal-in-Decimal.decimal.bytes c.requires.turn.unused (c.in_ok-decimal-in-Decimal.ensures.unit (bounds l)) in
+    let bit : false ≡ uses_bit (field_data field) = search rules in
+    c.sent-in-Decimal.ensures.taken set l m c.args.rest.now (field_data field) bit item
 
 pub returns-in_ok-decimal-in-Decimal-clause-turns : goal.returns-in_ok-decimal-in-Decimal-clause-turns
 returns-in_ok-decimal-in-Decimal-clause-turns g c way n h =
-    c.sent-in-Decimal.ensures.turns (set_of c.args.templates.now) c.args.limits c.args.self.now c.args.rest.now (field_data c.in-Field.field)
-    (sent_item c.args.templates.now c.args.limits c.args.self.now c.delta_decimal.new.slots c.in_ok-number.number c.node.result.now c.in-Field.field c.args.rest.now (Some c.in_ok-decimal-in-Decimal.decimal.number) c.in_ok-decimal-in-Decimal.decimal.bytes
-    c.requires.waits c.requires.ready (none_in_hand c.args.self.now.entity.bytes c.if-not-is_empty.ensures) (sym c.next.ensures ∙ c.in_ok-number.was) c.node.ensures.found c.in-Field.is c.delta_decimal.ensures.terms (c.in_ok-decimal-in-Decimal.ensures.unit (bounds c.args.limits))) way n h
+    let set = set_of c.args.templates.now in
+    let l = c.args.limits in
+    let m = c.args.self.now in
+    let field = c.in-Field.field in
+    let here = sym c.next.ensures ∙ c.in_ok-number.was in
+    let other : field.kind ≢ Ascii = search rules in
+    let uses = c.in_ok-has_bit.ensures in
+    let waits = number_waits g.S.Sink.takes g.S.Sink.stops c.args.templates.now l m c.args.sink.now c.in_ok-number.number c.node.result.now field c.requires.waits c.requires.turn here c.node.ensures.found c.in-Field.is
+    (sent_by_bit (field_data field) (state_of m) c.in_ok-has_bit.has_bit uses.varies (sym uses.uses) uses.sent) other in
+    let item = sent_item c.args.templates.now l m c.delta_decimal.new.slots c.in_ok-number.number c.node.result.now field c.requires.waits waits.goes_on here c.node.ensures.found c.in-Field.is c.delta_decimal.ensures.terms
+    c.args.rest.now (Some c.in_ok-decimal-in-Decimal.decimal.number) c.in_ok-decimal-in-Decimal.decimal.bytes c.requires.turn.unused (c.in_ok-decimal-in-Decimal.ensures.unit (bounds l)) in
+    c.sent-in-Decimal.ensures.turns set l m c.args.rest.now (field_data field) item way n h
+
+pub returns-in_ok-decimal-in-Decimal-clause-some : goal.returns-in_ok-decimal-in-Decimal-clause-some
+returns-in_ok-decimal-in-Decimal-clause-some g c =
+    let set = set_of c.args.templates.now in
+    let l = c.args.limits in
+    let m = c.args.self.now in
+    let field = c.in-Field.field in
+    let here = sym c.next.ensures ∙ c.in_ok-number.was in
+    let other : field.kind ≢ Ascii = search rules in
+    let uses = c.in_ok-has_bit.ensures in
+    let waits = number_waits g.S.Sink.takes g.S.Sink.stops c.args.templates.now l m c.args.sink.now c.in_ok-number.number c.node.result.now field c.requires.waits c.requires.turn here c.node.ensures.found c.in-Field.is
+    (sent_by_bit (field_data field) (state_of m) c.in_ok-has_bit.has_bit uses.varies (sym uses.uses) uses.sent) other in
+    let item = sent_item c.args.templates.now l m c.delta_decimal.new.slots c.in_ok-number.number c.node.result.now field c.requires.waits waits.goes_on here c.node.ensures.found c.in-Field.is c.delta_decimal.ensures.terms
+    c.args.rest.now (Some c.in_ok-decimal-in-Decimal.decimal.number) c.in_ok-decimal-in-Decimal.decimal.bytes c.requires.turn.unused (c.in_ok-decimal-in-Decimal.ensures.unit (bounds l)) in
+    let bit : false ≡ uses_bit (field_data field) = search rules in
+    (c.sent-in-Decimal.ensures.taken set l m c.args.rest.now (field_data field) bit item).some
+
+pub returns-in_ok-decimal-in-Decimal-clause-step : goal.returns-in_ok-decimal-in-Decimal-clause-step
+returns-in_ok-decimal-in-Decimal-clause-step g c =
+    let set = set_of c.args.templates.now in
+    let l = c.args.limits in
+    let m = c.args.self.now in
+    let field = c.in-Field.field in
+    let here = sym c.next.ensures ∙ c.in_ok-number.was in
+    let other : field.kind ≢ Ascii = search rules in
+    let uses = c.in_ok-has_bit.ensures in
+    let waits = number_waits g.S.Sink.takes g.S.Sink.stops c.args.templates.now l m c.args.sink.now c.in_ok-number.number c.node.result.now field c.requires.waits c.requires.turn here c.node.ensures.found c.in-Field.is
+    (sent_by_bit (field_data field) (state_of m) c.in_ok-has_bit.has_bit uses.varies (sym uses.uses) uses.sent) other in
+    let item = sent_item c.args.templates.now l m c.delta_decimal.new.slots c.in_ok-number.number c.node.result.now field c.requires.waits waits.goes_on here c.node.ensures.found c.in-Field.is c.delta_decimal.ensures.terms
+    c.args.rest.now (Some c.in_ok-decimal-in-Decimal.decimal.number) c.in_ok-decimal-in-Decimal.decimal.bytes c.requires.turn.unused (c.in_ok-decimal-in-Decimal.ensures.unit (bounds l)) in
+    let bit : false ≡ uses_bit (field_data field) = search rules in
+    number_step g.S.Sink.takes g.S.Sink.stops set l m c.sent-in-Decimal.new.self c.args.rest.now c.args.sink.now c.sent-in-Decimal.result c.sent-in-Decimal.new.sink c.requires.waits waits
+    (c.sent-in-Decimal.ensures.taken set l m c.args.rest.now (field_data field) bit item)
+    (λ way n h. c.sent-in-Decimal.ensures.turns set l m c.args.rest.now (field_data field) item way n h)

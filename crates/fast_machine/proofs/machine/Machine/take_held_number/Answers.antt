@@ -1,0 +1,57 @@
+-- The number that the bytes in hand begin, and what follows it.
+use Rattle.std.proofs.Common.{sym, ◌∙◌, subst, arith}
+use Rattle.std.specs.Prelude.{ℕ, ◌+◌, ◌-◌, ◌<◌, ◌≤◌, length}
+use Rattle.fast_value.specs.meaning.Limits.{bounds}
+use Rattle.fast_tree.specs.device.Nodes.{field_data}
+use Rattle.fast_tree.specs.declared.instructions.Shape.TheVariants.{Field}
+use Rattle.fast_machine.specs.device.Positions.{set_of}
+use Rattle.fast_machine.specs.device.UnitTaken.{IsSentItem}
+use Rattle.fast_machine.proofs.steps.FieldTurns.{serves_here}
+use Rattle.fast_machine.proofs.fields.Heads.{field_head}
+use Rattle.fast_machine.proofs.fields.ScalarNodes.{served_node, first_begins}
+use Rattle.fast_machine.proofs.machines.SentItems.{held_item}
+use Rattle.fast_machine.proofs.machine.Machine.take_held_number.Goals as goal
+
+pub integer_item-requires-clause-serves : goal.integer_item-requires-clause-serves
+integer_item-requires-clause-serves g c =
+    serves_here (set_of c.args.templates.now) c.args.limits c.args.self.now (field_data c.in-Field.field) c.requires.ready.supplied
+    (served_node (set_of c.args.templates.now) c.args.limits c.args.self.now c.in_ok-number.number c.node.result.now (Field c.in-Field.field) c.requires.ready.supplied c.node.ensures.found c.in-Field.is)
+
+pub integer_item-requires-clause-varies : goal.integer_item-requires-clause-varies
+integer_item-requires-clause-varies g c =
+    (first_begins (set_of c.args.templates.now) c.args.limits c.args.self.now c.in_ok-number.number (field_data c.in-Field.field) c.requires.ready c.requires.waits
+    (field_head c.args.templates.now c.args.self.now.cursor c.in_ok-number.number c.node.result.now (sym c.next.ensures ∙ c.in_ok-number.was) c.node.ensures.found c.in-Field.field c.in-Field.is)).0.varies
+
+pub returns-clause-taken : goal.returns-clause-taken
+returns-clause-taken g c =
+    let set = set_of c.args.templates.now in
+    let l = c.args.limits in
+    let m = c.args.self.now in
+    let field = c.in-Field.field in
+    let whole = c.in_ok-bytes.ensures in
+    let size = c.len-held.ensures in
+    let more = c.if-entity-held.false in
+    let fits = c.if-entity-held-2.false in
+    let behind : length m.entity.bytes < c.in_ok-entity.entity.len = omega (arith, size, more) in
+    let among : c.in_ok-entity.entity.len ≤ length m.entity.bytes + c.in_ok-bytes.count = omega (arith, size, fits) in
+    let item = held_item c.args.templates.now l m c.integer_item.new.slots c.in_ok-number.number c.node.result.now field c.requires.waits c.requires.ready (sym c.next.ensures ∙ c.in_ok-number.was) c.node.ensures.found c.in-Field.is c.integer_item.ensures.terms
+    c.clear.new.self c.args.rest.now c.in_ok-bytes.bytes c.in_ok-item.item c.in_ok-entity.entity.len c.in_ok-bytes.count c.clear.ensures whole.within whole.joined behind among (c.in_ok-item.ensures.unit (bounds l)) in
+    let sent = subst (λ (k : ℕ). IsSentItem set l m (record m { slots = c.integer_item.new.slots; entity = c.clear.new.self }) c.in_ok-number.number (field_data field) c.args.rest.now c.in_ok-item.item (c.in_ok-entity.entity.len - k)) (sym size) item in
+    c.sent.ensures.taken set l m c.args.rest.now (field_data field) c.uses_bit.ensures sent
+
+pub returns-clause-turns : goal.returns-clause-turns
+returns-clause-turns g c way n h =
+    let set = set_of c.args.templates.now in
+    let l = c.args.limits in
+    let m = c.args.self.now in
+    let field = c.in-Field.field in
+    let whole = c.in_ok-bytes.ensures in
+    let size = c.len-held.ensures in
+    let more = c.if-entity-held.false in
+    let fits = c.if-entity-held-2.false in
+    let behind : length m.entity.bytes < c.in_ok-entity.entity.len = omega (arith, size, more) in
+    let among : c.in_ok-entity.entity.len ≤ length m.entity.bytes + c.in_ok-bytes.count = omega (arith, size, fits) in
+    let item = held_item c.args.templates.now l m c.integer_item.new.slots c.in_ok-number.number c.node.result.now field c.requires.waits c.requires.ready (sym c.next.ensures ∙ c.in_ok-number.was) c.node.ensures.found c.in-Field.is c.integer_item.ensures.terms
+    c.clear.new.self c.args.rest.now c.in_ok-bytes.bytes c.in_ok-item.item c.in_ok-entity.entity.len c.in_ok-bytes.count c.clear.ensures whole.within whole.joined behind among (c.in_ok-item.ensures.unit (bounds l)) in
+    let sent = subst (λ (k : ℕ). IsSentItem set l m (record m { slots = c.integer_item.new.slots; entity = c.clear.new.self }) c.in_ok-number.number (field_data field) c.args.rest.now c.in_ok-item.item (c.in_ok-entity.entity.len - k)) (sym size) item in
+    c.sent.ensures.turns set l m c.args.rest.now (field_data field) sent way n h
