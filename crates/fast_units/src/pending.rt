@@ -1,6 +1,6 @@
 //! The bytes of an integer that a piece has cut, and how those of the next pieces complete it.
 
-ghost use Rattle.std.specs.Prelude.{◌≡◌, ◌+◌, ◌<◌, ◌≤◌, ◌==◌, true, false, [], ◌++◌, length, take, Some, pos, IfOk, IfErr, IfSome};
+ghost use Rattle.std.specs.Prelude.{◌≡◌, ◌⊎◌, ◌+◌, ◌<◌, ◌≤◌, ◌==◌, true, false, [], ◌++◌, length, take, Some, pos, IfOk, IfErr, IfSome, IfNone};
 ghost use Rattle.fast_wire.specs.meaning.Entities.{HaveNoStop, IsEntity};
 ghost use Rattle.fast_wire.specs.meaning.Integers.{unsigned_up_to, SpellsInt};
 ghost use Rattle.fast_units.specs.device.NextUnits.{range_data, IsRefusedInt, IsGathered, IsNextInteger};
@@ -73,6 +73,8 @@ impl Pending {
     #[inline(always)]
     pub fn joined(&self, rest: &[u8]) -> Option<([u8; 8], usize)>
         ensures within { IfSome result (λ r. r.1 ≤ length rest.now) }
+        ensures all { IfSome result (λ r. (r.1 ≡ length rest.now) ⊎ (length self.now.bytes + r.1 ≡ 8)) }
+        ensures none { IfNone result (8 < length self.now.bytes) }
         ensures joined { IfSome result (λ r. take (length self.now.bytes + r.1) r.0
             ≡ self.now.bytes ++ take r.1 rest.now) }
     {
