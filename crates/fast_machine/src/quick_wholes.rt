@@ -1,5 +1,5 @@
-//! The quick way of fields that are numbers, behind a turn at whose end the machine waits for one, or at the start of a piece: integers,
-//! and whole decimals under delta, both units at once.
+//! The quick way of fields that are numbers, where a piece begins or ends, and the loop's arms have too few bytes for one: integers, of which
+//! some bytes may be in hand, and whole decimals under delta, both units at once.
 
 ghost use Rattle.std.specs.Prelude.{◌≡◌, ◌≢◌, ◌⊎◌, ◌+◌, ◌<◌, true, false, ℕ, List, [], Ok, IfSome, IfNone};
 ghost use Rattle.fast_wire.specs.meaning.Maps.{first_bit};
@@ -94,6 +94,8 @@ impl<'t> Machine<'t> {
         ensures varies { IfSome result (λ _. field.now.operator ≢ Operator.Constant) }
         ensures sent { IfSome result
             (λ has_bit. (has_bit ≡ false) ⊎ (first_bit (bits_left self.now.cursor) ≡ true)) }
+        ensures none { IfNone result ((field.now.operator ≡ Operator.Constant)
+            ⊎ (uses_bit (field_data field.now) ≡ true) × (first_bit (bits_left self.now.cursor) ≡ false)) }
     {
         let has_bit = field.uses_bit();
         if field.operator == Operator::Constant {

@@ -45,7 +45,8 @@ impl UnitTaken {
     /// Whether the machine waits for a byte.
     #[inline(always)]
     pub fn waits(&self) -> bool
-        ensures { result ≡ true → self.now.turn ≡ Ok Turn.Waits }
+        ensures yes { result ≡ true → self.now.turn ≡ Ok Turn.Waits }
+        ensures no { result ≡ false → self.now.turn ≢ Ok Turn.Waits }
     {
         match self.turn {
             Ok(turn) => turn == Turn::Waits,

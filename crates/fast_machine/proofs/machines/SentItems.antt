@@ -33,6 +33,7 @@ use Rattle.fast_stream.specs.device.Machine.{after_bytes}
 use Rattle.fast_stream.specs.device.Readers.{Reader, Done}
 use Rattle.fast_units.specs.device.Settling.{IsLastUnit, value_at}
 use Rattle.fast_units.specs.device.UnitFronts.{IsSent}
+use Rattle.fast_units.specs.device.Words.{sent_reader, IsLastUnitOf}
 use Rattle.fast_stream.specs.declared.faults.FaultCode.{FaultCode}
 use Rattle.fast_units.specs.device.Taking as Taking
 use Rattle.fast_units.specs.declared.fields.Number.{Number}
@@ -93,13 +94,9 @@ module _ {S : Type 0} (takes stops : S → EventData → S → Type 0) (set : Se
       }))
 
 module _ (t : Templates) (l : Limits) (m : Machine) (slots : Slots) (node : ℕ) (v : Node) (field : FieldInstruction) (waits : m.waiting ≡ Waiting.Field) (ready : IsReady (set_of t) l m) (next : first_node m.cursor.left ≡ Some node) (found : slice_get t.nodes.items node ≡ Some v) (shape : v.shape ≡ Shape.Field field) (terms : slots_terms slots ≡ slots_terms m.slots) where
-  -- what is read of the field where it is sent
-  abbrev sent_reader : Reader Outcome
-  sent_reader = reader_of l.strict (field_term (bounds l) (field_data field) (previous_at (field_data field).entry (slots_dictionary m.slots)) true)
-
   -- these bytes in hand and those behind them come to this number, or to NULL
   abbrev comes_to : List ℕ → List ℕ → Option Number → ℕ → Type 0
-  comes_to front rest item n = (scratch : List ℕ) → IsLastUnit sent_reader (field_data field) front rest (slots_dictionary m.slots) (slots_dictionary slots) scratch (Whole (source_of item) n)
+  comes_to front rest item n = (scratch : List ℕ) → IsLastUnitOf (sent_reader l.strict (bounds l) m.slots field) field front rest m.slots slots scratch (Whole (source_of item) n)
 
   -- The item of the field at the next node, of which no byte was in hand.
   pub sent_item : (rest : List ℕ) (item : Option Number) (n : ℕ) → m.entity.bytes ≡ [] → comes_to [] rest item n → IsSentItem (set_of t) l m (record m { slots = slots }) node (field_data field) rest item n
@@ -127,7 +124,7 @@ module _ (t : Templates) (l : Limits) (m : Machine) (slots : Slots) (node : ℕ)
         omega (arith, fits, inside),
         record {
           outcome = gives.outcome;
-          turns = subst (λ w. Taking.Turns sent_reader w (Done gives.outcome)) same gives.turns;
+          turns = subst (λ w. Taking.Turns (sent_reader l.strict (bounds l) m.slots field) w (Done gives.outcome)) same gives.turns;
           settled = record {
             value = gives.settled.value ∙ item_value item (field_data field) (slots_dictionary slots) scratch (take len whole) ∙ sym (item_value item (field_data field) (slots_dictionary slots) scratch (take n rest));
             dictionary = gives.settled.dictionary;

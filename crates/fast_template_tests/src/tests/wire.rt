@@ -312,6 +312,30 @@ fn cut_integers(rt: HostRuntime) {
     expect_each(&rt, &are_right, &[]);
 }
 
+/// Whether the bytes, with none behind them, are taken as an entity of this number.
+fn ends_as(bytes: &[u8], number: u64) -> bool {
+    match short_entity(bytes) {
+        Some(short) => short.number == number && short.len == bytes.len(),
+        None => false,
+    }
+}
+
+#[test]
+fn entities_that_end_a_piece(rt: HostRuntime) {
+    let are_right = [
+        ends_as(&[0x81], 1),
+        ends_as(&[1, 0x81], 0x81),
+        ends_as(&[1, 0, 0x81], 0x4001),
+        ends_as(&[1, 0, 0, 0x81], 0x20_0001),
+        ends_as(&[1, 0, 0, 0, 0x81], 0x1000_0001),
+        ends_as(&[1, 0, 0, 0, 0, 0x81], 0x8_0000_0001),
+        ends_as(&[1, 0, 0, 0, 0, 0, 0x81], 0x400_0000_0001),
+        ends_as(&[1, 0, 0, 0, 0, 0, 0, 0x81], 0x2_0000_0000_0001),
+        short_entity(&[1, 0, 0, 0, 0, 1]).is_none(),
+    ];
+    expect_each(&rt, &are_right, &[]);
+}
+
 #[test]
 fn entities_byte_by_byte(rt: HostRuntime) {
     let mut w = Entity::new();

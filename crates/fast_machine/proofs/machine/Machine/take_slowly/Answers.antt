@@ -99,7 +99,7 @@ returns-then-gathers-2-clause-step g c m s hands turns =
     let some : 0 < length left = omega (arith, is_left, more) in
     let got = c.if-gathers-2.ensures.gathered refl in
     let all : length rest ≡ unit.result.bytes + length left = omega (arith, is_left, more) in
-    step_and_unit takes stops set l m unit.new.self rest s unit.new.sink unit.result (length left) c.cut-then-gathers-2.result unit.new.sink c.gathers-then-unit-rest.new.self (c.if-waits.ensures refl) (c.cut-then-gathers-2.ensures.bytes ∙ all) c.cut-then-gathers-2.ensures.turn
+    step_and_unit takes stops set l m unit.new.self rest s unit.new.sink unit.result (length left) c.cut-then-gathers-2.result unit.new.sink c.gathers-then-unit-rest.new.self (c.if-waits.ensures.yes refl) (c.cut-then-gathers-2.ensures.bytes ∙ all) c.cut-then-gathers-2.ensures.turn
     (unit_step takes stops set l m b c.args.rest.now s sink unit.result unit.new.sink unit.new.self
     (subst (λ (x : Machine). Hands takes stops (turning set l m) s (Ok tt) c.args.sink.now (meaning set l x)) (sym same) hands) unit.ensures.taken
     (λ way n h. unit.ensures.turns way n (subst (λ (x : Machine). HasTurnsWaiting way set l n x) (sym same) (turns way n h))))
