@@ -6,8 +6,8 @@ use Rattle.fast_program.specs.declared.ops.Op.{Op}
 use Rattle.fast_cursor.specs.device.Runs.{run_at}
 use Rattle.fast_cursor.specs.device.Cursors.{ElementsData, FrameData, CursorData}
 use Rattle.fast_cursor.specs.device.Nexts.{next_of, gone_on}
-use Rattle.fast_cursor.specs.declared.cursor.Elements.{Elements}
-use Rattle.fast_cursor.specs.declared.cursor.Frame.{Frame}
+use Rattle.fast_cursor.specs.declared.frames.Elements.{Elements}
+use Rattle.fast_cursor.specs.declared.frames.Frame.{Frame}
 use Rattle.fast_cursor.specs.declared.cursor.Cursor.TheInside.{Inside}
 use Rattle.fast_cursor.specs.device.Segments.{marked, frame_data, frames_on, elements_data, cursor_data, IsCursor}
 use Rattle.fast_cursor.proofs.Segments.{frames-less, frames-more}

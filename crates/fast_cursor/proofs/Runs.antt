@@ -6,7 +6,7 @@ use Rattle.std.proofs.lemmas.List.{drop_all, take_all, drop-drop, length-drop, t
 use Rattle.fast_program.specs.declared.ops.Op.{Op}
 use Rattle.fast_program.specs.device.Runs.{is_end, run_nodes, has_end, HasEnd}
 use Rattle.fast_cursor.specs.device.Runs.{run_at, IsRun}
-use Rattle.fast_cursor.specs.declared.cursor.Frame.{Frame}
+use Rattle.fast_cursor.specs.declared.frames.Frame.{Frame}
 use Rattle.fast_cursor.specs.device.Places.{IsAhead}
 use Rattle.fast_cursor.specs.device.Segments.{IsRunning, AreRunning}
 

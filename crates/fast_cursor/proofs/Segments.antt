@@ -8,8 +8,8 @@ use Rattle.fast_wire.specs.meaning.Maps.{map_limit}
 use Rattle.fast_program.specs.declared.ops.Op.{Op}
 use Rattle.fast_cursor.specs.device.Runs.{run_at}
 use Rattle.fast_cursor.specs.device.Cursors.{FrameData, CursorData, frame_here, entered, left_to}
-use Rattle.fast_cursor.specs.declared.cursor.Elements.{Elements}
-use Rattle.fast_cursor.specs.declared.cursor.Frame.{Frame}
+use Rattle.fast_cursor.specs.declared.frames.Elements.{Elements}
+use Rattle.fast_cursor.specs.declared.frames.Frame.{Frame}
 use Rattle.fast_cursor.specs.declared.map_place.MapPlace.{MapPlace}
 use Rattle.fast_cursor.specs.declared.cursor.Cursor.TheInside.{Inside}
 use Rattle.fast_cursor.specs.device.MapPlaces.{used_at, IsPlace}

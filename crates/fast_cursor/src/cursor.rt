@@ -10,10 +10,11 @@ ghost use Rattle.fast_cursor.specs.device.Runs.{run_at, IsRun};
 ghost use Rattle.fast_cursor.specs.device.Cursors.{CursorData, FrameData, ElementsData, bits_left};
 ghost use Rattle.fast_cursor.specs.device.Cursors.{at_rest, resting, entered, left_to};
 ghost use Rattle.fast_cursor.specs.device.Nexts.{next_of, gone_on};
-ghost use Rattle.fast_cursor.specs.device.Segments.{elements_data, frame_elements, first_node, IsRunOf};
+ghost use Rattle.fast_cursor.specs.device.Segments.{elements_data, first_node, IsRunOf};
 ghost use Rattle.fast_cursor.specs.device.Places.{place_left, at_place, IsAhead, IsPlaceOf};
 ghost use Rattle.fast_cursor.specs.device.MapTaking.{IsMapTaken};
 
+use crate::frames::{Elements, Frame};
 use crate::map_place::{MapPlace, NO_MAP, SPENT};
 use crate::pending::{MapFront, next_map};
 use crate::place::Place;
@@ -21,75 +22,6 @@ use fast_program::{Code, Op};
 use fast_wire::{MAP_LIMIT, ShortEntity};
 use std::alloc::{AllocError, Global};
 use std::marker::Model;
-
-/// What is still to come of a sequence behind an element.
-#[derive(Clone, Copy, Debug)]
-pub struct Elements {
-    /// How many elements.
-    pub more: u32,
-    /// Where each one's nodes begin in the program.
-    pub start: usize,
-    /// The bits that each uses.
-    pub width: usize,
-}
-
-/// The segment around an open group or element. No byte of it is unused, so that it is copied in words.
-#[derive(Clone, Copy)]
-struct Frame {
-    map: MapPlace,
-    // where in the program it goes on behind the group or sequence
-    after: usize,
-    // 0 around a group, whose next fields say nothing, and 1 around an element
-    is_element: u32,
-    // what is still to come of the sequence
-    more: u32,
-    start: usize,
-    width: usize,
-}
-
-impl Frame {
-    /// The frame of a segment around one that begins.
-    #[inline(always)]
-    fn around(map: MapPlace, after: usize, elements: Option<Elements>) -> Frame
-        ensures map { result.map ≡ map }
-        ensures after { result.after ≡ after }
-        ensures elements { frame_elements result ≡ elements }
-    {
-        match elements {
-            None => Frame {
-                map,
-                after,
-                is_element: 0,
-                more: 0,
-                start: 0,
-                width: 0,
-            },
-            Some(elements) => Frame {
-                map,
-                after,
-                is_element: 1,
-                more: elements.more,
-                start: elements.start,
-                width: elements.width,
-            },
-        }
-    }
-
-    /// What is still to come of the sequence, if the open segment is an element.
-    #[inline(always)]
-    fn elements(self) -> Option<Elements>
-        ensures { result ≡ frame_elements self }
-    {
-        if self.is_element == 0 {
-            return None;
-        }
-        Some(Elements {
-            more: self.more,
-            start: self.start,
-            width: self.width,
-        })
-    }
-}
 
 /// Where a decoder is in a message. All its memory is taken when it is made.
 #[derive(Drop)]

@@ -2,6 +2,7 @@
 #![tactic(auto)]
 
 pub mod cursor;
+pub mod frames;
 pub mod map_place;
 pub mod pending;
 pub mod place;

@@ -9,6 +9,7 @@ pub mod Starts
 pub mod Walks
 pub mod Ops
 pub mod Texts
+pub mod CutTexts
 pub mod Led
 pub mod Parts
 pub mod Lengths

@@ -11,3 +11,4 @@ pub mod PartTakes
 pub mod ScalarMachines
 pub mod ScalarSteps
 pub mod Gathers
+pub mod HeldTexts

@@ -1,6 +1,6 @@
 //! Units of fields in the general way: integers, texts and runs of bytes.
 
-ghost use Rattle.std.specs.Prelude.{◌≡◌, ◌⊎◌, ◌<◌, ◌≤◌, true, false, ℕ, [], length, length as list_length, Some, Ok};
+ghost use Rattle.std.specs.Prelude.{◌≡◌, ◌≢◌, ◌⊎◌, ◌<◌, ◌≤◌, true, false, ℕ, [], length, length as list_length, Some, Ok};
 ghost use Rattle.fast_template.specs.meaning.Flat.{field_data};
 ghost use Rattle.fast_tree.specs.device.Numbers.{AreBelow};
 ghost use Rattle.fast_value.specs.declared.settings.Limits.{Limits};
@@ -9,6 +9,7 @@ ghost use Rattle.fast_cursor.specs.device.Runs.{IsRun};
 ghost use Rattle.fast_machine.specs.declared.machine.Machine.{Machine};
 ghost use Rattle.fast_machine.specs.device.Words.{TakesUnit, IsServedBy, PaysTurns};
 ghost use Rattle.fast_machine.specs.device.Scalars.{IsOfField, IsOfFieldLater, IsScalarUnit, CanStep, CanProgress, step_then};
+ghost use Rattle.fast_units.specs.declared.source.ValueSource.{ValueSource};
 ghost use Rattle.fast_units.specs.device.UnitFronts.{IsNumberStage};
 ghost use Rattle.fast_machine.specs.device.TurnsLeft.{Way, HasTurns, HasTurnsBehind};
 ghost use Rattle.fast_machine.specs.device.Positions.{set_of, run_in, IsBodyOf, IsAtField, IsAtParts, IsAtSequence, IsSupplied, IsReady, IsTurn};
@@ -264,7 +265,7 @@ impl<'t> Machine<'t> {
 
     /// What a unit of the next instruction, a field, has come to.
     #[inline(always)]
-    fn scalar_taken<S: Sink>(
+    pub fn scalar_taken<S: Sink>(
         &mut self,
         templates: &'t Templates,
         limits: Limits,
@@ -284,6 +285,8 @@ impl<'t> Machine<'t> {
         ensures turns { (way : Way) (n : ℕ) → IsOfField self.old.waiting
             → HasTurns way (set_of templates.now) limits 1 n self.old
             → HasTurnsBehind result.turn way (set_of templates.now) limits n self.new }
+        ensures on { (source : ValueSource) (n : ℕ) → progress ≡ Progress.Whole (FieldStep.Settled source) n
+            → result.turn ≢ Ok Turn.Waits }
     {
         match progress {
             Progress::Cut => UnitTaken::cut(rest),
@@ -316,6 +319,7 @@ impl<'t> Machine<'t> {
             (step_then (set_of templates.now) limits node (field_data field.now) self.old piece.now step))
             sink.old result sink.new self.new }
         ensures turns { PaysTurns (set_of templates.now) limits 1 self.old result self.new }
+        ensures on { (source : ValueSource) → step ≡ FieldStep.Settled source → result ≢ Ok Turn.Waits }
     {
         match step {
             FieldStep::Settled(source) => self.finish(node, field, source, piece, sink),

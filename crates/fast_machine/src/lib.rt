@@ -2,6 +2,7 @@
 #![tactic(auto)]
 
 mod bits;
+mod cut_texts;
 mod decimal_arms;
 mod field_units;
 mod heads;

@@ -13,8 +13,12 @@ ghost use Rattle.fast_machine.specs.device.TurnsLeft.{Way, HasTurns, HasTurnsBeh
 use crate::machine::{Machine, Turn, Waiting};
 use crate::turns::Turns;
 use fast_stream::{FaultCode, Sink};
-use fast_template::Templates;
+use fast_template::{Shape, Templates};
 use fast_units::fields::Number;
+use fast_units::held_texts::{held_ascii, held_vector};
+use fast_units::progress::Progress;
+use fast_units::source::ValueSource;
+use fast_units::stages::{FieldStep, Stage};
 use fast_value::Limits;
 
 /// A unit that was taken, or as much of it as there is, and the turn behind it.
@@ -97,7 +101,71 @@ impl<'t> Machine<'t> {
                     self.take_held_number(templates, limits, rest, sink)
                 }
             }
+            Waiting::Text => self.take_held_ascii(templates, limits, rest, sink),
+            Waiting::Bytes(Stage::Vector(size)) => {
+                self.take_held_vector(templates, limits, size, rest, sink)
+            }
             _ => None,
         }
+    }
+
+    /// Takes the bytes of a vector without operator of which some are in hand, if all others are there.
+    #[inline(always)]
+    fn take_held_vector<S: Sink>(
+        &mut self,
+        templates: &'t Templates,
+        limits: Limits,
+        size: usize,
+        rest: &[u8],
+        sink: &mut S,
+    ) -> Option<UnitTaken>
+        requires waits { self.old.waiting ≡ Waiting.Bytes (Stage.Vector size) }
+        requires ready { IsReady (set_of templates.now) limits self.old }
+        ensures none { IfNone result ((self.new ≡ self.old) × (sink.new ≡ sink.old)) }
+        ensures taken { IfSome result
+            (λ q. IsTakenTo S.takes S.stops (set_of templates.now) limits
+            (meaning (set_of templates.now) limits self.old) rest.now sink.old q.bytes q.turn sink.new self.new) }
+        ensures on { IfSome result (λ q. q.turn ≢ Ok Turn.Waits) }
+        ensures turns { (way : Way) (n : ℕ) → HasTurns way (set_of templates.now) limits 1 n self.old
+            → IfSome result (λ q. HasTurnsBehind q.turn way (set_of templates.now) limits (1 + n) self.new) }
+    {
+        let number = self.cursor.next()?;
+        let Shape::Field(field) = &templates.node(number).shape else {
+            return None;
+        };
+        let bytes = held_vector(&mut self.text, field, size, rest)?;
+        self.turns = Turns::after(&self.turns);
+        let progress = Progress::Whole(FieldStep::Settled(ValueSource::Scratch), bytes);
+        Some(self.scalar_taken(templates, limits, number, field, progress, rest, sink))
+    }
+
+    /// Takes the characters of an ASCII text of which some are in hand, if the last one is there, and the text is neither kept nor joined to
+    /// another.
+    #[inline(never)]
+    fn take_held_ascii<S: Sink>(
+        &mut self,
+        templates: &'t Templates,
+        limits: Limits,
+        rest: &[u8],
+        sink: &mut S,
+    ) -> Option<UnitTaken>
+        requires waits { self.old.waiting ≡ Waiting.Text }
+        requires ready { IsReady (set_of templates.now) limits self.old }
+        ensures none { IfNone result ((self.new ≡ self.old) × (sink.new ≡ sink.old)) }
+        ensures taken { IfSome result
+            (λ q. IsTakenTo S.takes S.stops (set_of templates.now) limits
+            (meaning (set_of templates.now) limits self.old) rest.now sink.old q.bytes q.turn sink.new self.new) }
+        ensures on { IfSome result (λ q. q.turn ≢ Ok Turn.Waits) }
+        ensures turns { (way : Way) (n : ℕ) → HasTurns way (set_of templates.now) limits 1 n self.old
+            → IfSome result (λ q. HasTurnsBehind q.turn way (set_of templates.now) limits (1 + n) self.new) }
+    {
+        let number = self.cursor.next()?;
+        let Shape::Field(field) = &templates.node(number).shape else {
+            return None;
+        };
+        let bytes = held_ascii(&mut self.text, field, rest, limits.max_text)?;
+        self.turns = Turns::after(&self.turns);
+        let progress = Progress::Whole(FieldStep::Settled(ValueSource::Scratch), bytes);
+        Some(self.scalar_taken(templates, limits, number, field, progress, rest, sink))
     }
 }

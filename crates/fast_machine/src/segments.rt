@@ -22,7 +22,7 @@ ghost use Rattle.fast_machine.specs.device.TurnsLeft.{Way, HasTurns, HasTurnsFro
 use crate::machine::Machine;
 use crate::settling::hand;
 use crate::turns::Turns;
-use fast_cursor::cursor::Elements;
+use fast_cursor::frames::Elements;
 use fast_cursor::place::Place;
 use fast_stream::{Event, FaultCode, Sink};
 use fast_template::Templates;

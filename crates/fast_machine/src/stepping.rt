@@ -91,7 +91,7 @@ impl<'t> Machine<'t> {
                 turn: Ok(Turn::Waits),
             };
         }
-        self.walk(templates, limits, piece, sink)
+        self.walk(templates, &limits, piece, sink)
     }
 
     /// Whether the next instruction is a field that stands in the stream: the machine then waits for its first unit. Nothing is handed

@@ -255,7 +255,7 @@ impl<'t> Machine<'t> {
     }
 
     /// The same of a piece that is not known to end inside the unit in hand.
-    #[inline(never)]
+    #[inline(always)]
     fn take_units<S: Sink>(
         &mut self,
         templates: &'t Templates,

@@ -15,6 +15,7 @@ ghost use Rattle.fast_cursor.specs.device.Places.{at_place, HasBits};
 ghost use Rattle.fast_machine.specs.device.Arms.{IsAtSpot, IsAtOp, IsFieldOp, IsOpText, HasWent};
 ghost use Rattle.fast_machine.specs.device.Positions.{set_of};
 
+use crate::cut_texts::kept_or_declined;
 use crate::machine::Machine;
 use crate::spot::{Spot, Standing, Went, hand_taken, hand_unsent, stands};
 use fast_dict::operators::initial_value;
@@ -195,6 +196,7 @@ impl<'t> Machine<'t> {
         sink: &mut S,
     ) -> Went
         requires no_constant { operator ≢ Operator.Constant }
+        requires no_delta { operator ≢ Operator.Delta }
         requires spot { IsAtSpot (set_of templates.now) limits self.old spot.old.place }
         requires at { IsAtOp (set_of templates.now) spot.old.place op.now }
         requires field { IsFieldOp (set_of templates.now) op.now Kind.Ascii operator optional }
@@ -231,7 +233,10 @@ impl<'t> Machine<'t> {
                             sink,
                         )
                     }
-                    None => Went::Declined,
+                    None => {
+                        let kept = self.keep_ascii(spot.rest);
+                        kept_or_declined(kept, spot)
+                    }
                 }
             }
         }

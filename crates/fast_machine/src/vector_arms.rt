@@ -9,6 +9,7 @@ ghost use Rattle.fast_cursor.specs.device.Places.{at_place, HasBits};
 ghost use Rattle.fast_machine.specs.device.Arms.{IsAtSpot, IsAtOp, IsFieldOp, HasWent};
 ghost use Rattle.fast_machine.specs.device.Positions.{set_of};
 
+use crate::cut_texts::kept_or_declined;
 use crate::machine::Machine;
 use crate::spot::{Spot, Standing, Went, hand_taken, hand_unsent, stands};
 use fast_program::Op;
@@ -54,7 +55,10 @@ impl<'t> Machine<'t> {
                     sink,
                 )
             }
-            None => Went::Declined,
+            None => {
+                let kept = self.keep_vector(kind, optional, Operator::None, rest, limits.strict);
+                kept_or_declined(kept, spot)
+            }
         }
     }
 
@@ -99,7 +103,10 @@ impl<'t> Machine<'t> {
                     sink,
                 )
             }
-            None => Went::Declined,
+            None => {
+                let kept = self.keep_delta(op.entry, kind, optional, spot.rest, limits.strict);
+                kept_or_declined(kept, spot)
+            }
         }
     }
 
@@ -150,7 +157,11 @@ impl<'t> Machine<'t> {
                             sink,
                         )
                     }
-                    None => Went::Declined,
+                    None => {
+                        let (rest, strict) = (spot.rest, limits.strict);
+                        let kept = self.keep_vector(kind, optional, Operator::Tail, rest, strict);
+                        kept_or_declined(kept, spot)
+                    }
                 }
             }
         }

@@ -52,18 +52,18 @@ impl<'t> Machine<'t> {
     fn general_step<S: Sink>(
         &mut self,
         templates: &'t Templates,
-        limits: Limits,
+        limits: &Limits,
         rest: &[u8],
         sink: &mut S,
     ) -> UnitTaken
-        requires turn { CanTurn (set_of templates.now) limits self.old }
+        requires turn { CanTurn (set_of templates.now) limits.now self.old }
         requires waits { self.old.waiting ≡ Waiting.Field }
-        ensures step { IsStep S.takes S.stops (set_of templates.now) limits self.old rest.now sink.old result sink.new
+        ensures step { IsStep S.takes S.stops (set_of templates.now) limits.now self.old rest.now sink.old result sink.new
             self.new }
         ensures waits { (t : Turn) → result.turn ≡ Ok t → t ≢ Turn.Waits → self.new.waiting ≡ Waiting.Field }
     {
         let mut left = rest;
-        while let Some(quick) = self.take_last_number(templates, limits, left, sink) {
+        while let Some(quick) = self.take_last_number(templates, *limits, left, sink) {
             left = &left[quick.bytes..];
             if !quick.goes_on() {
                 return UnitTaken {
@@ -75,8 +75,8 @@ impl<'t> Machine<'t> {
                 return UnitTaken::gone_on(rest.len() - left.len());
             }
         }
-        if self.waits_at_once(templates, limits, sink) {
-            let step = self.take_slowly(templates, limits, left, sink);
+        if self.waits_at_once(templates, *limits, sink) {
+            let step = self.take_slowly(templates, *limits, left, sink);
             left = &left[step.bytes..];
             let bytes = rest.len() - left.len();
             if step.goes_on() {
@@ -90,7 +90,7 @@ impl<'t> Machine<'t> {
         if left.len() < rest.len() {
             return UnitTaken::gone_on(rest.len() - left.len());
         }
-        self.step_by_turn(templates, limits, rest, sink)
+        self.step_by_turn(templates, *limits, rest, sink)
     }
 
     /// A step in the general way from the spot on: of the next instruction, or the end of the innermost segment.
@@ -98,12 +98,12 @@ impl<'t> Machine<'t> {
     fn general_arm<S: Sink>(
         &mut self,
         templates: &'t Templates,
-        limits: Limits,
+        limits: &Limits,
         spot: &mut Spot<'t, '_>,
         sink: &mut S,
     ) -> Gone
-        requires spot { IsAtSpot (set_of templates.now) limits self.old spot.old.place }
-        ensures gone { HasGone S.takes S.stops (set_of templates.now) limits self.old spot.old sink.old result sink.new
+        requires spot { IsAtSpot (set_of templates.now) limits.now self.old spot.old.place }
+        ensures gone { HasGone S.takes S.stops (set_of templates.now) limits.now self.old spot.old sink.old result sink.new
             self.new spot.new }
     {
         self.cursor.set_place(spot.place);
@@ -135,16 +135,16 @@ impl<'t> Machine<'t> {
     fn or_general<S: Sink>(
         &mut self,
         templates: &'t Templates,
-        limits: Limits,
+        limits: &Limits,
         went: Went,
         spot: &mut Spot<'t, '_>,
         sink: &mut S,
     ) -> Gone
         requires place { IsPlaceOf self.old.cursor spot.old.place }
-        requires spot { went ≡ Went.Declined → IsAtSpot (set_of templates.now) limits self.old spot.old.place }
+        requires spot { went ≡ Went.Declined → IsAtSpot (set_of templates.now) limits.now self.old spot.old.place }
         ensures gone { (m : Machine) (from : Spot) (s : S)
-            → HasWent S.takes S.stops (set_of templates.now) limits m from s went sink.old self.old spot.old
-            → HasGone S.takes S.stops (set_of templates.now) limits m from s result sink.new self.new spot.new }
+            → HasWent S.takes S.stops (set_of templates.now) limits.now m from s went sink.old self.old spot.old
+            → HasGone S.takes S.stops (set_of templates.now) limits.now m from s result sink.new self.new spot.new }
     {
         match went {
             Went::Took => Gone::Took,
@@ -167,16 +167,17 @@ impl<'t> Machine<'t> {
     pub fn walk<S: Sink>(
         &mut self,
         templates: &'t Templates,
-        limits: Limits,
+        limits: &Limits,
         piece: &[u8],
         sink: &mut S,
     ) -> UnitTaken
-        requires turn { CanTurn (set_of templates.now) limits self.old }
-        ensures step { IsStep S.takes S.stops (set_of templates.now) limits self.old piece.now sink.old result sink.new
+        requires turn { CanTurn (set_of templates.now) limits.now self.old }
+        ensures step { IsStep S.takes S.stops (set_of templates.now) limits.now self.old piece.now sink.old result sink.new
             self.new }
         ensures ends { (t : Turn) → result.turn ≡ Ok t → t ≡ Turn.Waits }
     {
         self.wait_for_field();
+        let bounds = *limits;
         let mut spot = Spot {
             place: self.cursor.place(),
             rest: piece,
@@ -184,16 +185,16 @@ impl<'t> Machine<'t> {
         'units: loop {
             'events: loop {
                 // The code at the place. Behind an absent field it is loaded where that is passed, so that such arms lead straight there.
-                let mut code = self.op_at(templates, limits, &spot.place).code;
+                let mut code = self.op_at(templates, bounds, &spot.place).code;
                 'silent: loop {
-                    let op = self.op_at(templates, limits, &spot.place);
+                    let op = self.op_at(templates, bounds, &spot.place);
                     // an arm, with what all of them take and what is constant for the code
                     macro_rules! arm {
                         ($arm:ident, $operator:ident, $optional:literal) => {
                             arm!($arm, Operator::$operator, $optional)
                         };
                         ($arm:ident $(, $constant:expr)*) => {
-                            self.$arm(templates, limits, &mut spot, op $(, $constant)*, sink)
+                            self.$arm(templates, bounds, &mut spot, op $(, $constant)*, sink)
                         };
                     }
                     let went = match code {
@@ -288,7 +289,7 @@ impl<'t> Machine<'t> {
                             Went::Handed => break 'silent,
                             other => other,
                         },
-                        Code::End => match self.end_arm(templates, limits, &mut spot, sink) {
+                        Code::End => match self.end_arm(templates, bounds, &mut spot, sink) {
                             Went::Took => break 'events,
                             Went::Handed => break 'silent,
                             other => other,
@@ -298,7 +299,7 @@ impl<'t> Machine<'t> {
                     match self.or_general(templates, limits, went, &mut spot, sink) {
                         Gone::Took => break 'events,
                         Gone::Handed => break 'silent,
-                        Gone::Silent => code = self.op_at(templates, limits, &spot.place).code,
+                        Gone::Silent => code = self.op_at(templates, bounds, &spot.place).code,
                         Gone::Ended(outcome) => {
                             return UnitTaken {
                                 bytes: piece.len() - spot.rest.len(),

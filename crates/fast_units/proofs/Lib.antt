@@ -17,3 +17,4 @@ pub mod ShortTexts
 pub mod WholeTexts
 pub mod JoinedTexts
 pub mod WholeDeltas
+pub mod BegunTexts

@@ -126,6 +126,16 @@ zero_nullable nullable room [] v h some e z = absurd (grind (arith, nat_tests))
 zero_nullable nullable room (b ∷ w) v (inl h, i) some e z = absurd (h.2 (w, ap (λ c. c ∷ w) (ap (λ u. get_or u 0 0) (sym e) ∙ z)))
 zero_nullable nullable room (b ∷ w) v (inr h, i) some e z = h.0
 
+-- What is in hand of a text that begins with no zero.
+pub goes_on : (nullable : Bool) (room : ℕ) (w v rest : List ℕ) → ascii_text nullable room w [] cut → false ≡ (length w == 0) → v ≡ w → get_or v 0 0 ≢ 0
+    → HaveNoStop w × BeginsWithCharacter (w ++ rest) × (length w ≤ room)
+goes_on nullable room [] v rest h some e z = absurd (grind (arith, nat_tests))
+goes_on nullable room (b ∷ w) v rest (inl h, i) some e z =
+    let first : get_or v 0 0 ≡ b = ap (λ u. get_or u 0 0) e in
+    let below : b < 128 = h.0 0 0 (omega arith) in
+    (h.0, ((λ q. z (first ∙ q)), (λ q. omega (arith, below, q))), h.1)
+goes_on nullable room (b ∷ w) v rest (inr h, i) some e z = absurd (z (ap (λ u. get_or u 0 0) (e ∙ h.1)))
+
 -- A text that is whole has room, and one that is cut is in hand.
 short_enough : (nullable : Bool) (room : ℕ) (v w : List ℕ) → SpellsAscii nullable room (Some v) w → length v ≤ room
 short_enough nullable room [] w h = omega arith

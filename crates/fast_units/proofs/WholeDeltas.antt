@@ -14,7 +14,7 @@ use Rattle.fast_tree.specs.declared.operators.Operator.TheVariants as Op
 use Rattle.fast_tree.specs.meaning.Tree.{FieldData}
 use Rattle.fast_dict.specs.meaning.Answers.{kept_text}
 use Rattle.fast_dict.specs.meaning.Dictionary.{Dictionary, PreviousData, empty, assigned, previous_at, write_at}
-use Rattle.fast_dict.specs.meaning.Operators.{Outcome, null, decide, checked_text, kept_of, kept_length, joined, subtraction_step, text_step, tail_base, with_tail, ◌>>=◌}
+use Rattle.fast_dict.specs.meaning.Operators.{Outcome, null, decide, checked_text, Kept, kept_of, kept_length, joined, subtraction_step, text_step, tail_base, with_tail, ◌>>=◌}
 use Rattle.fast_dict.proofs.Extended.{text_of_text}
 use Rattle.fast_stream.specs.device.Readers.{Reader}
 use Rattle.fast_stream.specs.meaning.Grammar.{give, integer, ascii_text, raw, of_result}
@@ -30,7 +30,7 @@ use Rattle.fast_units.specs.device.TextDecisions.{is_emptied, IsTextDecided, beh
 use Rattle.fast_units.specs.declared.progress.Progress.TheVariants.{Whole}
 use Rattle.fast_units.specs.declared.source.ValueSource.{ValueSource}
 use Rattle.fast_units.specs.declared.source.ValueSource.TheVariants as From
-use Rattle.fast_units.specs.declared.stages.Stage.TheVariants.{Part}
+use Rattle.fast_units.specs.declared.stages.Stage.TheVariants.{Part, PartVector}
 use Rattle.fast_units.proofs.NextUnits.{first_whole, run_whole, text_unit}
 use Rattle.fast_units.proofs.LastUnits.{unit_goes}
 use Rattle.fast_units.proofs.TextOutcomes.{absent_emptied, absent_left, decided_as, decided_tail-ok, text_kept}
@@ -48,17 +48,33 @@ same_self K.Ascii = refl
 same_self K.Unicode = refl
 same_self K.Bytes = refl
 
+-- What a subtraction length keeps of the text that the entry holds.
+pub keeps_step : (f : FieldData) (d : Dictionary) (kind : Kind) (entry : ℕ) (k : ℤ) (base : List ℕ) (kept : Kept) → f.kind ≡ kind → f.entry ≡ Some entry → previous_at (Some entry) d ≡ assigned kind (value_of_text kind base)
+    → kept_of base k ≡ Ok kept → subtraction_step f (previous_at f.entry d) k ≡ Ok kept
+keeps_step f d kind entry k base kept is_kind is_entry held keeps = ap (λ (e : Option ℕ). subtraction_step f (previous_at e d) k) is_entry
+    ∙ ap (λ (p : PreviousData). subtraction_step f p k) held
+    ∙ ap (λ (q : Kind). (if same_kind q kind then Ok (value_of_text kind base) else Err D4) >>= (λ b. kept_of (text_of b) k)) is_kind
+    ∙ ap (λ (b : Bool). (if b then Ok (value_of_text kind base) else Err D4) >>= (λ b. kept_of (text_of b) k)) (same_self kind)
+    ∙ ap (λ t. kept_of t k) (text_of_text kind base)
+    ∙ keeps
+
+-- The size of a part stands whole, and has room: then come its bytes.
+pub part_size_turns : (s : Bool) (l : Bounds) (f : FieldData) (p : PreviousData) (k : ℤ) (kept : Kept) (rest : List ℕ) (size a : ℕ) → subtraction_step f p k ≡ Ok kept → f.kind ≢ K.Ascii
+    → IsFirstInt (λ y. option_map pos y) s (unsigned_range 32) false (First.Whole (Some size) a) rest → size ≤ l.max_text - kept_length kept
+    → (0 < a) × (a ≤ length rest) × Turns (reader_of s (term_behind l f p (Part k))) (take a rest) (reader_of s (term_behind l f p (PartVector k size)))
+part_size_turns s l f p k kept rest size a step no_ascii given room =
+    let first : Reader Outcome = reader_of s (term_behind l f p (Part k)) in
+    let (some, within, t) = first_whole (λ y. option_map pos y) s (unsigned_range 32) false D2 [] rest (Some size) a refl given in
+    let (same, fits, next) = part_size_fits l f p kept size size (room_tells size (l.max_text - kept_length kept) room) in
+    let go : Turns first (take a rest) (reader_of s (behind_part_size l f p kept (Some (pos size))))
+    = unit_goes s (integer (unsigned_range 32) false D2 give) (behind_part_size l f p kept) first (ap (reader_of s) (part_size_field l f p k kept step no_ascii)) (take a rest) (Some (pos size)) t in
+    (some, within, subst (λ (q : Reader Outcome). Turns first (take a rest) q) (ap (reader_of s) (next ∙ part_vector_here l f p kept k size step)) go)
+
 -- The part of a delta that is joined to its entry's text.
 module _ (s : Bool) (l : Bounds) (f : FieldData) (old new : Dictionary) (scratch piece : List ℕ) (kind : Kind) (entry : ℕ) (k : ℤ) (part : List ℕ) (is_kind : f.kind ≡ kind) (is_entry : f.entry ≡ Some entry) (there : entry < length old)
     (j : IsJoined kind entry k part l.max_text old new) where
-  held_step : subtraction_step f (assigned kind (value_of_text kind j.base)) k ≡ Ok j.kept
-  held_step = ap (λ (q : Kind). (if same_kind q kind then Ok (value_of_text kind j.base) else Err D4) >>= (λ b. kept_of (text_of b) k)) is_kind
-      ∙ ap (λ (b : Bool). (if b then Ok (value_of_text kind j.base) else Err D4) >>= (λ b. kept_of (text_of b) k)) (same_self kind)
-      ∙ ap (λ t. kept_of t k) (text_of_text kind j.base)
-      ∙ j.keeps
-
   step : subtraction_step f (previous_at f.entry old) k ≡ Ok j.kept
-  step = ap (λ (e : Option ℕ). subtraction_step f (previous_at e old) k) is_entry ∙ ap (λ (p : PreviousData). subtraction_step f p k) j.held ∙ held_step
+  step = keeps_step f old kind entry k j.base j.kept is_kind is_entry j.held j.keeps
 
   decided : IsTextDecided (text_step f j.kept part) f old new scratch piece (Ok From.Entry)
   decided =
@@ -87,14 +103,20 @@ module _ (s : Bool) (l : Bounds) (f : FieldData) (old new : Dictionary) (scratch
       let len : length text ≡ size = length-take-le size (drop a rest) within in
       let long : length text ≡ length part = ap length same in
       let room : size ≤ l.max_text - kept_length j.kept = (let h = j.fits in omega (arith, len, long, h)) in
-      let first : Reader Outcome = reader_of s (term_behind l f p (Part k)) in
-      let (some, here, t) = first_whole (λ y. option_map pos y) s (unsigned_range 32) false D2 [] rest (Some size) a refl given in
-      let (size_same, fits, next) = part_size_fits l f p j.kept size size (room_tells size (l.max_text - kept_length j.kept) room) in
-      let go : Turns first (take a rest) (reader_of s (behind_part_size l f p j.kept (Some (pos size))))
-      = unit_goes s (integer (unsigned_range 32) false D2 give) (behind_part_size l f p j.kept) first (ap (reader_of s) (part_size_field l f p k j.kept step (λ e. no_ascii (sym is_kind ∙ e)))) (take a rest) (Some (pos size)) t in
+      let (some, here, go) = part_size_turns s l f p k j.kept rest size a step (λ e. no_ascii (sym is_kind ∙ e)) given room in
       gives_run f old new scratch piece From.Entry (in_runs rest a size) go
-      (gives_unit f old new scratch piece From.Entry s (raw size give) (λ v. part_change f p j.kept (Some v)) (reader_of s (behind_part_size l f p j.kept (Some (pos size)))) text text (text_step f j.kept part)
-      (ap (reader_of s) (next ∙ part_vector_here l f p j.kept k size step ∙ part_vector_field l f p k j.kept size step)) (run_whole s size text len) (ap (λ t. of_result (text_step f j.kept t)) same) decided)
+      (gives_unit f old new scratch piece From.Entry s (raw size give) (λ v. part_change f p j.kept (Some v)) (reader_of s (term_behind l f p (PartVector k size))) text text (text_step f j.kept part)
+      (ap (reader_of s) (part_vector_field l f p k j.kept size step)) (run_whole s size text len) (ap (λ t. of_result (text_step f j.kept t)) same) decided)
+
+-- The subtraction length stands whole: then comes the part.
+pub subtraction_turns : (s : Bool) (l : Bounds) (f : FieldData) (p : PreviousData) (rest : List ℕ) (k : ℤ) (a : ℕ) → family f.kind ≡ texts → f.operator ≡ Op.Delta → IsFirstInt (λ y. y) s (signed_range 31) f.optional (First.Whole (Some k) a) rest
+    → (0 < a) × (a ≤ length rest) × Turns (reader_of s (field_term l f p true)) (take a rest) (reader_of s (term_behind l f p (Part k)))
+subtraction_turns s l f p rest k a is_text is_delta given =
+    let first : Reader Outcome = reader_of s (field_term l f p true) in
+    let (some, within, t) = first_whole (λ y. y) s (signed_range 31) f.optional D7 [] rest (Some k) a refl given in
+    let go : Turns first (take a rest) (reader_of s (text_change l f p (Some k)))
+    = unit_goes s (integer (signed_range 31) f.optional D7 give) (text_change l f p) first (ap (reader_of s) (subtraction_field l f p is_text is_delta)) (take a rest) (Some k) t in
+    (some, within, subst (λ (q : Reader Outcome). Turns first (take a rest) q) (ap (reader_of s) (part_here l f p k)) go)
 
 -- The subtraction length, or NULL, and then the part.
 module _ (s : Bool) (l : Bounds) (f : FieldData) (rest : List ℕ) (old new : Dictionary) (scratch : List ℕ) (is_text : family f.kind ≡ texts) (is_delta : f.operator ≡ Op.Delta) where
@@ -113,13 +135,7 @@ module _ (s : Bool) (l : Bounds) (f : FieldData) (rest : List ℕ) (old new : Di
   pub delta_whole : (source : ValueSource) (k : ℤ) (a b : ℕ) → IsFirstInt (λ y. y) s (signed_range 31) f.optional (First.Whole (Some k) a) rest → b ≤ length (drop a rest)
       → GivesField (reader_of s (term_behind l f (previous_at f.entry old) (Part k))) (take b (drop a rest)) f source old new scratch (take b (drop a rest))
       → GivesWhole (reader_of s (field_term l f (previous_at f.entry old) true)) f rest old new scratch source a (a + b)
-  delta_whole source k a b given within g =
-      let p : PreviousData = previous_at f.entry old in
-      let first : Reader Outcome = reader_of s (field_term l f p true) in
-      let (some, here, t) = first_whole (λ y. y) s (signed_range 31) f.optional D7 [] rest (Some k) a refl given in
-      let go : Turns first (take a rest) (reader_of s (text_change l f p (Some k)))
-      = unit_goes s (integer (signed_range 31) f.optional D7 give) (text_change l f p) first (ap (reader_of s) (subtraction_field l f p is_text is_delta)) (take a rest) (Some k) t in
-      gives_whole f rest old new scratch source a b (some, here, subst (λ (q : Reader Outcome). Turns first (take a rest) q) (ap (reader_of s) (part_here l f p k)) go) within g
+  delta_whole source k a b given within g = gives_whole f rest old new scratch source a b (subtraction_turns s l f (previous_at f.entry old) rest k a is_text is_delta given) within g
 
 -- A tail, or NULL.
 module _ (s : Bool) (l : Bounds) (f : FieldData) (rest : List ℕ) (old new : Dictionary) (scratch : List ℕ) (kind : Kind) (entry : ℕ) (is_kind : f.kind ≡ kind) (is_text : family kind ≡ texts) (no_ascii : kind ≢ K.Ascii) (is_tail : f.operator ≡ Op.Tail)

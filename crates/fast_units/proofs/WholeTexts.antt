@@ -25,6 +25,8 @@ use Rattle.fast_stream.specs.meaning.Fields.{sent_text, field_term}
 use Rattle.fast_units.specs.device.Taking.{Turns}
 use Rattle.fast_units.specs.device.Settling.{GivesField}
 use Rattle.fast_units.specs.device.FieldsAs.{GivesWhole}
+use Rattle.fast_units.specs.device.TextsAs.{HasBegun}
+use Rattle.fast_units.specs.declared.stages.Stage.TheVariants.{Vector}
 use Rattle.fast_units.specs.device.TextDecisions.{is_emptied, IsTextDecided, behind_size}
 use Rattle.fast_units.specs.declared.source.ValueSource.{ValueSource}
 use Rattle.fast_units.specs.declared.source.ValueSource.TheVariants as From
@@ -111,6 +113,22 @@ module _ (s : Bool) (l : Bounds) (f : FieldData) (rest : List ℕ) (old new : Di
       gives_whole f rest old new scratch source a size (size_turns (Some size) a given) within
       (gives_unit f old new scratch text source s (raw size give) (λ v. behind_text l f p (Some v)) (reader_of s (behind (Some (pos size)))) text text (decide f p true (sent_text f.kind (Some text)))
       (ap (reader_of s) (next ∙ vector_field l f p size)) (run_whole s size text (length-take-le size (drop a rest) within)) refl h)
+
+  -- The bytes behind its size are too few.
+  pub vector_begun : (size a : ℕ) → IsFirstInt (λ y. option_map pos y) s (unsigned_range 32) f.optional (First.Whole (Some size) a) rest → size ≤ l.max_text → length rest - a < size
+      → HasBegun s l f (previous_at f.entry old) rest (Vector size) a
+  unfolding first behind
+  vector_begun size a given room short =
+      let p : PreviousData = previous_at f.entry old in
+      let (some, within, turns) = size_turns (Some size) a given in
+      let (same, fits, next) = size_fits l f p size size (room_tells size l.max_text room) in
+      record {
+        some = some;
+        within = within;
+        stage = (is_text, no_ascii, no_delta, no_constant, room);
+        bytes = let len : length (drop a rest) ≡ length rest - a = length-drop a rest in omega (arith, len, short);
+        turns = turns_as refl (sym (ap (reader_of s) next)) turns;
+      }
 
 -- An operator that keeps no value.
 unkept : (o : Operator) → keeps_value o ≡ false → (o ≢ Op.Delta) × (is_emptied o ≡ false)

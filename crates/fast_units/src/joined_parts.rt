@@ -7,7 +7,7 @@ ghost use Rattle.fast_value.specs.meaning.Kinds.{family, texts, value_of_text};
 ghost use Rattle.fast_dict.specs.meaning.Dictionary.{assigned, previous_at};
 ghost use Rattle.fast_dict.specs.meaning.Operators.{checked_text};
 ghost use Rattle.fast_dict.specs.meaning.Slots.{slots_dictionary, slots_terms};
-ghost use Rattle.fast_units.specs.device.TextsAs.{IsJoined, IsTailed};
+ghost use Rattle.fast_units.specs.device.TextsAs.{IsJoined, IsTailed, LeavesRoom};
 
 use crate::fields::text_value;
 use crate::scratch::Scratch;
@@ -81,6 +81,27 @@ fn kept_behind(slots: &Slots, entry: usize, kind: Kind, dropped: usize) -> Optio
         return None;
     }
     Some(&base[dropped..])
+}
+
+/// How many bytes a part may have beside what the subtraction length keeps of the entry's text.
+#[inline(always)]
+pub(crate) fn kept_room(
+    slots: &Slots,
+    entry: usize,
+    kind: Kind,
+    subtraction: i64,
+    room: usize,
+) -> Option<usize>
+    requires there { entry < length (slots_dictionary slots.now) }
+    requires limit { (slots_terms slots.now).max_text ≡ room }
+    ensures { IfSome result (λ left. LeavesRoom kind entry subtraction room left (slots_dictionary slots.now)) }
+{
+    let base = slots.own_text(entry, kind)?;
+    let dropped = dropped_by(subtraction);
+    if dropped > base.len() {
+        return None;
+    }
+    Some(room - (base.len() - dropped))
 }
 
 /// Puts the part before the entry's text, of which the first bytes are dropped.

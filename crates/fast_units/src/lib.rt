@@ -2,10 +2,12 @@
 #![tactic(auto)]
 
 pub mod ascii_items;
+pub mod begun_texts;
 pub mod decimal_items;
 pub mod decimal_parts;
 pub mod decimals;
 pub mod fields;
+pub mod held_texts;
 pub mod integer_items;
 mod joined_parts;
 pub mod lent_texts;

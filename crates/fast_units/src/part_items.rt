@@ -26,7 +26,11 @@ use fast_wire::{find_stop, whole_signed};
 
 /// A subtraction length, or NULL where it may be, and the bytes that it takes.
 #[inline(always)]
-fn whole_subtraction(rest: &[u8], nullable: bool, strict: bool) -> Option<(Option<i64>, usize)>
+pub(crate) fn whole_subtraction(
+    rest: &[u8],
+    nullable: bool,
+    strict: bool,
+) -> Option<(Option<i64>, usize)>
     ensures { IfSome result (λ r. IsFirstInt (λ y. y) strict (signed_range 31) nullable (Whole r.0 r.1) rest.now) }
 {
     whole_signed(rest, nullable, strict, -2_147_483_648, 2_147_483_647)

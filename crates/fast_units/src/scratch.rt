@@ -113,7 +113,7 @@ impl Scratch {
 
     /// Forgets all bytes but the first `len`.
     #[inline]
-    fn truncate(&mut self, len: usize)
+    pub(crate) fn truncate(&mut self, len: usize)
         requires { len ≤ length self.old.text }
         ensures text { self.new.text ≡ take len self.old.text }
         ensures capacity { self.new.capacity ≡ self.old.capacity }

@@ -1,7 +1,8 @@
-//! Fields that are taken from the piece whole, all their units at once.
+//! Fields that are taken from the piece whole, all their units at once, and texts that begin in it and don't end there.
 
 use crate::fields::Number;
 use crate::source::ValueSource;
+use crate::stages::Stage;
 
 /// A number that stands whole in the piece, or NULL, and the bytes that it takes.
 #[derive(Clone, Copy)]
@@ -21,4 +22,13 @@ pub struct TakenText {
     pub from: usize,
     /// The bytes that the field takes.
     pub bytes: usize,
+}
+
+/// A text that begins in the piece and goes on behind it: its units before the last are whole, and the last is cut.
+#[derive(Clone, Copy)]
+pub struct BegunText {
+    /// The last unit.
+    pub stage: Stage,
+    /// Where it begins in the bytes of the field. All that are there from here on are its own.
+    pub from: usize,
 }

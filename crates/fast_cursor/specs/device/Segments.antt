@@ -6,8 +6,8 @@ use Rattle.fast_program.specs.device.Runs.{AreNumbered, Begins}
 use Rattle.fast_cursor.specs.device.Runs.{run_at, IsRun}
 use Rattle.fast_cursor.specs.device.Cursors.{ElementsData, FrameData, CursorData}
 use Rattle.fast_cursor.specs.device.MapPlaces.{used_at, IsPlace}
-use Rattle.fast_cursor.specs.declared.cursor.Elements.{Elements}
-use Rattle.fast_cursor.specs.declared.cursor.Frame.{Frame}
+use Rattle.fast_cursor.specs.declared.frames.Elements.{Elements}
+use Rattle.fast_cursor.specs.declared.frames.Frame.{Frame}
 use Rattle.fast_cursor.specs.declared.cursor.Cursor.TheInside.{Inside}
 
 -- what is still to come of a sequence

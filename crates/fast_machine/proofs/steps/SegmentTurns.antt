@@ -38,7 +38,7 @@ use Rattle.fast_stream.specs.meaning.Fields.{field_term}
 use Rattle.fast_stream.specs.device.Frames.{Frame, open_group, open_element, unwind, resume, opened, elements_turn}
 use Rattle.fast_machine.specs.device.Passing.{state_past, length_then, group_from, elements_from}
 use Rattle.fast_program.specs.declared.ops.Op.{Op}
-use Rattle.fast_cursor.specs.declared.cursor.Elements.{Elements}
+use Rattle.fast_cursor.specs.declared.frames.Elements.{Elements}
 use Rattle.fast_cursor.specs.device.Segments.{elements_data}
 use Rattle.fast_cursor.specs.device.Cursors.{ElementsData, FrameData, CursorData, bits_behind, bits_left, resting, frame_here, entered, left_to}
 use Rattle.fast_machine.specs.device.Positions.{Set, run_in, body_in, IsBodyOf, frame_by, frames_in, state_in, IsMapWhole, AreElementsFit, AreFramesFit, IsPlaced, IsSupplied, CanTurn, IsTurn, IsAtGroup, IsAtSequence, BeginsWithInteger, bit_of, turning, meaning}

@@ -1,8 +1,10 @@
 -- Bytes that are kept in hand of a unit which goes on behind them.
-use Rattle.std.specs.Prelude.{◌≡◌, ◌≢◌, ℕ, List, ◌++◌}
+use Rattle.std.specs.Prelude.{◌≡◌, ◌≢◌, ℕ, ◌+◌, List, ◌++◌, drop}
+use Rattle.fast_units.specs.declared.taken.BegunText.{BegunText}
 use Rattle.fast_value.specs.declared.settings.Limits.{Limits}
 use Rattle.fast_machine.specs.declared.machine.Machine.{Machine}
-use Rattle.fast_machine.specs.declared.machine.Waiting.TheVariants.{Map}
+use Rattle.fast_machine.specs.declared.machine.Waiting.{Waiting}
+use Rattle.fast_machine.specs.declared.machine.Waiting.TheVariants.{Map, Bytes}
 use Rattle.fast_machine.specs.device.Positions.{Set, front_at, IsReady}
 
 -- Inside a message all of the bytes came to those in hand, and the machine waits for more of the same unit.
@@ -11,3 +13,14 @@ pub record IsGatheredBy (set : Set) (l : Limits) (before after : Machine) (rest 
   pub ready : IsReady set l after
   pub front : front_at before.waiting after ≡ front_at before.waiting before ++ rest
   pub same : after ≡ record before { entity = after.entity; text = after.text }
+
+-- These bytes alone are in hand, and the machine waits for more of their unit: one turn.
+pub record IsKeptAs (waits : Waiting) (m m' : Machine) (bytes : List ℕ) : Type 0 where
+  pub same : m' ≡ record m { waiting = waits; text = m'.text; turns = m'.turns }
+  pub text : m'.text.text ≡ bytes
+  pub room : m'.text.capacity ≡ m.text.capacity
+  pub turn : m'.turns.count ≡ m.turns.count + 1
+
+-- The same of a text that has begun in the bytes: those of its last unit are in hand.
+abbrev pub IsKeptFrom : Machine → Machine → List ℕ → BegunText → Type 0
+IsKeptFrom m m' rest r = IsKeptAs (Bytes r.stage) m m' (drop r.from rest)

@@ -1,6 +1,6 @@
 use Rattle.std.proofs.Common.{sym, ap, subst, ◌≡◌, ◌<◌, arith, length, set}
 use Rattle.std.proofs.lemmas.List.{length-set}
-use Rattle.fast_cursor.specs.declared.cursor.Frame.{Frame}
+use Rattle.fast_cursor.specs.declared.frames.Frame.{Frame}
 use Rattle.fast_cursor.specs.declared.map_place.MapPlace.{MapPlace}
 use Rattle.fast_cursor.specs.device.MapPlaces.{IsPlace}
 use Rattle.fast_cursor.specs.device.Runs.{IsRun}

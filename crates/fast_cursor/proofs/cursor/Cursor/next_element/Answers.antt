@@ -3,7 +3,7 @@ use Rattle.std.proofs.Common.{sym, ap, subst, ◌∙◌, ◌≡◌, ◌<◌, ◌
 use Rattle.std.specs.Prelude.{◌⊎◌, option_map}
 use Rattle.std.proofs.lemmas.List.{length-set, get_or_default}
 use Rattle.fast_wire.specs.meaning.Maps.{map_limit}
-use Rattle.fast_cursor.specs.declared.cursor.Frame.{Frame}
+use Rattle.fast_cursor.specs.declared.frames.Frame.{Frame}
 use Rattle.fast_cursor.specs.device.Cursors.{CursorData, ElementsData}
 use Rattle.fast_cursor.specs.device.Runs.{IsRun}
 use Rattle.fast_cursor.specs.device.MapPlaces.{IsPlace}

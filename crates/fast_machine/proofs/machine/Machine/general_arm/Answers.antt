@@ -23,8 +23,8 @@ returns-then-step-gt0-2 g c =
           rest = take_rest c.args.spot.now.rest.now c.general_step-step.result.bytes;
           waits = c.general_step-step.ensures.waits Silent (is) (λ e. cc e);
           place = c.place-spot.ensures.place;
-          step = took_handed g.S.Sink.takes g.S.Sink.stops (set_of c.args.templates.now) c.args.limits (placed c.args.self.now c.args.spot.now.place) (placed c.general_step-step.new.self c.place-spot.result) c.args.spot.now.rest.now c.args.sink.now c.general_step-step.result.bytes Silent c.general_step-step.new.sink c.if-step-gt0-2.true (λ e. cc e)
-              (step_at g.S.Sink.takes g.S.Sink.stops (set_of c.args.templates.now) c.args.limits c.args.self.now c.args.spot.now c.args.sink.now c.set_place.new.self c.general_step-step.result.bytes (Ok Silent) c.general_step-step.result c.general_step-step.new.sink c.general_step-step.new.self c.place-spot.result c.set_place.ensures refl (is) c.place-spot.ensures.same c.general_step-step.ensures.step);
+          step = took_handed g.S.Sink.takes g.S.Sink.stops (set_of c.args.templates.now) c.args.limits.now (placed c.args.self.now c.args.spot.now.place) (placed c.general_step-step.new.self c.place-spot.result) c.args.spot.now.rest.now c.args.sink.now c.general_step-step.result.bytes Silent c.general_step-step.new.sink c.if-step-gt0-2.true (λ e. cc e)
+              (step_at g.S.Sink.takes g.S.Sink.stops (set_of c.args.templates.now) c.args.limits.now c.args.self.now c.args.spot.now c.args.sink.now c.set_place.new.self c.general_step-step.result.bytes (Ok Silent) c.general_step-step.result c.general_step-step.new.sink c.general_step-step.new.self c.place-spot.result c.set_place.ensures refl (is) c.place-spot.ensures.same c.general_step-step.ensures.step);
         },
       );
     }
@@ -34,9 +34,9 @@ returns-in-Err g c = record {
   gone = (
     c.general_step-step.result.bytes,
     take_rest c.args.spot.now.rest.now c.general_step-step.result.bytes,
-    subst (λ (b : Machine). IsStep g.S.Sink.takes g.S.Sink.stops (set_of c.args.templates.now) c.args.limits (placed c.args.self.now c.args.spot.now.place) c.args.spot.now.rest.now c.args.sink.now (record { bytes = c.general_step-step.result.bytes; turn = Err c.in-Err.code }) c.general_step-step.new.sink b)
+    subst (λ (b : Machine). IsStep g.S.Sink.takes g.S.Sink.stops (set_of c.args.templates.now) c.args.limits.now (placed c.args.self.now c.args.spot.now.place) c.args.spot.now.rest.now c.args.sink.now (record { bytes = c.general_step-step.result.bytes; turn = Err c.in-Err.code }) c.general_step-step.new.sink b)
         (ap (λ (x : CursorData). record c.general_step-step.new.self { cursor = x }) c.place-spot.ensures.same)
-        (step_at g.S.Sink.takes g.S.Sink.stops (set_of c.args.templates.now) c.args.limits c.args.self.now c.args.spot.now c.args.sink.now c.set_place.new.self c.general_step-step.result.bytes (Err c.in-Err.code) c.general_step-step.result c.general_step-step.new.sink c.general_step-step.new.self c.place-spot.result c.set_place.ensures refl (c.in-Err.is) c.place-spot.ensures.same c.general_step-step.ensures.step),
+        (step_at g.S.Sink.takes g.S.Sink.stops (set_of c.args.templates.now) c.args.limits.now c.args.self.now c.args.spot.now c.args.sink.now c.set_place.new.self c.general_step-step.result.bytes (Err c.in-Err.code) c.general_step-step.result c.general_step-step.new.sink c.general_step-step.new.self c.place-spot.result c.set_place.ensures refl (c.in-Err.is) c.place-spot.ensures.same c.general_step-step.ensures.step),
   );
 }
 
@@ -49,7 +49,7 @@ returns-else-step-gt0 g c =
         rest = take_rest c.args.spot.now.rest.now c.general_step-step.result.bytes ∙ ap (λ k. drop k c.args.spot.now.rest.now) none;
         waits = c.general_step-step.ensures.waits Handed (is) (λ e. cc e);
         place = c.place-spot.ensures.place;
-        step = step_at g.S.Sink.takes g.S.Sink.stops (set_of c.args.templates.now) c.args.limits c.args.self.now c.args.spot.now c.args.sink.now c.set_place.new.self 0 (Ok Handed) c.general_step-step.result c.general_step-step.new.sink c.general_step-step.new.self c.place-spot.result c.set_place.ensures none (is) c.place-spot.ensures.same c.general_step-step.ensures.step;
+        step = step_at g.S.Sink.takes g.S.Sink.stops (set_of c.args.templates.now) c.args.limits.now c.args.self.now c.args.spot.now c.args.sink.now c.set_place.new.self 0 (Ok Handed) c.general_step-step.result c.general_step-step.new.sink c.general_step-step.new.self c.place-spot.result c.set_place.ensures none (is) c.place-spot.ensures.same c.general_step-step.ensures.step;
       };
     }
 
@@ -62,6 +62,6 @@ returns-else-step-gt0-2 g c =
         rest = take_rest c.args.spot.now.rest.now c.general_step-step.result.bytes ∙ ap (λ k. drop k c.args.spot.now.rest.now) none;
         waits = c.general_step-step.ensures.waits Silent (is) (λ e. cc e);
         place = c.place-spot.ensures.place;
-        step = step_at g.S.Sink.takes g.S.Sink.stops (set_of c.args.templates.now) c.args.limits c.args.self.now c.args.spot.now c.args.sink.now c.set_place.new.self 0 (Ok Silent) c.general_step-step.result c.general_step-step.new.sink c.general_step-step.new.self c.place-spot.result c.set_place.ensures none (is) c.place-spot.ensures.same c.general_step-step.ensures.step;
+        step = step_at g.S.Sink.takes g.S.Sink.stops (set_of c.args.templates.now) c.args.limits.now c.args.self.now c.args.spot.now c.args.sink.now c.set_place.new.self 0 (Ok Silent) c.general_step-step.result c.general_step-step.new.sink c.general_step-step.new.self c.place-spot.result c.set_place.ensures none (is) c.place-spot.ensures.same c.general_step-step.ensures.step;
       };
     }

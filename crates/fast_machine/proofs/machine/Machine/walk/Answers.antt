@@ -18,12 +18,12 @@ use Rattle.fast_program.specs.declared.codes.Code.TheVariants.{UInt32Plain, UInt
 use Rattle.fast_machine.proofs.machine.Machine.walk.Goals as goal
 
 -- What the arm did that the code led to.
-went_here : (g : Over) (c : After-or_general g) → HasWent g.S.Sink.takes g.S.Sink.stops (set_of c.args.templates.now) c.args.limits c.silent.self c.silent.spot c.silent.sink c.match-code.went c.match-code.sink c.match-code.self c.match-code.spot
+went_here : (g : Over) (c : After-or_general g) → HasWent g.S.Sink.takes g.S.Sink.stops (set_of c.args.templates.now) c.args.limits.now c.silent.self c.silent.spot c.silent.sink c.match-code.went c.match-code.sink c.match-code.self c.match-code.spot
 went_here g c =
     let takes = g.S.Sink.takes in
     let stops = g.S.Sink.stops in
     let set = set_of c.args.templates.now in
-    let l = c.args.limits in
+    let l = c.args.limits.now in
     let m = c.silent.self in
     let from = c.silent.spot in
     let s = c.silent.sink in
@@ -112,7 +112,7 @@ or_general-requires g c =
     let takes = g.S.Sink.takes in
     let stops = g.S.Sink.stops in
     let set = set_of c.args.templates.now in
-    let l = c.args.limits in
+    let l = c.args.limits.now in
     let m = c.silent.self in
     let from = c.silent.spot in
     let s = c.silent.sink in
@@ -195,17 +195,17 @@ or_general-requires g c =
       | in-End+in_default-end_arm w ↦ went_as takes stops set l m from s did.went did.sink did.self did.spot w.self-is w.sink-is w.spot-is w.went-is w.end_arm.ensures.went
       | in-General w ↦ went_as takes stops set l m from s did.went did.sink did.self did.spot w.self-is w.sink-is w.spot-is w.went-is (refl, refl, refl)
     ] in
-    let spot : IsAtSpot (set_of c.args.templates.now) c.args.limits c.silent.self c.silent.spot.place = record { waits = c.silent.invariant.waits; place = c.silent.invariant.place; can = c.silent.invariant.far.turn } in
+    let spot : IsAtSpot (set_of c.args.templates.now) c.args.limits.now c.silent.self c.silent.spot.place = record { waits = c.silent.invariant.waits; place = c.silent.invariant.place; can = c.silent.invariant.far.turn } in
     record {
-      place = went_place g.S.Sink.takes g.S.Sink.stops (set_of c.args.templates.now) c.args.limits c.silent.self c.silent.spot c.silent.sink c.match-code.went c.match-code.sink c.match-code.self c.match-code.spot c.silent.invariant.place went;
-      spot = went_nowhere g.S.Sink.takes g.S.Sink.stops (set_of c.args.templates.now) c.args.limits c.silent.self c.silent.spot c.silent.sink c.match-code.went c.match-code.sink c.match-code.self c.match-code.spot spot went;
+      place = went_place g.S.Sink.takes g.S.Sink.stops (set_of c.args.templates.now) c.args.limits.now c.silent.self c.silent.spot c.silent.sink c.match-code.went c.match-code.sink c.match-code.self c.match-code.spot c.silent.invariant.place went;
+      spot = went_nowhere g.S.Sink.takes g.S.Sink.stops (set_of c.args.templates.now) c.args.limits.now c.silent.self c.silent.spot c.silent.sink c.match-code.went c.match-code.sink c.match-code.self c.match-code.spot spot went;
     }
 
 pub units-preserved-in-Took : goal.units-preserved-in-Took
 units-preserved-in-Took g c =
     let (n, some, w) = c.in-Took.ensures.went in
     record {
-      far = went_far g.S.Sink.takes g.S.Sink.stops (set_of c.args.templates.now) c.args.limits c.silent.self c.silent.spot c.silent.sink n Handed c.group_arm.new.sink c.group_arm.new.self c.group_arm.new.spot w c.args.self.now c.args.piece.now c.args.sink.now (λ e. cc e) c.silent.invariant.far;
+      far = went_far g.S.Sink.takes g.S.Sink.stops (set_of c.args.templates.now) c.args.limits.now c.silent.self c.silent.spot c.silent.sink n Handed c.group_arm.new.sink c.group_arm.new.self c.group_arm.new.spot w c.args.self.now c.args.piece.now c.args.sink.now (λ e. cc e) c.silent.invariant.far;
       waits = w.waits;
       place = w.place;
     }
@@ -213,11 +213,11 @@ units-preserved-in-Took g c =
 pub events-preserved-in-Handed : goal.events-preserved-in-Handed
 events-preserved-in-Handed g c =
     let w = c.in-Handed.ensures.went in
-    let left = went_left g.S.Sink.takes g.S.Sink.stops (set_of c.args.templates.now) c.args.limits c.silent.self c.silent.spot c.silent.sink 0 Handed c.group_arm.new.sink c.group_arm.new.self c.group_arm.new.spot w in
+    let left = went_left g.S.Sink.takes g.S.Sink.stops (set_of c.args.templates.now) c.args.limits.now c.silent.self c.silent.spot c.silent.sink 0 Handed c.group_arm.new.sink c.group_arm.new.self c.group_arm.new.spot w in
     let before = c.silent.invariant.left in
     let more = c.events.invariant.left in
     record {
-      far = went_far g.S.Sink.takes g.S.Sink.stops (set_of c.args.templates.now) c.args.limits c.silent.self c.silent.spot c.silent.sink 0 Handed c.group_arm.new.sink c.group_arm.new.self c.group_arm.new.spot w c.args.self.now c.args.piece.now c.args.sink.now (λ e. cc e) c.silent.invariant.far;
+      far = went_far g.S.Sink.takes g.S.Sink.stops (set_of c.args.templates.now) c.args.limits.now c.silent.self c.silent.spot c.silent.sink 0 Handed c.group_arm.new.sink c.group_arm.new.self c.group_arm.new.spot w c.args.self.now c.args.piece.now c.args.sink.now (λ e. cc e) c.silent.invariant.far;
       waits = w.waits;
       place = w.place;
       left = omega (arith, left, before, more);
@@ -227,7 +227,7 @@ pub units-preserved-in-Took-group_arm : goal.units-preserved-in-Took-group_arm
 units-preserved-in-Took-group_arm g c =
     let (n, some, w) = c.in-Took-group_arm.ensures.went in
     record {
-      far = went_far g.S.Sink.takes g.S.Sink.stops (set_of c.args.templates.now) c.args.limits c.silent.self c.silent.spot c.silent.sink n Handed c.group_arm-in-OptionalGroup.new.sink c.group_arm-in-OptionalGroup.new.self c.group_arm-in-OptionalGroup.new.spot w c.args.self.now c.args.piece.now c.args.sink.now (λ e. cc e) c.silent.invariant.far;
+      far = went_far g.S.Sink.takes g.S.Sink.stops (set_of c.args.templates.now) c.args.limits.now c.silent.self c.silent.spot c.silent.sink n Handed c.group_arm-in-OptionalGroup.new.sink c.group_arm-in-OptionalGroup.new.self c.group_arm-in-OptionalGroup.new.spot w c.args.self.now c.args.piece.now c.args.sink.now (λ e. cc e) c.silent.invariant.far;
       waits = w.waits;
       place = w.place;
     }
@@ -235,11 +235,11 @@ units-preserved-in-Took-group_arm g c =
 pub events-preserved-in-Handed-group_arm : goal.events-preserved-in-Handed-group_arm
 events-preserved-in-Handed-group_arm g c =
     let w = c.in-Handed-group_arm.ensures.went in
-    let left = went_left g.S.Sink.takes g.S.Sink.stops (set_of c.args.templates.now) c.args.limits c.silent.self c.silent.spot c.silent.sink 0 Handed c.group_arm-in-OptionalGroup.new.sink c.group_arm-in-OptionalGroup.new.self c.group_arm-in-OptionalGroup.new.spot w in
+    let left = went_left g.S.Sink.takes g.S.Sink.stops (set_of c.args.templates.now) c.args.limits.now c.silent.self c.silent.spot c.silent.sink 0 Handed c.group_arm-in-OptionalGroup.new.sink c.group_arm-in-OptionalGroup.new.self c.group_arm-in-OptionalGroup.new.spot w in
     let before = c.silent.invariant.left in
     let more = c.events.invariant.left in
     record {
-      far = went_far g.S.Sink.takes g.S.Sink.stops (set_of c.args.templates.now) c.args.limits c.silent.self c.silent.spot c.silent.sink 0 Handed c.group_arm-in-OptionalGroup.new.sink c.group_arm-in-OptionalGroup.new.self c.group_arm-in-OptionalGroup.new.spot w c.args.self.now c.args.piece.now c.args.sink.now (λ e. cc e) c.silent.invariant.far;
+      far = went_far g.S.Sink.takes g.S.Sink.stops (set_of c.args.templates.now) c.args.limits.now c.silent.self c.silent.spot c.silent.sink 0 Handed c.group_arm-in-OptionalGroup.new.sink c.group_arm-in-OptionalGroup.new.self c.group_arm-in-OptionalGroup.new.spot w c.args.self.now c.args.piece.now c.args.sink.now (λ e. cc e) c.silent.invariant.far;
       waits = w.waits;
       place = w.place;
       left = omega (arith, left, before, more);
@@ -249,7 +249,7 @@ pub units-preserved-in-Took-sequence_arm : goal.units-preserved-in-Took-sequence
 units-preserved-in-Took-sequence_arm g c =
     let (n, some, w) = c.in-Took-sequence_arm.ensures.went in
     record {
-      far = went_far g.S.Sink.takes g.S.Sink.stops (set_of c.args.templates.now) c.args.limits c.silent.self c.silent.spot c.silent.sink n Handed c.sequence_arm.new.sink c.sequence_arm.new.self c.sequence_arm.new.spot w c.args.self.now c.args.piece.now c.args.sink.now (λ e. cc e) c.silent.invariant.far;
+      far = went_far g.S.Sink.takes g.S.Sink.stops (set_of c.args.templates.now) c.args.limits.now c.silent.self c.silent.spot c.silent.sink n Handed c.sequence_arm.new.sink c.sequence_arm.new.self c.sequence_arm.new.spot w c.args.self.now c.args.piece.now c.args.sink.now (λ e. cc e) c.silent.invariant.far;
       waits = w.waits;
       place = w.place;
     }
@@ -257,11 +257,11 @@ units-preserved-in-Took-sequence_arm g c =
 pub events-preserved-in-Handed-sequence_arm : goal.events-preserved-in-Handed-sequence_arm
 events-preserved-in-Handed-sequence_arm g c =
     let w = c.in-Handed-sequence_arm.ensures.went in
-    let left = went_left g.S.Sink.takes g.S.Sink.stops (set_of c.args.templates.now) c.args.limits c.silent.self c.silent.spot c.silent.sink 0 Handed c.sequence_arm.new.sink c.sequence_arm.new.self c.sequence_arm.new.spot w in
+    let left = went_left g.S.Sink.takes g.S.Sink.stops (set_of c.args.templates.now) c.args.limits.now c.silent.self c.silent.spot c.silent.sink 0 Handed c.sequence_arm.new.sink c.sequence_arm.new.self c.sequence_arm.new.spot w in
     let before = c.silent.invariant.left in
     let more = c.events.invariant.left in
     record {
-      far = went_far g.S.Sink.takes g.S.Sink.stops (set_of c.args.templates.now) c.args.limits c.silent.self c.silent.spot c.silent.sink 0 Handed c.sequence_arm.new.sink c.sequence_arm.new.self c.sequence_arm.new.spot w c.args.self.now c.args.piece.now c.args.sink.now (λ e. cc e) c.silent.invariant.far;
+      far = went_far g.S.Sink.takes g.S.Sink.stops (set_of c.args.templates.now) c.args.limits.now c.silent.self c.silent.spot c.silent.sink 0 Handed c.sequence_arm.new.sink c.sequence_arm.new.self c.sequence_arm.new.spot w c.args.self.now c.args.piece.now c.args.sink.now (λ e. cc e) c.silent.invariant.far;
       waits = w.waits;
       place = w.place;
       left = omega (arith, left, before, more);
@@ -271,7 +271,7 @@ pub units-preserved-in-Took-sequence_arm-2 : goal.units-preserved-in-Took-sequen
 units-preserved-in-Took-sequence_arm-2 g c =
     let (n, some, w) = c.in-Took-sequence_arm-2.ensures.went in
     record {
-      far = went_far g.S.Sink.takes g.S.Sink.stops (set_of c.args.templates.now) c.args.limits c.silent.self c.silent.spot c.silent.sink n Handed c.sequence_arm-in-OptionalSequence.new.sink c.sequence_arm-in-OptionalSequence.new.self c.sequence_arm-in-OptionalSequence.new.spot w c.args.self.now c.args.piece.now c.args.sink.now (λ e. cc e) c.silent.invariant.far;
+      far = went_far g.S.Sink.takes g.S.Sink.stops (set_of c.args.templates.now) c.args.limits.now c.silent.self c.silent.spot c.silent.sink n Handed c.sequence_arm-in-OptionalSequence.new.sink c.sequence_arm-in-OptionalSequence.new.self c.sequence_arm-in-OptionalSequence.new.spot w c.args.self.now c.args.piece.now c.args.sink.now (λ e. cc e) c.silent.invariant.far;
       waits = w.waits;
       place = w.place;
     }
@@ -279,11 +279,11 @@ units-preserved-in-Took-sequence_arm-2 g c =
 pub events-preserved-in-Handed-sequence_arm-2 : goal.events-preserved-in-Handed-sequence_arm-2
 events-preserved-in-Handed-sequence_arm-2 g c =
     let w = c.in-Handed-sequence_arm-2.ensures.went in
-    let left = went_left g.S.Sink.takes g.S.Sink.stops (set_of c.args.templates.now) c.args.limits c.silent.self c.silent.spot c.silent.sink 0 Handed c.sequence_arm-in-OptionalSequence.new.sink c.sequence_arm-in-OptionalSequence.new.self c.sequence_arm-in-OptionalSequence.new.spot w in
+    let left = went_left g.S.Sink.takes g.S.Sink.stops (set_of c.args.templates.now) c.args.limits.now c.silent.self c.silent.spot c.silent.sink 0 Handed c.sequence_arm-in-OptionalSequence.new.sink c.sequence_arm-in-OptionalSequence.new.self c.sequence_arm-in-OptionalSequence.new.spot w in
     let before = c.silent.invariant.left in
     let more = c.events.invariant.left in
     record {
-      far = went_far g.S.Sink.takes g.S.Sink.stops (set_of c.args.templates.now) c.args.limits c.silent.self c.silent.spot c.silent.sink 0 Handed c.sequence_arm-in-OptionalSequence.new.sink c.sequence_arm-in-OptionalSequence.new.self c.sequence_arm-in-OptionalSequence.new.spot w c.args.self.now c.args.piece.now c.args.sink.now (λ e. cc e) c.silent.invariant.far;
+      far = went_far g.S.Sink.takes g.S.Sink.stops (set_of c.args.templates.now) c.args.limits.now c.silent.self c.silent.spot c.silent.sink 0 Handed c.sequence_arm-in-OptionalSequence.new.sink c.sequence_arm-in-OptionalSequence.new.self c.sequence_arm-in-OptionalSequence.new.spot w c.args.self.now c.args.piece.now c.args.sink.now (λ e. cc e) c.silent.invariant.far;
       waits = w.waits;
       place = w.place;
       left = omega (arith, left, before, more);
@@ -293,7 +293,7 @@ pub units-preserved-in-Took-end_arm : goal.units-preserved-in-Took-end_arm
 units-preserved-in-Took-end_arm g c =
     let (n, some, w) = c.in-Took-end_arm.ensures.went in
     record {
-      far = went_far g.S.Sink.takes g.S.Sink.stops (set_of c.args.templates.now) c.args.limits c.silent.self c.silent.spot c.silent.sink n Handed c.end_arm.new.sink c.end_arm.new.self c.end_arm.new.spot w c.args.self.now c.args.piece.now c.args.sink.now (λ e. cc e) c.silent.invariant.far;
+      far = went_far g.S.Sink.takes g.S.Sink.stops (set_of c.args.templates.now) c.args.limits.now c.silent.self c.silent.spot c.silent.sink n Handed c.end_arm.new.sink c.end_arm.new.self c.end_arm.new.spot w c.args.self.now c.args.piece.now c.args.sink.now (λ e. cc e) c.silent.invariant.far;
       waits = w.waits;
       place = w.place;
     }
@@ -301,11 +301,11 @@ units-preserved-in-Took-end_arm g c =
 pub events-preserved-in-Handed-end_arm : goal.events-preserved-in-Handed-end_arm
 events-preserved-in-Handed-end_arm g c =
     let w = c.in-Handed-end_arm.ensures.went in
-    let left = went_left g.S.Sink.takes g.S.Sink.stops (set_of c.args.templates.now) c.args.limits c.silent.self c.silent.spot c.silent.sink 0 Handed c.end_arm.new.sink c.end_arm.new.self c.end_arm.new.spot w in
+    let left = went_left g.S.Sink.takes g.S.Sink.stops (set_of c.args.templates.now) c.args.limits.now c.silent.self c.silent.spot c.silent.sink 0 Handed c.end_arm.new.sink c.end_arm.new.self c.end_arm.new.spot w in
     let before = c.silent.invariant.left in
     let more = c.events.invariant.left in
     record {
-      far = went_far g.S.Sink.takes g.S.Sink.stops (set_of c.args.templates.now) c.args.limits c.silent.self c.silent.spot c.silent.sink 0 Handed c.end_arm.new.sink c.end_arm.new.self c.end_arm.new.spot w c.args.self.now c.args.piece.now c.args.sink.now (λ e. cc e) c.silent.invariant.far;
+      far = went_far g.S.Sink.takes g.S.Sink.stops (set_of c.args.templates.now) c.args.limits.now c.silent.self c.silent.spot c.silent.sink 0 Handed c.end_arm.new.sink c.end_arm.new.self c.end_arm.new.spot w c.args.self.now c.args.piece.now c.args.sink.now (λ e. cc e) c.silent.invariant.far;
       waits = w.waits;
       place = w.place;
       left = omega (arith, left, before, more);
@@ -315,8 +315,8 @@ pub units-smaller : goal.units-smaller
 units-smaller g c =
     let went = went_here g (goal.at.units-smaller g c).After-or_general in
     let (n, some, w) = c.in-Took-or_general.ensures.gone c.silent.self c.silent.spot c.silent.sink went in
-    let left = went_left g.S.Sink.takes g.S.Sink.stops (set_of c.args.templates.now) c.args.limits c.silent.self c.silent.spot c.silent.sink n Handed c.or_general.new.sink c.or_general.new.self c.or_general.new.spot w in
-    let within = went_within g.S.Sink.takes g.S.Sink.stops (set_of c.args.templates.now) c.args.limits c.silent.self c.silent.spot c.silent.sink n Handed c.or_general.new.sink c.or_general.new.self c.or_general.new.spot w in
+    let left = went_left g.S.Sink.takes g.S.Sink.stops (set_of c.args.templates.now) c.args.limits.now c.silent.self c.silent.spot c.silent.sink n Handed c.or_general.new.sink c.or_general.new.self c.or_general.new.spot w in
+    let within = went_within g.S.Sink.takes g.S.Sink.stops (set_of c.args.templates.now) c.args.limits.now c.silent.self c.silent.spot c.silent.sink n Handed c.or_general.new.sink c.or_general.new.self c.or_general.new.spot w in
     let before = c.silent.invariant.left in
     let more = c.events.invariant.left in
     omega (arith, left, within, some, before, more)
@@ -326,7 +326,7 @@ units-preserved g c =
     let went = went_here g (goal.at.units-preserved g c).After-or_general in
     let (n, some, w) = c.in-Took-or_general.ensures.gone c.silent.self c.silent.spot c.silent.sink went in
     record {
-      far = went_far g.S.Sink.takes g.S.Sink.stops (set_of c.args.templates.now) c.args.limits c.silent.self c.silent.spot c.silent.sink n Handed c.or_general.new.sink c.or_general.new.self c.or_general.new.spot w c.args.self.now c.args.piece.now c.args.sink.now (λ e. cc e) c.silent.invariant.far;
+      far = went_far g.S.Sink.takes g.S.Sink.stops (set_of c.args.templates.now) c.args.limits.now c.silent.self c.silent.spot c.silent.sink n Handed c.or_general.new.sink c.or_general.new.self c.or_general.new.spot w c.args.self.now c.args.piece.now c.args.sink.now (λ e. cc e) c.silent.invariant.far;
       waits = w.waits;
       place = w.place;
     }
@@ -343,11 +343,11 @@ pub events-preserved : goal.events-preserved
 events-preserved g c =
     let went = went_here g (goal.at.events-preserved g c).After-or_general in
     let w = c.in-Handed-or_general.ensures.gone c.silent.self c.silent.spot c.silent.sink went in
-    let left = went_left g.S.Sink.takes g.S.Sink.stops (set_of c.args.templates.now) c.args.limits c.silent.self c.silent.spot c.silent.sink 0 Handed c.or_general.new.sink c.or_general.new.self c.or_general.new.spot w in
+    let left = went_left g.S.Sink.takes g.S.Sink.stops (set_of c.args.templates.now) c.args.limits.now c.silent.self c.silent.spot c.silent.sink 0 Handed c.or_general.new.sink c.or_general.new.self c.or_general.new.spot w in
     let before = c.silent.invariant.left in
     let more = c.events.invariant.left in
     record {
-      far = went_far g.S.Sink.takes g.S.Sink.stops (set_of c.args.templates.now) c.args.limits c.silent.self c.silent.spot c.silent.sink 0 Handed c.or_general.new.sink c.or_general.new.self c.or_general.new.spot w c.args.self.now c.args.piece.now c.args.sink.now (λ e. cc e) c.silent.invariant.far;
+      far = went_far g.S.Sink.takes g.S.Sink.stops (set_of c.args.templates.now) c.args.limits.now c.silent.self c.silent.spot c.silent.sink 0 Handed c.or_general.new.sink c.or_general.new.self c.or_general.new.spot w c.args.self.now c.args.piece.now c.args.sink.now (λ e. cc e) c.silent.invariant.far;
       waits = w.waits;
       place = w.place;
       left = omega (arith, left, before, more);
@@ -357,7 +357,7 @@ pub op_at-requires-in-Silent : goal.op_at-requires-in-Silent
 op_at-requires-in-Silent g c =
     let went = went_here g (goal.at.op_at-requires-in-Silent g c).After-or_general in
     let w = c.in-Silent.ensures.gone c.silent.self c.silent.spot c.silent.sink went in
-    let far = went_far g.S.Sink.takes g.S.Sink.stops (set_of c.args.templates.now) c.args.limits c.silent.self c.silent.spot c.silent.sink 0 Silent c.or_general.new.sink c.or_general.new.self c.or_general.new.spot w c.args.self.now c.args.piece.now c.args.sink.now (λ e. cc e) c.silent.invariant.far in
+    let far = went_far g.S.Sink.takes g.S.Sink.stops (set_of c.args.templates.now) c.args.limits.now c.silent.self c.silent.spot c.silent.sink 0 Silent c.or_general.new.sink c.or_general.new.self c.or_general.new.spot w c.args.self.now c.args.piece.now c.args.sink.now (λ e. cc e) c.silent.invariant.far in
     record { spot = record { waits = w.waits; place = w.place; can = far.turn } }
 
 pub silent-smaller : goal.silent-smaller
@@ -370,10 +370,10 @@ pub silent-preserved : goal.silent-preserved
 silent-preserved g c =
     let went = went_here g (goal.at.silent-preserved g c).After-or_general in
     let w = c.in-Silent.ensures.gone c.silent.self c.silent.spot c.silent.sink went in
-    let left = went_left g.S.Sink.takes g.S.Sink.stops (set_of c.args.templates.now) c.args.limits c.silent.self c.silent.spot c.silent.sink 0 Silent c.or_general.new.sink c.or_general.new.self c.or_general.new.spot w in
+    let left = went_left g.S.Sink.takes g.S.Sink.stops (set_of c.args.templates.now) c.args.limits.now c.silent.self c.silent.spot c.silent.sink 0 Silent c.or_general.new.sink c.or_general.new.self c.or_general.new.spot w in
     let before = c.silent.invariant.left in
     record {
-      far = went_far g.S.Sink.takes g.S.Sink.stops (set_of c.args.templates.now) c.args.limits c.silent.self c.silent.spot c.silent.sink 0 Silent c.or_general.new.sink c.or_general.new.self c.or_general.new.spot w c.args.self.now c.args.piece.now c.args.sink.now (λ e. cc e) c.silent.invariant.far;
+      far = went_far g.S.Sink.takes g.S.Sink.stops (set_of c.args.templates.now) c.args.limits.now c.silent.self c.silent.spot c.silent.sink 0 Silent c.or_general.new.sink c.or_general.new.self c.or_general.new.spot w c.args.self.now c.args.piece.now c.args.sink.now (λ e. cc e) c.silent.invariant.far;
       waits = w.waits;
       place = w.place;
       left = omega (arith, left, before);
@@ -394,12 +394,12 @@ returns-in-Ended-clause-step g c =
     let takes = g.S.Sink.takes in
     let stops = g.S.Sink.stops in
     let set = set_of c.args.templates.now in
-    let l = c.args.limits in
+    let l = c.args.limits.now in
     let went = went_here g (goal.at.returns-in-Ended-clause-step g c).After-or_general in
     let (n, rest, step) = c.in-Ended.ensures.gone c.silent.self c.silent.spot c.silent.sink went in
     subst (λ (turn : Result Turn FaultCode). IsStep takes stops set l c.args.self.now c.args.piece.now c.args.sink.now (record { bytes = length c.args.piece.now - length c.or_general.new.spot.rest.now; turn = turn }) c.or_general.new.sink c.or_general.new.self)
     (sym c.ended.ensures)
-    (gone_end g.S.Sink.takes g.S.Sink.stops (set_of c.args.templates.now) c.args.limits c.silent.self c.silent.spot c.silent.sink n c.in-Ended.outcome c.or_general.new.sink c.or_general.new.self c.or_general.new.spot.rest.now c.args.self.now c.args.piece.now c.args.sink.now rest step c.silent.invariant.far)
+    (gone_end g.S.Sink.takes g.S.Sink.stops (set_of c.args.templates.now) c.args.limits.now c.silent.self c.silent.spot c.silent.sink n c.in-Ended.outcome c.or_general.new.sink c.or_general.new.self c.or_general.new.spot.rest.now c.args.self.now c.args.piece.now c.args.sink.now rest step c.silent.invariant.far)
 
 pub uint32_arm-went-requires-clause-field : goal.uint32_arm-went-requires-clause-field
 uint32_arm-went-requires-clause-field g c = λ x found. let d = sym (c.silent.invariant.code c.op_at-op.result.now c.op_at-op.ensures.here) ∙ c.in-UInt32Plain.is in claimed c.op_at-op.result.now c.op_at-op.result.now.node x.shape UInt32Plain (c.op_at-op.ensures.is (λ e. absurd cc) x found) d

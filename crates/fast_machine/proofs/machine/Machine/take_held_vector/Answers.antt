@@ -1,0 +1,64 @@
+-- The bytes in hand and those behind them are the last unit of the field.
+use Rattle.std.proofs.Common.{refl, sym, ◌∙◌, subst, arith}
+use Rattle.std.specs.Prelude.{◌≡◌, ℕ, ◌<◌, ◌≤◌, length}
+use Rattle.fast_tree.specs.device.Nodes.{field_data}
+use Rattle.fast_tree.specs.meaning.Tree.{Body}
+use Rattle.fast_dict.specs.meaning.Dictionary.{Dictionary}
+use Rattle.fast_stream.specs.device.Readers.{Reader}
+use Rattle.fast_units.specs.declared.progress.Progress.TheVariants.{Whole}
+use Rattle.fast_units.specs.declared.source.ValueSource.TheVariants as From
+use Rattle.fast_units.specs.declared.stages.FieldStep.TheVariants.{Settled}
+use Rattle.fast_units.specs.declared.stages.Stage.TheVariants.{Vector}
+use Rattle.fast_machine.specs.declared.machine.Waiting.TheVariants.{Bytes}
+use Rattle.fast_machine.specs.declared.machine.Machine.{Machine}
+use Rattle.fast_machine.specs.device.Positions.{set_of, IsReady, GoesOnWithBytes}
+use Rattle.fast_machine.specs.device.Scalars.{IsOfField, IsScalarUnit}
+use Rattle.fast_machine.specs.device.UnitTaken.{IsTakenTo}
+use Rattle.fast_machine.proofs.fields.ScalarNodes.{at_field_node}
+use Rattle.fast_machine.proofs.machines.HeldTexts.{counted, counted_reads, counted_ready, can_take}
+use Rattle.fast_machine.proofs.machines.ScalarMachines.{bytes_taken, still_supplied}
+use Rattle.fast_machine.proofs.steps.FieldTurns.{state_of}
+use Rattle.fast_machine.proofs.machine.Machine.take_held_vector.Goals as goal
+
+pub held_vector-requires-clause-text : goal.held_vector-requires-clause-text
+held_vector-requires-clause-text g c =
+    let set = set_of c.args.templates.now in
+    let l = c.args.limits in
+    let m = c.args.self.now in
+    let stage = Vector c.args.size in
+    let at = at_field_node set m.cursor c.in_ok-number.number c.node.result.now c.args.templates.now.nodes_name_later_nodes (sym c.next.ensures ∙ c.in_ok-number.was) c.node.ensures.found c.in-Field.field c.in-Field.is in
+    let can = can_take set l m m.turns (Bytes stage) c.requires.waits c.requires.ready in
+    let (sent, is_stage, front) = subst (λ (b : Body). GoesOnWithBytes l b (state_of m) stage m.text.text) at.3 can.3 in
+    is_stage.0
+
+pub scalar_taken-requires-clause-next : goal.scalar_taken-requires-clause-next
+scalar_taken-requires-clause-next g c =
+    at_field_node (set_of c.args.templates.now) c.args.self.now.cursor c.in_ok-number.number c.node.result.now c.args.templates.now.nodes_name_later_nodes (sym c.next.ensures ∙ c.in_ok-number.was) c.node.ensures.found c.in-Field.field c.in-Field.is
+
+pub scalar_taken-requires-clause-within : goal.scalar_taken-requires-clause-within
+scalar_taken-requires-clause-within g c step n e =
+    let (some, within, gives) = c.in_ok-bytes.ensures.unit c.args.limits c.args.self.now.slots in
+    let same : c.in_ok-bytes.bytes ≡ n = cc e in
+    subst (λ (k : ℕ). k ≤ length c.args.rest.now) same within
+
+pub returns-clause-taken : goal.returns-clause-taken
+returns-clause-taken g c =
+    let set = set_of c.args.templates.now in
+    let l = c.args.limits in
+    let m = c.args.self.now in
+    let rest = c.args.rest.now in
+    let f = field_data c.in-Field.field in
+    let t = c.held_vector.new.scratch in
+    let n = c.in_ok-bytes.bytes in
+    let w = Bytes (Vector c.args.size) in
+    let waits = c.requires.waits in
+    let turns = c.after-self.result in
+    let at = at_field_node set m.cursor c.in_ok-number.number c.node.result.now c.args.templates.now.nodes_name_later_nodes (sym c.next.ensures ∙ c.in_ok-number.was) c.node.ensures.found c.in-Field.field c.in-Field.is in
+    let a : Machine = counted set l m turns w waits in
+    let ready : IsReady set l a = counted_ready set l m turns w waits c.requires.ready (can_take set l m turns w waits c.requires.ready) in
+    let (some, within, gives) = c.in_ok-bytes.ensures.unit l m.slots in
+    let unit : IsScalarUnit l a (record a { text = t }) f rest (Whole (Settled From.Scratch) n) =
+    (bytes_taken set l a f c.in_ok-number.number rest m.slots m.entity t m.joined ready at (still_supplied set l a m.slots m.entity t m.joined refl c.in_ok-bytes.ensures.capacity refl ready.supplied) (Whole (Settled From.Scratch) n) (Vector c.args.size) refl waits
+    (some, within, gives) tt (λ e. absurd (cc e))).0 in
+    subst (λ (r : Reader Dictionary). IsTakenTo g.S.Sink.takes g.S.Sink.stops set l r rest c.args.sink.now c.scalar_taken.result.bytes c.scalar_taken.result.turn c.scalar_taken.new.sink c.scalar_taken.new.self) (counted_reads set l m turns w waits refl)
+    (c.scalar_taken.ensures.taken a ready (subst IsOfField (sym waits) tt) (omega (arith, some, within)) unit)

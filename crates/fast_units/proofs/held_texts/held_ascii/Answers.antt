@@ -1,0 +1,56 @@
+-- The characters in hand and those behind them, up to the stop bit, are the text.
+use Rattle.std.proofs.Common.{rules, inl, inr, ◌≡◌, ◌≢◌, ◌∙◌, sym, ap, arith, refl, subst, List, ℕ, take, ◌++◌, length}
+use Rattle.std.specs.Prelude.{◌+◌, ◌≤◌, ◌⊎◌, Some, Ok, false, true}
+use Rattle.fast_value.specs.declared.kinds.Kind.TheVariants.{Ascii}
+use Rattle.fast_value.specs.meaning.Kinds.{family, value_of_text}
+use Rattle.fast_value.specs.meaning.Limits.{bounds}
+use Rattle.fast_tree.specs.declared.operators.Operator.{Operator}
+use Rattle.fast_tree.specs.declared.operators.Operator.TheVariants as Op
+use Rattle.fast_tree.specs.device.Nodes.{field_data}
+use Rattle.fast_dict.specs.meaning.Dictionary.{previous_at}
+use Rattle.fast_dict.specs.meaning.Operators.{decide, checked_text}
+use Rattle.fast_dict.specs.meaning.Slots.{slots_dictionary}
+use Rattle.fast_stream.specs.meaning.Fields.{sent_text}
+use Rattle.fast_stream.specs.meaning.Grammar.{give, ascii_text}
+use Rattle.fast_stream.specs.device.GrammarReaders.{reader_of}
+use Rattle.fast_units.specs.device.NextUnits.{IsNextText}
+use Rattle.fast_units.specs.device.TextDecisions.{is_emptied, first_reader}
+use Rattle.fast_units.specs.declared.progress.Progress.TheVariants.{Whole}
+use Rattle.fast_units.specs.declared.source.ValueSource.TheVariants as From
+use Rattle.fast_units.proofs.NextTexts.{goes_on, text_whole}
+use Rattle.fast_units.proofs.NextUnits.{text_unit}
+use Rattle.fast_units.proofs.TextOutcomes.{decided_as, decided_plain, text_given}
+use Rattle.fast_units.proofs.TextUnits.{text_field, behind_text}
+use Rattle.fast_units.proofs.WholeTexts.{gives_unit}
+use Rattle.fast_units.proofs.held_texts.held_ascii.Goals as goal
+
+-- Neither operator keeps a value.
+plain : (o : Operator) → (o ≡ Op.None) ⊎ (o ≡ Op.Default) → (o ≢ Op.Constant) × (o ≢ Op.Delta) × (is_emptied o ≡ false)
+plain o (inl e) = ((λ i. let j : Op.None ≡ Op.Constant = sym e ∙ i in absurd (cc j)), (λ i. let j : Op.None ≡ Op.Delta = sym e ∙ i in absurd (cc j)), ap is_emptied e)
+plain o (inr e) = ((λ i. let j : Op.Default ≡ Op.Constant = sym e ∙ i in absurd (cc j)), (λ i. let j : Op.Default ≡ Op.Delta = sym e ∙ i in absurd (cc j)), ap is_emptied e)
+
+pub returns-clause-unit : goal.returns-clause-unit
+returns-clause-unit c limits slots is_room =
+    let l = bounds limits in
+    let f = field_data c.args.field.now in
+    let d = slots_dictionary slots in
+    let p = previous_at f.entry d in
+    let rest = c.args.rest.now in
+    let front = c.args.scratch.now.text in
+    let text = c.push.new.self.text in
+    let last = c.in_ok-last.last in
+    let n : ℕ = last + 1 in
+    let stop = c.in_ok-last.ensures in
+    let kind : f.kind ≡ Ascii = c.requires.kind in
+    let (varies, no_delta, left) = plain f.operator c.in-None.is in
+    let (open_front, begins, short) = goes_on f.optional c.args.room front c.as_slice.result.now rest c.requires.«open» c.if-is_empty.ensures c.as_slice.ensures c.if-as_slice-eq0.false in
+    let next : IsNextText f.optional limits.max_text front rest text (Whole true n) = subst (λ (r : ℕ). IsNextText f.optional r front rest text (Whole true n)) (sym is_room)
+    (text_whole f.optional c.args.room front rest open_front begins c.min.result last c.append.new.self.text text (omega arith) (omega arith) stop.within stop.first stop.found (c.type_inv.rest last).fits c.append.ensures.text c.push.ensures.text) in
+    let (some, within, turns) = text_unit limits.strict f.optional limits.max_text front rest text (Whole true n) next in
+    let checked : checked_text f.kind text ≡ Ok (value_of_text f.kind text) = subst (λ k. checked_text k text ≡ Ok (value_of_text k text)) (sym kind) refl in (
+      some,
+      within,
+      gives_unit f d d text (take n rest) From.Scratch limits.strict (ascii_text f.optional limits.max_text give) (behind_text l f p) (first_reader limits f d) (front ++ take n rest) (Some text) (decide f p true (sent_text f.kind (Some text)))
+          (ap (reader_of limits.strict) (text_field l f p kind no_delta varies)) turns refl
+          (decided_as f d d text (take n rest) (Ok From.Scratch) (decided_plain f p text (ap family kind) varies no_delta left) (text_given f d d text (take n rest) From.Scratch text (value_of_text f.kind text) checked refl refl refl)),
+    )
