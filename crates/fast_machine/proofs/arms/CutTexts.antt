@@ -1,6 +1,6 @@
 -- A text that begins at the place, and goes on behind the rest, all of which is in hand then: the arm's step ends where the machine waits.
 use Rattle.std.proofs.Common.{refl, sym, ap, ◌∙◌, subst, arith}
-use Rattle.std.specs.Prelude.{◌≡◌, ℕ, ◌+◌, ◌<◌, ◌≤◌, Bool, true, false, List, [], ◌++◌, length, take, drop, Ok}
+use Rattle.std.specs.Prelude.{◌≡◌, ℕ, ◌+◌, ◌<◌, Bool, true, false, List, [], ◌++◌, length, take, drop, Ok}
 use Rattle.std.proofs.lemmas.List.{take_all, take-append-drop}
 use Rattle.fast_value.specs.declared.settings.Limits.{Limits}
 use Rattle.fast_value.specs.meaning.Limits.{bounds}
@@ -30,10 +30,9 @@ use Rattle.fast_machine.specs.declared.machine.Waiting.TheVariants.{Text, Bytes}
 use Rattle.fast_machine.specs.declared.spot.Spot.{Spot}
 use Rattle.fast_machine.specs.declared.turns.Turns.{Turns}
 use Rattle.fast_machine.specs.declared.spot.Went.{Went}
-use Rattle.fast_machine.specs.declared.spot.Went.TheVariants as Went
 use Rattle.fast_machine.specs.device.Arms.{placed, IsAtSpot, HasWent}
 use Rattle.fast_machine.specs.device.Gathered.{IsKeptAs, IsKeptFrom}
-use Rattle.fast_machine.specs.device.Positions.{Set, body_in, frames_in, unit_then, bit_of, state_in, meaning, turning, CanTake, CanTurn, IsReady, IsSupplied, IsAtField, BeginsWithText, GoesOnWithBytes}
+use Rattle.fast_machine.specs.device.Positions.{Set, body_in, frames_in, unit_then, bit_of, meaning, turning, CanTake, CanTurn, IsReady, IsSupplied, IsAtField, BeginsWithText, GoesOnWithBytes}
 use Rattle.fast_machine.specs.device.Steps.{IsStep}
 use Rattle.fast_machine.specs.device.TurnsLeft.{Way, HasTurns, HasTurnsBehind}
 use Rattle.fast_machine.proofs.arms.Taken.{bytes_step}

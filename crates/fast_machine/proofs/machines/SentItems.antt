@@ -2,7 +2,7 @@
 use Rattle.std.proofs.Common.{sym, ap, ◌∙◌, subst, refl, arith}
 use Rattle.std.proofs.lemmas.List.{take-take}
 use Rattle.std.proofs.Math.Seq.{take-append-add}
-use Rattle.std.specs.Prelude.{slice_get, ◌≡◌, ◌≢◌, ◌+◌, ◌-◌, ◌<◌, ◌≤◌, true, ℕ, List, [], ◌++◌, length, take, Option, Some, Result, Ok, OnOk, option_map}
+use Rattle.std.specs.Prelude.{slice_get, ◌≡◌, ◌≢◌, ◌+◌, ◌-◌, ◌<◌, ◌≤◌, ℕ, List, [], ◌++◌, length, take, Option, Some, Result, Ok, OnOk, option_map}
 use Rattle.fast_cursor.specs.device.Cursors.{resting}
 use Rattle.fast_value.specs.declared.kinds.Kind.TheVariants.{Ascii}
 use Rattle.fast_value.specs.meaning.Kinds.{ScalarData}
@@ -14,11 +14,9 @@ use Rattle.fast_tree.specs.declared.instructions.FieldInstruction.{FieldInstruct
 use Rattle.fast_tree.specs.declared.instructions.Node.{Node}
 use Rattle.fast_tree.specs.declared.instructions.Shape.TheVariants as Shape
 use Rattle.fast_template.specs.declared.sets.Templates.{Templates}
-use Rattle.fast_dict.specs.meaning.Dictionary.{Dictionary, previous_at}
-use Rattle.fast_dict.specs.meaning.Operators.{Outcome}
+use Rattle.fast_dict.specs.meaning.Dictionary.{Dictionary}
 use Rattle.fast_dict.specs.meaning.Slots.{slots_dictionary, slots_terms}
 use Rattle.fast_dict.specs.declared.slots.Slots.{Slots}
-use Rattle.fast_stream.specs.meaning.Fields.{field_term}
 use Rattle.fast_cursor.specs.device.Segments.{first_node}
 use Rattle.fast_stream.specs.meaning.Events.{EventData}
 use Rattle.fast_units.specs.device.Deciding.{number_data, source_of}
@@ -31,7 +29,7 @@ use Rattle.fast_machine.specs.device.TurnsLeft.{Way, HasTurns, HasTurnsBehind, t
 use Rattle.fast_machine.specs.device.UnitTaken.{IsTakenTo, IsSentItem}
 use Rattle.fast_stream.specs.device.Machine.{after_bytes}
 use Rattle.fast_stream.specs.device.Readers.{Reader, Done}
-use Rattle.fast_units.specs.device.Settling.{IsLastUnit, value_at}
+use Rattle.fast_units.specs.device.Settling.{value_at}
 use Rattle.fast_units.specs.device.UnitFronts.{IsSent}
 use Rattle.fast_units.specs.device.Words.{sent_reader, IsLastUnitOf}
 use Rattle.fast_stream.specs.declared.faults.FaultCode.{FaultCode}
@@ -42,7 +40,6 @@ use Rattle.fast_machine.specs.declared.machine.Machine.{Machine}
 use Rattle.fast_machine.specs.declared.machine.Turn.{Turn}
 use Rattle.fast_machine.specs.declared.machine.Turn.TheVariants.{Waits}
 use Rattle.fast_machine.specs.declared.machine.Waiting.{Waiting}
-use Rattle.fast_machine.specs.declared.machine.Waiting.TheVariants as Waiting
 use Rattle.fast_units.specs.declared.progress.Progress.TheVariants.{Whole}
 use Rattle.fast_units.specs.declared.stages.FieldStep.TheVariants.{Settled}
 use Rattle.fast_machine.specs.declared.turns.Turns.{Turns}

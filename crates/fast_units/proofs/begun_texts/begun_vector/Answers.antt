@@ -1,5 +1,5 @@
 -- The bytes stand behind their size, and more are to come.
-use Rattle.std.proofs.Common.{◌≡◌, ◌∙◌, sym, ap, subst}
+use Rattle.std.proofs.Common.{◌∙◌, sym, ap, subst}
 use Rattle.std.specs.Prelude.{Bool, Some, option_map, pos}
 use Rattle.fast_wire.specs.device.Fronts.{IsFirstInt}
 use Rattle.fast_wire.specs.declared.fronts.First.TheVariants as First

@@ -1,6 +1,6 @@
 -- The characters in hand and those behind them, up to the stop bit, are the text.
-use Rattle.std.proofs.Common.{rules, inl, inr, ◌≡◌, ◌≢◌, ◌∙◌, sym, ap, arith, refl, subst, List, ℕ, take, ◌++◌, length}
-use Rattle.std.specs.Prelude.{◌+◌, ◌≤◌, ◌⊎◌, Some, Ok, false, true}
+use Rattle.std.proofs.Common.{inl, inr, ◌≡◌, ◌≢◌, ◌∙◌, sym, ap, arith, refl, subst, ℕ, take, ◌++◌}
+use Rattle.std.specs.Prelude.{◌+◌, ◌⊎◌, Some, Ok, false, true}
 use Rattle.fast_value.specs.declared.kinds.Kind.TheVariants.{Ascii}
 use Rattle.fast_value.specs.meaning.Kinds.{family, value_of_text}
 use Rattle.fast_value.specs.meaning.Limits.{bounds}

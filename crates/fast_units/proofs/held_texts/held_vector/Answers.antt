@@ -1,6 +1,6 @@
 -- The bytes in hand and those behind them are the vector.
 use Rattle.std.proofs.Common.{rules, ◌≡◌, ◌≢◌, ◌∙◌, sym, ap, refl, arith, List, ℕ, take, ◌++◌, length, length-append}
-use Rattle.std.specs.Prelude.{◌+◌, ◌-◌, ◌≤◌, Some, Ok, false, true}
+use Rattle.std.specs.Prelude.{◌+◌, ◌-◌, ◌≤◌, Some, Ok, true}
 use Rattle.std.proofs.lemmas.List.{length-take-le}
 use Rattle.fast_value.specs.meaning.Kinds.{value_of_text}
 use Rattle.fast_value.specs.meaning.Limits.{bounds}

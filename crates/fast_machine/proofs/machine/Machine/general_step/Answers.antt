@@ -1,6 +1,6 @@
 -- The integers, and then a field waits, or the machine takes a turn.
-use Rattle.std.proofs.Common.{refl, sym, ◌∙◌, arith}
-use Rattle.std.specs.Prelude.{◌≡◌, ◌-◌, ◌<◌, length, take, drop}
+use Rattle.std.proofs.Common.{refl, arith}
+use Rattle.std.specs.Prelude.{◌-◌, length, take, drop}
 use Rattle.fast_machine.specs.device.Positions.{set_of}
 use Rattle.fast_machine.proofs.streams.Running.{fewer_left, so_far_as, so_far_on, so_far_step, so_far_end}
 use Rattle.fast_machine.proofs.machine.Machine.general_step.Goals as goal

@@ -1,6 +1,6 @@
 -- The characters in hand and those behind them are the only unit of the field.
 use Rattle.std.proofs.Common.{refl, sym, ◌∙◌, subst, arith}
-use Rattle.std.specs.Prelude.{◌≡◌, ℕ, ◌<◌, ◌≤◌, length}
+use Rattle.std.specs.Prelude.{◌≡◌, ℕ, ◌≤◌, length}
 use Rattle.fast_tree.specs.device.Nodes.{field_data}
 use Rattle.fast_tree.specs.meaning.Tree.{Body}
 use Rattle.fast_dict.specs.meaning.Dictionary.{Dictionary}
