@@ -9,6 +9,7 @@
 //! end is `between` two messages, `inside` a message, or a fault with its place, as `D9@2`.
 
 mod callers;
+mod cuts;
 mod encoder;
 mod faults;
 mod limits;
