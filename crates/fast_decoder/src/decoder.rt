@@ -12,6 +12,7 @@ ghost use Rattle.fast_decoder.specs.meaning.Decoding.{DecoderData, tree, AreBadL
 ghost use Rattle.fast_decoder.specs.device.InHand.{in_hand};
 ghost use Rattle.fast_decoder.specs.meaning.Feeding.{IsAtPlace, ConsumesAtMost, all_bytes, Followed};
 
+use fast_loop::pieces::take_all;
 use fast_machine::in_hand::Due;
 use fast_machine::layout::has_long_initial;
 use fast_machine::machine::Machine;
@@ -132,9 +133,7 @@ impl<'t> Decoder<'t> {
             self.fault = Some(fault);
             return Err(fault);
         }
-        let taken = self
-            .machine
-            .take_all(self.templates, self.limits, piece, sink);
+        let taken = take_all(&mut self.machine, self.templates, self.limits, piece, sink);
         self.consumed += taken.bytes as u64;
         match taken.outcome {
             Ok(()) => Ok(()),

@@ -3,4 +3,3 @@ pub mod streams
 pub mod units
 pub mod fields
 pub mod steps
-pub mod arms

@@ -3,7 +3,6 @@ pub mod Moves
 pub mod FieldTurns
 pub mod SegmentTurns
 pub mod Begun
-pub mod BegunAt
 pub mod Answered
 pub mod Awaiting
 pub mod TurnCounts

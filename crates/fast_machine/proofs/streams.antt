@@ -1,4 +1,3 @@
 -- Steps, one after the other.
 pub mod Feeding
 pub mod Running
-pub mod Kept

@@ -10,9 +10,7 @@ pub mod Serving
 pub mod AtHand
 pub mod Words
 pub mod Steps
-pub mod Arms
 pub mod Opening
-pub mod Parts
 pub mod FitMaps
 pub mod Starts
 pub mod Gathered

@@ -13,10 +13,9 @@ ghost use Rattle.fast_stream.specs.declared.faults.FaultCode.{FaultCode};
 ghost use Rattle.fast_stream.specs.device.GrammarReaders.{reader_of};
 ghost use Rattle.fast_cursor.specs.device.Places.{place_left};
 ghost use Rattle.fast_cursor.specs.device.Runs.{IsRun};
-ghost use Rattle.fast_machine.specs.device.Arms.{placed};
+ghost use Rattle.fast_machine.specs.device.Positions.{placed, set_of, run_in, IsBodyOf, body_in, IsAtGroup, CanTurn, IsTurn, turning};
 ghost use Rattle.fast_machine.specs.device.Opening.{opened_result, opened_by};
 ghost use Rattle.fast_machine.specs.device.Passing.{group_from, elements_from};
-ghost use Rattle.fast_machine.specs.device.Positions.{set_of, run_in, IsBodyOf, body_in, IsAtGroup, CanTurn, IsTurn, turning};
 ghost use Rattle.fast_machine.specs.device.TurnsLeft.{Way, HasTurns, HasTurnsFrom, HasTurnsBehind};
 
 use crate::machine::Machine;

@@ -71,29 +71,6 @@ impl UnitTaken {
 }
 
 impl<'t> Machine<'t> {
-    /// Takes steps as [`Machine::walk`] does. Where there is no byte, and the next instruction waits for one, that is all.
-    #[inline(always)]
-    pub fn go_on<S: Sink>(
-        &mut self,
-        templates: &'t Templates,
-        limits: Limits,
-        piece: &[u8],
-        sink: &mut S,
-    ) -> UnitTaken
-        requires turn { CanTurn (set_of templates.now) limits self.old }
-        ensures step { IsStep S.takes S.stops (set_of templates.now) limits self.old piece.now sink.old result sink.new
-            self.new }
-        ensures ends { (t : Turn) → result.turn ≡ Ok t → t ≡ Turn.Waits }
-    {
-        if piece.is_empty() && self.waits_at_once(templates, limits, sink) {
-            return UnitTaken {
-                bytes: 0,
-                turn: Ok(Turn::Waits),
-            };
-        }
-        self.walk(templates, &limits, piece, sink)
-    }
-
     /// Whether the next instruction is a field that stands in the stream: the machine then waits for its first unit. Nothing is handed
     /// over; the sink is there for what the clauses say of the step.
     #[inline(always)]

@@ -19,15 +19,6 @@ use fast_units::stages::Stage;
 use fast_units::units::{keeps_characters, keeps_run};
 use fast_value::{Code, Limits};
 
-/// How many bytes of a piece were taken, and why the machine stopped behind them, if it did.
-#[derive(Clone, Copy, Debug)]
-pub struct PieceTaken {
-    /// The bytes that were taken.
-    pub bytes: usize,
-    /// Whether the machine goes on.
-    pub outcome: Result<(), FaultCode>,
-}
-
 impl UnitTaken {
     /// All bytes of the rest, and the unit is cut.
     #[inline]
@@ -82,7 +73,7 @@ impl<'t> Machine<'t> {
     /// How many bytes of the rest are kept in hand: all of them, if they are known to be bytes of the unit that the machine waits for, of
     /// which none is the last one, else none.
     #[inline(always)]
-    fn gather(&mut self, templates: &'t Templates, limits: Limits, rest: &[u8]) -> usize
+    pub fn gather(&mut self, templates: &'t Templates, limits: Limits, rest: &[u8]) -> usize
         requires ready { IsReady (set_of templates.now) limits self.old }
         ensures kept { 0 < result → (result ≡ length rest.now)
             × IsGatheredBy (set_of templates.now) limits self.old self.new rest.now }
@@ -99,7 +90,7 @@ impl<'t> Machine<'t> {
 
     /// Takes one unit, or as much of it as there is, in the quick way, if it is one for that.
     #[inline(always)]
-    fn take_next<S: Sink>(
+    pub fn take_next<S: Sink>(
         &mut self,
         templates: &'t Templates,
         limits: Limits,
@@ -174,123 +165,6 @@ impl<'t> Machine<'t> {
             Waiting::Mantissa(exponent) => self.take_mantissa(
                 templates, limits, exponent, rest, sink,
             ),
-        }
-    }
-
-    /// Takes one unit, or as much of it as there is, and all units behind it that are for the loop.
-    #[inline(always)]
-    fn take_some<S: Sink>(
-        &mut self,
-        templates: &'t Templates,
-        limits: Limits,
-        rest: &[u8],
-        sink: &mut S,
-    ) -> PieceTaken
-        requires ready { IsReady (set_of templates.now) limits self.old }
-        requires some { 0 < length rest.now }
-        ensures some { 0 < result.bytes }
-        ensures within { result.bytes ≤ length rest.now }
-        ensures fed { Fed S.takes S.stops (tree_in (set_of templates.now)) limits
-            (waiting_at (meaning (set_of templates.now) limits self.old)) (take result.bytes rest.now)
-            sink.old result.outcome sink.new (waiting_at (meaning (set_of templates.now) limits self.new)) }
-        ensures ready { OnOk result.outcome (IsReady (set_of templates.now) limits self.new) }
-        ensures supplied { IsSupplied (set_of templates.now) limits self.new }
-        ensures turns { (way : Way) → IsCountedBy result.outcome way (set_of templates.now) limits result.bytes self.old
-            self.new }
-    {
-        let unit = self.take_next(templates, limits, rest, sink);
-        match unit.turn {
-            Err(code) => PieceTaken {
-                bytes: unit.bytes,
-                outcome: Err(code),
-            },
-            Ok(turn) => match turn {
-                Turn::Waits => PieceTaken {
-                    bytes: unit.bytes + self.gather(templates, limits, &rest[unit.bytes..]),
-                    outcome: Ok(()),
-                },
-                _ => {
-                    let run = self.go_on(templates, limits, &rest[unit.bytes..], sink);
-                    PieceTaken {
-                        bytes: unit.bytes + run.bytes,
-                        outcome: run.outcome(),
-                    }
-                }
-            },
-        }
-    }
-
-    /// Takes the units of a piece, up to its end, a fault, or where the sink stops. A piece that ends inside the unit in hand, as most do of
-    /// a text that comes byte by byte, is kept here.
-    #[inline]
-    pub fn take_all<S: Sink>(
-        &mut self,
-        templates: &'t Templates,
-        limits: Limits,
-        piece: &[u8],
-        sink: &mut S,
-    ) -> PieceTaken
-        requires ready { IsReady (set_of templates.now) limits self.old }
-        ensures within { result.bytes ≤ length piece.now }
-        ensures all { IsOk result.outcome → result.bytes ≡ length piece.now }
-        ensures fed { Fed S.takes S.stops (tree_in (set_of templates.now)) limits
-            (waiting_at (meaning (set_of templates.now) limits self.old)) (take result.bytes piece.now)
-            sink.old result.outcome sink.new (waiting_at (meaning (set_of templates.now) limits self.new)) }
-        ensures ready { OnOk result.outcome (IsReady (set_of templates.now) limits self.new) }
-        ensures supplied { IsSupplied (set_of templates.now) limits self.new }
-        ensures turns { (way : Way) → self.old.turns.count ≡ 0
-            → HasTurnsWaiting way (set_of templates.now) limits (most_by way (tree_in (set_of templates.now)) limits)
-            self.old
-            → (self.new.turns.count ≤ result.bytes * (1 + most_by way (tree_in (set_of templates.now)) limits))
-            × OnOk result.outcome ((k : ℕ) × HasTurnsWaiting way (set_of templates.now) limits k self.new) }
-    {
-        let kept = self.gather(templates, limits, piece);
-        if kept > 0 {
-            return PieceTaken {
-                bytes: kept,
-                outcome: Ok(()),
-            };
-        }
-        self.take_units(templates, limits, piece, sink)
-    }
-
-    /// The same of a piece that is not known to end inside the unit in hand.
-    #[inline(always)]
-    fn take_units<S: Sink>(
-        &mut self,
-        templates: &'t Templates,
-        limits: Limits,
-        piece: &[u8],
-        sink: &mut S,
-    ) -> PieceTaken
-        requires ready { IsReady (set_of templates.now) limits self.old }
-        ensures within { result.bytes ≤ length piece.now }
-        ensures all { IsOk result.outcome → result.bytes ≡ length piece.now }
-        ensures fed { Fed S.takes S.stops (tree_in (set_of templates.now)) limits
-            (waiting_at (meaning (set_of templates.now) limits self.old)) (take result.bytes piece.now)
-            sink.old result.outcome sink.new (waiting_at (meaning (set_of templates.now) limits self.new)) }
-        ensures ready { OnOk result.outcome (IsReady (set_of templates.now) limits self.new) }
-        ensures supplied { IsSupplied (set_of templates.now) limits self.new }
-        ensures turns { (way : Way) → self.old.turns.count ≡ 0
-            → HasTurnsWaiting way (set_of templates.now) limits (most_by way (tree_in (set_of templates.now)) limits)
-            self.old
-            → (self.new.turns.count ≤ result.bytes * (1 + most_by way (tree_in (set_of templates.now)) limits))
-            × OnOk result.outcome ((k : ℕ) × HasTurnsWaiting way (set_of templates.now) limits k self.new) }
-    {
-        let mut bytes = 0;
-        while bytes < piece.len() {
-            let taken = self.take_some(templates, limits, &piece[bytes..], sink);
-            bytes += taken.bytes;
-            if taken.outcome.is_err() {
-                return PieceTaken {
-                    bytes,
-                    outcome: taken.outcome,
-                };
-            }
-        }
-        PieceTaken {
-            bytes,
-            outcome: Ok(()),
         }
     }
 }

@@ -16,10 +16,9 @@ use Rattle.fast_cursor.specs.device.Nexts.{next_by, next_of, gone_on}
 use Rattle.fast_cursor.specs.declared.place.Place.{Place}
 use Rattle.fast_machine.specs.declared.machine.Machine.{Machine}
 use Rattle.fast_machine.specs.declared.turns.Turns.{Turns}
-use Rattle.fast_machine.specs.device.Arms.{placed}
+use Rattle.fast_machine.specs.device.Positions.{placed, Set, body_in, frame_by, frames_in, AreElementsFit, IsSupplied, CanTurn, IsTurn, turning}
 use Rattle.fast_machine.specs.device.Opening.{opened_turn, awaiting}
 use Rattle.fast_machine.specs.device.Passing.{elements_from}
-use Rattle.fast_machine.specs.device.Positions.{Set, body_in, frame_by, frames_in, AreElementsFit, IsSupplied, CanTurn, IsTurn, turning}
 use Rattle.fast_machine.specs.device.TurnsLeft.{Way, HasTurns, HasTurnsBehind}
 use Rattle.fast_machine.proofs.steps.FieldTurns.{supplied_like}
 use Rattle.fast_machine.proofs.steps.Recounted.{can_turn-turns}

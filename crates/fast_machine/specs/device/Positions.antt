@@ -35,6 +35,8 @@ use Rattle.fast_program.specs.declared.starts.Start.{Start}
 use Rattle.fast_program.specs.device.Starts.{IsStartOf}
 use Rattle.fast_cursor.specs.device.Runs.{run_at}
 use Rattle.fast_cursor.specs.device.Cursors.{ElementsData, FrameData, CursorData, bits_behind, bits_left, resting}
+use Rattle.fast_cursor.specs.declared.place.Place.{Place}
+use Rattle.fast_cursor.specs.device.Places.{at_place}
 use Rattle.fast_machine.specs.device.Serving.{ServesNodes}
 use Rattle.fast_tree.specs.device.Bodies.{body_among}
 use Rattle.fast_units.specs.device.Stages.{term_behind, IsStageOf}
@@ -322,3 +324,7 @@ pub record IsFresh (set : Set) (m : Machine) : Type 0 where
   pub dictionary : slots_dictionary m.slots ≡ fresh set.entries
   pub entity : m.entity.bytes ≡ []
   pub turns : m.turns.count ≡ 0
+
+-- the machine, at the place
+abbrev pub placed : Machine → Place → Machine
+placed m p = record m { cursor = at_place m.cursor p }

@@ -1,5 +1,5 @@
--- How a message begins in the loop: what the bytes of a piece begin with, and what an arm did.
-use Rattle.std.specs.Prelude.{◌≡◌, ◌≢◌, ℕ, ◌<◌, ◌≤◌, List, length, take, slice_get, Some, Result, Ok, Err}
+-- How a message begins: what the bytes of a piece begin with, and where the machine then stands.
+use Rattle.std.specs.Prelude.{◌≡◌, ◌≢◌, ℕ, ◌<◌, ◌≤◌, List, length, take, slice_get, Some}
 use Rattle.fast_wire.specs.meaning.Entities.{IsEntity}
 use Rattle.fast_wire.specs.meaning.Maps.{bits, later_bits}
 use Rattle.fast_value.specs.declared.settings.Limits.{Limits}
@@ -10,16 +10,11 @@ use Rattle.fast_program.specs.device.Starts.{IsStartOf}
 use Rattle.fast_template.specs.meaning.Flat.{instructions_from, template_data}
 use Rattle.fast_dict.specs.meaning.Dictionary.{Dictionary}
 use Rattle.fast_stream.specs.meaning.Grammar.{Grammar}
-use Rattle.fast_stream.specs.declared.faults.FaultCode.{FaultCode}
-use Rattle.fast_stream.specs.declared.faults.FaultCode.TheVariants.{SinkStopped}
 use Rattle.fast_stream.specs.device.Continuations.{message_then, message_of_then}
 use Rattle.fast_stream.specs.device.GrammarReaders.{reader_of}
 use Rattle.fast_units.specs.device.Taking.{Turns}
 use Rattle.fast_cursor.specs.device.Cursors.{resting}
 use Rattle.fast_machine.specs.declared.machine.Machine.{Machine}
-use Rattle.fast_machine.specs.declared.machine.Turn.{Turn}
-use Rattle.fast_machine.specs.declared.machine.Turn.TheVariants.{Handed}
-use Rattle.fast_machine.specs.declared.spot.Went.{Went}
 use Rattle.fast_machine.specs.device.Positions.{Set, tree_in}
 
 -- The start is that of the set's template with the identifier, of which none in front of it has that.
@@ -48,8 +43,3 @@ pub record IsMessageAhead (set : Set) (l : Limits) (old new : Dictionary) (rest 
 -- the machine, as if it stood behind that map
 abbrev pub mapped_by : Machine → List ℕ → Machine
 mapped_by m rest = record m { cursor = record (resting m.cursor) { map = take 1 rest } }
-
--- how the turn ended in which an arm began a message
-abbrev pub begun_by : Went → Result Turn FaultCode
-begun_by Went.Took = Ok Handed
-begun_by went = Err SinkStopped

@@ -27,7 +27,7 @@ returns-in-Ok-clause-carried g c = λ w es so.
     let inside : DecoderData = record { set = set_of c.self.inside.templates.now; limits = c.self.inside.limits; machine = c.self.inside.machine; consumed = c.self.inside.consumed; fault = c.self.inside.fault } in
     let view : inside ≡ c.args.self.now = c.self.view_is in
     let m : Machine = c.begin_turns.new.self in
-    let m' : Machine = c.take_all-taken.new.self in
+    let m' : Machine = c.take_all-taken.new.machine in
     let same : meaning inside.set inside.limits m ≡ meaning inside.set inside.limits inside.machine = ap (meaning inside.set inside.limits) c.begin_turns.ensures.same ∙ meaning-turns inside.machine.waiting inside.set inside.limits inside.machine m.turns in
     let all : c.take_all-taken.result.bytes ≡ length c.args.piece.now = c.take_all-taken.ensures.all (subst (λ (r : Result Unit FaultCode). IsOk r) (sym c.in-Ok.is) refl) in
     let ready : IsReady inside.set inside.limits m' = subst (λ (r : Result Unit FaultCode). OnOk r (IsReady inside.set inside.limits m')) c.in-Ok.is c.take_all-taken.ensures.ready in
@@ -45,7 +45,7 @@ returns-in-Err-clause-carried g c = λ w es so.
     let inside : DecoderData = record { set = set_of c.self.inside.templates.now; limits = c.self.inside.limits; machine = c.self.inside.machine; consumed = c.self.inside.consumed; fault = c.self.inside.fault } in
     let view : inside ≡ c.args.self.now = c.self.view_is in
     let m : Machine = c.begin_turns.new.self in
-    let m' : Machine = c.take_all-taken.new.self in
+    let m' : Machine = c.take_all-taken.new.machine in
     let same : meaning inside.set inside.limits m ≡ meaning inside.set inside.limits inside.machine = ap (meaning inside.set inside.limits) c.begin_turns.ensures.same ∙ meaning-turns inside.machine.waiting inside.set inside.limits inside.machine m.turns in
     let k : ℕ = c.take_all-taken.result.bytes in
     let fed : Fed g.S.Sink.takes g.S.Sink.stops (tree_in inside.set) inside.limits (waiting_at (meaning inside.set inside.limits m)) (take k c.args.piece.now) c.args.sink.now (Err c.in-Err.code) c.take_all-taken.new.sink (waiting_at (meaning inside.set inside.limits m'))
@@ -58,7 +58,7 @@ returns-in-Err-clause-carried g c = λ w es so.
 pub invariant_of-self-in-Ok : goal.invariant_of-self-in-Ok
 invariant_of-self-in-Ok g c =
     let inside : DecoderData = record { set = set_of c.self.inside.templates.now; limits = c.self.inside.limits; machine = c.self.inside.machine; consumed = c.self.inside.consumed; fault = c.self.inside.fault } in
-    let m' : Machine = c.take_all-taken.new.self in
+    let m' : Machine = c.take_all-taken.new.machine in
     let paid = feed_paid inside c.begin_turns.new.self m' c.take_all-taken.result.bytes c.take_all-taken.result.outcome c.in_default.is c.begin_turns.ensures.same c.begin_turns.ensures.none c.self.invariant c.take_all-taken.ensures.turns in
     sound_on inside m' c.take_all-taken.result.bytes c.in_default.is c.self.invariant.later c.take_all-taken.ensures.supplied
     (subst (λ (r : Result Unit FaultCode). OnOk r (IsReady inside.set inside.limits m')) c.in-Ok.is c.take_all-taken.ensures.ready)
@@ -67,14 +67,14 @@ invariant_of-self-in-Ok g c =
 pub returns-in-Ok-clause-turns : goal.returns-in-Ok-clause-turns
 returns-in-Ok-clause-turns g c =
     let inside : DecoderData = record { set = set_of c.self.inside.templates.now; limits = c.self.inside.limits; machine = c.self.inside.machine; consumed = c.self.inside.consumed; fault = c.self.inside.fault } in
-    feed_turns inside c.args.self.now c.take_all-taken.result.bytes c.take_all-taken.new.self c.take_all-taken.result.outcome c.self.view_is
-    (feed_paid inside c.begin_turns.new.self c.take_all-taken.new.self c.take_all-taken.result.bytes c.take_all-taken.result.outcome c.in_default.is c.begin_turns.ensures.same c.begin_turns.ensures.none c.self.invariant c.take_all-taken.ensures.turns)
+    feed_turns inside c.args.self.now c.take_all-taken.result.bytes c.take_all-taken.new.machine c.take_all-taken.result.outcome c.self.view_is
+    (feed_paid inside c.begin_turns.new.self c.take_all-taken.new.machine c.take_all-taken.result.bytes c.take_all-taken.result.outcome c.in_default.is c.begin_turns.ensures.same c.begin_turns.ensures.none c.self.invariant c.take_all-taken.ensures.turns)
 
 pub returns-in-Err-clause-turns : goal.returns-in-Err-clause-turns
 returns-in-Err-clause-turns g c =
     let inside : DecoderData = record { set = set_of c.self.inside.templates.now; limits = c.self.inside.limits; machine = c.self.inside.machine; consumed = c.self.inside.consumed; fault = c.self.inside.fault } in
-    feed_turns inside c.args.self.now c.take_all-taken.result.bytes c.take_all-taken.new.self c.take_all-taken.result.outcome c.self.view_is
-    (feed_paid inside c.begin_turns.new.self c.take_all-taken.new.self c.take_all-taken.result.bytes c.take_all-taken.result.outcome c.in_default.is c.begin_turns.ensures.same c.begin_turns.ensures.none c.self.invariant c.take_all-taken.ensures.turns)
+    feed_turns inside c.args.self.now c.take_all-taken.result.bytes c.take_all-taken.new.machine c.take_all-taken.result.outcome c.self.view_is
+    (feed_paid inside c.begin_turns.new.self c.take_all-taken.new.machine c.take_all-taken.result.bytes c.take_all-taken.result.outcome c.in_default.is c.begin_turns.ensures.same c.begin_turns.ensures.none c.self.invariant c.take_all-taken.ensures.turns)
 
 pub returns-in-Some-clause-followed : goal.returns-in-Some-clause-followed
 returns-in-Some-clause-followed g c = λ w es so.
@@ -94,13 +94,13 @@ returns-then-piece-self-clause-followed g c = λ w es so.
 pub returns-in-Ok-clause-followed : goal.returns-in-Ok-clause-followed
 returns-in-Ok-clause-followed g c = λ w es so.
     let inside : DecoderData = record { set = set_of c.self.inside.templates.now; limits = c.self.inside.limits; machine = c.self.inside.machine; consumed = c.self.inside.consumed; fault = c.self.inside.fault } in
-    carries_follow g.S.Sink.takes g.S.Sink.stops (tree c.args.self.now) c.args.self.now.limits (fed_data inside c.take_all-taken.new.self c.take_all-taken.result.bytes c.self.inside.fault) w es c.args.piece.now c.args.sink.now c.take_all-taken.new.sink
+    carries_follow g.S.Sink.takes g.S.Sink.stops (tree c.args.self.now) c.args.self.now.limits (fed_data inside c.take_all-taken.new.machine c.take_all-taken.result.bytes c.self.inside.fault) w es c.args.piece.now c.args.sink.now c.take_all-taken.new.sink
     (ap (λ (d : DecoderData). tree d) c.self.view_is) (ap (λ (d : DecoderData). d.limits) c.self.view_is) (returns-in-Ok-clause-carried g c w es so)
 
 pub returns-in-Err-clause-followed : goal.returns-in-Err-clause-followed
 returns-in-Err-clause-followed g c = λ w es so.
     let inside : DecoderData = record { set = set_of c.self.inside.templates.now; limits = c.self.inside.limits; machine = c.self.inside.machine; consumed = c.self.inside.consumed; fault = c.self.inside.fault } in
     let place : ℕ = c.self.inside.consumed + c.take_all-taken.result.bytes in
-    fault_follows g.S.Sink.takes g.S.Sink.stops c.args.self.now (fed_data inside c.take_all-taken.new.self c.take_all-taken.result.bytes (Some (record { code = c.in-Err.code; place = place }))) c.in-Err.code w es c.args.piece.now c.args.sink.now place c.take_all-taken.new.sink so
+    fault_follows g.S.Sink.takes g.S.Sink.stops c.args.self.now (fed_data inside c.take_all-taken.new.machine c.take_all-taken.result.bytes (Some (record { code = c.in-Err.code; place = place }))) c.in-Err.code w es c.args.piece.now c.args.sink.now place c.take_all-taken.new.sink so
     (ap (λ (d : DecoderData). d.fault) (sym c.self.view_is) ∙ c.in_default.is) refl (ap (λ (d : DecoderData). tree d) c.self.view_is) (ap (λ (d : DecoderData). d.limits) c.self.view_is)
     (returns-in-Err-clause-carried g c w es so)

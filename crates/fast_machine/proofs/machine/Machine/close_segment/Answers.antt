@@ -10,8 +10,7 @@ use Rattle.fast_cursor.specs.device.Runs.{IsRun}
 use Rattle.fast_cursor.specs.device.Segments.{elements_data, IsRunOf}
 use Rattle.fast_machine.specs.device.Opening.{opened_result, opened_by}
 use Rattle.fast_machine.specs.device.Passing.{elements_from}
-use Rattle.fast_machine.specs.device.Arms.{placed}
-use Rattle.fast_machine.specs.device.Positions.{set_of, turning}
+use Rattle.fast_machine.specs.device.Positions.{placed, set_of, turning}
 use Rattle.fast_machine.proofs.steps.Opened.{opened_not_silent}
 use Rattle.fast_machine.proofs.steps.SegmentTurns.{closed, closed_in, turn_halt, turn_one, turn_more}
 use Rattle.fast_machine.proofs.steps.TurnCounts.{group_left, element_left, turns_taken}

@@ -2,8 +2,7 @@
 use Rattle.std.proofs.Common.{inl, inr}
 use Rattle.std.proofs.lemmas.Result.{err_from_is_err_and}
 use Rattle.fast_stream.specs.declared.faults.FaultCode.{FaultCode}
-use Rattle.fast_machine.specs.device.Arms.{placed}
-use Rattle.fast_machine.specs.device.Positions.{set_of}
+use Rattle.fast_machine.specs.device.Positions.{placed, set_of}
 use Rattle.fast_machine.proofs.steps.NextElements.{next_begun, next_counts, next_stops, next_halts, next_begins}
 use Rattle.fast_machine.proofs.steps.TurnCounts.{turns_taken}
 use Rattle.fast_machine.proofs.machine.Machine.leave_segment.Goals as goal

@@ -1,0 +1,3 @@
+-- What the arms of the loop and its steps do.
+pub mod Arms
+pub mod Parts

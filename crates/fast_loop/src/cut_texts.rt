@@ -1,0 +1,129 @@
+//! Texts that the piece cuts, in the machine's loop: the bytes that are there are kept at once, and the machine waits for the others.
+//!
+//! All this is cold and out of line, and takes few arguments, so that the loop's registers are given out by what whole texts want.
+
+ghost use Rattle.std.specs.Prelude.{◌≡◌, ◌≢◌, ◌-◌, ◌<◌, ◌≤◌, ℕ, Bool, [], true, false, length, drop};
+ghost use Rattle.fast_value.specs.meaning.Kinds.{family, texts};
+ghost use Rattle.fast_dict.specs.declared.slots.Slots.{Slots};
+ghost use Rattle.fast_dict.specs.meaning.Slots.{slots_dictionary, slots_terms};
+ghost use Rattle.fast_stream.specs.meaning.Phrases.{cut};
+ghost use Rattle.fast_stream.specs.meaning.Units.{ascii_text};
+ghost use Rattle.fast_units.specs.declared.taken.BegunText.{BegunText};
+ghost use Rattle.fast_units.specs.device.TextsAs.{IsBegunText};
+ghost use Rattle.fast_units.specs.device.Words.{HasRoomFor};
+ghost use Rattle.fast_machine.specs.device.Gathered.{IsKeptAs, IsKeptFrom};
+
+use crate::spot::{Spot, Went};
+use fast_dict::Store;
+use fast_machine::machine::{Machine, Waiting};
+use fast_machine::turns::Turns;
+use fast_template::Operator;
+use fast_units::begun_texts::{begun_delta, begun_vector, is_text_front};
+use fast_units::taken::BegunText;
+use fast_value::Kind;
+
+/// What an arm did that has kept all of the rest, or nothing.
+#[inline(always)]
+pub fn kept_or_declined(kept: bool, spot: &mut Spot<'_, '_>) -> Went
+    ensures kept { kept ≡ true → (result ≡ Went.Waits) × (spot.new.place ≡ spot.old.place)
+        × (spot.new.rest.now ≡ drop (length spot.old.rest.now) spot.old.rest.now) }
+    ensures declined { kept ≡ false → (result ≡ Went.Declined) × (spot.new ≡ spot.old) }
+{
+    if !kept {
+        return Went::Declined;
+    }
+    spot.rest = &spot.rest[spot.rest.len()..];
+    Went::Waits
+}
+
+/// Keeps the bytes of a text that has begun so, and waits for the others: the turn of a unit that is taken in part.
+#[inline(always)]
+fn keep_begun(machine: &mut Machine<'_>, begun: BegunText, rest: &[u8])
+    requires within { begun.from ≤ length rest.now }
+    requires fits { length rest.now - begun.from ≤ machine.old.text.capacity }
+    ensures kept { IsKeptFrom machine.old machine.new rest.now begun }
+{
+    machine.turns = Turns::after(&machine.turns);
+    machine.text.clear();
+    machine.text.append(&rest[begun.from..]);
+    machine.waiting = Waiting::Bytes(begun.stage);
+}
+
+/// Keeps the rest, if it is a vector of the kind that goes on behind it and is no delta.
+#[cold]
+#[inline(never)]
+pub fn keep_vector(
+    machine: &mut Machine<'_>,
+    kind: Kind,
+    optional: bool,
+    operator: Operator,
+    rest: &[u8],
+    strict: bool,
+) -> bool
+    requires text { family kind ≡ texts }
+    requires vector { kind ≢ Kind.Ascii }
+    requires sent { operator ≢ Operator.Constant }
+    requires whole { operator ≢ Operator.Delta }
+    requires room { HasRoomFor machine.old.slots machine.old.text }
+    ensures kept { result ≡ true → (r : BegunText) × IsKeptFrom machine.old machine.new rest.now r
+        × ((entry : ℕ) (slots : Slots) → IsBegunText kind optional operator entry strict
+        (slots_terms machine.old.slots).max_text rest.now slots r) }
+    ensures same { result ≡ false → machine.new ≡ machine.old }
+{
+    let room = machine.slots.max_text();
+    match begun_vector(kind, optional, operator, rest, strict, room) {
+        Some(begun) => {
+            keep_begun(machine, begun, rest);
+            true
+        }
+        None => false,
+    }
+}
+
+/// Keeps the rest, if it is a delta of a text that goes on behind it, and its entry holds a text of its kind.
+#[cold]
+#[inline(never)]
+pub fn keep_delta(
+    machine: &mut Machine<'_>,
+    entry: u32,
+    kind: Kind,
+    optional: bool,
+    rest: &[u8],
+    strict: bool,
+) -> bool
+    requires there { entry < length (slots_dictionary machine.old.slots) }
+    requires text { family kind ≡ texts }
+    requires room { HasRoomFor machine.old.slots machine.old.text }
+    ensures kept { result ≡ true → (r : BegunText) × IsKeptFrom machine.old machine.new rest.now r
+        × IsBegunText kind optional Operator.Delta entry strict (slots_terms machine.old.slots).max_text rest.now
+        machine.old.slots r }
+    ensures same { result ≡ false → machine.new ≡ machine.old }
+{
+    let room = machine.slots.max_text();
+    match begun_delta(&machine.slots, entry, kind, optional, rest, strict, room) {
+        Some(begun) => {
+            keep_begun(machine, begun, rest);
+            true
+        }
+        None => false,
+    }
+}
+
+/// Keeps the rest, if it is an ASCII text that goes on behind it and begins with a character.
+#[cold]
+#[inline(never)]
+pub fn keep_ascii(machine: &mut Machine<'_>, rest: &[u8]) -> bool
+    requires room { HasRoomFor machine.old.slots machine.old.text }
+    ensures kept { result ≡ true → IsKeptAs Waiting.Text machine.old machine.new rest.now × (0 < length rest.now)
+        × ((nullable : Bool) → ascii_text nullable (slots_terms machine.old.slots).max_text rest.now [] cut) }
+    ensures same { result ≡ false → machine.new ≡ machine.old }
+{
+    if !is_text_front(rest, machine.slots.max_text()) {
+        return false;
+    }
+    machine.turns = Turns::after(&machine.turns);
+    machine.text.clear();
+    machine.text.append(rest);
+    machine.waiting = Waiting::Text;
+    true
+}

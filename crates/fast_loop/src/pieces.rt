@@ -1,0 +1,168 @@
+//! What the decoder does with the bytes of a piece: it takes units, and all that they decide.
+
+ghost use Rattle.std.specs.Prelude.{◌≡◌, ◌+◌, ◌*◌, ◌<◌, ◌≤◌, true, false, ℕ, length, Err, take, IsOk, OnOk, Some, None, Ok};
+ghost use Rattle.fast_value.specs.declared.settings.Limits.{Limits};
+ghost use Rattle.fast_machine.specs.declared.machine.Machine.{Machine};
+ghost use Rattle.fast_machine.specs.device.Handing.{Fed, waiting_at};
+ghost use Rattle.fast_machine.specs.device.Steps.{IsCountedBy, IsStep};
+ghost use Rattle.fast_machine.specs.device.Gathered.{IsGatheredBy};
+ghost use Rattle.fast_machine.specs.device.Words.{TakesUnit};
+ghost use Rattle.fast_machine.specs.device.TurnsLeft.{Way, most_by, HasTurnsWaiting, HasTurnsBehind, turns_begun_at};
+ghost use Rattle.fast_machine.specs.device.Positions.{set_of, tree_in, CanTurn, IsSupplied, IsReady, meaning};
+ghost use Rattle.fast_machine.specs.declared.machine.Turn.{Turn};
+
+use crate::walking::walk;
+use fast_machine::machine::{Machine, Turn};
+use fast_machine::quick_units::UnitTaken;
+use fast_stream::{FaultCode, Sink};
+use fast_template::Templates;
+use fast_value::Limits;
+
+/// How many bytes of a piece were taken, and why the machine stopped behind them, if it did.
+#[derive(Clone, Copy, Debug)]
+pub struct PieceTaken {
+    /// The bytes that were taken.
+    pub bytes: usize,
+    /// Whether the machine goes on.
+    pub outcome: Result<(), FaultCode>,
+}
+
+/// Takes the units of a piece, up to its end, a fault, or where the sink stops. A piece that ends inside the unit in hand, as most do of
+/// a text that comes byte by byte, is kept here.
+#[inline]
+pub fn take_all<'t, S: Sink>(
+    machine: &mut Machine<'t>,
+    templates: &'t Templates,
+    limits: Limits,
+    piece: &[u8],
+    sink: &mut S,
+) -> PieceTaken
+    requires ready { IsReady (set_of templates.now) limits machine.old }
+    ensures within { result.bytes ≤ length piece.now }
+    ensures all { IsOk result.outcome → result.bytes ≡ length piece.now }
+    ensures fed { Fed S.takes S.stops (tree_in (set_of templates.now)) limits
+        (waiting_at (meaning (set_of templates.now) limits machine.old)) (take result.bytes piece.now)
+        sink.old result.outcome sink.new (waiting_at (meaning (set_of templates.now) limits machine.new)) }
+    ensures ready { OnOk result.outcome (IsReady (set_of templates.now) limits machine.new) }
+    ensures supplied { IsSupplied (set_of templates.now) limits machine.new }
+    ensures turns { (way : Way) → machine.old.turns.count ≡ 0
+        → HasTurnsWaiting way (set_of templates.now) limits (most_by way (tree_in (set_of templates.now)) limits)
+        machine.old
+        → (machine.new.turns.count ≤ result.bytes * (1 + most_by way (tree_in (set_of templates.now)) limits))
+        × OnOk result.outcome ((k : ℕ) × HasTurnsWaiting way (set_of templates.now) limits k machine.new) }
+{
+    let kept = machine.gather(templates, limits, piece);
+    if kept > 0 {
+        return PieceTaken {
+            bytes: kept,
+            outcome: Ok(()),
+        };
+    }
+    take_units(machine, templates, limits, piece, sink)
+}
+
+/// The same of a piece that is not known to end inside the unit in hand.
+#[inline(always)]
+fn take_units<'t, S: Sink>(
+    machine: &mut Machine<'t>,
+    templates: &'t Templates,
+    limits: Limits,
+    piece: &[u8],
+    sink: &mut S,
+) -> PieceTaken
+    requires ready { IsReady (set_of templates.now) limits machine.old }
+    ensures within { result.bytes ≤ length piece.now }
+    ensures all { IsOk result.outcome → result.bytes ≡ length piece.now }
+    ensures fed { Fed S.takes S.stops (tree_in (set_of templates.now)) limits
+        (waiting_at (meaning (set_of templates.now) limits machine.old)) (take result.bytes piece.now)
+        sink.old result.outcome sink.new (waiting_at (meaning (set_of templates.now) limits machine.new)) }
+    ensures ready { OnOk result.outcome (IsReady (set_of templates.now) limits machine.new) }
+    ensures supplied { IsSupplied (set_of templates.now) limits machine.new }
+    ensures turns { (way : Way) → machine.old.turns.count ≡ 0
+        → HasTurnsWaiting way (set_of templates.now) limits (most_by way (tree_in (set_of templates.now)) limits)
+        machine.old
+        → (machine.new.turns.count ≤ result.bytes * (1 + most_by way (tree_in (set_of templates.now)) limits))
+        × OnOk result.outcome ((k : ℕ) × HasTurnsWaiting way (set_of templates.now) limits k machine.new) }
+{
+    let mut bytes = 0;
+    while bytes < piece.len() {
+        let taken = take_some(machine, templates, limits, &piece[bytes..], sink);
+        bytes += taken.bytes;
+        if taken.outcome.is_err() {
+            return PieceTaken {
+                bytes,
+                outcome: taken.outcome,
+            };
+        }
+    }
+    PieceTaken {
+        bytes,
+        outcome: Ok(()),
+    }
+}
+
+/// Takes one unit, or as much of it as there is, and all units behind it that are for the loop.
+#[inline(always)]
+fn take_some<'t, S: Sink>(
+    machine: &mut Machine<'t>,
+    templates: &'t Templates,
+    limits: Limits,
+    rest: &[u8],
+    sink: &mut S,
+) -> PieceTaken
+    requires ready { IsReady (set_of templates.now) limits machine.old }
+    requires some { 0 < length rest.now }
+    ensures some { 0 < result.bytes }
+    ensures within { result.bytes ≤ length rest.now }
+    ensures fed { Fed S.takes S.stops (tree_in (set_of templates.now)) limits
+        (waiting_at (meaning (set_of templates.now) limits machine.old)) (take result.bytes rest.now)
+        sink.old result.outcome sink.new (waiting_at (meaning (set_of templates.now) limits machine.new)) }
+    ensures ready { OnOk result.outcome (IsReady (set_of templates.now) limits machine.new) }
+    ensures supplied { IsSupplied (set_of templates.now) limits machine.new }
+    ensures turns { (way : Way) → IsCountedBy result.outcome way (set_of templates.now) limits result.bytes machine.old
+        machine.new }
+{
+    let unit = machine.take_next(templates, limits, rest, sink);
+    match unit.turn {
+        Err(code) => PieceTaken {
+            bytes: unit.bytes,
+            outcome: Err(code),
+        },
+        Ok(turn) => match turn {
+            Turn::Waits => PieceTaken {
+                bytes: unit.bytes + machine.gather(templates, limits, &rest[unit.bytes..]),
+                outcome: Ok(()),
+            },
+            _ => {
+                let run = go_on(machine, templates, limits, &rest[unit.bytes..], sink);
+                PieceTaken {
+                    bytes: unit.bytes + run.bytes,
+                    outcome: run.outcome(),
+                }
+            }
+        },
+    }
+}
+
+/// Takes steps as [`Machine::walk`] does. Where there is no byte, and the next instruction waits for one, that is all.
+#[inline(always)]
+pub fn go_on<'t, S: Sink>(
+    machine: &mut Machine<'t>,
+    templates: &'t Templates,
+    limits: Limits,
+    piece: &[u8],
+    sink: &mut S,
+) -> UnitTaken
+    requires turn { CanTurn (set_of templates.now) limits machine.old }
+    ensures step { IsStep S.takes S.stops (set_of templates.now) limits machine.old piece.now sink.old result sink.new
+        machine.new }
+    ensures ends { (t : Turn) → result.turn ≡ Ok t → t ≡ Turn.Waits }
+{
+    if piece.is_empty() && machine.waits_at_once(templates, limits, sink) {
+        return UnitTaken {
+            bytes: 0,
+            turn: Ok(Turn::Waits),
+        };
+    }
+    walk(machine, templates, &limits, piece, sink)
+}

@@ -1,0 +1,196 @@
+//! Fields of Unicode strings and byte vectors, and deltas of texts of all kinds, in the machine's loop: kind, operator and presence
+//! are known where the arm stands, and the op names the entry.
+
+ghost use Rattle.std.specs.Prelude.{◌≡◌, ◌≢◌, ◌<◌, true, false};
+ghost use Rattle.fast_wire.specs.meaning.Maps.{first_bit};
+ghost use Rattle.fast_value.specs.meaning.Kinds.{family, texts};
+ghost use Rattle.fast_cursor.specs.device.Cursors.{bits_left};
+ghost use Rattle.fast_cursor.specs.device.Places.{at_place, HasBits};
+ghost use Rattle.fast_loop.specs.device.Arms.{IsAtSpot, IsAtOp, IsFieldOp, HasWent};
+ghost use Rattle.fast_machine.specs.device.Positions.{set_of};
+
+use crate::cut_texts::{keep_delta, keep_vector, kept_or_declined};
+use crate::spot::{Spot, Standing, Went, hand_taken, hand_unsent, stands};
+use fast_machine::machine::Machine;
+use fast_program::Op;
+use fast_stream::Sink;
+use fast_template::{Operator, Templates};
+use fast_units::lent_texts::{kept_at, lent_at, unsent_text};
+use fast_units::part_items::sent_delta;
+use fast_units::vector_items::{sent_tail, sent_vector};
+use fast_value::{Kind, Limits};
+
+/// A field of Unicode strings or byte vectors without operator: lent from the piece.
+#[inline(always)]
+pub fn vector_arm<'t, S: Sink>(
+    machine: &mut Machine<'t>,
+    templates: &'t Templates,
+    limits: Limits,
+    spot: &mut Spot<'t, '_>,
+    op: &Op,
+    kind: Kind,
+    optional: bool,
+    sink: &mut S,
+) -> Went
+    requires text { family kind ≡ texts }
+    requires vector { kind ≢ Kind.Ascii }
+    requires spot { IsAtSpot (set_of templates.now) limits machine.old spot.old.place }
+    requires at { IsAtOp (set_of templates.now) spot.old.place op.now }
+    requires field { IsFieldOp (set_of templates.now) op.now kind Operator.None optional }
+    ensures went { HasWent S.takes S.stops (set_of templates.now) limits machine.old spot.old sink.old result sink.new
+        machine.new spot.new }
+{
+    let rest = spot.rest;
+    match sent_vector(kind, optional, Operator::None, rest, limits.strict, limits) {
+        Some(taken) => {
+            let value = lent_at(kind, &rest[taken.from..taken.bytes], taken.source);
+            hand_taken(
+                &mut machine.turns,
+                spot,
+                op.node,
+                false,
+                value,
+                taken.bytes,
+                sink,
+            )
+        }
+        None => {
+            let kept = keep_vector(machine, kind, optional, Operator::None, rest, limits.strict);
+            kept_or_declined(kept, spot)
+        }
+    }
+}
+
+/// A delta of texts, which is joined in the slot of its entry.
+#[inline(always)]
+pub fn part_arm<'t, S: Sink>(
+    machine: &mut Machine<'t>,
+    templates: &'t Templates,
+    limits: Limits,
+    spot: &mut Spot<'t, '_>,
+    op: &Op,
+    kind: Kind,
+    optional: bool,
+    sink: &mut S,
+) -> Went
+    requires text { family kind ≡ texts }
+    requires spot { IsAtSpot (set_of templates.now) limits machine.old spot.old.place }
+    requires at { IsAtOp (set_of templates.now) spot.old.place op.now }
+    requires field { IsFieldOp (set_of templates.now) op.now kind Operator.Delta optional }
+    ensures went { HasWent S.takes S.stops (set_of templates.now) limits machine.old spot.old sink.old result sink.new
+        machine.new spot.new }
+{
+    match sent_delta(
+        &mut machine.slots,
+        &mut machine.joined,
+        op.entry,
+        kind,
+        optional,
+        spot.rest,
+        limits.strict,
+        limits,
+    ) {
+        Some(taken) => {
+            let value = kept_at(&machine.slots, op.entry, kind, taken.source);
+            hand_taken(
+                &mut machine.turns,
+                spot,
+                op.node,
+                false,
+                value,
+                taken.bytes,
+                sink,
+            )
+        }
+        None => {
+            let kept = keep_delta(machine, op.entry, kind, optional, spot.rest, limits.strict);
+            kept_or_declined(kept, spot)
+        }
+    }
+}
+
+/// A tail of Unicode strings or byte vectors, which is joined in the slot of its entry.
+#[inline(always)]
+pub fn tail_arm<'t, S: Sink>(
+    machine: &mut Machine<'t>,
+    templates: &'t Templates,
+    limits: Limits,
+    spot: &mut Spot<'t, '_>,
+    op: &Op,
+    kind: Kind,
+    optional: bool,
+    sink: &mut S,
+) -> Went
+    requires text { family kind ≡ texts }
+    requires vector { kind ≢ Kind.Ascii }
+    requires spot { IsAtSpot (set_of templates.now) limits machine.old spot.old.place }
+    requires at { IsAtOp (set_of templates.now) spot.old.place op.now }
+    requires field { IsFieldOp (set_of templates.now) op.now kind Operator.Tail optional }
+    ensures went { HasWent S.takes S.stops (set_of templates.now) limits machine.old spot.old sink.old result sink.new
+        machine.new spot.new }
+{
+    match stands(&spot.place, true) {
+        Standing::Spent => Went::Declined,
+        Standing::Unsent => {
+            unsent_tail_arm(machine, templates, limits, spot, op, kind, optional, sink)
+        }
+        Standing::Sent => {
+            match sent_tail(
+                &mut machine.slots,
+                op.entry,
+                kind,
+                optional,
+                spot.rest,
+                limits.strict,
+                limits,
+            ) {
+                Some(taken) => {
+                    let value = kept_at(&machine.slots, op.entry, kind, taken.source);
+                    hand_taken(
+                        &mut machine.turns,
+                        spot,
+                        op.node,
+                        true,
+                        value,
+                        taken.bytes,
+                        sink,
+                    )
+                }
+                None => {
+                    let (rest, strict) = (spot.rest, limits.strict);
+                    let kept = keep_vector(machine, kind, optional, Operator::Tail, rest, strict);
+                    kept_or_declined(kept, spot)
+                }
+            }
+        }
+    }
+}
+
+/// A tail of which nothing is sent: what the entry holds.
+#[inline(always)]
+fn unsent_tail_arm<'t, S: Sink>(
+    machine: &mut Machine<'t>,
+    templates: &'t Templates,
+    limits: Limits,
+    spot: &mut Spot<'t, '_>,
+    op: &Op,
+    kind: Kind,
+    optional: bool,
+    sink: &mut S,
+) -> Went
+    requires more { HasBits spot.old.place }
+    requires clear { first_bit (bits_left (at_place machine.old.cursor spot.old.place)) ≡ false }
+    requires spot { IsAtSpot (set_of templates.now) limits machine.old spot.old.place }
+    requires at { IsAtOp (set_of templates.now) spot.old.place op.now }
+    requires field { IsFieldOp (set_of templates.now) op.now kind Operator.Tail optional }
+    ensures went { HasWent S.takes S.stops (set_of templates.now) limits machine.old spot.old sink.old result sink.new
+        machine.new spot.new }
+{
+    match unsent_text(&machine.slots, op.entry, kind, optional) {
+        Some(source) => {
+            let value = kept_at(&machine.slots, op.entry, kind, source);
+            hand_unsent(&mut machine.turns, spot, op.node, true, value, sink)
+        }
+        None => Went::Declined,
+    }
+}
