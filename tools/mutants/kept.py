@@ -27,7 +27,8 @@ def sum_of(kit, crate, rows, tool):
     sum = hashlib.sha256()
     for part in ("bin", "logic_built", "rlibs"):
         add_files(sum, f"{kit}/{part}", False)
-    for name in sorted(it for it in os.listdir(tool) if os.path.isfile(f"{tool}/{it}")):
+    # (not the record of controls, which only says which of them are tried)
+    for name in sorted(it for it in os.listdir(tool) if os.path.isfile(f"{tool}/{it}") and it != "controls"):
         with open(f"{tool}/{name}", "rb") as it:
             sum.update(it.read())
     for name in [*crate.below, crate.name]:
