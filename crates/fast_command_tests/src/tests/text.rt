@@ -1,4 +1,4 @@
 //! The lines of events, and readers and writers.
 
 mod lines;
-mod streams;
+mod slices;

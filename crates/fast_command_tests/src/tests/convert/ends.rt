@@ -1,10 +1,11 @@
 //! How a run ends, and what is written by then.
 
-use super::{LENIENT, convert, expect, is_shown, set_of};
+use super::super::{LENIENT, built_in_set, expect, set_of, show};
+use super::convert;
 use fast_command::RunFault;
 use fast_decoder::MakeError;
-use fast_encoder::EncodeFault;
 use fast_reading::faults::LineFault;
+use fast_spelling::EncodeFault;
 use fast_template::Templates;
 use fast_text::{FromBytes, ToBytes};
 use fast_value::Limits;
@@ -48,7 +49,7 @@ const WHOLE: [(&str, &str); 4] = [
 
 #[test]
 fn lines_are_written_as_a_stream(rt: HostRuntime) -> Result<(), Fail> {
-    let set = set_of(rt.alloc())?;
+    let set = built_in_set(rt.alloc())?;
     for (text, written) in WHOLE {
         expect_end(&rt, rt.alloc(), &set, LENIENT, text, Ok(()), written);
     }
@@ -71,7 +72,7 @@ const FAULTY: [(&str, u64, LineFault); 6] = [
 
 #[test]
 fn a_line_at_fault_is_told_and_nothing_is_written(rt: HostRuntime) -> Result<(), Fail> {
-    let set = set_of(rt.alloc())?;
+    let set = built_in_set(rt.alloc())?;
     for (text, line, kind) in FAULTY {
         let end = Err(RunFault::Text { line, kind });
         expect_end(&rt, rt.alloc(), &set, LENIENT, text, end, "");
@@ -81,7 +82,7 @@ fn a_line_at_fault_is_told_and_nothing_is_written(rt: HostRuntime) -> Result<(),
 
 #[test]
 fn the_messages_before_one_that_is_refused_are_written(rt: HostRuntime) -> Result<(), Fail> {
-    let set = set_of(rt.alloc())?;
+    let set = built_in_set(rt.alloc())?;
     let text =
         "message T3\nfield 3 t a \"ABCDE\"\nend message\nmessage T3\nfield 3 t a \"AB\"\nend message\n";
     let end = Err(RunFault::Encode {
@@ -102,7 +103,7 @@ fn the_messages_before_one_that_is_refused_are_written(rt: HostRuntime) -> Resul
 
 #[test]
 fn limits_are_refused_before_the_text_is_read(rt: HostRuntime) -> Result<(), Fail> {
-    let set = set_of(rt.alloc())?;
+    let set = built_in_set(rt.alloc())?;
     let short = Limits {
         max_text: 15,
         ..LENIENT
@@ -116,9 +117,7 @@ fn limits_are_refused_before_the_text_is_read(rt: HostRuntime) -> Result<(), Fai
 fn a_long_initial_value_is_refused_before_the_text_is_read(rt: HostRuntime) -> Result<(), Fail> {
     let text =
         "[[template]]\nname = 'N'\nid = 1\nfields = [{ kind = 'ascii', name = 's', op = 'copy', value = 'seventeen letters' }]\n";
-    let Ok(set) = Templates::read(rt.alloc(), text) else {
-        return Err(Fail::from("the set is refused"));
-    };
+    let set = set_of(rt.alloc(), text)?;
     let short = Limits {
         max_text: 16,
         ..LENIENT
@@ -142,7 +141,7 @@ const THERE_AND_BACK: [&str; 8] = [
 
 #[test]
 fn what_is_written_is_shown_as_it_was(rt: HostRuntime) -> Result<(), Fail> {
-    let set = set_of(rt.alloc())?;
+    let set = built_in_set(rt.alloc())?;
     for text in THERE_AND_BACK {
         let mut cells = [0; 512];
         let mut stream = ToBytes::new(&mut cells);
@@ -151,8 +150,16 @@ fn what_is_written_is_shown_as_it_was(rt: HostRuntime) -> Result<(), Fail> {
         let mut room = [0; 512];
         let mut lines = ToBytes::new(&mut room);
         let mut source = FromBytes::new(stream.bytes());
-        let shown = is_shown(rt.alloc(), &set, &mut source, &mut lines);
-        let is_right = end == Ok(()) && shown && lines.bytes() == text.as_bytes();
+        let shown = show(
+            rt.alloc(),
+            &set,
+            LENIENT,
+            false,
+            1000,
+            &mut source,
+            &mut lines,
+        );
+        let is_right = end == Ok(()) && shown.is_ok() && lines.bytes() == text.as_bytes();
         expect(&rt, is_right, text, stream.bytes().len());
     }
     Ok(())

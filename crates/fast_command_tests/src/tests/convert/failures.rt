@@ -1,6 +1,7 @@
 //! Readers and writers that fail, and those that give and take a byte a call.
 
-use super::{LENIENT, convert, expect, set_of};
+use super::super::{LENIENT, built_in_set, expect};
+use super::convert;
 use fast_command::RunFault;
 use fast_text::{FromBytes, ToBytes, Watched};
 use std::io::{self, ErrorKind, Read, Write};
@@ -82,7 +83,7 @@ const WRITTEN: usize = 7;
 
 #[test]
 fn a_reader_that_fails_at_any_call_is_told(rt: HostRuntime) -> Result<(), Fail> {
-    let set = set_of(rt.alloc())?;
+    let set = built_in_set(rt.alloc())?;
     for call in 1..LINES.len() as u32 + 3 {
         let mut cells = [0; 64];
         let mut target = ToBytes::new(&mut cells);
@@ -111,7 +112,7 @@ fn a_reader_that_fails_at_any_call_is_told(rt: HostRuntime) -> Result<(), Fail> 
 
 #[test]
 fn a_reader_without_an_end_is_read_to_the_limit(rt: HostRuntime) -> Result<(), Fail> {
-    let set = set_of(rt.alloc())?;
+    let set = built_in_set(rt.alloc())?;
     let mut cells = [0; 64];
     let mut target = ToBytes::new(&mut cells);
     let mut source = Watched::new(Slow {
@@ -135,7 +136,7 @@ fn a_reader_without_an_end_is_read_to_the_limit(rt: HostRuntime) -> Result<(), F
 
 #[test]
 fn a_writer_that_fails_at_any_call_is_told(rt: HostRuntime) -> Result<(), Fail> {
-    let set = set_of(rt.alloc())?;
+    let set = built_in_set(rt.alloc())?;
     for fails in [Fails::Fully, Fails::ByNothing] {
         for call in 1..WRITTEN + 2 {
             let mut source = FromBytes::new(LINES);

@@ -1,6 +1,7 @@
 //! Words, and what they ask for.
 
-use super::expect;
+use super::super::expect;
+use clap::Error;
 use clap::error::ErrorKind;
 use fast_command::{BUILT_IN, Plan, Task, plan};
 use std::alloc::Global;
@@ -19,6 +20,11 @@ const DEFAULTS: Plan<'static> = Plan {
     max_total: 1000,
 };
 
+/// What words ask for, or why they are refused.
+fn asked<'w>(alloc: Global, words: &'w [&'w str]) -> Result<Plan<'w>, Error> {
+    plan(alloc, words)
+}
+
 /// These words ask for this.
 fn expect_plan(
     rt: &impl Abort,
@@ -26,7 +32,7 @@ fn expect_plan(
     words: &[&str],
     wanted: Plan<'_>,
 ) -> Result<(), Fail> {
-    let Ok(found) = plan(alloc, words) else {
+    let Ok(found) = asked(alloc, words) else {
         return Err(Fail::from("the words are refused"));
     };
     expect(rt, found == wanted, "words", words.len());
@@ -41,7 +47,7 @@ fn expect_refusal(
     kind: ErrorKind,
     status: i32,
 ) -> Result<(), Fail> {
-    let Err(error) = plan(alloc, words) else {
+    let Err(error) = asked(alloc, words) else {
         return Err(Fail::from("the words are taken"));
     };
     let is_right = error.kind() == kind && error.exit_code() == status;

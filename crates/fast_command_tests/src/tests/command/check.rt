@@ -1,7 +1,7 @@
 //! The five lines of a set.
 
-use super::{LENIENT, expect, set_of};
-use fast_command::{RunFault, built_in, run_check};
+use super::super::{LENIENT, built_in_set, expect, set_of};
+use fast_command::{RunFault, run_check};
 use fast_template::Templates;
 use fast_text::{Target, ToBytes};
 use fast_value::Limits;
@@ -38,7 +38,7 @@ fn expect_lines(rt: &impl Abort, set: &Templates, limits: Limits, room: usize, l
 
 #[test]
 fn the_built_in_set_in_five_lines(rt: HostRuntime) -> Result<(), Fail> {
-    let set = built_in(rt.alloc())?;
+    let set = built_in_set(rt.alloc())?;
     let no_elements = Limits {
         max_total: 0,
         ..LENIENT

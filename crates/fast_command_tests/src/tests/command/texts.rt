@@ -1,10 +1,16 @@
 //! Texts that are read whole, and the sets that they are.
 
-use super::expect;
+use super::super::expect;
 use fast_command::{RunFault, read_templates, read_whole};
-use fast_template::{StaticCode, StaticFault};
+use fast_template::{StaticCode, StaticFault, Templates};
 use fast_text::FromBytes;
+use std::alloc::Global;
 use std::test::Fail;
+
+/// The set that is read of these bytes.
+fn set_in(alloc: Global, text: &[u8]) -> Result<Templates, RunFault> {
+    read_templates(alloc, &mut FromBytes::new(text))
+}
 
 #[test]
 fn a_text_is_read_to_its_end(rt: HostRuntime) -> Result<(), Fail> {
@@ -19,8 +25,8 @@ fn a_text_is_read_to_its_end(rt: HostRuntime) -> Result<(), Fail> {
 
 #[test]
 fn a_set_is_read_of_a_text_that_is_one(rt: HostRuntime) -> Result<(), Fail> {
-    let mut source = FromBytes::new(b"[[template]]\nname = 'A'\n[[template]]\nname = 'B'");
-    let Ok(set) = read_templates(rt.alloc(), &mut source) else {
+    let text = b"[[template]]\nname = 'A'\n[[template]]\nname = 'B'";
+    let Ok(set) = set_in(rt.alloc(), text) else {
         return Err(Fail::from("the set is not read"));
     };
     expect(&rt, set.count() == 2, "two templates", 0);
@@ -33,7 +39,7 @@ fn a_set_is_read_of_a_text_that_is_one(rt: HostRuntime) -> Result<(), Fail> {
         ),
     ];
     for (text, code, template) in refusals {
-        let found = read_templates(rt.alloc(), &mut FromBytes::new(text)).err();
+        let found = set_in(rt.alloc(), text).err();
         let due = Some(RunFault::Templates(StaticFault { code, template }));
         expect(&rt, found == due, "refused", text.len());
     }

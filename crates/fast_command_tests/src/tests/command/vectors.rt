@@ -1,6 +1,6 @@
 //! The built-in set, as it is read of its text, is the one of the worked streams: each number of each node, template and entry.
 
-use fast_command::built_in;
+use super::super::built_in_set;
 use fast_examples::sets::SPELLED;
 use fast_template::{FieldInstruction, Shape, Templates};
 use std::alloc::{AllocError, Global};
@@ -85,7 +85,7 @@ fn spelled(alloc: Global, set: &Templates) -> Result<String, AllocError> {
 
 #[test]
 fn the_built_in_set_is_that_of_the_examples(rt: HostRuntime) -> Result<(), Fail> {
-    let set = built_in(rt.alloc())?;
+    let set = built_in_set(rt.alloc())?;
     let text = spelled(rt.alloc(), &set)?;
     assert!(rt; text.as_str() == SPELLED, "{text}");
     Ok(())

@@ -1,7 +1,7 @@
 //! Texts of lines, with the line at fault and what is wrong with it.
 
 mod cuts;
-mod faults;
+mod wrong_lines;
 
 use fast_reading::{TextFault, read_lines};
 use fast_template::Templates;

@@ -1,10 +1,9 @@
 //! Readers and writers of std that fail at a call, end too early, or give and take one byte a call.
 
-use super::{LENIENT, expect};
-use fast_command::{RunFault, ShowEnd, built_in, show_all};
-use fast_template::Templates;
-use fast_text::{FromBytes, Source, Target, ToBytes, Watched};
-use std::alloc::Global;
+use super::super::{built_in_set, expect};
+use super::show_whole;
+use fast_command::{RunFault, ShowEnd};
+use fast_text::{FromBytes, ToBytes, Watched};
 use std::io::{self, ErrorKind, Read, Write};
 use std::test::Fail;
 
@@ -119,16 +118,6 @@ impl Write for Taker {
     }
 }
 
-/// Shows a stream of the built-in set.
-fn show<S: Source, T: Target>(
-    alloc: Global,
-    set: &Templates,
-    source: &mut S,
-    target: &mut T,
-) -> Result<ShowEnd, RunFault> {
-    show_all(alloc, set, LENIENT, false, 1000, source, target)
-}
-
 /// The end of a stream that ends so early.
 fn end_behind(count: usize) -> ShowEnd {
     if count == 0 || count == STREAM.len() {
@@ -140,7 +129,7 @@ fn end_behind(count: usize) -> ShowEnd {
 
 #[test]
 fn a_reader_that_fails_or_ends_at_any_call(rt: HostRuntime) -> Result<(), Fail> {
-    let set = built_in(rt.alloc())?;
+    let set = built_in_set(rt.alloc())?;
     for (given, (decided, close)) in FRONTS.into_iter().enumerate() {
         for answer in [Answer::Failure, Answer::Nothing] {
             let mut source = Watched::new(Giver {
@@ -151,7 +140,7 @@ fn a_reader_that_fails_or_ends_at_any_call(rt: HostRuntime) -> Result<(), Fail> 
             });
             let mut cells = [0; 64];
             let mut target = ToBytes::new(&mut cells);
-            let end = show(rt.alloc(), &set, &mut source, &mut target);
+            let end = show_whole(rt.alloc(), &set, 1000, &mut source, &mut target);
             let (due, close) = match answer {
                 Answer::Failure => (Err(RunFault::Read), b"".as_slice()),
                 Answer::Nothing => (Ok(end_behind(given)), close),
@@ -167,12 +156,12 @@ fn a_reader_that_fails_or_ends_at_any_call(rt: HostRuntime) -> Result<(), Fail> 
 
 #[test]
 fn a_writer_that_fails_or_takes_nothing_at_any_call(rt: HostRuntime) -> Result<(), Fail> {
-    let set = built_in(rt.alloc())?;
+    let set = built_in_set(rt.alloc())?;
     for taken in 0..=LINES.len() {
         for answer in [Answer::Failure, Answer::Nothing] {
             let mut source = FromBytes::new(&STREAM);
             let mut target = Watched::new(Taker::new(taken.saturating_add(1), answer, 0));
-            let end = show(rt.alloc(), &set, &mut source, &mut target);
+            let end = show_whole(rt.alloc(), &set, 1000, &mut source, &mut target);
             let due = if taken < LINES.len() {
                 Err(RunFault::Write)
             } else {
@@ -188,11 +177,11 @@ fn a_writer_that_fails_or_takes_nothing_at_any_call(rt: HostRuntime) -> Result<(
 /// There is a flush before each read, of which the second tells the end, and a last one, also where the run has failed.
 #[test]
 fn a_writer_that_fails_at_any_flush(rt: HostRuntime) -> Result<(), Fail> {
-    let set = built_in(rt.alloc())?;
+    let set = built_in_set(rt.alloc())?;
     for (fails_at, flushes, kept) in [(1, 2, 0), (2, 3, 42), (3, 3, 42), (4, 3, 42)] {
         let mut source = FromBytes::new(&STREAM);
         let mut target = Watched::new(Taker::new(0, Answer::Failure, fails_at));
-        let end = show(rt.alloc(), &set, &mut source, &mut target);
+        let end = show_whole(rt.alloc(), &set, 1000, &mut source, &mut target);
         let taker = target.into_inner();
         let is_told = (end == Err(RunFault::Write)) == (fails_at <= 3);
         let is_right = is_told && taker.flushes == flushes && taker.has_kept(kept);

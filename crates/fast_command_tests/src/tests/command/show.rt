@@ -1,10 +1,11 @@
 //! Streams as lines.
 
+use super::super::{LENIENT, built_in_set, expect, set_of, show};
+use super::show_whole;
 use super::sinks::{Drip, Flushed, Lines};
-use super::{LENIENT, expect, set_of};
-use fast_command::{RunFault, ShowEnd, built_in, run_show, show_all};
+use fast_command::{RunFault, ShowEnd};
 use fast_template::Templates;
-use fast_text::{FromBytes, Source, Target, ToBytes};
+use fast_text::{FromBytes, Target, ToBytes};
 use fast_value::Limits;
 use std::alloc::{AllocError, Global};
 use std::process::Abort;
@@ -30,27 +31,6 @@ const ROW_1: &str = "message T1\nfield 0 x u 942755\nend message\n";
 struct Stream<'b> {
     bytes: &'b [u8],
     is_hex: bool,
-}
-
-/// Shows a stream, in at most so many reads.
-fn show<S: Source, T: Target>(
-    alloc: Global,
-    set: &Templates,
-    limits: Limits,
-    is_hex: bool,
-    max_reads: u32,
-    source: &mut S,
-    target: &mut T,
-) -> Result<ShowEnd, RunFault> {
-    run_show(
-        alloc,
-        set,
-        limits,
-        is_hex,
-        u64::from(max_reads),
-        source,
-        target,
-    )
 }
 
 /// What a run answered, with no clause that says how `Debug` writes it.
@@ -231,7 +211,7 @@ C0 8G | Err(BadHex(4)) |";
 
 #[test]
 fn streams_of_the_built_in_set(rt: HostRuntime) -> Result<(), Fail> {
-    let set = built_in(rt.alloc())?;
+    let set = built_in_set(rt.alloc())?;
     expect_rows(&rt, rt.alloc(), &set, LENIENT, BUILT_IN_ROWS)
 }
 
@@ -281,7 +261,7 @@ fn nested_front(alloc: Global, len: usize, decided: usize) -> Result<(String, St
 #[test]
 fn a_nested_message_cut_anywhere(rt: HostRuntime) -> Result<(), Fail> {
     let alloc = rt.alloc();
-    let set = built_in(alloc)?;
+    let set = built_in_set(alloc)?;
     for (len, decided) in DECIDED.into_iter().enumerate() {
         let (end, lines) = nested_front(alloc, len, decided)?;
         let stream = Stream {
@@ -440,7 +420,7 @@ fn lines_can_be_seen_before_each_read(rt: HostRuntime) -> Result<(), Fail> {
 
 #[test]
 fn a_failure_of_the_last_flush_is_told(rt: HostRuntime) -> Result<(), Fail> {
-    let set = built_in(rt.alloc())?;
+    let set = built_in_set(rt.alloc())?;
     for (fails_at, due) in [(3, Err(RunFault::Write)), (4, Ok(ShowEnd::Good))] {
         let mut source = FromBytes::new(b"\xc0\x81\x39\x45\xa3");
         let mut target = Flushed {
@@ -448,15 +428,7 @@ fn a_failure_of_the_last_flush_is_told(rt: HostRuntime) -> Result<(), Fail> {
             fails_at,
             failed: false,
         };
-        let end = show_all(
-            rt.alloc(),
-            &set,
-            LENIENT,
-            false,
-            6,
-            &mut source,
-            &mut target,
-        );
+        let end = show_whole(rt.alloc(), &set, 6, &mut source, &mut target);
         expect(&rt, end == due && target.flushes == 3, "last flush", 3);
     }
     Ok(())

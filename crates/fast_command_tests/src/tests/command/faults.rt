@@ -1,6 +1,6 @@
 //! How a run ends: the status, and the line for standard error.
 
-use super::expect;
+use super::super::expect;
 use fast_command::{RunFault, ShowEnd, report};
 use fast_decoder::{Fault, FaultCode, MakeError};
 use fast_reading::faults::LineFault;

@@ -1,0 +1,35 @@
+//! What the command does, over readers and writers.
+
+mod check;
+mod devices;
+mod faults;
+mod show;
+mod sinks;
+mod texts;
+mod vectors;
+mod words;
+
+use super::LENIENT;
+use fast_command::{RunFault, ShowEnd, show_all};
+use fast_template::Templates;
+use fast_text::{Source, Target};
+use std::alloc::Global;
+
+/// Shows a stream, which is bytes, in at most so many reads, and flushes at the end.
+fn show_whole<S: Source, T: Target>(
+    alloc: Global,
+    set: &Templates,
+    max_reads: u32,
+    source: &mut S,
+    target: &mut T,
+) -> Result<ShowEnd, RunFault> {
+    show_all(
+        alloc,
+        set,
+        LENIENT,
+        false,
+        u64::from(max_reads),
+        source,
+        target,
+    )
+}
