@@ -114,20 +114,23 @@ impl Script<'_> {
     }
 
     fn write_event(&mut self, event: Event<'_>) {
-        match event {
-            Event::MessageStart { template } => self.write_number(b"m", template),
-            Event::Field { node, value } => self.write_field(node, value),
-            Event::GroupStart { node } => self.write_number(b"g", node),
-            Event::GroupEnd => self.write(b"/g"),
-            Event::SequenceStart { node, count } => {
-                self.write_number(b"s", node);
-                self.write_number(b"*", count);
-            }
-            Event::ElementStart => self.write(b"e"),
-            Event::ElementEnd => self.write(b"/e"),
-            Event::SequenceEnd => self.write(b"/s"),
-            Event::MessageEnd => self.write(b"/m"),
-        }
+        let word: &[u8] = match event {
+            Event::MessageStart { template } => return self.write_number(b"m", template),
+            Event::Field { node, value } => return self.write_field(node, value),
+            Event::GroupStart { node } => return self.write_number(b"g", node),
+            Event::SequenceStart { node, count } => return self.write_start(node, count),
+            Event::GroupEnd => b"/g",
+            Event::ElementStart => b"e",
+            Event::ElementEnd => b"/e",
+            Event::SequenceEnd => b"/s",
+            Event::MessageEnd => b"/m",
+        };
+        self.write(word);
+    }
+
+    fn write_start(&mut self, node: u32, count: u32) {
+        self.write_number(b"s", node);
+        self.write_number(b"*", count);
     }
 }
 

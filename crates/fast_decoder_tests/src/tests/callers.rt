@@ -70,19 +70,25 @@ fn stopped(alloc: Global, stream: &[u8]) -> Result<Stopped, Fail> {
     Ok(up_to_fault(alloc, &set, Limits::default(), stream)?)
 }
 
+/// Whether it is an identifier of no template at this place.
+fn is_unknown_at(fault: Option<Fault>, place: u64) -> bool {
+    match fault {
+        Some(fault) => fault.place == place && fault.code == FaultCode::Stream(Code::D9),
+        None => false,
+    }
+}
+
 #[test]
 fn a_stream_stops_at_its_fault(rt: HostRuntime) -> Result<(), Fail> {
-    let due = Stopped {
-        messages: 2,
-        bytes: 12,
-        fault: Some(Fault {
-            code: FaultCode::Stream(Code::D9),
-            place: 12,
-        }),
-        is_between: false,
-    };
     let found = stopped(rt.alloc(), WRONG)?;
-    expect(&rt, found == due, "a fault", 12);
+    let is_right = found.messages == 2 && found.bytes == 12 && !found.is_between;
+    expect(&rt, is_right, "a fault", 12);
+    expect(
+        &rt,
+        is_unknown_at(found.fault, 12),
+        "its code and place",
+        12,
+    );
     let cut = stopped(rt.alloc(), &TRADES[..9])?;
     let is_right = cut.fault.is_none() && !cut.is_between && cut.messages == 1;
     expect(&rt, is_right, "a cut", 9);

@@ -18,6 +18,11 @@ fn begun(rest: &[u8], optional: bool) -> Option<(usize, usize)> {
     }
 }
 
+/// Whether these bytes begin an ASCII text that goes on behind them.
+fn goes_on(rest: &[u8]) -> bool {
+    is_text_front(rest, ROOM)
+}
+
 #[test]
 fn vectors_that_go_on(rt: HostRuntime) {
     let of = "a vector that goes on";
@@ -40,12 +45,12 @@ fn vectors_that_go_on(rt: HostRuntime) {
 #[test]
 fn texts_that_go_on(rt: HostRuntime) {
     let of = "an ASCII text that goes on";
-    expect(&rt, is_text_front(&[0x41], ROOM), of, 0);
-    expect(&rt, is_text_front(&[0x41, 0x00, 0x7F], ROOM), of, 1);
-    expect(&rt, is_text_front(&[0x41; 16], ROOM), of, 2);
+    expect(&rt, goes_on(&[0x41]), of, 0);
+    expect(&rt, goes_on(&[0x41, 0x00, 0x7F]), of, 1);
+    expect(&rt, goes_on(&[0x41; 16]), of, 2);
     let of = "an ASCII text that does not, or may not be one";
-    expect(&rt, !is_text_front(&[], ROOM), of, 3);
-    expect(&rt, !is_text_front(&[0x00, 0x41], ROOM), of, 4);
-    expect(&rt, !is_text_front(&[0x41, 0xC2], ROOM), of, 5);
-    expect(&rt, !is_text_front(&[0x41; 17], ROOM), of, 6);
+    expect(&rt, !goes_on(&[]), of, 3);
+    expect(&rt, !goes_on(&[0x00, 0x41]), of, 4);
+    expect(&rt, !goes_on(&[0x41, 0xC2]), of, 5);
+    expect(&rt, !goes_on(&[0x41; 17]), of, 6);
 }
