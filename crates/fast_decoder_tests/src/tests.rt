@@ -101,16 +101,22 @@ impl Script<'_> {
 
     fn write_field(&mut self, node: u32, value: Scalar<'_>) {
         self.write_number(letter_of(value), node);
+        self.write_value(value);
+    }
+
+    fn write_value(&mut self, value: Scalar<'_>) {
         match value {
             Scalar::U(number) => self.write_number(b"=", number),
             Scalar::I(number) => self.write_number(b"=", number),
-            Scalar::Dec { exponent, mantissa } => {
-                self.write_number(b"=", mantissa);
-                self.write_number(b"e", exponent);
-            }
+            Scalar::Dec { exponent, mantissa } => self.write_decimal(exponent, mantissa),
             Scalar::Ascii(text) | Scalar::Unicode(text) => self.write_quoted(text),
             Scalar::Bytes(bytes) => self.write_bytes(bytes),
         }
+    }
+
+    fn write_decimal(&mut self, exponent: i32, mantissa: i64) {
+        self.write_number(b"=", mantissa);
+        self.write_number(b"e", exponent);
     }
 
     fn write_event(&mut self, event: Event<'_>) {
