@@ -1,11 +1,11 @@
-// What lines.c and tools/fuzz/lines.c share: the functions of crates/fast_bench_lines, over a row.
+// What lines.c and tools/fuzz/lines.c share: the functions of crates/fast_bench over lines, over a row.
 #include "rows.h"
 
 struct lines_answer {
     uint64_t status, place, len;
 };
 
-// crates/fast_bench_lines/src/lib.rt
+// crates/fast_bench/src/lib.rt
 void fast_bench_show(const uint8_t *templates, size_t templates_len, const uint8_t *stream, size_t stream_len, uint32_t strict,
                      uint32_t max_text, uint32_t max_elements, uint32_t max_total, uint8_t *out, size_t out_len,
                      struct lines_answer *answer);

@@ -1,7 +1,8 @@
 """The record in the repository of the controls that held: for each crate a checksum of all that these were judged by.
 
 A control is a function as it is, tried as its mutants are. It says nothing of a mutant: only that nothing of how mutants are tried leaves a
-goal open by itself. So one that held need not be tried again as long as nothing changes that it was judged by, on whatever machine.
+goal open by itself. So one that held need not be tried again as long as nothing changes that it was judged by, on whatever machine. The kit is no
+part of that: that a kit proves the function is what rt ci shows, and that it judges copies as it should, tools/mutants/selftest.
 """
 
 import functools
@@ -11,7 +12,10 @@ import os
 from kept import PARTS, add_files
 from sources import PROOF_FILES, without_bodies
 
-HEAD = "# Written by tools/mutants/run --record: of each crate, what the controls of its mutants were judged by when they held.\n"
+HEAD = (
+    "# Written by tools/mutants/run --record: of each crate, what the controls of its mutants were judged by when they held; and by\n"
+    "# tools/mutants/selftest --record: the tool and the kit by which all of its test held.\n"
+)
 # What a control depends on of this tool: not what is kept of earlier runs.
 TOOL = ("record.py", "run", "sources.py")
 
@@ -36,12 +40,12 @@ def write(tool, name, sum):
         it.write(HEAD + "".join(f"{name} {lines[name]}\n" for name in sorted(lines)))
 
 
-def sum_of(kit, crate, rows, tool, tried):
-    """Returns a checksum of all that the controls of a crate are judged by: this tool, the kit by what it says that it is, the crate, what
-    others can see of the crates below it, and which functions are tried, and how."""
+def sum_of(crate, rows, tool, tried):
+    """Returns a checksum of all that the controls of a crate are judged by: this tool, the crate, what others can see of the crates below it,
+    and which functions are tried, and how."""
     sum = hashlib.sha256()
-    for file in (f"{kit}/KIT-ID", *(f"{tool}/{name}" for name in TOOL)):
-        with open(file, "rb") as it:
+    for name in TOOL:
+        with open(f"{tool}/{name}", "rb") as it:
             sum.update(hashlib.sha256(it.read()).digest())
     sum.update(repr([(name, rows[name]) for name in [*crate.below, crate.name]]).encode())
     for part in PARTS:

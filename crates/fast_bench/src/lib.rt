@@ -1,7 +1,9 @@
-//! Runs of the decoder and the encoder over streams in memory, for callers from C that measure or test them.
+//! Runs of the decoder and the encoder over streams in memory, and of what shows streams as lines and turns these back, for callers from C
+//! that measure or test them.
 #![tactic(auto)]
 
 use fast_measure::{cut_everywhere, decode, encode, stop_and_decode, three_ways};
+use fast_measure_lines::{convert, read, show};
 use fast_value::Limits;
 use std::alloc::Global;
 
@@ -142,4 +144,55 @@ pub extern "C" fn fast_bench_encode_patiently(
 ) {
     let limits = limits_of(0, max_text, max_elements, max_total);
     encode(alloc, templates, limits, stream, None).write_to(out);
+}
+
+/// Shows a stream, and writes the lines to `out`, as far as there is room.
+///
+/// Three numbers are written to `answer`, each as eight bytes, the least first: the status, its place, and the number of bytes written. The
+/// status is 0 between two messages, 1 inside of one, 2 at a fault; 256 where no set was read; 300 where reading failed, 301 where
+/// writing did, 304 where the limits are refused; 518 where there was no memory.
+#[unsafe(no_mangle)]
+pub extern "C" fn fast_bench_show(
+    alloc: Global,
+    templates: &[u8],
+    stream: &[u8],
+    strict: u32,
+    max_text: u32,
+    max_elements: u32,
+    max_total: u32,
+    out: &mut [u8],
+    answer: &mut [u8; 24],
+) {
+    let limits = limits_of(strict, max_text, max_elements, max_total);
+    show(alloc, templates, limits, stream, out).write_to(answer);
+}
+
+/// Turns lines into their stream, and writes it to `out`, as far as there is room.
+///
+/// The answer is that of `fast_bench_show`; from 401 a line is at fault, by the number of its kind, and from 513 a message is refused: E1,
+/// E2, E3, E4, R9.
+#[unsafe(no_mangle)]
+pub extern "C" fn fast_bench_convert(
+    alloc: Global,
+    templates: &[u8],
+    lines: &[u8],
+    max_text: u32,
+    max_elements: u32,
+    max_total: u32,
+    out: &mut [u8],
+    answer: &mut [u8; 24],
+) {
+    let limits = limits_of(0, max_text, max_elements, max_total);
+    convert(alloc, templates, limits, lines, out).write_to(answer);
+}
+
+/// Reads lines. The answer is that of `fast_bench_convert`, with the number of messages in place of that of bytes.
+#[unsafe(no_mangle)]
+pub extern "C" fn fast_bench_read_lines(
+    alloc: Global,
+    templates: &[u8],
+    lines: &[u8],
+    answer: &mut [u8; 24],
+) {
+    read(alloc, templates, lines).write_to(answer);
 }

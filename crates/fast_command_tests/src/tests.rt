@@ -5,9 +5,6 @@
 
 mod command;
 mod convert;
-mod explain;
-mod reading;
-mod text;
 
 use fast_command::{RunFault, ShowEnd, built_in, run_show};
 use fast_template::Templates;

@@ -18,8 +18,9 @@ use crate::frames::{Elements, Frame};
 use crate::map_place::{MapPlace, NO_MAP, SPENT};
 use crate::pending::{MapFront, next_map};
 use crate::place::Place;
+use fast_fronts::ShortEntity;
 use fast_program::{Code, Op};
-use fast_wire::{MAP_LIMIT, ShortEntity};
+use fast_wire::MAP_LIMIT;
 use std::alloc::{AllocError, Global};
 use std::marker::Model;
 

@@ -6,7 +6,7 @@ ghost use Rattle.fast_wire.specs.meaning.Maps.{map_limit, bits, first_bit};
 ghost use Rattle.fast_cursor.specs.device.MapPlaces.{HasTop, left_in, used_at, IsPlace};
 ghost use Rattle.fast_cursor.specs.device.Segments.{map_at};
 
-use fast_wire::ShortEntity;
+use fast_fronts::ShortEntity;
 
 /// How many bytes of a segment's map have come, and which bit is the next one. No byte of it is unused, so that it is
 /// copied in two words.

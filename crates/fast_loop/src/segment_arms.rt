@@ -23,6 +23,7 @@ ghost use Rattle.fast_loop.specs.declared.spot.Spot.{Spot};
 
 use crate::spot::{Spot, Went};
 use crate::start_arms::message_arm;
+use fast_fronts::{short_entity, whole_unsigned};
 use fast_machine::heads::{is_overlong, is_too_wide};
 use fast_machine::machine::{Machine, Waiting};
 use fast_machine::sequence_turns::count_within;
@@ -32,7 +33,6 @@ use fast_program::Op;
 use fast_stream::{Event, FaultCode, Sink};
 use fast_template::{Shape, Templates};
 use fast_value::Limits;
-use fast_wire::{short_entity, whole_unsigned};
 
 /// Behind the event at which a segment begins, or none does: takes the segment's map, if it has one and that is one
 /// for the quick way. Without a map the answer is the one given.

@@ -18,13 +18,13 @@ use crate::machine::{Machine, Turn, Waiting};
 use crate::quick_units::UnitTaken;
 use crate::turns::Turns;
 use fast_dict::Slots;
+use fast_fronts::{ShortEntity, short_entity};
 use fast_stream::Sink;
 use fast_template::{FieldInstruction, Operator, Shape, Templates};
 use fast_units::fields::{Number, source_of};
 use fast_units::progress::Progress;
 use fast_units::short_integers::{delta_item, signed_item};
 use fast_value::{Kind, Limits};
-use fast_wire::{ShortEntity, short_entity};
 
 /// A mandatory mantissa that stands in the stream without an operator or under delta.
 #[inline(always)]

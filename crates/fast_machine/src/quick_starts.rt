@@ -17,11 +17,11 @@ use crate::machine::{Machine, Turn, Waiting};
 use crate::quick_units::UnitTaken;
 use crate::turns::Turns;
 use fast_dict::Entry;
+use fast_fronts::whole_unsigned;
 use fast_program::Start;
 use fast_stream::Sink;
 use fast_template::Templates;
 use fast_value::Limits;
-use fast_wire::whole_unsigned;
 
 impl<'t> Machine<'t> {
     /// Takes the presence map of a group or an element, if it is one byte: of one byte none is too many. It hands nothing over; set,

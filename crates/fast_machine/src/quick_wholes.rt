@@ -19,6 +19,7 @@ ghost use Rattle.fast_machine.specs.device.TurnsLeft.{Way, HasTurns, HasTurnsBeh
 use crate::machine::{Machine, Turn, Waiting};
 use crate::quick_units::UnitTaken;
 use fast_dict::Slots;
+use fast_fronts::{ShortEntity, short_entity};
 use fast_stream::Sink;
 use fast_template::{FieldInstruction, Operator, Shape, Templates};
 use fast_units::fields::{Number, source_of};
@@ -26,7 +27,6 @@ use fast_units::progress::Progress;
 use fast_units::short_decimals::delta_decimal;
 use fast_units::short_integers::{delta_item, signed_item, unsigned_item};
 use fast_value::{Kind, Limits};
-use fast_wire::{ShortEntity, short_entity};
 
 /// What an integer field comes to that stands in the stream as this entity.
 #[inline(always)]

@@ -1,9 +1,9 @@
 -- Fields of integers as items: what is sent, what a delta gives, and what is left where nothing is sent.
 use Rattle.std.proofs.Common.{refl, sym, ap, ◌∙◌, subst}
 use Rattle.std.specs.Prelude.{◌≡◌, ◌≢◌, ℕ, Bool, true, false, List, ℤ, Option, Some, None, IfSome, option_map, Ok}
-use Rattle.fast_wire.specs.device.Fronts.{IsFirstInt}
+use Rattle.fast_fronts.specs.device.Fronts.{IsFirstInt}
 use Rattle.fast_wire.specs.meaning.Integers.{delta_range}
-use Rattle.fast_wire.specs.declared.fronts.First.TheVariants as First
+use Rattle.fast_fronts.specs.declared.fronts.First.TheVariants as First
 use Rattle.fast_value.specs.declared.codes.Code.TheVariants.{D6}
 use Rattle.fast_value.specs.declared.kinds.Kind.{Kind}
 use Rattle.fast_value.specs.meaning.Kinds.{ScalarData, family, integers, integer_of, value_of_integer}

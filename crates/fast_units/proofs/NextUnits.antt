@@ -5,8 +5,9 @@ use Rattle.std.proofs.lemmas.Bool.Decides.{nat_tests}
 use Rattle.std.proofs.lemmas.Int.{ints}
 use Rattle.fast_wire.specs.meaning.Entities.{IsEntity, IsOverlong, number}
 use Rattle.fast_wire.specs.meaning.Integers.{Range, IsInteger, unsigned_up_to, value}
-use Rattle.fast_wire.specs.device.Fronts.{IsFirstInt, IsWrongInt}
-use Rattle.fast_wire.specs.declared.fronts.First.TheVariants as First
+use Rattle.fast_wire.specs.device.Faulty.{IsWrongInt}
+use Rattle.fast_fronts.specs.device.Fronts.{IsFirstInt}
+use Rattle.fast_fronts.specs.declared.fronts.First.TheVariants as First
 use Rattle.fast_wire.specs.declared.reads.WireFault.{WireFault}
 use Rattle.fast_wire.specs.declared.reads.WireFault.TheVariants as Wire
 use Rattle.fast_value.specs.declared.codes.Code.{Code}

@@ -4,8 +4,8 @@ use Rattle.std.specs.Prelude.{◌≡◌, ◌≢◌, ◌⊎◌, ℕ, ◌+◌, ◌
 use Rattle.std.proofs.Math.Seq.{take-add}
 use Rattle.std.proofs.lemmas.Bool.Decides.{leb_tells}
 use Rattle.std.proofs.lemmas.List.{length-take-le, length-drop, drop-take}
-use Rattle.fast_wire.specs.device.Fronts.{IsFirstInt}
-use Rattle.fast_wire.specs.declared.fronts.First.TheVariants as First
+use Rattle.fast_fronts.specs.device.Fronts.{IsFirstInt}
+use Rattle.fast_fronts.specs.declared.fronts.First.TheVariants as First
 use Rattle.fast_wire.specs.meaning.Integers.{unsigned_range}
 use Rattle.fast_value.specs.declared.codes.Code.{Code}
 use Rattle.fast_value.specs.declared.codes.Code.TheVariants.{D2, L1}

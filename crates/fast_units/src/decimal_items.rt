@@ -7,9 +7,9 @@
 //! `None` stands for all else, faults included: nothing has changed then, and the general way finds out.
 
 ghost use Rattle.std.specs.Prelude.{◌≡◌, ◌<◌, ◌+ℤ◌, ◌≤ℤ◌, Bool, false, [], ℤ, pos, neg_ℤ, Some, Ok, IfSome, IfNone, length};
-ghost use Rattle.fast_wire.specs.device.Fronts.{IsFirstInt};
+ghost use Rattle.fast_fronts.specs.device.Fronts.{IsFirstInt};
 ghost use Rattle.fast_wire.specs.meaning.Integers.{signed_range, delta_range, exponent_range};
-ghost use Rattle.fast_wire.specs.declared.fronts.First.TheVariants.{Whole};
+ghost use Rattle.fast_fronts.specs.declared.fronts.First.TheVariants.{Whole};
 ghost use Rattle.fast_value.specs.meaning.Kinds.{Dec};
 ghost use Rattle.fast_dict.specs.meaning.Dictionary.{assigned, previous_at};
 ghost use Rattle.fast_dict.specs.meaning.Operators.{ranged};
@@ -26,9 +26,9 @@ use crate::integer_items::keep_at;
 use crate::progress::Progress;
 use crate::taken::TakenItem;
 use fast_dict::{Entry, Slots, Store};
+use fast_fronts::{one_byte_delta, whole_delta, whole_signed};
 use fast_tree::Operator;
 use fast_value::{Code, Kind};
-use fast_wire::{one_byte_delta, whole_delta, whole_signed};
 
 /// An exponent in range.
 #[inline(always)]

@@ -17,9 +17,9 @@ ghost use Rattle.fast_units.specs.device.IntegerItems.{KeepsItem, IsBehindDelta}
 use crate::fields::{Number, number_under};
 use crate::taken::TakenItem;
 use fast_dict::{Slots, Store};
+use fast_fronts::{whole_delta, whole_signed, whole_unsigned};
 use fast_tree::Operator;
 use fast_value::{Code, Kind};
-use fast_wire::{whole_delta, whole_signed, whole_unsigned};
 
 /// Keeps a number at the entry, under the kind.
 #[inline(always)]

@@ -5,8 +5,8 @@
 
 ghost use Rattle.std.specs.Prelude.{◌≡◌, ◌≢◌, ◌+◌, ◌<◌, ◌≤◌, [], ℕ, ℤ, List, length, take, drop, slice_index, option_map, pos, true, false, Some, IfSome, IfNone};
 ghost use Rattle.fast_wire.specs.meaning.Integers.{signed_range, unsigned_range};
-ghost use Rattle.fast_wire.specs.device.Fronts.{IsFirstInt};
-ghost use Rattle.fast_wire.specs.declared.fronts.First.TheVariants.{Whole};
+ghost use Rattle.fast_fronts.specs.device.Fronts.{IsFirstInt};
+ghost use Rattle.fast_fronts.specs.declared.fronts.First.TheVariants.{Whole};
 ghost use Rattle.fast_value.specs.meaning.Kinds.{family, texts};
 ghost use Rattle.fast_dict.specs.meaning.Slots.{slots_dictionary, slots_terms};
 ghost use Rattle.fast_units.specs.device.NextUnits.{BeginsWithCharacter, IsNextText};
@@ -20,9 +20,10 @@ use crate::source::ValueSource;
 use crate::taken::TakenText;
 use crate::vector_items::{whole_run, whole_size};
 use fast_dict::Slots;
+use fast_fronts::whole_signed;
 use fast_tree::Operator;
 use fast_value::{Kind, Limits};
-use fast_wire::{find_stop, whole_signed};
+use fast_wire::find_stop;
 
 /// A subtraction length, or NULL where it may be, and the bytes that it takes.
 #[inline(always)]

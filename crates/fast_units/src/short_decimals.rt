@@ -24,9 +24,9 @@ use fast_dict::Slots;
 use fast_dict::operators::decimals::{exponent_delta, mantissa_of};
 use fast_dict::operators::delta_base;
 use fast_dict::operators::integers::{range_of, sum_in};
+use fast_fronts::{ShortEntity, short_entity};
 use fast_tree::{FieldInstruction, Operator};
 use fast_value::{Code, Kind};
-use fast_wire::{ShortEntity, short_entity};
 
 /// A decimal that was taken.
 #[derive(Clone, Copy)]

@@ -4,10 +4,10 @@
 //! `None` stands for all else, faults included: nothing has changed then, and the general way finds out.
 
 ghost use Rattle.std.specs.Prelude.{◌≡◌, ◌≢◌, ◌<◌, true, ℕ, List, [], ℤ, pos, Option, Some, Ok, IfSome, IfNone};
-ghost use Rattle.fast_wire.specs.device.Fronts.{IsFirstInt};
+ghost use Rattle.fast_fronts.specs.device.Fronts.{IsFirstInt};
 ghost use Rattle.fast_wire.specs.meaning.Integers.{unsigned_up_to, signed_between, delta_range};
 ghost use Rattle.fast_wire.specs.device.Words.{IsShortEntity};
-ghost use Rattle.fast_wire.specs.declared.fronts.First.TheVariants.{Whole};
+ghost use Rattle.fast_fronts.specs.declared.fronts.First.TheVariants.{Whole};
 ghost use Rattle.fast_value.specs.meaning.Kinds.{U, I, family, integers, value_of_integer};
 ghost use Rattle.fast_value.specs.meaning.Limits.{Bounds};
 ghost use Rattle.fast_tree.specs.device.Nodes.{field_data};
@@ -22,11 +22,11 @@ use crate::fields::{Number, assign_empty, number_under};
 use crate::progress::Progress;
 use fast_dict::Slots;
 use fast_dict::operators::integers::{integer_of, range_of, sum_in};
-use fast_tree::{FieldInstruction, Operator};
-use fast_value::{Code, Kind};
-use fast_wire::{
+use fast_fronts::{
     ShortEntity, quick_nullable_signed, quick_nullable_unsigned, quick_signed, quick_unsigned,
 };
+use fast_tree::{FieldInstruction, Operator};
+use fast_value::{Code, Kind};
 
 /// The least delta that an entity of ten bytes holds.
 const LEAST_DELTA: i128 = -590_295_810_358_705_651_712;

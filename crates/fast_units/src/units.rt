@@ -4,7 +4,8 @@
 ghost use Rattle.std.specs.Prelude.{◌≡◌, ℕ, ◌<◌, ◌≤◌, Bool, true, false, [], ◌∷◌, ◌++◌, length, ℤ, Option, Some, pos, option_map, IfSome, IfNone};
 ghost use Rattle.fast_wire.specs.meaning.Entities.{HaveNoStop};
 ghost use Rattle.fast_wire.specs.meaning.Integers.{Range, unsigned_up_to};
-ghost use Rattle.fast_wire.specs.device.Fronts.{IsFirstInt, IsWrongInt};
+ghost use Rattle.fast_wire.specs.device.Faulty.{IsWrongInt};
+ghost use Rattle.fast_fronts.specs.device.Fronts.{IsFirstInt};
 ghost use Rattle.fast_stream.specs.meaning.Phrases.{cut};
 ghost use Rattle.fast_stream.specs.meaning.Units.{WrongInt, BeginsWithZero, ascii_text as ascii_phrase};
 ghost use Rattle.fast_stream.specs.meaning.Grammar.{give, integer, ascii_text, raw};
@@ -16,11 +17,11 @@ ghost use Rattle.fast_units.specs.device.Words.{IsKeptCut};
 use crate::pending::Pending;
 use crate::progress::Progress;
 use crate::scratch::Scratch;
-use fast_value::Code;
-use fast_wire::{
-    First, WireFault, find_stop, first_nullable_signed, first_nullable_unsigned, first_signed,
-    first_unsigned,
+use fast_fronts::{
+    First, first_nullable_signed, first_nullable_unsigned, first_signed, first_unsigned,
 };
+use fast_value::Code;
+use fast_wire::{WireFault, find_stop};
 
 /// The integers that an entity may stand for, and whether it is read in two's complement.
 #[derive(Clone, Copy)]

@@ -4,8 +4,8 @@
 
 ghost use Rattle.std.specs.Prelude.{◌≡◌, ◌≢◌, ◌<◌, ◌≤◌, ℕ, length, take, true, false, Some, Ok, option_map, pos, IfSome, IfNone};
 ghost use Rattle.fast_wire.specs.meaning.Integers.{unsigned_range};
-ghost use Rattle.fast_wire.specs.device.Fronts.{IsFirstInt};
-ghost use Rattle.fast_wire.specs.declared.fronts.First.TheVariants.{Whole};
+ghost use Rattle.fast_fronts.specs.device.Fronts.{IsFirstInt};
+ghost use Rattle.fast_fronts.specs.declared.fronts.First.TheVariants.{Whole};
 ghost use Rattle.fast_value.specs.meaning.Kinds.{family, texts, value_of_text};
 ghost use Rattle.fast_tree.specs.meaning.Entries.{keeps_value};
 ghost use Rattle.fast_dict.specs.meaning.Operators.{checked_text};
@@ -19,9 +19,9 @@ use crate::taken::TakenText;
 use crate::texts::TOP_SIZE;
 use fast_dict::operators::is_utf8;
 use fast_dict::{Slots, Store};
+use fast_fronts::whole_unsigned;
 use fast_tree::Operator;
 use fast_value::{Kind, Limits};
-use fast_wire::whole_unsigned;
 
 /// The size of a vector, or NULL where it may be, and the bytes that it takes.
 #[inline(always)]

@@ -1,7 +1,3 @@
 -- Where an entity ends.
 pub mod Blocks
-pub mod Stopping
 pub mod FirstStop
-pub mod FrontWords
-pub mod ShortEntities
-pub mod Endless

@@ -92,7 +92,7 @@ pub fn read_nullable_signed(
 
 /// What an entity that stands for `n` is as a mandatory unsigned integer.
 #[inline]
-pub(crate) fn judge_unsigned(w: &[u8], n: u128, strict: bool, top: u64) -> Result<u64, WireFault>
+pub fn judge_unsigned(w: &[u8], n: u128, strict: bool, top: u64) -> Result<u64, WireFault>
     requires entity { IsEntity w.now }
     requires short { length w.now ≤ 10 }
     requires number { n ≡ number w.now }
@@ -111,7 +111,7 @@ pub(crate) fn judge_unsigned(w: &[u8], n: u128, strict: bool, top: u64) -> Resul
 
 /// What an entity is as a nullable unsigned integer, where `x` is what it means.
 #[inline(always)]
-pub(crate) fn judge_nullable_unsigned(
+pub fn judge_nullable_unsigned(
     w: &[u8],
     x: Option<u128>,
     strict: bool,
@@ -138,7 +138,7 @@ pub(crate) fn judge_nullable_unsigned(
 
 /// What an entity that stands for `n` is as a mandatory signed integer.
 #[inline(always)]
-pub(crate) fn judge_signed(
+pub fn judge_signed(
     w: &[u8],
     n: i128,
     strict: bool,
@@ -165,7 +165,7 @@ pub(crate) fn judge_signed(
 
 /// What an entity is as a nullable signed integer, where `x` is what it means.
 #[inline(always)]
-pub(crate) fn judge_nullable_signed(
+pub fn judge_nullable_signed(
     w: &[u8],
     x: Option<i128>,
     strict: bool,

@@ -4,7 +4,7 @@ ghost use Rattle.std.specs.Prelude.{◌≡◌, false, IfOk};
 ghost use Rattle.clap.specs.Walk.{rule_of};
 ghost use Rattle.clap.specs.Simple.{app_of};
 ghost use Rattle.clap.specs.declared.builder.command.Command.TheViews.{out-Command};
-ghost use Rattle.fast_words.specs.meaning.Commands.{number_rule, flag_rule, templates_rule, input_rule, with_limits, with_options, check_app, show_app, convert_app, fastcat_app, MakesApp};
+ghost use Rattle.fast_words.specs.meaning.Commands.{number_rule, flag_rule, templates_rule, input_rule, with_limits, with_options, with_input, check_app, show_app, convert_app, fastcat_app, MakesApp};
 
 use clap::{Arg, ArgAction, Command, value_parser};
 use std::alloc::{AllocError, Global};
@@ -89,6 +89,22 @@ fn with_options<'a>(alloc: Global, command: Command<'a>) -> Result<Command<'a>, 
     with_limits(alloc, command)?.arg(flag_arg(alloc, "explain", explain))
 }
 
+/// A command with the arguments for the templates, for the input and for hexadecimal digits.
+fn with_input<'a>(
+    alloc: Global,
+    command: Command<'a>,
+    input: &'a str,
+    hex: &'a str,
+) -> Result<Command<'a>, AllocError>
+    requires { (out-Command command).has_globals ≡ false }
+    ensures { IfOk result (MakesApp (with_input (app_of command.entry))) }
+{
+    command
+        .arg(templates_arg(alloc))?
+        .arg(input_arg(alloc, input))?
+        .arg(flag_arg(alloc, "hex", hex))
+}
+
 /// The subcommand that checks a template text.
 fn check_command<'a>(alloc: Global) -> Result<Command<'a>, AllocError>
     ensures { IfOk result (MakesApp check_app) }
@@ -109,11 +125,8 @@ fn show_command<'a>(alloc: Global) -> Result<Command<'a>, AllocError>
     let strict = "Refuses an integer or a presence map that is longer than it needs to be";
     let command = Command::new(alloc, "show")
         .about("Shows the messages of a FAST stream, a line for each event")
-        .after_help("Example: fastcat show --hex @vectors stream.txt")
-        .arg(templates_arg(alloc))?
-        .arg(input_arg(alloc, input))?
-        .arg(flag_arg(alloc, "hex", hex))?
-        .arg(flag_arg(alloc, "strict", strict))?;
+        .after_help("Example: fastcat show --hex @vectors stream.txt");
+    let command = with_input(alloc, command, input, hex)?.arg(flag_arg(alloc, "strict", strict))?;
     with_options(alloc, command)
 }
 
@@ -125,10 +138,8 @@ fn convert_command<'a>(alloc: Global) -> Result<Command<'a>, AllocError>
     let hex = "Writes hexadecimal digits, a line for each message, and not bytes";
     let command = Command::new(alloc, "convert")
         .about("Turns lines, as show writes them, into a FAST stream")
-        .after_help("Example: fastcat convert --hex @vectors lines.txt")
-        .arg(templates_arg(alloc))?
-        .arg(input_arg(alloc, input))?
-        .arg(flag_arg(alloc, "hex", hex))?;
+        .after_help("Example: fastcat convert --hex @vectors lines.txt");
+    let command = with_input(alloc, command, input, hex)?;
     with_options(alloc, command)
 }
 

@@ -4,8 +4,8 @@ use Rattle.std.proofs.Math.Seq.{take-add}
 use Rattle.std.specs.Prelude.{◌≡◌, ◌≢◌, ℕ, ◌+◌, ◌/◌, ◌%◌, ◌^◌, ◌<◌, ◌≤◌, Bool, true, false, nat_eq, pos, List, [], ◌∷◌, ◌++◌, length, take, drop, slice_get, Some, Ok}
 use Rattle.fast_wire.specs.meaning.Maps.{map_limit, bits, first_bit}
 use Rattle.fast_wire.specs.meaning.Integers.{unsigned_up_to}
-use Rattle.fast_wire.specs.device.Fronts.{IsFirstInt}
-use Rattle.fast_wire.specs.declared.fronts.First.TheVariants as First
+use Rattle.fast_fronts.specs.device.Fronts.{IsFirstInt}
+use Rattle.fast_fronts.specs.declared.fronts.First.TheVariants as First
 use Rattle.fast_value.specs.meaning.Kinds.{U}
 use Rattle.fast_value.specs.meaning.Limits.{Bounds, bounds}
 use Rattle.fast_value.specs.declared.settings.Limits.{Limits}

@@ -5,12 +5,14 @@ ghost use Rattle.fast_wire.specs.meaning.Entities.{IsEntity};
 
 use WireFault::{D2, R6};
 use arrayvec::ArrayVec;
+use fast_fronts::{
+    First, first_nullable_signed, first_nullable_unsigned, first_signed, first_unsigned,
+    quick_nullable_signed, quick_nullable_unsigned, quick_signed, quick_unsigned, short_entity,
+};
 use fast_wire::{
-    Entity, First, MAP_LIMIT, MapBuilder, MapStep, Step, WireFault, find_stop,
-    first_nullable_signed, first_nullable_unsigned, first_signed, first_unsigned, map_bit,
-    map_overlong, map_push, quick_nullable_signed, quick_nullable_unsigned, quick_signed,
-    quick_unsigned, read_nullable_signed, read_nullable_unsigned, read_signed, read_unsigned,
-    short_entity, write_nullable_signed, write_nullable_unsigned, write_signed, write_unsigned,
+    Entity, MAP_LIMIT, MapBuilder, MapStep, Step, WireFault, find_stop, map_bit, map_overlong,
+    map_push, read_nullable_signed, read_nullable_unsigned, read_signed, read_unsigned,
+    write_nullable_signed, write_nullable_unsigned, write_signed, write_unsigned,
 };
 use std::process::Abort;
 

@@ -3,7 +3,7 @@ use Rattle.std.specs.Prelude.{◌≡◌, ◌≢◌, ℕ, ◌<◌, ◌≤◌, Boo
 use Rattle.fast_wire.specs.meaning.Entities.{HaveNoStop, IsEntity, IsOverlong}
 use Rattle.fast_wire.specs.meaning.Integers.{Range, unsigned_up_to, signed_between, value, SpellsInt, IsOutside}
 use Rattle.fast_wire.specs.meaning.Texts.{SpellsAscii}
-use Rattle.fast_wire.specs.declared.fronts.First.{First}
+use Rattle.fast_fronts.specs.declared.fronts.First.{First}
 use Rattle.fast_wire.specs.declared.reads.WireFault.{WireFault}
 use Rattle.fast_wire.specs.declared.reads.WireFault.TheVariants as Wire
 use Rattle.fast_value.specs.declared.codes.Code.{Code}

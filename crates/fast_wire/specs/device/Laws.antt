@@ -3,7 +3,7 @@ use Rattle.std.specs.Prelude.{◌≡◌, ℕ, ◌≤◌, ◌<◌, Bool, true, fa
 use Rattle.fast_wire.specs.meaning.Entities.{HaveNoStop, IsEntity}
 use Rattle.fast_wire.specs.meaning.Integers.{Range, IsWithin, SpellsInt}
 use Rattle.fast_wire.specs.device.Shortest.{IsShortest}
-use Rattle.fast_wire.specs.device.Fronts.{IsWrongInt}
+use Rattle.fast_wire.specs.device.Faulty.{IsWrongInt}
 use Rattle.fast_wire.specs.meaning.Maps.{bits, IsMap, bytes_for}
 use Rattle.fast_wire.specs.declared.reads.WireFault.{WireFault}
 

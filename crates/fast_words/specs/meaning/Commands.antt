@@ -30,17 +30,21 @@ with_limits a = with_rule (with_rule (with_rule a (number_rule (codes "max-text"
 abbrev pub with_options : App → App
 with_options a = with_rule (with_limits a) (flag_rule (codes "explain"))
 
+-- T, F and the flag of hexadecimal digits
+abbrev pub with_input : App → App
+with_input a = with_rule (with_rule (with_rule a templates_rule) input_rule) (flag_rule (codes "hex"))
+
 -- `fastcat check T`
 abbrev pub check_app : App
 check_app = with_options (with_rule (new_app (codes "check")) templates_rule)
 
 -- `fastcat show T [F]`
 abbrev pub show_app : App
-show_app = with_options (with_rule (with_rule (with_rule (with_rule (new_app (codes "show")) templates_rule) input_rule) (flag_rule (codes "hex"))) (flag_rule (codes "strict")))
+show_app = with_options (with_rule (with_input (new_app (codes "show"))) (flag_rule (codes "strict")))
 
 -- `fastcat convert T [F]`
 abbrev pub convert_app : App
-convert_app = with_options (with_rule (with_rule (with_rule (new_app (codes "convert")) templates_rule) input_rule) (flag_rule (codes "hex")))
+convert_app = with_options (with_input (new_app (codes "convert")))
 
 -- one of the three has to be named, or the version asked for
 abbrev pub fastcat_app : App

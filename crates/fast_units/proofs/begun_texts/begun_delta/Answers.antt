@@ -2,8 +2,8 @@
 use Rattle.std.proofs.Common.{◌≡◌, ◌-◌, ◌<◌, ◌≤◌, subst, arith, [], drop, length, List, ℕ}
 use Rattle.std.specs.Prelude.{false, Some, option_map, pos}
 use Rattle.std.proofs.lemmas.List.{take_rest, length-drop}
-use Rattle.fast_wire.specs.device.Fronts.{IsFirstInt}
-use Rattle.fast_wire.specs.declared.fronts.First.TheVariants as First
+use Rattle.fast_fronts.specs.device.Fronts.{IsFirstInt}
+use Rattle.fast_fronts.specs.declared.fronts.First.TheVariants as First
 use Rattle.fast_wire.specs.meaning.Integers.{unsigned_range, signed_range}
 use Rattle.fast_dict.specs.meaning.Operators.{kept_length}
 use Rattle.fast_dict.specs.meaning.Slots.{slots_dictionary}

@@ -1,8 +1,8 @@
 -- The bytes stand behind their size, and more are to come.
 use Rattle.std.proofs.Common.{◌∙◌, sym, ap, subst}
 use Rattle.std.specs.Prelude.{Bool, Some, option_map, pos}
-use Rattle.fast_wire.specs.device.Fronts.{IsFirstInt}
-use Rattle.fast_wire.specs.declared.fronts.First.TheVariants as First
+use Rattle.fast_fronts.specs.device.Fronts.{IsFirstInt}
+use Rattle.fast_fronts.specs.declared.fronts.First.TheVariants as First
 use Rattle.fast_wire.specs.meaning.Integers.{unsigned_range}
 use Rattle.fast_value.specs.meaning.Kinds.{family}
 use Rattle.fast_dict.specs.meaning.Slots.{slots_dictionary}

@@ -1,9 +1,9 @@
 -- A delta that lies in the range of exponents.
 use Rattle.std.proofs.Common.{◌≡◌, sym, ap, ◌∙◌, subst, rules, to_z, of_z, FitsSigned, ℤ, Option, Some, None}
 use Rattle.std.specs.Int.{w32}
-use Rattle.fast_wire.specs.device.Fronts.{IsFirstInt}
+use Rattle.fast_fronts.specs.device.Fronts.{IsFirstInt}
 use Rattle.fast_wire.specs.meaning.Integers.{IsWithin, exponent_range, delta_range}
-use Rattle.fast_wire.specs.declared.fronts.First.TheVariants.{Whole}
+use Rattle.fast_fronts.specs.declared.fronts.First.TheVariants.{Whole}
 use Rattle.fast_units.proofs.LastUnits.{again}
 use Rattle.fast_units.proofs.DecimalItems.{first_exponent}
 use Rattle.fast_units.proofs.decimal_items.short_exponent.Goals as goal

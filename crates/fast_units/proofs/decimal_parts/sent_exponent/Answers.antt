@@ -1,9 +1,9 @@
 -- As it stands.
 use Rattle.std.proofs.Common.{refl, Option, ℤ}
 use Rattle.std.specs.Prelude.{Bool, true, IfSome, Some, None}
-use Rattle.fast_wire.specs.device.Fronts.{IsFirstInt}
+use Rattle.fast_fronts.specs.device.Fronts.{IsFirstInt}
 use Rattle.fast_wire.specs.meaning.Integers.{IsWithin, exponent_range}
-use Rattle.fast_wire.specs.declared.fronts.First.TheVariants as First
+use Rattle.fast_fronts.specs.declared.fronts.First.TheVariants as First
 use Rattle.fast_value.specs.declared.kinds.Kind.TheVariants.{Int32}
 use Rattle.fast_units.specs.device.DecimalParts.{IsPartBy}
 use Rattle.fast_units.proofs.DecimalParts.{part_whole, exponent_first, exponent_sent}

@@ -2,9 +2,9 @@
 use Rattle.std.proofs.Common.{refl, sym, ap, ◌∙◌, subst, rules, to_z, of_z, FitsSigned, Option, ℤ}
 use Rattle.std.specs.Int.{w64}
 use Rattle.std.specs.Prelude.{◌≡◌, ◌+ℤ◌, false, Bool, Some}
-use Rattle.fast_wire.specs.device.Fronts.{IsFirstInt}
+use Rattle.fast_fronts.specs.device.Fronts.{IsFirstInt}
 use Rattle.fast_wire.specs.meaning.Integers.{IsWithin, signed_range}
-use Rattle.fast_wire.specs.declared.fronts.First.TheVariants as First
+use Rattle.fast_fronts.specs.declared.fronts.First.TheVariants as First
 use Rattle.fast_value.specs.declared.kinds.Kind.TheVariants.{Int64}
 use Rattle.fast_units.specs.device.DecimalParts.{part_item}
 use Rattle.fast_units.specs.device.IntegerItems.{item_held}

@@ -1,9 +1,9 @@
 -- One that is sent, or what it is without a byte.
 use Rattle.std.proofs.Common.{refl, sym, subst}
 use Rattle.std.specs.Prelude.{true, false, Bool}
-use Rattle.fast_wire.specs.device.Fronts.{IsFirstInt}
+use Rattle.fast_fronts.specs.device.Fronts.{IsFirstInt}
 use Rattle.fast_wire.specs.meaning.Integers.{exponent_range}
-use Rattle.fast_wire.specs.declared.fronts.First.TheVariants.{Whole}
+use Rattle.fast_fronts.specs.declared.fronts.First.TheVariants.{Whole}
 use Rattle.fast_value.specs.declared.kinds.Kind.TheVariants.{Int32}
 use Rattle.fast_units.specs.device.DecimalParts.{IsPartBy, IsPartKnown}
 use Rattle.fast_units.proofs.DecimalParts.{part_whole, exponent_first, exponent_sent, usual_sent, usual_no_delta, usual_no_constant}

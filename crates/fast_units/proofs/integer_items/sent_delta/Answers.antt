@@ -1,8 +1,8 @@
 use Rattle.std.proofs.Common.{rules, subst, FitsSigned}
 use Rattle.std.specs.Int.{w64}
-use Rattle.fast_wire.specs.device.Fronts.{IsFirstInt}
+use Rattle.fast_fronts.specs.device.Fronts.{IsFirstInt}
 use Rattle.fast_wire.specs.meaning.Integers.{delta_range}
-use Rattle.fast_wire.specs.declared.fronts.First.TheVariants.{Whole}
+use Rattle.fast_fronts.specs.declared.fronts.First.TheVariants.{Whole}
 use Rattle.fast_units.specs.device.IntegerItems.{IsBehindDelta}
 use Rattle.fast_units.proofs.IntegerItems.{sent_change, sent_null}
 use Rattle.fast_units.proofs.LastUnits.{again}

@@ -1,8 +1,8 @@
 use Rattle.std.proofs.Common.{◌∙◌, ap, to_z, of_z, rules, subst, FitsSigned}
 use Rattle.std.specs.Int.{w64}
-use Rattle.fast_wire.specs.device.Fronts.{IsFirstInt}
+use Rattle.fast_fronts.specs.device.Fronts.{IsFirstInt}
 use Rattle.fast_wire.specs.meaning.Integers.{signed_between}
-use Rattle.fast_wire.specs.declared.fronts.First.TheVariants.{Whole}
+use Rattle.fast_fronts.specs.declared.fronts.First.TheVariants.{Whole}
 use Rattle.fast_units.proofs.IntegerItems.{sent_item}
 use Rattle.fast_units.proofs.LastUnits.{again}
 use Rattle.fast_units.proofs.integer_items.sent_signed.Goals as goal

@@ -3,8 +3,8 @@ use Rattle.std.proofs.Common.{rules, ◌≡◌, ◌-◌, ◌≤◌, ◌∙◌, s
 use Rattle.std.specs.Int.{w64}
 use Rattle.std.specs.Prelude.{Bool, Some, None}
 use Rattle.std.proofs.lemmas.List.{take_rest}
-use Rattle.fast_wire.specs.device.Fronts.{IsFirstInt}
-use Rattle.fast_wire.specs.declared.fronts.First.TheVariants as First
+use Rattle.fast_fronts.specs.device.Fronts.{IsFirstInt}
+use Rattle.fast_fronts.specs.declared.fronts.First.TheVariants as First
 use Rattle.fast_wire.specs.meaning.Integers.{signed_range}
 use Rattle.fast_value.specs.meaning.Kinds.{family}
 use Rattle.fast_value.specs.meaning.Limits.{bounds}

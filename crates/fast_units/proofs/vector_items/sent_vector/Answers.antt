@@ -2,8 +2,8 @@
 use Rattle.std.proofs.Common.{◌≡◌, ◌∙◌, ◌+◌, ◌-◌, ◌≤◌, sym, ap, subst, length, take, drop}
 use Rattle.std.specs.Prelude.{Bool, true, Some, None, Ok, option_map, pos}
 use Rattle.std.proofs.lemmas.List.{length-take-le, take_rest}
-use Rattle.fast_wire.specs.device.Fronts.{IsFirstInt}
-use Rattle.fast_wire.specs.declared.fronts.First.TheVariants as First
+use Rattle.fast_fronts.specs.device.Fronts.{IsFirstInt}
+use Rattle.fast_fronts.specs.declared.fronts.First.TheVariants as First
 use Rattle.fast_wire.specs.meaning.Integers.{unsigned_range}
 use Rattle.fast_value.specs.meaning.Kinds.{family, value_of_text}
 use Rattle.fast_value.specs.meaning.Limits.{bounds}

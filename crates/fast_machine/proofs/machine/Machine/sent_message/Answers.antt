@@ -3,8 +3,8 @@ use Rattle.std.proofs.Common.{refl, ◌≡◌, ◌≤◌, subst, arith, rules, g
 use Rattle.std.specs.Prelude.{◌-◌, ℕ, Option, false, pos, Some, option_map}
 use Rattle.std.proofs.lemmas.List.{length-drop, take_all}
 use Rattle.fast_wire.specs.meaning.Integers.{unsigned_up_to}
-use Rattle.fast_wire.specs.device.Fronts.{IsFirstInt}
-use Rattle.fast_wire.specs.declared.fronts.First.TheVariants.{Whole}
+use Rattle.fast_fronts.specs.device.Fronts.{IsFirstInt}
+use Rattle.fast_fronts.specs.declared.fronts.First.TheVariants.{Whole}
 use Rattle.fast_dict.specs.meaning.Slots.{slots_dictionary}
 use Rattle.fast_machine.specs.declared.machine.Machine.{Machine}
 use Rattle.fast_machine.specs.device.Positions.{set_of}

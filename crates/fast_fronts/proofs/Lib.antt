@@ -1,0 +1,2 @@
+pub mod stop_bits
+pub mod numbers

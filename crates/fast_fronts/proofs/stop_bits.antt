@@ -1,0 +1,5 @@
+-- Where an entity ends, in a word of eight bytes.
+pub mod Stopping
+pub mod FrontWords
+pub mod ShortEntities
+pub mod Endless

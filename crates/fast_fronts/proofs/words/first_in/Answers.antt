@@ -1,0 +1,8 @@
+use Rattle.std.proofs.Common.{◌∙◌}
+use Rattle.std.proofs.lemmas.Nat.{and_mask}
+use Rattle.fast_fronts.proofs.stop_bits.FrontWords.{first_is}
+use Rattle.fast_fronts.proofs.stop_bits.ShortEntities.{are_bytes}
+use Rattle.fast_fronts.proofs.words.first_in.Goals as goal
+
+pub returns : goal.returns
+returns c = and_mask c.args.word 8 ∙ first_is c.args.word c.args.bytes.now (are_bytes c.args.bytes.now c.type_inv.bytes) c.requires.front

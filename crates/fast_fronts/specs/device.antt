@@ -1,0 +1,2 @@
+-- Devices of contracts within the crates and of proofs.
+pub mod Fronts

@@ -1,0 +1,16 @@
+//! Integers in front of the bytes that are left: FAST 1.1, Transfer Encoding, eight bytes at a time.
+//!
+//! What an entity means is fast_wire's; here it is looked for, and taken as one word where it has at most eight bytes.
+#![tactic(auto)]
+
+mod fronts;
+mod quick;
+mod whole;
+mod words;
+
+pub use fronts::{
+    First, first_nullable_signed, first_nullable_unsigned, first_signed, first_unsigned,
+};
+pub use quick::{quick_nullable_signed, quick_nullable_unsigned, quick_signed, quick_unsigned};
+pub use whole::{one_byte_delta, whole_delta, whole_signed, whole_unsigned};
+pub use words::{ShortEntity, short_entity};

@@ -1,0 +1,23 @@
+//! Tests: what no clause says, and each public call once.
+//!
+//! A call of a function with a large contract is dear to prove, so that each stands once, in a function without a
+//! contract that the tests call: here where several modules call it.
+
+mod explain;
+mod reading;
+mod text;
+
+use fast_template::Templates;
+use std::alloc::Global;
+use std::process::Abort;
+use std::test::Fail;
+
+/// The set of a text.
+fn set_of(alloc: Global, text: &str) -> Result<Templates, Fail> {
+    Ok(Templates::read(alloc, text)?)
+}
+
+/// One comparison, of what a test names so.
+fn expect(rt: &impl Abort, is_right: bool, of: &str, at: usize) {
+    assert!(rt; is_right, "{of} ({at})");
+}

@@ -1,8 +1,0 @@
-use Rattle.std.proofs.Common.{◌∙◌, ◌/◌}
-use Rattle.std.proofs.lemmas.Nat.{and_mask}
-use Rattle.fast_wire.proofs.stop_bits.FrontWords.{second_is}
-use Rattle.fast_wire.proofs.stop_bits.ShortEntities.{are_bytes}
-use Rattle.fast_wire.proofs.words.second_in.Goals as goal
-
-pub returns : goal.returns
-returns c = and_mask (c.args.word / 256) 8 ∙ second_is c.args.word c.args.bytes.now (are_bytes c.args.bytes.now c.type_inv.bytes) c.requires.front
