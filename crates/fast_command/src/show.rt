@@ -1,6 +1,6 @@
 //! Shows a stream as lines.
 
-ghost use Rattle.std.specs.Prelude.{◌≡◌, ◌⊎◌, ◌↔◌, ℕ, ◌+◌, ◌<◌, ◌≤◌, ◌^◌, List, [], ◌++◌, Bool, IsTrue, Err, IfErr, length, is_some, IfOk, IfSome, IfNone, All, MatchOption};
+ghost use Rattle.std.specs.Prelude.{◌≡◌, ◌⊎◌, ℕ, ◌+◌, ◌<◌, ◌≤◌, ◌^◌, List, [], ◌++◌, Bool, IsTrue, Err, IfErr, length, is_some, IfOk, IfSome, IfNone, All, MatchOption};
 ghost use Rattle.fast_tree.specs.meaning.Tree.{Tree};
 ghost use Rattle.fast_template.specs.meaning.Flat.{tree_of};
 ghost use Rattle.fast_value.specs.declared.settings.Limits.{Limits};

@@ -1,10 +1,7 @@
 //! Turns lines, as a stream is shown, back into the stream.
 
 ghost use Rattle.std.specs.Prelude.{◌≡◌, ◌⊎◌, map, Err, IsTrue, OnOk, OnErr};
-ghost use Rattle.std.specs.Io.KnownBytes.{IsAtEnd};
 ghost use Rattle.fast_value.specs.meaning.Views.{message_data};
-ghost use Rattle.fast_template.specs.meaning.Flat.{tree_of};
-ghost use Rattle.fast_dict.specs.meaning.Dictionary.{fresh};
 ghost use Rattle.fast_decoder.specs.meaning.Decoding.{AreBadLimits};
 ghost use Rattle.fast_encoder.specs.meaning.Encoders.{tree};
 ghost use Rattle.fast_text.specs.meaning.Streams.{Appends, AppendsFront};

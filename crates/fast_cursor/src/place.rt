@@ -1,6 +1,6 @@
 //! Where a cursor is in the innermost segment, apart from the cursor.
 
-ghost use Rattle.std.specs.Prelude.{◌≡◌, ◌↔◌, ◌+◌, ◌<◌, [], ◌∷◌, length, drop, true, false, if◌then◌else◌};
+ghost use Rattle.std.specs.Prelude.{◌≡◌, ◌↔◌, ◌<◌, [], ◌∷◌, length, drop, true, false, if◌then◌else◌};
 ghost use Rattle.std.specs.Prelude.{IsTrue, Some, slice_get};
 ghost use Rattle.fast_wire.specs.meaning.Maps.{first_bit, later_bits};
 ghost use Rattle.fast_program.specs.device.Runs.{is_end, run_nodes, HasEnd};

@@ -1,6 +1,6 @@
 //! The decoder: a machine with its template set, its limits, and the count of its bytes.
 
-ghost use Rattle.std.specs.Prelude.{◌≡◌, ◌≢◌, ◌↔◌, ◌⊎◌, ℕ, ◌+◌, ◌-◌, ◌*◌, ◌<◌, ◌≤◌, ◌^◌, List, [], ◌∷◌, length, IfOk, IsOk, IsSome, None, Some, Err};
+ghost use Rattle.std.specs.Prelude.{◌≡◌, ◌↔◌, ℕ, ◌+◌, ◌-◌, ◌*◌, ◌<◌, ◌≤◌, ◌^◌, List, [], ◌∷◌, length, IfOk, IsSome, None, Some, Err};
 ghost use Rattle.fast_template.specs.meaning.Flat.{tree_of, nodes_of};
 ghost use Rattle.fast_tree.specs.meaning.Sizes.{message_cap, turn_cap, stored_cap};
 ghost use Rattle.fast_dict.specs.device.EntryTexts.{HasLongInitial};

@@ -3,7 +3,7 @@
 pub mod common;
 pub mod items;
 
-ghost use Rattle.std.specs.Prelude.{◌≡◌, ◌↔◌, Bool, true, IsTrue, IfSome, IfNone, option_map};
+ghost use Rattle.std.specs.Prelude.{◌↔◌, Bool, true, IsTrue, IfSome, IfNone, option_map};
 ghost use Rattle.fast_value.specs.meaning.Values.{scalar_data};
 ghost use Rattle.fast_tree.specs.device.Nodes.{field_data};
 ghost use Rattle.fast_dict.specs.meaning.Operators.{Sent as SentData};

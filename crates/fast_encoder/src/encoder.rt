@@ -1,18 +1,15 @@
 //! The encoder: a dictionary with its template set and its limits.
 
-ghost use Rattle.std.specs.Prelude.{◌≡◌, ◌⊎◌, ◌↔◌, ℕ, length, IfOk, IfErr, OnOk, OnErr, IfSome, IfNone, IsTrue, Err, Some, slice_get};
+ghost use Rattle.std.specs.Prelude.{◌≡◌, ◌⊎◌, ◌↔◌, IfOk, IfErr, OnOk, OnErr, IfSome, IfNone, IsTrue, Err, Some, slice_get};
 ghost use Rattle.std.specs.Bool.{IsFalse};
-ghost use Rattle.fast_value.specs.meaning.Views.{message_data, slots_data};
+ghost use Rattle.fast_value.specs.meaning.Views.{message_data};
 ghost use Rattle.fast_tree.specs.declared.instructions.Template.{Template};
 ghost use Rattle.fast_template.specs.meaning.Flat.{tree_of, nodes_of, templates_of};
 ghost use Rattle.fast_dict.specs.meaning.Dictionary.{fresh};
 ghost use Rattle.fast_dict.specs.device.EntryTexts.{HasLongInitial};
 ghost use Rattle.fast_decoder.specs.meaning.Decoding.{AreBadLimits};
-ghost use Rattle.fast_spelling.specs.device.Drafts.{IsTold};
-ghost use Rattle.fast_spelling.specs.meaning.Encoding.{EncodesMessage};
-ghost use Rattle.fast_spelling.specs.device.Nodes.{IsReady, Keeps};
 ghost use Rattle.fast_spelling.specs.meaning.Refusals.{IsRefused};
-ghost use Rattle.fast_spelling.specs.meaning.Suiting.{IsKnown, IsKnownAs, SuitsTemplate, FitsLimits};
+ghost use Rattle.fast_spelling.specs.meaning.Suiting.{IsKnown, IsKnownAs};
 ghost use Rattle.fast_encoder.specs.meaning.Encoders.{tree, IsEncoded, IsToldOf};
 
 use fast_decoder::MakeError;

@@ -2,7 +2,6 @@
 
 ghost use Rattle.std.specs.Prelude.{◌≡◌, ◌≢◌, ◌↔◌, ℕ, ◌<◌, ◌^◌, List, ◌++◌, codes, decimal, IsTrue, IfSome, IfNone};
 ghost use Rattle.fast_lines.specs.meaning.Forms.{LineData, text_of_line, line_data, IsWord, IsForm, keyword_of, IsSpelled, IsNoForm, Gives};
-ghost use Rattle.fast_lines.specs.meaning.Values.{Lacks};
 
 use crate::numbers::parse_number;
 use crate::values::split_at_byte;

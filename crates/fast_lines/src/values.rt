@@ -1,6 +1,6 @@
 //! The values of fields, as lines have them.
 
-ghost use Rattle.std.specs.Prelude.{◌≡◌, ◌≢◌, ◌↔◌, ℕ, ℤ, List, ◌∷◌, ◌++◌, IsTrue, IfSome, IfNone, IfOk};
+ghost use Rattle.std.specs.Prelude.{◌≡◌, ◌≢◌, ◌↔◌, ℤ, ◌∷◌, ◌++◌, IsTrue, IfSome, IfNone, IfOk};
 ghost use Rattle.std.specs.Fmt.{signed_decimal};
 ghost use Rattle.fast_value.specs.meaning.Kinds.{ScalarData, IsWithin, signed_range};
 ghost use Rattle.fast_value.specs.meaning.Values.{value_data};

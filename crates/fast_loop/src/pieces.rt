@@ -1,13 +1,11 @@
 //! What the decoder does with the bytes of a piece: it takes units, and all that they decide.
 
-ghost use Rattle.std.specs.Prelude.{◌≡◌, ◌+◌, ◌*◌, ◌<◌, ◌≤◌, true, false, ℕ, length, Err, take, IsOk, OnOk, Some, None, Ok};
+ghost use Rattle.std.specs.Prelude.{◌≡◌, ◌+◌, ◌*◌, ◌<◌, ◌≤◌, ℕ, length, Err, take, IsOk, OnOk, Ok};
 ghost use Rattle.fast_value.specs.declared.settings.Limits.{Limits};
 ghost use Rattle.fast_machine.specs.declared.machine.Machine.{Machine};
 ghost use Rattle.fast_machine.specs.device.Handing.{Fed, waiting_at};
 ghost use Rattle.fast_machine.specs.device.Steps.{IsCountedBy, IsStep};
-ghost use Rattle.fast_machine.specs.device.Gathered.{IsGatheredBy};
-ghost use Rattle.fast_machine.specs.device.Words.{TakesUnit};
-ghost use Rattle.fast_machine.specs.device.TurnsLeft.{Way, most_by, HasTurnsWaiting, HasTurnsBehind, turns_begun_at};
+ghost use Rattle.fast_machine.specs.device.TurnsLeft.{Way, most_by, HasTurnsWaiting};
 ghost use Rattle.fast_machine.specs.device.Positions.{set_of, tree_in, CanTurn, IsSupplied, IsReady, meaning};
 ghost use Rattle.fast_machine.specs.declared.machine.Turn.{Turn};
 
@@ -144,7 +142,7 @@ fn take_some<'t, S: Sink>(
     }
 }
 
-/// Takes steps as [`Machine::walk`] does. Where there is no byte, and the next instruction waits for one, that is all.
+/// Takes steps as [`walk`] does. Where there is no byte, and the next instruction waits for one, that is all.
 #[inline(always)]
 pub fn go_on<'t, S: Sink>(
     machine: &mut Machine<'t>,

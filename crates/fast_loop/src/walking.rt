@@ -1,7 +1,7 @@
 //! The machine's loop: from op to op, with an arm for each code. The place in the innermost segment, and what is left of the piece,
 //! stay in registers, since all arms are inlined.
 
-ghost use Rattle.std.specs.Prelude.{◌≡◌, ◌≢◌, [], drop, slice_get, Ok, Some};
+ghost use Rattle.std.specs.Prelude.{◌≡◌, ◌≢◌, [], slice_get, Ok, Some};
 ghost use Rattle.fast_tree.specs.declared.instructions.Node.{Node};
 ghost use Rattle.fast_program.specs.declared.codes.Code.{Code};
 ghost use Rattle.fast_program.specs.device.Ops.{IsOpOf};
@@ -11,7 +11,7 @@ ghost use Rattle.fast_machine.specs.declared.machine.Turn.{Turn};
 ghost use Rattle.fast_machine.specs.declared.machine.Waiting.{Waiting};
 ghost use Rattle.fast_loop.specs.declared.spot.Spot.{Spot};
 ghost use Rattle.fast_loop.specs.declared.spot.Went.{Went};
-ghost use Rattle.fast_machine.specs.device.Positions.{placed, set_of, CanTurn};
+ghost use Rattle.fast_machine.specs.device.Positions.{set_of, CanTurn};
 ghost use Rattle.fast_loop.specs.device.Arms.{IsAtSpot, IsAtOp, HasWent, HasGone, ended};
 ghost use Rattle.fast_machine.specs.device.Steps.{IsStep};
 

@@ -3,8 +3,6 @@
 //! A unit is a presence map, an integer, an ASCII text or a run of bytes. Nothing changes before a unit is whole: of a unit
 //! that a piece cuts only the bytes are kept. So to go on with a message is to ask for the same unit again.
 
-ghost use Rattle.std.specs.Prelude.{◌≡◌};
-
 use crate::turns::Turns;
 use fast_cursor::cursor::Cursor;
 use fast_dict::Slots;

@@ -2,7 +2,6 @@
 //! to the general way; the quick way has changed nothing then.
 
 ghost use Rattle.std.specs.Prelude.{◌≡◌, ◌≢◌, ◌+◌, ◌<◌, ℕ, List, length, Ok, IfSome, IfNone};
-ghost use Rattle.fast_value.specs.meaning.Kinds.{integers};
 ghost use Rattle.fast_tree.specs.meaning.Tree.{FieldData, uses_bit};
 ghost use Rattle.fast_value.specs.declared.settings.Limits.{Limits};
 ghost use Rattle.fast_machine.specs.declared.machine.Machine.{Machine};

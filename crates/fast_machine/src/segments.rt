@@ -1,7 +1,7 @@
 //! Where the segments of groups and elements begin and end. The answer is how many bits the instructions of the segment use that now
 //! begins, and 0 where none does.
 
-ghost use Rattle.std.specs.Prelude.{◌≡◌, ◌≢◌, ◌⊎◌, ◌+◌, ◌<◌, ◌≤◌, ℕ, suc, [], Bool, length};
+ghost use Rattle.std.specs.Prelude.{◌≡◌, ◌⊎◌, ◌+◌, ◌<◌, ◌≤◌, ℕ, suc, [], Bool, length};
 ghost use Rattle.std.specs.Prelude.{IfErr, MatchResult};
 ghost use Rattle.fast_stream.specs.meaning.Events.{ElementStart, ElementEnd};
 ghost use Rattle.fast_value.specs.meaning.Limits.{bounds};

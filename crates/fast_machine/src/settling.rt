@@ -13,7 +13,6 @@ ghost use Rattle.fast_cursor.specs.device.Cursors.{resting, bits_left};
 ghost use Rattle.fast_stream.specs.meaning.Handed.{event_data};
 ghost use Rattle.fast_stream.specs.device.GrammarReaders.{reader_of};
 ghost use Rattle.fast_stream.specs.device.Readers.{Reader};
-ghost use Rattle.fast_machine.specs.device.Handing.{Hands};
 ghost use Rattle.fast_machine.specs.device.Moving.{Moves};
 ghost use Rattle.fast_units.specs.device.Settling.{value_at};
 ghost use Rattle.fast_units.specs.device.Deciding.{number_data};

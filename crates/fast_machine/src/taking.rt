@@ -1,14 +1,12 @@
-//! What a machine does with the bytes of a piece: it takes units, and all that they decide.
+//! What a machine does with a unit: it keeps its bytes until they are all there, and takes it with what it decides.
 
-ghost use Rattle.std.specs.Prelude.{◌≡◌, ◌+◌, ◌*◌, ◌<◌, ◌≤◌, true, false, ℕ, length, Err, take, IsOk, OnOk, Some, None, Ok};
+ghost use Rattle.std.specs.Prelude.{◌≡◌, ◌+◌, ◌<◌, true, false, ℕ, length, Err, Some, None, Ok};
 ghost use Rattle.fast_value.specs.declared.settings.Limits.{Limits};
 ghost use Rattle.fast_machine.specs.declared.machine.Machine.{Machine};
-ghost use Rattle.fast_machine.specs.device.Handing.{Fed, waiting_at};
-ghost use Rattle.fast_machine.specs.device.Steps.{IsCountedBy};
 ghost use Rattle.fast_machine.specs.device.Gathered.{IsGatheredBy};
 ghost use Rattle.fast_machine.specs.device.Words.{TakesUnit};
-ghost use Rattle.fast_machine.specs.device.TurnsLeft.{Way, most_by, HasTurnsWaiting, HasTurnsBehind, turns_begun_at};
-ghost use Rattle.fast_machine.specs.device.Positions.{set_of, tree_in, IsSupplied, IsReady, meaning};
+ghost use Rattle.fast_machine.specs.device.TurnsLeft.{Way, HasTurnsWaiting, HasTurnsBehind, turns_begun_at};
+ghost use Rattle.fast_machine.specs.device.Positions.{set_of, tree_in, IsReady};
 
 use crate::machine::{Machine, Turn, Waiting};
 use crate::quick_units::UnitTaken;

@@ -1,6 +1,6 @@
 //! From the text of a template set to the set as it is written: the first pass, whose fault is S1.
 
-ghost use Rattle.std.specs.Prelude.{◌≡◌, ◌<◌, ◌^◌, codes, option_map, length, true, Some, None, Err, ℕ, IfOk, IfErr, IfSome, IsSome, string_bytes};
+ghost use Rattle.std.specs.Prelude.{◌≡◌, ◌<◌, ◌^◌, codes, option_map, length, true, Some, None, Err, ℕ, IfOk, IfErr, IfSome, IsSome};
 ghost use Rattle.toml.specs.Data.{Data, Members, get_member, get_item, as_array};
 ghost use Rattle.toml.specs.Parse.{parse_document};
 ghost use Rattle.toml.specs.View.{view, items_view, array_view, table_view};

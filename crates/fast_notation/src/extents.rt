@@ -1,6 +1,6 @@
 //! How many nodes written instructions come to and how deep they nest, before any reference is put in place.
 
-ghost use Rattle.std.specs.Prelude.{◌≡◌, map};
+ghost use Rattle.std.specs.Prelude.{◌≡◌};
 ghost use Rattle.std.specs.HashMap.{get_by_text};
 ghost use Rattle.fast_notation.specs.device.Extents.{nothing, single, beside, around, named_extent, extent_in, extent_by};
 ghost use Rattle.fast_notation.specs.device.WrittenSets.{instruction_data, fields_data};

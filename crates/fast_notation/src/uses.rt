@@ -1,6 +1,6 @@
 //! The fourth pass: whether operators suit their types, and initial values mean something.
 
-ghost use Rattle.std.specs.Prelude.{◌≡◌, ◌≢◌, ◌↔◌, IsTrue, IfOk, IfErr, OnOk, Err, All, List, [], ℕ, option_map, string_bytes};
+ghost use Rattle.std.specs.Prelude.{◌≡◌, ◌≢◌, ◌↔◌, IsTrue, IfOk, IfErr, OnOk, Err, All, [], option_map, string_bytes};
 ghost use Rattle.fast_value.specs.declared.kinds.Kind.{Kind};
 ghost use Rattle.fast_value.specs.meaning.Kinds.{family, integer_of, exponent_range, IsWithin, ScalarData};
 ghost use Rattle.fast_value.specs.meaning.Values.{value_data};

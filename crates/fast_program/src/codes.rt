@@ -1,6 +1,5 @@
 //! What a decoder's loop has to do at a node, as one number.
 
-ghost use Rattle.std.specs.Prelude.{◌≡◌};
 ghost use Rattle.fast_program.specs.device.Codes.{IsCodeFor};
 ghost use Rattle.fast_value.specs.declared.kinds.Kind.{Kind};
 ghost use Rattle.fast_value.specs.declared.kinds.Kind.TheVariants.{UInt32 as uint32, Int32 as int32, UInt64 as uint64, Int64 as int64};

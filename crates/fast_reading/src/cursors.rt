@@ -1,6 +1,6 @@
 //! The lines of a text, one after the other.
 
-ghost use Rattle.std.specs.Prelude.{◌≡◌, ◌≢◌, ℕ, ◌≤◌, ◌∷◌, ◌++◌, length, IsUtf8, IsTrue, IsSome, IfSome, IfNone, IfOk, IfErr};
+ghost use Rattle.std.specs.Prelude.{◌≡◌, ◌≢◌, ◌≤◌, ◌∷◌, ◌++◌, length, IsUtf8, IsTrue, IsSome, IfSome, IfNone, IfOk, IfErr};
 ghost use Rattle.fast_lines.specs.meaning.Forms.{LineData, IsForm, line_data, text_of_line};
 ghost use Rattle.fast_lines.specs.meaning.Values.{Lacks};
 ghost use Rattle.fast_reading.specs.device.Ahead.{IsValueOf, TellsValue, TellsNone, IsAt, IsAtText, IsNextNumber, IsNextText, IsOneLine, OnBadLine, HasNoValue, HasNoLines};

@@ -14,7 +14,7 @@ ghost use Rattle.toml.specs.Data.{Members};
 ghost use Rattle.fast_notation.specs.meaning.Checked.{IsTree};
 ghost use Rattle.fast_notation.specs.meaning.Labels.{template_labels, labels_from};
 ghost use Rattle.fast_template.specs.declared.sets.Templates.{Templates};
-ghost use Rattle.fast_template.specs.meaning.Flat.{nodes_of, tree_of};
+ghost use Rattle.fast_template.specs.meaning.Flat.{tree_of};
 ghost use Rattle.fast_stream.specs.meaning.Events.{EventData, events};
 ghost use Rattle.fast_stream.specs.meaning.Streams.{Stream, between};
 ghost use Rattle.fast_lines.specs.meaning.Lines.{lines, written};

@@ -1,6 +1,6 @@
 //! Messages of the lines of their events.
 
-ghost use Rattle.std.specs.Prelude.{◌≡◌, ◌<◌, ◌≤◌, ◌^◌, ◌+◌, ℕ, List, [], ◌∷◌, ◌++◌, length, map, Some, IfOk, IfErr, OnOk, option_map};
+ghost use Rattle.std.specs.Prelude.{◌≡◌, ◌<◌, ◌+◌, ℕ, List, [], ◌∷◌, ◌++◌, length, map, Some, IfOk, IfErr, OnOk, option_map};
 ghost use Rattle.fast_value.specs.meaning.Kinds.{U, I, Dec};
 ghost use Rattle.fast_value.specs.meaning.Values.{value_data};
 ghost use Rattle.fast_value.specs.meaning.Views.{item_data, slots_data, elements_data, message_data};

@@ -1,6 +1,6 @@
 //! Records back to events, whose texts are lent.
 
-ghost use Rattle.std.specs.Prelude.{◌≡◌, ◌≤◌, ◌<◌, ◌+◌, List, [], length, map, take, drop, IfOk, IfErr, IfSome, IfNone};
+ghost use Rattle.std.specs.Prelude.{◌≡◌, ◌≤◌, ◌<◌, List, [], length, map, take, drop, IfOk, IfErr, IfSome, IfNone};
 ghost use Rattle.fast_value.specs.meaning.Kinds.{text_of};
 ghost use Rattle.fast_value.specs.meaning.Values.{scalar_data};
 ghost use Rattle.fast_stream.specs.meaning.Events.{EventData, FieldValue};

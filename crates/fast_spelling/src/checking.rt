@@ -1,7 +1,7 @@
 //! Writing that looks at each value only once: whether it suits and fits is decided as it is written. What is refused here is looked at
 //! again from the front, by `suiting`, `measuring` and `writing`, for the fault that comes first.
 
-ghost use Rattle.std.specs.Prelude.{[], IfSome, IsSome, slice_get, ℕ, None, ◌≡◌, ◌+◌, ◌<◌, ◌≤◌, length, Some, OnOk, IfOk, IsTrue, option_map};
+ghost use Rattle.std.specs.Prelude.{[], IfSome, IsSome, slice_get, ℕ, None, ◌≡◌, ◌+◌, ◌<◌, ◌≤◌, length, Some, OnOk, IsTrue};
 ghost use Rattle.fast_value.specs.meaning.Messages.{one, total};
 ghost use Rattle.fast_value.specs.meaning.Views.{item_data, message_data, slots_data};
 ghost use Rattle.fast_template.specs.meaning.Flat.{field_data, nodes_of, tree_of};

@@ -1,6 +1,6 @@
 //! A message in the making.
 
-ghost use Rattle.std.specs.Prelude.{◌≡◌, ◌≤◌, ◌∷◌, ◌++◌, ℕ, List, Bool, [], true, false, if◌then◌else◌, take, drop, vec_len, slice_index_or, ◌+◌, ◌<◌, IfSome, IfNone, IfOk, OnOk, IfErr};
+ghost use Rattle.std.specs.Prelude.{◌≡◌, ◌≤◌, ◌∷◌, ◌++◌, [], true, if◌then◌else◌, take, drop, vec_len, ◌+◌, ◌<◌, IfSome, IfNone, IfOk, OnOk, IfErr};
 ghost use Rattle.fast_wire.specs.meaning.Maps.{bits, IsMap};
 ghost use Rattle.fast_spelling.specs.declared.faults.EncodeFault.TheVariants.{E3};
 ghost use Rattle.fast_spelling.specs.device.Drafts.{IsTold, Closes};

@@ -4,7 +4,6 @@ ghost use Rattle.std.specs.Prelude.{◌≡◌, ◌≤◌, ℕ, List, length, IfS
 ghost use Rattle.fast_value.specs.meaning.Kinds.{text_of};
 ghost use Rattle.fast_value.specs.meaning.Values.{scalar_data};
 ghost use Rattle.fast_dict.specs.meaning.Dictionary.{assigned, empty, undefined};
-ghost use Rattle.fast_dict.specs.device.Held.{text_size};
 ghost use Rattle.fast_dict.specs.meaning.Previous.{previous_data};
 ghost use Rattle.fast_spelling.specs.meaning.Entries.{held_data, entry_now, entry_before, IsShort};
 

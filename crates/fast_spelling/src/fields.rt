@@ -1,10 +1,10 @@
 //! A field: its presence bit, its item, and the entry behind it.
 
-ghost use Rattle.std.specs.Prelude.{◌≡◌, ℕ, Option, false, ◌<◌, ◌≤◌, length, option_map, Some, IfSome, OnOk, IfErr, Ok};
+ghost use Rattle.std.specs.Prelude.{◌≡◌, Option, false, ◌<◌, ◌≤◌, length, option_map, Some, OnOk, IfErr, Ok};
 ghost use Rattle.std.specs.Bool.{IsFalse};
 ghost use Rattle.fast_value.specs.declared.kinds.Kind.{Kind};
 ghost use Rattle.fast_value.specs.declared.settings.Limits.{Limits};
-ghost use Rattle.fast_value.specs.meaning.Kinds.{ScalarData, text_of};
+ghost use Rattle.fast_value.specs.meaning.Kinds.{ScalarData};
 ghost use Rattle.fast_value.specs.meaning.Values.{scalar_data};
 ghost use Rattle.fast_tree.specs.meaning.Entries.{keeps_value};
 ghost use Rattle.fast_tree.specs.meaning.Tree.{uses_bit};

@@ -1,11 +1,7 @@
 //! The bytes of what is sent for a field: each integer by its shortest form.
 
-ghost use Rattle.std.specs.Prelude.{◌≡◌, ℕ, ◌<◌, ◌≤◌, ◌^◌, ◌∷◌, [], List, Bool, true, false, All, length, Some, pos, OnOk, IfErr};
-ghost use Rattle.fast_wire.specs.meaning.Integers.{signed_range, IsWithin, SpellsInt};
-ghost use Rattle.fast_wire.specs.device.Shortest.{IsShortest};
-ghost use Rattle.fast_wire.specs.meaning.Texts.{SpellsAscii, SpellsVector};
-ghost use Rattle.fast_value.specs.declared.settings.Limits.{Limits};
-ghost use Rattle.fast_value.specs.meaning.Kinds.{family, text_of};
+ghost use Rattle.std.specs.Prelude.{◌≡◌, ℕ, ◌<◌, ◌≤◌, ◌∷◌, List, false, All, length, Some, OnOk, IfErr};
+ghost use Rattle.fast_wire.specs.meaning.Texts.{SpellsAscii};
 ghost use Rattle.fast_value.specs.meaning.Values.{scalar_data};
 ghost use Rattle.fast_tree.specs.device.Nodes.{field_data};
 ghost use Rattle.fast_dict.specs.meaning.Operators.{Sent as SentData};

@@ -1,6 +1,6 @@
 //! Laws of what an encoder writes. They speak of the definitions alone, over all template sets, limits and messages.
 
-ghost use Rattle.std.specs.Prelude.{◌≡◌, ◌⊎◌, ◌≤◌, All, length, ℕ, List, [], ◌∷◌, Bool, true, Option, slice_get, Some, ◌++◌};
+ghost use Rattle.std.specs.Prelude.{◌≡◌, ◌⊎◌, ◌≤◌, All, length, ℕ, List, [], ◌∷◌, Bool, true, Option, Some, ◌++◌};
 ghost use Rattle.toml.specs.Data.{Members};
 ghost use Rattle.fast_value.specs.declared.settings.Limits.{Limits};
 ghost use Rattle.fast_value.specs.meaning.Kinds.{ScalarData, U};

@@ -3,7 +3,7 @@
 ghost use Rattle.std.specs.Prelude.{◌≡◌, ◌<◌, ◌≤◌, ◌-◌, ◌++◌, ℕ, All, length, take, slice_set, Some, IfOk, IfSome, OnOk};
 ghost use Rattle.fast_value.specs.meaning.Kinds.{text_of};
 ghost use Rattle.fast_value.specs.meaning.Values.{scalar_data};
-ghost use Rattle.fast_dict.specs.meaning.Dictionary.{assigned, empty, undefined, fresh, reset, previous_at, write_at};
+ghost use Rattle.fast_dict.specs.meaning.Dictionary.{assigned, empty, fresh, reset, previous_at, write_at};
 ghost use Rattle.fast_dict.specs.device.Held.{text_size};
 ghost use Rattle.fast_dict.specs.meaning.Previous.{previous_data};
 ghost use Rattle.fast_spelling.specs.meaning.Entries.{IsShort};

@@ -1,11 +1,11 @@
 //! A whole message: its map, its identifier, and its instructions.
 
-ghost use Rattle.std.specs.Prelude.{◌≡◌, ◌<◌, ℕ, List, [], ◌≤◌, ◌^◌, if◌then◌else◌, length, slice_get, Some, OnOk, IfErr};
+ghost use Rattle.std.specs.Prelude.{◌≡◌, ◌<◌, if◌then◌else◌, Some, OnOk, IfErr};
 ghost use Rattle.fast_value.specs.meaning.Views.{message_data, slots_data};
 ghost use Rattle.fast_value.specs.meaning.Kinds.{U};
 ghost use Rattle.fast_tree.specs.meaning.Tree.{identifier};
 ghost use Rattle.fast_tree.specs.device.Nodes.{field_data};
-ghost use Rattle.fast_template.specs.meaning.Flat.{templates_of, tree_of};
+ghost use Rattle.fast_template.specs.meaning.Flat.{tree_of};
 ghost use Rattle.fast_dict.specs.meaning.Dictionary.{reset};
 ghost use Rattle.fast_spelling.specs.declared.faults.EncodeFault.TheVariants.{Memory};
 ghost use Rattle.fast_spelling.specs.device.Drafts.{IsTold};

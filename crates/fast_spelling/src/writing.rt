@@ -1,6 +1,6 @@
 //! The instructions of a message: slots, groups and sequences.
 
-ghost use Rattle.std.specs.Prelude.{◌≡◌, ◌<◌, ℕ, length, Some, OnOk, IfErr};
+ghost use Rattle.std.specs.Prelude.{◌<◌, length, Some, OnOk, IfErr};
 ghost use Rattle.fast_value.specs.meaning.Views.{item_data, slots_data};
 ghost use Rattle.fast_template.specs.meaning.Flat.{nodes_of};
 ghost use Rattle.fast_tree.specs.device.Numbers.{AreBelow};

@@ -1,6 +1,6 @@
 //! Which dictionary entries can have texts.
 
-ghost use Rattle.std.specs.Prelude.{◌≡◌, ◌↔◌, Any, IsTrue};
+ghost use Rattle.std.specs.Prelude.{◌↔◌, Any, IsTrue};
 ghost use Rattle.fast_template.specs.meaning.Flat.{nodes_of, tree_of};
 ghost use Rattle.fast_template.specs.device.TextFields.{IsTextUnder, IsTextNode, SetHoldsText};
 ghost use Rattle.fast_tree.specs.device.Nodes.{field_data};

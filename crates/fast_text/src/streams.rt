@@ -1,6 +1,6 @@
 //! Readers and writers whose bytes a contract can speak of, and the readers and writers of std.
 
-ghost use Rattle.std.specs.Prelude.{◌≡◌, ℕ, ◌≤◌, ◌<◌, List, [], ◌++◌, Bool, false, IsTrue, take, length, Option, Some, IfOk, OnOk, OnErr};
+ghost use Rattle.std.specs.Prelude.{◌≡◌, ℕ, ◌≤◌, ◌<◌, List, [], Bool, false, IsTrue, take, length, Option, Some, IfOk, OnOk, OnErr};
 ghost use Rattle.std.specs.Io.KnownBytes.{IsAtEnd};
 ghost use Rattle.fast_text.specs.meaning.Streams.{Reads, Appends, AppendsFront};
 

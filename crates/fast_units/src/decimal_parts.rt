@@ -3,17 +3,17 @@
 //!
 //! `None` stands for all else, faults included: the general way finds out. In an answer, `None` is absent.
 
-ghost use Rattle.std.specs.Prelude.{◌≡◌, ◌≢◌, ◌<◌, Bool, true, false, ℕ, [], length, Some, IfSome, option_map};
+ghost use Rattle.std.specs.Prelude.{◌≡◌, ◌≢◌, ◌<◌, Bool, true, false, [], length, Some, IfSome, option_map};
 ghost use Rattle.fast_value.specs.meaning.Kinds.{I, IsWithin, exponent_range};
 ghost use Rattle.fast_tree.specs.declared.instructions.FieldInstruction.{FieldInstruction};
 ghost use Rattle.fast_tree.specs.device.Nodes.{field_data};
-ghost use Rattle.fast_dict.specs.meaning.Dictionary.{Dictionary, PreviousData, assigned, previous_at, write_at};
+ghost use Rattle.fast_dict.specs.meaning.Dictionary.{Dictionary, PreviousData, previous_at, write_at};
 ghost use Rattle.fast_dict.specs.device.Entry.{text_length, with_text};
 ghost use Rattle.fast_dict.specs.meaning.Slots.{slots_dictionary, slots_terms};
 ghost use Rattle.fast_units.specs.device.Deciding.{needs_bytes, number_data};
 ghost use Rattle.fast_units.specs.device.DecimalParts.{part_item, KeepsPart, IsPart, IsPartBy, IsPartKnown, IsUsualExponent, IsDeltaMantissa};
 ghost use Rattle.fast_units.specs.device.IntegerItems.{item_held};
-ghost use Rattle.fast_units.specs.device.Words.{HasEntryOf, ServesField, previous_of};
+ghost use Rattle.fast_units.specs.device.Words.{HasEntryOf, previous_of};
 
 use crate::decimal_items::{exponent_in, short_exponent, whole_mantissa};
 use crate::fields::{Number, assign_empty, needs_bytes, number_under};

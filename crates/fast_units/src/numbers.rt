@@ -2,7 +2,7 @@
 
 ghost use Rattle.std.specs.Prelude.{false, Some, IfSome, ◌≡◌, ◌≢◌, ℕ, ◌<◌, true, List, [], pos, Ok};
 ghost use Rattle.fast_wire.specs.meaning.Integers.{unsigned_up_to};
-ghost use Rattle.fast_value.specs.meaning.Kinds.{U, value_of_integer, integers, decimals, texts, family};
+ghost use Rattle.fast_value.specs.meaning.Kinds.{U, value_of_integer, integers, texts, family};
 ghost use Rattle.fast_value.specs.meaning.Limits.{Bounds};
 ghost use Rattle.fast_tree.specs.device.Nodes.{field_data};
 ghost use Rattle.fast_dict.specs.meaning.Operators.{decide, integer_step, range_of};

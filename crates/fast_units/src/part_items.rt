@@ -3,7 +3,7 @@
 //!
 //! `None` stands for all else, faults included: nothing has changed then, and the general way finds out.
 
-ghost use Rattle.std.specs.Prelude.{◌≡◌, ◌≢◌, ◌+◌, ◌<◌, ◌≤◌, [], ℕ, ℤ, List, length, take, drop, slice_index, option_map, pos, true, false, Some, IfSome, IfNone};
+ghost use Rattle.std.specs.Prelude.{◌≡◌, ◌+◌, ◌<◌, ◌≤◌, [], ℕ, List, length, take, drop, slice_index, option_map, pos, true, false, Some, IfSome, IfNone};
 ghost use Rattle.fast_wire.specs.meaning.Integers.{signed_range, unsigned_range};
 ghost use Rattle.fast_fronts.specs.device.Fronts.{IsFirstInt};
 ghost use Rattle.fast_fronts.specs.declared.fronts.First.TheVariants.{Whole};

@@ -1,6 +1,6 @@
 //! Presence maps, in bytes that the caller keeps.
 
-ghost use Rattle.std.specs.Prelude.{◌≡◌, ℕ, ◌+◌, ◌<◌, ◌≤◌, ◌↔◌, ◌∷◌, ◌++◌, [], false, IsTrue, length, take, slice_set, slice_index_or};
+ghost use Rattle.std.specs.Prelude.{◌≡◌, ◌+◌, ◌<◌, ◌≤◌, ◌↔◌, ◌∷◌, ◌++◌, [], false, IsTrue, length, take, slice_set, slice_index_or};
 ghost use Rattle.fast_wire.specs.meaning.Entities.{IsEntity};
 ghost use Rattle.fast_wire.specs.meaning.Maps.{map_limit, bits, first_bit, HasSpareByte};
 

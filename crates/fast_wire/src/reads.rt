@@ -4,7 +4,7 @@
 //! where the entity is overlong in strict mode; else `D2`, where the integer lies outside its range. In lenient
 //! mode an overlong entity stands for its integer, and an overlong zero for NULL where that may be.
 
-ghost use Rattle.std.specs.Prelude.{◌≡◌, ◌≢◌, ◌<◌, ◌≤◌, ◌^◌, ◌*◌, ◌↔◌, ◌∷◌, [], true, false, IsTrue, if◌then◌else◌, IfOk, Some, Err, pos, option_map, length};
+ghost use Rattle.std.specs.Prelude.{◌≡◌, ◌<◌, ◌≤◌, ◌^◌, ◌*◌, ◌↔◌, ◌∷◌, [], true, false, IsTrue, if◌then◌else◌, IfOk, Some, Err, pos, option_map, length};
 ghost use Rattle.fast_wire.specs.meaning.Entities.{IsEntity, number, has_sign, signed, IsOverlong};
 ghost use Rattle.fast_wire.specs.meaning.Integers.{value, Means, IsWithin, IsInteger, SpellsInt, IsOutside, unsigned_up_to, signed_between};
 

@@ -5,7 +5,7 @@
 
 ghost use Rattle.std.specs.Prelude.{◌≡◌, ◌-◌, ◌++◌, ℕ, List, length, ◌≤◌, nat_le, if◌then◌else◌, SomeIff};
 ghost use Rattle.std.specs.Str.{is_utf8};
-ghost use Rattle.fast_value.specs.meaning.Kinds.{text_of, value_of_text};
+ghost use Rattle.fast_value.specs.meaning.Kinds.{text_of};
 ghost use Rattle.fast_value.specs.meaning.Values.{scalar_data};
 ghost use Rattle.fast_tree.specs.device.Nodes.{field_data};
 ghost use Rattle.fast_dict.specs.meaning.Answers.{outcome_answer, kept_text, scalar_answer, kept_data, kept_answer};

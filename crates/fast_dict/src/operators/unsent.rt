@@ -6,7 +6,7 @@ ghost use Rattle.fast_value.specs.meaning.Values.{scalar_data};
 ghost use Rattle.fast_tree.specs.device.Nodes.{field_data};
 ghost use Rattle.fast_tree.specs.declared.operators.Operator.{Operator};
 ghost use Rattle.fast_dict.specs.meaning.Answers.{outcome_data, outcome_answer};
-ghost use Rattle.fast_dict.specs.meaning.Operators.{unsent, fixed, from_initial, next_value, incremented, range_of};
+ghost use Rattle.fast_dict.specs.meaning.Operators.{unsent, fixed, from_initial, incremented, range_of};
 ghost use Rattle.fast_dict.specs.meaning.Previous.{previous_data};
 
 use super::integers::{integer_of, integer_value, range_of};
