@@ -7,5 +7,3 @@ pub mod Showing
 pub mod Flushed
 pub mod Refused
 pub mod SetLines
-pub mod Commands
-pub mod Given

@@ -4,5 +4,3 @@ pub mod Showing
 pub mod Report
 pub mod Checking
 pub mod Texts
-pub mod Plans
-pub mod Words

@@ -5,19 +5,15 @@
 pub mod check;
 pub mod closing;
 pub mod faults;
-pub mod plans;
 pub mod sets;
 pub mod show;
 pub mod texts;
 pub mod unhexer;
 pub mod vectors;
-pub mod words;
 
 pub use check::run_check;
 pub use faults::{RunFault, ShowEnd, report};
-pub use plans::{BUILT_IN, Plan, Task};
 pub use sets::read_templates;
 pub use show::{run_show, show_all};
 pub use texts::read_whole;
 pub use vectors::built_in;
-pub use words::plan;

@@ -1,2 +1,4 @@
--- What is meant: the contract of the public function rests on these definitions.
+-- What is meant: the contracts of the public functions rest on these definitions.
 pub mod Commands
+pub mod Plans
+pub mod Words

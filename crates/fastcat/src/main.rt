@@ -9,13 +9,13 @@ use clap::Error;
 use clap::error::ErrorKind;
 use fast_command::sets::TEXT_LIMIT;
 use fast_command::{
-    BUILT_IN, Plan, RunFault, ShowEnd, Task, built_in, plan, read_templates, read_whole, report,
-    run_check, show_all,
+    RunFault, ShowEnd, built_in, read_templates, read_whole, report, run_check, show_all,
 };
 use fast_convert::run_convert;
 use fast_explain::{Kept, Note, explain_stream, explain_templates};
 use fast_template::Templates;
 use fast_text::{BlockWriter, FromBytes, Source, Target, Watched};
+use fast_words::{BUILT_IN, Plan, Task, plan};
 use std::alloc::{AllocError, Global};
 use std::fmt::Write;
 use std::process::ExitCode;

@@ -3,7 +3,7 @@
 use super::super::expect;
 use clap::Error;
 use clap::error::ErrorKind;
-use fast_command::{BUILT_IN, Plan, Task, plan};
+use fast_words::{BUILT_IN, Plan, Task, plan};
 use std::alloc::Global;
 use std::process::Abort;
 use std::test::Fail;

@@ -7,7 +7,7 @@ use Rattle.clap.specs.Matches.{ReadsOne, one_text}
 use Rattle.clap.specs.Walk.{Text, rows_of}
 use Rattle.clap.specs.declared.parser.matches.Found.{Found}
 use Rattle.clap.proofs.WalkLemmas.{one_text-rows}
-use Rattle.fast_command.specs.meaning.Words.{IsFlag, IsFlagAt, IsNumberOr, IsNumberAt}
+use Rattle.fast_words.specs.meaning.Words.{IsFlag, IsFlagAt, IsNumberOr, IsNumberAt}
 
 -- a flag
 flag_is : (o : Option Text) (b : Bool) → (o ≡ None → b ≡ false) → (o ≡ Some (codes "true") → b ≡ true) → (o ≡ Some (codes "false") → b ≡ false) → IsFlag o b

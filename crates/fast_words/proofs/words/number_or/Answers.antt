@@ -2,9 +2,9 @@ use Rattle.std.proofs.Common.{subst, sym}
 use Rattle.std.specs.Str.Parse.{ParsesUnsigned, ExplainsUnsignedError, HasUnsignedDigitsIfOk}
 use Rattle.clap.specs.Matches.{found_of}
 use Rattle.clap.specs.Walk.{rows_of}
-use Rattle.fast_command.specs.meaning.Words.{IsNumberAt}
-use Rattle.fast_command.proofs.Given.{number_read}
-use Rattle.fast_command.proofs.words.number_or.Goals as goal
+use Rattle.fast_words.specs.meaning.Words.{IsNumberAt}
+use Rattle.fast_words.proofs.Given.{number_read}
+use Rattle.fast_words.proofs.words.number_or.Goals as goal
 
 pub returns : goal.returns
 returns c =

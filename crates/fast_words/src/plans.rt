@@ -1,7 +1,7 @@
 //! What fastcat is asked to do.
 
 ghost use Rattle.std.specs.Prelude.{◌≡◌, ◌↔◌, IsTrue};
-ghost use Rattle.fast_command.specs.meaning.Plans.{limits_of};
+ghost use Rattle.fast_words.specs.meaning.Plans.{limits_of};
 
 use fast_value::Limits;
 

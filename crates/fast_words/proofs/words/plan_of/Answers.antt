@@ -4,9 +4,9 @@ use Rattle.clap.specs.Matches.{found_of}
 use Rattle.clap.specs.Walk.{rows_of}
 use Rattle.clap.proofs.WalkLemmas.{first_value-rows}
 use Rattle.fast_value.specs.declared.settings.Limits.{Limits}
-use Rattle.fast_command.specs.meaning.Words.{IsNumberAt}
-use Rattle.fast_command.proofs.Given.{flag_read, text_or}
-use Rattle.fast_command.proofs.words.plan_of.Goals as goal
+use Rattle.fast_words.specs.meaning.Words.{IsNumberAt}
+use Rattle.fast_words.proofs.Given.{flag_read, text_or}
+use Rattle.fast_words.proofs.words.plan_of.Goals as goal
 
 pub returns : goal.returns
 returns c =

@@ -8,10 +8,10 @@ use Rattle.clap.specs.Walk.{Text, rows_of}
 use Rattle.std.proofs.lemmas.Bool.{false≢true}
 use Rattle.fast_words.specs.meaning.Commands.{fastcat_app}
 use Rattle.fast_words.proofs.Making.{fastcat_simple, fastcat_free}
-use Rattle.fast_command.specs.meaning.Words.{IsPlanOf}
-use Rattle.fast_command.proofs.Commands.{names_one, found_both, still_there}
-use Rattle.fast_command.proofs.words.plan.Goals as goal
-use Rattle.fast_command.proofs.words.plan.Goals.{in-Some, in-None}
+use Rattle.fast_words.specs.meaning.Words.{IsPlanOf}
+use Rattle.fast_words.proofs.Subcommands.{names_one, found_both, still_there}
+use Rattle.fast_words.proofs.words.plan.Goals as goal
+use Rattle.fast_words.proofs.words.plan.Goals.{in-Some, in-None}
 
 pub returns-in_err-matches-clause-fault : goal.returns-in_err-matches-clause-fault
 returns-in_err-matches-clause-fault c =

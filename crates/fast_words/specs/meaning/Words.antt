@@ -4,9 +4,9 @@ use Rattle.std.specs.Prelude.{if◌then◌else◌}
 use Rattle.std.specs.Str.{bytes_eq}
 use Rattle.std.specs.Str.Parse.{IsNumeral, digits_value, without_leading_plus}
 use Rattle.clap.specs.Walk.{Text, Row, first_of, one_of}
-use Rattle.fast_command.specs.declared.plans.Task.{Task}
-use Rattle.fast_command.specs.declared.plans.Task.TheVariants.{Check, Show, Convert}
-use Rattle.fast_command.specs.declared.plans.Plan.{Plan}
+use Rattle.fast_words.specs.declared.plans.Task.{Task}
+use Rattle.fast_words.specs.declared.plans.Task.TheVariants.{Check, Show, Convert}
+use Rattle.fast_words.specs.declared.plans.Plan.{Plan}
 
 -- the task of a subcommand's name
 abbrev pub task_named : Text → Task

@@ -7,12 +7,12 @@ ghost use Rattle.clap.specs.Faults.{fault_of};
 ghost use Rattle.clap.specs.Kinds.{FailsBy};
 ghost use Rattle.clap.specs.Matches.{found_of};
 ghost use Rattle.fast_words.specs.meaning.Commands.{fastcat_app};
-ghost use Rattle.fast_command.specs.meaning.Words.{task_named, IsPlanOf, IsNumberAt};
+ghost use Rattle.fast_words.specs.meaning.Words.{task_named, IsPlanOf, IsNumberAt};
 
+use crate::commands::fastcat_command;
 use crate::plans::{BUILT_IN, Plan, Task};
 use clap::{ArgMatches, Error};
 use fast_value::Limits;
-use fast_words::fastcat_command;
 use std::alloc::Global;
 
 /// The task that a subcommand's name asks for.

@@ -1,6 +1,6 @@
 -- What a plan asks for.
 use Rattle.fast_value.specs.declared.settings.Limits.{Limits}
-use Rattle.fast_command.specs.declared.plans.Plan.{Plan}
+use Rattle.fast_words.specs.declared.plans.Plan.{Plan}
 
 -- the mode and the limits
 abbrev pub limits_of : Plan → Limits
