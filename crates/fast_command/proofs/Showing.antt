@@ -1,13 +1,11 @@
 -- From the rounds of a run to what it has shown.
-use Rattle.std.proofs.Common.{◌≡◌, ◌⊎◌, ℕ, ◌+◌, ◌*◌, ◌<◌, ◌≤◌, ◌^◌, Bool, true, false, List, [], ◌++◌, Option, Some, None, Result, Ok, Err, refl, ap, sym, ◌∙◌, inl, inr, length, length-append, arith, append-nil}
+use Rattle.std.proofs.Common.{◌≡◌, ◌⊎◌, ℕ, ◌+◌, ◌*◌, ◌<◌, ◌≤◌, ◌^◌, Bool, true, false, List, [], ◌++◌, Option, Some, None, Result, Ok, Err, refl, ◌∙◌, inl, inr, length, length-append, arith, append-nil}
 use Rattle.std.specs.Prelude.{IsTrue, OnOk, OnErr, is_err}
 use Rattle.fast_value.specs.declared.settings.Limits.{Limits}
 use Rattle.fast_tree.specs.meaning.Tree.{Tree}
 use Rattle.fast_stream.specs.declared.faults.MakeError.{MakeError}
 use Rattle.fast_stream.specs.declared.faults.MakeError.TheVariants as Why
-use Rattle.fast_stream.specs.declared.faults.FaultCode.{FaultCode}
 use Rattle.fast_stream.specs.meaning.Events.{EventData}
-use Rattle.fast_stream.specs.meaning.Streams.{between, inside, faulted}
 use Rattle.fast_decoder.specs.meaning.Decoding.{account}
 use Rattle.fast_lines.specs.meaning.Lines.{lines}
 use Rattle.fast_text.specs.meaning.Streams.{Reads, Appends}
@@ -18,8 +16,8 @@ use Rattle.fast_command.specs.declared.faults.ShowEnd.{ShowEnd}
 use Rattle.fast_command.specs.declared.faults.ShowEnd.TheVariants.{Good, Faulted, Truncated}
 use Rattle.fast_command.specs.declared.faults.RunFault.{RunFault}
 use Rattle.fast_command.specs.declared.faults.RunFault.TheVariants.{Read, Write, BadHex, Templates as Refused, Make, Text, Encode, Memory}
-use Rattle.fast_command.specs.meaning.Showing.{IsShown, StandsFor, refusal_of, has_begun}
-use Rattle.fast_command.specs.meaning.Closing.{fault_line, truncated_line, closing}
+use Rattle.fast_command.specs.meaning.Showing.{IsShown, StandsFor, refusal_of}
+use Rattle.fast_command.specs.meaning.Closing.{closing}
 use Rattle.fast_command.specs.device.Progress.{HasRoom, IsTaken, Progress, Change, GoesOn, Ended}
 use Rattle.fast_command.proofs.Lined.{lines-append}
 use Rattle.fast_command.proofs.Progressing.{ends_well, counts_all, stands_for, bytes_fewer}
@@ -37,25 +35,6 @@ shown_more t l hex R R' A B H A' B' H' text out (Err (Refused fault)) m a b h s 
 shown_more t l hex R R' A B H A' B' H' text out (Err (Text line kind)) m a b h s = elim s [ ]
 shown_more t l hex R R' A B H A' B' H' text out (Err (Encode message fault)) m a b h s = elim s [ ]
 shown_more t l hex R R' A B H A' B' H' text out (Err Memory) m a b h s = s
-
--- what was shown, where the writer has failed behind it
-pub shown_short : (t : Tree) (l : Limits) (hex : Bool) (R : MakeError → Type 0) (A B H H' : Type 0) (text out : List ℕ) (r : Result ShowEnd RunFault) → has_begun r ≡ true → H' → IsShown t l hex R A B H text out r → IsShown t l hex R A B H' text out (Err Write)
-shown_short t l hex R A B H H' text out (Ok Good) begun failed s =
-    (None, s.0, [], s.1, between, [], rw (append-nil s.0) s.2.bytes, s.2.stream, ap (λ (xs : List ℕ). xs ++ []) (sym s.3), failed)
-shown_short t l hex R A B H H' text out (Ok (Faulted f)) begun failed s =
-    (s.0, s.1, [], s.2, faulted s.3 f.place, [], rw (append-nil s.1) s.4.bytes, s.4.stream, ap (λ (k : FaultCode). lines t s.2 ++ fault_line k f.place) (sym s.5) ∙ sym s.6 ∙ sym (append-nil out), failed)
-shown_short t l hex R A B H H' text out (Ok (Truncated n)) begun failed s =
-    (None, s.0, [], s.1, inside, [], rw (append-nil s.0) s.2.bytes, s.2.stream, ap (λ (m : ℕ). lines t s.1 ++ truncated_line m) (sym s.3) ∙ sym s.4 ∙ sym (append-nil out), failed)
-shown_short t l hex R A B H H' text out (Err (BadHex n)) begun failed s =
-    (Some n, s.0, [], s.1, s.2, closing s.0 s.2, rw (append-nil s.0) s.3.bytes, s.3.stream, ap (λ (xs : List ℕ). xs ++ closing s.0 s.2) (sym s.5), failed)
-shown_short t l hex R A B H H' text out (Err Read) begun failed s =
-    (s.0, s.1, [], s.2, s.3, closing s.1 s.3, rw (append-nil s.1) s.4.bytes, s.4.stream, ap (λ (xs : List ℕ). xs ++ closing s.1 s.3) (sym s.6), failed)
-shown_short t l hex R A B H H' text out (Err Write) begun failed s = (s.0, s.1, s.2, s.3, s.4, s.5, s.6, s.7, s.8, failed)
-shown_short t l hex R A B H H' text out (Err (Refused fault)) begun failed s = elim s [ ]
-shown_short t l hex R A B H H' text out (Err (Text line kind)) begun failed s = elim s [ ]
-shown_short t l hex R A B H H' text out (Err (Encode message fault)) begun failed s = elim s [ ]
-shown_short t l hex R A B H H' text out (Err (Make cause)) begun failed s = absurd (cc)
-shown_short t l hex R A B H H' text out (Err Memory) begun failed s = absurd (cc)
 
 -- nothing was read and nothing shown where no decoder is made
 pub refusal_shown : (t : Tree) (l : Limits) (hex : Bool) (R : MakeError → Type 0) (A B H : Type 0) (e : MakeError) → (e ≡ Why.Memory) ⊎ R e → IsShown t l hex R A B H [] [] (Err (refusal_of e))

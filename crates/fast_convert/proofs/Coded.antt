@@ -45,10 +45,6 @@ front_more ms n m inside there = ap (map message_data) (take_more ms n m inside 
 both_parts : (ms : List Message) (n : ℕ) → map message_data ms ≡ map message_data (take n ms) ++ map message_data (drop n ms)
 both_parts ms n = ap (map message_data) (sym (take-append-drop n ms)) ∙ map-append message_data (take n ms) (drop n ms)
 
--- nothing is encoded yet
-pub so_none : (t : Tree) (l : Limits) (hex : Bool) (d : Dictionary) (ms : List Message) (held : Option (List ℕ)) → Appends held held [] → IsSoFar t l hex d ms 0 held held d
-so_none t l hex d ms held none = record { ws = []; coded = refl; written = none }
-
 -- one more is encoded and written
 pub so_more : (t : Tree) (l : Limits) (hex : Bool) (d : Dictionary) (ms : List Message) (n : ℕ) (held mid holds : Option (List ℕ)) (now next : Dictionary) (m : Message) (w : List ℕ)
     → n < length ms → get_or ms n m ≡ m → IsSoFar t l hex d ms n held mid now → IsCoded t l now (message_data m) w next → Appends mid holds (form hex w)
@@ -82,11 +78,6 @@ so_refused t l hex d ms n held holds now m fault HasFailed inside there h refuse
     let parts = both_parts ms (n + 1) ∙ ap (λ (z : List MessageData). z ++ map message_data (drop (n + 1) ms)) (front_more ms n m inside there) ∙ append_assoc (map message_data (take n ms)) (message_data m ∷ []) (map message_data (drop (n + 1) ms)) in
     let long : length (take n ms) ≡ n = omega (arith, length-take n ms, inside) in
     (map message_data (take n ms), map message_data (drop (n + 1) ms), message_data m, h.ws, now, record { all_are = parts; coded = h.coded }, sym (length-map (take n ms) message_data ∙ long), refused, h.written)
-
--- all are encoded
-pub so_all : (t : Tree) (l : Limits) (hex : Bool) (d : Dictionary) (ms : List Message) (n : ℕ) (held holds : Option (List ℕ)) (now : Dictionary)
-    → take n ms ≡ ms → IsSoFar t l hex d ms n held holds now → (ws : List (List ℕ)) × (next : Dictionary) × AreCoded t l d (map message_data ms) ws next × Appends held holds (flat_map (form hex) ws)
-so_all t l hex d ms n held holds now all h = (h.ws, now, subst (λ (z : List Message). AreCoded t l d (map message_data z) h.ws now) all h.coded, h.written)
 
 -- what an encoder of the same set and limits has appended to nothing
 pub coded_from : (e0 e f : EncoderData) (m : MessageData) (out longer : List ℕ) → e.set ≡ e0.set → e.limits ≡ e0.limits → out ≡ [] → IsEncoded e m out f longer → IsCoded (tree e0) e0.limits e.dictionary m longer f.dictionary

@@ -34,12 +34,6 @@ run-within ops at h = elim (cases_lt at (length ops)) [
   | inr l ↦ let none : drop at ops ≡ [] = drop_all at ops l in let e : false ≡ true = ap has_end (sym none) ∙ h in absurd (search (rules, e))
 ]
 
-pub run-there : (ops : List Op) (at : ℕ) → 0 < length (run_at ops at) → at < length ops
-run-there ops at h = elim (cases_lt at (length ops)) [
-  | inl l ↦ l
-  | inr l ↦ let none : length (run_at ops at) ≡ 0 = ap (λ o. length (run_nodes o)) (drop_all at ops l) in absurd (omega (arith, h, none))
-]
-
 -- the next place
 pub run-next : (ops : List Op) (at : ℕ) → 0 < length (run_at ops at) → run_at ops (at + 1) ≡ drop 1 (run_at ops at)
 run-next ops at some = ap run_nodes (sym (drop-drop 1 at ops)) ∙ nodes-past (drop at ops) some

@@ -46,7 +46,8 @@ const STRICT: Limits = Limits {
     ..LENIENT
 };
 
-/// A sink that writes each event, and compares what it writes with the text that is due. It takes no memory.
+/// A sink that writes each event, and compares what it writes with the text that is due. It takes no memory. All tests that stop a decoder
+/// have it too, since the compiler makes the decoder's loop once more for each sink.
 ///
 /// An event is `m` and the number of a template, or a letter and the number of a node: `g` for a group, `s` for a
 /// sequence, behind which `*` and the count stand, and for a field `u`, `i` or `d` with a number, `a` or `t` (Unicode)
@@ -56,6 +57,8 @@ struct Script<'t> {
     /// What is still due.
     due: &'t [u8],
     taken: usize,
+    /// How many events it takes: it stops at the next.
+    most: usize,
     same: bool,
 }
 
@@ -64,6 +67,17 @@ impl Script<'_> {
         Script {
             due: events.as_bytes(),
             taken: 0,
+            most: usize::MAX,
+            same: true,
+        }
+    }
+
+    /// One that takes so many events, whichever they are, and stops at the next.
+    fn stopping(most: usize) -> Script<'static> {
+        Script {
+            due: &[],
+            taken: 0,
+            most,
             same: true,
         }
     }
@@ -166,6 +180,9 @@ impl Sink for Script<'_> {
     ghost stops = { λ _ _ _. Unit {0} };
 
     fn take(&mut self, event: Event<'_>) -> Result<(), Stop> {
+        if self.taken >= self.most {
+            return Err(Stop);
+        }
         if self.taken > 0 {
             self.write(b" ");
         }

@@ -60,12 +60,6 @@ places-within size start (true ∷ ms) (suc i) p e = let h = places-within size 
 places-within size start (false ∷ ms) zero p e = absurd (cc)
 places-within size start (false ∷ ms) (suc i) p e = let h = places-within size start ms i p e in let g : p + size ≤ start + (0 + count_by (λ b. b) ms) * size = omega arith in rw (set_none ms) g
 
--- as many places as marks
-pub length-places : (size start : ℕ) (marks : List Bool) → length (places_from size start marks) ≡ length marks
-length-places size start [] = refl
-length-places size start (true ∷ ms) = ap suc (length-places size (start + size) ms)
-length-places size start (false ∷ ms) = ap suc (length-places size start ms)
-
 -- there is a slot exactly where the mark is set
 pub has_place : (size start : ℕ) (marks : List Bool) (i : ℕ) → is_some (slice_index_or (places_from size start marks) i None) ≡ slice_index_or marks i false
 has_place size start [] i = refl

@@ -39,14 +39,6 @@ fresh_fits zero size i = omega arith
 fresh_fits (suc n) size zero = omega arith
 fresh_fits (suc n) size (suc i) = fresh_fits n size i
 
--- an entry that fits in place of another
-pub put_fits : (xs : List Entry) (at : ℕ) (e : Entry) (size : ℕ) → text_length e ≤ size → ((i : ℕ) → text_length (slice_index_or xs i Undefined) ≤ size) → (i : ℕ) → text_length (slice_index_or (slice_set xs at e) i Undefined) ≤ size
-put_fits [] at e size h all i = all i
-put_fits (x ∷ xs) zero e size h all zero = h
-put_fits (x ∷ xs) zero e size h all (suc i) = all (suc i)
-put_fits (x ∷ xs) (suc at) e size h all zero = all zero
-put_fits (x ∷ xs) (suc at) e size h all (suc i) = put_fits xs at e size h (λ j. all (suc j)) i
-
 -- a reset of the others keeps what fits
 pub others_fit : (xs : List Entry) (n size : ℕ) → ((i : ℕ) → text_length (slice_index_or xs i Undefined) ≤ size) → (i : ℕ) → text_length (slice_index_or (take 1 xs ++ replicate n Undefined) i Undefined) ≤ size
 others_fit [] n size all i = fresh_fits n size i

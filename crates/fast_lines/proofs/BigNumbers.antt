@@ -1,21 +1,11 @@
 -- Numbers of any size.
-use Rattle.std.proofs.Common.{◌≡◌, ◌≢◌, ℕ, List, [], ◌∷◌, ◌++◌, refl, sym, ◌∙◌, inl, inr, arith}
+use Rattle.std.proofs.Common.{◌≡◌, ◌≢◌, ℕ, List, ◌∷◌, ◌++◌, refl, sym, ◌∙◌, inl, inr, arith}
 use Rattle.std.specs.Prelude.{Bool, true, false, IsTrue, ◌&&◌}
 use Rattle.std.specs.Char.{IsAsciiDigit}
-use Rattle.std.proofs.lemmas.List.Elements.{All-cons, All-head, All-weaker}
+use Rattle.std.proofs.lemmas.List.Elements.{All-cons, All-weaker}
 use Rattle.fast_lines.specs.device.Numbers.{IsDigits, IsSignedDigits, IsDecimalDigits, IsNumberOf, IsNumberText}
 use Rattle.fast_lines.specs.meaning.Values.{Lacks}
 use Rattle.fast_lines.proofs.Splits.{first_split}
-
--- what stands behind a minus
-pub minus_signed : (ds : List ℕ) → IsDigits ds → ds ≢ 0x30 ∷ [] → IsSignedDigits (0x2D ∷ ds)
-minus_signed ds digits some = record { how = inr (ds, refl, digits, some) }
-
-pub signed_minus : (ds : List ℕ) → IsSignedDigits (0x2D ∷ ds) → IsDigits ds × (ds ≢ 0x30 ∷ [])
-signed_minus ds h = elim h.how [
-  | inl digits ↦ let d : IsAsciiDigit 0x2D = All-head IsAsciiDigit 0x2D ds digits.digits in absurd (omega (arith, d))
-  | inr minus ↦ let same : ds ≡ minus.0 = cc minus.1 in rw same (minus.2, minus.3)
-]
 
 -- digits lack an `e`
 digits_lack : (ds : List ℕ) → IsDigits ds → Lacks 0x65 ds

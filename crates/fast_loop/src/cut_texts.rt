@@ -8,18 +8,18 @@ ghost use Rattle.fast_dict.specs.declared.slots.Slots.{Slots};
 ghost use Rattle.fast_dict.specs.meaning.Slots.{slots_dictionary, slots_terms};
 ghost use Rattle.fast_stream.specs.meaning.Phrases.{cut};
 ghost use Rattle.fast_stream.specs.meaning.Units.{ascii_text};
-ghost use Rattle.fast_units.specs.declared.taken.BegunText.{BegunText};
-ghost use Rattle.fast_units.specs.device.TextsAs.{IsBegunText};
+ghost use Rattle.fast_items.specs.declared.taken.BegunText.{BegunText};
+ghost use Rattle.fast_items.specs.device.TextsAs.{IsBegunText};
 ghost use Rattle.fast_units.specs.device.Words.{HasRoomFor};
 ghost use Rattle.fast_machine.specs.device.Gathered.{IsKeptAs, IsKeptFrom};
 
 use crate::spot::{Spot, Went};
 use fast_dict::Store;
+use fast_items::begun_texts::{begun_delta, begun_vector, is_text_front};
+use fast_items::taken::BegunText;
 use fast_machine::machine::{Machine, Waiting};
 use fast_machine::turns::Turns;
 use fast_template::Operator;
-use fast_units::begun_texts::{begun_delta, begun_vector, is_text_front};
-use fast_units::taken::BegunText;
 use fast_value::Kind;
 
 /// What an arm did that has kept all of the rest, or nothing.

@@ -9,12 +9,12 @@ ghost use Rattle.fast_machine.specs.device.Positions.{set_of};
 
 use crate::integer_arms::scalar_of;
 use crate::spot::{Spot, Standing, Went, hand_taken, hand_unsent, stands};
+use fast_items::decimal_items::{changed_decimal, copied_decimal, plain_decimal};
+use fast_items::unsent_items::copied_at;
 use fast_machine::machine::Machine;
 use fast_program::Op;
 use fast_stream::Sink;
 use fast_template::{Operator, Templates};
-use fast_units::decimal_items::{changed_decimal, copied_decimal, plain_decimal};
-use fast_units::unsent_items::copied_at;
 use fast_value::{Kind, Limits};
 
 /// A decimal without an operator.

@@ -16,13 +16,13 @@ ghost use Rattle.fast_machine.specs.device.Positions.{set_of};
 use crate::spot::{Spot, Standing, Went, hand_taken, hand_unsent, stands};
 use crate::text_arms::field_at;
 use fast_cursor::place::Place;
+use fast_items::integer_items::{sent_delta, sent_signed, sent_unsigned};
+use fast_items::unsent_items::{defaulted_integer, unsent_integer};
 use fast_machine::machine::Machine;
 use fast_program::Op;
 use fast_stream::Sink;
 use fast_template::{Operator, Templates};
 use fast_units::fields::Number;
-use fast_units::integer_items::{sent_delta, sent_signed, sent_unsigned};
-use fast_units::unsent_items::{defaulted_integer, unsent_integer};
 use fast_value::{Kind, Limits, Scalar};
 
 /// A number as a value that is lent.

@@ -7,7 +7,7 @@ ghost use Rattle.fast_value.specs.meaning.Values.{scalar_data};
 ghost use Rattle.fast_tree.specs.meaning.Tree.{FieldData, uses_bit};
 ghost use Rattle.fast_tree.specs.device.Nodes.{field_data};
 ghost use Rattle.fast_cursor.specs.device.Places.{place_left, HasBits};
-ghost use Rattle.fast_units.specs.device.DecimalParts.{IsPart, IsUsualExponent};
+ghost use Rattle.fast_items.specs.device.DecimalParts.{IsPart, IsUsualExponent};
 ghost use Rattle.fast_machine.specs.declared.machine.Machine.{Machine};
 ghost use Rattle.fast_loop.specs.declared.spot.Spot.{Spot};
 ghost use Rattle.fast_loop.specs.device.Arms.{IsAtSpot, IsAtOp, HasWent};
@@ -16,16 +16,16 @@ ghost use Rattle.fast_machine.specs.device.Positions.{Set, set_of};
 
 use crate::bits::{behind_bit, bit_at};
 use crate::spot::{Spot, Went, pass_value};
+use fast_items::decimal_parts::{
+    changed_part, exponent_part, keep_exponent, keep_mantissa, keep_part, leaves_mantissa,
+    mantissa_part, usual_exponent,
+};
 use fast_machine::machine::{Machine, Turn};
 use fast_machine::settling::hand;
 use fast_machine::turns::Turns;
 use fast_program::Op;
 use fast_stream::{Event, Sink};
 use fast_template::{FieldInstruction, Operator, Shape, Templates};
-use fast_units::decimal_parts::{
-    changed_part, exponent_part, keep_exponent, keep_mantissa, keep_part, leaves_mantissa,
-    mantissa_part, usual_exponent,
-};
 use fast_value::{Kind, Limits, Scalar};
 
 /// Past an instruction that took these bytes, if any: its value, if it has one, is handed over, and the spot is behind it.

@@ -11,13 +11,13 @@ ghost use Rattle.fast_machine.specs.device.Positions.{set_of};
 
 use crate::cut_texts::{keep_delta, keep_vector, kept_or_declined};
 use crate::spot::{Spot, Standing, Went, hand_taken, hand_unsent, stands};
+use fast_items::lent_texts::{kept_at, lent_at, unsent_text};
+use fast_items::part_items::sent_delta;
+use fast_items::vector_items::{sent_tail, sent_vector};
 use fast_machine::machine::Machine;
 use fast_program::Op;
 use fast_stream::Sink;
 use fast_template::{Operator, Templates};
-use fast_units::lent_texts::{kept_at, lent_at, unsent_text};
-use fast_units::part_items::sent_delta;
-use fast_units::vector_items::{sent_tail, sent_vector};
 use fast_value::{Kind, Limits};
 
 /// A field of Unicode strings or byte vectors without operator: lent from the piece.

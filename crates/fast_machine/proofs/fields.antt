@@ -1,4 +1,4 @@
--- What is next: a field by its node, its entry and its opcode.
+-- What is next: a field by its node and its entry.
 pub mod QuickFields
 pub mod SentFields
 pub mod EntryTexts

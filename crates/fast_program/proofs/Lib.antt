@@ -1,5 +1,4 @@
 pub mod Claims
-pub mod OpLists
 pub mod Runs
 pub mod StartLists
 pub mod KeptPrograms

@@ -1,12 +1,12 @@
 -- Lists of starts: where the bodies of templates and nodes begin.
 use Rattle.std.proofs.Common.{refl, sym, ap, subst, inl, inr, ◌∙◌, take}
-use Rattle.std.specs.Prelude.{◌≡◌, ◌≢◌, ℕ, zero, suc, List, [], ◌∷◌, ◌++◌, length, slice_get, Option, Some, None}
+use Rattle.std.specs.Prelude.{◌≡◌, ℕ, zero, suc, List, [], ◌∷◌, ◌++◌, length, slice_get, Some}
 use Rattle.fast_tree.specs.declared.instructions.Node.{Node}
 use Rattle.fast_tree.specs.declared.instructions.Template.{Template}
 use Rattle.fast_tree.specs.device.Numbers.{numbers_of}
 use Rattle.fast_program.specs.declared.ops.Op.{Op}
 use Rattle.fast_program.specs.declared.starts.Start.{Start}
-use Rattle.fast_program.specs.device.Starts.{id_number, IsStartOf, AreInOrder}
+use Rattle.fast_program.specs.device.Starts.{IsStartOf, AreInOrder}
 use Rattle.fast_program.specs.device.Programs.{Extends, AreStarts, BeginsNode}
 use Rattle.fast_program.proofs.Runs.{last_at}
 
@@ -21,10 +21,7 @@ one_more_start Is ops zero (r ∷ rs) (y ∷ ys) s x found h is = absurd h
 one_more_start Is ops (suc i) [] (y ∷ ys) s x found h is = absurd h
 one_more_start Is ops (suc i) (r ∷ rs) (y ∷ ys) s x found h is = (h.0, one_more_start Is ops i rs ys s x found h.1 is)
 
--- no start, or one more, whose number is how many are in front of it
-pub order_none : AreInOrder []
-order_none i s here = absurd (cc here)
-
+-- one start more, whose number is how many are in front of it
 pub order_more : (starts : List Start) (s : Start) → AreInOrder starts → s.number ≡ length starts → AreInOrder (starts ++ s ∷ [])
 order_more starts s order number i r here = elim (last_at starts s i r here) [
   | inl before ↦ order i r before
@@ -63,8 +60,5 @@ start_at Is ops zero (r ∷ rs) (y ∷ ys) s x h here found =
 start_at Is ops (suc i) (r ∷ rs) (y ∷ ys) s x h here found = start_at Is ops i rs ys s x h.1 here found
 
 -- more behind more
-pub extends_none : (ns : List Node) (ops : List Op) → Extends ns ops ops
-extends_none ns ops = record { kept = λ at body b. b; suit = λ s. s; numbered = λ h. h }
-
 pub extends_both : (ns : List Node) (a b c : List Op) → Extends ns a b → Extends ns b c → Extends ns a c
 extends_both ns a b c first next = record { kept = λ at body h. next.kept at body (first.kept at body h); suit = λ s. next.suit (first.suit s); numbered = λ h. next.numbered (first.numbered h) }

@@ -7,6 +7,6 @@ pub mod programs;
 pub mod starts;
 
 pub use codes::Code;
-pub use ops::{Op, ops_of};
+pub use ops::Op;
 pub use programs::Program;
 pub use starts::Start;

@@ -1,14 +1,13 @@
 //! What a decoder's loop has to know of a node.
 
-ghost use Rattle.std.specs.Prelude.{◌≡◌, ◌≤◌, IfOk, length};
+ghost use Rattle.std.specs.Prelude.{◌≡◌};
 ghost use Rattle.fast_tree.specs.declared.instructions.Shape.TheVariants.{Field, Decimal as by_parts};
 ghost use Rattle.fast_tree.specs.meaning.Entries.{keeps_value};
 ghost use Rattle.fast_program.specs.device.Codes.{IsPartsCode, IsGroupCode, IsSequenceCode};
-ghost use Rattle.fast_program.specs.device.Ops.{IsOpOf, AreOpsFrom};
+ghost use Rattle.fast_program.specs.device.Ops.{IsOpOf};
 
 use crate::codes::Code;
-use fast_tree::{FieldInstruction, Node, Operator, Shape};
-use std::alloc::{AllocError, Global};
+use fast_tree::{FieldInstruction, Operator, Shape};
 
 /// All that a decoder's loop has to know of a node.
 #[derive(Clone, Copy, Debug)]
@@ -145,16 +144,4 @@ impl Op {
             at,
         }
     }
-}
-
-/// Those of nodes, in order. They stand in no program, and do not tell where.
-pub fn ops_of(alloc: Global, nodes: &[Node]) -> Result<Vec<Op>, AllocError>
-    requires { length nodes.now ≤ 65536 }
-    ensures { IfOk result (λ ops. AreOpsFrom 0 ops.items nodes.now) }
-{
-    let mut ops = Vec::with_capacity(alloc, nodes.len())?;
-    for (n, node) in nodes.iter().enumerate() {
-        ops.push(Op::of(0, n as u16, &node.shape))?;
-    }
-    Ok(ops)
 }

@@ -213,13 +213,6 @@ stuck_at nodes n e from tail inside is named never ns stop below rest due =
     let f = find_from nodes n (mark_event stop) e rest tail named (mark_names n stop) n ns inside below due.0 (sym due.1 ∙ is) in
     never f.item (body_events (body_among nodes ns) f.slots ++ mark_event stop ∷ rest) f.is_there (is ∙ f.from_is)
 
--- Nothing is at the front of no events.
-pub never_none : (i : Instruction) (from : List EventData) → from ≡ [] → Never i from
-never_none i from none x more h is =
-    let (e, tail, events_are, names) = first_of_item i x h in
-    let whole : [] ≡ e ∷ (tail ++ more) = sym none ∙ is ∙ ap (λ (z : List EventData). z ++ more) events_are in
-    absurd (cc whole)
-
 -- The first event is none of the node's kind.
 module _ (n : ℕ) (e : EventData) (from tail : List EventData) (first : from ≡ e ∷ tail) where
   never_value : (l : Label) (v : ScalarData) (more : List EventData) → l.node ≡ n → ((w : ScalarData) → e ≢ FieldValue n w) → from ≢ FieldValue l.node v ∷ more
@@ -377,12 +370,6 @@ message_is t m inside = let u = some t.templates m.template inside in (u.0, u.1,
 
 whole_message : (t : Tree) (m : MessageData) (rest : List EventData) (u : TemplateData) → events t m ≡ MessageStart m.template ∷ (body_events u.body m.slots ++ MessageEnd ∷ []) → events t m ++ rest ≡ MessageStart m.template ∷ (body_events u.body m.slots ++ MessageEnd ∷ rest)
 whole_message t m rest u is = ap (λ (z : List EventData). z ++ rest) is ∙ ap (λ (z : List EventData). MessageStart m.template ∷ z) (append_assoc (body_events u.body m.slots) (MessageEnd ∷ []) rest)
-
--- Nothing stands there, or another event than the start of a message of the set.
-pub no_start : (t : Tree) (from : List EventData) → ((n : ℕ) (rest : List EventData) → n < length t.templates → from ≢ MessageStart n ∷ rest) → HasNoFront t from
-no_start t from none m rest inside is =
-    let (u, found, own) = message_is t m inside in
-    none m.template (body_events u.body m.slots ++ MessageEnd ∷ rest) inside (is ∙ whole_message t m rest u own)
 
 -- A message begins whose slots are not there.
 pub no_slots_there : (t : Tree) (n : ℕ) (u : TemplateData) (from mid : List EventData) → slice_get t.templates n ≡ Some u → from ≡ MessageStart n ∷ mid → HasNoBody u.body Is.MessageEnd mid → HasNoFront t from

@@ -1,5 +1,5 @@
 -- Records are added one behind the other, and what waits moves into the buffers.
-use Rattle.std.proofs.Common.{◌≡◌, ℕ, ◌+◌, List, [], ◌∷◌, ◌++◌, length, map, drop, Some, Bor, sym, ap, ◌∙◌, append_assoc, append-nil, length-append, arith, add-zero}
+use Rattle.std.proofs.Common.{◌≡◌, ℕ, ◌+◌, List, [], ◌∷◌, ◌++◌, length, map, drop, Some, Bor, sym, ap, ◌∙◌, length-append, arith, add-zero}
 use Rattle.std.specs.Slice.{IsItemAt}
 use Rattle.std.proofs.lemmas.List.{flat_map_more}
 use Rattle.fast_stream.specs.meaning.Events.{EventData}
@@ -48,13 +48,3 @@ pub moves_first : (r r' : Room) (w w' : Waiting) (x : Recorded) (e : EventData) 
     → next ≡ record_of p e → t ≡ event_text e → Adds next t r r' → Moves r w r' w'
 moves_first r r' w w' x e p next t items is at record_is text adds es h =
     (e ∷ [], ap (map recorded_data) items ∙ ap (λ (z : EventData). z ∷ pending w') (sym is), holds_more r r' es e p next t h at record_is text adds)
-
--- nothing moved
-pub moves_none : (r r' : Room) (w w' : Waiting) → IsAsFilled r r' → pending w' ≡ pending w → Moves r w r' w'
-moves_none r r' w w' same stays es h = ([], sym stays, rw append-nil (holds_same r r' es same h))
-
--- one move behind another
-pub moves_both : (a b c : Room) (u v w : Waiting) → Moves a u b v → Moves b v c w → Moves a u c w
-moves_both a b c u v w first second es h =
-    let one = first es h in let two = second (es ++ one.0) one.2 in
-    (one.0 ++ two.0, one.1 ∙ ap (λ (xs : List EventData). one.0 ++ xs) two.1 ∙ sym (append_assoc one.0 two.0 (pending w)), rw (← append_assoc) two.2)

@@ -31,9 +31,6 @@ followed_more [] (Some x) vs = refl
 followed_more (None ∷ xs) y vs = ap absent (followed_more xs y vs)
 followed_more (Some x ∷ xs) y vs = ap (present (item_data x)) (followed_more xs y vs)
 
-pub put_start : (body : Body) (c : List EventData) → IsPutTo body [] body c c
-put_start body c = record { taken = []; said = refl; says = λ vs. refl }
-
 absent_more : (whole : Body) (xs : List (Option Item)) (i : Instruction) (is : Body) (c a : List EventData) → IsPutTo whole xs (step i is) c a → IsPutTo whole (xs ++ None ∷ []) is c a
 unfolding body_events
 absent_more whole xs i is c a r = record { taken = r.taken; said = r.said; says = λ vs. ap (body_events whole) (followed_more xs None vs) ∙ r.says (absent vs) }
@@ -61,9 +58,6 @@ module _ (nodes : List Node) (body : List ℕ) (i n : ℕ) (inside : i < length 
 -- What is left behind is no longer than what was there.
 pub shorter : (taken a b : List EventData) → a ≡ taken ++ b → length b ≤ length a
 shorter taken a b is = let long = ap length is ∙ length-append taken b in omega (arith, long)
-
-pub put_left : (whole : Body) (xs : List (Option Item)) (rest : Body) (c a : List EventData) → IsPutTo whole xs rest c a → length a ≤ length c
-put_left whole xs rest c a r = shorter r.taken c a r.said
 
 pub rows_left : (body : Body) (n : ℕ) (rs : List (Vec (Option Item) Global)) (c a : List EventData) → ArePutTo body n rs c a → length a ≤ length c
 rows_left body n rs c a r = shorter (element_events (body_events body) (elements_data rs)) c a r.said

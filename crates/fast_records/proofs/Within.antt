@@ -53,18 +53,11 @@ mutual
   over_body (step i is) (present x vs) d es = ap (past_end d) (append_assoc (item_events i x) (body_events is vs) es) ∙ over_item i x d (body_events is vs ++ es) ∙ over_body is vs d es
 
 -- So the events of a body and its end are followed by one rest.
-pub group_rest : (b c : Body) (vs ws : Slots) (rest more : List EventData) → body_events b vs ++ GroupEnd ∷ rest ≡ body_events c ws ++ GroupEnd ∷ more → rest ≡ more
-group_rest b c vs ws rest more same = sym (over_body b vs 0 (GroupEnd ∷ rest)) ∙ ap (past_end 0) same ∙ over_body c ws 0 (GroupEnd ∷ more)
-
 pub element_rest : (b c : Body) (vs ws : Slots) (rest more : List EventData) → body_events b vs ++ ElementEnd ∷ rest ≡ body_events c ws ++ ElementEnd ∷ more → rest ≡ more
 element_rest b c vs ws rest more same = sym (over_body b vs 0 (ElementEnd ∷ rest)) ∙ ap (past_end 0) same ∙ over_body c ws 0 (ElementEnd ∷ more)
 
 pub message_rest : (b c : Body) (vs ws : Slots) (rest more : List EventData) → body_events b vs ++ MessageEnd ∷ rest ≡ body_events c ws ++ MessageEnd ∷ more → rest ≡ more
 message_rest b c vs ws rest more same = sym (over_body b vs 0 (MessageEnd ∷ rest)) ∙ ap (past_end 0) same ∙ over_body c ws 0 (MessageEnd ∷ more)
-
-sequence_rest : (b c : Body) (rows others : Elements) (rest more : List EventData) → element_events (body_events b) rows ++ SequenceEnd ∷ rest ≡ element_events (body_events c) others ++ SequenceEnd ∷ more → rest ≡ more
-sequence_rest b c rows others rest more same =
-    sym (over_rows (body_events b) (over_body b) rows 0 (SequenceEnd ∷ rest)) ∙ ap (past_end 0) same ∙ over_rows (body_events c) (over_body c) others 0 (SequenceEnd ∷ more)
 
 -- what is behind the first event, and what that opens
 abbrev past_first : List EventData → List EventData

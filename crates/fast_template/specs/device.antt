@@ -2,6 +2,5 @@
 pub mod Saturation
 pub mod Counts
 pub mod TextFields
-pub mod Opcodes
 pub mod Presence
 pub mod Programs

@@ -2,7 +2,6 @@
 #![tactic(auto)]
 
 mod caps;
-pub mod opcodes;
 mod programs;
 pub mod queries;
 mod read;
@@ -13,6 +12,5 @@ mod widths;
 
 pub use fast_notation::{NESTING_LIMIT, NODE_LIMIT, SEGMENT_LIMIT, StaticCode, StaticFault};
 pub use fast_tree::{FieldInstruction, Node, Operator, Shape, Template};
-pub use opcodes::{Opcode, Sending};
 pub use sets::Templates;
 pub use vectors::VECTORS;

@@ -7,14 +7,10 @@ ghost use Rattle.fast_template.specs.meaning.Flat.{templates_of, nodes_of, tree_
 ghost use Rattle.fast_notation.specs.meaning.Labels.{template_labels, labels_from};
 ghost use Rattle.fast_tree.specs.meaning.Tree.{HasDistinctIds};
 ghost use Rattle.fast_tree.specs.device.NodeData.{shape_data};
-ghost use Rattle.fast_template.specs.device.Opcodes.{opcode_of};
-ghost use Rattle.fast_program.specs.device.Ops.{IsOpOf};
 ghost use Rattle.fast_tree.specs.device.Usable.{IsUsableShape};
 ghost use Rattle.fast_tree.specs.device.Numbers.{numbers_of, AreBelow, AreBetween};
 
-use crate::opcodes::Opcode;
 use crate::sets::Templates;
-use fast_program::Op;
 use fast_tree::{Node, Template};
 
 impl Templates {
@@ -61,24 +57,6 @@ impl Templates {
         ensures usable { IsUsableShape (tree_of self.now).entries (shape_data result.now.shape) }
     {
         &self.nodes[n as usize]
-    }
-
-    /// The opcode of a node.
-    #[inline(always)]
-    pub fn opcode(&self, n: u32) -> Opcode
-        requires { n < length (nodes_of self.now) }
-        ensures { (x : Node) → slice_get (nodes_of self.now) n ≡ Some x → result ≡ opcode_of x.shape }
-    {
-        self.opcodes[n as usize]
-    }
-
-    /// What a decoder's loop has to know of a node.
-    #[inline(always)]
-    pub fn op(&self, n: u32) -> Op
-        requires { n < length (nodes_of self.now) }
-        ensures { (x : Node) → slice_get (nodes_of self.now) n ≡ Some x → IsOpOf result n x.shape }
-    {
-        self.ops[n as usize]
     }
 
     /// The number of the template with an identifier.

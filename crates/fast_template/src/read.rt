@@ -9,11 +9,10 @@ ghost use Rattle.fast_notation.specs.meaning.FivePasses.{IsAtFault};
 ghost use Rattle.fast_template.specs.meaning.Flat.{tree_of};
 ghost use Rattle.fast_tree.specs.meaning.Tree.{Tree};
 
-use crate::opcodes::opcodes_of;
 use crate::sets::Templates;
 use crate::widths::{message_widths_of, segment_widths_of};
 use fast_notation::{CheckedSet, StaticCode, StaticFault};
-use fast_program::{Program, ops_of};
+use fast_program::Program;
 use std::alloc::Global;
 
 /// That there was no memory left.
@@ -43,12 +42,6 @@ impl Templates {
             → parse_document text.now ≡ Some document → ¬ (IsTree document t)) }
     {
         let set = CheckedSet::read(alloc, text)?;
-        let Ok(opcodes) = opcodes_of(alloc, &set.nodes) else {
-            return Err(no_memory());
-        };
-        let Ok(ops) = ops_of(alloc, &set.nodes) else {
-            return Err(no_memory());
-        };
         let Ok(program) = Program::of(alloc, &set.templates, &set.nodes) else {
             return Err(no_memory());
         };
@@ -61,8 +54,6 @@ impl Templates {
         Ok(Templates {
             templates: set.templates,
             nodes: set.nodes,
-            opcodes,
-            ops,
             program,
             segment_widths,
             message_widths,

@@ -4,14 +4,11 @@ ghost use Rattle.std.specs.Prelude.{◌≡◌, ℕ, List, ◌≤◌, ◌<◌, �
 ghost use Rattle.std.specs.HashMap.{get, get_by_text};
 ghost use Rattle.fast_notation.specs.meaning.Labels.{AreInPreorder};
 ghost use Rattle.fast_tree.specs.device.Numbers.{NameNodes, NameLaterNodes, HaveDistinctIds, number_of_name, number_of_id};
-ghost use Rattle.fast_template.specs.device.Opcodes.{opcodes_of};
-ghost use Rattle.fast_program.specs.device.Ops.{AreOpsFrom};
 ghost use Rattle.fast_program.specs.device.Programs.{IsProgramOf};
 ghost use Rattle.fast_tree.specs.device.Usable.{AreUsable};
 ghost use Rattle.fast_tree.specs.device.Bodies.{AreNodeWidths, AreTemplateWidths};
 
-use crate::opcodes::Opcode;
-use fast_program::{Op, Program};
+use fast_program::Program;
 use fast_tree::{Node, Template};
 use std::collections::HashMap;
 
@@ -21,8 +18,6 @@ use std::collections::HashMap;
 pub struct Templates {
     pub(crate) templates: Vec<Template>,
     pub(crate) nodes: Vec<Node>,
-    pub(crate) opcodes: Vec<Opcode>,
-    pub(crate) ops: Vec<Op>,
     pub(crate) program: Program,
     pub(crate) segment_widths: Vec<usize>,
     pub(crate) message_widths: Vec<usize>,
@@ -36,8 +31,6 @@ pub struct Templates {
     ghost nodes_name_later_nodes: { NameLaterNodes nodes.items },
     ghost nodes_usable: { AreUsable entries nodes.items },
     ghost nodes_in_preorder: { AreInPreorder nodes.items templates.items },
-    ghost nodes_have_opcodes: { opcodes.items ≡ opcodes_of nodes.items },
-    ghost nodes_have_ops: { ∥ AreOpsFrom 0 ops.items nodes.items ∥₁ },
     ghost program_of_set: { ∥ IsProgramOf program templates.items nodes.items ∥₁ },
     ghost widths_of_nodes: { AreNodeWidths nodes.items segment_widths.items },
     ghost widths_of_templates: { AreTemplateWidths nodes.items templates.items message_widths.items },

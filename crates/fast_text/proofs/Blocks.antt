@@ -2,7 +2,7 @@
 use borrow.Rule.Slice.PartMut.{put_mid}
 use Rattle.std.proofs.Common.{◌≡◌, ℕ, ◌+◌, ◌≤◌, List, [], ◌++◌, Option, Some, None, refl, ap, sym, ◌∙◌, append-nil, length, take, drop, arith}
 use Rattle.std.specs.Io.KnownBytes.{append_known}
-use Rattle.std.proofs.KnownBytes.{Keeps-refl, append_known-moved, append_known-grown}
+use Rattle.std.proofs.KnownBytes.{append_known-moved}
 use Rattle.std.proofs.lemmas.List.{take-append-drop, drop-drop, drop-append-le, length-take-le}
 use Rattle.fast_text.specs.declared.block_writer.BlockWriter.{BlockWriter}
 use Rattle.fast_text.specs.device.BlockWriter.{kept_of, target_of, with_kept}
@@ -27,19 +27,7 @@ split_kept start count xs rest e = rw e (sym (take-append-drop count (drop start
 pub stored : (start a k count : ℕ) (xs ys : List ℕ) → start ≤ a → a ≤ length xs → count ≤ length ys → drop start (take (a + count) (put_mid a k xs ys)) ≡ drop start (take a xs) ++ take count ys
 stored start a k count xs ys order h few = ap (drop start) (kept_front a k count xs ys h few) ∙ drop-append-le start (take a xs) (take count ys) (omega (arith, order, length-take-le a xs h))
 
--- More is kept.
-kept_more : (a : Option (List ℕ)) (old new text : List ℕ) → new ≡ old ++ text → Appends (append_known a old) (append_known a new) text
-kept_more a old new text e = record { after = append_known-grown (append_known a old) a old new text (Keeps-refl (append_known a old)) e }
-
-pub stored_more : {T : Type 0} (written : T → Option (List ℕ)) (s t : BlockWriter T) (text : List ℕ) → target_of t ≡ target_of s → kept_of t ≡ kept_of s ++ text → Appends (with_kept written s) (with_kept written t) text
-stored_more written s t text target kept = rw target (kept_more (written (target_of s)) (kept_of s) (kept_of t) text kept)
-
 -- All was handed on, and the target took a text.
 pub passed_on : {T : Type 0} (written : T → Option (List ℕ)) (old mid new : BlockWriter T) (text : List ℕ) → Appends (with_kept written old) (with_kept written mid) [] → kept_of mid ≡ [] → kept_of new ≡ []
     → Appends (written (target_of mid)) (written (target_of new)) text → Appends (with_kept written old) (with_kept written new) text
 passed_on written old mid new text first none still second = appends_both (with_kept written old) (with_kept written mid) (with_kept written new) [] text first (rw (none, still, nothing_kept (written (target_of mid)), nothing_kept (written (target_of new))) second)
-
--- All was handed on, and a text is kept.
-pub kept_anew : {T : Type 0} (written : T → Option (List ℕ)) (old mid new : BlockWriter T) (text : List ℕ) → Appends (with_kept written old) (with_kept written mid) [] → target_of new ≡ target_of mid → kept_of new ≡ kept_of mid ++ text
-    → Appends (with_kept written old) (with_kept written new) text
-kept_anew written old mid new text first target kept = appends_both (with_kept written old) (with_kept written mid) (with_kept written new) [] text first (stored_more written mid new text target kept)

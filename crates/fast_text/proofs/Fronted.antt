@@ -13,10 +13,6 @@ among (x ∷ xs) f g (suc n) h = elim (among xs f g n h) [
   | inr e ↦ inr (ap suc e.0, e.1)
 ]
 
--- no fronts
-pub no_fronts : (text : ℕ → List ℕ) → AreFronts text []
-no_fronts text = record { each = λ n f h. absurd (cc) }
-
 -- one more
 pub fronts_more : (text : ℕ → List ℕ) (fs : List Front) (f : Front) → AreFronts text fs → IsFront text (length fs) f → AreFronts text (fs ++ f ∷ [])
 fronts_more text fs f all one = record {

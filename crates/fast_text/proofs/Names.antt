@@ -2,7 +2,7 @@
 use Rattle.std.proofs.Common.{◌≡◌, ℕ, ◌+◌, ◌≤◌, zero, suc, Bool, List, [], ◌∷◌, Option, Some, refl, ap, ◌∙◌, length, slice_get, arith, eq-eqb}
 use Rattle.std.specs.Prelude.{if◌then◌else◌, option_map, string_bytes}
 use Rattle.std.proofs.lemmas.Bool.{ne_eqb}
-use Rattle.std.proofs.lemmas.Option.{slice_get-map, slice_get_past}
+use Rattle.std.proofs.lemmas.Option.{slice_get-map}
 use Rattle.fast_tree.specs.declared.instructions.Node.{Node}
 use Rattle.fast_tree.specs.declared.instructions.Template.{Template}
 use Rattle.fast_template.specs.declared.sets.Templates.{Templates}
@@ -46,7 +46,3 @@ template_at t n = ap name_if (slice_get-map (template_data (instructions_from 0 
 -- A template that the set has is named by it.
 pub template_named : (t : Templates) (n : ℕ) (v : Template) → slice_get (templates_of t) n ≡ Some v → template_name (tree_of t) n ≡ string_bytes v.name
 template_named t n v found = template_at t n ∙ ap (λ (o : Option Template). name_if (option_map (template_data (instructions_from 0 (nodes_of t))) o)) found
-
--- a template that the set has not
-pub template_unnamed : (t : Templates) (n : ℕ) → length (templates_of t) ≤ n → template_name (tree_of t) n ≡ []
-template_unnamed t n h = template_at t n ∙ ap (λ (o : Option Template). name_if (option_map (template_data (instructions_from 0 (nodes_of t))) o)) (slice_get_past (templates_of t) n h)

@@ -45,12 +45,6 @@ reads_both old mid new a b first second = record { before = Consumes-trans old m
 pub reads_no_more : (old mid new : Option (List ℕ)) (a : List ℕ) → Reads old mid a → Reads mid new [] → Reads old new a
 reads_no_more old mid new a first second = rw (sym (append-nil a)) (reads_both old mid new a [] first second)
 
--- What was known stays as it was: nothing is read of it.
-pub reads_kept : (old new : Option (List ℕ)) → Keeps old new → Reads old new []
-reads_kept None new h = record { before = tt }
-reads_kept (Some xs) None h = absurd h
-reads_kept (Some xs) (Some ys) h = record { before = sym h }
-
 -- A front of the second text is behind the whole of the first.
 pub front_of_second : (old mid new : Option (List ℕ)) (a b : List ℕ) → Appends old mid a → AppendsFront mid new b → AppendsFront old new (a ++ b)
 front_of_second old mid new a b first second = record {
@@ -58,15 +52,6 @@ front_of_second old mid new a b first second = record {
   rest = second.rest;
   is = ap (λ (xs : List ℕ). a ++ xs) second.is ∙ sym (append_assoc a second.front second.rest);
   added = appends_both old mid new a second.front first second.added;
-}
-
--- a front of the first text is a front of both
-pub front_of_first : (old new : Option (List ℕ)) (a b : List ℕ) → AppendsFront old new a → AppendsFront old new (a ++ b)
-front_of_first old new a b first = record {
-  front = first.front;
-  rest = first.rest ++ b;
-  is = ap (λ (xs : List ℕ). xs ++ b) first.is ∙ append_assoc first.front first.rest b;
-  added = first.added;
 }
 
 -- the same text
@@ -80,16 +65,6 @@ apart h = cc
 pub puts_both : (p q r : Point) (a b : List ℕ) → Puts p a q → Puts q b r → Puts p (a ++ b) r
 puts_both p q r a b first second begun had_failed before h =
     put_same begun had_failed ((before ++ a) ++ b) (before ++ (a ++ b)) r (append_assoc before a b) (second begun had_failed (before ++ a) (first begun had_failed before h))
-
--- The text is kept.
-pub puts_kept : (p q : Point) (text : List ℕ) → q.written ≡ p.written → q.failed ≡ p.failed → q.is_writing ≡ p.is_writing → q.kept ≡ p.kept ++ text → Puts p text q
-puts_kept p q text written failed writing kept begun had_failed before h = record {
-  how =
-      elim h.how [
-        | inl f ↦ inl (writing ∙ f.0, (f.1.0, ap (λ (xs : List ℕ). xs ++ text) f.1.1 ∙ append_assoc f.1.0 p.kept text ∙ ap (λ (xs : List ℕ). f.1.0 ++ xs) (sym kept), rw written f.1.2), failed ∙ f.2)
-        | inr f ↦ inr (writing ∙ f.0, rw written (front_of_first begun p.written before text f.1), rw failed f.2)
-      ];
-}
 
 -- What was kept is written, and the text behind it.
 pub puts_written : (p q : Point) (text whole : List ℕ) → p.is_writing ≡ true → q.is_writing ≡ true → q.kept ≡ [] → whole ≡ p.kept ++ text → Appends p.written q.written whole → q.failed ≡ p.failed → Puts p text q
@@ -118,16 +93,6 @@ puts_failing p q text whole was_writing writing whole_is added failed begun had_
             let all : before ++ text ≡ f.1.0 ++ whole = ap (λ (xs : List ℕ). xs ++ text) f.1.1 ∙ append_assoc f.1.0 p.kept text ∙ ap (λ (xs : List ℕ). f.1.0 ++ xs) (sym whole_is) in
             inr (writing, rw all (front_of_second begun p.written q.written f.1.0 whole f.1.2 added), failed)
         | inr f ↦ absurd (apart (sym was_writing ∙ f.0))
-      ];
-}
-
--- Nothing is written where the target has failed.
-pub puts_nothing : (p q : Point) (text : List ℕ) → p.is_writing ≡ false → q.is_writing ≡ false → q.written ≡ p.written → q.failed ≡ p.failed → Puts p text q
-puts_nothing p q text was_failing failing written failed begun had_failed before h = record {
-  how =
-      elim h.how [
-        | inl f ↦ absurd (apart (sym f.0 ∙ was_failing))
-        | inr f ↦ inr (failing, rw written (front_of_first begun p.written before text f.1), rw failed f.2)
       ];
 }
 

@@ -199,9 +199,6 @@ unsent_copied f p bit o b = ap (λ x. decide_by x bit f p nothing) o ∙ ap (λ 
 pub unsent_increased : (f : FieldData) (p : PreviousData) (bit : Bool) → f.operator ≡ Op.Increment → bit ≡ false → decide f p bit nothing ≡ unsent f p
 unsent_increased f p bit o b = ap (λ x. decide_by x bit f p nothing) o ∙ ap (λ x. decide_by Op.Increment x f p nothing) b
 
-pub unsent_tail : (f : FieldData) (p : PreviousData) (bit : Bool) → f.operator ≡ Op.Tail → bit ≡ false → decide f p bit nothing ≡ unsent f p
-unsent_tail f p bit o b = ap (λ x. decide_by x bit f p nothing) o ∙ ap (λ x. decide_by Op.Tail x f p nothing) b
-
 -- A number that is kept: it stands at the entry, and at its source.
 pub keep_decided : (f : FieldData) (old new : Dictionary) (v : ScalarData) (source : ValueSource) → new ≡ write_at f.entry (assigned f.kind v) old
     → ((d : Dictionary) (scratch piece : List ℕ) → value_at source f d scratch piece ≡ Some v) → IsDecided (keeps f.kind v) f old new (Ok source)

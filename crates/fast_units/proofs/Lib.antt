@@ -9,12 +9,3 @@ pub mod TextUnits
 pub mod TextSizes
 pub mod OpenUnits
 pub mod ScalarTakes
-pub mod IntegerItems
-pub mod DecimalItems
-pub mod DecimalParts
-pub mod TextItems
-pub mod ShortTexts
-pub mod WholeTexts
-pub mod JoinedTexts
-pub mod WholeDeltas
-pub mod BegunTexts

@@ -170,9 +170,6 @@ module _ (f : FieldData) (p : PreviousData) (text : List ℕ) (is_text : family 
   pub decided_tail-ok : (base : ScalarData) → f.operator ≡ Tail → tail_base f p ≡ Ok base → decide f p true (sent_text f.kind (Some text)) ≡ kept_text f.kind (with_tail (text_of base) text)
   decided_tail-ok base e h = decided_tail e ∙ ap (λ (r : Result ScalarData Code). r >>= (λ b. kept_text f.kind (with_tail (text_of b) text))) h
 
-  pub decided_tail-err : (c : Code) → f.operator ≡ Tail → tail_base f p ≡ Err c → decide f p true (sent_text f.kind (Some text)) ≡ Err c
-  decided_tail-err c e h = decided_tail e ∙ ap (λ (r : Result ScalarData Code). r >>= (λ b. kept_text f.kind (with_tail (text_of b) text))) h
-
 -- A text of the greatest length, or shorter, can be put at an entry that takes one.
 pub text_storable : (t : Terms) (e : ℕ) (kind : Kind) (v : List ℕ) → length v ≤ t.max_text → t.takes_text e ≡ true → IsStorable t e (value_of_text kind v)
 text_storable t e UInt32 v l h = (l, h)

@@ -206,3 +206,13 @@ part_size_none s l f p kept n size e z =
 -- The part of a delta's vector, behind its size.
 pub part_vector_here : (l : Bounds) (f : FieldData) (p : PreviousData) (kept : Kept) (k : ℤ) (n : ℕ) → subtraction_step f p k ≡ Ok kept → stage_term l f p (part_stage kept n) ≡ term_behind l f p (PartVector k n)
 part_vector_here l f p kept k n e = sym (ap (λ r. of_result r >>= (λ q. stage_term l f p (part_stage q n))) e)
+
+-- The last unit of a field, and what is decided behind it.
+module _ (f : FieldData) (old new : Dictionary) (scratch piece : List ℕ) (source : ValueSource) where
+  pub gives_unit : {X : Type 0} (s : Bool) (g : Grammar X) (k : X → Grammar Outcome) (r : Reader Outcome) (w : List ℕ) (x : X) (d : Result Outcome Code) → r ≡ reader_of s (g >>= k) → Turns (reader_of s g) w (Done x)
+      → k x ≡ of_result d → IsTextDecided d f old new scratch piece (Ok source) → GivesField r w f source old new scratch piece
+  gives_unit s g k r w x d here t e (o, i, h) = record {
+    outcome = o;
+    turns = turns_as here (sym (ap (reader_of s) e ∙ ap (λ q. reader_of s (of_result q)) i)) (term_turns s g k t);
+    settled = h;
+  }

@@ -1,6 +1,6 @@
 -- How readers take bytes: one reader after the other, and bytes in two runs.
 use Rattle.std.proofs.Common.{refl, sym, ap, ◌∙◌, subst}
-use Rattle.std.specs.Prelude.{◌≡◌, ℕ, Bool, List, [], ◌∷◌, ◌++◌, Result, Ok, Err}
+use Rattle.std.specs.Prelude.{◌≡◌, ℕ, Bool, List, [], ◌∷◌, ◌++◌, Result, Ok}
 use Rattle.fast_value.specs.declared.codes.Code.{Code}
 use Rattle.fast_stream.specs.device.Readers.{Reader, Done, Stop, bind}
 use Rattle.fast_stream.specs.device.Running.{after_byte}
@@ -67,12 +67,6 @@ turns_run {r = r} {u = u} {v = v} h j = record {
   becomes = after_run r u v ∙ ap (λ x. after_bytes x v) h.becomes ∙ j.becomes;
 }
 
-pub stays_run : {A : Type 0} {r q : Reader A} {u v : List ℕ} → Turns r u q → Stays q v → Stays r (u ++ v)
-stays_run {r = r} {u = u} {v = v} h j = record {
-  quiet = quiet_run r u v h.quiet (subst (λ x. Quiet x v) (sym h.becomes) j.quiet);
-  waits = subst Waits (sym (after_run r u v ∙ ap (λ x. after_bytes x v) h.becomes)) j.waits;
-}
-
 -- The same of the readers of terms: what a term reads, it reads in front of another one.
 pub term_turns : {A B : Type 0} (s : Bool) (g : Grammar A) (k : A → Grammar B) {w : List ℕ} {a : A} → Turns (reader_of s g) w (Done a) → Turns (reader_of s (g >>= k)) w (reader_of s (k a))
 term_turns s g k h = turns_as (reader-then s g k) refl (turns_done (λ x. reader_of s (k x)) h)
@@ -86,6 +80,3 @@ term_stays s g k h = stays_as (reader-then s g k) (stays_on (λ x. reader_of s (
 -- A result that is known.
 pub result_done : {A B : Type 0} (s : Bool) (r : Result A Code) (k : A → Grammar B) {a : A} → r ≡ Ok a → reader_of s (of_result r >>= k) ≡ reader_of s (k a)
 result_done s r k e = rw e refl
-
-pub result_stop : {A B : Type 0} (s : Bool) (r : Result A Code) (k : A → Grammar B) {c : Code} → r ≡ Err c → reader_of s (of_result r >>= k) ≡ Stop c
-result_stop s r k e = rw e refl

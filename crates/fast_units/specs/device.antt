@@ -8,8 +8,3 @@ pub mod UnitFronts
 pub mod Deciding
 pub mod TextDecisions
 pub mod Words
-pub mod FieldsAs
-pub mod IntegerItems
-pub mod DecimalParts
-pub mod TextItems
-pub mod TextsAs

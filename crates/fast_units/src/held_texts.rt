@@ -17,7 +17,7 @@ use crate::progress::Progress;
 use crate::scratch::Scratch;
 use crate::source::ValueSource;
 use crate::stages::Stage;
-use crate::vector_items::is_text_of;
+use crate::texts::is_text_of;
 use fast_tree::{FieldInstruction, Operator};
 use fast_value::Kind;
 use fast_wire::find_stop;

@@ -1,5 +1,5 @@
 //! Fields of integers in the quick way: what a short entity stands for, and what it leaves in the dictionary. Kind, operator
-//! and presence are parameters, as an opcode has told them, so that the field is looked at for its entry alone.
+//! and presence are parameters, as the caller has told them apart, so that the field is looked at for its entry alone.
 //!
 //! `None` stands for all else, faults included: nothing has changed then, and the general way finds out.
 

@@ -3,11 +3,12 @@
 //! A unit at a time: an ASCII text, or the size of a vector and then its bytes. Of a unit that a piece cuts the bytes are in hand, in
 //! the pending integer or in the scratch, and nothing else changes.
 
-ghost use Rattle.std.specs.Prelude.{◌≡◌, ◌≢◌, ◌<◌, ◌++◌, ℕ, List, [], length, false, Ok, Some, pos, IfOk};
+ghost use Rattle.std.specs.Prelude.{◌≡◌, ◌≢◌, ◌<◌, ◌++◌, ℕ, List, [], length, false, true, Ok, Some, pos, IfOk};
 ghost use Rattle.fast_wire.specs.meaning.Integers.{IsWithin, unsigned_range};
-ghost use Rattle.fast_value.specs.meaning.Kinds.{texts, family};
+ghost use Rattle.fast_value.specs.meaning.Kinds.{texts, family, value_of_text};
 ghost use Rattle.fast_value.specs.meaning.Limits.{bounds};
 ghost use Rattle.fast_tree.specs.device.Nodes.{field_data};
+ghost use Rattle.fast_dict.specs.meaning.Operators.{checked_text};
 ghost use Rattle.fast_dict.specs.meaning.Slots.{slots_dictionary, slots_terms};
 ghost use Rattle.fast_stream.specs.meaning.Phrases.{cut};
 ghost use Rattle.fast_stream.specs.meaning.Units.{ascii_text as ascii_phrase};
@@ -24,12 +25,12 @@ use crate::stages::{FieldStep, Stage};
 use crate::text_outcomes::{finish_absent, finish_ascii, finish_text};
 use crate::units::{IntegerRange, Run, next_ascii, next_integer, next_raw};
 use fast_dict::Slots;
-use fast_dict::operators::sized;
+use fast_dict::operators::{is_utf8, sized};
 use fast_tree::{FieldInstruction, Operator};
 use fast_value::{Code, Kind, Limits};
 
 /// The greatest size of a vector that its bytes can say.
-pub(crate) const TOP_SIZE: u64 = 4_294_967_295;
+pub const TOP_SIZE: u64 = 4_294_967_295;
 
 /// An answer behind so many bytes.
 #[inline]
@@ -57,6 +58,17 @@ pub(crate) fn size_of(integer: i128) -> u32
     ensures { pos result ≡ integer }
 {
     integer as u32
+}
+
+/// Whether a text is one of the kind: one of Unicode is UTF-8.
+#[inline(always)]
+pub fn is_text_of(kind: Kind, text: &[u8]) -> bool
+    ensures { result ≡ true → checked_text kind text.now ≡ Ok (value_of_text kind text.now) }
+{
+    match kind {
+        Kind::Unicode => is_utf8(text),
+        _ => true,
+    }
 }
 
 /// Takes bytes of an ASCII text that is no delta: the first unit of its field, and the last.

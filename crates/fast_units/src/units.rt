@@ -106,7 +106,7 @@ pub fn next_ascii(scratch: &mut Scratch, rest: &[u8], room: usize, nullable: boo
 
 /// Whether one of the bytes has a stop bit. A single byte, as of a stream that comes byte by byte, is looked at in place.
 #[inline(always)]
-pub(crate) fn has_stop(bytes: &[u8]) -> bool
+pub fn has_stop(bytes: &[u8]) -> bool
     ensures { result ≡ false → HaveNoStop bytes.now }
 {
     if bytes.len() == 1 {

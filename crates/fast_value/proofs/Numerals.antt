@@ -6,7 +6,7 @@ use Rattle.std.proofs.Math.Seq.{get_or-append_seam}
 use Rattle.std.proofs.lemmas.Bool.{cases_order}
 use Rattle.std.proofs.lemmas.List.{take-append-drop, take_at, get_or_append_left}
 use Rattle.std.proofs.lemmas.List.Elements.{All-head}
-use Rattle.fast_wire.specs.meaning.Integers.{Range, IsWithin}
+use Rattle.fast_wire.specs.meaning.Integers.{Range}
 use Rattle.fast_wire.specs.meaning.Integers.{signed_range, exponent_range}
 use Rattle.fast_value.specs.meaning.Initial.{IsNumeral, IsInteger, IsDecimal, digits_value}
 use Rattle.fast_value.specs.device.Numerals.{IsSigned}
@@ -28,10 +28,6 @@ signed_unique text x y (ds, n, inr g) (es, m, inl h) = absurd (digits_no_minus d
 -- an integer without its range
 pub signed_of_integer : (range : Range) (text : List ℕ) (x : ℤ) → IsInteger range text x → IsSigned text x
 signed_of_integer range text x h = (h.0, h.1, h.3)
-
--- an integer that lies in the range
-pub integer_of_signed : (range : Range) (text : List ℕ) (x : ℤ) → IsSigned text x → IsWithin range x → IsInteger range text x
-integer_of_signed range text x h within = (h.0, h.1, within, h.2)
 
 -- What stands for an integer has no `e`.
 pub integer_no_e : (range : Range) (text : List ℕ) (x : ℤ) → IsInteger range text x → (k : ℕ) → k < length text → slice_index text k ≢ 0x65

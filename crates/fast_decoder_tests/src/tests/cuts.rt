@@ -1,8 +1,8 @@
 //! Texts that go on behind the bytes of a piece, which are told so: a decoder hands over the same where they are not.
 
 use super::expect;
+use fast_items::begun_texts::{begun_vector, is_text_front};
 use fast_template::Operator;
-use fast_units::begun_texts::{begun_vector, is_text_front};
 use fast_units::stages::Stage;
 use fast_value::Kind;
 

@@ -7,35 +7,12 @@ use super::{
     Case, LENIENT, STRICT, Script, account_of, decoder_of, expect, expect_case, expect_line,
     expect_row, feed, feed_each, push, read, reset, set_of, stopped_at,
 };
-use fast_decoder::{Decoder, Event, Fault, FaultCode, Recorded, Recorder, Sink, Stop};
+use fast_decoder::{Decoder, Event, Fault, FaultCode, Recorded, Recorder, Sink};
 use fast_template::VECTORS;
 use fast_value::Code;
 use std::alloc::Global;
 use std::process::Abort;
 use std::test::Fail;
-
-/// Counts the events that it takes, and stops behind the greatest count.
-#[derive(Drop)]
-struct StopsAt {
-    taken: usize,
-    most: usize,
-}
-
-impl Sink for StopsAt {
-    ghost takes = { λ _ _ _. Unit {0} };
-
-    ghost stops = { λ _ _ _. Unit {0} };
-
-    fn take(&mut self, event: Event<'_>) -> Result<(), Stop> {
-        let _ = event;
-        if self.taken < self.most {
-            self.taken += 1;
-            Ok(())
-        } else {
-            Err(Stop)
-        }
-    }
-}
 
 /// The bytes of `LONG` that are consumed where the sink takes so many events: none, one, two and so on.
 const PLACES: &[u64] = &[2, 3, 3, 6, 6, 7, 7, 10, 12, 12, 12, 13, 14, 14, 14, 14];
@@ -69,7 +46,7 @@ fn is_stopped(decoder: &mut Decoder<'_>, most: usize, place: u64) -> bool {
         place,
     };
     reset(decoder);
-    let mut sink = StopsAt { taken: 0, most };
+    let mut sink = Script::stopping(most);
     let answer = feed(decoder, LONG, &mut sink);
     let stops = has_stopped(decoder, answer, fault) && sink.taken == most;
     sink.most = 100;
@@ -191,10 +168,7 @@ const NOTHING_TO_COPY: &str = "nothing to copy | lenient | C0 8A | m9 | D5@2";
 
 /// Whether the bytes cut a message.
 fn is_cut(decoder: &mut Decoder<'_>, bytes: &[u8]) -> bool {
-    let mut sink = StopsAt {
-        taken: 0,
-        most: 100,
-    };
+    let mut sink = Script::stopping(100);
     feed(decoder, bytes, &mut sink).is_ok() && !decoder.between()
 }
 
@@ -279,10 +253,7 @@ fn may_end(answer: Result<(), Fault>) -> bool {
 /// Whether two bytes, and two more integers, end in events or in a fault that they can have.
 fn ends_as_it_may(decoder: &mut Decoder<'_>, first: u8, second: u8) -> bool {
     reset(decoder);
-    let mut sink = StopsAt {
-        taken: 0,
-        most: 1000,
-    };
+    let mut sink = Script::stopping(1000);
     let heard = feed_each(decoder, &[&[first, second, 0x81], &[0x81]], &mut sink);
     may_end(heard.answer) && heard == account_of(decoder, heard.answer)
 }

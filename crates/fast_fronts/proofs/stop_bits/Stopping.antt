@@ -15,6 +15,3 @@ entity_ends w i h before stop = (take i w, get_or w i 0, take_more w i 0 h, befo
 -- no stop in the whole, and so none in a front
 pub unstopped_front : (w : List ℕ) (i n : ℕ) → length w ≤ i → HaveNoStop (take i w) → HaveNoStop (take n w)
 unstopped_front w i n h none = All-take (λ byte. byte < 128) n w (subst HaveNoStop (take_all i w h) none)
-
-pub unstopped_whole : (w : List ℕ) (i : ℕ) → length w ≤ i → HaveNoStop (take i w) → HaveNoStop w
-unstopped_whole w i h none = subst HaveNoStop (take_all i w h) none

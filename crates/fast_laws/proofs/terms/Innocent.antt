@@ -13,10 +13,10 @@ use Rattle.fast_tree.specs.declared.operators.Operator.{Operator}
 use Rattle.fast_tree.specs.declared.operators.Operator.TheVariants.{None as no_operator, Constant, Default, Copy, Increment, Delta, Tail}
 use Rattle.fast_tree.specs.meaning.Tree.{FieldData}
 use Rattle.fast_dict.specs.meaning.Dictionary.{PreviousData, undefined, empty, assigned}
-use Rattle.fast_dict.specs.meaning.Operators.{Outcome, Sent, nothing, null, value, integer_delta, decimal_delta, text_delta, Kept, append_to, prepend_to, kept_length, gives_none, keeps, of_kind, checked_text, checked_in, ranged, range_of, from_initial, unsent, next_value, fixed, delta_base, tail_base, kept_of, joined, with_tail, integer_step, exponent_step, mantissa_step, subtraction_step, text_step, sent_plain, sent_kept, sent_tail, sent_delta, decide_by, decide}
+use Rattle.fast_dict.specs.meaning.Operators.{Sent, nothing, null, value, integer_delta, decimal_delta, text_delta, Kept, append_to, prepend_to, kept_length, keeps, of_kind, checked_text, checked_in, ranged, range_of, from_initial, unsent, next_value, fixed, delta_base, tail_base, kept_of, joined, with_tail, integer_step, exponent_step, mantissa_step, subtraction_step, text_step, sent_plain, sent_kept, sent_tail, sent_delta, decide_by, decide}
 use Rattle.fast_dict.specs.meaning.Operators
 use Rattle.fast_stream.specs.meaning.Grammar.{Grammar, give, fault, hand, integer, ascii_text, raw, presence_map, narrow, ◌>>=◌, of_result}
-use Rattle.fast_stream.specs.meaning.Fields.{sized, text, sent_text, decimal_from, item_in, integer_change, mantissa_change, decimal_change, part_change, text_change, change_in, sent, field_by, field_term}
+use Rattle.fast_stream.specs.meaning.Fields.{sized, text, sent_text, decimal_from, item_in, integer_change, mantissa_change, decimal_change, part_change, text_change, change_in}
 use Rattle.fast_stream.specs.meaning.Messages.{map_bits}
 use Rattle.fast_laws.specs.meaning.Raising.{is_count_code}
 
@@ -229,26 +229,6 @@ pub innocent_change : (k : Family) (l : Bounds) (f : FieldData) (p : PreviousDat
 innocent_change (integers range) l f p = (refl, innocent_integer_change f p)
 innocent_change decimals l f p = (refl, innocent_decimal_change f p)
 innocent_change texts l f p = (refl, innocent_text_change l f p)
-
-innocent_sent : (l : Bounds) (f : FieldData) (p : PreviousData) → IsInnocent (sent l f p)
-innocent_sent l f p = innocent_bind (item_in (family f.kind) l f) (λ x. of_result (decide f p true x)) (innocent_item (family f.kind) l f) (λ x. innocent_result (decide f p true x) (other_decided f p true x))
-
-innocent_by : (o : Operator) (bit : Bool) (l : Bounds) (f : FieldData) (p : PreviousData) → IsInnocent (field_by o bit l f p)
-innocent_by no_operator bit l f p = innocent_sent l f p
-innocent_by Delta bit l f p = innocent_change (family f.kind) l f p
-innocent_by Constant bit l f p = innocent_result (decide f p bit nothing) (other_decided f p bit nothing)
-innocent_by Default true l f p = innocent_sent l f p
-innocent_by Copy true l f p = innocent_sent l f p
-innocent_by Increment true l f p = innocent_sent l f p
-innocent_by Tail true l f p = innocent_sent l f p
-innocent_by Default false l f p = innocent_result (decide f p false nothing) (other_decided f p false nothing)
-innocent_by Copy false l f p = innocent_result (decide f p false nothing) (other_decided f p false nothing)
-innocent_by Increment false l f p = innocent_result (decide f p false nothing) (other_decided f p false nothing)
-innocent_by Tail false l f p = innocent_result (decide f p false nothing) (other_decided f p false nothing)
-
-pub innocent_field : (l : Bounds) (f : FieldData) (p : PreviousData) (bit : Bool) → IsInnocent (field_term l f p bit)
-unfolding field_term
-innocent_field l f p bit = innocent_by f.operator bit l f p
 
 pub innocent_map : (n : ℕ) (has : Bool) → IsInnocent (map_bits n has)
 innocent_map n false = tt

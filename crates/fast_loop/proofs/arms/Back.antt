@@ -19,7 +19,7 @@ use Rattle.fast_loop.specs.declared.spot.Spot.{Spot}
 use Rattle.fast_loop.specs.declared.spot.Went.{Went}
 use Rattle.fast_machine.specs.declared.turns.Turns.{Turns}
 use Rattle.fast_machine.specs.device.Positions.{placed, Set, CanTurn, turning}
-use Rattle.fast_loop.specs.device.Arms.{IsAnswer, WentBy, HasWent}
+use Rattle.fast_loop.specs.device.Arms.{WentBy, HasWent}
 use Rattle.fast_machine.specs.device.FitMaps.{IsFitMap}
 use Rattle.fast_machine.specs.device.Opening.{opened_turn, awaiting}
 use Rattle.fast_machine.specs.device.Steps.{IsStep}
@@ -60,27 +60,11 @@ module _ {S : Type 0} (takes stops : S → EventData → S → Type 0) (set : Se
   went_took m' to n turn s' h waits some on step =
       (n, some, went_by m' to n Handed s' h waits (took_handed takes stops set l (placed m from.place) m' from.rest.now s n turn s' some on step))
 
-  -- The answer was given.
-  pub went_answer : (went : Went) (m' : Machine) (to : Spot) (n : ℕ) (s' : S) → IsAnswer went n → StandsAt m' from to n → m'.waiting ≡ Field
-      → IsStep takes stops set l (placed m from.place) from.rest.now s (record { bytes = n; turn = Ok Handed }) s' m' → HasWent takes stops set l m from s went s' m' to
-  went_answer Went.Took m' to n s' some h waits step = (n, some, went_by m' to n Handed s' h waits step)
-  went_answer Went.Handed m' to zero s' none h waits step = went_by m' to 0 Handed s' h waits step
-  went_answer Went.Handed m' to (suc n) s' none h waits step = absurd (omega (arith, none))
-  went_answer Went.Silent m' to n s' none h waits step = absurd none
-  went_answer Went.Declined m' to n s' none h waits step = absurd none
-  went_answer Went.Stopped m' to n s' none h waits step = absurd none
-  went_answer Went.Waits m' to n s' none h waits step = absurd none
-
   -- The sink stopped.
   pub went_stopped : (m' : Machine) (to : Spot) (n : ℕ) (code : FaultCode) (s' : S) → StandsAt m' from to n → code ≡ SinkStopped
       → IsStep takes stops set l (placed m from.place) from.rest.now s (record { bytes = n; turn = Err code }) s' m' → HasWent takes stops set l m from s Went.Stopped s' m' to
   went_stopped m' to n code s' h stopped step =
       (n, h.rest, h.place, subst (λ (c : FaultCode). IsStep takes stops set l (placed m from.place) from.rest.now s (record { bytes = n; turn = Err c }) s' (placed m' to.place)) stopped (placed_step m' to n (Err code) s' h step))
-
-  -- It waits.
-  pub went_waits : (m' : Machine) (to : Spot) (n : ℕ) (s' : S) → StandsAt m' from to n
-      → IsStep takes stops set l (placed m from.place) from.rest.now s (record { bytes = n; turn = Ok Waits }) s' m' → HasWent takes stops set l m from s Went.Waits s' m' to
-  went_waits m' to n s' h step = (n, h.rest, h.place, placed_step m' to n (Ok Waits) s' h step)
 
 -- The map of the segment that began, so many bytes.
 pub mapped_step : {S : Type 0} (takes stops : S → EventData → S → Type 0) (set : Set) (l : Limits) (m a : Machine) (rest : List ℕ) (s mid : S) (n width k : ℕ) (c : CursorData) (t : Turns) → a.waiting ≡ Field → 0 < width

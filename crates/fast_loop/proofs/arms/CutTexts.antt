@@ -17,9 +17,9 @@ use Rattle.fast_stream.specs.device.Readers.{Reader}
 use Rattle.fast_units.proofs.Turning.{turns_as, turns_on, turns_run}
 use Rattle.fast_units.specs.declared.scratch.Scratch.{Scratch}
 use Rattle.fast_units.specs.declared.stages.Stage.{Stage}
-use Rattle.fast_units.specs.declared.taken.BegunText.{BegunText}
+use Rattle.fast_items.specs.declared.taken.BegunText.{BegunText}
 use Rattle.fast_units.specs.device.Taking.{Stays, Turns as TurnsTo, Waits}
-use Rattle.fast_units.specs.device.TextsAs.{HasBegun}
+use Rattle.fast_items.specs.device.TextsAs.{HasBegun}
 use Rattle.fast_units.specs.device.UnitFronts.{IsAsciiFirst, IsBytesStage, IsSent}
 use Rattle.fast_cursor.specs.device.Places.{at_place, IsPlaceOf}
 use Rattle.fast_cursor.specs.declared.place.Place.{Place}

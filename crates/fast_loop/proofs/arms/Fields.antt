@@ -19,9 +19,9 @@ use Rattle.fast_dict.specs.meaning.Dictionary.{previous_at}
 use Rattle.fast_dict.specs.meaning.Operators.{decide, nothing}
 use Rattle.fast_dict.specs.meaning.Slots.{slots_dictionary, slots_terms}
 use Rattle.fast_units.specs.declared.fields.Number.{Number}
-use Rattle.fast_units.specs.declared.taken.TakenItem.{TakenItem}
+use Rattle.fast_items.specs.declared.taken.TakenItem.{TakenItem}
 use Rattle.fast_units.specs.device.Deciding.{needs_bytes, number_data, source_of, IsDecided}
-use Rattle.fast_units.specs.device.FieldsAs.{IsFieldAs, IsEntryFor, IsSentItem, IsUnsentItem}
+use Rattle.fast_items.specs.device.FieldsAs.{IsFieldAs, IsEntryFor, IsSentItem, IsUnsentItem}
 use Rattle.fast_units.specs.device.Settling.{Serves}
 use Rattle.fast_units.specs.device.UnitFronts.{IsSent}
 use Rattle.fast_units.proofs.Deciding.{item_value, stands_unsent}

@@ -33,14 +33,14 @@ use Rattle.fast_stream.specs.meaning.Grammar.{Grammar}
 use Rattle.fast_stream.specs.meaning.Messages.{Found, found, within_limits}
 use Rattle.fast_units.specs.declared.fields.Number.{Number}
 use Rattle.fast_units.specs.device.Deciding.{source_of, sent_number}
-use Rattle.fast_units.specs.device.FieldsAs.{IsFieldAs}
-use Rattle.fast_units.specs.device.IntegerItems.{KeepsItem, item_held}
+use Rattle.fast_items.specs.device.FieldsAs.{IsFieldAs}
+use Rattle.fast_items.specs.device.IntegerItems.{KeepsItem, item_held}
 use Rattle.fast_units.specs.device.Settling.{Serves, IsLastUnit, value_at}
 use Rattle.fast_units.specs.declared.progress.Progress.TheVariants.{Whole}
 use Rattle.fast_units.specs.device.UnitFronts.{IsSent}
 use Rattle.fast_units.specs.device.Taking.{Turns as TurnsTo}
 use Rattle.fast_units.proofs.Deciding.{no_entry}
-use Rattle.fast_units.proofs.IntegerItems.{sent_item}
+use Rattle.fast_items.proofs.IntegerItems.{sent_item}
 use Rattle.fast_units.proofs.Turning.{turns_as, turns_done}
 use Rattle.fast_cursor.specs.device.Cursors.{CursorData, bits_left}
 use Rattle.fast_cursor.specs.device.Places.{at_place}

@@ -31,13 +31,13 @@ use Rattle.fast_stream.specs.device.Continuations.{handed_then, mantissa_after_t
 use Rattle.fast_stream.specs.device.Frames.{resume}
 use Rattle.fast_stream.specs.device.GrammarReaders.{reader_of}
 use Rattle.fast_units.specs.device.Deciding.{needs_bytes, number_data, source_of}
-use Rattle.fast_units.specs.device.DecimalParts.{part_item, KeepsPart, IsAsSeen, IsPartBy, IsPart, IsUsualExponent}
+use Rattle.fast_items.specs.device.DecimalParts.{part_item, KeepsPart, IsAsSeen, IsPartBy, IsPart, IsUsualExponent}
 use Rattle.fast_units.specs.device.Settling.{IsSettled, Serves}
 use Rattle.fast_units.specs.device.Taking.{Turns}
 use Rattle.fast_units.specs.device.UnitFronts.{IsSent}
 use Rattle.fast_units.specs.device.Words.{ServesField}
 use Rattle.fast_units.proofs.Deciding.{item_value, needs_some, stands_sent, stands_unsent}
-use Rattle.fast_units.proofs.DecimalItems.{ranged_within}
+use Rattle.fast_items.proofs.DecimalItems.{ranged_within}
 use Rattle.fast_units.proofs.Turning.{turns_as, turns_done, turns_none, turns_run, result_done}
 use Rattle.fast_cursor.specs.declared.place.Place.{Place}
 use Rattle.fast_cursor.specs.device.Cursors.{bits_left}

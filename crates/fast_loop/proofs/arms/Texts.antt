@@ -25,9 +25,9 @@ use Rattle.fast_units.specs.declared.scratch.Scratch.{Scratch}
 use Rattle.fast_units.specs.declared.source.ValueSource.{ValueSource}
 use Rattle.fast_units.specs.declared.source.ValueSource.TheVariants as From
 use Rattle.fast_units.specs.device.Deciding.{needs_bytes, IsDecided}
-use Rattle.fast_units.specs.device.FieldsAs.{IsFieldAs, GivesWhole, reader_in}
+use Rattle.fast_items.specs.device.FieldsAs.{IsFieldAs, GivesWhole, reader_in}
 use Rattle.fast_units.specs.device.Settling.{value_at}
-use Rattle.fast_units.specs.device.TextItems.{IsUnsentText}
+use Rattle.fast_items.specs.device.TextItems.{IsUnsentText}
 use Rattle.fast_units.proofs.Deciding.{stands_unsent, constant_decided, default_decided, no_entry}
 use Rattle.fast_cursor.specs.declared.place.Place.{Place}
 use Rattle.fast_cursor.specs.device.Cursors.{bits_left}

@@ -15,11 +15,11 @@ use Rattle.fast_stream.specs.declared.faults.FaultCode.{FaultCode}
 use Rattle.fast_stream.specs.declared.faults.FaultCode.TheVariants.{SinkStopped}
 use Rattle.fast_stream.specs.device.Readers.{Done}
 use Rattle.fast_stream.specs.device.GrammarReaders.{reader_of}
-use Rattle.fast_units.specs.device.FieldsAs.{IsFieldAs, GivesWhole, reader_in}
+use Rattle.fast_items.specs.device.FieldsAs.{IsFieldAs, GivesWhole, reader_in}
 use Rattle.fast_units.specs.device.Settling.{Serves}
 use Rattle.fast_units.specs.device.Taking.{Turns}
 use Rattle.fast_units.specs.device.UnitFronts.{IsSent}
-use Rattle.fast_units.specs.declared.taken.TakenText.{TakenText}
+use Rattle.fast_items.specs.declared.taken.TakenText.{TakenText}
 use Rattle.fast_value.specs.declared.kinds.Kind.{Kind}
 use Rattle.fast_value.specs.declared.kinds.Kind.TheVariants.{Ascii}
 use Rattle.fast_tree.specs.declared.operators.Operator.{Operator}

@@ -1,14 +1,11 @@
--- Fields of integers by their opcodes.
+-- Fields by their nodes, where they stand in the stream.
 use Rattle.std.proofs.Common.{ap, ◌∙◌, inl, inr, arith}
 use Rattle.std.specs.Prelude.{◌≡◌, ◌≢◌, ◌⊎◌, ℕ, ◌<◌, ◌≤◌, Bool, true, false, length, slice_get, get_or, Some, None, if◌then◌else◌}
 use Rattle.std.proofs.lemmas.Option.{slice_get_cases}
 use Rattle.fast_wire.specs.meaning.Maps.{first_bit}
 use Rattle.fast_tree.specs.declared.instructions.Node.{Node}
-use Rattle.fast_template.specs.declared.opcodes.Sending.{Sending}
-use Rattle.fast_template.specs.declared.opcodes.Sending.TheVariants as As
 use Rattle.fast_tree.specs.declared.operators.Operator.TheVariants.{Constant}
 use Rattle.fast_template.specs.declared.sets.Templates.{Templates}
-use Rattle.fast_template.specs.device.Opcodes.{sending_operator}
 use Rattle.fast_tree.specs.meaning.Tree.{FieldData, uses_bit}
 use Rattle.fast_cursor.specs.device.Cursors.{CursorData}
 use Rattle.fast_stream.specs.meaning.Fields.{field_term}
@@ -16,19 +13,6 @@ use Rattle.fast_stream.specs.meaning.Messages.{State}
 use Rattle.fast_cursor.specs.device.Segments.{first_node}
 use Rattle.fast_units.specs.device.UnitFronts.{IsSent}
 use Rattle.fast_machine.specs.device.Positions.{bit_of}
-
--- A field that stands in the stream is no constant.
-pub never_constant : (s : Sending) → sending_operator s ≢ Constant
-never_constant As.Plain = λ e. absurd (cc e)
-never_constant As.NullablePlain = λ e. absurd (cc e)
-never_constant As.Default = λ e. absurd (cc e)
-never_constant As.NullableDefault = λ e. absurd (cc e)
-never_constant As.Copy = λ e. absurd (cc e)
-never_constant As.NullableCopy = λ e. absurd (cc e)
-never_constant As.Increment = λ e. absurd (cc e)
-never_constant As.NullableIncrement = λ e. absurd (cc e)
-never_constant As.Delta = λ e. absurd (cc e)
-never_constant As.NullableDelta = λ e. absurd (cc e)
 
 -- Its presence bit is set, or it has none.
 pub sent_by_bit : (f : FieldData) (st : State) (b : Bool) → f.operator ≢ Constant → uses_bit f ≡ b → (b ≡ false) ⊎ (first_bit st.bits ≡ true) → IsSent f (bit_of f st)

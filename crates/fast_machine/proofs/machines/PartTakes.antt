@@ -190,9 +190,6 @@ module _ (set : Set) (l : Limits) (m : Machine) (s : Slots) (e : Pending) where
         }
 
     -- It can turn, once the integer is whole.
-    pub first_turn : m.waiting ≡ Field → e.bytes ≡ [] → CanTurn set l (record m { slots = s; entity = e })
-    first_turn is none = let can = subst (λ (w : Waiting). CanTake w set l m) is ready.takes in record { supplied = part_supplied; placed = can.0; mapped = can.1; unused = none }
-
     pub second_turn : (x : ℤ) → m.waiting ≡ Mantissa x → e.bytes ≡ [] → CanTurn set l (record m { slots = s; entity = e })
     second_turn x is none = let can = subst (λ (w : Waiting). CanTake w set l m) is ready.takes in record { supplied = part_supplied; placed = can.0; mapped = can.1; unused = none }
 

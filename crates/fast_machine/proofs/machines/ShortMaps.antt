@@ -12,12 +12,11 @@ use Rattle.fast_cursor.specs.device.MapTaking.{IsMapTaken}
 use Rattle.fast_units.specs.device.Taking.{Turns}
 use Rattle.fast_machine.specs.device.Positions.{Set, segment_behind, CanTurn, IsReady, turning}
 use Rattle.fast_machine.specs.device.FitMaps.{IsFitMap}
-use Rattle.fast_machine.specs.device.TurnsLeft.{Way, HasTurns}
 use Rattle.fast_machine.specs.declared.machine.Machine.{Machine}
 use Rattle.fast_machine.specs.declared.machine.Waiting.TheVariants.{SegmentMap}
 use Rattle.fast_cursor.specs.declared.pending.MapFront.TheVariants.{Whole}
 use Rattle.fast_machine.specs.declared.turns.Turns.{Turns as TurnCount}
-use Rattle.fast_machine.proofs.machines.OpenMaps.{map_read, map_turns, map_counted}
+use Rattle.fast_machine.proofs.machines.OpenMaps.{map_read, map_turns}
 
 -- One byte has none to spare,
 spare_short : (w : List ℕ) → length w ≤ 1 → spare w ≡ false
@@ -52,6 +51,3 @@ module _ (set : Set) (l : Limits) (m : Machine) (width : ℕ) (c : CursorData) (
 
   pub segment_turns : CanTurn set l (record m { cursor = c; turns = turns })
   segment_turns = map_turns set l m width c turns rest 1 waits ready taken fit same
-
-  pub segment_counted : (way : Way) (n : ℕ) → turns.count ≡ m.turns.count + 1 → HasTurns way set l 0 n m → HasTurns way set l 0 (1 + n) (record m { cursor = c; turns = turns })
-  segment_counted = map_counted set l m width c turns rest 1 waits ready taken fit same

@@ -1,6 +1,6 @@
 -- What a machine takes of a unit, and the turn behind it.
 use Rattle.std.proofs.Common.{refl, sym, ap, ◌∙◌, subst, arith}
-use Rattle.std.specs.Prelude.{◌≡◌, ℕ, ◌<◌, ◌≤◌, List, [], ◌++◌, length, take, Result, Ok, Err}
+use Rattle.std.specs.Prelude.{◌≡◌, ℕ, ◌<◌, ◌≤◌, List, ◌++◌, length, take, Result, Ok, Err}
 use Rattle.std.proofs.lemmas.List.{length-take-le}
 use Rattle.fast_wire.specs.meaning.Entities.{IsEntity}
 use Rattle.fast_value.specs.declared.codes.Code.{Code}
@@ -92,11 +92,6 @@ module _ {S : Type 0} (takes stops : S → EventData → S → Type 0) (set : Se
 -- A machine that waits for the first integer of a field, none of whose bytes has come, stands between two units.
 pub can_take_field : (set : Set) (l : Limits) (m : Machine) → m.waiting ≡ Field → IsReady set l m → CanTake Field set l m
 can_take_field set l m waits ready = subst (λ (w : Waiting). CanTake w set l m) waits ready.takes
-
-pub can_turn_field : (set : Set) (l : Limits) (m : Machine) → m.waiting ≡ Field → IsReady set l m → m.entity.bytes ≡ [] → CanTurn set l m
-can_turn_field set l m waits ready none =
-    let can = can_take_field set l m waits ready in
-    record { supplied = ready.supplied; placed = can.0; mapped = can.1; unused = none }
 
 -- Behind a turn that goes on the machine is between two units.
 pub can_turn_on : (set : Set) (l : Limits) (m : Machine) (turn : Turn) → (turn ≡ TurnWaits → ⊥) → GoesOn set l m (Ok turn) → CanTurn set l m

@@ -11,7 +11,7 @@ use Rattle.fast_stream.specs.meaning.Events.{EventData}
 use Rattle.fast_stream.specs.meaning.Sinks.{Takes}
 use Rattle.fast_stream.specs.device.Readers.{Reader, Emit, Stop}
 use Rattle.fast_machine.specs.device.Handing.{Hands, Waits}
-use Rattle.fast_machine.specs.device.Moving.{emits, events_due, Moves, Onward}
+use Rattle.fast_machine.specs.device.Moving.{emits, events_due, Moves}
 use Rattle.fast_machine.proofs.units.Hanging.{hands_waits, hands_more, hands_stopped, hands_fault, hands_as}
 
 -- Fewer events are due behind some of them.
@@ -59,13 +59,6 @@ module _ {S : Type 0} (takes stops : S → EventData → S → Type 0) where
   hands_turned p on waits s Silent mid o s' to go (e, i) h = hands_as takes stops s o s' to e (subst (λ (x : S). Hands takes stops on x o s' to) i h)
   hands_turned p on waits s Handed mid o s' to go (e, es, i, taken) h = hands_as takes stops s o s' to i (hands_behind (e ∷ es) on s mid o s' to taken h)
   hands_turned p on waits s TurnWaits mid o s' to go i h = absurd (go refl)
-
-  -- A turn that goes on, behind others.
-  pub onward_handed : (r0 r on waits : Reader Dictionary) (s0 s s' : S) → Onward takes stops r0 s0 r s → Moves takes stops r s (Ok Handed) s' on waits → Onward takes stops r0 s0 on s'
-  onward_handed r0 r on waits s0 s s' before m o t q h = before o t q (hands_turned r on waits s Handed s' o t q (λ e. absurd (cc e)) m h)
-
-  pub onward_silent : (r0 r on waits : Reader Dictionary) (s0 s s' : S) → Onward takes stops r0 s0 r s → Moves takes stops r s (Ok Silent) s' on waits → Onward takes stops r0 s0 on s'
-  onward_silent r0 r on waits s0 s s' before m o t q h = before o t q (hands_turned r on waits s Silent s' o t q (λ e. absurd (cc e)) m h)
 
   -- It leaves fewer events due.
   pub fewer_due : (r on waits : Reader Dictionary) (s s' : S) → Moves takes stops r s (Ok Handed) s' on waits → events_due on < events_due r

@@ -1,7 +1,6 @@
 -- What holds of a machine behind a turn at which a segment begins or ends.
 use Rattle.std.proofs.Common.{refl, sym, ap, ◌∙◌, subst, inl, inr, arith}
-use Rattle.std.specs.Prelude.{◌≡◌, ◌≢◌, ℕ, zero, suc, ◌+◌, ◌-◌, ◌<◌, ◌≤◌, max, Bool, true, false, nat_lt, List, [], ◌∷◌, drop, length, slice_get, ℤ, nat_abs, Option, Some, None, option_map, Result, Ok, Err}
-use Rattle.std.proofs.Math.Nat.{le-max_left}
+use Rattle.std.specs.Prelude.{◌≡◌, ◌≢◌, ℕ, zero, suc, ◌+◌, ◌-◌, ◌<◌, ◌≤◌, Bool, true, false, nat_lt, List, [], ◌∷◌, drop, length, slice_get, ℤ, nat_abs, Option, Some, None, option_map, Result, Ok, Err}
 use Rattle.std.proofs.lemmas.Bool.{lt-ltb}
 use Rattle.std.proofs.lemmas.Option.{slice_get_cases}
 use Rattle.fast_wire.specs.meaning.Maps.{bits, first_bit, later_bits}
@@ -12,7 +11,7 @@ use Rattle.fast_value.specs.meaning.Limits.{Bounds, bounds}
 use Rattle.fast_tree.specs.declared.instructions.Node.{Node}
 use Rattle.fast_tree.specs.device.Numbers.{AreBelow, numbers_of}
 use Rattle.fast_tree.specs.meaning.Sizes.{depth, body_depth}
-use Rattle.fast_tree.specs.meaning.Tree.{FieldData, Instruction, step, Body, bits_of}
+use Rattle.fast_tree.specs.meaning.Tree.{FieldData, Body, bits_of}
 use Rattle.fast_dict.specs.meaning.Dictionary.{Dictionary, previous_at}
 use Rattle.fast_dict.specs.meaning.Operators.{nothing, decide}
 use Rattle.fast_dict.specs.meaning.Slots.{slots_dictionary, slots_terms}
@@ -25,7 +24,7 @@ use Rattle.fast_machine.specs.declared.machine.Turn.TheVariants.{Silent, Handed,
 use Rattle.fast_machine.specs.declared.machine.Waiting.TheVariants.{Map, SegmentMap, Field}
 use Rattle.fast_units.specs.declared.source.ValueSource.{ValueSource}
 use Rattle.fast_stream.specs.meaning.Events.{EventData, GroupStart, GroupEnd, SequenceStart, ElementStart, ElementEnd, MessageEnd}
-use Rattle.fast_stream.specs.device.Readers.{Reader, Done, Emit, Stop}
+use Rattle.fast_stream.specs.device.Readers.{Reader, Done, Emit}
 use Rattle.fast_stream.specs.meaning.Grammar.{Grammar, hand, presence_map, narrow, ◌>>=◌, of_result}
 use Rattle.fast_stream.specs.device.GrammarReaders.{presence_map_reader, reader_of}
 use Rattle.fast_stream.specs.meaning.Messages.{Context, State, field_in, map_bits, within_limits, length_in}
@@ -43,7 +42,7 @@ use Rattle.fast_cursor.specs.device.Segments.{elements_data}
 use Rattle.fast_cursor.specs.device.Cursors.{ElementsData, FrameData, CursorData, bits_behind, bits_left, resting, frame_here, entered, left_to}
 use Rattle.fast_machine.specs.device.Positions.{Set, run_in, body_in, IsBodyOf, frame_by, frames_in, state_in, IsMapWhole, AreElementsFit, AreFramesFit, IsPlaced, IsSupplied, CanTurn, IsTurn, IsAtGroup, IsAtSequence, BeginsWithInteger, bit_of, turning, meaning}
 use Rattle.fast_stream.proofs.streams.Frames.{sequence-same, counting, at_end, at_group, group_turn, at_optional_group, close_group, close_element, close_message}
-use Rattle.fast_units.proofs.Turning.{result_done, result_stop}
+use Rattle.fast_units.proofs.Turning.{result_done}
 use Rattle.fast_machine.proofs.units.Hanging.{hands_waits, hands_more, hands_last}
 use Rattle.fast_machine.proofs.steps.Moves.{moves_one, moves_halt, moves_more, moves_as}
 use Rattle.fast_stream.proofs.readers.UnitReaders.{below-nil}
@@ -219,14 +218,6 @@ closed_in set l m c elements h left f fs frames =
     let (is, same) = left f fs frames in
     (is, ap (λ (ops : List Op). option_map (elements_data ops) elements) (sym h.program) ∙ same)
 
--- An instruction nests no deeper than there is room for.
-pub room_inside : (set : Set) (c : CursorData) (i : Instruction) → IsPlaced set c → body_in set c.left ≡ step i (body_in set (drop 1 c.left)) → length c.frames + depth i ≤ c.depth
-room_inside set c i h e =
-    let all : body_depth (body_in set c.left) ≡ max (depth i) (body_depth (body_in set (drop 1 c.left))) = ap body_depth e in
-    let less = le-max_left (depth i) (body_depth (body_in set (drop 1 c.left))) in
-    let nested = h.nested in
-    omega (arith, all, less, nested)
-
 -- a group that begins, of which the bit is used
 abbrev pub group_start : Set → Limits → Machine → ℕ → List ℕ → ℕ → Reader Dictionary
 group_start set l m node body used =
@@ -372,19 +363,6 @@ length_within set l m m' node (Some x) f body claimed count some within behind =
     ∙ ap (λ b. Emit (SequenceStart node count) (reader_of l.strict (elements_turn (bounds l) fs count (body_in set body) is
     (record { context = record { dictionary = slots_dictionary m.slots; counted = m.counted + count }; bits = b })))) (sym behind.bits)
     ∙ ap (λ (x : Machine). Emit (SequenceStart node count) (elements_of set l x count body)) (sym behind.same)
-
--- A length outside them.
-pub length_outside : (set : Set) (l : Limits) (m : Machine) (node : ℕ) (v : Option ScalarData) (f : FieldData) (body : List ℕ) (claimed : ℤ) (c : Code) → Some claimed ≡ option_map integer_of v
-    → Err c ≡ within_limits (bounds l) m.counted (nat_abs claimed) → length_from set l m node v f body ≡ Stop c
-length_outside set l m node None f body claimed c some outside = absurd (cc some)
-length_outside set l m node (Some x) f body claimed c some outside =
-    let fs = frames_in set m.cursor.frames in
-    let is = body_in set (drop 1 m.cursor.left) in
-    let s : State = state_past f (slots_dictionary m.slots) m.counted m.cursor in
-    let same : integer_of x ≡ claimed = cc some in
-    let wrong : length_in (bounds l) s.context x ≡ Err c = ap (λ z. within_limits (bounds l) m.counted (nat_abs z)) same ∙ sym outside in
-    ap (reader_of l.strict) (sequence-same (bounds l) fs node (body_in set body) is (Some x, s))
-    ∙ result_stop l.strict (length_in (bounds l) s.context x) (λ n. hand (SequenceStart node n) (elements_turn (bounds l) fs n (body_in set body) is (counting n s))) wrong
 
 -- The next instruction is a sequence: what is to be read.
 pub sequence_next : (set : Set) (l : Limits) (m : Machine) (n : ℕ) (f : FieldData) (body : List ℕ) → IsAtSequence set m.cursor n f body

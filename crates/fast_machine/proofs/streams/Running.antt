@@ -252,24 +252,6 @@ module _ {S : Type 0} (takes stops : S → EventData → S → Type 0) (set : Se
     pub turn : CanTurn set l m'
     pub turns : (way : Way) (n : ℕ) → HasTurns way set l 0 n m → HasTurns way set l 0 (n + (length piece - length rest) * (1 + most_by way (tree_in set) l)) m'
 
-  -- at the beginning
-  pub so_far_none : (m m' : Machine) (piece : List ℕ) (s : S) (w : Waiting) → m' ≡ record m { waiting = w } → CanTurn set l m → IsSoFar m piece s piece s m'
-  so_far_none m m' piece s w same can =
-      let none : length piece - length piece ≡ 0 = omega arith in
-      rw same (record {
-        within = omega arith;
-        is = rw none refl;
-        runs = rw none (λ u o t to fed. fed);
-        turn = can_turn_waits set l m w m.text can refl;
-        turns = λ way n h. rw none (more_behind (Ok Silent) way set l n (n + 0 * (1 + most_by way (tree_in set) l)) m (omega arith) h);
-      })
-
-  -- No more is left behind a step than before it.
-  pub no_more_left : (rest : List ℕ) (n k : ℕ) → n ≤ length rest → length rest ≤ k → length (take (length rest - n) (drop n rest)) ≤ k
-  no_more_left rest n k inside less =
-      let size : length (take (length rest - n) (drop n rest)) ≡ length rest - n = ap length (take_rest rest n) ∙ length-drop n rest in
-      omega (arith, size, less)
-
   -- what is left behind a step
   left_behind : (piece rest : List ℕ) (n : ℕ) → length rest ≤ length piece → rest ≡ drop (length piece - length rest) piece → n ≤ length rest
       → (length (take (length rest - n) (drop n rest)) ≡ length rest - n) × (take (length rest - n) (drop n rest) ≡ drop (length piece - (length rest - n)) piece) × (take (length piece - length rest) piece ++ take n rest ≡ take (length piece - (length rest - n)) piece)

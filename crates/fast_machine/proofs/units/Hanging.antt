@@ -35,11 +35,3 @@ module _ {S : Type 0} (takes stops : S → EventData → S → Type 0) where
   -- the same by another name of the reader
   pub hands_as : {p p' : Reader Dictionary} (s : S) (r : Result Unit FaultCode) (s' : S) (q : Reader Dictionary) → p ≡ p' → Hands takes stops p' s r s' q → Hands takes stops p s r s' q
   hands_as s r s' q e h = subst (λ (p : Reader Dictionary). Hands takes stops p s r s' q) (sym e) h
-
-  -- A sink stops at the event in front of what is left.
-  pub hands_halt : {p p' : Reader Dictionary} {e : EventData} (s : S) (c : FaultCode) (s' : S) (q : Reader Dictionary) → p ≡ Emit e p' → (c ≡ Why.SinkStopped) × stops s e s' → Hands takes stops p s (Err c) s' q
-  hands_halt {p' = p'} {e = e} s c s' q i h = hands_as s (Err c) s' q i (hands_stopped e p' s s' q c h)
-
-  -- A sink takes the event in front of what is left.
-  pub hands_next : {p p' : Reader Dictionary} {e : EventData} (s mid : S) (r : Result Unit FaultCode) (s' : S) (q : Reader Dictionary) → p ≡ Emit e p' → takes s e mid → Hands takes stops p' mid r s' q → Hands takes stops p s r s' q
-  hands_next {p' = p'} {e = e} s mid r s' q i h j = hands_as s r s' q i (hands_more e p' s mid r s' q h j)

@@ -1,6 +1,6 @@
 -- Bytes that are kept in hand of a unit which goes on behind them.
 use Rattle.std.specs.Prelude.{◌≡◌, ◌≢◌, ℕ, ◌+◌, List, ◌++◌, drop}
-use Rattle.fast_units.specs.declared.taken.BegunText.{BegunText}
+use Rattle.fast_items.specs.declared.taken.BegunText.{BegunText}
 use Rattle.fast_value.specs.declared.settings.Limits.{Limits}
 use Rattle.fast_machine.specs.declared.machine.Machine.{Machine}
 use Rattle.fast_machine.specs.declared.machine.Waiting.{Waiting}

@@ -35,11 +35,6 @@ abbrev pub length_then : Set → Bounds → ℕ → Option ScalarData → FieldD
 length_then set l n v f body d counted c =
     sequence_from_then l n (segment_then (body_in set body) (body_then l (body_in set body))) (resume l (frames_in set c.frames) (body_in set (drop 1 c.left))) (v, state_past f d counted c)
 
--- What is still to be read of a segment that begins: its map, if it has one, and its instructions.
-abbrev pub segment_opened : Set → Bounds → Dictionary → ℕ → CursorData → Grammar Dictionary
-segment_opened set l d counted c =
-    own_bits (body_in set c.left) >>= (λ b. resume l (frames_in set c.frames) (body_in set c.left) (record { context = record { dictionary = d; counted = counted }; bits = b }))
-
 -- What is still to be read of the next instruction, a group that is there, once its bit is used, if it has one.
 abbrev pub group_from : Set → Bounds → ℕ → List ℕ → Dictionary → ℕ → CursorData → Grammar Dictionary
 group_from set l n body d counted c =

@@ -4,10 +4,6 @@ use Rattle.fast_wire.specs.meaning.Entities.{HaveNoStop, IsEntity}
 use Rattle.fast_wire.specs.meaning.Maps.{map_limit, bits, first_bit}
 use Rattle.fast_value.specs.declared.settings.Limits.{Limits}
 use Rattle.fast_value.specs.meaning.Limits.{Bounds, bounds}
-use Rattle.fast_value.specs.declared.kinds.Kind.{Kind}
-use Rattle.fast_template.specs.declared.opcodes.Sending.{Sending}
-use Rattle.fast_template.specs.device.Opcodes.{IsSentAs}
-use Rattle.fast_tree.specs.declared.instructions.FieldInstruction.{FieldInstruction}
 use Rattle.fast_tree.specs.declared.instructions.Shape.TheVariants as Shape
 use Rattle.fast_tree.specs.declared.instructions.Node.{Node}
 use Rattle.fast_tree.specs.declared.instructions.Template.{Template}
@@ -269,10 +265,6 @@ IsAtGroup set c n optional body = (at : Label) × (at.node ≡ n) × (0 < length
 
 abbrev pub IsAtSequence : Set → CursorData → ℕ → FieldData → List ℕ → Type 0
 IsAtSequence set c n f body = (at : Label) × (at.node ≡ n) × (0 < length c.left) × (body_in set c.left ≡ step (sequence at f (body_in set body)) (body_in set (drop 1 c.left)))
-
--- The node is a field of integers of the kind, which stands so.
-abbrev pub IsAtInteger : Set → ℕ → Kind → Sending → Type 0
-IsAtInteger set n kind sending = (n < length set.nodes) × ((x : Node) → slice_get set.nodes n ≡ Some x → (f : FieldInstruction) × (x.shape ≡ Shape.Field f) × IsSentAs f kind sending)
 
 -- The machine is between two units: no byte is in hand, and what is next may need none.
 pub record CanTurn (set : Set) (l : Limits) (m : Machine) : Type 0 where

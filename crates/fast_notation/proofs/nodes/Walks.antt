@@ -76,8 +76,3 @@ body_at is ms p n found =
 -- a body with no node left
 pub body_at_end : (is : List Instruction) (ms : List ℕ) (p : ℕ) → length ms ≤ p → body_of 0 is (drop p ms) ≡ end
 body_at_end is ms p past = ap (body_of 0 is) (drop_all p ms past)
-
--- as many instructions as nodes
-pub instructions_count : (own : ℕ) (ns : List Node) → length (instructions_from own ns) ≡ length ns
-instructions_count own [] = refl
-instructions_count own (n ∷ ns) = ap suc (instructions_count (suc own) ns)

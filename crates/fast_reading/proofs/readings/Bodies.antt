@@ -1,6 +1,6 @@
 -- One slot more, one element more, one message more.
 use Rattle.std.proofs.Common.{◌≡◌, ℕ, ◌+◌, ◌<◌, ◌≤◌, List, [], ◌∷◌, ◌++◌, length, drop, refl, ap, sym, subst, ◌∙◌, append_assoc, arith}
-use Rattle.std.specs.Prelude.{IsSome, Option, Some, None, option_map, flat_map, slice_get, slice_index}
+use Rattle.std.specs.Prelude.{Option, Some, None, option_map, flat_map, slice_get, slice_index}
 use Rattle.std.specs.declared.vec.Vec.{Vec}
 use Rattle.std.specs.declared.alloc.Global.{Global}
 use Rattle.std.proofs.lemmas.Grind.{flat_map-append}
@@ -15,7 +15,6 @@ use Rattle.fast_tree.specs.device.Bodies.{body_among}
 use Rattle.fast_tree.specs.meaning.Tree.{Instruction, Body, end, step, TemplateData, Tree}
 use Rattle.fast_stream.specs.meaning.Events.{EventData, MessageStart, MessageEnd, ElementStart, ElementEnd, SequenceEnd, element_events, item_events, body_events, template_events, events}
 use Rattle.fast_stream.specs.meaning.Messages.{with_slot}
-use Rattle.fast_lines.specs.declared.forms.Line.{Line}
 use Rattle.fast_lines.specs.meaning.Forms.{LineData, message, element as element_line, sequence_end, line_data, line_of_event}
 use Rattle.fast_lines.specs.meaning.Lines.{line_of, lines, template_name}
 use Rattle.fast_spelling.specs.device.Nodes.{instruction_in}
@@ -24,15 +23,11 @@ use Rattle.fast_spelling.proofs.encodings.Progress.{body_next, body_last}
 use Rattle.fast_reading.specs.declared.cursors.Cursor.{Cursor}
 use Rattle.fast_reading.specs.declared.endings.Ending.{Ending}
 use Rattle.fast_reading.specs.declared.endings.Ending.TheVariants as Ends
-use Rattle.fast_reading.specs.declared.faults.TextFault.{TextFault}
-use Rattle.fast_reading.specs.declared.faults.TextFault.TheVariants.{BadLine, Memory}
-use Rattle.fast_reading.specs.device.Ahead.{feeds, text_from}
-use Rattle.fast_reading.specs.device.Cursors.{ahead, Advances, IsNear}
+use Rattle.fast_reading.specs.device.Cursors.{ahead, Advances}
 use Rattle.fast_reading.specs.meaning.Distinct.{number}
 use Rattle.fast_reading.specs.device.Naming.{Names, end_event, end_line}
 use Rattle.fast_reading.specs.device.Progress.{followed, IsReadTo, AreReadTo, AreMessagesRead}
-use Rattle.fast_reading.specs.meaning.Reading.{closed, Says}
-use Rattle.fast_reading.specs.device.Runs.{IsBodyRead, IsItemRead, AreRowsRead, IsMessageRead, IsLineOf}
+use Rattle.fast_reading.specs.device.Runs.{IsBodyRead, IsItemRead, AreRowsRead, IsMessageRead}
 use Rattle.fast_reading.proofs.texts.NoFeeds.{name_is}
 use Rattle.fast_reading.specs.meaning.Unsaid.{HasNoItem, HasNoBody}
 use Rattle.fast_reading.proofs.refusals.Left.{left_start, left_absent, left_present}
@@ -176,11 +171,6 @@ message_read t n u vs m c mid next is found line on one =
       said = said_as t (MessageStart n ∷ (body_events u.body vs ++ MessageEnd ∷ [])) (events t m) c next (sym all ∙ ap (events t) (sym is)) (said_both t (MessageStart n ∷ []) (body_events u.body vs ++ MessageEnd ∷ []) c mid next start one.said);
     }
 
-pub messages_start : (t : Tree) (text : List ℕ) (c : Cursor) → ahead c ≡ closed text → c.number ≡ 1 → AreMessagesRead t text [] c
-messages_start t text c here first =
-    let all : feeds (ahead c) ≡ feeds (closed text) = ap feeds here in
-    record { suit = All-nil (SuitsTemplate t); text_is = sym here; from = omega (arith, first); to = omega (arith, first, all) }
-
 pub messages_more : (t : Tree) (text : List ℕ) (ms : List MessageData) (m : MessageData) (a b : Cursor) → AreMessagesRead t text ms a → IsMessageRead t m a b → AreMessagesRead t text (ms ++ m ∷ []) b
 messages_more t text ms m a b h one =
     let from = h.from in
@@ -196,24 +186,6 @@ messages_more t text ms m a b h one =
       from = omega (arith, from, on);
       to = omega (arith, to, back);
     }
-
-none_ahead : (line : Option Line) (rest : List ℕ) → ¬ (IsSome line) → text_from line rest ≡ []
-none_ahead None rest h = refl
-none_ahead (Some l) rest h = absurd (h refl)
-
-pub messages_done : (t : Tree) (text : List ℕ) (ms : List MessageData) (c : Cursor) → ¬ (IsSome c.line) → AreMessagesRead t text ms c → Says t text ms
-messages_done t text ms c past h = record {
-  suit = h.suit;
-  same = h.text_is ∙ ap (λ (z : List ℕ). lines t (flat_map (events t) ms) ++ z) (none_ahead c.line c.rest.now past) ∙ append-nil (lines t (flat_map (events t) ms));
-}
-
--- A fault near where messages were read up to is one of the text's.
-pub near_of : (t : Tree) (text : List ℕ) (ms : List MessageData) (c : Cursor) (e : TextFault) → AreMessagesRead t text ms c → IsNear c e → IsLineOf text e
-near_of t text ms c (BadLine line kind) h (low, high) =
-    let from = h.from in
-    let to = h.to in
-    (omega (arith, from, low), omega (arith, to, high))
-near_of t text ms c Memory h near = tt
 
 -- A message is of one byte at least.
 pub message_shorter : (t : Tree) (m : MessageData) (a b : Cursor) → IsMessageRead t m a b → length (ahead b) < length (ahead a)

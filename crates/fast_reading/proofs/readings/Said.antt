@@ -1,8 +1,8 @@
 -- Events that were read one after the other, and how near a line at fault is.
-use Rattle.std.proofs.Common.{◌≡◌, ℕ, ◌+◌, ◌<◌, ◌≤◌, List, [], ◌∷◌, ◌++◌, length, refl, ap, sym, subst, ◌∙◌, append_assoc, arith}
+use Rattle.std.proofs.Common.{◌≡◌, ℕ, ◌+◌, ◌≤◌, List, [], ◌∷◌, ◌++◌, refl, ap, sym, subst, ◌∙◌, append_assoc, arith}
 use Rattle.std.specs.Prelude.{Option, Some, None, Result, Ok, Err, IfOk, IfErr, IsSome, option_map}
 use Rattle.std.proofs.lemmas.Grind.{flat_map-append}
-use Rattle.std.proofs.lemmas.List.{length-append, append-nil}
+use Rattle.std.proofs.lemmas.List.{append-nil}
 use Rattle.fast_tree.specs.meaning.Tree.{Tree}
 use Rattle.fast_stream.specs.meaning.Events.{EventData}
 use Rattle.fast_lines.specs.declared.forms.Line.{Line}
@@ -63,20 +63,6 @@ pub at_text : (n : ℕ) (text : List ℕ) (e : TextFault) → 1 ≤ feeds text �
 at_text n text (BadLine line kind) some is = (is, some)
 at_text n text Memory some is = tt
 
-pub next_text : (n m : ℕ) (text : List ℕ) (r : Result Cursor TextFault) → IsNextNumber n m → IfErr r (IsAtText m text) → IfErr r (IsNextText n text)
-next_text n m text (Ok next) h is = tt
-next_text n m text (Err (BadLine line kind)) h (is, some) = (subst (IsNextNumber n) (sym is) h, some)
-next_text n m text (Err Memory) h is = tt
-
--- the line ahead is at fault
-pub near_here : (c : Cursor) (e : TextFault) → IsAt c.number e → IsNear c e
-near_here c (BadLine line kind) is = (omega (arith, is), omega (arith, is))
-near_here c Memory is = tt
-
-pub near_memory : (c : Cursor) (e : TextFault) → e ≡ Memory → IsNear c e
-near_memory c (BadLine line kind) is = absurd (cc (is))
-near_memory c Memory is = tt
-
 -- nothing is read
 pub said_none : (t : Tree) (c : Cursor) → IsSaid t [] c c
 said_none t c = record { text = refl; from = omega arith; to = omega arith }
@@ -104,32 +90,3 @@ said_both t es fs a b c h k =
 
 pub said_as : (t : Tree) (es fs : List EventData) (a b : Cursor) → es ≡ fs → IsSaid t es a b → IsSaid t fs a b
 said_as t es fs a b e h = subst (λ (z : List EventData). IsSaid t z a b) e h
-
--- a fault behind what was read is near
-pub near_behind : (t : Tree) (es : List EventData) (a b : Cursor) (e : TextFault) → IsSaid t es a b → IsNear b e → IsNear a e
-near_behind t es a b (BadLine line kind) h (low, high) =
-    let from = h.from in
-    let to = h.to in
-    (omega (arith, from, low), omega (arith, to, high))
-near_behind t es a b Memory h near = tt
-
--- a fault behind the line ahead is near
-pub near_on : (a b : Cursor) (e : TextFault) → Advances a b → IsNear b e → IsNear a e
-near_on a b (BadLine line kind) h (low, high) =
-    let from = h.from in
-    let to = h.to in
-    (omega (arith, from, low), omega (arith, to, high))
-near_on a b Memory h near = tt
-
--- No more is ahead than was before.
-pub said_shorter : (t : Tree) (es : List EventData) (a b : Cursor) → IsSaid t es a b → length (ahead b) ≤ length (ahead a)
-said_shorter t es a b h =
-    let all : length (ahead a) ≡ length (lines t es ++ ahead b) = ap length h.text in
-    let parts = length-append (lines t es) (ahead b) in
-    omega (arith, all, parts)
-
-pub on_shorter : (a b : Cursor) → Advances a b → length (ahead b) < length (ahead a)
-on_shorter a b h =
-    let all : length (ahead a) ≡ length (text_of_line h.line ++ 0x0A ∷ ahead b) = ap length h.text in
-    let parts = length-append (text_of_line h.line) (0x0A ∷ ahead b) in
-    omega (arith, all, parts)

@@ -100,9 +100,6 @@ lacks_none (c ∷ cs) h = All-cons (λ b. b ≢ 0x0A) c cs (one_feed c cs h) (la
 pub one_line : (first : List ℕ) (l : Line) → first ≡ text_of_line (line_data l) → Lacks 0x0A first → IsOneLine (Some l)
 one_line first l is lacks d was = let same : line_data l ≡ d = cc (was) in ap (λ (z : LineData). feeds (text_of_line z)) (sym same) ∙ ap feeds (sym is) ∙ feeds_none first lacks
 
-pub no_line_ahead : IsOneLine None
-no_line_ahead d was = absurd (cc (was))
-
 -- Behind a line that is the first of events stand the others.
 behind : (line : Option Line) (rest : List ℕ) (t : Tree) (e : EventData) (es : List EventData) → IsSome line → IsOneLine line → IsLined t e → text_from line rest ≡ lines t (e ∷ es) → closed rest ≡ lines t es
 behind None rest t e es some one lined same = absurd (cc (some))

@@ -27,11 +27,7 @@ wide b i set far m form same =
     let clash : false ≡ true = sym none ∙ same i ∙ set in
     absurd (cc)
 
--- the map of a segment that has one, and of one that has none
-pub closes_with : (h : Bool) (b : List Bool) (m : List ℕ) → h ≡ true → IsMap true m → SameBits (bits m) b → ShortestMap h b m
-closes_with true b m e form same = (form, same)
-closes_with false b m e form same = absurd (cc e)
-
+-- the map of a segment that has none
 pub closes_without : (h : Bool) (b : List Bool) → h ≡ false → ShortestMap h b []
 closes_without true b e = absurd (cc e)
 closes_without false b e = refl

@@ -89,9 +89,6 @@ one_more_fresh es n e all one = map-append entry_now es (e ∷ []) ∙ ap (λ (p
 pub settled_kept : (m epoch : ℕ) (es : List Entry) → All (IsShort m) es → All (λ (e : Entry). e.epoch ≡ 0) es → AreKept epoch m es
 settled_kept m epoch es short settled k d h = (short k d h, let none = settled k d h in omega (arith, none))
 
-pub later_kept : (m epoch : ℕ) (es : List Entry) → AreKept epoch m es → AreKept (epoch + 1) m es
-later_kept m epoch es kept k d h = let (short, past) = kept k d h in (short, omega (arith, past))
-
 pub kept_before : (m epoch : ℕ) (es : List Entry) → AreKept epoch m es → All (λ (e : Entry). e.epoch < epoch + 1) es
 kept_before m epoch es kept k d h = let past = (kept k d h).1 in omega (arith, past)
 

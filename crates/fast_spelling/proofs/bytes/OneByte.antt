@@ -6,11 +6,6 @@ use Rattle.std.proofs.lemmas.List.{get_or-set_same, get_or-set_other, get_or_pas
 use Rattle.std.proofs.lemmas.Nat.{or_comm, or_shifted, or_lt}
 use Rattle.fast_wire.specs.meaning.Maps.{bits, IsMap}
 use Rattle.fast_wire.proofs.map_bits.Building.{bit_set, bit_kept, some_bit}
-use Rattle.fast_spelling.proofs.bytes.Bits.{blank}
-
--- no bit is set at first
-pub none_set : (k : ℕ) → get_or (bits (0 ∷ [])) k false ≡ false
-none_set k = blank 7 k
 
 -- one bit more
 byte_set : (x i : ℕ) → i < 7 → bits (bit_or x (64 / 2 ^ i) ∷ []) ≡ set (bits (x ∷ [])) i true

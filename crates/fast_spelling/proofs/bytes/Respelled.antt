@@ -157,10 +157,6 @@ long_signed k low high nullable x few fits h =
       long = long;
     }
 
-natural_sent : (nullable : Bool) (n : ℕ) → (m : ℕ) × (sent_for nullable (pos n) ≡ pos m) × (n ≤ m) × (m ≤ suc n)
-natural_sent false n = (n, refl, omega arith, omega arith)
-natural_sent true n = (suc n, refl, omega arith, omega arith)
-
 -- A signed integer whose sent form is no greater than that of one that is spelled.
 pub shorter_signed : (strict : Bool) (low high : ℤ) (nullable : Bool) (x y : ℤ) (w : List ℕ) → SpellsInt strict (record { is_signed = true; low = low; high = high }) nullable (Some y) w → IsWithin (record { is_signed = true; low = low; high = high }) x
     → mag (sent_for nullable x) ≤ mag (sent_for nullable y) → (v : List ℕ) × SpellsInt true (record { is_signed = true; low = low; high = high }) nullable (Some x) v × (length v ≤ length w)

@@ -65,13 +65,6 @@ pub suits_next : (i : Instruction) (is : Body) (x : Option ItemData) (vs : Slots
 suits_next i is None vs h = h
 suits_next i is (Some x) vs h = h
 
-pub suits_end : (x : Option ItemData) (vs : Slots) → ¬ (SuitsBody end (with_slot x vs))
-suits_end None vs h = h
-suits_end (Some x) vs h = h
-
-pub suits_none : (i : Instruction) (is : Body) → ¬ (SuitsBody (step i is) no_slots)
-suits_none i is h = h
-
 pub rest_is_end : (body : Body) → SuitsBody body no_slots → body ≡ end
 rest_is_end end h = refl
 rest_is_end (step i is) h = absurd h

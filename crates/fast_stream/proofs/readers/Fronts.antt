@@ -1,10 +1,10 @@
 -- One front of the bytes is answered, and one alone.
-use Rattle.std.proofs.Common.{refl, sym, ap, ◌∙◌, subst}
+use Rattle.std.proofs.Common.{refl, ap, ◌∙◌}
 use Rattle.std.specs.Prelude.{◌≡◌, ℕ, List, [], ◌∷◌, ◌++◌}
 use Rattle.fast_value.specs.declared.codes.Code.{Code}
 use Rattle.fast_stream.specs.meaning.Events.{EventData}
 use Rattle.fast_stream.specs.meaning.Phrases.{Reached, whole, cut, wrong}
-use Rattle.fast_stream.specs.device.Readers.{Reader, Done, Emit, Stop, Byte, Waits, Runs}
+use Rattle.fast_stream.specs.device.Readers.{Reader, Done, Emit, Stop, Byte, Runs}
 
 -- Only what is cut reaches to the end of the bytes of itself.
 abbrev pub Leaves : {A : Type 0} → Reached A → List ℕ → Type 0
@@ -54,41 +54,6 @@ at_stop : {A : Type 0} (c : Code) (u : List ℕ) (es : List EventData) (x : Reac
 at_stop c u es (whole b) h = absurd h
 at_stop c u es cut h = absurd h
 at_stop c u es (wrong d) h = (h.0, h.1, ap wrong h.2)
-
-at_byte : {A : Type 0} (es : List EventData) (x : Reached A) → Waits es x → (es ≡ []) × (x ≡ cut)
-at_byte es (whole b) h = absurd h
-at_byte es cut h = (h, refl)
-at_byte es (wrong c) h = absurd h
-
-pub one_front : {A : Type 0} (r : Reader A) (u u' v v' : List ℕ) (es es' : List EventData) (x x' : Reached A)
-    → Front r u v es x → Front r u' v' es' x' → u ++ v ≡ u' ++ v' → Same u u' v v' es es' x x'
-one_front (Done a) u u' v v' es es' x x' h h' d =
-    let i = at_done a u es x h.0 in
-    let j = at_done a u' es' x' h'.0 in
-    (i.0 ∙ sym j.0, rw (i.0, j.0) at d, i.1 ∙ sym j.1, i.2 ∙ sym j.2)
-one_front (Stop c) u u' v v' es es' x x' h h' d =
-    let i = at_stop c u es x h.0 in
-    let j = at_stop c u' es' x' h'.0 in
-    (i.0 ∙ sym j.0, rw (i.0, j.0) at d, i.1 ∙ sym j.1, i.2 ∙ sym j.2)
-one_front (Emit e r) u u' v v' es es' x x' ((gs, i, h), l) ((gs', i', h'), l') d =
-    let k = one_front r u u' v v' gs gs' x x' (h, l) (h', l') d in
-    (k.0, k.1, i ∙ ap (λ r. e ∷ r) k.2 ∙ sym i', k.3)
-one_front (Byte f) [] [] v v' es es' x x' h h' d =
-    let i = at_byte es x h.0 in
-    let j = at_byte es' x' h'.0 in
-    (refl, d, i.0 ∙ sym j.0, i.1 ∙ sym j.1)
-one_front (Byte f) [] (b ∷ u') v v' es es' x x' h h' d =
-    let i = at_byte es x h.0 in
-    let k : v ≡ [] = rw i.1 at h.1 in
-    absurd (cc (k, d))
-one_front (Byte f) (b ∷ u) [] v v' es es' x x' h h' d =
-    let i = at_byte es' x' h'.0 in
-    let k : v' ≡ [] = rw i.1 at h'.1 in
-    absurd (cc (k, d))
-one_front (Byte f) (b ∷ u) (b' ∷ u') v v' es es' x x' h h' d =
-    let k : b ≡ b' = ap head_of d in
-    let t = one_front (f b) u u' v v' es es' x x' h (subst (λ c. Runs (f c) u' es' x') (sym k) h'.0, h'.1) (ap rest_of d) in
-    (cc (k, t.0), t.1, t.2, t.3)
 
 -- Before its last byte what is read is cut, with a front of the events.
 pub earlier : {A : Type 0} (r : Reader A) (u v : List ℕ) (b : ℕ) (es : List EventData) (x : Reached A) → Runs r (u ++ b ∷ v) es x

@@ -12,7 +12,6 @@ use Rattle.fast_stream.specs.meaning.Events.{EventData, events}
 use Rattle.fast_stream.specs.meaning.Phrases.{whole}
 use Rattle.fast_stream.specs.meaning.Messages.{message_term, message, SpellsMessage}
 use Rattle.fast_stream.specs.meaning.Streams.{End, between, faulted, Chain, Stream}
-use Rattle.fast_stream.specs.meaning.Account.{TellsStream, account_at}
 use Rattle.fast_stream.specs.device.Readers.{Reader, Byte, AreBytes, Reads}
 use Rattle.fast_stream.specs.meaning.Grammar.{give}
 use Rattle.fast_stream.specs.device.GrammarReaders.{presence_map_reader, reader_of}
@@ -21,7 +20,7 @@ use Rattle.fast_stream.proofs.readers.Grammars.{reads-grammar, reader-then}
 use Rattle.fast_stream.proofs.terms.Lenient.{spelled-lenient}
 use Rattle.fast_stream.proofs.terms.Continuations.{message-same}
 use Rattle.fast_stream.proofs.terms.MessageEvents.{message-events}
-use Rattle.fast_stream.proofs.streams.Streams.{left, more, run-append, run-complete, run-sound, one-answer}
+use Rattle.fast_stream.proofs.streams.Streams.{left, more, run-append, run-sound, one-answer}
 
 -- A message's reader waits for a byte.
 pub message_first : Tree → Limits → Dictionary → ℕ → Reader (MessageData × Dictionary)
@@ -52,11 +51,6 @@ reading-sound t l w b =
     (run-sound t l (message_first t l) (reads-first t l) (told t l) w b)
 
 -- Whatever stream bytes are said to be, it is what is read from them.
-pub reading-complete : (t : Tree) (l : Limits) (w : List ℕ) (es : List EventData) (e : End) → Stream t l w es e → ((reading t l w).0 ≡ es) × (end_of (reading t l w).1 ≡ e)
-reading-complete t l w es e h =
-    subst (λ f. ((run f 0 (at_start (fresh t.entries)) w).0 ≡ es) × (end_of (run f 0 (at_start (fresh t.entries)) w).1 ≡ e)) (all-begun t l)
-    (run-complete t l (message_first t l) (reads-first t l) (told t l) w es e h)
-
 pub one_answer : (t : Tree) (l : Limits) (w : List ℕ) (es es' : List EventData) (e e' : End) → Stream t l w es e → Stream t l w es' e' → (es ≡ es') × (e ≡ e')
 one_answer t l w es es' e e' h h' = one-answer t l (message_first t l) (reads-first t l) (told t l) w es es' e e' h h'
 
@@ -69,10 +63,6 @@ chain_more t l u v fs d d' m h i = more t l (message_first t l) (reads-first t l
 pub reading-append : (t : Tree) (l : Limits) (w v : List ℕ)
     → ((reading t l (w ++ v)).0 ≡ (reading t l w).0 ++ (run (message_begun t l) (length w) (reading t l w).1 v).0) × ((reading t l (w ++ v)).1 ≡ (run (message_begun t l) (length w) (reading t l w).1 v).1)
 reading-append t l w v = run-append (message_begun t l) 0 (length w) (at_start (fresh t.entries)) w v (omega arith)
-
--- where the bytes of a stream leave a decoder
-pub reading-tells : (t : Tree) (l : Limits) (w : List ℕ) → AreBytes w → TellsStream t l w (reading t l w).0 (account_at w (end_of (reading t l w).1))
-reading-tells t l w b = (end_of (reading t l w).1, reading-sound t l w b, refl)
 
 -- Each stream of bytes has an answer.
 pub some_answer : (t : Tree) (l : Limits) (w : List ℕ) → AreBytes w → (es : List EventData) × (e : End) × Stream t l w es e

@@ -1,8 +1,7 @@
-//! Template sets: texts and their faults, entries, caps and opcodes.
+//! Template sets: texts and their faults, entries and caps.
 
 mod caps;
 mod chains;
-mod opcodes;
 mod sets;
 mod texts;
 mod widths;

@@ -23,9 +23,6 @@ pub last_of : (front : List ℕ) (byte last : ℕ) → get_or (front ++ byte ∷
 last_of [] byte last = refl
 last_of (x ∷ front) byte last = last_behind x (front ++ byte ∷ last ∷ []) (omega (arith, length-append front (byte ∷ last ∷ []))) ∙ last_of front byte last
 
-pub spare_is_long : (w : List ℕ) → HasSpareByte w → 1 < length w
-spare_is_long w (front, byte, last, d, e) = rw d (omega (arith, length-append front (byte ∷ last ∷ [])))
-
 -- whether the last byte is spare, by its lower seven bits
 pub spare_by_mask : (w : List ℕ) → 1 < length w → (eqb (bit_and (get_or w (length w - 1) 0) 127) 0 ≡ true) ↔ HasSpareByte w
 spare_by_mask w l = (

@@ -1,6 +1,6 @@
 //! Readers and writers of the tests.
 
-ghost use Rattle.std.specs.Prelude.{None, false};
+ghost use Rattle.std.specs.Prelude.{None};
 
 use fast_text::{Failed, Source, Target};
 
@@ -43,53 +43,44 @@ impl Source for Drip<'_> {
     }
 }
 
-/// Counts the lines that it is given, and takes one byte a write.
+/// Counts lines and flushes, and takes a byte a write, or all. It can fail at a flush. The tests of both have one writer, since the compiler
+/// makes the decoder's loop once more for each.
 #[derive(Drop)]
-pub struct Lines {
-    pub count: u64,
-}
-
-impl Target for Lines {
-    ghost written = { λ _. None };
-
-    ghost has_failed = { λ _. false };
-
-    fn write(&mut self, piece: &[u8]) -> Result<usize, Failed> {
-        match piece.first() {
-            Some(byte) => {
-                if *byte == b'\n' {
-                    self.count = self.count.saturating_add(1);
-                }
-                Ok(1)
-            }
-            None => Ok(0),
-        }
-    }
-
-    fn flush(&mut self) -> Result<(), Failed> {
-        Ok(())
-    }
-
-    fn failed(&self) -> bool {
-        false
-    }
-}
-
-/// Takes all that is written, and fails at a flush.
-#[derive(Drop)]
-pub struct Flushed {
+pub struct Counted {
+    pub is_slow: bool,
+    pub lines: u64,
     pub flushes: u64,
     pub fails_at: u64,
     pub failed: bool,
 }
 
-impl Target for Flushed {
+impl Counted {
+    /// One that has taken nothing.
+    pub fn new(is_slow: bool, fails_at: u64) -> Counted {
+        Counted {
+            is_slow,
+            lines: 0,
+            flushes: 0,
+            fails_at,
+            failed: false,
+        }
+    }
+}
+
+impl Target for Counted {
     ghost written = { λ _. None };
 
     ghost has_failed = { λ s. s.failed };
 
     fn write(&mut self, piece: &[u8]) -> Result<usize, Failed> {
-        Ok(piece.len())
+        let most = if self.is_slow { 1 } else { piece.len() };
+        let taken = piece.len().min(most);
+        for byte in &piece[..taken] {
+            if *byte == b'\n' {
+                self.lines = self.lines.saturating_add(1);
+            }
+        }
+        Ok(taken)
     }
 
     fn flush(&mut self) -> Result<(), Failed> {

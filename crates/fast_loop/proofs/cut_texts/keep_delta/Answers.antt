@@ -1,7 +1,7 @@
 -- The text that has begun, with the room that the dictionary's limit leaves.
 use Rattle.std.proofs.Common.{subst, ℕ}
 use Rattle.fast_tree.specs.declared.operators.Operator.TheVariants.{Delta}
-use Rattle.fast_units.specs.device.TextsAs.{IsBegunText}
+use Rattle.fast_items.specs.device.TextsAs.{IsBegunText}
 use Rattle.fast_loop.proofs.cut_texts.keep_delta.Goals as goal
 
 pub returns-in-Some-clause-kept : goal.returns-in-Some-clause-kept

@@ -1,6 +1,6 @@
 -- The text that has begun, with the room that the dictionary's limit leaves.
 use Rattle.std.proofs.Common.{subst, ℕ}
-use Rattle.fast_units.specs.device.TextsAs.{IsBegunText}
+use Rattle.fast_items.specs.device.TextsAs.{IsBegunText}
 use Rattle.fast_loop.proofs.cut_texts.keep_vector.Goals as goal
 
 pub returns-in-Some-clause-kept : goal.returns-in-Some-clause-kept

@@ -6,7 +6,7 @@ use Rattle.fast_tree.specs.declared.operators.Operator.{Operator}
 use Rattle.fast_tree.specs.declared.operators.Operator.TheVariants.{Default}
 use Rattle.fast_tree.specs.device.Nodes.{field_data}
 use Rattle.fast_dict.specs.meaning.Slots.{slots_dictionary, slots_terms}
-use Rattle.fast_units.specs.device.IntegerItems.{IsDefaultItem}
+use Rattle.fast_items.specs.device.IntegerItems.{IsDefaultItem}
 use Rattle.fast_loop.specs.device.Arms.{IsFieldOp}
 use Rattle.fast_machine.specs.device.Positions.{set_of}
 use Rattle.fast_loop.proofs.arms.Fields.{op_node, entry_there, uses_as, item_unsent, decided_unsent, as_coded, served, field_of, instruction, shape_is, same_field, unneeded}

@@ -10,7 +10,7 @@ use Rattle.fast_cursor.specs.device.Cursors.{bits_left}
 use Rattle.fast_cursor.specs.device.Places.{at_place}
 use Rattle.fast_units.proofs.LastUnits.{again}
 use Rattle.fast_loop.specs.device.Parts.{IsLedTo}
-use Rattle.fast_units.specs.device.DecimalParts.{KeepsPart, IsPart}
+use Rattle.fast_items.specs.device.DecimalParts.{KeepsPart, IsPart}
 use Rattle.fast_machine.specs.device.Positions.{set_of}
 use Rattle.fast_loop.proofs.arms.Parts.{serves_as, exponent_serves, mantissa_serves, both_within, decimal_led}
 use Rattle.fast_loop.proofs.part_arms.mantissa_arm.Goals as goal

@@ -6,7 +6,7 @@ use Rattle.fast_tree.specs.device.Nodes.{field_data}
 use Rattle.fast_wire.specs.meaning.Maps.{first_bit}
 use Rattle.fast_cursor.specs.device.Cursors.{bits_left}
 use Rattle.fast_cursor.specs.device.Places.{at_place}
-use Rattle.fast_units.specs.device.DecimalParts.{IsPart}
+use Rattle.fast_items.specs.device.DecimalParts.{IsPart}
 use Rattle.fast_units.proofs.LastUnits.{again}
 use Rattle.fast_machine.specs.device.Positions.{set_of}
 use Rattle.fast_loop.proofs.arms.Parts.{exponent_serves, part_within, absent_led}

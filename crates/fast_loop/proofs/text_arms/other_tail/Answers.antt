@@ -4,7 +4,7 @@ use Rattle.fast_tree.specs.declared.operators.Operator.TheVariants.{Tail}
 use Rattle.fast_tree.specs.device.Nodes.{field_data}
 use Rattle.fast_dict.specs.declared.slots.Slots.{Slots}
 use Rattle.fast_dict.specs.meaning.Slots.{slots_terms}
-use Rattle.fast_units.specs.device.TextItems.{text_taken}
+use Rattle.fast_items.specs.device.TextItems.{text_taken}
 use Rattle.fast_loop.specs.device.Arms.{IsOpText}
 use Rattle.fast_machine.specs.device.Positions.{set_of}
 use Rattle.fast_loop.proofs.text_arms.other_tail.Goals as goal

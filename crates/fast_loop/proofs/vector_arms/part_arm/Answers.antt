@@ -5,8 +5,8 @@ use Rattle.fast_value.specs.meaning.Limits.{bounds}
 use Rattle.fast_dict.specs.declared.slots.Slots.{Slots}
 use Rattle.fast_dict.specs.meaning.Slots.{slots_dictionary, slots_terms}
 use Rattle.fast_units.specs.declared.scratch.Scratch.{Scratch}
-use Rattle.fast_units.specs.declared.taken.BegunText.{BegunText}
-use Rattle.fast_units.specs.device.TextsAs.{IsBegunText}
+use Rattle.fast_items.specs.declared.taken.BegunText.{BegunText}
+use Rattle.fast_items.specs.device.TextsAs.{IsBegunText}
 use Rattle.fast_machine.specs.declared.machine.Machine.{Machine}
 use Rattle.fast_machine.specs.device.Gathered.{IsKeptFrom}
 use Rattle.fast_loop.proofs.arms.CutTexts.{begun_went, kept_or_not}

@@ -20,8 +20,7 @@ use Rattle.fast_units.specs.declared.source.ValueSource.TheVariants as From
 use Rattle.fast_units.proofs.NextTexts.{goes_on, text_whole}
 use Rattle.fast_units.proofs.NextUnits.{text_unit}
 use Rattle.fast_units.proofs.TextOutcomes.{decided_as, decided_plain, text_given}
-use Rattle.fast_units.proofs.TextUnits.{text_field, behind_text}
-use Rattle.fast_units.proofs.WholeTexts.{gives_unit}
+use Rattle.fast_units.proofs.TextUnits.{text_field, behind_text, gives_unit}
 use Rattle.fast_units.proofs.held_texts.held_ascii.Goals as goal
 
 -- Neither operator keeps a value.

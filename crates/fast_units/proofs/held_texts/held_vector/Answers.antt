@@ -17,8 +17,7 @@ use Rattle.fast_units.specs.declared.source.ValueSource.TheVariants as From
 use Rattle.fast_units.specs.declared.stages.Stage.TheVariants.{Vector}
 use Rattle.fast_units.proofs.NextUnits.{run_whole}
 use Rattle.fast_units.proofs.TextOutcomes.{decided_as, decided_plain, text_given}
-use Rattle.fast_units.proofs.TextUnits.{vector_field, behind_text}
-use Rattle.fast_units.proofs.WholeTexts.{gives_unit}
+use Rattle.fast_units.proofs.TextUnits.{vector_field, behind_text, gives_unit}
 use Rattle.fast_units.proofs.held_texts.held_vector.Goals as goal
 
 pub returns-clause-unit : goal.returns-clause-unit

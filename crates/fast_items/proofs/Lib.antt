@@ -1,0 +1,9 @@
+pub mod IntegerItems
+pub mod DecimalItems
+pub mod DecimalParts
+pub mod TextItems
+pub mod ShortTexts
+pub mod WholeTexts
+pub mod JoinedTexts
+pub mod WholeDeltas
+pub mod BegunTexts

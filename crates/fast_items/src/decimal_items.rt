@@ -1,0 +1,206 @@
+//! Decimals of one field, both of whose units stand in the piece whole: an exponent of one byte, or its delta, and the
+//! mantissa behind it.
+//!
+//! They are inlined at their calls, with numbers and slices alone. Presence is an argument: a constant there, by which they
+//! fold.
+//!
+//! `None` stands for all else, faults included: nothing has changed then, and the general way finds out.
+
+ghost use Rattle.std.specs.Prelude.{◌≡◌, ◌<◌, ◌+ℤ◌, ◌≤ℤ◌, Bool, false, [], ℤ, pos, neg_ℤ, Some, Ok, IfSome, IfNone, length};
+ghost use Rattle.fast_fronts.specs.device.Fronts.{IsFirstInt};
+ghost use Rattle.fast_wire.specs.meaning.Integers.{signed_range, delta_range, exponent_range};
+ghost use Rattle.fast_fronts.specs.declared.fronts.First.TheVariants.{Whole};
+ghost use Rattle.fast_value.specs.meaning.Kinds.{Dec};
+ghost use Rattle.fast_dict.specs.meaning.Dictionary.{assigned, previous_at};
+ghost use Rattle.fast_dict.specs.meaning.Operators.{ranged};
+ghost use Rattle.fast_dict.specs.meaning.Slots.{slots_dictionary, slots_terms};
+ghost use Rattle.fast_stream.specs.meaning.Grammar.{integer};
+ghost use Rattle.fast_stream.specs.meaning.Fields.{decimal_from};
+ghost use Rattle.fast_stream.specs.device.GrammarReaders.{reader_of};
+ghost use Rattle.fast_units.specs.device.Taking.{IsUnit};
+ghost use Rattle.fast_units.specs.device.Deciding.{sent_number};
+ghost use Rattle.fast_items.specs.device.FieldsAs.{IsSentItem};
+
+use crate::integer_items::keep_at;
+use crate::taken::TakenItem;
+use fast_dict::{Entry, Slots, Store};
+use fast_fronts::{one_byte_delta, whole_delta, whole_signed};
+use fast_tree::Operator;
+use fast_units::fields::Number;
+use fast_units::progress::Progress;
+use fast_value::{Code, Kind};
+
+/// An exponent in range.
+#[inline(always)]
+pub(crate) fn exponent_in(exponent: i64) -> i32
+    requires low { neg_ℤ (pos 63) ≤ℤ exponent }
+    requires high { exponent ≤ℤ pos 63 }
+    ensures { result ≡ exponent }
+{
+    exponent as i32
+}
+
+/// An exponent of one byte, or NULL where it may be.
+#[inline(always)]
+pub(crate) fn short_exponent(rest: &[u8], optional: bool) -> Option<Option<i32>>
+    ensures { IfSome result (λ r. (strict : Bool)
+        → IsFirstInt (λ y. y) strict exponent_range optional (Whole r 1) rest.now) }
+{
+    let item = one_byte_delta(rest, optional)?;
+    match item {
+        Some(exponent) => {
+            if exponent < -63 || exponent > 63 {
+                return None;
+            }
+            Some(Some(exponent_in(exponent)))
+        }
+        None => Some(None),
+    }
+}
+
+/// A mantissa and its length.
+#[inline(always)]
+pub(crate) fn whole_mantissa(rest: &[u8], strict: bool) -> Option<(i64, usize)>
+    ensures { IfSome result (λ r. IsFirstInt (λ y. Some y) strict (signed_range 63) false (Whole r.0 r.1) rest.now) }
+{
+    match whole_signed(rest, false, strict, i64::MIN, i64::MAX)? {
+        (Some(mantissa), bytes) => Some((mantissa, bytes)),
+        (None, _) => None,
+    }
+}
+
+/// A decimal as it is, or NULL where it may be.
+#[inline(always)]
+fn whole_decimal(rest: &[u8], optional: bool, strict: bool) -> Option<TakenItem>
+    ensures { IfSome result (λ r. IsUnit (reader_of strict (integer exponent_range optional Code.R1 decimal_from))
+        sent_number [] rest.now (Progress.Whole r.item r.bytes)) }
+{
+    let item = short_exponent(rest, optional)?;
+    match item {
+        Some(exponent) => {
+            let (mantissa, bytes) = whole_mantissa(&rest[1..], strict)?;
+            Some(TakenItem {
+                item: Some(Number::Decimal { exponent, mantissa }),
+                bytes: 1 + bytes,
+            })
+        }
+        None => Some(TakenItem {
+            item: None,
+            bytes: 1,
+        }),
+    }
+}
+
+/// The decimal that the entry holds, if it is one of the kind of decimals.
+#[inline(always)]
+fn held_decimal(slots: &Slots, entry: u32) -> Option<(i32, i64)>
+    requires within { entry < length (slots_dictionary slots.now) }
+    ensures { IfSome result (λ d. previous_at (Some entry) (slots_dictionary slots.now)
+        ≡ assigned Kind.Decimal (Dec d.0 d.1)) }
+{
+    match slots.held(entry as usize) {
+        Entry::Decimal(exponent, mantissa) => Some((exponent, mantissa)),
+        _ => None,
+    }
+}
+
+/// A decimal under copy, which the entry then holds, or NULL, which makes it empty.
+#[inline(always)]
+pub fn copied_decimal(
+    slots: &mut Slots,
+    entry: u32,
+    optional: bool,
+    rest: &[u8],
+    strict: bool,
+) -> Option<TakenItem>
+    requires within { entry < length (slots_dictionary slots.old) }
+    ensures unit { IfSome result (IsSentItem Kind.Decimal optional Operator.Copy entry strict rest.now slots.old
+        slots.new) }
+    ensures none { IfNone result (slots.new ≡ slots.old) }
+    ensures terms { slots_terms slots.new ≡ slots_terms slots.old }
+{
+    let taken = whole_decimal(rest, optional, strict)?;
+    match taken.item {
+        Some(number) => keep_at(slots, entry, Kind::Decimal, number),
+        None => slots.set_empty(entry as usize),
+    }
+    Some(taken)
+}
+
+/// The exponent behind its delta.
+#[inline(always)]
+fn changed_exponent(exponent: i32, delta: i64) -> Option<i32>
+    ensures { IfSome result (λ e. ranged exponent_range Code.R1 (exponent +ℤ delta) ≡ Ok e) }
+{
+    let least = -63 - i64::from(exponent);
+    if delta < least || delta > least + 126 {
+        return None;
+    }
+    Some(exponent_in(i64::from(exponent) + delta))
+}
+
+/// The mantissa behind its delta, and the length of that.
+#[inline(always)]
+fn changed_mantissa(mantissa: i64, rest: &[u8], strict: bool) -> Option<(i64, usize)>
+    ensures { IfSome result (λ r. (j : ℤ) × IsFirstInt (λ y. y) strict delta_range false (Whole (Some j) r.1) rest.now
+        × (ranged (signed_range 63) Code.R1 (mantissa +ℤ j) ≡ Ok r.0)) }
+{
+    match whole_delta(rest, false, strict)? {
+        (Some(delta), bytes) => {
+            let sum = mantissa.checked_add(delta)?;
+            Some((sum, bytes))
+        }
+        (None, _) => None,
+    }
+}
+
+/// A decimal under delta, which the entry then holds in the place of another, or NULL, which leaves the entry as it is.
+#[inline(always)]
+pub fn changed_decimal(
+    slots: &mut Slots,
+    entry: u32,
+    optional: bool,
+    rest: &[u8],
+    strict: bool,
+) -> Option<TakenItem>
+    requires within { entry < length (slots_dictionary slots.old) }
+    ensures unit { IfSome result (IsSentItem Kind.Decimal optional Operator.Delta entry strict rest.now slots.old
+        slots.new) }
+    ensures none { IfNone result (slots.new ≡ slots.old) }
+    ensures terms { slots_terms slots.new ≡ slots_terms slots.old }
+{
+    let item = one_byte_delta(rest, optional)?;
+    match item {
+        Some(delta) => {
+            let (exponent, mantissa) = held_decimal(slots, entry)?;
+            let exponent = changed_exponent(exponent, delta)?;
+            let (mantissa, bytes) = changed_mantissa(mantissa, &rest[1..], strict)?;
+            let number = Number::Decimal { exponent, mantissa };
+            keep_at(slots, entry, Kind::Decimal, number);
+            Some(TakenItem {
+                item: Some(number),
+                bytes: 1 + bytes,
+            })
+        }
+        None => Some(TakenItem {
+            item: None,
+            bytes: 1,
+        }),
+    }
+}
+
+/// A decimal without an operator, or NULL.
+#[inline(always)]
+pub fn plain_decimal(
+    slots: &Slots,
+    entry: u32,
+    optional: bool,
+    rest: &[u8],
+    strict: bool,
+) -> Option<TakenItem>
+    ensures { IfSome result (IsSentItem Kind.Decimal optional Operator.None entry strict rest.now slots.now slots.now) }
+{
+    let _ = slots;
+    let _ = entry;
+    whole_decimal(rest, optional, strict)
+}

@@ -1,0 +1,363 @@
+//! Exponents and mantissas of decimals by parts, which stand in the piece whole, or of which nothing is sent. They are
+//! looked at first and kept later: a mantissa that is not taken leaves the exponent's entry as it is.
+//!
+//! `None` stands for all else, faults included: the general way finds out. In an answer, `None` is absent.
+
+ghost use Rattle.std.specs.Prelude.{◌≡◌, ◌≢◌, ◌<◌, Bool, true, false, [], length, Some, IfSome, option_map};
+ghost use Rattle.fast_value.specs.meaning.Kinds.{I, IsWithin, exponent_range};
+ghost use Rattle.fast_tree.specs.declared.instructions.FieldInstruction.{FieldInstruction};
+ghost use Rattle.fast_tree.specs.device.Nodes.{field_data};
+ghost use Rattle.fast_dict.specs.meaning.Dictionary.{Dictionary, PreviousData, previous_at, write_at};
+ghost use Rattle.fast_dict.specs.device.Entry.{text_length, with_text};
+ghost use Rattle.fast_dict.specs.meaning.Slots.{slots_dictionary, slots_terms};
+ghost use Rattle.fast_units.specs.device.Deciding.{needs_bytes, number_data};
+ghost use Rattle.fast_items.specs.device.DecimalParts.{part_item, KeepsPart, IsPart, IsPartBy, IsPartKnown, IsUsualExponent, IsDeltaMantissa};
+ghost use Rattle.fast_items.specs.device.IntegerItems.{item_held};
+ghost use Rattle.fast_units.specs.device.Words.{HasEntryOf, previous_of};
+
+use crate::decimal_items::{exponent_in, short_exponent, whole_mantissa};
+use fast_dict::{Entry, Slots};
+use fast_tree::{FieldInstruction, Operator};
+use fast_units::fields::{Number, assign_empty, needs_bytes, number_under};
+use fast_units::short_integers::keep_integer;
+use fast_value::{Kind, Value};
+
+/// What the field's entry holds, if that is a signed integer of the kind, or nothing.
+#[inline(always)]
+fn held_part(slots: &Slots, field: &FieldInstruction, kind: Kind) -> Option<Option<i64>>
+    requires within { HasEntryOf slots.now field.now }
+    ensures { IfSome result (λ r. previous_of slots.now field.now ≡ item_held kind (part_item r)) }
+{
+    let entry = field.entry?;
+    match (kind, slots.held(entry as usize)) {
+        (Kind::Int32, Entry::Int32(number)) => Some(Some(number)),
+        (Kind::Int64, Entry::Int64(number)) => Some(Some(number)),
+        (_, Entry::Empty) => Some(None),
+        _ => None,
+    }
+}
+
+/// The initial value, if that is a signed integer, or none.
+#[inline(always)]
+fn initial_part(field: &FieldInstruction) -> Option<Option<i64>>
+    ensures { IfSome result (λ r. (field_data field.now).initial ≡ option_map number_data (part_item r)) }
+{
+    match &field.initial {
+        Some(Value::I(number)) => Some(Some(*number)),
+        None => Some(None),
+        _ => None,
+    }
+}
+
+/// A part of which nothing is sent: a constant, under default the initial value, under copy what the entry holds.
+#[inline(always)]
+fn known_part(slots: &Slots, field: &FieldInstruction, kind: Kind, bit: bool) -> Option<Option<i64>>
+    requires no_bytes { needs_bytes field.now.operator bit ≡ false }
+    requires kind { field.now.kind ≡ kind }
+    requires within { HasEntryOf slots.now field.now }
+    ensures { IfSome result (IsPartKnown field.now bit slots.now) }
+{
+    match field.operator {
+        Operator::Constant if !bit => Some(None),
+        Operator::Constant => initial_part(field),
+        Operator::Default => initial_part(field),
+        Operator::Copy => match held_part(slots, field, kind)? {
+            Some(number) => Some(Some(number)),
+            None if field.optional => Some(None),
+            None => None,
+        },
+        _ => None,
+    }
+}
+
+/// An exponent of one byte that is sent, or NULL.
+#[inline(always)]
+fn sent_exponent(slots: &Slots, field: &FieldInstruction, rest: &[u8]) -> Option<Option<i32>>
+    requires kind { field.now.kind ≡ Kind.Int32 }
+    requires no_constant { field.now.operator ≢ Operator.Constant }
+    ensures part { IfSome result (λ x. (strict : Bool)
+        → IsPartBy true field.now true strict rest.now slots.now x 1) }
+    ensures within { IfSome result (λ x. IfSome x (IsWithin exponent_range)) }
+{
+    let _ = slots;
+    match field.operator {
+        Operator::Delta => None,
+        _ => short_exponent(rest, field.optional),
+    }
+}
+
+/// An exponent of which nothing is sent.
+#[inline(always)]
+fn known_exponent(slots: &Slots, field: &FieldInstruction, bit: bool) -> Option<Option<i32>>
+    requires no_bytes { needs_bytes field.now.operator bit ≡ false }
+    requires kind { field.now.kind ≡ Kind.Int32 }
+    requires within { HasEntryOf slots.now field.now }
+    ensures known { IfSome result (IsPartKnown field.now bit slots.now) }
+    ensures within { IfSome result (λ r. IfSome r (IsWithin exponent_range)) }
+{
+    match known_part(slots, field, Kind::Int32, bit)? {
+        Some(exponent) => {
+            if exponent < -63 || exponent > 63 {
+                return None;
+            }
+            Some(Some(exponent_in(exponent)))
+        }
+        None => Some(None),
+    }
+}
+
+/// An exponent and the bytes that it takes, one or none: in its range, or absent. The bit is its presence bit, set if it
+/// has none.
+#[inline(always)]
+pub fn exponent_part(
+    slots: &Slots,
+    field: &FieldInstruction,
+    bit: bool,
+    rest: &[u8],
+) -> Option<(Option<i32>, usize)>
+    requires kind { field.now.kind ≡ Kind.Int32 }
+    requires within { HasEntryOf slots.now field.now }
+    ensures part { IfSome result (λ r. (strict : Bool) → IsPart field.now bit strict rest.now slots.now r.0 r.1) }
+    ensures within { IfSome result (λ r. IfSome r.0 (IsWithin exponent_range)) }
+{
+    if needs_bytes(field, bit) {
+        let sent = sent_exponent(slots, field, rest)?;
+        return Some((sent, 1));
+    }
+    let known = known_exponent(slots, field, bit)?;
+    Some((known, 0))
+}
+
+/// What an exponent's entry holds, if that is a number of its kind, or nothing where the exponent may be absent. The number
+/// is looked for first, which is one test of the tag.
+#[inline(always)]
+fn held_exponent(slots: &Slots, field: &FieldInstruction, optional: bool) -> Option<Option<i64>>
+    requires within { HasEntryOf slots.now field.now }
+    ensures held { IfSome result (λ r. previous_of slots.now field.now ≡ item_held Kind.Int32 (part_item r)) }
+    ensures absent { result ≡ Some None → optional ≡ true }
+{
+    let held = slots.held(field.entry? as usize);
+    if let Some(number) = number_under(Kind::Int32, held) {
+        return match number {
+            Number::Signed(number) => Some(Some(number)),
+            _ => None,
+        };
+    }
+    match held {
+        Entry::Empty if optional => Some(None),
+        _ => None,
+    }
+}
+
+/// An exponent under default or copy of which nothing is sent.
+#[inline(always)]
+fn unsent_exponent(
+    slots: &Slots,
+    field: &FieldInstruction,
+    operator: Operator,
+    optional: bool,
+) -> Option<Option<i32>>
+    requires usual { IsUsualExponent field.now }
+    requires kind { field.now.kind ≡ Kind.Int32 }
+    requires operator { field.now.operator ≡ operator }
+    requires optional { field.now.optional ≡ optional }
+    requires within { HasEntryOf slots.now field.now }
+    ensures known { IfSome result (IsPartKnown field.now false slots.now) }
+    ensures within { IfSome result (λ r. IfSome r (IsWithin exponent_range)) }
+{
+    let known = match operator {
+        Operator::Default => initial_part(field),
+        _ => held_exponent(slots, field, optional),
+    };
+    match known? {
+        Some(exponent) => {
+            if exponent < -63 || exponent > 63 {
+                return None;
+            }
+            Some(Some(exponent_in(exponent)))
+        }
+        None => Some(None),
+    }
+}
+
+/// An exponent under default or copy and the bytes that it takes, as in [`exponent_part`]. Operator and presence are
+/// arguments: constants at the calls.
+#[inline(always)]
+pub fn usual_exponent(
+    slots: &Slots,
+    field: &FieldInstruction,
+    operator: Operator,
+    optional: bool,
+    bit: bool,
+    rest: &[u8],
+) -> Option<(Option<i32>, usize)>
+    requires usual { IsUsualExponent field.now }
+    requires kind { field.now.kind ≡ Kind.Int32 }
+    requires operator { field.now.operator ≡ operator }
+    requires optional { field.now.optional ≡ optional }
+    requires within { HasEntryOf slots.now field.now }
+    ensures part { IfSome result (λ r. (strict : Bool) → IsPart field.now bit strict rest.now slots.now r.0 r.1) }
+    ensures within { IfSome result (λ r. IfSome r.0 (IsWithin exponent_range)) }
+{
+    if bit {
+        let exponent = short_exponent(rest, optional)?;
+        return Some((exponent, 1));
+    }
+    let known = unsent_exponent(slots, field, operator, optional)?;
+    Some((known, 0))
+}
+
+/// A mandatory mantissa that is sent, and the bytes that it takes. Under delta the entry has to hold one.
+#[inline(always)]
+fn sent_mantissa(
+    slots: &Slots,
+    field: &FieldInstruction,
+    rest: &[u8],
+    strict: bool,
+) -> Option<(i64, usize)>
+    requires kind { field.now.kind ≡ Kind.Int64 }
+    requires no_constant { field.now.operator ≢ Operator.Constant }
+    requires within { HasEntryOf slots.now field.now }
+    ensures { IfSome result (λ r. IsPartBy true field.now true strict rest.now slots.now (Some r.0) r.1) }
+{
+    if field.optional {
+        return None;
+    }
+    let (number, bytes) = whole_mantissa(rest, strict)?;
+    match field.operator {
+        Operator::Delta => match held_part(slots, field, Kind::Int64)? {
+            Some(base) => {
+                let sum = base.checked_add(number)?;
+                Some((sum, bytes))
+            }
+            None => None,
+        },
+        _ => Some((number, bytes)),
+    }
+}
+
+/// A mantissa that is there, and the bytes that it takes. The bit is its presence bit, set if it has none. It is called out
+/// of line: its body is longer than the build inlines.
+#[cold]
+#[inline(never)]
+pub fn mantissa_part(
+    slots: &Slots,
+    field: &FieldInstruction,
+    bit: bool,
+    rest: &[u8],
+    strict: bool,
+) -> Option<(i64, usize)>
+    requires kind { field.now.kind ≡ Kind.Int64 }
+    requires within { HasEntryOf slots.now field.now }
+    ensures { IfSome result (λ r. IsPart field.now bit strict rest.now slots.now (Some r.0) r.1) }
+{
+    if needs_bytes(field, bit) {
+        let (number, bytes) = sent_mantissa(slots, field, rest, strict)?;
+        return Some((number, bytes));
+    }
+    match known_part(slots, field, Kind::Int64, bit)? {
+        Some(number) => Some((number, 0)),
+        None => None,
+    }
+}
+
+/// Whether what an exponent keeps that took these bytes, if any, leaves the mantissa's entry as it is.
+#[inline(always)]
+pub fn leaves_mantissa(
+    exponent: &FieldInstruction,
+    mantissa: &FieldInstruction,
+    bytes: usize,
+) -> bool
+    ensures { result ≡ true → 0 < bytes → (p : PreviousData) (d : Dictionary)
+        → previous_at (field_data mantissa.now).entry (write_at (field_data exponent.now).entry p d)
+        ≡ previous_at (field_data mantissa.now).entry d }
+{
+    if bytes == 0 {
+        return true;
+    }
+    match (exponent.entry, mantissa.entry) {
+        (Some(first), Some(second)) => first != second,
+        _ => true,
+    }
+}
+
+/// Keeps a part that took these bytes, or NULL. Where nothing is sent, the entry stays as it is.
+#[inline(always)]
+pub fn keep_part(
+    slots: &mut Slots,
+    field: &FieldInstruction,
+    kind: Kind,
+    number: Option<i64>,
+    bytes: usize,
+)
+    requires kind { kind ≡ field.now.kind }
+    requires within { HasEntryOf slots.old field.now }
+    ensures kept { 0 < bytes → KeepsPart field.now slots.old slots.new number }
+    ensures same { bytes ≡ 0 → slots.new ≡ slots.old }
+    ensures terms { slots_terms slots.new ≡ slots_terms slots.old }
+{
+    if bytes == 0 {
+        return;
+    }
+    match number {
+        Some(number) => keep_integer(slots, field, kind, Number::Signed(number)),
+        None => assign_empty(slots, field),
+    }
+}
+
+/// Keeps an exponent that took these bytes, or NULL. Where nothing is sent, the entry stays as it is.
+#[inline(always)]
+pub fn keep_exponent(slots: &mut Slots, field: &FieldInstruction, number: Option<i32>, bytes: usize)
+    requires kind { field.now.kind ≡ Kind.Int32 }
+    requires within { HasEntryOf slots.old field.now }
+    ensures kept { 0 < bytes → KeepsPart field.now slots.old slots.new number }
+    ensures same { bytes ≡ 0 → slots.new ≡ slots.old }
+    ensures terms { slots_terms slots.new ≡ slots_terms slots.old }
+{
+    if bytes == 0 {
+        return;
+    }
+    if let Some(entry) = field.entry {
+        slots.set_number(entry as usize, exponent_held(number));
+    }
+}
+
+/// What an entry holds behind an exponent, or NULL.
+#[inline(always)]
+fn exponent_held(number: Option<i32>) -> Entry
+    ensures held { with_text result [] ≡ item_held Kind.Int32 (part_item number) }
+    ensures number { text_length result ≡ 0 }
+{
+    match number {
+        Some(number) => Entry::Int32(i64::from(number)),
+        None => Entry::Empty,
+    }
+}
+
+/// A mandatory mantissa behind its delta, and the bytes that this takes, by its entry, which has to hold one.
+#[inline(always)]
+pub fn changed_part(slots: &Slots, entry: u32, rest: &[u8], strict: bool) -> Option<(i64, usize)>
+    requires within { entry < length (slots_dictionary slots.now) }
+    ensures { IfSome result (λ r. (field : FieldInstruction) → IsDeltaMantissa field entry
+        → IsPartBy true field true strict rest.now slots.now (Some r.0) r.1) }
+{
+    let (delta, bytes) = whole_mantissa(rest, strict)?;
+    match slots.held(entry as usize) {
+        Entry::Int64(base) => {
+            let sum = base.checked_add(delta)?;
+            Some((sum, bytes))
+        }
+        _ => None,
+    }
+}
+
+/// Keeps a mantissa at its entry.
+#[inline(always)]
+pub fn keep_mantissa(slots: &mut Slots, entry: u32, number: i64)
+    requires within { entry < length (slots_dictionary slots.old) }
+    ensures kept { (field : FieldInstruction) → IsDeltaMantissa field entry
+        → KeepsPart field slots.old slots.new (Some number) }
+    ensures terms { slots_terms slots.new ≡ slots_terms slots.old }
+{
+    slots.change_number(entry as usize, Entry::Int64(number));
+}
