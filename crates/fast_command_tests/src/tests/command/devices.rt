@@ -2,9 +2,10 @@
 
 use super::super::{built_in_set, expect};
 use super::show_whole;
+use super::sinks::{Answer, Taker};
 use fast_command::{RunFault, ShowEnd};
 use fast_text::{FromBytes, ToBytes, Watched};
-use std::io::{self, ErrorKind, Read, Write};
+use std::io::{self, ErrorKind, Read};
 use std::test::Fail;
 
 const STREAM: [u8; 5] = [0xc0, 0x81, 0x39, 0x45, 0xa3];
@@ -20,15 +21,6 @@ const FRONTS: [(usize, &[u8]); 6] = [
     (11, b"truncated at 4\n"),
     (42, b""),
 ];
-
-/// What a call comes to that is not answered as all others are.
-#[derive(Clone, Copy, PartialEq, Eq)]
-enum Answer {
-    /// It fails.
-    Failure,
-    /// No byte is given or taken.
-    Nothing,
-}
 
 /// Gives a byte a call, but at one.
 #[derive(Drop)]
@@ -56,65 +48,6 @@ impl Read for Giver<'_> {
             }
             _ => Ok(0),
         }
-    }
-}
-
-/// Keeps what it is given, of which it takes a byte a call, but at one; and fails at a flush.
-#[derive(Drop)]
-struct Taker {
-    cells: [u8; 64],
-    kept: usize,
-    calls: usize,
-    differs_at: usize,
-    answer: Answer,
-    flushes: usize,
-    flush_fails_at: usize,
-}
-
-impl Taker {
-    fn new(differs_at: usize, answer: Answer, flush_fails_at: usize) -> Taker {
-        Taker {
-            cells: [0; 64],
-            kept: 0,
-            calls: 0,
-            differs_at,
-            answer,
-            flushes: 0,
-            flush_fails_at,
-        }
-    }
-
-    /// Whether it has kept this front of the lines.
-    fn has_kept(&self, count: usize) -> bool {
-        self.cells.get(..self.kept) == LINES.get(..count)
-    }
-}
-
-impl Write for Taker {
-    fn write(&mut self, buf: &[u8]) -> io::Result<usize> {
-        self.calls = self.calls.saturating_add(1);
-        if self.calls == self.differs_at {
-            return match self.answer {
-                Answer::Failure => Err(ErrorKind::Other.into()),
-                Answer::Nothing => Ok(0),
-            };
-        }
-        match (buf.first(), self.cells.get_mut(self.kept)) {
-            (Some(byte), Some(cell)) => {
-                *cell = *byte;
-                self.kept = self.kept.saturating_add(1);
-                Ok(1)
-            }
-            _ => Ok(0),
-        }
-    }
-
-    fn flush(&mut self) -> io::Result<()> {
-        self.flushes = self.flushes.saturating_add(1);
-        if self.flushes == self.flush_fails_at {
-            return Err(ErrorKind::Other.into());
-        }
-        Ok(())
     }
 }
 
@@ -167,7 +100,7 @@ fn a_writer_that_fails_or_takes_nothing_at_any_call(rt: HostRuntime) -> Result<(
             } else {
                 Ok(ShowEnd::Good)
             };
-            let is_right = end == due && target.into_inner().has_kept(taken);
+            let is_right = end == due && target.into_inner().has_kept(LINES, taken);
             expect(&rt, is_right, "a writer that differs", taken);
         }
     }
@@ -184,7 +117,7 @@ fn a_writer_that_fails_at_any_flush(rt: HostRuntime) -> Result<(), Fail> {
         let end = show_whole(rt.alloc(), &set, 1000, &mut source, &mut target);
         let taker = target.into_inner();
         let is_told = (end == Err(RunFault::Write)) == (fails_at <= 3);
-        let is_right = is_told && taker.flushes == flushes && taker.has_kept(kept);
+        let is_right = is_told && taker.flushes == flushes && taker.has_kept(LINES, kept);
         expect(&rt, is_right, "a flush that fails", fails_at);
     }
     Ok(())

@@ -2,10 +2,10 @@
 
 use super::super::{LENIENT, built_in_set, expect, set_of, show};
 use super::show_whole;
-use super::sinks::{Counted, Drip};
+use super::sinks::{Drip, Taker};
 use fast_command::{RunFault, ShowEnd};
 use fast_template::Templates;
-use fast_text::{FromBytes, Target, ToBytes};
+use fast_text::{FromBytes, Target, ToBytes, Watched};
 use fast_value::Limits;
 use std::alloc::{AllocError, Global};
 use std::process::Abort;
@@ -375,7 +375,7 @@ fn a_long_stream_is_shown_whole(rt: HostRuntime) -> Result<(), Fail> {
         stream.extend_from_slice(&[0x80, 0x80])?;
     }
     let mut source = FromBytes::new(stream.as_slice());
-    let mut target = Counted::new(true, 0);
+    let mut target = Watched::new(Taker::counting(0));
     let end = show(
         rt.alloc(),
         &set,
@@ -385,7 +385,7 @@ fn a_long_stream_is_shown_whole(rt: HostRuntime) -> Result<(), Fail> {
         &mut source,
         &mut target,
     );
-    let is_right = end == Ok(ShowEnd::Good) && target.lines == 3 * 5001;
+    let is_right = end == Ok(ShowEnd::Good) && target.into_inner().lines == 3 * 5001;
     expect(&rt, is_right, "lines", stream.len());
     Ok(())
 }
@@ -398,7 +398,7 @@ fn lines_can_be_seen_before_each_read(rt: HostRuntime) -> Result<(), Fail> {
         (3, RunFault::Write, 2, 3),
     ] {
         let mut source = drip(0);
-        let mut target = Counted::new(false, fails_at);
+        let mut target = Watched::new(Taker::counting(fails_at));
         let end = show(
             rt.alloc(),
             &set,
@@ -408,7 +408,9 @@ fn lines_can_be_seen_before_each_read(rt: HostRuntime) -> Result<(), Fail> {
             &mut source,
             &mut target,
         );
-        let is_right = end == Err(fault) && source.reads == reads && target.flushes == flushes;
+        let is_right = end == Err(fault)
+            && source.reads == reads
+            && target.into_inner().flushes == flushes;
         expect(&rt, is_right, "flushes", 6);
     }
     Ok(())
@@ -419,9 +421,14 @@ fn a_failure_of_the_last_flush_is_told(rt: HostRuntime) -> Result<(), Fail> {
     let set = built_in_set(rt.alloc())?;
     for (fails_at, due) in [(3, Err(RunFault::Write)), (4, Ok(ShowEnd::Good))] {
         let mut source = FromBytes::new(b"\xc0\x81\x39\x45\xa3");
-        let mut target = Counted::new(false, fails_at);
+        let mut target = Watched::new(Taker::counting(fails_at));
         let end = show_whole(rt.alloc(), &set, 6, &mut source, &mut target);
-        expect(&rt, end == due && target.flushes == 3, "last flush", 3);
+        expect(
+            &rt,
+            end == due && target.into_inner().flushes == 3,
+            "last flush",
+            3,
+        );
     }
     Ok(())
 }

@@ -2,7 +2,8 @@
 
 ghost use Rattle.std.specs.Prelude.{None};
 
-use fast_text::{Failed, Source, Target};
+use fast_text::{Failed, Source};
+use std::io::{self, ErrorKind, Write};
 
 /// Gives one byte a read: those of a slice, and then zeros for ever. It can fail at a read.
 #[derive(Drop)]
@@ -43,56 +44,81 @@ impl Source for Drip<'_> {
     }
 }
 
-/// Counts lines and flushes, and takes a byte a write, or all. It can fail at a flush. The tests of both have one writer, since the compiler
-/// makes the decoder's loop once more for each.
-#[derive(Drop)]
-pub struct Counted {
-    pub is_slow: bool,
-    pub lines: u64,
-    pub flushes: u64,
-    pub fails_at: u64,
-    pub failed: bool,
+/// What a call comes to that is not answered as all others are.
+#[derive(Clone, Copy, PartialEq, Eq)]
+pub enum Answer {
+    /// It fails.
+    Failure,
+    /// No byte is given or taken.
+    Nothing,
 }
 
-impl Counted {
-    /// One that has taken nothing.
-    pub fn new(is_slow: bool, fails_at: u64) -> Counted {
-        Counted {
-            is_slow,
+/// Takes a byte a call, but at one, and keeps the first of them; and fails at a flush. The tests that count lines or flushes have it too,
+/// since the compiler makes the decoder's loop once more for each writer.
+#[derive(Drop)]
+pub struct Taker {
+    cells: [u8; 64],
+    kept: usize,
+    calls: usize,
+    differs_at: usize,
+    answer: Answer,
+    pub lines: usize,
+    pub flushes: usize,
+    flush_fails_at: usize,
+}
+
+impl Taker {
+    pub fn new(differs_at: usize, answer: Answer, flush_fails_at: usize) -> Taker {
+        Taker {
+            cells: [0; 64],
+            kept: 0,
+            calls: 0,
+            differs_at,
+            answer,
             lines: 0,
             flushes: 0,
-            fails_at,
-            failed: false,
+            flush_fails_at,
         }
+    }
+
+    /// One that takes all, but fails at a flush, if it comes to it.
+    pub fn counting(flush_fails_at: usize) -> Taker {
+        Taker::new(0, Answer::Failure, flush_fails_at)
+    }
+
+    /// Whether it was given this front of the lines.
+    pub fn has_kept(&self, lines: &[u8], count: usize) -> bool {
+        self.cells.get(..self.kept) == lines.get(..count)
     }
 }
 
-impl Target for Counted {
-    ghost written = { λ _. None };
-
-    ghost has_failed = { λ s. s.failed };
-
-    fn write(&mut self, piece: &[u8]) -> Result<usize, Failed> {
-        let most = if self.is_slow { 1 } else { piece.len() };
-        let taken = piece.len().min(most);
-        for byte in &piece[..taken] {
-            if *byte == b'\n' {
-                self.lines = self.lines.saturating_add(1);
-            }
+impl Write for Taker {
+    fn write(&mut self, buf: &[u8]) -> io::Result<usize> {
+        self.calls = self.calls.saturating_add(1);
+        if self.calls == self.differs_at {
+            return match self.answer {
+                Answer::Failure => Err(ErrorKind::Other.into()),
+                Answer::Nothing => Ok(0),
+            };
         }
-        Ok(taken)
+        let Some(byte) = buf.first() else {
+            return Ok(0);
+        };
+        if let Some(cell) = self.cells.get_mut(self.kept) {
+            *cell = *byte;
+        }
+        self.kept = self.kept.saturating_add(1);
+        if *byte == b'\n' {
+            self.lines = self.lines.saturating_add(1);
+        }
+        Ok(1)
     }
 
-    fn flush(&mut self) -> Result<(), Failed> {
+    fn flush(&mut self) -> io::Result<()> {
         self.flushes = self.flushes.saturating_add(1);
-        if self.flushes == self.fails_at {
-            self.failed = true;
-            return Err(Failed);
+        if self.flushes == self.flush_fails_at {
+            return Err(ErrorKind::Other.into());
         }
         Ok(())
-    }
-
-    fn failed(&self) -> bool {
-        self.failed
     }
 }
