@@ -2,7 +2,7 @@
 //! that measure or test them.
 #![tactic(auto)]
 
-use fast_measure::{cut_everywhere, decode, encode, stop_and_decode, three_ways};
+use fast_measure::{call_all, cut_everywhere, decode, encode, stop_and_decode, three_ways};
 use fast_measure_lines::{convert, read, show};
 use fast_value::Limits;
 use std::alloc::Global;
@@ -144,6 +144,24 @@ pub extern "C" fn fast_bench_encode_patiently(
 ) {
     let limits = limits_of(0, max_text, max_elements, max_total);
     encode(alloc, templates, limits, stream, None).write_to(out);
+}
+
+/// Calls each caller of fast_callers over a stream, with the limits that there are by default: it is cut in two for the first one, and the
+/// second one looks for the price of a symbol.
+///
+/// Eight numbers are written to `out`, each as eight bytes, the least first: the number of messages; whether there is a price, its exponent
+/// and its mantissa; and the number of messages up to a fault, that of bytes, the status as `fast_bench_run` tells it, and the fault's
+/// place. What a caller refuses has 2^64 - 1 as its first number.
+#[unsafe(no_mangle)]
+pub extern "C" fn fast_bench_call(
+    alloc: Global,
+    templates: &[u8],
+    stream: &[u8],
+    cut: usize,
+    symbol: &[u8],
+    out: &mut [u8; 64],
+) {
+    call_all(alloc, templates, stream, cut, symbol).write_to(out);
 }
 
 /// Shows a stream, and writes the lines to `out`, as far as there is room.

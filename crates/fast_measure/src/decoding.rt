@@ -12,7 +12,7 @@ use std::alloc::Global;
 pub const BETWEEN: u64 = 0;
 
 /// The status of a run that ended inside a message.
-const INSIDE: u64 = 1;
+pub const INSIDE: u64 = 1;
 
 /// The status of a run for which no decoder was made.
 pub const NOT_MADE: u64 = 256;
@@ -62,7 +62,7 @@ impl Answer {
 }
 
 /// The status of a stream at fault, from 2.
-fn status_of(code: FaultCode) -> u64 {
+pub fn status_of(code: FaultCode) -> u64 {
     match code {
         FaultCode::Stream(code) => match code {
             Code::D2 => 2,

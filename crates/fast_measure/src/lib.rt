@@ -3,6 +3,7 @@
 #![tactic(auto)]
 
 mod again;
+mod callers;
 mod cuts;
 mod decoding;
 mod encoding;
@@ -11,6 +12,7 @@ mod stops;
 mod trees;
 
 pub use crate::again::{ThreeWays, three_ways};
+pub use crate::callers::{Called, call_all};
 pub use crate::cuts::{Cuts, cut_everywhere};
 pub use crate::decoding::{Answer, decode};
 pub use crate::encoding::{Encoded, encode};
