@@ -11,7 +11,8 @@ ghost use Rattle.fast_stream.specs.meaning.Units.{ascii_text};
 ghost use Rattle.fast_items.specs.declared.taken.BegunText.{BegunText};
 ghost use Rattle.fast_items.specs.device.TextsAs.{IsBegunText};
 ghost use Rattle.fast_units.specs.device.Words.{HasRoomFor};
-ghost use Rattle.fast_machine.specs.device.Gathered.{IsKeptAs, IsKeptFrom};
+ghost use Rattle.fast_machine.specs.device.Gathered.{IsKeptAs};
+ghost use Rattle.fast_loop.specs.device.Begun.{IsKeptFrom};
 
 use crate::spot::{Spot, Went};
 use fast_dict::Store;

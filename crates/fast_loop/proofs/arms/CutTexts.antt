@@ -32,7 +32,8 @@ use Rattle.fast_machine.specs.declared.turns.Turns.{Turns}
 use Rattle.fast_loop.specs.declared.spot.Went.{Went}
 use Rattle.fast_machine.specs.device.Positions.{placed, Set, body_in, frames_in, unit_then, bit_of, meaning, turning, CanTake, CanTurn, IsReady, IsSupplied, IsAtField, BeginsWithText, GoesOnWithBytes}
 use Rattle.fast_loop.specs.device.Arms.{IsAtSpot, HasWent}
-use Rattle.fast_machine.specs.device.Gathered.{IsKeptAs, IsKeptFrom}
+use Rattle.fast_machine.specs.device.Gathered.{IsKeptAs}
+use Rattle.fast_loop.specs.device.Begun.{IsKeptFrom}
 use Rattle.fast_machine.specs.device.Steps.{IsStep}
 use Rattle.fast_machine.specs.device.TurnsLeft.{Way, HasTurns, HasTurnsBehind}
 use Rattle.fast_loop.proofs.arms.Taken.{bytes_step}

@@ -1,10 +1,9 @@
 -- Bytes that are kept in hand of a unit which goes on behind them.
-use Rattle.std.specs.Prelude.{◌≡◌, ◌≢◌, ℕ, ◌+◌, List, ◌++◌, drop}
-use Rattle.fast_items.specs.declared.taken.BegunText.{BegunText}
+use Rattle.std.specs.Prelude.{◌≡◌, ◌≢◌, ℕ, ◌+◌, List, ◌++◌}
 use Rattle.fast_value.specs.declared.settings.Limits.{Limits}
 use Rattle.fast_machine.specs.declared.machine.Machine.{Machine}
 use Rattle.fast_machine.specs.declared.machine.Waiting.{Waiting}
-use Rattle.fast_machine.specs.declared.machine.Waiting.TheVariants.{Map, Bytes}
+use Rattle.fast_machine.specs.declared.machine.Waiting.TheVariants.{Map}
 use Rattle.fast_machine.specs.device.Positions.{Set, front_at, IsReady}
 
 -- Inside a message all of the bytes came to those in hand, and the machine waits for more of the same unit.
@@ -20,7 +19,3 @@ pub record IsKeptAs (waits : Waiting) (m m' : Machine) (bytes : List ℕ) : Type
   pub text : m'.text.text ≡ bytes
   pub room : m'.text.capacity ≡ m.text.capacity
   pub turn : m'.turns.count ≡ m.turns.count + 1
-
--- The same of a text that has begun in the bytes: those of its last unit are in hand.
-abbrev pub IsKeptFrom : Machine → Machine → List ℕ → BegunText → Type 0
-IsKeptFrom m m' rest r = IsKeptAs (Bytes r.stage) m m' (drop r.from rest)

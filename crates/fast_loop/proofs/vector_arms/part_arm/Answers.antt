@@ -8,7 +8,7 @@ use Rattle.fast_units.specs.declared.scratch.Scratch.{Scratch}
 use Rattle.fast_items.specs.declared.taken.BegunText.{BegunText}
 use Rattle.fast_items.specs.device.TextsAs.{IsBegunText}
 use Rattle.fast_machine.specs.declared.machine.Machine.{Machine}
-use Rattle.fast_machine.specs.device.Gathered.{IsKeptFrom}
+use Rattle.fast_loop.specs.device.Begun.{IsKeptFrom}
 use Rattle.fast_loop.proofs.arms.CutTexts.{begun_went, kept_or_not}
 use Rattle.fast_value.specs.meaning.Values.{scalar_data}
 use Rattle.fast_tree.specs.declared.operators.Operator.TheVariants.{Delta}
