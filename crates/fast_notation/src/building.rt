@@ -3,6 +3,7 @@
 ghost use Rattle.std.specs.Prelude.{ℕ, suc, Bool, false, List, Option, ◌≡◌, ◌<◌, ◌≤◌, ◌*◌, ◌^◌, All, sum_by, ◌++◌, ◌∷◌, [], length, map, option_map, IfOk, OnOk};
 ghost use Rattle.std.specs.HashMap.{get_by_text};
 ghost use Rattle.fast_value.specs.meaning.Values.{value_data};
+ghost use Rattle.fast_tree.specs.meaning.Entries.{scope_of};
 ghost use Rattle.fast_tree.specs.meaning.AsWritten.{Written, group, sequence, reference, no_more, more, length_use};
 ghost use Rattle.fast_notation.specs.device.Built.{with_shape, data_of, IsReady, AreBuilt};
 ghost use Rattle.fast_notation.specs.device.Chains.{Fits, nodes_in};
@@ -110,6 +111,24 @@ fn template_of(
 pub(crate) struct BuildContext<'a> {
     pub(crate) scope: TextScope<'a>,
     pub(crate) chain: usize,
+}
+
+impl BuildContext<'_> {
+    /// Where the instructions of a template stand to which a reference leads from here.
+    fn behind_reference<'a>(self, number: u32, template: &'a WrittenTemplate) -> BuildContext<'a>
+        requires { 1 ≤ self.chain }
+        ensures scope { scope_data result.scope ≡ scope_of number (written_data template.now) }
+        ensures chain { suc result.chain ≡ self.entry.chain }
+    {
+        let scope = TextScope {
+            template: number,
+            dictionary: template.dictionary.as_str(),
+        };
+        BuildContext {
+            scope,
+            chain: self.chain - 1,
+        }
+    }
 }
 
 /// Templates with their nodes, and the number of entries.
@@ -347,14 +366,7 @@ impl Builder<'_> {
             unreachable!();
         };
         let template = &self.set.templates[number as usize];
-        let scope = TextScope {
-            template: number,
-            dictionary: template.dictionary.as_str(),
-        };
-        let at = BuildContext {
-            scope,
-            chain: at.chain - 1,
-        };
+        let at = at.behind_reference(number, template);
         self.build_fields(nodes, body, at, &template.fields)
     }
 }

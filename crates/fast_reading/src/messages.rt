@@ -1,6 +1,6 @@
 //! Messages of the lines of their events.
 
-ghost use Rattle.std.specs.Prelude.{◌≡◌, ◌<◌, ◌+◌, ℕ, List, [], ◌∷◌, ◌++◌, length, map, Some, IfOk, IfErr, OnOk, option_map};
+ghost use Rattle.std.specs.Prelude.{◌≡◌, ◌<◌, ◌↔◌, ◌+◌, ℕ, List, [], ◌∷◌, ◌++◌, length, map, Some, IsTrue, IfOk, IfErr, OnOk, option_map};
 ghost use Rattle.fast_value.specs.meaning.Kinds.{U, I, Dec};
 ghost use Rattle.fast_value.specs.meaning.Values.{value_data};
 ghost use Rattle.fast_value.specs.meaning.Views.{item_data, slots_data, elements_data, message_data};
@@ -152,6 +152,22 @@ fn read_item<'a>(
     }
 }
 
+/// Whether so many elements are all that a sequence's line says.
+#[inline(always)]
+fn has_all(len: usize, count: u32) -> bool
+    ensures { IsTrue result ↔ len ≡ count }
+{
+    len == count as usize
+}
+
+/// Whether so many elements are fewer than a sequence's line says.
+#[inline(always)]
+fn lacks_some(len: usize, count: u32) -> bool
+    ensures { IsTrue result ↔ len < count }
+{
+    len < count as usize
+}
+
 /// So many elements of a sequence, up to the line that ends it, and the place behind that line.
 #[cycle(reading)]
 fn read_rows<'a>(
@@ -172,7 +188,7 @@ fn read_rows<'a>(
     let mut place = at;
     let mut rows = Vec::new(alloc);
     while is_element(place.line) {
-        if rows.len() == count as usize {
+        if has_all(rows.len(), count) {
             return Err(place.fault(LineFault::WrongCount));
         }
         let next = place.advance(alloc)?;
@@ -183,7 +199,7 @@ fn read_rows<'a>(
     if !is_sequence_end(place.line) {
         return Err(place.fault(misplaced(templates, place.line)));
     }
-    if rows.len() < count as usize {
+    if lacks_some(rows.len(), count) {
         return Err(place.fault(LineFault::WrongCount));
     }
     let next = place.advance(alloc)?;

@@ -1,6 +1,6 @@
 //! Whether a message keeps to the limits.
 
-ghost use Rattle.std.specs.Prelude.{◌≡◌, ◌+◌, ◌≤◌, ◌↔◌, IsTrue, IfSome, IfNone, length};
+ghost use Rattle.std.specs.Prelude.{◌≡◌, ◌+◌, ◌<◌, ◌≤◌, ◌↔◌, IsTrue, IfSome, IfNone, length};
 ghost use Rattle.fast_value.specs.meaning.Kinds.{text_of};
 ghost use Rattle.fast_value.specs.meaning.Messages.{sequence, item_total, total};
 ghost use Rattle.fast_value.specs.meaning.Values.{value_data};
@@ -55,6 +55,14 @@ fn room_after_item(limits: Limits, item: &Item, room: u32) -> Option<u32>
     }
 }
 
+/// Whether so many elements are more than a sequence may have.
+#[inline(always)]
+fn has_too_many(limits: Limits, count: usize) -> bool
+    ensures { IsTrue result ↔ limits.max_elements < count }
+{
+    count > limits.max_elements as usize
+}
+
 /// What the elements of a sequence, and those of all sequences in them, leave of the room.
 #[cycle(room)]
 #[inline(always)]
@@ -66,7 +74,7 @@ fn room_after_sequence(limits: Limits, rows: &[Vec<Option<Item>>], room: u32) ->
         (¬ (IsWithinLimits limits (sequence (elements_data rows.now))
         × (item_total (sequence (elements_data rows.now)) ≤ room))) }
 {
-    if rows.len() > limits.max_elements as usize {
+    if has_too_many(limits, rows.len()) {
         return None;
     }
     let mut left = room.checked_sub(rows.len() as u32)?;

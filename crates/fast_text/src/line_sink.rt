@@ -1,6 +1,6 @@
 //! A sink that writes a line for each event.
 
-ghost use Rattle.std.specs.Prelude.{[], ◌∷◌, ◌++◌};
+ghost use Rattle.std.specs.Prelude.{◌≡◌, [], ◌∷◌, ◌++◌, is_ok};
 ghost use Rattle.fast_template.specs.meaning.Flat.{tree_of};
 ghost use Rattle.fast_stream.specs.meaning.Handed.{event_data};
 ghost use Rattle.fast_lines.specs.meaning.Lines.{line_of, node as node_words};
@@ -123,6 +123,17 @@ fn put_event<T: Target>(
     }
 }
 
+/// A failure of the target is a stop.
+#[inline(always)]
+fn stop_where_failed(outcome: Result<(), Failed>) -> Result<(), Stop>
+    ensures { is_ok result ≡ is_ok outcome }
+{
+    match outcome {
+        Ok(()) => Ok(()),
+        Err(_) => Err(Stop),
+    }
+}
+
 impl<'a, T: Target> LineSink<'a, T> {
     ghost use Rattle.fast_text.specs.device.Fronts.{set_of};
     ghost use Rattle.fast_text.specs.device.LineSink.{IsOver};
@@ -165,9 +176,6 @@ impl<T: Target> Sink for LineSink<'_, T> {
         event_holds_bytes(event);
         let mut line = LineWriter::new(&mut *self.target, &mut self.kept);
         put_event(&mut line, self.templates, self.fronts, self.messages, event);
-        match line.finish() {
-            Ok(()) => Ok(()),
-            Err(_) => Err(Stop),
-        }
+        stop_where_failed(line.finish())
     }
 }

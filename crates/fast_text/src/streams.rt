@@ -1,12 +1,12 @@
 //! Readers and writers whose bytes a contract can speak of, and the readers and writers of std.
 
-ghost use Rattle.std.specs.Prelude.{◌≡◌, ℕ, ◌≤◌, ◌<◌, List, [], Bool, false, IsTrue, take, length, Option, Some, IfOk, OnOk, OnErr};
+ghost use Rattle.std.specs.Prelude.{◌≡◌, ℕ, ◌≤◌, ◌<◌, List, [], Bool, false, IsTrue, take, length, Option, Some, Ok, IsErr, IfOk, OnOk, OnErr};
 ghost use Rattle.std.specs.Io.KnownBytes.{IsAtEnd};
 ghost use Rattle.fast_text.specs.meaning.Streams.{Reads, Appends, AppendsFront};
 
 use std::error::Error;
 use std::fmt;
-use std::io::{Read, Write};
+use std::io::{self, Read, Write};
 
 /// A read or a write failed.
 #[derive(Clone, Copy, Debug, PartialEq, Eq)]
@@ -222,6 +222,24 @@ impl<T> Watched<T> {
         }
     }
 
+    /// How many bytes a read gave; a failure stays known.
+    #[inline(always)]
+    fn note_read(&mut self, outcome: io::Result<usize>) -> Result<usize, Failed>
+        ensures inner { inner_of self.new ≡ inner_of self.old }
+        ensures ok { IfOk result (λ n. outcome ≡ Ok n) }
+        ensures err { OnErr result (IsErr outcome) }
+        ensures fails { OnErr result (IsTrue (has_call_failed self.new)) }
+        ensures stays { OnOk result (has_call_failed self.new ≡ has_call_failed self.old) }
+    {
+        match outcome {
+            Ok(count) => Ok(count),
+            Err(_) => {
+                self.broken = true;
+                Err(Failed)
+            }
+        }
+    }
+
     /// The reader or writer, as the calls have left it.
     pub fn into_inner(self) -> T
         ensures { result ≡ inner_of self }
@@ -238,13 +256,8 @@ impl<R: Read> Source for Watched<R> {
     ghost has_failed = { λ s. s.broken };
 
     fn read(&mut self, buf: &mut [u8]) -> Result<usize, Failed> {
-        match self.inner.read(buf) {
-            Ok(count) => Ok(count),
-            Err(_) => {
-                self.broken = true;
-                Err(Failed)
-            }
-        }
+        let outcome = self.inner.read(buf);
+        self.note_read(outcome)
     }
 
     fn failed(&self) -> bool {

@@ -1,5 +1,5 @@
 -- What building needs, of the parts of instructions for which it has it.
-use Rattle.std.proofs.Common.{◌≡◌, ◌≢◌, ℕ, ◌+◌, ◌*◌, ◌-◌, ◌<◌, ◌≤◌, zero, suc, Bool, List, [], ◌∷◌, ◌++◌, length, take, get_or, slice_get, refl, ap, sym, ◌∙◌, subst, arith, Option, Some, append-nil, length-append}
+use Rattle.std.proofs.Common.{◌≡◌, ◌≢◌, ℕ, ◌+◌, ◌*◌, ◌<◌, ◌≤◌, zero, suc, Bool, List, [], ◌∷◌, ◌++◌, length, take, get_or, slice_get, refl, ap, sym, ◌∙◌, subst, arith, Option, Some, append-nil, length-append}
 use Rattle.std.specs.Prelude.{All, AllPairs, Contains, IsSome, sum_by}
 use Rattle.std.proofs.Math.Nat.{suc-mul}
 use Rattle.std.proofs.lemmas.List.Sums.{sum_by-cons}
@@ -258,11 +258,9 @@ weight_of (u ∷ ts) (suc k) t found =
     omega (arith, c, r)
 
 -- with the next template less is left
-pub next_smaller : (ts : List DeclaredTemplate) (k chain : ℕ) (t : DeclaredTemplate) → slice_get ts k ≡ Some t → 1 ≤ chain → measure ts (chain - 1) (3 * weight t.fields + 1) < measure ts chain 2
-next_smaller ts k zero t found some = absurd (omega arith)
-next_smaller ts k (suc c) t found some =
+pub next_smaller : (ts : List DeclaredTemplate) (k chain : ℕ) (t : DeclaredTemplate) → slice_get ts k ≡ Some t → measure ts chain (3 * weight t.fields + 1) < measure ts (suc chain) 2
+next_smaller ts k chain t found =
     let w = weight_of ts k t found in
     let all = 3 * sum_by (λ (u : DeclaredTemplate). weight u.fields) ts in
-    let e : suc c - 1 ≡ c = omega arith in
-    let m : suc c * all ≡ c * all + all = suc-mul c all in
-    rw e (omega (arith, w, m))
+    let m : suc chain * all ≡ chain * all + all = suc-mul chain all in
+    omega (arith, w, m)

@@ -96,7 +96,7 @@ read_rows-loop-rows-preserved t c =
     record {
       read = subst (λ (z : List (Vec (Option Item) Global)). AreReadTo set body z c.args.at c.in_ok-row.next) (sym c.in_ok-push.ensures.ok)
           (rows_more set body rs r c.args.at c.loop-rows.place c.in_ok-next.next c.in_ok-row.next c.loop-rows.invariant.read (c.is_element.ensures.0 c.loop-rows-test.true) c.in_ok-next.ensures.ok c.in_ok-row.ensures.ok);
-      few = omega (arith, long, grown, one, few, c.if-len-count.false);
+      few = grind (arith, long, grown, one, few, c.has_all.ensures.1, c.if-has_all.false);
     }
 
 pub read_rows-returns-clause-ok : goal.read_rows-returns-clause-ok
@@ -104,7 +104,7 @@ read_rows-returns-clause-ok t c =
     let rs = c.loop-rows.rows.items in
     let long : c.len-2.result ≡ length rs = c.len-2.ensures ∙ c.loop-rows.rows.ok.0 in
     let few = c.loop-rows.invariant.few in
-    let many : length rs ≡ c.args.count = omega (arith, long, few, c.if-len-count-2.false) in
+    let many : length rs ≡ c.args.count = grind (arith, long, few, c.lacks_some.ensures.1, c.if-lacks_some.false) in
     rows_done (tree_of c.args.templates.now) (body_among (nodes_of c.args.templates.now) c.args.body.now) rs c.args.count c.args.at c.loop-rows.place c.in_ok-next-2.next c.loop-rows.invariant.read many (c.if-not-is_sequence_end.ensures.0 refl) c.in_ok-next-2.ensures.ok
 
 pub read_body-loop-i-init : goal.read_body-loop-i-init
@@ -209,13 +209,13 @@ read_item-returns-in_err-rows-in-Sequence-clause-refused t c =
     (λ none. sequence_refused set i (label_of n v) (field_data c.in-Sequence.length) inner c.count_of-count.result c.args.at c.in_ok-next-in-Sequence.next (at_shape nodes n v (Sequence c.in-Sequence.length c.in-Sequence.body) c.node.ensures.found c.node.ensures.body c.in-Sequence.is) c.count_of-count.ensures c.in_ok-next-in-Sequence.ensures.ok none)
     c.in_err-rows-in-Sequence.field-0.0 (rw c.deref-in-Sequence.ensures.value at c.in_err-rows-in-Sequence.ensures.refused)))
 
-pub read_rows-returns-then-len-count-clause-refused : goal.read_rows-returns-then-len-count-clause-refused
-read_rows-returns-then-len-count-clause-refused t c =
+pub read_rows-returns-then-has_all-clause-refused : goal.read_rows-returns-then-has_all-clause-refused
+read_rows-returns-then-has_all-clause-refused t c =
     let set = tree_of c.args.templates.now in
     let body = body_among (nodes_of c.args.templates.now) c.args.body.now in
     let rs = c.loop-rows.rows.items in
     let long : c.len.result ≡ length rs = c.len.ensures ∙ c.loop-rows.rows.ok.0 in
-    let all : length rs ≡ c.args.count = omega (arith, long, c.if-len-count.true) in
+    let all : length rs ≡ c.args.count = sym long ∙ c.has_all.ensures.0 c.if-has_all.true in
     always (HasNoRows set body c.args.count c.args.at) c.fault.result (rows_surplus set body rs c.args.count c.args.at c.loop-rows.place c.loop-rows.invariant.read (c.is_element.ensures.0 c.loop-rows-test.true) all)
 
 pub read_rows-returns-in_err-next-clause-refused : goal.read_rows-returns-in_err-next-clause-refused
@@ -245,14 +245,14 @@ read_rows-returns-then-not-is_sequence_end-clause-refused t c =
     let rs = c.loop-rows.rows.items in
     always (HasNoRows set body c.args.count c.args.at) c.fault-then-not-is_sequence_end.result (rows_misplaced set body rs c.args.count c.args.at c.loop-rows.place c.loop-rows.invariant.read (λ h. absurd (cc (c.loop-rows-test.false, c.is_element.ensures.1 h))) (λ h. absurd (cc (c.if-not-is_sequence_end.true, c.is_sequence_end.ensures.1 h))))
 
-pub read_rows-returns-then-len-count-2-clause-refused : goal.read_rows-returns-then-len-count-2-clause-refused
-read_rows-returns-then-len-count-2-clause-refused t c =
+pub read_rows-returns-then-lacks_some-clause-refused : goal.read_rows-returns-then-lacks_some-clause-refused
+read_rows-returns-then-lacks_some-clause-refused t c =
     let set = tree_of c.args.templates.now in
     let body = body_among (nodes_of c.args.templates.now) c.args.body.now in
     let rs = c.loop-rows.rows.items in
     let long : c.len-2.result ≡ length rs = c.len-2.ensures ∙ c.loop-rows.rows.ok.0 in
-    let few : length rs < c.args.count = omega (arith, long, c.if-len-count-2.true) in
-    always (HasNoRows set body c.args.count c.args.at) c.fault-then-len-count-2.result (rows_missing set body rs c.args.count c.args.at c.loop-rows.place c.loop-rows.invariant.read (λ h. absurd (cc (c.loop-rows-test.false, c.is_element.ensures.1 h))) few)
+    let few : length rs < c.args.count = omega (arith, long, c.lacks_some.ensures.0 c.if-lacks_some.true) in
+    always (HasNoRows set body c.args.count c.args.at) c.fault-then-lacks_some.result (rows_missing set body rs c.args.count c.args.at c.loop-rows.place c.loop-rows.invariant.read (λ h. absurd (cc (c.loop-rows-test.false, c.is_element.ensures.1 h))) few)
 
 pub read_rows-returns-in_err-next-2-clause-refused : goal.read_rows-returns-in_err-next-2-clause-refused
 read_rows-returns-in_err-next-2-clause-refused t c =

@@ -49,8 +49,8 @@ room_after_item-returns-in-Sequence-clause-some t c = rw (ap item_data c.in-Sequ
 pub room_after_item-returns-in-Sequence-clause-none : goal.room_after_item-returns-in-Sequence-clause-none
 room_after_item-returns-in-Sequence-clause-none t c = rw (ap item_data c.in-Sequence.is ∙ item_data-Sequence c.in-Sequence.rows) (rw c.deref-in-Sequence.ensures.value at c.room_after_sequence.ensures.none)
 
-pub room_after_sequence-returns-then-rows-limits-clause-none : goal.room_after_sequence-returns-then-rows-limits-clause-none
-room_after_sequence-returns-then-rows-limits-clause-none t c h = omega (arith, count-elements_data c.args.rows.now, h.0.0)
+pub room_after_sequence-returns-then-has_too_many-clause-none : goal.room_after_sequence-returns-then-has_too_many-clause-none
+room_after_sequence-returns-then-has_too_many-clause-none t c h = omega (arith, count-elements_data c.args.rows.now, h.0.0, c.has_too_many.ensures.0 c.if-has_too_many.true)
 
 pub room_after_sequence-returns-in_err-left-clause-none : goal.room_after_sequence-returns-in_err-left-clause-none
 room_after_sequence-returns-in_err-left-clause-none t c =
@@ -60,7 +60,7 @@ pub room_after_sequence-loop-row-init : goal.room_after_sequence-loop-row-init
 room_after_sequence-loop-row-init t c =
     let long = count-elements_data c.args.rows.now in
     record {
-      few = omega (arith, long);
+      few = grind (arith, long, c.has_too_many.ensures.1, c.if-has_too_many.false);
       within = (λ w. w, λ w. w);
       sum = omega (arith, long, c.in_ok-left.ensures);
     }

@@ -1,4 +1,4 @@
-use Rattle.std.proofs.Common.{◌≡◌, ◌+◌, ◌-◌, ◌*◌, [], suc, refl, map, length, ap, sym, ◌∙◌, subst, arith, string_bytes, false, slice_get, Some}
+use Rattle.std.proofs.Common.{◌≡◌, ◌+◌, ◌*◌, [], suc, refl, map, length, ap, sym, ◌∙◌, subst, arith, string_bytes, false, slice_get, Some}
 use Rattle.std.specs.Prelude.{option_map}
 use Rattle.std.proofs.lemmas.List.{length-map}
 use Rattle.std.proofs.lemmas.Option.{slice_get_within, slice_get_read}
@@ -203,8 +203,9 @@ build_sequence-returns t c optional own w is =
     rw same (built_sequence c.args.name.now optional own w (field_data c.args.sent) (fields_data c.args.fields.now) (a_group_data false []) old (data_of c.add_node.new.nodes) (data_of c.build_fields.new.nodes) (map node_data c.set_shape.new.nodes) c.args.body.now.items c.add_node.new.body.items c.build_fields.new.body.items
     is first inner shaped c.in_ok-add_node.ensures.body)
 
-pub build_reference-overflow_sub-at : goal.build_reference-overflow_sub-at
-build_reference-overflow_sub-at t c = chain_some (map written_data c.args.self.now.set.now.templates.items) c.args.at.chain c.args.name.now no_more c.requires.1.1.1.fits
+pub build_reference-behind_reference-at-requires :
+    goal.build_reference-behind_reference-at-requires
+build_reference-behind_reference-at-requires t c = chain_some (map written_data c.args.self.now.set.now.templates.items) c.args.at.chain c.args.name.now no_more c.requires.1.1.1.fits
 
 pub build_reference-index-template-requires : goal.build_reference-index-template-requires
 build_reference-index-template-requires t c =
@@ -232,13 +233,12 @@ build_reference-build_fields-requires t c =
     let read = slice_get_read templates.items (length templates.items) k w refl (omega (arith, inside, l)) c.index-template.ensures in
     let here : slice_get ts k ≡ Some (written_data w) = mapped_get written_data templates.items k w read in
     let same = ap (λ (t : DeclaredTemplate). t.name) (some_is (sym here ∙ found.1)) ∙ found.2 in
-    let some = chain_some ts c.args.at.chain c.args.name.now no_more can.fits in
-    let less : suc (c.args.at.chain - 1) ≡ c.args.at.chain = omega (arith, some) in
-    let next = can_build_reference (c.args.at.chain - 1) k n (scope_data c.args.at.scope) c.args.name.now (written_data w) set here same
-    (subst (λ chain. CanBuild ts es chain (scope_data c.args.at.scope) (more (reference c.args.name.now) no_more) n) (sym less) can) in
-    let d : measure ts c.args.at.chain 2 ≡ t = c.requires.1.0 in
-    let smaller = next_smaller ts k c.args.at.chain (written_data w) here some in
-    rw (c.as_str.ensures.value, c.deref.ensures.value) (omega (arith, d, smaller), (set, next))
+    let at = c.behind_reference-at in
+    let next = can_build_reference at.result.chain k n (scope_data c.args.at.scope) c.args.name.now (written_data w) set here same
+    (subst (λ chain. CanBuild ts es chain (scope_data c.args.at.scope) (more (reference c.args.name.now) no_more) n) (sym at.ensures.chain) can) in
+    let d : measure ts (suc at.result.chain) 2 ≡ t = rw at.ensures.chain c.requires.1.0 in
+    let smaller = next_smaller ts k at.result.chain (written_data w) here in
+    rw (at.ensures.scope, c.deref.ensures.value) (omega (arith, d, smaller), (set, next))
 
 pub build_reference-returns : goal.build_reference-returns
 build_reference-returns t c =
@@ -255,13 +255,12 @@ build_reference-returns t c =
     let read = slice_get_read templates.items (length templates.items) k w refl (omega (arith, inside, l)) c.index-template.ensures in
     let here : slice_get ts k ≡ Some (written_data w) = mapped_get written_data templates.items k w read in
     let same = ap (λ (t : DeclaredTemplate). t.name) (some_is (sym here ∙ found.1)) ∙ found.2 in
-    let some = chain_some ts c.args.at.chain c.args.name.now no_more can.fits in
-    let less : suc (c.args.at.chain - 1) ≡ c.args.at.chain = omega (arith, some) in
+    let at = c.behind_reference-at in
     let old = data_of c.args.nodes.now in
     let new = data_of c.build_fields.new.nodes in
     let before = c.args.body.now.items in
     let after = c.build_fields.new.body.items in
     on_ok_weaker c.build_fields.result
-    (λ h. subst (λ chain. IsBuilt ts es chain (scope_data c.args.at.scope) (more (reference c.args.name.now) no_more) old new before after) less
-    (built_reference c.args.name.now k (written_data w) old new before after here same (rw (c.as_str.ensures.value, c.deref.ensures.value) at h)))
+    (λ h. subst (λ chain. IsBuilt ts es chain (scope_data c.args.at.scope) (more (reference c.args.name.now) no_more) old new before after) at.ensures.chain
+    (built_reference c.args.name.now k (written_data w) old new before after here same (rw (at.ensures.scope, c.deref.ensures.value) at h)))
     c.build_fields.ensures
