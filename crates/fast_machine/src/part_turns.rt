@@ -22,7 +22,6 @@ ghost use Rattle.fast_machine.specs.device.Positions.{Set, set_of, body_in, fram
 
 use crate::machine::{Machine, Turn, Waiting};
 use crate::settling::hand;
-use crate::turning::unsent_seldom;
 use fast_stream::{Event, FaultCode, Sink};
 use fast_template::{FieldInstruction, Templates};
 use fast_units::fields::{needs_bytes, unsent, value_at};
@@ -168,7 +167,7 @@ impl<'t> Machine<'t> {
             self.waiting = Waiting::Mantissa(exponent);
             return Ok(Turn::Waits);
         }
-        match unsent_seldom(&mut self.slots, mantissa, bit) {
+        match unsent(&mut self.slots, mantissa, bit) {
             Err(code) => Err(FaultCode::Stream(code)),
             Ok(source) => self.finish_decimal(node, mantissa, exponent, source, sink),
         }

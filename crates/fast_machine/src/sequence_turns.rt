@@ -18,10 +18,9 @@ ghost use Rattle.fast_machine.specs.device.Positions.{set_of, run_in, IsBodyOf, 
 
 use crate::machine::{Machine, Turn, Waiting};
 use crate::settling::hand;
-use crate::turning::unsent_seldom;
 use fast_stream::{Event, FaultCode, Sink};
 use fast_template::{FieldInstruction, Templates};
-use fast_units::fields::{needs_bytes, value_at};
+use fast_units::fields::{needs_bytes, unsent, value_at};
 use fast_units::source::ValueSource;
 use fast_value::{Code, Limits};
 
@@ -73,7 +72,7 @@ impl<'t> Machine<'t> {
             self.waiting = Waiting::Field;
             return Ok(Turn::Waits);
         }
-        match unsent_seldom(&mut self.slots, length, bit) {
+        match unsent(&mut self.slots, length, bit) {
             Err(code) => Err(FaultCode::Stream(code)),
             Ok(source) => self.length_known(templates, limits, node, length, start, source, sink),
         }

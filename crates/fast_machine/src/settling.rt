@@ -74,36 +74,6 @@ impl<'t> Machine<'t> {
         ensures rests { resting self.new.cursor ≡ resting self.old.cursor }
         ensures on { result ≢ Ok Turn.Waits }
     {
-        self.finish_by(node, field, field.uses_bit(), source, piece, sink)
-    }
-
-    /// The same, where it is known whether the field uses a presence bit.
-    #[inline(always)]
-    pub fn finish_by<S: Sink>(
-        &mut self,
-        node: u32,
-        field: &FieldInstruction,
-        has_bit: bool,
-        source: ValueSource,
-        piece: &[u8],
-        sink: &mut S,
-    ) -> Result<Turn, FaultCode>
-        requires bit { has_bit ≡ uses_bit (field_data field.now) }
-        requires left { 0 < length self.old.cursor.left }
-        requires entry { (e : ℕ) → (field_data field.now).entry ≡ Some e
-            → e < length (slots_dictionary self.old.slots) }
-        ensures moves { (set : Set) (l : Bounds) (strict : Bool) (waits : Reader Dictionary) → Moves S.takes S.stops
-            (reader_of strict (value_then set l node
-            (value_at source (field_data field.now) (slots_dictionary self.old.slots) self.old.text.text piece.now)
-            (field_data field.now) (slots_dictionary self.old.slots) self.old.counted self.old.cursor))
-            sink.old result sink.new
-            (reader_of strict (going_on set l (slots_dictionary self.new.slots) self.new.counted self.new.cursor))
-            waits }
-        ensures past { OnOk result (IsPast self.old.cursor self.new.cursor) }
-        ensures same { self.new ≡ record self.old { cursor = self.new.cursor } }
-        ensures rests { resting self.new.cursor ≡ resting self.old.cursor }
-        ensures on { result ≢ Ok Turn.Waits }
-    {
         let value = value_at(&self.slots, field, self.text.as_slice(), piece, source);
         let turn = match value {
             Some(value) => {
@@ -112,7 +82,7 @@ impl<'t> Machine<'t> {
             }
             None => Turn::Silent,
         };
-        if has_bit {
+        if field.uses_bit() {
             self.cursor.use_bit();
         }
         self.cursor.advance();

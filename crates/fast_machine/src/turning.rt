@@ -1,14 +1,13 @@
 //! What a machine does without a byte: fields that are not sent, starts and ends of segments.
 
-ghost use Rattle.std.specs.Prelude.{◌≡◌, ◌≢◌, ◌<◌, ℕ, [], false, Ok, drop, length, Some, None};
+ghost use Rattle.std.specs.Prelude.{◌≡◌, ◌≢◌, ◌<◌, ℕ, [], Ok, drop, length, Some};
 ghost use Rattle.fast_tree.specs.device.Nodes.{field_data};
 ghost use Rattle.fast_tree.specs.device.Numbers.{AreBelow};
-ghost use Rattle.fast_dict.specs.meaning.Dictionary.{previous_at};
-ghost use Rattle.fast_dict.specs.meaning.Operators.{decide, nothing};
-ghost use Rattle.fast_dict.specs.meaning.Slots.{slots_dictionary, slots_terms};
+ghost use Rattle.fast_dict.specs.meaning.Operators.{nothing};
+ghost use Rattle.fast_dict.specs.meaning.Slots.{slots_terms};
 ghost use Rattle.fast_cursor.specs.device.Runs.{IsRun};
 ghost use Rattle.fast_units.specs.device.Settling.{Serves};
-ghost use Rattle.fast_units.specs.device.Deciding.{needs_bytes, IsDecided};
+ghost use Rattle.fast_units.specs.device.Deciding.{needs_bytes};
 ghost use Rattle.fast_machine.specs.device.TurnsLeft.{Way, HasTurns, HasTurnsBehind};
 ghost use Rattle.fast_units.specs.device.UnitFronts.{IsAsciiFirst};
 ghost use Rattle.fast_machine.specs.device.Opening.{opened_result, opened_by};
@@ -17,34 +16,10 @@ ghost use Rattle.fast_machine.specs.device.Positions.{set_of, run_in, IsBodyOf, 
 use crate::machine::{Machine, Turn, Waiting};
 use crate::settling::hand;
 use crate::turns::Turns;
-use fast_dict::Slots;
 use fast_stream::{Event, FaultCode, Sink};
 use fast_template::{FieldInstruction, Operator, Shape, Templates};
 use fast_units::fields::{needs_bytes, unsent};
-use fast_units::source::ValueSource;
-use fast_value::{Code, Kind, Limits};
-
-/// What a field leaves of which nothing is sent, out of line: for fields that are seldom left out.
-///
-/// # Errors
-///
-/// Those of [`unsent`].
-#[inline(never)]
-pub fn unsent_seldom(
-    slots: &mut Slots,
-    field: &FieldInstruction,
-    bit: bool,
-) -> Result<ValueSource, Code>
-    requires serves { Serves (length (slots_dictionary slots.old)) (slots_terms slots.old) (field_data field.now) }
-    requires no_bytes { needs_bytes field.now.operator bit ≡ false }
-    ensures decided { IsDecided
-        (decide (field_data field.now) (previous_at (field_data field.now).entry (slots_dictionary slots.old)) bit
-        nothing)
-        (field_data field.now) (slots_dictionary slots.old) (slots_dictionary slots.new) result }
-    ensures terms { slots_terms slots.new ≡ slots_terms slots.old }
-{
-    unsent(slots, field, bit)
-}
+use fast_value::{Kind, Limits};
 
 impl<'t> Machine<'t> {
     /// A field is next: the machine waits for its first unit, or nothing is sent of it.
@@ -66,40 +41,6 @@ impl<'t> Machine<'t> {
         ensures turns { (way : Way) (n : ℕ) → HasTurns way (set_of templates.now) limits 1 n self.old
             → HasTurnsBehind result way (set_of templates.now) limits n self.new }
     {
-        // The same call again and again: in each arm the compiler knows the operator, and folds all later looks at it.
-        match field.operator {
-            Operator::None | Operator::Delta => self.begin_under(
-                templates, limits, node, field, sink,
-            ),
-            Operator::Default => self.begin_under(templates, limits, node, field, sink),
-            Operator::Copy => self.begin_under(templates, limits, node, field, sink),
-            Operator::Constant => self.begin_under(templates, limits, node, field, sink),
-            Operator::Increment | Operator::Tail => self.begin_under(
-                templates, limits, node, field, sink,
-            ),
-        }
-    }
-
-    /// The same, where the caller has told operators apart, so that the compiler makes one copy of it for each.
-    #[inline(always)]
-    fn begin_under<S: Sink>(
-        &mut self,
-        templates: &'t Templates,
-        limits: Limits,
-        node: u32,
-        field: &FieldInstruction,
-        sink: &mut S,
-    ) -> Result<Turn, FaultCode>
-        requires turn { CanTurn (set_of templates.now) limits self.old }
-        requires next { IsAtField (set_of templates.now) self.old.cursor node (field_data field.now) }
-        requires serves { Serves (set_of templates.now).entries (slots_terms self.old.slots) (field_data field.now) }
-        ensures turn { IsTurn S.takes S.stops (set_of templates.now) limits
-            (turning (set_of templates.now) limits self.old) sink.old result sink.new self.new }
-        ensures past { result ≡ Ok Turn.Silent → self.new.cursor.left ≡ drop 1 self.old.cursor.left }
-        ensures turns { (way : Way) (n : ℕ) → HasTurns way (set_of templates.now) limits 1 n self.old
-            → HasTurnsBehind result way (set_of templates.now) limits n self.new }
-    {
-        let has_bit = field.uses_bit();
         let bit = self.presence(field);
         if needs_bytes(field, bit) {
             self.wait_first(field);
@@ -107,7 +48,7 @@ impl<'t> Machine<'t> {
         }
         match unsent(&mut self.slots, field, bit) {
             Err(code) => Err(FaultCode::Stream(code)),
-            Ok(source) => self.finish_by(node, field, has_bit, source, &[], sink),
+            Ok(source) => self.finish(node, field, source, &[], sink),
         }
     }
 

@@ -114,10 +114,6 @@ pub integer_here : (s : Bool) (l : Bounds) (f : FieldData) (p : PreviousData) (w
 integer_here s l f p wire same e i j = ap (reader_of s) (integer_field l f p (range_of f.kind) e i j) ∙ ap (λ range. reader_of s (integer range f.optional D2 give >>= behind_integer l f p)) (sym same)
 
 -- the same of a field that is mandatory
-pub mandatory_here : (s : Bool) (l : Bounds) (f : FieldData) (p : PreviousData) (wire : Range) → wire ≡ range_of f.kind → family f.kind ≡ integers (range_of f.kind) → f.operator ≢ Op.Delta → f.operator ≢ Op.Constant → f.optional ≡ false
-    → reader_of s (field_term l f p true) ≡ reader_of s (integer wire false D2 give >>= behind_integer l f p)
-mandatory_here s l f p wire same e i j m = integer_here s l f p wire same e i j ∙ ap (λ b. reader_of s (integer wire b D2 give >>= behind_integer l f p)) m
-
 pub exponent_here : (s : Bool) (l : Bounds) (f : FieldData) (p : PreviousData) (wire : Range) → wire ≡ range_of f.kind → family f.kind ≡ decimals → f.operator ≢ Op.Delta → f.operator ≢ Op.Constant
     → reader_of s (field_term l f p true) ≡ reader_of s (integer wire f.optional R1 give >>= mantissa_next l f p)
 exponent_here s l f p wire same e i j = ap (reader_of s) (exponent_field l f p e i j) ∙ ap (λ range. reader_of s (integer range f.optional R1 give >>= mantissa_next l f p)) (sym (same ∙ ap range_in e))

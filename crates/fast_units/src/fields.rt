@@ -187,18 +187,6 @@ pub fn keep(slots: &mut Slots, field: &FieldInstruction, number: Number) -> Valu
     number.source()
 }
 
-/// The number that the field's entry holds, if it is one of the field's own kind.
-#[inline(always)]
-pub fn own_number(slots: &Slots, field: &FieldInstruction) -> Option<Number>
-    requires within { HasEntryOf slots.now field.now }
-    ensures { IfSome result (λ n. previous_of slots.now field.now ≡ assigned field.now.kind (number_data n)) }
-{
-    match field.entry {
-        Some(entry) => number_under(field.kind, slots.held(entry as usize)),
-        None => None,
-    }
-}
-
 /// The number of an entry under this kind.
 #[inline(always)]
 pub fn number_under(kind: Kind, entry: Entry) -> Option<Number>
@@ -216,39 +204,13 @@ pub fn number_under(kind: Kind, entry: Entry) -> Option<Number>
     }
 }
 
-/// Whether the field's entry holds a text of the field's own kind. The text itself is not fetched.
-#[inline(always)]
-fn has_own_text(slots: &Slots, field: &FieldInstruction) -> bool
-    requires within { HasEntryOf slots.now field.now }
-    ensures { result ≡ true → (text : List ℕ) × (previous_of slots.now field.now ≡ assigned field.now.kind
-        (value_of_text field.now.kind text)) }
-{
-    match field.entry {
-        Some(entry) => is_text_under(field.kind, slots.held(entry as usize)),
-        None => false,
-    }
-}
-
-/// Whether an entry holds a text under this kind.
-#[inline(always)]
-fn is_text_under(kind: Kind, entry: Entry) -> bool
-    ensures { result ≡ true → (text : List ℕ) → with_text entry text ≡ assigned kind (value_of_text kind text) }
-{
-    match (kind, entry) {
-        (Kind::Ascii, Entry::Ascii(_)) => true,
-        (Kind::Unicode, Entry::Unicode(_)) => true,
-        (Kind::Bytes, Entry::Bytes(_)) => true,
-        _ => false,
-    }
-}
-
 /// What a field leaves of which nothing is sent.
 ///
 /// # Errors
 ///
 /// D4 if the previous value is of another type; of a mandatory field D5 if there is neither a previous nor an initial value,
 /// and D6 if the previous value is empty.
-#[inline(always)]
+#[inline(never)]
 pub fn unsent(slots: &mut Slots, field: &FieldInstruction, bit: bool) -> Result<ValueSource, Code>
     requires serves { ServesField slots.old field.now }
     requires no_bytes { needs_bytes field.now.operator bit ≡ false }
@@ -268,7 +230,6 @@ pub fn unsent(slots: &mut Slots, field: &FieldInstruction, bit: bool) -> Result<
 }
 
 /// Copy and tail: the previous value. Under an undefined entry the initial value, which the entry then holds.
-#[inline(always)]
 fn copied(slots: &mut Slots, field: &FieldInstruction) -> Result<ValueSource, Code>
     requires serves { ServesField slots.old field.now }
     requires operator { field.now.operator ≢ Operator.Increment }
@@ -276,12 +237,6 @@ fn copied(slots: &mut Slots, field: &FieldInstruction) -> Result<ValueSource, Co
         slots.new result }
     ensures terms { slots_terms slots.new ≡ slots_terms slots.old }
 {
-    if let Some(number) = own_number(slots, field) {
-        return Ok(number.source());
-    }
-    if has_own_text(slots, field) {
-        return Ok(ValueSource::Entry);
-    }
     match previous(slots, field) {
         Previous::Assigned(kind, _) if kind == field.kind => Ok(ValueSource::Entry),
         Previous::Assigned(..) => Err(Code::D4),
@@ -292,7 +247,6 @@ fn copied(slots: &mut Slots, field: &FieldInstruction) -> Result<ValueSource, Co
 
 /// Increment: one more than the previous value, and behind the greatest of the type the least. Under an undefined entry
 /// the initial value. The entry then holds the value.
-#[inline(always)]
 fn incremented(slots: &mut Slots, field: &FieldInstruction) -> Result<ValueSource, Code>
     requires serves { ServesField slots.old field.now }
     requires operator { field.now.operator ≡ Operator.Increment }
@@ -300,10 +254,6 @@ fn incremented(slots: &mut Slots, field: &FieldInstruction) -> Result<ValueSourc
         slots.new result }
     ensures terms { slots_terms slots.new ≡ slots_terms slots.old }
 {
-    if let Some(number) = own_number(slots, field) {
-        let next = next_number(field.kind, number.as_scalar());
-        return Ok(keep(slots, field, next));
-    }
     match previous(slots, field) {
         Previous::Assigned(kind, value) if kind == field.kind => {
             let next = next_number(kind, value);

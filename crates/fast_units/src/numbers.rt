@@ -1,8 +1,7 @@
 //! Fields of integers: what their unit gives, and what it leaves in the dictionary; and what decimals share with them.
 
-ghost use Rattle.std.specs.Prelude.{false, Some, IfSome, ◌≡◌, ◌≢◌, ℕ, ◌<◌, true, List, [], pos, Ok};
-ghost use Rattle.fast_wire.specs.meaning.Integers.{unsigned_up_to};
-ghost use Rattle.fast_value.specs.meaning.Kinds.{U, value_of_integer, integers, texts, family};
+ghost use Rattle.std.specs.Prelude.{Some, ◌≡◌, ◌≢◌, ℕ, ◌<◌, true, List, [], Ok};
+ghost use Rattle.fast_value.specs.meaning.Kinds.{integers, texts, family};
 ghost use Rattle.fast_value.specs.meaning.Limits.{Bounds};
 ghost use Rattle.fast_tree.specs.device.Nodes.{field_data};
 ghost use Rattle.fast_dict.specs.meaning.Operators.{decide, integer_step, range_of};
@@ -11,11 +10,11 @@ ghost use Rattle.fast_units.specs.device.NextUnits.{range_data};
 ghost use Rattle.fast_units.specs.device.Deciding.{sent_number, base_integer, progress_of};
 ghost use Rattle.fast_units.specs.device.Words.{ServesField, HasEntryOf, previous_of, sent_reader, IsLastUnitOf, IsDecidedIn, IsKeptCut};
 
-use crate::fields::{Number, assign_empty, keep, own_number, previous};
+use crate::fields::{Number, assign_empty, keep, previous};
 use crate::pending::Pending;
 use crate::progress::Progress;
 use crate::source::ValueSource;
-use crate::units::{IntegerRange, next_integer, next_unsigned};
+use crate::units::{IntegerRange, next_integer};
 use fast_dict::Slots;
 use fast_dict::operators::delta_base;
 use fast_dict::operators::integers::{integer_of, range_of, sum_in};
@@ -79,9 +78,6 @@ fn base_integer(slots: &Slots, field: &FieldInstruction) -> Result<i128, Code>
     requires within { HasEntryOf slots.now field.now }
     ensures { result ≡ base_integer (field_data field.now) (previous_of slots.now field.now) }
 {
-    if let Some(number) = own_number(slots, field) {
-        return Ok(integer_of(number.as_scalar()));
-    }
     Ok(integer_of(delta_base(field, previous(slots, field))?))
 }
 
@@ -159,9 +155,6 @@ fn take_integer_item(
     ensures cut { IsKeptCut pending.old.bytes rest.now pending.new.bytes result }
     ensures terms { slots_terms slots.new ≡ slots_terms slots.old }
 {
-    if let Some(top) = mandatory_top(field) {
-        return take_unsigned(slots, pending, field, rest, strict, top);
-    }
     let range = range_on_wire(field.kind);
     match next_integer(pending, rest, strict, range, field.optional, Code::D2) {
         Progress::Whole(Some(integer), bytes) => {
@@ -169,55 +162,6 @@ fn take_integer_item(
             Progress::Whole(received(slots, field, Some(number)), bytes)
         }
         Progress::Whole(None, bytes) => Progress::Whole(received(slots, field, None), bytes),
-        Progress::Wrong(code, bytes) => Progress::Wrong(code, bytes),
-        Progress::Cut => Progress::Cut,
-    }
-}
-
-/// The greatest number of a mandatory field of unsigned numbers.
-#[inline]
-fn mandatory_top(field: &FieldInstruction) -> Option<u64>
-    ensures { IfSome result (λ top. (field.now.optional ≡ false) × (unsigned_up_to top ≡ range_of field.now.kind)
-        × ((n : ℕ) → value_of_integer field.now.kind (pos n) ≡ U n)) }
-{
-    if field.optional {
-        return None;
-    }
-    match field.kind {
-        Kind::UInt32 => Some(4_294_967_295),
-        Kind::UInt64 => Some(18_446_744_073_709_551_615),
-        _ => None,
-    }
-}
-
-/// An unsigned number that is mandatory, under no delta.
-#[inline(always)]
-fn take_unsigned(
-    slots: &mut Slots,
-    pending: &mut Pending,
-    field: &FieldInstruction,
-    rest: &[u8],
-    strict: bool,
-    top: u64,
-) -> Progress<ValueSource>
-    requires serves { ServesField slots.old field.now }
-    requires integers { family field.now.kind ≡ integers (range_of field.now.kind) }
-    requires no_delta { field.now.operator ≢ Operator.Delta }
-    requires no_constant { field.now.operator ≢ Operator.Constant }
-    requires mandatory { field.now.optional ≡ false }
-    requires range { unsigned_up_to top ≡ range_of field.now.kind }
-    requires unsigned { (n : ℕ) → value_of_integer field.now.kind (pos n) ≡ U n }
-    ensures unit { (l : Bounds) (scratch : List ℕ) → IsLastUnitOf (sent_reader strict l slots.old field.now) field.now
-        pending.old.bytes rest.now slots.old slots.new scratch result }
-    ensures whole { (s : ValueSource) (n : ℕ) → result ≡ Progress.Whole s n → pending.new.bytes ≡ [] }
-    ensures cut { IsKeptCut pending.old.bytes rest.now pending.new.bytes result }
-    ensures terms { slots_terms slots.new ≡ slots_terms slots.old }
-{
-    match next_unsigned(pending, rest, strict, top) {
-        Progress::Whole(number, bytes) => {
-            let item = Some(Number::Unsigned(number));
-            Progress::Whole(received(slots, field, item), bytes)
-        }
         Progress::Wrong(code, bytes) => Progress::Wrong(code, bytes),
         Progress::Cut => Progress::Cut,
     }

@@ -1,5 +1,5 @@
 -- The number behind a previous value of the field's type.
-use Rattle.std.proofs.Common.{◌≡◌, Some, rules, refl, sym, ap, ◌∙◌}
+use Rattle.std.proofs.Common.{◌≡◌, Some, rules, sym, ap, ◌∙◌}
 use denote.Enum.Bare.{same_true}
 use Rattle.fast_value.specs.contracts.kinds.Kind.{the_type}
 use Rattle.fast_value.specs.meaning.Kinds.{ScalarData, integer_of, value_of_integer}
@@ -12,24 +12,14 @@ use Rattle.fast_units.specs.device.Deciding.{number_data}
 use Rattle.fast_units.proofs.Deciding.{next_decided}
 use Rattle.fast_units.proofs.fields.incremented.Goals as goal
 
-pub returns-in-Some-clause-decided : goal.returns-in-Some-clause-decided
-returns-in-Some-clause-decided c =
-    let f = field_data c.args.field.now in
-    let v : ScalarData = number_data c.in-Some.number in
-    let next : number_data c.next_number-next.result ≡ next_value f.operator f.kind v =
-    c.next_number-next.ensures ∙ ap (λ x. value_of_integer f.kind (incremented (range_of f.kind) (integer_of x))) c.as_scalar.ensures ∙ ap (λ o. next_value o f.kind v) (sym c.requires.operator) in
-    next_decided f (slots_dictionary c.args.slots.now) (slots_dictionary c.keep.new.slots) f.kind v c.keep.result c.in-Some.ensures refl
-    (c.keep.ensures.entry ∙ ap (λ x. write_at f.entry (assigned f.kind x) (slots_dictionary c.args.slots.now)) next)
-    (λ scratch piece. sym (c.keep.ensures.value (slots_dictionary c.keep.new.slots) scratch piece ∙ ap Some next))
-
 pub returns-in-Assigned-clause-decided : goal.returns-in-Assigned-clause-decided
 returns-in-Assigned-clause-decided c =
     let f = field_data c.args.field.now in
     let kind = c.in-Assigned.kind in
     let v : ScalarData = scalar_data c.in-Assigned.value in
     let own : kind ≡ c.args.field.now.kind = same_true the_type (search rules) _ _ (sym c.if-eq.ensures) in
-    let next : number_data c.next_number-next-in-Assigned.result ≡ next_value f.operator f.kind v =
-    c.next_number-next-in-Assigned.ensures ∙ ap (λ k. value_of_integer k (incremented (range_of k) (integer_of v))) own ∙ ap (λ o. next_value o f.kind v) (sym c.requires.operator) in
-    next_decided f (slots_dictionary c.args.slots.now) (slots_dictionary c.keep-in-Assigned.new.slots) kind v c.keep-in-Assigned.result (sym c.in-Assigned.ensures) own
-    (c.keep-in-Assigned.ensures.entry ∙ ap (λ x. write_at f.entry (assigned f.kind x) (slots_dictionary c.args.slots.now)) next)
-    (λ scratch piece. sym (c.keep-in-Assigned.ensures.value (slots_dictionary c.keep-in-Assigned.new.slots) scratch piece ∙ ap Some next))
+    let next : number_data c.next_number-next.result ≡ next_value f.operator f.kind v =
+    c.next_number-next.ensures ∙ ap (λ k. value_of_integer k (incremented (range_of k) (integer_of v))) own ∙ ap (λ o. next_value o f.kind v) (sym c.requires.operator) in
+    next_decided f (slots_dictionary c.args.slots.now) (slots_dictionary c.keep.new.slots) kind v c.keep.result (sym c.in-Assigned.ensures) own
+    (c.keep.ensures.entry ∙ ap (λ x. write_at f.entry (assigned f.kind x) (slots_dictionary c.args.slots.now)) next)
+    (λ scratch piece. sym (c.keep.ensures.value (slots_dictionary c.keep.new.slots) scratch piece ∙ ap Some next))

@@ -8,7 +8,7 @@ use Rattle.std.specs.Prelude.{[]}
 use Rattle.fast_stream.specs.device.Continuations.{handed_then}
 use Rattle.fast_machine.specs.device.Positions.{set_of, turning, meaning}
 use Rattle.fast_machine.proofs.steps.FieldTurns.{serves_here, entry_known, can_turn_slots, state_of, behind, field_next, sent_here, field_known, field_wrong, field_waits, turn_fault, turn_moved}
-use Rattle.fast_machine.proofs.machine.Machine.begin_under.Goals as goal
+use Rattle.fast_machine.proofs.machine.Machine.begin_field.Goals as goal
 
 pub returns-then-needs_bytes-clause-turn : goal.returns-then-needs_bytes-clause-turn
 returns-then-needs_bytes-clause-turn g c =
@@ -23,8 +23,8 @@ returns-then-needs_bytes-clause-turn g c =
 pub unsent-requires-clause-serves : goal.unsent-requires-clause-serves
 unsent-requires-clause-serves g c = serves_here (set_of c.args.templates.now) c.args.limits c.args.self.now (field_data c.args.field.now) c.requires.turn.supplied c.requires.serves
 
-pub finish_by-requires-clause-entry : goal.finish_by-requires-clause-entry
-finish_by-requires-clause-entry g c = entry_known (set_of c.args.templates.now) c.args.limits c.args.self.now c.unsent.new.slots (field_data c.args.field.now) c.requires.turn c.unsent.ensures.terms c.requires.serves
+pub finish-requires-clause-entry : goal.finish-requires-clause-entry
+finish-requires-clause-entry g c = entry_known (set_of c.args.templates.now) c.args.limits c.args.self.now c.unsent.new.slots (field_data c.args.field.now) c.requires.turn c.unsent.ensures.terms c.requires.serves
 
 pub returns-in-Err-clause-turn : goal.returns-in-Err-clause-turn
 returns-in-Err-clause-turn g c =
@@ -44,10 +44,10 @@ returns-in-Ok-clause-turn g c =
     let l = c.args.limits in
     let m = c.args.self.now in
     let f = field_data c.args.field.now in
-    turn_moved g.S.Sink.takes g.S.Sink.stops set l (turning set l m) _ c.args.sink.now c.finish_by.result c.finish_by.new.sink (record m { slots = c.unsent.new.slots }) c.finish_by.new.self
+    turn_moved g.S.Sink.takes g.S.Sink.stops set l (turning set l m) _ c.args.sink.now c.finish.result c.finish.new.sink (record m { slots = c.unsent.new.slots }) c.finish.new.self
     (field_next set l m c.args.node f c.requires.next
     ∙ field_known l.strict (bounds l) f c.presence-bit.result (slots_dictionary m.slots) (slots_dictionary c.unsent.new.slots) m.counted m.cursor (λ r. handed_then c.args.node (behind set l m) r.0 r.1) c.in-Ok.source m.text.text []
     (c.presence-bit.ensures (slots_dictionary m.slots) m.counted) (c.needs_bytes.ensures.unsent c.if-needs_bytes.false (bounds l) (previous_at f.entry (slots_dictionary m.slots))) c.in-Ok.ensures.decided)
-    (c.finish_by.ensures.moves set (bounds l) l.strict (meaning set l c.finish_by.new.self))
+    (c.finish.ensures.moves set (bounds l) l.strict (meaning set l c.finish.new.self))
     (can_turn_slots set l m c.unsent.new.slots c.requires.turn c.unsent.ensures.terms)
-    c.finish_by.ensures.same c.finish_by.ensures.rests c.finish_by.ensures.past c.finish_by.ensures.on
+    c.finish.ensures.same c.finish.ensures.rests c.finish.ensures.past c.finish.ensures.on
