@@ -17,4 +17,4 @@ pub invariant_of-result-clause-nodes_usable : goal.invariant_of-result-clause-no
 invariant_of-result-clause-nodes_usable c = search rules
 
 pub returns-clause-read : goal.returns-clause-read
-returns-clause-read c = search rules
+returns-clause-read c = c.in_ok-set.ensures.read
