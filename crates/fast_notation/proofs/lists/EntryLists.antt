@@ -200,3 +200,13 @@ collected_has seen entries (u ∷ us) (inr (inr (e, kept, is, new, h))) =
     let r = kept_seen (seen ++ e ∷ []) entries us h in
     let here : Contains (seen ++ e ∷ []) e = (let l = length-append seen (e ∷ []) in (length seen, omega (arith, l), get_or-append_seam seen e [] e)) in
     All-cons (λ p. HasEntry entries p.0 p.1) u us (λ keeps. (e, is, subst (λ es. Contains es e) (sym r.1) (contains_left (seen ++ e ∷ []) r.0 e here))) (collected_has (seen ++ e ∷ []) entries us h)
+
+-- no more entries than uses
+pub collected_few : (seen entries : List Entry) (us : List (Scope × Use)) → Collects seen us entries → length entries ≤ length seen + length us
+collected_few seen entries [] h = let e = ap length h in omega (arith, e)
+collected_few seen entries (u ∷ us) (inl (not_kept, h)) = let r = collected_few seen entries us h in omega (arith, r)
+collected_few seen entries (u ∷ us) (inr (inl (e, kept, is, there, h))) = let r = collected_few seen entries us h in omega (arith, r)
+collected_few seen entries (u ∷ us) (inr (inr (e, kept, is, new, h))) =
+    let r = collected_few (seen ++ e ∷ []) entries us h in
+    let l = length-append seen (e ∷ []) in
+    omega (arith, r, l)

@@ -9,10 +9,10 @@ use Rattle.fast_tree.specs.declared.instructions.Node.{Node}
 use Rattle.fast_tree.specs.declared.instructions.Shape.{Shape}
 use Rattle.fast_tree.specs.declared.instructions.Shape.TheVariants.{Field, Decimal, Group, Sequence}
 use Rattle.fast_tree.specs.declared.instructions.Template.{Template}
-use Rattle.fast_tree.specs.meaning.AsWritten.{Declared, scalar, by_parts, group, sequence, reference, DeclaredList, no_more, more, DeclaredTemplate, uses, all_uses}
+use Rattle.fast_tree.specs.meaning.AsWritten.{Declared, scalar, by_parts, group, sequence, reference, DeclaredList, no_more, more, DeclaredTemplate, Use, uses, all_uses}
 use Rattle.fast_notation.specs.device.Built.{top_numbers, spread_all, outline_of, IsBuilt, AreBuilt}
 use Rattle.fast_notation.specs.device.Chains.{instruction_nodes, nodes_by, nodes_in}
-use Rattle.fast_tree.specs.meaning.Entries.{Entry, scope_of}
+use Rattle.fast_tree.specs.meaning.Entries.{Entry, scope_of, in_scope, uses_from}
 use Rattle.fast_notation.specs.meaning.InPlace.{◌then◌, InPlace, AreInPlace}
 use Rattle.fast_notation.specs.meaning.Labels.{labels, body_labels, template_labels, AreInPreorder}
 use Rattle.fast_tree.specs.device.NodeData.{NodeData, node_data, shape_data, TemplateOutline, outline, instructions_of, template_from}
@@ -22,6 +22,7 @@ use Rattle.fast_tree.specs.meaning.Sizes.{nesting_limit, node_limit}
 use Rattle.fast_tree.specs.meaning.Tree.{Instruction, Body, end, step, TemplateData}
 use Rattle.fast_notation.proofs.nodes.BuiltLists.{spread-then}
 use Rattle.fast_notation.proofs.nodes.BuiltTrees.{after_all, inside, AreNumbered, numbered-then, in_place-numbered, all_inside, long_all, body_among, spread_body, labels_body, named_numbers, tops_between, between_all}
+use Rattle.fast_notation.proofs.references.ChainSizes.{nodes_named, nodes_in-by}
 use Rattle.fast_notation.proofs.references.InPlaceSizes.{in_place-nodes}
 use Rattle.fast_notation.proofs.lists.Lists.{mapped_get, map_get_back}
 use Rattle.fast_notation.proofs.lists.NodeLists.{same_instructions, same_templates, data_labels, same_labels}
@@ -116,6 +117,21 @@ mutual
       let r = few_all_uses of ds in
       let l = length-append (uses d) (all_uses ds) in
       omega (arith, a, r, l)
+
+pub few_uses_from : (all : List DeclaredTemplate) (n : ℕ) (ts : List DeclaredTemplate) → length (uses_from n ts) ≤ 2 * sum_by (λ t. nodes_in all nesting_limit t.fields) ts
+few_uses_from all n [] = omega arith
+few_uses_from all n (t ∷ ts) =
+    let c = sum_by-cons (λ (t : DeclaredTemplate). nodes_in all nesting_limit t.fields) t ts in
+    let a = few_all_uses (nodes_named all nesting_limit) t.fields in
+    let e = nodes_in-by all nesting_limit t.fields in
+    let s = scope_long (all_uses t.fields) in
+    let l = length-append (in_scope (scope_of n t) (all_uses t.fields)) (uses_from (suc n) ts) in
+    let r = few_uses_from all (suc n) ts in
+    omega (arith, c, a, e, s, l, r)
+  where
+    scope_long : (us : List Use) → length (in_scope (scope_of n t) us) ≡ length us
+    scope_long [] = refl
+    scope_long (u ∷ us) = ap suc (scope_long us)
 
 -- ---- the templates as one body
 
