@@ -5,10 +5,10 @@ ghost use Rattle.std.specs.Prelude.{◌≡◌, ◌<◌, ℕ, Bool, true, List, l
 ghost use Rattle.fast_value.specs.meaning.Values.{scalar_data};
 ghost use Rattle.fast_tree.specs.meaning.Entries.{keeps_value};
 ghost use Rattle.fast_tree.specs.meaning.Tree.{FieldData};
-ghost use Rattle.fast_dict.specs.meaning.Dictionary.{Dictionary, previous_at};
+ghost use Rattle.fast_dict.specs.meaning.Dictionary.{Dictionary, previous_at, value_in};
 ghost use Rattle.fast_dict.specs.meaning.Slots.{slots_dictionary};
 ghost use Rattle.fast_items.specs.device.FieldsAs.{IsFieldAs};
-ghost use Rattle.fast_units.specs.device.Settling.{value_at, value_in};
+ghost use Rattle.fast_units.specs.device.Settling.{value_at};
 ghost use Rattle.fast_items.specs.device.TextItems.{IsUnsentText};
 ghost use Rattle.fast_items.specs.device.TextsAs.{IsLentSource, IsKeptSource};
 

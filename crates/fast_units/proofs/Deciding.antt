@@ -9,13 +9,13 @@ use Rattle.fast_value.specs.meaning.Kinds.{ScalarData, Family, integers, decimal
 use Rattle.fast_tree.specs.declared.operators.Operator.{Operator}
 use Rattle.fast_tree.specs.declared.operators.Operator.TheVariants as Op
 use Rattle.fast_tree.specs.meaning.Tree.{FieldData}
-use Rattle.fast_dict.specs.meaning.Dictionary.{Dictionary, PreviousData, undefined, empty, assigned, previous_at, write_at}
+use Rattle.fast_dict.specs.meaning.Dictionary.{Dictionary, PreviousData, undefined, empty, assigned, previous_at, value_in, write_at}
 use Rattle.fast_dict.specs.meaning.Operators.{Outcome, delta_base, integer_step, ranged, range_of, checked, checked_in, null, value, gives, gives_none, decide, decide_by, nothing, fixed, ◌>>=◌, keeps, from_initial, unsent, next_value}
 use Rattle.fast_units.specs.declared.source.ValueSource.{ValueSource}
 use Rattle.fast_units.specs.declared.source.ValueSource.TheVariants as From
 use Rattle.fast_tree.specs.meaning.Entries.{keeps_value}
 use Rattle.fast_dict.specs.meaning.Stores.{Terms}
-use Rattle.fast_units.specs.device.Settling.{Serves, value_in, value_at, IsSettled}
+use Rattle.fast_units.specs.device.Settling.{Serves, value_at, IsSettled}
 use Rattle.fast_value.specs.meaning.Limits.{Bounds}
 use Rattle.fast_stream.specs.meaning.Grammar.{of_result}
 use Rattle.fast_stream.specs.meaning.Fields.{not_sent, field_by, field_term}
@@ -78,10 +78,6 @@ module _ (f : FieldData) (old new : Dictionary) where
   -- absent, and the entry is empty
   pub absent_decided : (c : Code) → f.optional ≡ true → new ≡ write_at f.entry empty old → IsDecided (from_initial f.kind f.optional c None) f old new (Ok From.Absent)
   absent_decided c h d = (record { value = None; next = empty }, ap (λ b. from_initial f.kind b c None) h, λ scratch piece. record { value = refl; dictionary = d })
-
-  -- the initial value, which the entry then holds
-  pub initial_decided : (c : Code) (v : ScalarData) → f.initial ≡ Some v → new ≡ write_at f.entry (assigned f.kind v) old → IsDecided (from_initial f.kind f.optional c f.initial) f old new (Ok From.Initial)
-  initial_decided c v e d = (record { value = Some v; next = assigned f.kind v }, ap (from_initial f.kind f.optional c) e, λ scratch piece. record { value = sym e; dictionary = d })
 
   -- The previous value, of the field's type: what comes next, which the entry then holds.
   pub next_decided : (kind : Kind) (v : ScalarData) (source : ValueSource) → previous_at f.entry old ≡ assigned kind v → kind ≡ f.kind

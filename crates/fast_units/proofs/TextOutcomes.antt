@@ -14,14 +14,14 @@ use Rattle.fast_tree.specs.declared.operators.Operator.TheVariants.{None as no_o
 use Rattle.fast_tree.specs.meaning.Tree.{FieldData}
 use Rattle.fast_tree.specs.meaning.Entries.{keeps_value}
 use Rattle.fast_dict.specs.meaning.Answers.{kept_text}
-use Rattle.fast_dict.specs.meaning.Dictionary.{Dictionary, PreviousData, undefined, empty, assigned, previous_at, write_at}
+use Rattle.fast_dict.specs.meaning.Dictionary.{Dictionary, PreviousData, undefined, empty, assigned, previous_at, value_in, write_at}
 use Rattle.fast_dict.specs.device.Held.{text_size}
 use Rattle.fast_dict.specs.meaning.Operators.{◌>>=◌, Outcome, gives, keeps, gives_none, checked_in, checked, checked_text, null, decide, decide_by, start_value, zero_in, delta_base, tail_base, with_tail, Kept, append_to, prepend_to, kept_of, kept_length, subtraction_step}
 use Rattle.fast_dict.specs.meaning.Stores.{Terms, IsStorable}
 use Rattle.fast_dict.specs.meaning.Slots.{slots_dictionary, slots_terms, slots_texts_fit}
 use Rattle.fast_dict.specs.declared.slots.Slots.{Slots}
 use Rattle.fast_stream.specs.meaning.Fields.{sent_text}
-use Rattle.fast_units.specs.device.Settling.{HasRoomFor, Serves, value_in, value_at}
+use Rattle.fast_units.specs.device.Settling.{HasRoomFor, Serves, value_at}
 use Rattle.fast_units.specs.device.TextDecisions.{is_emptied, IsTextDecided}
 use Rattle.fast_units.specs.declared.source.ValueSource.{ValueSource}
 use Rattle.fast_units.specs.declared.source.ValueSource.TheVariants as From

@@ -1,27 +1,28 @@
 //! Fields and their entries: where values stand, and what a field leaves of which nothing is sent.
 
-ghost use Rattle.std.specs.Prelude.{◌≡◌, ◌≢◌, IfSome, [], ℕ, ◌<◌, ◌≤◌, ◌^◌, true, false, List, Some, None, Ok, option_map, pos, neg_ℤ, ◌≤ℤ◌};
+ghost use Rattle.std.specs.Prelude.{◌≡◌, ◌≢◌, IfSome, [], ℕ, ◌^◌, true, false, List, Some, None, Ok, option_map, pos, neg_ℤ, ◌≤ℤ◌};
 ghost use Rattle.fast_value.specs.meaning.Kinds.{integer_of, value_of_integer, value_of_text};
 ghost use Rattle.fast_value.specs.meaning.Values.{scalar_data};
 ghost use Rattle.fast_value.specs.meaning.Limits.{Bounds};
 ghost use Rattle.fast_tree.specs.device.Nodes.{field_data};
 ghost use Rattle.fast_tree.specs.meaning.Tree.{FieldData};
 ghost use Rattle.fast_dict.specs.device.Entry.{text_length, with_text};
+ghost use Rattle.fast_dict.specs.meaning.Answers.{left_data, started};
 ghost use Rattle.fast_dict.specs.meaning.Dictionary.{Dictionary, PreviousData, assigned, empty, write_at};
-ghost use Rattle.fast_dict.specs.meaning.Operators.{incremented, decide, nothing, unsent, from_initial, range_of};
+ghost use Rattle.fast_dict.specs.meaning.Operators.{incremented, decide, nothing, range_of};
 ghost use Rattle.fast_dict.specs.meaning.Previous.{previous_data};
 ghost use Rattle.fast_dict.specs.meaning.Slots.{slots_dictionary, slots_terms};
 ghost use Rattle.fast_dict.specs.meaning.Stores.{IsStorable};
 ghost use Rattle.fast_stream.specs.meaning.Fields.{field_term};
 ghost use Rattle.fast_stream.specs.meaning.Grammar.{of_result};
-ghost use Rattle.fast_units.specs.device.Settling.{value_at};
+ghost use Rattle.fast_units.specs.device.Settling.{IsSettled, value_at};
 ghost use Rattle.fast_units.specs.device.Deciding.{needs_bytes, number_data, source_of};
 ghost use Rattle.fast_units.specs.device.Words.{ServesField, HasEntryOf, previous_of, IsDecidedIn};
 
 use crate::source::ValueSource;
-use fast_dict::operators::initial_value;
-use fast_dict::operators::integers::{integer_of, integer_value};
+use fast_dict::operators::integers::integer_of;
 use fast_dict::operators::unsent::next_integer;
+use fast_dict::operators::{Left, initial_value, leave};
 use fast_dict::{Entry, Previous, Slots, Store};
 use fast_tree::{FieldInstruction, Operator};
 use fast_value::{Code, Kind, Scalar};
@@ -213,55 +214,53 @@ pub fn number_under(kind: Kind, entry: Entry) -> Option<Number>
 #[inline(never)]
 pub fn unsent(slots: &mut Slots, field: &FieldInstruction, bit: bool) -> Result<ValueSource, Code>
     requires serves { ServesField slots.old field.now }
-    requires no_bytes { needs_bytes field.now.operator bit ≡ false }
     ensures decided { IsDecidedIn (decide (field_data field.now) (previous_of slots.old field.now) bit nothing)
         field.now slots.old slots.new result }
     ensures terms { slots_terms slots.new ≡ slots_terms slots.old }
 {
-    match field.operator {
-        Operator::Constant if bit => Ok(ValueSource::Initial),
-        Operator::Constant => Ok(ValueSource::Absent),
-        Operator::Default => Ok(ValueSource::Initial),
-        Operator::Copy => copied(slots, field),
-        Operator::Tail => copied(slots, field),
-        Operator::Increment => incremented(slots, field),
-        Operator::None | Operator::Delta => unreachable!(),
-    }
-}
-
-/// Copy and tail: the previous value. Under an undefined entry the initial value, which the entry then holds.
-fn copied(slots: &mut Slots, field: &FieldInstruction) -> Result<ValueSource, Code>
-    requires serves { ServesField slots.old field.now }
-    requires operator { field.now.operator ≢ Operator.Increment }
-    ensures decided { IsDecidedIn (unsent (field_data field.now) (previous_of slots.old field.now)) field.now slots.old
-        slots.new result }
-    ensures terms { slots_terms slots.new ≡ slots_terms slots.old }
-{
-    match previous(slots, field) {
-        Previous::Assigned(kind, _) if kind == field.kind => Ok(ValueSource::Entry),
-        Previous::Assigned(..) => Err(Code::D4),
-        Previous::Undefined => initial(slots, field),
-        Previous::Empty => absent(slots, field, Code::D6),
-    }
-}
-
-/// Increment: one more than the previous value, and behind the greatest of the type the least. Under an undefined entry
-/// the initial value. The entry then holds the value.
-fn incremented(slots: &mut Slots, field: &FieldInstruction) -> Result<ValueSource, Code>
-    requires serves { ServesField slots.old field.now }
-    requires operator { field.now.operator ≡ Operator.Increment }
-    ensures decided { IsDecidedIn (unsent (field_data field.now) (previous_of slots.old field.now)) field.now slots.old
-        slots.new result }
-    ensures terms { slots_terms slots.new ≡ slots_terms slots.old }
-{
-    match previous(slots, field) {
-        Previous::Assigned(kind, value) if kind == field.kind => {
-            let next = next_number(kind, value);
-            Ok(keep(slots, field, next))
+    match leave(field, previous(slots, field), bit)? {
+        Left::Absent => Ok(ValueSource::Absent),
+        Left::Emptied => {
+            assign_empty(slots, field);
+            Ok(ValueSource::Absent)
         }
-        Previous::Assigned(..) => Err(Code::D4),
-        Previous::Undefined => initial(slots, field),
-        Previous::Empty => absent(slots, field, Code::D6),
+        Left::Initial => Ok(ValueSource::Initial),
+        Left::Started => {
+            start(slots, field);
+            Ok(ValueSource::Initial)
+        }
+        Left::Copied => Ok(ValueSource::Entry),
+        Left::Increased => Ok(increase(slots, field)),
+    }
+}
+
+/// The initial value, if there is one, is what the entry then holds.
+fn start(slots: &mut Slots, field: &FieldInstruction)
+    requires serves { ServesField slots.old field.now }
+    ensures entry { slots_dictionary slots.new ≡ write_at (field_data field.now).entry
+        (started field.now.kind (field_data field.now).initial (previous_of slots.old field.now))
+        (slots_dictionary slots.old) }
+    ensures terms { slots_terms slots.new ≡ slots_terms slots.old }
+{
+    if let Some(value) = initial_value(field) {
+        assign(slots, field, value);
+    }
+}
+
+/// One more than what the entry holds, which it then holds; absent, if it holds nothing.
+fn increase(slots: &mut Slots, field: &FieldInstruction) -> ValueSource
+    requires serves { ServesField slots.old field.now }
+    ensures settled { (scratch piece : List ℕ) → IsSettled
+        (left_data Left.Increased (field_data field.now) (previous_of slots.old field.now)) (field_data field.now) result
+        (slots_dictionary slots.old) (slots_dictionary slots.new) scratch piece }
+    ensures terms { slots_terms slots.new ≡ slots_terms slots.old }
+{
+    match previous(slots, field) {
+        Previous::Assigned(_, value) => {
+            let next = next_number(field.kind, value);
+            keep(slots, field, next)
+        }
+        Previous::Undefined | Previous::Empty => ValueSource::Absent,
     }
 }
 
@@ -272,37 +271,6 @@ fn next_number(kind: Kind, value: Scalar<'_>) -> Number
         ≡ value_of_integer kind (incremented (range_of kind) (integer_of (scalar_data value.entry))) }
 {
     Number::of_integer(kind, integer_of(next_integer(kind, value)))
-}
-
-/// The initial value under an undefined entry, which then holds it; without one absent.
-fn initial(slots: &mut Slots, field: &FieldInstruction) -> Result<ValueSource, Code>
-    requires serves { ServesField slots.old field.now }
-    ensures decided { IsDecidedIn (from_initial field.now.kind field.now.optional Code.D5
-        (field_data field.now).initial) field.now slots.old slots.new result }
-    ensures terms { slots_terms slots.new ≡ slots_terms slots.old }
-{
-    match initial_value(field) {
-        Some(value) => {
-            assign(slots, field, value);
-            Ok(ValueSource::Initial)
-        }
-        None => absent(slots, field, Code::D5),
-    }
-}
-
-/// Absent, if the field may be; the entry is then empty.
-fn absent(slots: &mut Slots, field: &FieldInstruction, fault: Code) -> Result<ValueSource, Code>
-    requires within { HasEntryOf slots.old field.now }
-    ensures decided { IsDecidedIn (from_initial field.now.kind field.now.optional fault None) field.now slots.old
-        slots.new result }
-    ensures terms { slots_terms slots.new ≡ slots_terms slots.old }
-{
-    if field.optional {
-        assign_empty(slots, field);
-        Ok(ValueSource::Absent)
-    } else {
-        Err(fault)
-    }
 }
 
 /// The value at a source, lent.
@@ -323,10 +291,7 @@ pub fn value_at<'x>(
         ValueSource::Unsigned(number) => Some(Scalar::U(number)),
         ValueSource::Signed(number) => Some(Scalar::I(number)),
         ValueSource::Decimal { exponent, mantissa } => Some(Scalar::Dec { exponent, mantissa }),
-        ValueSource::Entry => match previous(slots, field) {
-            Previous::Assigned(_, value) => Some(value),
-            Previous::Undefined | Previous::Empty => None,
-        },
+        ValueSource::Entry => previous(slots, field).value(),
         ValueSource::Initial => initial_value(field),
         ValueSource::Scratch => Some(text_value(field.kind, scratch)),
         ValueSource::Piece => Some(text_value(field.kind, piece)),

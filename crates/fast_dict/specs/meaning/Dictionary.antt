@@ -10,6 +10,13 @@ pub data PreviousData : Type 0 where
   empty : PreviousData
   assigned : Kind → ScalarData → PreviousData
 
+-- the value that an entry holds
+-- FAST 1.1: Template Definition, Dictionaries and Previous Values.
+abbrev pub value_in : PreviousData → Option ScalarData
+value_in undefined = None
+value_in empty = None
+value_in (assigned kind v) = Some v
+
 -- A finite map from the entries to what they hold: the entry's number is the place in the list.
 -- FAST 1.1: Template Definition, Dictionaries and Previous Values.
 abbrev pub Dictionary : Type 0

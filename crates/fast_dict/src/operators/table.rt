@@ -5,7 +5,7 @@ ghost use Rattle.fast_value.specs.meaning.Kinds.{family};
 ghost use Rattle.fast_value.specs.meaning.Values.{scalar_data};
 ghost use Rattle.fast_tree.specs.device.Nodes.{field_data};
 ghost use Rattle.fast_dict.specs.meaning.Answers.{outcome_answer, scalar_answer};
-ghost use Rattle.fast_dict.specs.meaning.Operators.{decide, sent_plain, sent_kept, sent_delta, checked_in, unsent};
+ghost use Rattle.fast_dict.specs.meaning.Operators.{decide, sent_plain, sent_kept, sent_delta, checked_in};
 ghost use Rattle.fast_dict.specs.meaning.Previous.{previous_data};
 ghost use Rattle.fast_dict.specs.meaning.Sending.{sent_data, NeedsNoJoin};
 
@@ -13,7 +13,7 @@ use super::Outcome;
 use super::decimals::{exponent_delta, mantissa_delta};
 use super::integers::integer_delta;
 use super::texts::{checked_text, text_of};
-use super::unsent::{copied, fixed, incremented};
+use super::unsent::leave;
 use crate::previous::Previous;
 use fast_tree::{FieldInstruction, Operator};
 use fast_value::{Code, Kind, Scalar};
@@ -54,17 +54,16 @@ pub fn decide<'a>(
 {
     match field.operator {
         Operator::None => received(field, previous, sent),
-        Operator::Constant if bit => Ok(fixed(field, previous)),
-        Operator::Constant => Ok(Outcome::absent(previous)),
         Operator::Default if bit => received(field, previous, sent),
-        Operator::Default => Ok(fixed(field, previous)),
         Operator::Copy if bit => replaced(field, sent),
-        Operator::Copy => copied(field, previous),
         Operator::Increment if bit => replaced(field, sent),
-        Operator::Increment => incremented(field, previous),
         Operator::Delta => changed(field, previous, sent),
         Operator::Tail if bit => Ok(Outcome::absent(Previous::Empty)),
-        Operator::Tail => copied(field, previous),
+        Operator::Constant
+        | Operator::Default
+        | Operator::Copy
+        | Operator::Increment
+        | Operator::Tail => Ok(leave(field, previous, bit)?.outcome(field, previous)),
     }
 }
 

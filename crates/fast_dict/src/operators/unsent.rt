@@ -1,95 +1,130 @@
-//! Fields of which nothing is sent.
+//! Fields of which no value is sent.
 
-ghost use Rattle.std.specs.Prelude.{◌≡◌, ◌≢◌, Ok};
+ghost use Rattle.std.specs.Prelude.{◌≡◌};
 ghost use Rattle.fast_value.specs.meaning.Kinds.{value_of_integer, integer_of};
 ghost use Rattle.fast_value.specs.meaning.Values.{scalar_data};
 ghost use Rattle.fast_tree.specs.device.Nodes.{field_data};
-ghost use Rattle.fast_tree.specs.declared.operators.Operator.{Operator};
-ghost use Rattle.fast_dict.specs.meaning.Answers.{outcome_data, outcome_answer};
-ghost use Rattle.fast_dict.specs.meaning.Operators.{unsent, fixed, from_initial, incremented, range_of};
+ghost use Rattle.fast_dict.specs.meaning.Answers.{outcome_data, left_data, left_answer};
+ghost use Rattle.fast_dict.specs.meaning.Dictionary.{PreviousData};
+ghost use Rattle.fast_dict.specs.meaning.Operators.{decide, nothing, null, unsent, from_initial, incremented, range_of};
 ghost use Rattle.fast_dict.specs.meaning.Previous.{previous_data};
 
 use super::integers::{integer_of, integer_value, range_of};
-use super::{Outcome, initial_value, of_kind};
+use super::{Outcome, initial_value};
 use crate::previous::Previous;
-use fast_tree::FieldInstruction;
+use fast_tree::{FieldInstruction, Operator};
 use fast_value::{Code, Kind, Scalar};
 
-/// A constant that is there, and a default where nothing is sent: the initial value. Without one a default is absent.
-#[inline]
-pub fn fixed<'a>(field: &'a FieldInstruction, previous: Previous<'a>) -> Outcome<'a>
-    ensures { Ok (outcome_data result) ≡ fixed (field_data field.now).initial (previous_data previous.entry) }
-{
-    match initial_value(field) {
-        Some(value) => Outcome::given(value, previous),
-        None => Outcome::absent(previous),
+/// What is left of a field of which no value is sent: where its value stands, and what its entry holds next. It lends nothing, so that the
+/// entry can be written by it.
+#[derive(Clone, Copy, Debug, PartialEq, Eq)]
+pub enum Left {
+    /// No value, and the entry as it was.
+    Absent,
+    /// No value, and an empty entry.
+    Emptied,
+    /// The initial value, if there is one, and the entry as it was.
+    Initial,
+    /// The initial value, which the entry then holds.
+    Started,
+    /// The previous value.
+    Copied,
+    /// One more than the previous value, and behind the greatest of the type the least, which the entry then holds.
+    Increased,
+}
+
+impl Left {
+    /// The outcome, under the previous value by which it was decided.
+    pub fn outcome<'a>(self, field: &'a FieldInstruction, previous: Previous<'a>) -> Outcome<'a>
+        ensures { outcome_data result ≡ left_data self (field_data field.now) (previous_data previous.entry) }
+    {
+        match self {
+            Left::Absent => Outcome::absent(previous),
+            Left::Emptied => Outcome::absent(Previous::Empty),
+            Left::Initial => Outcome {
+                value: initial_value(field),
+                next: previous,
+            },
+            Left::Started => started(field, previous),
+            Left::Copied => Outcome {
+                value: previous.value(),
+                next: previous,
+            },
+            Left::Increased => increased(field, previous),
+        }
     }
 }
 
-/// Copy and tail where nothing is sent: the previous value. Under an undefined entry the initial value, which the entry
-/// then holds.
+/// What is left of a field of which no value is sent: where its presence bit is clear, nothing is, and else NULL. Of a constant nothing is sent
+/// in any case.
 ///
 /// # Errors
 ///
-/// D4 if the previous value is of another type; of a mandatory field D5 if there is neither a previous nor an initial
-/// value, and D6 if the previous value is empty.
-#[inline]
-pub fn copied<'a>(field: &'a FieldInstruction, previous: Previous<'a>) -> Result<Outcome<'a>, Code>
-    requires { field.now.operator ≢ Operator.Increment }
-    ensures { outcome_answer result ≡ unsent (field_data field.now) (previous_data previous.entry) }
+/// Under copy, increment and tail, where nothing is sent: D4 if the previous value is of another type; of a mandatory field D5 if there is
+/// neither a previous nor an initial value, and D6 if the previous value is empty.
+pub fn leave(field: &FieldInstruction, previous: Previous<'_>, bit: bool) -> Result<Left, Code>
+    ensures nothing { left_answer result (field_data field.now) (previous_data previous.entry)
+        ≡ decide (field_data field.now) (previous_data previous.entry) bit nothing }
+    ensures null { left_answer result (field_data field.now) (previous_data previous.entry)
+        ≡ decide (field_data field.now) (previous_data previous.entry) bit null }
 {
-    match previous {
-        Previous::Assigned(kind, value) => {
-            Ok(Outcome::kept(field.kind, of_kind(field.kind, kind, value)?))
+    match field.operator {
+        Operator::Constant if bit => Ok(Left::Initial),
+        Operator::Default if !bit => Ok(Left::Initial),
+        Operator::Copy | Operator::Increment | Operator::Tail if bit => Ok(Left::Emptied),
+        Operator::Copy | Operator::Increment | Operator::Tail => kept(field, previous),
+        Operator::None | Operator::Constant | Operator::Default | Operator::Delta => {
+            Ok(Left::Absent)
         }
-        Previous::Undefined => initial(field),
-        Previous::Empty => absent(field, Code::D6),
     }
 }
 
-/// Increment where nothing is sent: one more than the previous value, and behind the greatest of the type the least.
-/// Under an undefined entry the initial value. The entry then holds the value.
-///
-/// # Errors
-///
-/// As [`copied`].
-#[inline]
-pub fn incremented<'a>(
-    field: &'a FieldInstruction,
-    previous: Previous<'a>,
-) -> Result<Outcome<'a>, Code>
-    requires { field.now.operator ≡ Operator.Increment }
-    ensures { outcome_answer result ≡ unsent (field_data field.now) (previous_data previous.entry) }
+/// What the previous value leaves under copy, increment and tail. Under an undefined entry the initial value takes its place.
+fn kept(field: &FieldInstruction, previous: Previous<'_>) -> Result<Left, Code>
+    ensures { left_answer result (field_data field.now) (previous_data previous.entry)
+        ≡ unsent (field_data field.now) (previous_data previous.entry) }
 {
     match previous {
-        Previous::Assigned(kind, value) => {
-            let found = of_kind(field.kind, kind, value)?;
-            Ok(Outcome::kept(field.kind, next_integer(field.kind, found)))
-        }
-        Previous::Undefined => initial(field),
+        Previous::Assigned(kind, _) if kind != field.kind => Err(Code::D4),
+        Previous::Assigned(..) if field.operator == Operator::Increment => Ok(Left::Increased),
+        Previous::Assigned(..) => Ok(Left::Copied),
+        Previous::Undefined => match initial_value(field) {
+            Some(_) => Ok(Left::Started),
+            None => absent(field, Code::D5),
+        },
         Previous::Empty => absent(field, Code::D6),
-    }
-}
-
-/// The initial value under an undefined entry, which then holds it; without one absent.
-fn initial(field: &FieldInstruction) -> Result<Outcome<'_>, Code>
-    ensures { outcome_answer result ≡ from_initial field.now.kind field.now.optional Code.D5
-        (field_data field.now).initial }
-{
-    match initial_value(field) {
-        Some(value) => Ok(Outcome::kept(field.kind, value)),
-        None => absent(field, Code::D5),
     }
 }
 
 /// Absent, if the field may be; the entry is then empty.
-fn absent(field: &FieldInstruction, fault: Code) -> Result<Outcome<'_>, Code>
-    ensures { outcome_answer result ≡ from_initial field.now.kind field.now.optional fault None }
+fn absent(field: &FieldInstruction, fault: Code) -> Result<Left, Code>
+    ensures { (p : PreviousData) → left_answer result (field_data field.now) p
+        ≡ from_initial field.now.kind field.now.optional fault None }
 {
     if field.optional {
-        Ok(Outcome::absent(Previous::Empty))
+        Ok(Left::Emptied)
     } else {
         Err(fault)
+    }
+}
+
+/// The initial value, which the entry then holds.
+fn started<'a>(field: &'a FieldInstruction, previous: Previous<'a>) -> Outcome<'a>
+    ensures { outcome_data result ≡ left_data Left.Started (field_data field.now) (previous_data previous.entry) }
+{
+    match initial_value(field) {
+        Some(value) => Outcome::kept(field.kind, value),
+        None => Outcome::absent(previous),
+    }
+}
+
+/// One more than the previous value.
+fn increased<'a>(field: &FieldInstruction, previous: Previous<'a>) -> Outcome<'a>
+    ensures { outcome_data result ≡ left_data Left.Increased (field_data field.now) (previous_data previous.entry) }
+{
+    match previous {
+        Previous::Assigned(_, value) => Outcome::kept(field.kind, next_integer(field.kind, value)),
+        Previous::Undefined | Previous::Empty => Outcome::absent(previous),
     }
 }
 

@@ -4,7 +4,7 @@ use Rattle.fast_value.specs.meaning.Kinds.{ScalarData, U, I, Dec, texts, family,
 use Rattle.fast_tree.specs.declared.operators.Operator.TheVariants.{Tail}
 use Rattle.fast_tree.specs.meaning.Tree.{FieldData}
 use Rattle.fast_tree.specs.meaning.Entries.{keeps_value}
-use Rattle.fast_dict.specs.meaning.Dictionary.{Dictionary, PreviousData, undefined, empty, assigned, previous_at, write_at}
+use Rattle.fast_dict.specs.meaning.Dictionary.{Dictionary, previous_at, value_in, write_at}
 use Rattle.fast_dict.specs.meaning.Operators.{Outcome}
 use Rattle.fast_dict.specs.meaning.Stores.{Terms, IsStorable}
 use Rattle.fast_stream.specs.device.Readers.{Reader, Done, Stop}
@@ -27,12 +27,6 @@ pub record Serves (entries : ℕ) (terms : Terms) (f : FieldData) : Type 0 where
   pub tail : f.operator ≡ Tail → family f.kind ≡ texts
   pub texts_fit : (e : ℕ) → f.entry ≡ Some e → family f.kind ≡ texts → terms.takes_text e ≡ true
   pub initial_fits : (e : ℕ) → f.entry ≡ Some e → HasRoomFor terms e f.initial
-
--- the value that an entry holds
-abbrev pub value_in : PreviousData → Option ScalarData
-value_in undefined = None
-value_in empty = None
-value_in (assigned kind v) = Some v
 
 -- What stands at a source, by the field, its dictionary, the scratch, and the bytes that were read last.
 abbrev pub value_at : ValueSource → FieldData → Dictionary → List ℕ → List ℕ → Option ScalarData
