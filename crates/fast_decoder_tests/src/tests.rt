@@ -23,7 +23,7 @@ mod worked;
 
 ghost use Rattle.std.specs.Prelude.{◌<◌};
 
-use fast_decoder::{Decoder, Event, Fault, MakeError, Sink, Stop};
+use fast_decoder::{Decoder, Event, Fault, MakeError, Recorded, Recorder, Sink, Stop};
 use fast_template::{StaticFault, Templates, VECTORS};
 use fast_value::{Limits, Scalar};
 use itoa::{Buffer, Integer};
@@ -46,7 +46,7 @@ const STRICT: Limits = Limits {
 };
 
 /// A sink that writes each event, and compares what it writes with the text that is due. It takes no memory. All tests that stop a decoder
-/// have it too, since the compiler makes the decoder's loop once more for each sink.
+/// or keep events have it too, since the compiler makes the decoder's loop once more for each sink.
 ///
 /// An event is `m` and the number of a template, or a letter and the number of a node: `g` for a group, `s` for a
 /// sequence, behind which `*` and the count stand, and for a field `u`, `i` or `d` with a number, `a` or `t` (Unicode)
@@ -59,6 +59,8 @@ struct Script<'t> {
     /// How many events it takes: it stops at the next.
     most: usize,
     same: bool,
+    /// It is handed each event first, if there is one.
+    recorder: Option<Recorder>,
 }
 
 impl Script<'_> {
@@ -68,6 +70,7 @@ impl Script<'_> {
             taken: 0,
             most: usize::MAX,
             same: true,
+            recorder: None,
         }
     }
 
@@ -78,6 +81,23 @@ impl Script<'_> {
             taken: 0,
             most,
             same: true,
+            recorder: None,
+        }
+    }
+
+    /// One that hands all events to a recorder.
+    fn keeping(alloc: Global) -> Script<'static> {
+        Script {
+            recorder: Some(Recorder::new(alloc)),
+            ..Script::stopping(usize::MAX)
+        }
+    }
+
+    /// What was kept.
+    fn kept(&self) -> &[Recorded] {
+        match &self.recorder {
+            Some(recorder) => recorder.events(),
+            None => &[],
         }
     }
 
@@ -181,6 +201,9 @@ impl Sink for Script<'_> {
     fn take(&mut self, event: Event<'_>) -> Result<(), Stop> {
         if self.taken >= self.most {
             return Err(Stop);
+        }
+        if let Some(recorder) = &mut self.recorder {
+            recorder.take(event)?;
         }
         if self.taken > 0 {
             self.write(b" ");

@@ -7,7 +7,7 @@ use super::{
     Case, LENIENT, STRICT, Script, account_of, decoder_of, expect, expect_case, expect_line,
     expect_row, feed, feed_each, push, read, reset, set_of, stopped_at,
 };
-use fast_decoder::{Decoder, Event, Fault, FaultCode, Recorded, Recorder, Sink};
+use fast_decoder::{Decoder, Event, Fault, FaultCode, Recorded, Sink};
 use fast_template::VECTORS;
 use fast_value::Code;
 use std::alloc::Global;
@@ -110,10 +110,10 @@ fn expect_kept(
 ) -> Result<(), Fail> {
     let set = set_of(alloc, text)?;
     let mut decoder = decoder_of(alloc, &set, STRICT)?;
-    let mut recorder = Recorder::new(alloc);
-    let answer = feed(&mut decoder, bytes, &mut recorder);
-    let is_kept = answer.is_ok() && are_due(events, recorder.events());
-    expect(rt, is_kept, "kept", recorder.events().len());
+    let mut script = Script::keeping(alloc);
+    let answer = feed(&mut decoder, bytes, &mut script);
+    let is_kept = answer.is_ok() && are_due(events, script.kept());
+    expect(rt, is_kept, "kept", script.kept().len());
     Ok(())
 }
 
