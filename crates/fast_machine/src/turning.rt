@@ -167,6 +167,25 @@ impl<'t> Machine<'t> {
             → HasTurnsBehind result way (set_of templates.now) limits n self.new }
     {
         self.turns = Turns::after(&self.turns);
+        self.begin(templates, limits, sink)
+    }
+
+    /// The turn itself, which is counted.
+    #[inline(always)]
+    fn begin<S: Sink>(
+        &mut self,
+        templates: &'t Templates,
+        limits: Limits,
+        sink: &mut S,
+    ) -> Result<Turn, FaultCode>
+        requires turn { CanTurn (set_of templates.now) limits self.old }
+        ensures turn { IsTurn S.takes S.stops (set_of templates.now) limits
+            (turning (set_of templates.now) limits self.old) sink.old result sink.new self.new }
+        ensures past { result ≡ Ok Turn.Silent
+            → (0 < length self.old.cursor.left) × (self.new.cursor.left ≡ drop 1 self.old.cursor.left) }
+        ensures turns { (way : Way) (n : ℕ) → HasTurns way (set_of templates.now) limits 1 n self.old
+            → HasTurnsBehind result way (set_of templates.now) limits n self.new }
+    {
         let Some(number) = self.cursor.next() else {
             return self.close(templates, limits, sink);
         };

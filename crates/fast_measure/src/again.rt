@@ -2,12 +2,12 @@
 
 ghost use Rattle.std.specs.Prelude.{◌<◌};
 
-use crate::decoding::{Answer, BETWEEN, answer_of, bytes_of, decoder_of, feed_all, read_set};
-use crate::encoding::{encode_all, encoder_of, status_of};
+use crate::decoding::{Answer, answer_of, bytes_of, decoder_of, read_set};
+use crate::encoding::{encode_all, encoder_of, hold_all, status_of};
 use crate::sinks::Check;
 use crate::trees::Trees;
 use fast_template::Templates;
-use fast_value::Limits;
+use fast_value::{Limits, Message};
 use std::alloc::Global;
 
 /// Decodes a stream leniently into messages, encodes them, and decodes that in strict mode; or the status where one of these is not done.
@@ -20,19 +20,26 @@ fn run_again(alloc: Global, set: &Templates, limits: Limits, stream: &[u8]) -> R
         strict: true,
         ..limits
     };
-    let mut decoder = decoder_of(alloc, set, lenient)?;
-    let mut encoder = encoder_of(alloc, set, limits)?;
     let mut trees = Trees::new(alloc, set);
-    let status = feed_all(&mut decoder, stream, usize::MAX, &mut trees);
-    if status != BETWEEN {
-        return Err(status);
-    }
+    hold_all(alloc, set, lenient, stream, &mut trees)?;
     let mut list = Vec::new(alloc);
-    if let Err(fault) = encode_all(&mut encoder, &trees.messages, &mut list) {
-        return Err(status_of(fault));
+    encode_held(alloc, set, limits, &trees.messages, &mut list)?;
+    run_once(alloc, set, strict, &list, usize::MAX)
+}
+
+/// Encodes messages into a list, or the status where that is not done.
+fn encode_held(
+    alloc: Global,
+    set: &Templates,
+    limits: Limits,
+    messages: &[Message],
+    list: &mut Vec<u8>,
+) -> Result<(), u64> {
+    let mut encoder = encoder_of(alloc, set, limits)?;
+    match encode_all(&mut encoder, messages, list) {
+        Ok(()) => Ok(()),
+        Err(fault) => Err(status_of(fault)),
     }
-    let mut decoder = decoder_of(alloc, set, strict)?;
-    Ok(answer_of(&mut decoder, &list, usize::MAX, Check::new()))
 }
 
 /// Decodes a stream whole, or in pieces of so many bytes.

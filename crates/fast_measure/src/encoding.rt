@@ -140,16 +140,38 @@ fn run(
     rounds: Option<u32>,
 ) -> Result<Encoded, u64> {
     let set = read_set(alloc, templates)?;
-    let mut decoder = decoder_of(alloc, &set, limits)?;
-    let mut encoder = encoder_of(alloc, &set, limits)?;
     let mut trees = Trees::new(alloc, &set);
-    let status = feed_all(&mut decoder, stream, usize::MAX, &mut trees);
-    if status != BETWEEN {
-        return Err(status);
+    hold_all(alloc, &set, limits, stream, &mut trees)?;
+    run_over(alloc, &set, limits, &trees.messages, rounds)
+}
+
+/// Decodes a stream into messages, or the status where that is not done.
+pub fn hold_all(
+    alloc: Global,
+    set: &Templates,
+    limits: Limits,
+    stream: &[u8],
+    trees: &mut Trees<'_>,
+) -> Result<(), u64> {
+    let mut decoder = decoder_of(alloc, set, limits)?;
+    match feed_all(&mut decoder, stream, usize::MAX, trees) {
+        BETWEEN => Ok(()),
+        status => Err(status),
     }
+}
+
+/// As `run`, over messages.
+fn run_over(
+    alloc: Global,
+    set: &Templates,
+    limits: Limits,
+    messages: &[Message],
+    rounds: Option<u32>,
+) -> Result<Encoded, u64> {
+    let mut encoder = encoder_of(alloc, set, limits)?;
     let encoded = match rounds {
-        Some(rounds) => encode_rounds(alloc, &mut encoder, &trees.messages, rounds),
-        None => encode_patiently(alloc, &mut encoder, &trees.messages),
+        Some(rounds) => encode_rounds(alloc, &mut encoder, messages, rounds),
+        None => encode_patiently(alloc, &mut encoder, messages),
     };
     match encoded {
         Ok(encoded) => Ok(encoded),

@@ -235,8 +235,13 @@ fn feeds_take_no_memory(rt: HostRuntime) -> Result<(), Fail> {
     let Ok(mut decoder) = decoder_of(rt.alloc(), &set, LENIENT) else {
         return Ok(());
     };
-    expect_events(&rt, &mut decoder, LONG, LONG_EVENTS)?;
-    expect_events(&rt, &mut decoder, JOINED, "m3 a4='GEH6' /m m3 a4='GEM6' /m")
+    expect_both(&rt, &mut decoder)
+}
+
+/// The events of two streams of the built-in set.
+fn expect_both(rt: &impl Abort, decoder: &mut Decoder<'_>) -> Result<(), Fail> {
+    expect_events(rt, decoder, LONG, LONG_EVENTS)?;
+    expect_events(rt, decoder, JOINED, "m3 a4='GEH6' /m m3 a4='GEM6' /m")
 }
 
 /// Whether two bytes, and two more integers, may end so.
@@ -267,6 +272,13 @@ fn expect_ends(rt: &impl Abort, decoder: &mut Decoder<'_>, first: u8) {
     }
 }
 
+/// The same of all first bytes.
+fn expect_all_ends(rt: &impl Abort, decoder: &mut Decoder<'_>) {
+    for first in 0..=255u8 {
+        expect_ends(rt, decoder, first);
+    }
+}
+
 /// A template with a field.
 const PLAIN: &str = "[[template]]\nname = 'T'\nid = 1\nfields = [{kind='uInt32', name='x'}]";
 
@@ -274,8 +286,6 @@ const PLAIN: &str = "[[template]]\nname = 'T'\nid = 1\nfields = [{kind='uInt32',
 fn any_two_bytes_end_in_events_or_a_fault(rt: HostRuntime) -> Result<(), Fail> {
     let set = set_of(rt.alloc(), PLAIN)?;
     let mut decoder = decoder_of(rt.alloc(), &set, STRICT)?;
-    for first in 0..=255u8 {
-        expect_ends(&rt, &mut decoder, first);
-    }
+    expect_all_ends(&rt, &mut decoder);
     Ok(())
 }

@@ -9,6 +9,7 @@ use fast_encoder::{EncodeFault, Encoder};
 use fast_template::{Templates, VECTORS};
 use fast_value::Message;
 use std::alloc::Global;
+use std::process::Abort;
 use std::test::Fail;
 
 /// An encoder of the set, at the second try where memory was refused at the first.
@@ -73,15 +74,20 @@ fn a_refused_growth_changes_nothing(rt: HostRuntime) -> Result<(), Fail> {
         return Ok(());
     };
     let mut encoder = made(alloc, &set)?;
+    expect_growth(&rt, alloc, &mut encoder);
+    Ok(())
+}
+
+/// Each message leaves what it should behind the one before, up to one for which there is no memory.
+fn expect_growth(rt: &impl Abort, alloc: Global, encoder: &mut Encoder<'_>) {
     let mut out = Vec::new(alloc);
     let mut before = "";
     for (words, after) in ENCODED {
         let Ok(message) = message_of(alloc, words) else {
-            return Ok(());
+            return;
         };
-        let are_encoded = are_encoded(&mut encoder, message, before, &mut out, after);
-        expect(&rt, are_encoded, "encoded", after);
+        let are_encoded = are_encoded(encoder, message, before, &mut out, after);
+        expect(rt, are_encoded, "encoded", after);
         before = after;
     }
-    Ok(())
 }

@@ -17,8 +17,8 @@ returns-then-needs_bytes-clause-turn g c =
     exponent_waits g.S.Sink.takes g.S.Sink.stops (set_of c.args.templates.now) c.args.limits c.args.sink.now m c.args.node e (field_data c.args.mantissa.now) c.requires.turn c.requires.next
     (sent_here e c.presence-bit.result (state_of m) (c.presence-bit.ensures (slots_dictionary m.slots) m.counted) (c.needs_bytes.ensures.operator c.if-needs_bytes.true) (c.needs_bytes.ensures.sent c.if-needs_bytes.true))
 
-pub unsent-requires-clause-serves : goal.unsent-requires-clause-serves
-unsent-requires-clause-serves g c = serves_here (set_of c.args.templates.now) c.args.limits c.args.self.now (field_data c.args.exponent.now) c.requires.turn.supplied c.requires.exponent
+pub unsent-requires : goal.unsent-requires
+unsent-requires g c = serves_here (set_of c.args.templates.now) c.args.limits c.args.self.now (field_data c.args.exponent.now) c.requires.turn.supplied c.requires.exponent
 
 pub exponent_known-requires-clause-turn : goal.exponent_known-requires-clause-turn
 exponent_known-requires-clause-turn g c = can_turn_slots (set_of c.args.templates.now) c.args.limits c.args.self.now c.unsent.new.slots c.requires.turn c.unsent.ensures.terms

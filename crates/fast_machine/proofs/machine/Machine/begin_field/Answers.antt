@@ -20,8 +20,8 @@ returns-then-needs_bytes-clause-turn g c =
     (sent_here f c.presence-bit.result (state_of m) (c.presence-bit.ensures (slots_dictionary m.slots) m.counted) (c.needs_bytes.ensures.operator c.if-needs_bytes.true) (c.needs_bytes.ensures.sent c.if-needs_bytes.true))
     c.wait_first.ensures.same c.wait_first.ensures.capacity c.wait_first.ensures.text c.wait_first.ensures.number
 
-pub unsent-requires-clause-serves : goal.unsent-requires-clause-serves
-unsent-requires-clause-serves g c = serves_here (set_of c.args.templates.now) c.args.limits c.args.self.now (field_data c.args.field.now) c.requires.turn.supplied c.requires.serves
+pub unsent-requires : goal.unsent-requires
+unsent-requires g c = serves_here (set_of c.args.templates.now) c.args.limits c.args.self.now (field_data c.args.field.now) c.requires.turn.supplied c.requires.serves
 
 pub finish-requires-clause-entry : goal.finish-requires-clause-entry
 finish-requires-clause-entry g c = entry_known (set_of c.args.templates.now) c.args.limits c.args.self.now c.unsent.new.slots (field_data c.args.field.now) c.requires.turn c.unsent.ensures.terms c.requires.serves

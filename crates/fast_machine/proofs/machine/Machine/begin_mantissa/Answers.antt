@@ -21,8 +21,8 @@ returns-then-needs_bytes-clause-turn g c =
     mantissa_waits g.S.Sink.takes g.S.Sink.stops (set_of c.args.templates.now) c.args.limits c.args.sink.now m c.args.node c.requires.next.0 f x (to_z w32 (of_z w32 x)) (again w32 x (search rules)) c.requires.turn c.requires.next.1
     (sent_here f c.presence-bit.result (state_of m) (c.presence-bit.ensures (slots_dictionary m.slots) m.counted) (c.needs_bytes.ensures.operator c.if-needs_bytes.true) (c.needs_bytes.ensures.sent c.if-needs_bytes.true))
 
-pub unsent-requires-clause-serves : goal.unsent-requires-clause-serves
-unsent-requires-clause-serves g c = serves_here (set_of c.args.templates.now) c.args.limits c.args.self.now (field_data c.args.mantissa.now) c.requires.turn.supplied c.requires.mantissa
+pub unsent-requires : goal.unsent-requires
+unsent-requires g c = serves_here (set_of c.args.templates.now) c.args.limits c.args.self.now (field_data c.args.mantissa.now) c.requires.turn.supplied c.requires.mantissa
 
 pub finish_decimal-requires-clause-entry : goal.finish_decimal-requires-clause-entry
 finish_decimal-requires-clause-entry g c = entry_known (set_of c.args.templates.now) c.args.limits c.args.self.now c.unsent.new.slots (field_data c.args.mantissa.now) c.requires.turn c.unsent.ensures.terms c.requires.mantissa

@@ -49,8 +49,8 @@ returns-then-bit-clause-turn g c =
     (subst Waits (sym judged) (field_sent_waits strict l identifier (begin d (bits m)) (message_behind_then (tree_in set) l m) (identifier_sent (begin d (bits m)) bit)))
     (ready_at set c.args.limits waiting Identifier supplied refl (c.requires.behind.map, bit, c.requires.behind.outermost))
 
-pub unsent-requires-clause-serves : goal.unsent-requires-clause-serves
-unsent-requires-clause-serves g c = identifier_served (set_of c.args.templates.now) c.args.limits c.args.self.now c.requires.behind.supplied
+pub unsent-requires : goal.unsent-requires
+unsent-requires g c = identifier_served (set_of c.args.templates.now) c.args.limits c.args.self.now c.requires.behind.supplied
 
 pub returns-in-Err-clause-turn : goal.returns-in-Err-clause-turn
 returns-in-Err-clause-turn g c =

@@ -1,7 +1,7 @@
 use Rattle.fast_machine.proofs.fields.Heads.{node_within, field_head, parts_head, group_head, sequence_head}
 use Rattle.std.proofs.Common.{rules, sym, ap, ◌∙◌}
 use Rattle.fast_tree.specs.device.Numbers.{numbers_of}
-use Rattle.fast_machine.proofs.machine.Machine.turn.Goals as goal
+use Rattle.fast_machine.proofs.machine.Machine.begin.Goals as goal
 
 pub begin_field-requires-clause-next : goal.begin_field-requires-clause-next
 begin_field-requires-clause-next g c = field_head c.args.templates.now c.args.self.now.cursor c.in-Some.number c.node.result.now (sym c.next.ensures ∙ c.in-Some.is) c.node.ensures.found c.in-Field.field c.in-Field.is
@@ -29,3 +29,15 @@ begin_sequence-requires-clause-node g c = node_within c.args.templates.now c.arg
 -- A goal that a wrong body would leave.
 pub returns-in-Field-clause-turns : goal.returns-in-Field-clause-turns
 returns-in-Field-clause-turns g c = search rules
+
+pub returns-in-Field-clause-turn : goal.returns-in-Field-clause-turn
+returns-in-Field-clause-turn g c = c.begin_field.ensures.turn
+
+pub returns-in-Decimal-clause-turn : goal.returns-in-Decimal-clause-turn
+returns-in-Decimal-clause-turn g c = c.begin_decimal.ensures.turn
+
+pub returns-in-Group-clause-turn : goal.returns-in-Group-clause-turn
+returns-in-Group-clause-turn g c = c.begin_group.ensures.turn
+
+pub returns-in-Sequence-clause-turn : goal.returns-in-Sequence-clause-turn
+returns-in-Sequence-clause-turn g c = c.begin_sequence.ensures.turn
