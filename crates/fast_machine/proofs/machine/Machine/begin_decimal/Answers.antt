@@ -18,7 +18,7 @@ returns-then-needs_bytes-clause-turn g c =
     (sent_here e c.presence-bit.result (state_of m) (c.presence-bit.ensures (slots_dictionary m.slots) m.counted) (c.needs_bytes.ensures.operator c.if-needs_bytes.true) (c.needs_bytes.ensures.sent c.if-needs_bytes.true))
 
 pub unsent-requires : goal.unsent-requires
-unsent-requires g c = serves_here (set_of c.args.templates.now) c.args.limits c.args.self.now (field_data c.args.exponent.now) c.requires.turn.supplied c.requires.exponent
+unsent-requires g c = record { serves = serves_here (set_of c.args.templates.now) c.args.limits c.args.self.now (field_data c.args.exponent.now) c.requires.turn.supplied c.requires.exponent }
 
 pub exponent_known-requires-clause-turn : goal.exponent_known-requires-clause-turn
 exponent_known-requires-clause-turn g c = can_turn_slots (set_of c.args.templates.now) c.args.limits c.args.self.now c.unsent.new.slots c.requires.turn c.unsent.ensures.terms

@@ -21,7 +21,7 @@ returns-then-needs_bytes-clause-turn g c =
     c.wait_first.ensures.same c.wait_first.ensures.capacity c.wait_first.ensures.text c.wait_first.ensures.number
 
 pub unsent-requires : goal.unsent-requires
-unsent-requires g c = serves_here (set_of c.args.templates.now) c.args.limits c.args.self.now (field_data c.args.field.now) c.requires.turn.supplied c.requires.serves
+unsent-requires g c = record { serves = serves_here (set_of c.args.templates.now) c.args.limits c.args.self.now (field_data c.args.field.now) c.requires.turn.supplied c.requires.serves }
 
 pub finish-requires-clause-entry : goal.finish-requires-clause-entry
 finish-requires-clause-entry g c = entry_known (set_of c.args.templates.now) c.args.limits c.args.self.now c.unsent.new.slots (field_data c.args.field.now) c.requires.turn c.unsent.ensures.terms c.requires.serves

@@ -22,7 +22,7 @@ returns-then-needs_bytes-clause-turn g c =
     (sent_here f c.presence-bit.result (state_of m) (c.presence-bit.ensures (slots_dictionary m.slots) m.counted) (c.needs_bytes.ensures.operator c.if-needs_bytes.true) (c.needs_bytes.ensures.sent c.if-needs_bytes.true))
 
 pub unsent-requires : goal.unsent-requires
-unsent-requires g c = serves_here (set_of c.args.templates.now) c.args.limits c.args.self.now (field_data c.args.mantissa.now) c.requires.turn.supplied c.requires.mantissa
+unsent-requires g c = record { serves = serves_here (set_of c.args.templates.now) c.args.limits c.args.self.now (field_data c.args.mantissa.now) c.requires.turn.supplied c.requires.mantissa }
 
 pub finish_decimal-requires-clause-entry : goal.finish_decimal-requires-clause-entry
 finish_decimal-requires-clause-entry g c = entry_known (set_of c.args.templates.now) c.args.limits c.args.self.now c.unsent.new.slots (field_data c.args.mantissa.now) c.requires.turn c.unsent.ensures.terms c.requires.mantissa

@@ -50,7 +50,7 @@ returns-then-bit-clause-turn g c =
     (ready_at set c.args.limits waiting Identifier supplied refl (c.requires.behind.map, bit, c.requires.behind.outermost))
 
 pub unsent-requires : goal.unsent-requires
-unsent-requires g c = identifier_served (set_of c.args.templates.now) c.args.limits c.args.self.now c.requires.behind.supplied
+unsent-requires g c = record { serves = identifier_served (set_of c.args.templates.now) c.args.limits c.args.self.now c.requires.behind.supplied }
 
 pub returns-in-Err-clause-turn : goal.returns-in-Err-clause-turn
 returns-in-Err-clause-turn g c =

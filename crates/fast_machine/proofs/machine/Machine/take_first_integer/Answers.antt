@@ -139,3 +139,15 @@ returns-in-Group-clause-taken g c =
     let first = sym c.next.ensures ∙ c.in-Some.is in
     let can = subst (λ (w : Waiting). CanTake w set l m) c.requires.waits c.requires.ready.takes in
     absurd (no_group set m.cursor n v later first c.node.ensures.found (state_in (slots_dictionary m.slots) m.counted m.cursor) c.in-Group.optional c.in-Group.body c.in-Group.is can.2)
+
+pub returns-in-Decimal-clause-taken : goal.returns-in-Decimal-clause-taken
+returns-in-Decimal-clause-taken g c = c.take_exponent.ensures.taken
+
+pub returns-in-Sequence-clause-taken : goal.returns-in-Sequence-clause-taken
+returns-in-Sequence-clause-taken g c = c.take_length.ensures.taken
+
+pub returns-in-Decimal-clause-turns : goal.returns-in-Decimal-clause-turns
+returns-in-Decimal-clause-turns g c = c.take_exponent.ensures.turns
+
+pub returns-in-Sequence-clause-turns : goal.returns-in-Sequence-clause-turns
+returns-in-Sequence-clause-turns g c = c.take_length.ensures.turns
