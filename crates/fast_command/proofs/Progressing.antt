@@ -9,7 +9,7 @@ use Rattle.fast_tree.specs.meaning.Tree.{Tree}
 use Rattle.fast_stream.specs.declared.faults.Fault.{Fault}
 use Rattle.fast_stream.specs.declared.faults.FaultCode.{FaultCode}
 use Rattle.fast_stream.specs.declared.faults.FaultCode.TheVariants as Why
-use Rattle.fast_stream.specs.device.Running.{Position, at_start}
+use Rattle.fast_stream.specs.device.Running.{at_start}
 use Rattle.fast_dict.specs.meaning.Dictionary.{fresh}
 use Rattle.fast_stream.specs.meaning.Events.{EventData}
 use Rattle.fast_stream.specs.meaning.Streams.{End, between, inside, faulted, Stream}

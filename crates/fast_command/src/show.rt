@@ -215,6 +215,32 @@ pub fn run_show<S: Source, T: Target>(
         Ok(show) => show,
         Err(error) => return Err(refusal(error)),
     };
+    show_reads(&mut show, templates, limits, hex, max_reads, reader, writer)
+}
+
+/// Reads and shows, up to the end of the input or of the run. Set, limits and `hex` are there for what the clauses say.
+fn show_reads<S: Source, T: Target>(
+    show: &mut Show<'_>,
+    templates: &Templates,
+    limits: Limits,
+    hex: bool,
+    max_reads: u64,
+    reader: &mut S,
+    writer: &mut T,
+) -> Result<ShowEnd, RunFault>
+    requires made { Progress (tree_of templates.now) limits hex show.old [] [] [] }
+    requires few { max_reads ≤ 2 ^ 40 }
+    ensures shown { (text out : List ℕ) × Reads (S.left reader.old) (S.left reader.new) text
+        × Appends (T.written writer.old) (T.written writer.new) out
+        × IsShown (tree_of templates.now) limits hex (IsRefusal templates.now limits) (IsAtEnd (S.left reader.new))
+        (IsTrue (S.has_failed reader.new) ⊎ (max_reads ≤ length text)) (IsTrue (T.has_failed writer.new)) text out
+        result }
+    ensures writer_told { (result ≡ Err RunFault.Write) ⊎ (T.has_failed writer.new ≡ T.has_failed writer.old) }
+    ensures reader_told { (result ≡ Err RunFault.Read) ⊎ (S.has_failed reader.new ≡ S.has_failed reader.old) }
+{
+    let _ = templates;
+    let _ = limits;
+    let _ = hex;
     let mut buffer = [0; READ_SIZE];
     for _read in 0..max_reads {
         if writer.flush().is_err() {

@@ -1,7 +1,7 @@
 use Rattle.std.proofs.Common.{◌≡◌}
 use Rattle.fast_template.specs.meaning.Flat.{tree_of}
 use Rattle.fast_command.proofs.Showing.{Round}
-use Rattle.fast_command.proofs.show.run_show.Given as goal
+use Rattle.fast_command.proofs.show.show_reads.Given as goal
 
 abbrev pub invariant-loop-read : goal.invariant-loop-read
 invariant-loop-read g l = record {
