@@ -4,7 +4,9 @@ use super::super::{built_in_set, expect};
 use super::show_whole;
 use super::sinks::{Answer, Taker};
 use fast_command::{RunFault, ShowEnd};
+use fast_template::Templates;
 use fast_text::{FromBytes, ToBytes, Watched};
+use std::alloc::Global;
 use std::io::{self, ErrorKind, Read};
 use std::test::Fail;
 
@@ -65,26 +67,38 @@ fn a_reader_that_fails_or_ends_at_any_call(rt: HostRuntime) -> Result<(), Fail> 
     let set = built_in_set(rt.alloc())?;
     for (given, (decided, close)) in FRONTS.into_iter().enumerate() {
         for answer in [Answer::Failure, Answer::Nothing] {
-            let mut source = Watched::new(Giver {
-                bytes: &STREAM,
-                calls: 0,
-                differs_at: given.saturating_add(1),
-                answer,
-            });
-            let mut cells = [0; 64];
-            let mut target = ToBytes::new(&mut cells);
-            let end = show_whole(rt.alloc(), &set, 1000, &mut source, &mut target);
-            let (due, close) = match answer {
-                Answer::Failure => (Err(RunFault::Read), b"".as_slice()),
-                Answer::Nothing => (Ok(end_behind(given)), close),
-            };
-            let shown = target.bytes();
-            let (front, last) = shown.split_at(decided.min(shown.len()));
-            let is_right = end == due && Some(front) == LINES.get(..decided) && last == close;
+            let is_right = is_shown_in_front(rt.alloc(), &set, given, answer, decided, close);
             expect(&rt, is_right, "a reader that differs", given);
         }
     }
     Ok(())
+}
+
+/// Whether, where a reader gives so many pieces and then answers so, the lines are shown that these decide, and behind an end its own.
+fn is_shown_in_front(
+    alloc: Global,
+    set: &Templates,
+    given: usize,
+    answer: Answer,
+    decided: usize,
+    close: &[u8],
+) -> bool {
+    let mut source = Watched::new(Giver {
+        bytes: &STREAM,
+        calls: 0,
+        differs_at: given.saturating_add(1),
+        answer,
+    });
+    let mut cells = [0; 64];
+    let mut target = ToBytes::new(&mut cells);
+    let end = show_whole(alloc, set, 1000, &mut source, &mut target);
+    let (due, close) = match answer {
+        Answer::Failure => (Err(RunFault::Read), b"".as_slice()),
+        Answer::Nothing => (Ok(end_behind(given)), close),
+    };
+    let shown = target.bytes();
+    let (front, last) = shown.split_at(decided.min(shown.len()));
+    end == due && Some(front) == LINES.get(..decided) && last == close
 }
 
 #[test]

@@ -143,24 +143,20 @@ const THERE_AND_BACK: [&str; 8] = [
 fn what_is_written_is_shown_as_it_was(rt: HostRuntime) -> Result<(), Fail> {
     let set = built_in_set(rt.alloc())?;
     for text in THERE_AND_BACK {
-        let mut cells = [0; 512];
-        let mut stream = ToBytes::new(&mut cells);
-        let mut source = FromBytes::new(text.as_bytes());
-        let end = convert(rt.alloc(), &set, LENIENT, false, &mut source, &mut stream);
-        let mut room = [0; 512];
-        let mut lines = ToBytes::new(&mut room);
-        let mut source = FromBytes::new(stream.bytes());
-        let shown = show(
-            rt.alloc(),
-            &set,
-            LENIENT,
-            false,
-            1000,
-            &mut source,
-            &mut lines,
-        );
-        let is_right = end == Ok(()) && shown.is_ok() && lines.bytes() == text.as_bytes();
-        expect(&rt, is_right, text, stream.bytes().len());
+        expect(&rt, comes_back(rt.alloc(), &set, text), text, text.len());
     }
     Ok(())
+}
+
+/// Whether the lines that a stream is written of are shown of it.
+fn comes_back(alloc: Global, set: &Templates, text: &str) -> bool {
+    let mut cells = [0; 512];
+    let mut stream = ToBytes::new(&mut cells);
+    let mut source = FromBytes::new(text.as_bytes());
+    let end = convert(alloc, set, LENIENT, false, &mut source, &mut stream);
+    let mut room = [0; 512];
+    let mut lines = ToBytes::new(&mut room);
+    let mut source = FromBytes::new(stream.bytes());
+    let shown = show(alloc, set, LENIENT, false, 1000, &mut source, &mut lines);
+    end == Ok(()) && shown.is_ok() && lines.bytes() == text.as_bytes()
 }
