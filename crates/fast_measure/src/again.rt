@@ -2,8 +2,8 @@
 
 ghost use Rattle.std.specs.Prelude.{◌<◌};
 
-use crate::decoding::{Answer, answer_of, bytes_of, decoder_of, read_set};
-use crate::encoding::{encode_all, encoder_of, hold_all, status_of};
+use crate::decoding::{Answer, BETWEEN, answer_of, bytes_of, decoder_of, feed_all, read_set};
+use crate::encoding::{encode_all, encoder_of, status_of};
 use crate::sinks::Check;
 use crate::trees::Trees;
 use fast_template::Templates;
@@ -25,6 +25,21 @@ fn run_again(alloc: Global, set: &Templates, limits: Limits, stream: &[u8]) -> R
     let mut list = Vec::new(alloc);
     encode_held(alloc, set, limits, &trees.messages, &mut list)?;
     run_once(alloc, set, strict, &list, usize::MAX)
+}
+
+/// Decodes a stream into messages, or the status where that is not done.
+fn hold_all(
+    alloc: Global,
+    set: &Templates,
+    limits: Limits,
+    stream: &[u8],
+    trees: &mut Trees<'_>,
+) -> Result<(), u64> {
+    let mut decoder = decoder_of(alloc, set, limits)?;
+    match feed_all(&mut decoder, stream, usize::MAX, trees) {
+        BETWEEN => Ok(()),
+        status => Err(status),
+    }
 }
 
 /// Encodes messages into a list, or the status where that is not done.

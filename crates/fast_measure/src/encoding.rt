@@ -3,6 +3,7 @@
 use crate::decoding::{BETWEEN, decoder_of, feed_all, read_set, status_of_make};
 use crate::sinks::with_bytes;
 use crate::trees::Trees;
+use fast_decoder::Decoder;
 use fast_encoder::{EncodeFault, Encoder};
 use fast_template::Templates;
 use fast_value::{Limits, Message};
@@ -131,7 +132,8 @@ fn encode_rounds(
     })
 }
 
-/// As `encode`, or the status where nothing is encoded.
+/// As `encode`, or the status where nothing is encoded. Decoder and encoder are made before the first byte is decoded: `tools/growths` goes by
+/// the order of the requests for memory.
 fn run(
     alloc: Global,
     templates: &[u8],
@@ -140,38 +142,37 @@ fn run(
     rounds: Option<u32>,
 ) -> Result<Encoded, u64> {
     let set = read_set(alloc, templates)?;
-    let mut trees = Trees::new(alloc, &set);
-    hold_all(alloc, &set, limits, stream, &mut trees)?;
-    run_over(alloc, &set, limits, &trees.messages, rounds)
+    let mut decoder = decoder_of(alloc, &set, limits)?;
+    run_behind(alloc, &set, limits, stream, rounds, &mut decoder)
 }
 
-/// Decodes a stream into messages, or the status where that is not done.
-pub fn hold_all(
+/// The same with a decoder that is made.
+fn run_behind(
     alloc: Global,
     set: &Templates,
     limits: Limits,
     stream: &[u8],
-    trees: &mut Trees<'_>,
-) -> Result<(), u64> {
-    let mut decoder = decoder_of(alloc, set, limits)?;
-    match feed_all(&mut decoder, stream, usize::MAX, trees) {
-        BETWEEN => Ok(()),
+    rounds: Option<u32>,
+    decoder: &mut Decoder<'_>,
+) -> Result<Encoded, u64> {
+    let mut encoder = encoder_of(alloc, set, limits)?;
+    let mut trees = Trees::new(alloc, set);
+    match feed_all(decoder, stream, usize::MAX, &mut trees) {
+        BETWEEN => run_over(alloc, &mut encoder, &trees.messages, rounds),
         status => Err(status),
     }
 }
 
-/// As `run`, over messages.
+/// The same over messages.
 fn run_over(
     alloc: Global,
-    set: &Templates,
-    limits: Limits,
+    encoder: &mut Encoder<'_>,
     messages: &[Message],
     rounds: Option<u32>,
 ) -> Result<Encoded, u64> {
-    let mut encoder = encoder_of(alloc, set, limits)?;
     let encoded = match rounds {
-        Some(rounds) => encode_rounds(alloc, &mut encoder, messages, rounds),
-        None => encode_patiently(alloc, &mut encoder, messages),
+        Some(rounds) => encode_rounds(alloc, encoder, messages, rounds),
+        None => encode_patiently(alloc, encoder, messages),
     };
     match encoded {
         Ok(encoded) => Ok(encoded),
