@@ -1,6 +1,6 @@
 //! From a set as it is written to its nodes, with references in place.
 
-ghost use Rattle.std.specs.Prelude.{ℕ, suc, Bool, false, List, Option, ◌≡◌, ◌<◌, ◌≤◌, ◌*◌, ◌^◌, All, sum_by, ◌++◌, ◌∷◌, [], length, map, option_map, IfOk, OnOk};
+ghost use Rattle.std.specs.Prelude.{ℕ, suc, Bool, false, List, Option, ◌≡◌, ◌<◌, ◌≤◌, ◌*◌, ◌^◌, All, sum_by, ◌++◌, ◌∷◌, [], length, map, option_map, IfOk, OnOk, string_bytes};
 ghost use Rattle.std.specs.HashMap.{get_by_text};
 ghost use Rattle.fast_value.specs.meaning.Values.{value_data};
 ghost use Rattle.fast_tree.specs.meaning.Entries.{scope_of};
@@ -45,6 +45,29 @@ fn initial_of(alloc: Global, used: OperatorUse<'_>) -> Result<Option<Value>, All
     }
 }
 
+/// The name of a node that comes behind so many, whose number is put behind those of its body.
+fn name_of(
+    alloc: Global,
+    count: usize,
+    body: &mut Vec<u32>,
+    name: &str,
+) -> Result<String, AllocError>
+    requires { count < node_limit }
+    ensures name { IfOk result (λ s. string_bytes s ≡ name.now) }
+    ensures body { IfOk result (λ _. body.new.items ≡ body.old.items ++ count ∷ []) }
+{
+    body.push(count as u32)?;
+    String::from_str(alloc, name)
+}
+
+/// Puts a node behind the others.
+fn push_node(nodes: &mut Vec<Node>, node: Node) -> Result<(), AllocError>
+    ensures { OnOk result (data_of nodes.new ≡ data_of nodes.old ++ node_data node ∷ []) }
+{
+    nodes.push(node)?;
+    Ok(())
+}
+
 /// Puts a node behind the others, and its number behind those of its body.
 fn add_node(
     alloc: Global,
@@ -58,12 +81,8 @@ fn add_node(
         ≡ data_of nodes.old ++ record { name = name.now; shape = shape_data shape } ∷ []) }
     ensures body { OnOk result (body.new.items ≡ body.old.items ++ length (data_of nodes.old) ∷ []) }
 {
-    body.push(nodes.len() as u32)?;
-    nodes.push(Node {
-        name: String::from_str(alloc, name)?,
-        shape,
-    })?;
-    Ok(())
+    let name = name_of(alloc, nodes.len(), body, name)?;
+    push_node(nodes, Node { name, shape })
 }
 
 /// The shape of a node whose body is not built yet.
@@ -193,14 +212,16 @@ impl Builder<'_> {
         ensures { IfOk result (λ f. IsField (entries_in self.now) (scope_data scope.entry) (use_data used.entry)
             (field_data f)) }
     {
+        let entry = self.entries.number_of(self.alloc, scope, used)?;
         Ok(FieldInstruction {
             kind: used.kind,
             optional: used.optional,
             operator: used.written.operator,
             initial: initial_of(self.alloc, used)?,
-            entry: self.entries.number_of(self.alloc, scope, used)?,
+            entry,
         })
     }
+
     /// Builds the nodes of instructions, and puts their numbers behind those of the body.
     #[cycle(building)]
     pub(crate) fn build_fields(
