@@ -4,7 +4,7 @@ ghost use Rattle.std.specs.Prelude.{ℕ, suc, Bool, false, List, Option, ◌≡�
 ghost use Rattle.std.specs.HashMap.{get_by_text};
 ghost use Rattle.fast_value.specs.meaning.Values.{value_data};
 ghost use Rattle.fast_tree.specs.meaning.Entries.{scope_of};
-ghost use Rattle.fast_tree.specs.meaning.AsWritten.{Written, group, sequence, reference, no_more, more, length_use};
+ghost use Rattle.fast_tree.specs.meaning.AsWritten.{Written, scalar, by_parts, group, sequence, reference, no_more, more, scalar_use, exponent_use, mantissa_use, length_use};
 ghost use Rattle.fast_notation.specs.device.Built.{with_shape, data_of, IsReady, AreBuilt};
 ghost use Rattle.fast_notation.specs.device.Chains.{Fits, nodes_in};
 ghost use Rattle.fast_notation.specs.device.EntryKeys.{scope_data, use_data};
@@ -222,6 +222,55 @@ impl Builder<'_> {
         })
     }
 
+    /// Builds the node of a field.
+    fn build_scalar(
+        &self,
+        nodes: &mut Vec<Node>,
+        body: &mut Vec<u32>,
+        at: BuildContext<'_>,
+        name: &str,
+        used: OperatorUse<'_>,
+    ) -> Result<(), AllocError>
+        requires set { IsBuilder self.now }
+        requires room { length (data_of nodes.old) < node_limit }
+        requires ready { IsReady (entries_in self.now) (scope_data at.scope) (use_data used) }
+        requires exponent { used.part ≡ OperatorPart.Exponent → used.kind ≡ Kind.Int32 }
+        ensures { OnOk result ((optional : Bool) (kind : Kind) (w : Written)
+            → use_data used.entry ≡ scalar_use name.now optional kind w
+            → IsBuiltAt self.now at.entry (more (scalar name.now optional kind w) no_more) nodes.old nodes.new
+            body.old.items body.new.items) }
+    {
+        let field = self.field_of(at.scope, used)?;
+        add_node(self.alloc, nodes, body, name, Shape::Field(field))
+    }
+
+    /// Builds the node of a decimal that is sent in two parts.
+    fn build_parts(
+        &self,
+        nodes: &mut Vec<Node>,
+        body: &mut Vec<u32>,
+        at: BuildContext<'_>,
+        name: &str,
+        parts: (OperatorUse<'_>, OperatorUse<'_>),
+    ) -> Result<(), AllocError>
+        requires set { IsBuilder self.now }
+        requires room { length (data_of nodes.old) < node_limit }
+        requires exponent { IsReady (entries_in self.now) (scope_data at.scope) (use_data parts.0) }
+        requires mantissa { IsReady (entries_in self.now) (scope_data at.scope) (use_data parts.1) }
+        requires kinds { (parts.0.part ≡ OperatorPart.Exponent → parts.0.kind ≡ Kind.Int32)
+            × (parts.1.part ≡ OperatorPart.Exponent → parts.1.kind ≡ Kind.Int32) }
+        ensures { OnOk result ((optional : Bool) (v w : Written)
+            → use_data parts.entry.0 ≡ exponent_use name.now optional v
+            → use_data parts.entry.1 ≡ mantissa_use name.now w
+            → IsBuiltAt self.now at.entry (more (by_parts name.now optional v w) no_more) nodes.old nodes.new
+            body.old.items body.new.items) }
+    {
+        let exponent = self.field_of(at.scope, parts.0)?;
+        let mantissa = self.field_of(at.scope, parts.1)?;
+        let shape = Shape::Decimal { exponent, mantissa };
+        add_node(self.alloc, nodes, body, name, shape)
+    }
+
     /// Builds the nodes of instructions, and puts their numbers behind those of the body.
     #[cycle(building)]
     pub(crate) fn build_fields(
@@ -266,8 +315,7 @@ impl Builder<'_> {
             } => {
                 let name = name.as_str();
                 let used = scalar_use(name, *optional, *kind, operator);
-                let field = self.field_of(at.scope, used)?;
-                add_node(self.alloc, nodes, body, name, Shape::Field(field))
+                self.build_scalar(nodes, body, at, name, used)
             }
             WrittenInstruction::Parts {
                 name,
@@ -276,15 +324,9 @@ impl Builder<'_> {
                 mantissa,
             } => {
                 let name = name.as_str();
-                let exponent = self.field_of(at.scope, exponent_use(name, *optional, exponent))?;
-                let mantissa = self.field_of(at.scope, mantissa_use(name, mantissa))?;
-                add_node(
-                    self.alloc,
-                    nodes,
-                    body,
-                    name,
-                    Shape::Decimal { exponent, mantissa },
-                )
+                let exponent = exponent_use(name, *optional, exponent);
+                let mantissa = mantissa_use(name, mantissa);
+                self.build_parts(nodes, body, at, name, (exponent, mantissa))
             }
             WrittenInstruction::Group {
                 name,
