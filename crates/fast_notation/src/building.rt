@@ -4,7 +4,7 @@ ghost use Rattle.std.specs.Prelude.{ℕ, suc, Bool, false, List, Option, ◌≡�
 ghost use Rattle.std.specs.HashMap.{get_by_text};
 ghost use Rattle.fast_value.specs.meaning.Values.{value_data};
 ghost use Rattle.fast_tree.specs.meaning.Entries.{scope_of};
-ghost use Rattle.fast_tree.specs.meaning.AsWritten.{Written, scalar, by_parts, group, sequence, reference, no_more, more, scalar_use, exponent_use, mantissa_use, length_use};
+ghost use Rattle.fast_tree.specs.meaning.AsWritten.{Written, scalar, by_parts, group, sequence, reference, no_more, more, length_use};
 ghost use Rattle.fast_notation.specs.device.Built.{with_shape, data_of, IsReady, AreBuilt};
 ghost use Rattle.fast_notation.specs.device.Chains.{Fits, nodes_in};
 ghost use Rattle.fast_notation.specs.device.EntryKeys.{scope_data, use_data};
@@ -14,7 +14,7 @@ ghost use Rattle.fast_tree.specs.device.Nodes.{field_data};
 ghost use Rattle.fast_tree.specs.meaning.Sizes.{nesting_limit, node_limit};
 ghost use Rattle.fast_notation.specs.meaning.Uses.{IsInitialOf, IsField};
 ghost use Rattle.fast_notation.specs.device.Sound.{IsSound};
-ghost use Rattle.fast_notation.specs.device.WrittenSets.{instruction_data, fields_data, written_data, templates_data};
+ghost use Rattle.fast_notation.specs.device.WrittenSets.{instruction_data, operator_data, fields_data, written_data, templates_data};
 ghost use Rattle.fast_notation.specs.device.Builders.{templates_in, entries_in, IsBuilder, CanBuildAt, IsBuiltAt};
 
 use crate::codes::StaticCode;
@@ -23,7 +23,7 @@ use crate::limits::NESTING_LIMIT;
 use crate::passes::WrittenSet;
 use crate::scopes::{OperatorUse, TextScope, exponent_use, length_use, mantissa_use, scalar_use};
 use crate::uses::{OperatorPart, initial_in};
-use crate::written::{WrittenInstruction, WrittenTemplate};
+use crate::written::{WrittenInstruction, WrittenOperator, WrittenTemplate};
 use fast_tree::{FieldInstruction, Node, Shape, Template};
 use fast_value::{Kind, Value};
 use std::alloc::{AllocError, Global};
@@ -222,6 +222,25 @@ impl Builder<'_> {
         })
     }
 
+    /// The field that tells the length of a sequence.
+    fn length_of(
+        &self,
+        scope: TextScope<'_>,
+        name: &str,
+        optional: bool,
+        own: &Option<String>,
+        written: &WrittenOperator,
+    ) -> Result<FieldInstruction, AllocError>
+        requires few { length (entries_in self.now) ≤ 2 * node_limit }
+        requires ready { IsReady (entries_in self.now) (scope_data scope)
+            (length_use name.now optional (option_map string_bytes own.now) (operator_data written.now)) }
+        ensures { IfOk result (λ f. IsField (entries_in self.now) (scope_data scope.entry)
+            (length_use name.now optional (option_map string_bytes own.now) (operator_data written.now))
+            (field_data f)) }
+    {
+        self.field_of(scope, length_use(name, optional, own, written))
+    }
+
     /// Builds the node of a field.
     fn build_scalar(
         &self,
@@ -229,18 +248,18 @@ impl Builder<'_> {
         body: &mut Vec<u32>,
         at: BuildContext<'_>,
         name: &str,
-        used: OperatorUse<'_>,
+        optional: bool,
+        kind: Kind,
+        written: &WrittenOperator,
     ) -> Result<(), AllocError>
         requires set { IsBuilder self.now }
-        requires room { length (data_of nodes.old) < node_limit }
-        requires ready { IsReady (entries_in self.now) (scope_data at.scope) (use_data used) }
-        requires exponent { used.part ≡ OperatorPart.Exponent → used.kind ≡ Kind.Int32 }
-        ensures { OnOk result ((optional : Bool) (kind : Kind) (w : Written)
-            → use_data used.entry ≡ scalar_use name.now optional kind w
-            → IsBuiltAt self.now at.entry (more (scalar name.now optional kind w) no_more) nodes.old nodes.new
+        requires can { CanBuildAt self.now at
+            (more (scalar name.now optional kind (operator_data written.now)) no_more) (length (data_of nodes.old)) }
+        ensures { OnOk result (IsBuiltAt self.now at.entry
+            (more (scalar name.now optional kind (operator_data written.now)) no_more) nodes.old nodes.new
             body.old.items body.new.items) }
     {
-        let field = self.field_of(at.scope, used)?;
+        let field = self.field_of(at.scope, scalar_use(name, optional, kind, written))?;
         add_node(self.alloc, nodes, body, name, Shape::Field(field))
     }
 
@@ -251,22 +270,20 @@ impl Builder<'_> {
         body: &mut Vec<u32>,
         at: BuildContext<'_>,
         name: &str,
-        parts: (OperatorUse<'_>, OperatorUse<'_>),
+        optional: bool,
+        exponent: &WrittenOperator,
+        mantissa: &WrittenOperator,
     ) -> Result<(), AllocError>
         requires set { IsBuilder self.now }
-        requires room { length (data_of nodes.old) < node_limit }
-        requires exponent { IsReady (entries_in self.now) (scope_data at.scope) (use_data parts.0) }
-        requires mantissa { IsReady (entries_in self.now) (scope_data at.scope) (use_data parts.1) }
-        requires kinds { (parts.0.part ≡ OperatorPart.Exponent → parts.0.kind ≡ Kind.Int32)
-            × (parts.1.part ≡ OperatorPart.Exponent → parts.1.kind ≡ Kind.Int32) }
-        ensures { OnOk result ((optional : Bool) (v w : Written)
-            → use_data parts.entry.0 ≡ exponent_use name.now optional v
-            → use_data parts.entry.1 ≡ mantissa_use name.now w
-            → IsBuiltAt self.now at.entry (more (by_parts name.now optional v w) no_more) nodes.old nodes.new
-            body.old.items body.new.items) }
+        requires can { CanBuildAt self.now at (more
+            (by_parts name.now optional (operator_data exponent.now) (operator_data mantissa.now)) no_more)
+            (length (data_of nodes.old)) }
+        ensures { OnOk result (IsBuiltAt self.now at.entry (more
+            (by_parts name.now optional (operator_data exponent.now) (operator_data mantissa.now)) no_more) nodes.old
+            nodes.new body.old.items body.new.items) }
     {
-        let exponent = self.field_of(at.scope, parts.0)?;
-        let mantissa = self.field_of(at.scope, parts.1)?;
+        let exponent = self.field_of(at.scope, exponent_use(name, optional, exponent))?;
+        let mantissa = self.field_of(at.scope, mantissa_use(name, mantissa))?;
         let shape = Shape::Decimal { exponent, mantissa };
         add_node(self.alloc, nodes, body, name, shape)
     }
@@ -314,8 +331,7 @@ impl Builder<'_> {
                 operator,
             } => {
                 let name = name.as_str();
-                let used = scalar_use(name, *optional, *kind, operator);
-                self.build_scalar(nodes, body, at, name, used)
+                self.build_scalar(nodes, body, at, name, *optional, *kind, operator)
             }
             WrittenInstruction::Parts {
                 name,
@@ -324,9 +340,7 @@ impl Builder<'_> {
                 mantissa,
             } => {
                 let name = name.as_str();
-                let exponent = exponent_use(name, *optional, exponent);
-                let mantissa = mantissa_use(name, mantissa);
-                self.build_parts(nodes, body, at, name, (exponent, mantissa))
+                self.build_parts(nodes, body, at, name, *optional, exponent, mantissa)
             }
             WrittenInstruction::Group {
                 name,
@@ -341,8 +355,7 @@ impl Builder<'_> {
                 fields,
             } => {
                 let name = name.as_str();
-                let used = length_use(name, *optional, length_name, length);
-                let length = self.field_of(at.scope, used)?;
+                let length = self.length_of(at.scope, name, *optional, length_name, length)?;
                 self.build_sequence(nodes, body, at, name, length, fields)
             }
             WrittenInstruction::Reference(name) => {
