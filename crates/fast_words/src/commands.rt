@@ -83,7 +83,8 @@ fn with_subcommand<'a>(
     command: Command<'a>,
     subcommand: Result<Command<'a>, AllocError>,
 ) -> Result<Command<'a>, AllocError>
-    ensures { IfOk result (λ new. (inner : Command) × (subcommand.entry ≡ Ok inner) × AddsSubcommand command.entry inner new) }
+    ensures { IfOk result (λ new. (inner : Command) × (subcommand.entry ≡ Ok inner)
+        × AddsSubcommand command.entry inner new) }
 {
     command.subcommand(subcommand?)
 }
@@ -116,7 +117,8 @@ fn and_options<'a>(
     command: Result<Command<'a>, AllocError>,
 ) -> Result<Command<'a>, AllocError>
     requires { IfOk command (λ c. (out-Command c).has_globals ≡ false) }
-    ensures { IfOk result (λ new. (old : Command) × (command.entry ≡ Ok old) × MakesApp (with_options (app_of old)) new) }
+    ensures { IfOk result (λ new. (old : Command) × (command.entry ≡ Ok old)
+        × MakesApp (with_options (app_of old)) new) }
 {
     with_options(alloc, command?)
 }
