@@ -1,10 +1,10 @@
 //! From a set as it is written to its nodes, with references in place.
 
-ghost use Rattle.std.specs.Prelude.{ℕ, suc, Bool, false, List, Option, ◌≡◌, ◌<◌, ◌≤◌, ◌*◌, ◌^◌, All, sum_by, ◌++◌, ◌∷◌, [], length, map, option_map, IfOk, OnOk};
+ghost use Rattle.std.specs.Prelude.{ℕ, suc, Bool, false, List, Option, ◌≡◌, ◌<◌, ◌≤◌, ◌*◌, ◌^◌, All, sum_by, ◌++◌, ◌∷◌, [], length, map, option_map, IfOk, OnOk, string_bytes};
 ghost use Rattle.std.specs.HashMap.{get_by_text};
 ghost use Rattle.fast_value.specs.meaning.Values.{value_data};
 ghost use Rattle.fast_tree.specs.meaning.Entries.{scope_of};
-ghost use Rattle.fast_tree.specs.meaning.AsWritten.{Written, group, sequence, reference, no_more, more, length_use};
+ghost use Rattle.fast_tree.specs.meaning.AsWritten.{Written, scalar, by_parts, group, sequence, reference, no_more, more, length_use};
 ghost use Rattle.fast_notation.specs.device.Built.{with_shape, data_of, IsReady, AreBuilt};
 ghost use Rattle.fast_notation.specs.device.Chains.{Fits, nodes_in};
 ghost use Rattle.fast_notation.specs.device.EntryKeys.{scope_data, use_data};
@@ -14,7 +14,7 @@ ghost use Rattle.fast_tree.specs.device.Nodes.{field_data};
 ghost use Rattle.fast_tree.specs.meaning.Sizes.{nesting_limit, node_limit};
 ghost use Rattle.fast_notation.specs.meaning.Uses.{IsInitialOf, IsField};
 ghost use Rattle.fast_notation.specs.device.Sound.{IsSound};
-ghost use Rattle.fast_notation.specs.device.WrittenSets.{instruction_data, fields_data, written_data, templates_data};
+ghost use Rattle.fast_notation.specs.device.WrittenSets.{instruction_data, operator_data, fields_data, written_data, templates_data};
 ghost use Rattle.fast_notation.specs.device.Builders.{templates_in, entries_in, IsBuilder, CanBuildAt, IsBuiltAt};
 
 use crate::codes::StaticCode;
@@ -23,7 +23,7 @@ use crate::limits::NESTING_LIMIT;
 use crate::passes::WrittenSet;
 use crate::scopes::{OperatorUse, TextScope, exponent_use, length_use, mantissa_use, scalar_use};
 use crate::uses::{OperatorPart, initial_in};
-use crate::written::{WrittenInstruction, WrittenTemplate};
+use crate::written::{WrittenInstruction, WrittenOperator, WrittenTemplate};
 use fast_tree::{FieldInstruction, Node, Shape, Template};
 use fast_value::{Kind, Value};
 use std::alloc::{AllocError, Global};
@@ -45,6 +45,29 @@ fn initial_of(alloc: Global, used: OperatorUse<'_>) -> Result<Option<Value>, All
     }
 }
 
+/// The name of a node that comes behind so many, whose number is put behind those of its body.
+fn name_of(
+    alloc: Global,
+    count: usize,
+    body: &mut Vec<u32>,
+    name: &str,
+) -> Result<String, AllocError>
+    requires { count < node_limit }
+    ensures name { IfOk result (λ s. string_bytes s ≡ name.now) }
+    ensures body { IfOk result (λ _. body.new.items ≡ body.old.items ++ count ∷ []) }
+{
+    body.push(count as u32)?;
+    String::from_str(alloc, name)
+}
+
+/// Puts a node behind the others.
+fn push_node(nodes: &mut Vec<Node>, node: Node) -> Result<(), AllocError>
+    ensures { OnOk result (data_of nodes.new ≡ data_of nodes.old ++ node_data node ∷ []) }
+{
+    nodes.push(node)?;
+    Ok(())
+}
+
 /// Puts a node behind the others, and its number behind those of its body.
 fn add_node(
     alloc: Global,
@@ -58,12 +81,8 @@ fn add_node(
         ≡ data_of nodes.old ++ record { name = name.now; shape = shape_data shape } ∷ []) }
     ensures body { OnOk result (body.new.items ≡ body.old.items ++ length (data_of nodes.old) ∷ []) }
 {
-    body.push(nodes.len() as u32)?;
-    nodes.push(Node {
-        name: String::from_str(alloc, name)?,
-        shape,
-    })?;
-    Ok(())
+    let name = name_of(alloc, nodes.len(), body, name)?;
+    push_node(nodes, Node { name, shape })
 }
 
 /// The shape of a node whose body is not built yet.
@@ -193,14 +212,82 @@ impl Builder<'_> {
         ensures { IfOk result (λ f. IsField (entries_in self.now) (scope_data scope.entry) (use_data used.entry)
             (field_data f)) }
     {
+        let entry = self.entries.number_of(self.alloc, scope, used)?;
         Ok(FieldInstruction {
             kind: used.kind,
             optional: used.optional,
             operator: used.written.operator,
             initial: initial_of(self.alloc, used)?,
-            entry: self.entries.number_of(self.alloc, scope, used)?,
+            entry,
         })
     }
+
+    /// The field that tells the length of a sequence.
+    fn length_of(
+        &self,
+        scope: TextScope<'_>,
+        name: &str,
+        optional: bool,
+        own: &Option<String>,
+        written: &WrittenOperator,
+    ) -> Result<FieldInstruction, AllocError>
+        requires few { length (entries_in self.now) ≤ 2 * node_limit }
+        requires ready { IsReady (entries_in self.now) (scope_data scope)
+            (length_use name.now optional (option_map string_bytes own.now) (operator_data written.now)) }
+        ensures { IfOk result (λ f. IsField (entries_in self.now) (scope_data scope.entry)
+            (length_use name.now optional (option_map string_bytes own.now) (operator_data written.now))
+            (field_data f)) }
+    {
+        self.field_of(scope, length_use(name, optional, own, written))
+    }
+
+    /// Builds the node of a field.
+    fn build_scalar(
+        &self,
+        nodes: &mut Vec<Node>,
+        body: &mut Vec<u32>,
+        at: BuildContext<'_>,
+        name: &str,
+        optional: bool,
+        kind: Kind,
+        written: &WrittenOperator,
+    ) -> Result<(), AllocError>
+        requires set { IsBuilder self.now }
+        requires can { CanBuildAt self.now at
+            (more (scalar name.now optional kind (operator_data written.now)) no_more) (length (data_of nodes.old)) }
+        ensures { OnOk result (IsBuiltAt self.now at.entry
+            (more (scalar name.now optional kind (operator_data written.now)) no_more) nodes.old nodes.new
+            body.old.items body.new.items) }
+    {
+        let field = self.field_of(at.scope, scalar_use(name, optional, kind, written))?;
+        add_node(self.alloc, nodes, body, name, Shape::Field(field))
+    }
+
+    /// Builds the node of a decimal that is sent in two parts.
+    fn build_parts(
+        &self,
+        nodes: &mut Vec<Node>,
+        body: &mut Vec<u32>,
+        at: BuildContext<'_>,
+        name: &str,
+        optional: bool,
+        exponent: &WrittenOperator,
+        mantissa: &WrittenOperator,
+    ) -> Result<(), AllocError>
+        requires set { IsBuilder self.now }
+        requires can { CanBuildAt self.now at (more
+            (by_parts name.now optional (operator_data exponent.now) (operator_data mantissa.now)) no_more)
+            (length (data_of nodes.old)) }
+        ensures { OnOk result (IsBuiltAt self.now at.entry (more
+            (by_parts name.now optional (operator_data exponent.now) (operator_data mantissa.now)) no_more) nodes.old
+            nodes.new body.old.items body.new.items) }
+    {
+        let exponent = self.field_of(at.scope, exponent_use(name, optional, exponent))?;
+        let mantissa = self.field_of(at.scope, mantissa_use(name, mantissa))?;
+        let shape = Shape::Decimal { exponent, mantissa };
+        add_node(self.alloc, nodes, body, name, shape)
+    }
+
     /// Builds the nodes of instructions, and puts their numbers behind those of the body.
     #[cycle(building)]
     pub(crate) fn build_fields(
@@ -244,9 +331,7 @@ impl Builder<'_> {
                 operator,
             } => {
                 let name = name.as_str();
-                let used = scalar_use(name, *optional, *kind, operator);
-                let field = self.field_of(at.scope, used)?;
-                add_node(self.alloc, nodes, body, name, Shape::Field(field))
+                self.build_scalar(nodes, body, at, name, *optional, *kind, operator)
             }
             WrittenInstruction::Parts {
                 name,
@@ -255,15 +340,7 @@ impl Builder<'_> {
                 mantissa,
             } => {
                 let name = name.as_str();
-                let exponent = self.field_of(at.scope, exponent_use(name, *optional, exponent))?;
-                let mantissa = self.field_of(at.scope, mantissa_use(name, mantissa))?;
-                add_node(
-                    self.alloc,
-                    nodes,
-                    body,
-                    name,
-                    Shape::Decimal { exponent, mantissa },
-                )
+                self.build_parts(nodes, body, at, name, *optional, exponent, mantissa)
             }
             WrittenInstruction::Group {
                 name,
@@ -278,8 +355,7 @@ impl Builder<'_> {
                 fields,
             } => {
                 let name = name.as_str();
-                let used = length_use(name, *optional, length_name, length);
-                let length = self.field_of(at.scope, used)?;
+                let length = self.length_of(at.scope, name, *optional, length_name, length)?;
                 self.build_sequence(nodes, body, at, name, length, fields)
             }
             WrittenInstruction::Reference(name) => {

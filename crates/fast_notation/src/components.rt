@@ -117,6 +117,30 @@ impl<'a> Walk<'a> {
         Ok(true)
     }
 
+    /// Takes so many turns, or as many as there are.
+    fn take_turns(&mut self, turns: usize) -> Result<(), AllocError>
+        ensures { self.new.graph ≡ self.old.graph }
+    {
+        for _ in 0..turns {
+            if !self.turn()? {
+                return Ok(());
+            }
+        }
+        Ok(())
+    }
+
+    /// Walks from a template, where it was not met.
+    fn walk_from(&mut self, template: usize, turns: usize) -> Result<(), AllocError>
+        requires { template < length self.old.graph.now }
+        ensures { self.new.graph ≡ self.old.graph }
+    {
+        if self.lowlinks[template] != 0 {
+            return Ok(());
+        }
+        self.enter(template)?;
+        self.take_turns(turns)
+    }
+
     /// Goes along a reference.
     fn follow(&mut self, template: usize, target: usize) -> Result<(), AllocError>
         requires template { template < length self.old.graph.now }
@@ -188,14 +212,7 @@ pub(crate) fn components_of(alloc: Global, graph: &[Vec<u32>]) -> Result<Compone
     let turns = turns_of(graph);
     let mut walk = Walk::new(alloc, graph)?;
     for template in 0..graph.len() {
-        if walk.lowlinks[template] == 0 {
-            walk.enter(template)?;
-            for _ in 0..turns {
-                if !walk.turn()? {
-                    break;
-                }
-            }
-        }
+        walk.walk_from(template, turns)?;
     }
     Ok(Components {
         first: walk.first,

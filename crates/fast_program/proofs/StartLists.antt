@@ -62,3 +62,15 @@ start_at Is ops (suc i) (r ∷ rs) (y ∷ ys) s x h here found = start_at Is ops
 -- more behind more
 pub extends_both : (ns : List Node) (a b c : List Op) → Extends ns a b → Extends ns b c → Extends ns a c
 extends_both ns a b c first next = record { kept = λ at body h. next.kept at body (first.kept at body h); suit = λ s. next.suit (first.suit s); numbered = λ h. next.numbered (first.numbered h) }
+
+-- none yet
+pub extends_none : (ns : List Node) (ops : List Op) → Extends ns ops ops
+extends_none ns ops = record { kept = λ at body h. h; suit = λ s. s; numbered = λ h. h }
+
+pub no_starts : {S X : Type 0} (Is : List Op → S → X → Type 0) (ops : List Op) (starts : List S) → starts ≡ [] → AreStarts {X = X} Is ops starts []
+no_starts Is ops [] none = tt
+no_starts Is ops (s ∷ ss) none = absurd (cc none)
+
+pub order_none : (starts : List Start) → starts ≡ [] → AreInOrder starts
+order_none [] none i s here = absurd (cc here)
+order_none (r ∷ rs) none i s here = absurd (cc none)

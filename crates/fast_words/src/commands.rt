@@ -1,8 +1,10 @@
 //! The command that takes the words, as clap is told it.
 
-ghost use Rattle.std.specs.Prelude.{◌≡◌, false, IfOk};
+ghost use Rattle.std.specs.Prelude.{◌≡◌, false, IfOk, Ok};
+ghost use Rattle.clap.specs.Built.{AddsArg, AddsSubcommand};
 ghost use Rattle.clap.specs.Walk.{rule_of};
 ghost use Rattle.clap.specs.Simple.{app_of};
+ghost use Rattle.clap.specs.declared.builder.command.Command.{Command};
 ghost use Rattle.clap.specs.declared.builder.command.Command.TheViews.{out-Command};
 ghost use Rattle.fast_words.specs.meaning.Commands.{number_rule, flag_rule, templates_rule, input_rule, with_limits, with_options, with_input, check_app, show_app, convert_app, fastcat_app, MakesApp};
 
@@ -66,6 +68,27 @@ fn number_arg<'a>(alloc: Global, name: &'a str, help: &'a str) -> Arg<'a>
         .help(help)
 }
 
+/// A command that was made, with one more argument.
+fn with_arg<'a>(
+    command: Result<Command<'a>, AllocError>,
+    arg: Arg<'a>,
+) -> Result<Command<'a>, AllocError>
+    ensures { IfOk result (λ new. (old : Command) × (command.entry ≡ Ok old) × AddsArg old arg.entry new) }
+{
+    command?.arg(arg)
+}
+
+/// A command with one more subcommand that was made.
+fn with_subcommand<'a>(
+    command: Command<'a>,
+    subcommand: Result<Command<'a>, AllocError>,
+) -> Result<Command<'a>, AllocError>
+    ensures { IfOk result (λ new. (inner : Command) × (subcommand.entry ≡ Ok inner)
+        × AddsSubcommand command.entry inner new) }
+{
+    command.subcommand(subcommand?)
+}
+
 /// A command with the options for the limits.
 fn with_limits<'a>(alloc: Global, command: Command<'a>) -> Result<Command<'a>, AllocError>
     requires { (out-Command command).has_globals ≡ false }
@@ -74,10 +97,9 @@ fn with_limits<'a>(alloc: Global, command: Command<'a>) -> Result<Command<'a>, A
     let texts = "The most bytes of a text, from 16 to 1048576; 1024 if not given";
     let elements = "The most elements of a sequence; 1000 if not given";
     let total = "The most elements of all sequences of a message; 1000 if not given";
-    command
-        .arg(number_arg(alloc, "max-text", texts))?
-        .arg(number_arg(alloc, "max-elements", elements))?
-        .arg(number_arg(alloc, "max-total", total))
+    let command = command.arg(number_arg(alloc, "max-text", texts));
+    let command = with_arg(command, number_arg(alloc, "max-elements", elements));
+    with_arg(command, number_arg(alloc, "max-total", total))
 }
 
 /// A command with the options that all of them have.
@@ -86,7 +108,19 @@ fn with_options<'a>(alloc: Global, command: Command<'a>) -> Result<Command<'a>, 
     ensures { IfOk result (MakesApp (with_options (app_of command.entry))) }
 {
     let explain = "Says behind the line on standard error, in words, what is wrong, and where";
-    with_limits(alloc, command)?.arg(flag_arg(alloc, "explain", explain))
+    with_arg(with_limits(alloc, command), flag_arg(alloc, "explain", explain))
+}
+
+/// A command that was made, with the options that all of them have.
+fn and_options<'a>(
+    alloc: Global,
+    command: Result<Command<'a>, AllocError>,
+) -> Result<Command<'a>, AllocError>
+    requires { IfOk command (λ c. (out-Command c).has_globals ≡ false) }
+    ensures { IfOk result (λ new. (old : Command) × (command.entry ≡ Ok old)
+        × MakesApp (with_options (app_of old)) new) }
+{
+    with_options(alloc, command?)
 }
 
 /// A command with the arguments for the templates, for the input and for hexadecimal digits.
@@ -99,10 +133,9 @@ fn with_input<'a>(
     requires { (out-Command command).has_globals ≡ false }
     ensures { IfOk result (MakesApp (with_input (app_of command.entry))) }
 {
-    command
-        .arg(templates_arg(alloc))?
-        .arg(input_arg(alloc, input))?
-        .arg(flag_arg(alloc, "hex", hex))
+    let command = command.arg(templates_arg(alloc));
+    let command = with_arg(command, input_arg(alloc, input));
+    with_arg(command, flag_arg(alloc, "hex", hex))
 }
 
 /// The subcommand that checks a template text.
@@ -112,8 +145,8 @@ fn check_command<'a>(alloc: Global) -> Result<Command<'a>, AllocError>
     let command = Command::new(alloc, "check")
         .about("Checks a template text, and says how large its set is")
         .after_help("Example: fastcat check templates.toml")
-        .arg(templates_arg(alloc))?;
-    with_options(alloc, command)
+        .arg(templates_arg(alloc));
+    and_options(alloc, command)
 }
 
 /// The subcommand that shows a stream.
@@ -126,8 +159,9 @@ fn show_command<'a>(alloc: Global) -> Result<Command<'a>, AllocError>
     let command = Command::new(alloc, "show")
         .about("Shows the messages of a FAST stream, a line for each event")
         .after_help("Example: fastcat show --hex @vectors stream.txt");
-    let command = with_input(alloc, command, input, hex)?.arg(flag_arg(alloc, "strict", strict))?;
-    with_options(alloc, command)
+    let command = with_input(alloc, command, input, hex);
+    let command = with_arg(command, flag_arg(alloc, "strict", strict));
+    and_options(alloc, command)
 }
 
 /// The subcommand that turns lines into a stream.
@@ -139,8 +173,8 @@ fn convert_command<'a>(alloc: Global) -> Result<Command<'a>, AllocError>
     let command = Command::new(alloc, "convert")
         .about("Turns lines, as show writes them, into a FAST stream")
         .after_help("Example: fastcat convert --hex @vectors lines.txt");
-    let command = with_input(alloc, command, input, hex)?;
-    with_options(alloc, command)
+    let command = with_input(alloc, command, input, hex);
+    and_options(alloc, command)
 }
 
 /// The whole command.
@@ -151,12 +185,12 @@ fn convert_command<'a>(alloc: Global) -> Result<Command<'a>, AllocError>
 pub fn fastcat_command<'a>(alloc: Global) -> Result<Command<'a>, AllocError>
     ensures { IfOk result (MakesApp fastcat_app) }
 {
-    Command::new(alloc, "fastcat")
+    let command = Command::new(alloc, "fastcat")
         .about("Reads and writes streams in the FAST encoding, version 1.1, by templates in TOML")
         .version(VERSION)
         .after_help(TEMPLATES_HELP)
-        .subcommand_required(true)
-        .subcommand(check_command(alloc)?)?
-        .subcommand(show_command(alloc)?)?
-        .subcommand(convert_command(alloc)?)
+        .subcommand_required(true);
+    let command = with_subcommand(command, check_command(alloc))?;
+    let command = with_subcommand(command, show_command(alloc))?;
+    with_subcommand(command, convert_command(alloc))
 }

@@ -67,7 +67,7 @@ in_place-both {ts = ts} {entries = entries} {s = s} {es = es} {n = n} {m = m} {c
     subst (λ b. InPlace ts entries (suc chain) s (more (reference name) (joined ds es)) n b m) (sym (then-assoc body is c)) (a_reference number t found same inner (in_place-both rest h))
 
 -- a node behind others
-one_longer : (old : List NodeData) (x : NodeData) → length (old ++ x ∷ []) ≡ suc (length old)
+pub one_longer : (old : List NodeData) (x : NodeData) → length (old ++ x ∷ []) ≡ suc (length old)
 one_longer old x = let l = length-append old (x ∷ []) in omega (arith, l)
 
 -- the node in front of a body, with its shape, and the body's nodes

@@ -1,5 +1,5 @@
 -- Chains that fit, and the extents that are found in rounds.
-use Rattle.std.proofs.Common.{◌≡◌, ◌≢◌, ℕ, zero, suc, ◌+◌, ◌<◌, ◌≤◌, List, [], ◌∷◌, refl, ap, sym, ◌∙◌, subst, arith, slice_get, length, replicate, Option, Some, None, true, ◌⊎◌, inl, inr}
+use Rattle.std.proofs.Common.{◌≡◌, ◌≢◌, ℕ, zero, suc, ◌+◌, ◌<◌, ◌≤◌, List, [], ◌∷◌, refl, ap, sym, ◌∙◌, subst, arith, slice_get, length, replicate, Option, Some, None, true, drop, map, get_or, ◌⊎◌, inl, inr}
 use Rattle.std.specs.Prelude.{max, All, AllPairs, Contains, IsSome, is_some, option_map}
 use Rattle.std.specs.List.{list_all}
 use Rattle.std.specs.Str.{bytes_eq}
@@ -8,6 +8,8 @@ use Rattle.std.proofs.lemmas.List.{length-replicate}
 use Rattle.std.proofs.lemmas.Option.{slice_get_within, slice_get-get_or, get_or_from_slice_get}
 use Rattle.std.proofs.lemmas.List.Elements.{All-contains, Contains-append_left, Contains-append_right, Contains-append_cases}
 use Rattle.fast_notation.specs.declared.extents.Extent.{Extent}
+use Rattle.fast_notation.specs.declared.written.WrittenTemplate.{WrittenTemplate}
+use Rattle.fast_notation.specs.device.WrittenSets.{written_data}
 use Rattle.fast_tree.specs.meaning.AsWritten.{Declared, scalar, by_parts, group, sequence, reference, DeclaredList, no_more, more, DeclaredTemplate, references, all_references}
 use Rattle.fast_tree.specs.device.Places.{place_of_name}
 use Rattle.fast_notation.specs.device.References.{KnowsReferences}
@@ -370,3 +372,13 @@ rounds_stay ts es n (suc m) all h =
     no_none [] k all at = none_some at
     no_none (e ∷ es) zero all at = false≢true (sym (ap is_some (some_is at)) ∙ (and_parts (is_some e) (list_all is_some es) all).0)
     no_none (e ∷ es) (suc k) all at = no_none es k (and_parts (is_some e) (list_all is_some es) all).1 at
+
+-- ---- one round
+
+-- the extent of the next template, in front of those of the others
+pub next_one : (of : List ℕ → Option Extent) (k : ℕ) (es : List (Option Extent)) (ts : List WrittenTemplate) (d : Option Extent) (t : WrittenTemplate) → k < length es → k < length ts
+    → next_extents of (drop k es) (map written_data (drop k ts)) ≡ or_extent (get_or es k d) (extent_by of (written_data (get_or ts k t)).fields nothing) ∷ next_extents of (drop (suc k) es) (map written_data (drop (suc k) ts))
+next_one of k [] ts d t inside there = absurd (omega arith)
+next_one of k (e ∷ es) [] d t inside there = absurd (omega arith)
+next_one of zero (e ∷ es) (x ∷ ts) d t inside there = refl
+next_one of (suc k) (e ∷ es) (x ∷ ts) d t inside there = next_one of k es ts d t (omega (arith, inside)) (omega (arith, there))

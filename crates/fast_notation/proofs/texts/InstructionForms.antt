@@ -5,7 +5,7 @@ use Rattle.fast_value.specs.declared.kinds.Kind.{Kind}
 use Rattle.fast_notation.specs.declared.written.WrittenOperator.{WrittenOperator}
 use Rattle.fast_notation.specs.declared.written.WrittenInstruction.{WrittenInstruction, the_lemmas}
 use Rattle.fast_notation.specs.declared.written.WrittenInstruction.TheVariants as V
-use Rattle.fast_tree.specs.meaning.AsWritten.{scalar, by_parts, group, sequence}
+use Rattle.fast_tree.specs.meaning.AsWritten.{scalar, by_parts, group, sequence, reference}
 use Rattle.fast_notation.specs.device.WrittenSets.{operator_data, instruction_data, fields_data}
 
 pub scalar_form : (name : String Global) (optional : Bool) (kind : Kind) (w : WrittenOperator) → instruction_data (V.Scalar name optional kind w) ≡ scalar (string_bytes name) optional kind (operator_data w)
@@ -20,6 +20,9 @@ group_form name optional fs = search (rules, the_lemmas)
 pub sequence_form : (name : String Global) (optional : Bool) (own : Option (String Global)) (w : WrittenOperator) (fs : Vec WrittenInstruction Global)
     → instruction_data (V.Sequence name optional own w fs) ≡ sequence (string_bytes name) optional (option_map string_bytes own) (operator_data w) (fields_data fs.items)
 sequence_form name optional own w fs = search (rules, the_lemmas)
+
+pub reference_form : (name : String Global) → instruction_data (V.Reference name) ≡ reference (string_bytes name)
+reference_form name = search (rules, the_lemmas)
 
 -- what follows from two facts of one success
 pub from_both : {T E P Q R : Type 0} (r : Result T E) → (P → Q → R) → OnOk r P → OnOk r Q → OnOk r R

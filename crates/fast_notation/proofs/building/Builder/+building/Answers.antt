@@ -1,19 +1,19 @@
-use Rattle.std.proofs.Common.{◌≡◌, ◌+◌, ◌*◌, [], suc, refl, map, length, ap, sym, ◌∙◌, subst, arith, string_bytes, false, slice_get, Some}
+use Rattle.std.proofs.Common.{◌≡◌, ◌+◌, ◌*◌, [], suc, refl, map, length, ap, sym, ◌∙◌, subst, arith, string_bytes, false, slice_get, Some, length-append}
 use Rattle.std.specs.Prelude.{option_map}
 use Rattle.std.proofs.lemmas.List.{length-map}
 use Rattle.std.proofs.lemmas.Option.{slice_get_within, slice_get_read}
 use Rattle.std.proofs.lemmas.Result.{on_ok_weaker}
 use Rattle.fast_notation.proofs.lists.Lists.{mapped_get}
-use Rattle.fast_tree.specs.meaning.AsWritten.{DeclaredTemplate, scalar, by_parts, reference, no_more, more, scalar_use, exponent_use, mantissa_use, length_use}
-use Rattle.fast_notation.specs.device.Built.{data_of, IsReady, CanBuild, IsBuilt}
-use Rattle.fast_notation.specs.device.EntryKeys.{scope_data, use_data, entries_of}
+use Rattle.fast_tree.specs.meaning.AsWritten.{DeclaredTemplate, reference, no_more, more, length_use}
+use Rattle.fast_notation.specs.device.Built.{data_of, CanBuild, IsBuilt}
+use Rattle.fast_notation.specs.device.EntryKeys.{scope_data, entries_of}
 use Rattle.fast_tree.specs.device.NodeData.{a_group as a_group_data, node_data}
 use Rattle.fast_tree.specs.device.Nodes.{field_data}
 use Rattle.fast_notation.specs.meaning.Uses.{IsField}
 use Rattle.fast_notation.specs.device.WrittenSets.{operator_data, instruction_data, fields_data, written_data}
-use Rattle.fast_notation.proofs.nodes.BuiltLists.{same_items, built_none, built_more, built_field, built_parts, built_group, built_sequence, built_reference}
-use Rattle.fast_notation.proofs.nodes.BuildingNeeds.{weight, weight_at, measure, next_smaller, can_build_next, room_for, can_build_group, length_ready, can_build_sequence, scalar_ready, exponent_ready, mantissa_ready, chain_some, can_build_reference, looked_up, some_is}
-use Rattle.fast_notation.proofs.texts.InstructionForms.{scalar_form, parts_form, group_form, sequence_form, from_both}
+use Rattle.fast_notation.proofs.nodes.BuiltLists.{same_items, one_longer, built_none, built_more, built_group, built_sequence, built_reference}
+use Rattle.fast_notation.proofs.nodes.BuildingNeeds.{weight, weight_at, measure, next_smaller, can_build_next, can_build_group, length_ready, can_build_sequence, chain_some, can_build_reference, looked_up, some_is}
+use Rattle.fast_notation.proofs.texts.InstructionForms.{scalar_form, parts_form, group_form, sequence_form, reference_form}
 use Rattle.fast_notation.proofs.building.Builder.+building.Goals as goal
 
 pub build_fields-loop-field-init : goal.build_fields-loop-field-init
@@ -38,103 +38,33 @@ build_fields-loop-field-preserved t c =
     built_more c.args.fields.now c.loop-field.field-index c.field-item.result (data_of c.args.nodes.now) (data_of c.loop-field.nodes) (data_of c.build_instruction.new.nodes) c.args.body.now.items c.loop-field.body.items c.build_instruction.new.body.items
     c.loop-field-test.true c.loop-field.invariant here
 
-pub build_instruction-field_of-requires-clause-ready :
-    goal.build_instruction-field_of-requires-clause-ready
-build_instruction-field_of-requires-clause-ready t c =
+pub build_instruction-build_scalar-requires-clause-can : goal.build_instruction-build_scalar-requires-clause-can
+build_instruction-build_scalar-requires-clause-can t c =
     let ts = map written_data c.args.self.now.set.now.templates.items in
     let es = entries_of c.args.self.now.entries.now in
     let s = scope_data c.args.at.scope in
     let n = length (data_of c.args.nodes.now) in
-    let name = string_bytes c.in-Scalar.name in
-    let w = operator_data c.in-Scalar.operator in
     let e = ap instruction_data c.in-Scalar.is ∙ scalar_form c.in-Scalar.name c.in-Scalar.optional c.in-Scalar.kind c.in-Scalar.operator in
-    let u : use_data c.scalar_use-used.result ≡ scalar_use name c.in-Scalar.optional c.in-Scalar.kind w = rw c.as_str-name.ensures.value at c.scalar_use-used.ensures.use_of in
-    subst (IsReady es s) (sym u) (scalar_ready name c.in-Scalar.optional c.in-Scalar.kind w n (subst (λ d. CanBuild ts es c.args.at.chain s (more d no_more) n) e c.requires.can))
+    rw c.as_str-name.ensures.value (subst (λ d. CanBuild ts es c.args.at.chain s (more d no_more) n) e c.requires.can)
 
-pub build_instruction-add_node-requires : goal.build_instruction-add_node-requires
-build_instruction-add_node-requires t c =
-    let ts = map written_data c.args.self.now.set.now.templates.items in
-    let es = entries_of c.args.self.now.entries.now in
-    let s = scope_data c.args.at.scope in
-    let n = length (data_of c.args.nodes.now) in
-    let d = scalar (string_bytes c.in-Scalar.name) c.in-Scalar.optional c.in-Scalar.kind (operator_data c.in-Scalar.operator) in
+pub build_instruction-returns-in-Scalar : goal.build_instruction-returns-in-Scalar
+build_instruction-returns-in-Scalar t c =
     let e = ap instruction_data c.in-Scalar.is ∙ scalar_form c.in-Scalar.name c.in-Scalar.optional c.in-Scalar.kind c.in-Scalar.operator in
-    room_for {ts = ts} {entries = es} {chain = c.args.at.chain} {s = s} d n (omega arith) (subst (λ d. CanBuild ts es c.args.at.chain s (more d no_more) n) e c.requires.can)
+    rw e (rw c.as_str-name.ensures.value at c.build_scalar.ensures)
 
-pub build_instruction-returns-in_ok-field-in-Scalar :
-    goal.build_instruction-returns-in_ok-field-in-Scalar
-build_instruction-returns-in_ok-field-in-Scalar t c =
-    let es = entries_of c.args.self.now.entries.now in
-    let s = scope_data c.args.at.scope in
-    let name = string_bytes c.in-Scalar.name in
-    let optional = c.in-Scalar.optional in
-    let kind = c.in-Scalar.kind in
-    let w = operator_data c.in-Scalar.operator in
-    let f = field_data c.in_ok-field-in-Scalar.field in
-    let e = ap instruction_data c.in-Scalar.is ∙ scalar_form c.in-Scalar.name optional kind c.in-Scalar.operator in
-    let u : use_data c.scalar_use-used.result ≡ scalar_use name optional kind w = rw c.as_str-name.ensures.value at c.scalar_use-used.ensures.use_of in
-    let is : IsField es s (scalar_use name optional kind w) f = subst (λ u. IsField es s u f) u c.in_ok-field-in-Scalar.ensures in
-    let nodes = rw c.as_str-name.ensures.value at c.add_node.ensures.nodes in
-    rw e (from_both c.add_node.result (λ n b. built_field name optional kind w f (data_of c.args.nodes.now) (data_of c.add_node.new.nodes) c.args.body.now.items c.add_node.new.body.items is n b) nodes c.add_node.ensures.body)
-
-pub build_instruction-field_of-requires-in-Parts-clause-ready :
-    goal.build_instruction-field_of-requires-in-Parts-clause-ready
-build_instruction-field_of-requires-in-Parts-clause-ready t c =
+pub build_instruction-build_parts-requires-clause-can : goal.build_instruction-build_parts-requires-clause-can
+build_instruction-build_parts-requires-clause-can t c =
     let ts = map written_data c.args.self.now.set.now.templates.items in
     let es = entries_of c.args.self.now.entries.now in
     let s = scope_data c.args.at.scope in
     let n = length (data_of c.args.nodes.now) in
-    let name = string_bytes c.in-Parts.name in
-    let v = operator_data c.in-Parts.exponent in
-    let w = operator_data c.in-Parts.mantissa in
     let e = ap instruction_data c.in-Parts.is ∙ parts_form c.in-Parts.name c.in-Parts.optional c.in-Parts.exponent c.in-Parts.mantissa in
-    let u : use_data c.exponent_use.result ≡ exponent_use name c.in-Parts.optional v = rw c.as_str-name-in-Parts.ensures.value at c.exponent_use.ensures.use_of in
-    subst (IsReady es s) (sym u) (exponent_ready name c.in-Parts.optional v w n (subst (λ d. CanBuild ts es c.args.at.chain s (more d no_more) n) e c.requires.can))
+    rw c.as_str-name-in-Parts.ensures.value (subst (λ d. CanBuild ts es c.args.at.chain s (more d no_more) n) e c.requires.can)
 
-pub build_instruction-field_of-requires-in-Parts-2-clause-ready :
-    goal.build_instruction-field_of-requires-in-Parts-2-clause-ready
-build_instruction-field_of-requires-in-Parts-2-clause-ready t c =
-    let ts = map written_data c.args.self.now.set.now.templates.items in
-    let es = entries_of c.args.self.now.entries.now in
-    let s = scope_data c.args.at.scope in
-    let n = length (data_of c.args.nodes.now) in
-    let name = string_bytes c.in-Parts.name in
-    let v = operator_data c.in-Parts.exponent in
-    let w = operator_data c.in-Parts.mantissa in
+pub build_instruction-returns-in-Parts : goal.build_instruction-returns-in-Parts
+build_instruction-returns-in-Parts t c =
     let e = ap instruction_data c.in-Parts.is ∙ parts_form c.in-Parts.name c.in-Parts.optional c.in-Parts.exponent c.in-Parts.mantissa in
-    let u : use_data c.mantissa_use.result ≡ mantissa_use name w = rw c.as_str-name-in-Parts.ensures.value at c.mantissa_use.ensures.use_of in
-    subst (IsReady es s) (sym u) (mantissa_ready name c.in-Parts.optional v w n (subst (λ d. CanBuild ts es c.args.at.chain s (more d no_more) n) e c.requires.can))
-
-pub build_instruction-add_node-requires-in-Parts :
-    goal.build_instruction-add_node-requires-in-Parts
-build_instruction-add_node-requires-in-Parts t c =
-    let ts = map written_data c.args.self.now.set.now.templates.items in
-    let es = entries_of c.args.self.now.entries.now in
-    let s = scope_data c.args.at.scope in
-    let n = length (data_of c.args.nodes.now) in
-    let d = by_parts (string_bytes c.in-Parts.name) c.in-Parts.optional (operator_data c.in-Parts.exponent) (operator_data c.in-Parts.mantissa) in
-    let e = ap instruction_data c.in-Parts.is ∙ parts_form c.in-Parts.name c.in-Parts.optional c.in-Parts.exponent c.in-Parts.mantissa in
-    room_for {ts = ts} {entries = es} {chain = c.args.at.chain} {s = s} d n (omega arith) (subst (λ d. CanBuild ts es c.args.at.chain s (more d no_more) n) e c.requires.can)
-
-pub build_instruction-returns-in_ok-mantissa-in-Parts :
-    goal.build_instruction-returns-in_ok-mantissa-in-Parts
-build_instruction-returns-in_ok-mantissa-in-Parts t c =
-    let es = entries_of c.args.self.now.entries.now in
-    let s = scope_data c.args.at.scope in
-    let name = string_bytes c.in-Parts.name in
-    let optional = c.in-Parts.optional in
-    let v = operator_data c.in-Parts.exponent in
-    let w = operator_data c.in-Parts.mantissa in
-    let f = field_data c.in_ok-exponent-in-Parts.exponent in
-    let g = field_data c.in_ok-mantissa-in-Parts.mantissa in
-    let e = ap instruction_data c.in-Parts.is ∙ parts_form c.in-Parts.name optional c.in-Parts.exponent c.in-Parts.mantissa in
-    let u : use_data c.exponent_use.result ≡ exponent_use name optional v = rw c.as_str-name-in-Parts.ensures.value at c.exponent_use.ensures.use_of in
-    let x : use_data c.mantissa_use.result ≡ mantissa_use name w = rw c.as_str-name-in-Parts.ensures.value at c.mantissa_use.ensures.use_of in
-    let is_f : IsField es s (exponent_use name optional v) f = subst (λ u. IsField es s u f) u c.in_ok-exponent-in-Parts.ensures in
-    let is_g : IsField es s (mantissa_use name w) g = subst (λ u. IsField es s u g) x c.in_ok-mantissa-in-Parts.ensures in
-    let nodes = rw c.as_str-name-in-Parts.ensures.value at c.add_node-in-Parts.ensures.nodes in
-    rw e (from_both c.add_node-in-Parts.result
-    (λ n b. built_parts name optional v w f g (data_of c.args.nodes.now) (data_of c.add_node-in-Parts.new.nodes) c.args.body.now.items c.add_node-in-Parts.new.body.items is_f is_g n b) nodes c.add_node-in-Parts.ensures.body)
+    rw e (rw c.as_str-name-in-Parts.ensures.value at c.build_parts.ensures)
 
 pub build_instruction-build_group-requires : goal.build_instruction-build_group-requires
 build_instruction-build_group-requires t c =
@@ -148,9 +78,8 @@ build_instruction-build_group-requires t c =
     let w : weight (more (instruction_data c.args.instruction.now) no_more) ≡ suc (weight (fields_data c.in-Group.fields.items)) + 0 = ap (λ i. weight (more i no_more)) e in
     rw c.deref.ensures.value (omega (arith, d, w), (c.requires.set, can))
 
-pub build_instruction-field_of-requires-in-Sequence-clause-ready :
-    goal.build_instruction-field_of-requires-in-Sequence-clause-ready
-build_instruction-field_of-requires-in-Sequence-clause-ready t c =
+pub build_instruction-length_of-requires-clause-ready : goal.build_instruction-length_of-requires-clause-ready
+build_instruction-length_of-requires-clause-ready t c =
     let ts = map written_data c.args.self.now.set.now.templates.items in
     let es = entries_of c.args.self.now.entries.now in
     let s = scope_data c.args.at.scope in
@@ -159,8 +88,7 @@ build_instruction-field_of-requires-in-Sequence-clause-ready t c =
     let own = option_map string_bytes c.in-Sequence.length_name in
     let w = operator_data c.in-Sequence.length in
     let e = ap instruction_data c.in-Sequence.is ∙ sequence_form c.in-Sequence.name c.in-Sequence.optional c.in-Sequence.length_name c.in-Sequence.length c.in-Sequence.fields in
-    let u : use_data c.length_use-used.result ≡ length_use name c.in-Sequence.optional own w = rw c.as_str-name-in-Sequence.ensures.value at c.length_use-used.ensures.use_of in
-    subst (IsReady es s) (sym u) (length_ready name c.in-Sequence.optional own w (fields_data c.in-Sequence.fields.items) n (subst (λ d. CanBuild ts es c.args.at.chain s (more d no_more) n) e c.requires.can))
+    rw c.as_str-name-in-Sequence.ensures.value (length_ready name c.in-Sequence.optional own w (fields_data c.in-Sequence.fields.items) n (subst (λ d. CanBuild ts es c.args.at.chain s (more d no_more) n) e c.requires.can))
 
 pub build_instruction-build_sequence-requires : goal.build_instruction-build_sequence-requires
 build_instruction-build_sequence-requires t c =
@@ -264,3 +192,99 @@ build_reference-returns t c =
     (λ h. subst (λ chain. IsBuilt ts es chain (scope_data c.args.at.scope) (more (reference c.args.name.now) no_more) old new before after) at.ensures.chain
     (built_reference c.args.name.now k (written_data w) old new before after here same (rw (at.ensures.scope, c.deref.ensures.value) at h)))
     c.build_fields.ensures
+
+pub build_group-add_node-requires : goal.build_group-add_node-requires
+build_group-add_node-requires t c =
+    let few = c.requires.1.1.1.few in
+    omega (arith, few)
+
+pub build_sequence-add_node-requires : goal.build_sequence-add_node-requires
+build_sequence-add_node-requires t c =
+    let few = c.requires.1.1.1.few in
+    omega (arith, few)
+
+pub build_group-build_fields-requires : goal.build_group-build_fields-requires
+build_group-build_fields-requires t c =
+    let ts = map written_data c.args.self.now.set.now.templates.items in
+    let d : measure ts c.args.at.chain (3 * weight (fields_data c.args.fields.now) + 2) ≡ t = c.requires.1.0 in
+    let long : length (data_of c.add_node.new.nodes) ≡ suc (length (data_of c.args.nodes.now)) = ap length c.in_ok-add_node.ensures.nodes ∙ one_longer (data_of c.args.nodes.now) _ in (
+      omega (arith, d),
+      (c.requires.1.1.0, subst (CanBuild ts (entries_of c.args.self.now.entries.now) c.args.at.chain (scope_data c.args.at.scope) (fields_data c.args.fields.now)) (sym long) c.requires.1.1.1),
+    )
+
+pub build_sequence-build_fields-requires : goal.build_sequence-build_fields-requires
+build_sequence-build_fields-requires t c =
+    let ts = map written_data c.args.self.now.set.now.templates.items in
+    let d : measure ts c.args.at.chain (3 * weight (fields_data c.args.fields.now) + 2) ≡ t = c.requires.1.0 in
+    let long : length (data_of c.add_node.new.nodes) ≡ suc (length (data_of c.args.nodes.now)) = ap length c.in_ok-add_node.ensures.nodes ∙ one_longer (data_of c.args.nodes.now) _ in (
+      omega (arith, d),
+      (c.requires.1.1.0, subst (CanBuild ts (entries_of c.args.self.now.entries.now) c.args.at.chain (scope_data c.args.at.scope) (fields_data c.args.fields.now)) (sym long) c.requires.1.1.1),
+    )
+
+pub build_instruction-build_scalar-requires-clause-set : goal.build_instruction-build_scalar-requires-clause-set
+build_instruction-build_scalar-requires-clause-set t c = c.requires.set
+
+pub build_instruction-build_parts-requires-clause-set : goal.build_instruction-build_parts-requires-clause-set
+build_instruction-build_parts-requires-clause-set t c = c.requires.set
+
+pub build_instruction-length_of-requires-clause-few : goal.build_instruction-length_of-requires-clause-few
+build_instruction-length_of-requires-clause-few t c = c.requires.set.few
+
+pub build_instruction-build_reference-requires : goal.build_instruction-build_reference-requires
+build_instruction-build_reference-requires t c =
+    let ts = map written_data c.args.self.now.set.now.templates.items in
+    let es = entries_of c.args.self.now.entries.now in
+    let s = scope_data c.args.at.scope in
+    let n = length (data_of c.args.nodes.now) in
+    let e = ap instruction_data c.in-Reference.is ∙ reference_form c.in-Reference.name in
+    let can = subst (λ d. CanBuild ts es c.args.at.chain s (more d no_more) n) e c.requires.can in
+    let d : measure ts c.args.at.chain (3 * weight (more (instruction_data c.args.instruction.now) no_more)) ≡ t = c.decreases in
+    let w : weight (more (instruction_data c.args.instruction.now) no_more) ≡ suc 0 + 0 = ap (λ i. weight (more i no_more)) e in
+    rw c.as_str-in-Reference.ensures.value (omega (arith, d, w), (c.requires.set, can))
+
+pub build_instruction-returns-in-Group : goal.build_instruction-returns-in-Group
+build_instruction-returns-in-Group t c =
+    let e = ap instruction_data c.in-Group.is ∙ group_form c.in-Group.name c.in-Group.optional c.in-Group.fields in
+    rw e (rw (c.as_str.ensures.value, c.deref.ensures.value) at c.build_group.ensures)
+
+pub build_instruction-returns-in_ok-length-in-Sequence : goal.build_instruction-returns-in_ok-length-in-Sequence
+build_instruction-returns-in_ok-length-in-Sequence t c =
+    let es = entries_of c.args.self.now.entries.now in
+    let s = scope_data c.args.at.scope in
+    let name = string_bytes c.in-Sequence.name in
+    let own = option_map string_bytes c.in-Sequence.length_name in
+    let w = operator_data c.in-Sequence.length in
+    let f = field_data c.in_ok-length-in-Sequence.length in
+    let e = ap instruction_data c.in-Sequence.is ∙ sequence_form c.in-Sequence.name c.in-Sequence.optional c.in-Sequence.length_name c.in-Sequence.length c.in-Sequence.fields in
+    let is : IsField es s (length_use name c.in-Sequence.optional own w) f = subst (λ n. IsField es s (length_use n c.in-Sequence.optional own w) f) c.as_str-name-in-Sequence.ensures.value c.in_ok-length-in-Sequence.ensures in
+    let there = rw (c.as_str-name-in-Sequence.ensures.value, c.deref-in-Sequence.ensures.value) at c.build_sequence.ensures in
+    rw e (on_ok_weaker c.build_sequence.result (λ h. h c.in-Sequence.optional own w is) there)
+
+pub build_instruction-returns-in-Reference : goal.build_instruction-returns-in-Reference
+build_instruction-returns-in-Reference t c =
+    let e = ap instruction_data c.in-Reference.is ∙ reference_form c.in-Reference.name in
+    rw e (rw c.as_str-in-Reference.ensures.value at c.build_reference.ensures)
+
+pub build_group-set_shape-requires : goal.build_group-set_shape-requires
+build_group-set_shape-requires t c =
+    let mid = data_of c.add_node.new.nodes in
+    let k = c.args.nodes.now.ok in
+    let l = length-map c.args.nodes.now.items node_data in
+    let n = c.len-number.ensures in
+    let long : length mid ≡ suc (length (data_of c.args.nodes.now)) = ap length c.in_ok-add_node.ensures.nodes ∙ one_longer (data_of c.args.nodes.now) _ in
+    let more = ap length c.in_ok-build_fields.ensures.nodes ∙ length-append mid _ in
+    let all = length-map c.build_fields.new.nodes.items node_data in
+    let here = ap length c.deref_mut.ensures.value in
+    omega (arith, k, l, n, long, more, all, here)
+
+pub build_sequence-set_shape-requires : goal.build_sequence-set_shape-requires
+build_sequence-set_shape-requires t c =
+    let mid = data_of c.add_node.new.nodes in
+    let k = c.args.nodes.now.ok in
+    let l = length-map c.args.nodes.now.items node_data in
+    let n = c.len-number.ensures in
+    let long : length mid ≡ suc (length (data_of c.args.nodes.now)) = ap length c.in_ok-add_node.ensures.nodes ∙ one_longer (data_of c.args.nodes.now) _ in
+    let more = ap length c.in_ok-build_fields.ensures.nodes ∙ length-append mid _ in
+    let all = length-map c.build_fields.new.nodes.items node_data in
+    let here = ap length c.deref_mut.ensures.value in
+    omega (arith, k, l, n, long, more, all, here)

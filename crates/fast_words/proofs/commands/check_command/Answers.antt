@@ -1,0 +1,19 @@
+use Rattle.std.proofs.Common.{codes, ap, ◌∙◌, ◌≡◌, rules, false}
+use Rattle.std.proofs.lemmas.Result.{IfOk-weaker}
+use Rattle.clap.specs.Simple.{app_of, app_of_fields, new_app}
+use Rattle.clap.specs.declared.builder.command.Command.TheViews.{out-Command}
+use Rattle.fast_words.specs.meaning.Commands.{templates_rule}
+use Rattle.fast_words.proofs.Making.{makes_rule, makes_options_of, still_local}
+use Rattle.fast_words.proofs.commands.check_command.Goals as goal
+
+pub returns : goal.returns
+returns c =
+    let bare : app_of c.after_help.result ≡ new_app (codes "check") = ap app_of_fields c.after_help.ensures ∙ ap app_of_fields c.about.ensures ∙ c.new.ensures.app in
+    let local : (out-Command c.after_help.result).has_globals ≡ false = search rules in
+    let one = IfOk-weaker c.arg-command.result _ _ (λ r h. makes_rule _ templates_rule c.after_help.result r c.templates_arg.result (record { is = bare; local = local }) c.templates_arg.ensures.rule c.templates_arg.ensures.local h) c.arg-command.ensures in
+    IfOk-weaker c.and_options.result _ _ (makes_options_of _ c.arg-command.result one) c.and_options.ensures
+
+pub and_options-requires : goal.and_options-requires
+and_options-requires c =
+    let local : (out-Command c.after_help.result).has_globals ≡ false = search rules in
+    IfOk-weaker c.arg-command.result _ _ (λ r h. still_local c.after_help.result r c.templates_arg.result local c.templates_arg.ensures.local h) c.arg-command.ensures
