@@ -5,3 +5,4 @@ pub mod Greatest
 pub mod TextNodes
 pub mod UsableFields
 pub mod BodyBits
+pub mod Growing

@@ -1,9 +1,12 @@
-use Rattle.std.proofs.Common.{◌≡◌, suc, true, subst, arith}
+use Rattle.std.proofs.Common.{◌≡◌, suc, true, refl, subst, arith}
 use Rattle.std.specs.Prelude.{pos, option_map}
 use Rattle.fast_wire.specs.meaning.Entities.{number}
 use Rattle.fast_wire.specs.meaning.Integers.{Means}
 use Rattle.fast_wire.proofs.numbers.Judging.{not_so, above_top}
 use Rattle.fast_wire.proofs.reads.judge_nullable_unsigned.Goals as goal
+
+pub returns-then-is_refused_unsigned-clause-overlong : goal.returns-then-is_refused_unsigned-clause-overlong
+returns-then-is_refused_unsigned-clause-overlong c = (λ _. c.if-is_refused_unsigned.ensures.0 refl, λ _. refl)
 
 pub returns-then-x-from-clause-outside : goal.returns-then-x-from-clause-outside
 returns-then-x-from-clause-outside c =
