@@ -129,7 +129,7 @@ impl<'a> Walk<'a> {
         Ok(())
     }
 
-    /// Walks from a template, where it was not met.
+    /// Walks from a template, unless it was met before.
     fn walk_from(&mut self, template: usize, turns: usize) -> Result<(), AllocError>
         requires { template < length self.old.graph.now }
         ensures { self.new.graph ≡ self.old.graph }
