@@ -11,7 +11,7 @@ use Rattle.fast_stream.specs.device.Readers.{Reader}
 use Rattle.fast_units.specs.device.Settling.{IsLastUnit}
 use Rattle.fast_units.specs.device.Stages.{IsFieldUnit}
 use Rattle.fast_units.specs.device.Words.{IsKeptCut}
-use Rattle.fast_units.specs.device.UnitFronts.{IsNumberStage, IsEntityKept, IsNextStage, IsNextOf, SettlesOnly, settled}
+use Rattle.fast_units.specs.device.UnitFronts.{IsNumberStage, IsBytesStage, IsEntityKept, IsNextStage, IsNextOf, SettlesOnly, settled}
 use Rattle.fast_units.specs.device.TextDecisions.{HasBytes}
 use Rattle.fast_units.specs.declared.source.ValueSource.{ValueSource}
 use Rattle.fast_units.specs.declared.stages.Stage.{Stage}
@@ -80,7 +80,16 @@ settles_settled (Whole x n) q e = subst (λ a. SettlesOnly a) (sym e) tt
 settles_settled (Wrong c n) q e = subst (λ a. SettlesOnly a) (sym e) tt
 settles_settled Cut q e = subst (λ a. SettlesOnly a) (sym e) tt
 
+pub cut_settled : (p : Progress ValueSource) (q : Progress FieldStep) → q ≡ settled p → q ≡ Cut → p ≡ Cut
+cut_settled (Whole x n) q e i = absurd (let k = sym e ∙ i in cc k)
+cut_settled (Wrong c n) q e i = absurd (let k = sym e ∙ i in cc k)
+cut_settled Cut q e i = refl
+
 -- A run of bytes is no integer.
 pub no_number : (f : FieldData) (stage : Stage) → ((n : ℕ) × (stage ≡ Vector n)) ⊎ ((k : ℤ) × (n : ℕ) × (stage ≡ PartVector k n)) → IsNumberStage f stage → ⊥
 no_number f stage (inl (n, e)) h = subst (λ s. IsNumberStage f s) e h
 no_number f stage (inr (k, n, e)) h = subst (λ s. IsNumberStage f s) e h
+
+pub no_bytes : (l : Bounds) (f : FieldData) (p : PreviousData) (stage : Stage) (front : List ℕ) → ((e : ℤ) × (stage ≡ Mantissa e)) ⊎ ((e : ℤ) × (stage ≡ MantissaDelta e)) → IsBytesStage l f p stage front → ⊥
+no_bytes l f p stage front (inl (e, i)) h = subst (λ s. IsBytesStage l f p s front) i h
+no_bytes l f p stage front (inr (e, i)) h = subst (λ s. IsBytesStage l f p s front) i h
