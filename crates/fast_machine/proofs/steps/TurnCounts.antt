@@ -344,6 +344,10 @@ passed way set l n t t' counted counted' c c' i next turns same left frames h =
     fewer : (i b f e : ℕ) → 1 ≤ i → b + f + e + 1 ≤ i + b + f + e + 0
     fewer i b f e h = omega (arith, h)
 
+-- Bits of the map are used up.
+pub turns_used : (way : Way) (set : Set) (l : Limits) (n : ℕ) (m m' : Machine) → m' ≡ record m { cursor = record m.cursor { used = m'.cursor.used; ends = m'.cursor.ends } } → HasTurns way set l 1 n m → HasTurns way set l 1 n m'
+turns_used way set l n m m' same h = subst (λ (x : Machine). HasTurns way set l 1 n x) (sym same) (record { each = h.each; body = h.body; frames = h.frames; most = h.most; all = h.all })
+
 -- A fault ends a turn that is counted.
 pub fault_turns : (way : Way) (set : Set) (l : Limits) (n : ℕ) (m m' : Machine) (result : Result Turn FaultCode) (code : FaultCode) → result ≡ Err code → m'.turns.count ≡ m.turns.count → HasTurns way set l 1 n m → HasTurnsBehind result way set l n m'
 fault_turns way set l n m m' result code is same h = rw (is, same) (turns_taken way set l n m.turns.count m.counted m.cursor h)
