@@ -334,7 +334,7 @@ can_turn_slots set l m slots h terms = record {
 }
 
 -- So has one that has used a bit.
-used_by : (set : Set) (l : Limits) (m : Machine) (u v : ℕ) → CanTurn set l m → CanTurn set l (record m { cursor = record m.cursor { used = u; ends = v } })
+pub used_by : (set : Set) (l : Limits) (m : Machine) (u v : ℕ) → CanTurn set l m → CanTurn set l (record m { cursor = record m.cursor { used = u; ends = v } })
 used_by set l m u v h = record {
   supplied = supplied_like set l m (record m { cursor = record m.cursor { used = u; ends = v } }) h.supplied (record { terms = refl; text = refl; joined = refl; identifier = refl; rests = refl; latest = refl }) h.supplied.counted;
   placed = record { below = h.placed.below; nested = h.placed.nested; frames = h.placed.frames };
