@@ -6,6 +6,7 @@ use Rattle.fast_machine.proofs.streams.Running.{fewer_left, so_far_as, so_far_on
 use Rattle.std.proofs.Math.Nat.{le_refl}
 use Rattle.fast_machine.specs.device.Steps.{IsStep}
 use Rattle.fast_machine.specs.declared.machine.Machine.{Machine}
+use Rattle.fast_loop.proofs.arms.Walks.{not_more, so_far_none}
 use Rattle.fast_loop.proofs.walking.general_step.Goals as goal
 
 pub returns-then-not-goes_on-clause-step : goal.returns-then-not-goes_on-clause-step
@@ -206,3 +207,41 @@ overflow_sub-rest g c =
     let left = c.loop-quick.left.now in
     let fewer = fewer_left takes stops set l left c.in-Some.quick.bytes (length rest) c.in-Some.ensures.some c.in-Some.ensures.step.within c.loop-quick.invariant.far.within in
     omega (arith, fewer)
+
+pub overflow_sub-rest-then-left-rest : goal.overflow_sub-rest-then-left-rest
+overflow_sub-rest-then-left-rest g c = c.loop-quick.invariant.far.within
+
+pub slice_bounds-left-count-then-waits_at_once : goal.slice_bounds-left-count-then-waits_at_once
+slice_bounds-left-count-then-waits_at_once g c = 
+    let takes = g.S.Sink.takes in
+    let stops = g.S.Sink.stops in
+    let set = set_of c.args.templates.now in
+    let l = c.args.limits.now in
+    let left = c.loop-quick.left.now in
+    let was = c.in_default.ensures.none in
+    let b = c.take_last_number.new.self in
+    let mid = c.take_last_number.new.sink in
+    let yes = c.if-waits_at_once.true in
+    let step = c.take_slowly-step.ensures.step b mid (c.waits_at_once.ensures.hands yes) (c.waits_at_once.ensures.turns yes) in
+    step.within
+
+pub overflow_sub-bytes : goal.overflow_sub-bytes
+overflow_sub-bytes g c = 
+    let takes = g.S.Sink.takes in
+    let stops = g.S.Sink.stops in
+    let set = set_of c.args.templates.now in
+    let l = c.args.limits.now in
+    let left = c.loop-quick.left.now in
+    let was = c.in_default.ensures.none in
+    let b = c.take_last_number.new.self in
+    let mid = c.take_last_number.new.sink in
+    let yes = c.if-waits_at_once.true in
+    let step = c.take_slowly-step.ensures.step b mid (c.waits_at_once.ensures.hands yes) (c.waits_at_once.ensures.turns yes) in
+    not_more left c.take_slowly-step.result.bytes (length c.args.rest.now) step.within c.loop-quick.invariant.far.within
+
+pub loop-quick-init : goal.loop-quick-init
+loop-quick-init g c = record {
+  far = so_far_none g.S.Sink.takes g.S.Sink.stops (set_of c.args.templates.now) c.args.limits.now c.args.machine.now c.args.rest.now c.args.sink.now c.requires.turn;
+  waits = c.requires.waits;
+  same = λ e. (refl, refl);
+}
