@@ -1,6 +1,6 @@
 -- The length of a sequence, and what follows.
-use Rattle.std.proofs.Common.{refl, sym, ap, ◌∙◌, subst, inl, arith}
-use Rattle.std.specs.Prelude.{◌≡◌, ◌≢◌, ℕ, ◌+◌, ◌<◌, ◌≤◌, Bool, true, false, List, [], ◌∷◌, length, take, drop, slice_get, pos, Option, Some, None, option_map, Result, Ok, Err, if◌then◌else◌, Vec}
+use Rattle.std.proofs.Common.{refl, sym, ap, ◌∙◌, subst, inl}
+use Rattle.std.specs.Prelude.{◌≡◌, ◌≢◌, ℕ, ◌+◌, ◌≤◌, Bool, true, false, List, [], take, drop, slice_get, pos, Option, Some, None, option_map, Result, Ok, Err, if◌then◌else◌, Vec}
 use Rattle.std.specs.Global.{Global}
 use Rattle.fast_fronts.specs.declared.fronts.First.TheVariants as First
 use Rattle.fast_fronts.specs.device.Fronts.{IsFirstInt}
@@ -42,7 +42,6 @@ use Rattle.fast_units.specs.device.Taking.{Turns as TurnsTo}
 use Rattle.fast_units.proofs.Deciding.{no_entry}
 use Rattle.fast_items.proofs.IntegerItems.{sent_item}
 use Rattle.fast_units.proofs.Turning.{turns_as, turns_done}
-use Rattle.fast_cursor.specs.device.Segments.{first_node}
 use Rattle.fast_cursor.specs.device.Cursors.{CursorData, bits_left}
 use Rattle.fast_cursor.specs.device.Places.{at_place}
 use Rattle.fast_machine.specs.declared.machine.Machine.{Machine}
@@ -213,8 +212,3 @@ module _ {S : Type 0} (takes stops : S → EventData → S → Type 0) (set : Se
           (λ way k w. turns way k
           (length_passed way set l k t.count t.count m.counted (m.counted + count) before.cursor c h.at.0 f body count h.at.3 refl refl few (claim_within l m.counted claimed count fits)
           (ap (λ (x : CursorData). x.left) is) (ap (λ (x : CursorData). x.frames) is) w))
-
--- Where a node is next, something is left.
-pub first_some : (ns : List ℕ) (n : ℕ) → first_node ns ≡ Some n → 0 < length ns
-first_some [] n e = absurd (cc e)
-first_some (k ∷ ns) n e = omega arith

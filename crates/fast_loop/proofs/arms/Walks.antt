@@ -1,7 +1,6 @@
 -- Steps of the machine's loop, one after the other.
-use Rattle.std.proofs.Common.{refl, sym, ap, ◌∙◌, subst, arith}
-use Rattle.std.specs.Prelude.{◌≡◌, ◌≢◌, ℕ, ◌+◌, ◌*◌, ◌-◌, ◌≤◌, List, length, take, drop, ◌++◌, Result, Ok, Err}
-use Rattle.std.proofs.Math.Nat.{le_refl}
+use Rattle.std.proofs.Common.{refl, sym, ap, ◌∙◌, subst}
+use Rattle.std.specs.Prelude.{◌≡◌, ◌≢◌, ℕ, ◌-◌, ◌≤◌, List, length, drop, Result, Ok, Err}
 use Rattle.std.proofs.lemmas.List.{take_rest, length-drop}
 use Rattle.fast_value.specs.declared.settings.Limits.{Limits}
 use Rattle.fast_stream.specs.meaning.Events.{EventData}
@@ -15,10 +14,9 @@ use Rattle.fast_machine.specs.declared.machine.Turn.TheVariants.{Waits}
 use Rattle.fast_machine.specs.declared.quick_units.UnitTaken.{UnitTaken}
 use Rattle.fast_loop.specs.declared.spot.Spot.{Spot}
 use Rattle.fast_loop.specs.declared.spot.Went.{Went}
-use Rattle.fast_machine.specs.device.Positions.{placed, Set, tree_in, CanTurn, turning}
-use Rattle.fast_machine.specs.device.TurnsLeft.{HasTurns, most_by}
+use Rattle.fast_machine.specs.device.Positions.{placed, Set}
 use Rattle.fast_loop.specs.device.Arms.{IsAtSpot, WentBy, HasWent, ended}
-use Rattle.fast_machine.specs.device.Steps.{IsStep, FedBehind}
+use Rattle.fast_machine.specs.device.Steps.{IsStep}
 use Rattle.fast_machine.proofs.streams.Running.{IsSoFar, so_far_step, so_far_end}
 
 module _ {S : Type 0} (takes stops : S → EventData → S → Type 0) (set : Set) (l : Limits) (m : Machine) (from : Spot) (s : S) where
@@ -81,22 +79,3 @@ module _ {S : Type 0} (takes stops : S → EventData → S → Type 0) (set : Se
       by : (o : Result Unit FaultCode) (t : Turn) → ended o ≡ Ok t → t ≡ Waits
       by (Ok u) t e = sym (cc e)
       by (Err c) t e = absurd (cc e)
-
--- What is left behind so many bytes is no more than there was.
-pub not_more : (rest : List ℕ) (n k : ℕ) → n ≤ length rest → length rest ≤ k → length (take (length rest - n) (drop n rest)) ≤ k
-not_more rest n k inside within = rw (take_rest rest n, length-drop n rest) (omega (arith, inside, within))
-
--- Before the first step.
-plus_none : (n d w : ℕ) → d ≡ 0 → n ≡ n + d * w
-plus_none n d w e = rw e (omega arith)
-
-pub so_far_none : {S : Type 0} (takes stops : S → EventData → S → Type 0) (set : Set) (l : Limits) (m : Machine) (piece : List ℕ) (s : S) → CanTurn set l m → IsSoFar takes stops set l m piece s piece s m
-so_far_none takes stops set l m piece s can =
-    let none : length piece - length piece ≡ 0 = omega arith in
-    record {
-      within = le_refl (length piece);
-      is = ap (λ (k : ℕ). drop k piece) (sym none);
-      runs = λ u o t to h. subst (λ (k : ℕ). FedBehind takes stops (tree_in set) l (turning set l m) s (take k piece ++ u) o t to) (sym none) h;
-      turn = can;
-      turns = λ way n h. subst (λ (k : ℕ). HasTurns way set l 0 k m) (plus_none n (length piece - length piece) (1 + most_by way (tree_in set) l) none) h;
-    }

@@ -11,7 +11,8 @@ use Rattle.fast_machine.specs.device.Positions.{placed, set_of, run_in}
 use Rattle.fast_loop.specs.device.Arms.{IsLengthTaken}
 use Rattle.fast_tree.specs.device.Numbers.{numbers_of, AreBelow}
 use Rattle.fast_machine.specs.declared.machine.Turn.TheVariants.{Silent}
-use Rattle.fast_loop.proofs.arms.Lengths.{sequence_taken, absent_step, first_some}
+use Rattle.fast_loop.proofs.arms.Lengths.{sequence_taken, absent_step}
+use Rattle.fast_loop.proofs.arms.Before.{first_some}
 use Rattle.fast_loop.proofs.arms.Taken.{took_handed}
 use Rattle.fast_loop.proofs.segment_arms.sequence_arm.Goals as goal
 

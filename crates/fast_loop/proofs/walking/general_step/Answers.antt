@@ -6,7 +6,7 @@ use Rattle.fast_machine.proofs.streams.Running.{fewer_left, so_far_as, so_far_on
 use Rattle.std.proofs.Math.Nat.{le_refl}
 use Rattle.fast_machine.specs.device.Steps.{IsStep}
 use Rattle.fast_machine.specs.declared.machine.Machine.{Machine}
-use Rattle.fast_loop.proofs.arms.Walks.{not_more, so_far_none}
+use Rattle.fast_loop.proofs.arms.Before.{not_more, so_far_none}
 use Rattle.fast_loop.proofs.walking.general_step.Goals as goal
 
 pub returns-then-not-goes_on-clause-step : goal.returns-then-not-goes_on-clause-step
