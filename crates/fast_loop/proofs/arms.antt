@@ -1,4 +1,5 @@
 -- What the arms of the machine's loop do.
+pub mod Before
 pub mod Passed
 pub mod Taken
 pub mod Unsent

@@ -1,6 +1,6 @@
 -- Units of fields, from the functions that take them to the machine that calls these.
-use Rattle.std.proofs.Common.{refl, sym, ◌∙◌, subst}
-use Rattle.std.specs.Prelude.{◌≡◌, ℕ, List, []}
+use Rattle.std.proofs.Common.{refl, sym, ◌∙◌, subst, inl, inr}
+use Rattle.std.specs.Prelude.{◌≡◌, ℕ, ℤ, ◌⊎◌, List, []}
 use Rattle.fast_value.specs.meaning.Kinds.{decimals, texts, family}
 use Rattle.fast_value.specs.declared.settings.Limits.{Limits}
 use Rattle.fast_value.specs.meaning.Limits.{Bounds, bounds}
@@ -11,7 +11,7 @@ use Rattle.fast_stream.specs.device.Readers.{Reader}
 use Rattle.fast_units.specs.device.Settling.{IsLastUnit}
 use Rattle.fast_units.specs.device.Stages.{IsFieldUnit}
 use Rattle.fast_units.specs.device.Words.{IsKeptCut}
-use Rattle.fast_units.specs.device.UnitFronts.{IsEntityKept, IsNextStage, IsNextOf, settled}
+use Rattle.fast_units.specs.device.UnitFronts.{IsNumberStage, IsBytesStage, IsEntityKept, IsNextStage, IsNextOf, SettlesOnly, settled}
 use Rattle.fast_units.specs.device.TextDecisions.{HasBytes}
 use Rattle.fast_units.specs.declared.source.ValueSource.{ValueSource}
 use Rattle.fast_units.specs.declared.stages.Stage.{Stage}
@@ -62,3 +62,34 @@ pub kept_entity : {T : Type 0} (front rest after : List ℕ) (q : Progress T) �
 kept_entity front rest after (Whole x n) whole cut = whole x n refl
 kept_entity front rest after (Wrong c n) whole cut = tt
 kept_entity front rest after Cut whole cut = cut refl
+
+-- the same of a unit that was the last one of its field
+pub kept_settled : (front rest after : List ℕ) (p : Progress ValueSource) (q : Progress FieldStep) → q ≡ settled p → ((x : ValueSource) (n : ℕ) → p ≡ Whole x n → after ≡ [])
+    → IsKeptCut front rest after p → IsEntityKept front rest after q
+kept_settled front rest after (Whole x n) q e whole cut = subst (λ a. IsEntityKept front rest after a) (sym e) (whole x n refl)
+kept_settled front rest after (Wrong c n) q e whole cut = subst (λ a. IsEntityKept front rest after a) (sym e) tt
+kept_settled front rest after Cut q e whole cut = subst (λ a. IsEntityKept front rest after a) (sym e) (cut refl)
+
+pub next_settled : (l : Bounds) (f : FieldData) (before : PreviousData) (p : Progress ValueSource) (q : Progress FieldStep) → q ≡ settled p → IsNextOf l f before q
+next_settled l f before (Whole x n) q e = subst (λ a. IsNextOf l f before a) (sym e) tt
+next_settled l f before (Wrong c n) q e = subst (λ a. IsNextOf l f before a) (sym e) tt
+next_settled l f before Cut q e = subst (λ a. IsNextOf l f before a) (sym e) tt
+
+pub settles_settled : (p : Progress ValueSource) (q : Progress FieldStep) → q ≡ settled p → SettlesOnly q
+settles_settled (Whole x n) q e = subst (λ a. SettlesOnly a) (sym e) tt
+settles_settled (Wrong c n) q e = subst (λ a. SettlesOnly a) (sym e) tt
+settles_settled Cut q e = subst (λ a. SettlesOnly a) (sym e) tt
+
+pub cut_settled : (p : Progress ValueSource) (q : Progress FieldStep) → q ≡ settled p → q ≡ Cut → p ≡ Cut
+cut_settled (Whole x n) q e i = absurd (let k = sym e ∙ i in cc k)
+cut_settled (Wrong c n) q e i = absurd (let k = sym e ∙ i in cc k)
+cut_settled Cut q e i = refl
+
+-- A run of bytes is no integer.
+pub no_number : (f : FieldData) (stage : Stage) → ((n : ℕ) × (stage ≡ Vector n)) ⊎ ((k : ℤ) × (n : ℕ) × (stage ≡ PartVector k n)) → IsNumberStage f stage → ⊥
+no_number f stage (inl (n, e)) h = subst (λ s. IsNumberStage f s) e h
+no_number f stage (inr (k, n, e)) h = subst (λ s. IsNumberStage f s) e h
+
+pub no_bytes : (l : Bounds) (f : FieldData) (p : PreviousData) (stage : Stage) (front : List ℕ) → ((e : ℤ) × (stage ≡ Mantissa e)) ⊎ ((e : ℤ) × (stage ≡ MantissaDelta e)) → IsBytesStage l f p stage front → ⊥
+no_bytes l f p stage front (inl (e, i)) h = subst (λ s. IsBytesStage l f p s front) i h
+no_bytes l f p stage front (inr (e, i)) h = subst (λ s. IsBytesStage l f p s front) i h

@@ -1,6 +1,6 @@
 -- The next instruction of a machine, by its node.
-use Rattle.std.proofs.Common.{refl, sym, ap, ◌∙◌, subst, arith}
-use Rattle.std.specs.Prelude.{◌≡◌, ℕ, ◌<◌, Bool, List, [], ◌∷◌, drop, length, slice_get, Some}
+use Rattle.std.proofs.Common.{refl, sym, ap, ◌∙◌, subst, arith, inl, inr}
+use Rattle.std.specs.Prelude.{◌≡◌, ◌⊎◌, ℕ, ◌<◌, Bool, List, [], ◌∷◌, drop, length, slice_get, Some}
 use Rattle.std.specs.Prelude.{Vec}
 use Rattle.std.specs.Global.{Global}
 use Rattle.fast_value.specs.declared.settings.Limits.{Limits}
@@ -104,6 +104,11 @@ of_later Text of = tt
 of_later (Number stage) of = tt
 of_later (Bytes stage) of = tt
 of_later (Mantissa x) of = absurd of
+
+pub is_later : (w : Waiting) → (w ≡ Text) ⊎ (((stage : Stage) × (w ≡ Number stage)) ⊎ ((stage : Stage) × (w ≡ Bytes stage))) → IsOfFieldLater w
+is_later w (inl is) = subst IsOfFieldLater (sym is) tt
+is_later w (inr (inl (stage, is))) = subst IsOfFieldLater (sym is) tt
+is_later w (inr (inr (stage, is))) = subst IsOfFieldLater (sym is) tt
 
 module _ (set : Set) (l : Limits) (m : Machine) (n : ℕ) (v : Node) (later : NameLaterNodes set.nodes) (first : first_node m.cursor.left ≡ Some n) (found : slice_get set.nodes n ≡ Some v) where
   abbrev here : State

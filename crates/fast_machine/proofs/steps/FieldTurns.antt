@@ -269,6 +269,14 @@ exponent_there set l m m' n e f v x z bits same next known inside =
     ∙ mantissa_behind l.strict (bounds l) n f (behind set l m') v (state_of m') x z known inside
     ∙ sym (mantissa_next set l m' n e f z (parts_used set m m' n e f next same))
 
+-- An exponent outside its range ends the message.
+pub exponent_wrong : (set : Set) (l : Limits) (m : Machine) (n : ℕ) (e f : FieldData) (v : Option ScalarData) (x : ℤ) (c : Code) → option_map integer_of v ≡ Some x → ranged exponent_range R1 x ≡ Err c
+    → reader_of l.strict (exponent_then set (bounds l) n v e f (slots_dictionary m.slots) m.counted m.cursor) ≡ Stop c
+exponent_wrong set l m n e f None x c known wrong = absurd (cc known)
+exponent_wrong set l m n e f (Some w) x c known wrong =
+    let same : integer_of w ≡ x = cc known in
+    rw (same, wrong) refl
+
 -- Without an exponent there is no mantissa.
 pub exponent_absent : (set : Set) (l : Limits) (m : Machine) (n : ℕ) (e f : FieldData) (v : Option ScalarData) → option_map integer_of v ≡ None
     → reader_of l.strict (exponent_then set (bounds l) n v e f (slots_dictionary m.slots) m.counted m.cursor) ≡ reader_of l.strict (behind set l m (state_past e (slots_dictionary m.slots) m.counted m.cursor))
@@ -326,7 +334,7 @@ can_turn_slots set l m slots h terms = record {
 }
 
 -- So has one that has used a bit.
-used_by : (set : Set) (l : Limits) (m : Machine) (u v : ℕ) → CanTurn set l m → CanTurn set l (record m { cursor = record m.cursor { used = u; ends = v } })
+pub used_by : (set : Set) (l : Limits) (m : Machine) (u v : ℕ) → CanTurn set l m → CanTurn set l (record m { cursor = record m.cursor { used = u; ends = v } })
 used_by set l m u v h = record {
   supplied = supplied_like set l m (record m { cursor = record m.cursor { used = u; ends = v } }) h.supplied (record { terms = refl; text = refl; joined = refl; identifier = refl; rests = refl; latest = refl }) h.supplied.counted;
   placed = record { below = h.placed.below; nested = h.placed.nested; frames = h.placed.frames };

@@ -1,5 +1,6 @@
 -- What holds of a machine behind a turn at which a segment begins or ends.
 use Rattle.std.proofs.Common.{refl, sym, ap, ◌∙◌, subst, inl, inr, arith}
+use Rattle.std.proofs.Math.Nat.{le-max_left}
 use Rattle.std.specs.Prelude.{◌≡◌, ◌≢◌, ℕ, zero, suc, ◌+◌, ◌-◌, ◌<◌, ◌≤◌, Bool, true, false, nat_lt, List, [], ◌∷◌, drop, length, slice_get, ℤ, nat_abs, Option, Some, None, option_map, Result, Ok, Err}
 use Rattle.std.proofs.lemmas.Bool.{lt-ltb}
 use Rattle.std.proofs.lemmas.Option.{slice_get_cases}
@@ -11,7 +12,7 @@ use Rattle.fast_value.specs.meaning.Limits.{Bounds, bounds}
 use Rattle.fast_tree.specs.declared.instructions.Node.{Node}
 use Rattle.fast_tree.specs.device.Numbers.{AreBelow, numbers_of}
 use Rattle.fast_tree.specs.meaning.Sizes.{depth, body_depth}
-use Rattle.fast_tree.specs.meaning.Tree.{FieldData, Body, bits_of}
+use Rattle.fast_tree.specs.meaning.Tree.{FieldData, Instruction, group, Body, step, bits_of}
 use Rattle.fast_dict.specs.meaning.Dictionary.{Dictionary, previous_at}
 use Rattle.fast_dict.specs.meaning.Operators.{nothing, decide}
 use Rattle.fast_dict.specs.meaning.Slots.{slots_dictionary, slots_terms}
@@ -24,7 +25,7 @@ use Rattle.fast_machine.specs.declared.machine.Turn.TheVariants.{Silent, Handed,
 use Rattle.fast_machine.specs.declared.machine.Waiting.TheVariants.{Map, SegmentMap, Field}
 use Rattle.fast_units.specs.declared.source.ValueSource.{ValueSource}
 use Rattle.fast_stream.specs.meaning.Events.{EventData, GroupStart, GroupEnd, SequenceStart, ElementStart, ElementEnd, MessageEnd}
-use Rattle.fast_stream.specs.device.Readers.{Reader, Done, Emit}
+use Rattle.fast_stream.specs.device.Readers.{Stop, Reader, Done, Emit}
 use Rattle.fast_stream.specs.meaning.Grammar.{Grammar, hand, presence_map, narrow, ◌>>=◌, of_result}
 use Rattle.fast_stream.specs.device.GrammarReaders.{presence_map_reader, reader_of}
 use Rattle.fast_stream.specs.meaning.Messages.{Context, State, field_in, map_bits, within_limits, length_in}
@@ -47,7 +48,7 @@ use Rattle.fast_machine.proofs.units.Hanging.{hands_waits, hands_more, hands_las
 use Rattle.fast_machine.proofs.steps.Moves.{moves_one, moves_halt, moves_more, moves_as}
 use Rattle.fast_stream.proofs.readers.UnitReaders.{below-nil}
 use Rattle.fast_machine.proofs.fields.SentFields.{field_sent_waits}
-use Rattle.fast_machine.proofs.steps.FieldTurns.{IsLike, supplied_like, can_turn_past, state_of, behind, field_known, field_wrong, can_turn_waits, can_turn_slots, turn_fault, turn_number}
+use Rattle.fast_machine.proofs.steps.FieldTurns.{IsLike, supplied_like, can_turn_past, state_of, behind, field_known, field_wrong, can_turn_waits, can_turn_slots, turn_fault, turn_number, used_by}
 
 -- A presence map waits for a byte.
 pub map_waits : {A : Type 0} (s : Bool) (g : List ℕ → Grammar A) → Waits (reader_of s (presence_map g))
@@ -280,6 +281,26 @@ group_present set l m m' c node body at first same later is = record {
   begins = group_by set l m node body true c.used at first (used_behind m.cursor c same later);
 }
 
+-- A body that is next nests no deeper than there is place for.
+pub nests : (set : Set) (c : CursorData) (i : Instruction) (rest : Body) (k : ℕ) → IsPlaced set c → body_in set c.left ≡ step i rest → depth i ≡ suc k → suc (length c.frames) + k ≤ c.depth
+nests set c i rest k placed next deep =
+    up (length c.frames) k (depth i) (body_depth (body_in set c.left)) c.depth deep (subst (λ b. depth i ≤ body_depth b) (sym next) (le-max_left (depth i) (body_depth rest))) placed.nested
+  where
+    up : (f k d b n : ℕ) → d ≡ suc k → d ≤ b → f + b ≤ n → suc f + k ≤ n
+    up f k d b n e h fits = omega (arith, e, h, fits)
+
+-- A machine at whose group the bit is used turns as before, and the group fits.
+module _ (set : Set) (l : Limits) (m m' : Machine) (node : ℕ) (optional : Bool) (body : List ℕ) (can : CanTurn set l m) (at : IsAtGroup set m.cursor node optional body) (begun : IsGroupBegun set l m m' node body) where
+  pub group_can : CanTurn set l m'
+  group_can = subst (CanTurn set l) (sym begun.same) (used_by set l m begun.used begun.ends can)
+
+  pub group_some : 0 < length m'.cursor.left
+  group_some = subst (λ (x : Machine). 0 < length x.cursor.left) (sym begun.same) at.2
+
+  pub group_nests : suc (length m'.cursor.frames) + body_depth (body_in set body) ≤ m'.cursor.depth
+  group_nests = subst (λ (x : Machine). suc (length x.cursor.frames) + body_depth (body_in set body) ≤ x.cursor.depth) (sym begun.same)
+      (nests set m.cursor (group at.0 optional (body_in set body)) (body_in set (drop 1 m.cursor.left)) (body_depth (body_in set body)) can.placed at.3 refl)
+
 -- past an instruction, and behind one more bit or not
 past_used : (old mid new : CursorData) → mid ≡ record old { used = mid.used; ends = mid.ends } → new ≡ record mid { left = drop 1 mid.left } → new ≡ record old { left = drop 1 old.left; used = mid.used; ends = mid.ends }
 past_used old mid new same is = is ∙ ap (λ (c : CursorData). record c { left = drop 1 c.left }) same
@@ -363,6 +384,19 @@ length_within set l m m' node (Some x) f body claimed count some within behind =
     ∙ ap (λ b. Emit (SequenceStart node count) (reader_of l.strict (elements_turn (bounds l) fs count (body_in set body) is
     (record { context = record { dictionary = slots_dictionary m.slots; counted = m.counted + count }; bits = b })))) (sym behind.bits)
     ∙ ap (λ (x : Machine). Emit (SequenceStart node count) (elements_of set l x count body)) (sym behind.same)
+
+-- A length beyond them ends the message.
+pub length_wrong : (set : Set) (l : Limits) (m : Machine) (node : ℕ) (v : Option ScalarData) (f : FieldData) (body : List ℕ) (claimed : ℤ) (c : Code) → Some claimed ≡ option_map integer_of v
+    → Err c ≡ within_limits (bounds l) m.counted (nat_abs claimed) → length_from set l m node v f body ≡ Stop c
+length_wrong set l m node None f body claimed c some beyond = absurd (cc some)
+length_wrong set l m node (Some x) f body claimed c some beyond =
+    let fs = frames_in set m.cursor.frames in
+    let is = body_in set (drop 1 m.cursor.left) in
+    let s : State = state_past f (slots_dictionary m.slots) m.counted m.cursor in
+    let same : integer_of x ≡ claimed = cc some in
+    let wrong : length_in (bounds l) s.context x ≡ Err c = ap (λ z. within_limits (bounds l) m.counted (nat_abs z)) same ∙ sym beyond in
+    ap (reader_of l.strict) (sequence-same (bounds l) fs node (body_in set body) is (Some x, s))
+    ∙ ap (λ q. reader_of l.strict (of_result q >>= (λ n. hand (SequenceStart node n) (elements_turn (bounds l) fs n (body_in set body) is (counting n s))))) wrong
 
 -- The next instruction is a sequence: what is to be read.
 pub sequence_next : (set : Set) (l : Limits) (m : Machine) (n : ℕ) (f : FieldData) (body : List ℕ) → IsAtSequence set m.cursor n f body

@@ -2,7 +2,7 @@
 use Rattle.std.proofs.Common.{refl, sym, ap, ◌∙◌, subst, arith, inl, inr}
 use Rattle.std.proofs.Math.Nat.{le_refl, le_trans, le-max_left, le-max_right, mul-le-mul_right, mul-le-mul_left, add-mul, suc-mul, mul-zero, min-eq_left, min_comm}
 use Rattle.std.proofs.lemmas.Bool.{leb-true, cases_lt}
-use Rattle.std.specs.Prelude.{◌≡◌, ◌≢◌, ℕ, zero, suc, ◌+◌, ◌*◌, ◌-◌, ◌<◌, ◌≤◌, Bool, true, false, if◌then◌else◌, nat_le, List, [], ◌∷◌, drop, map, slice_get, min, Option, Some, None, Result, Ok, Err, OnOk, is_err}
+use Rattle.std.specs.Prelude.{◌≡◌, ◌≢◌, ◌⊎◌, ℕ, zero, suc, ◌+◌, ◌*◌, ◌-◌, ◌<◌, ◌≤◌, Bool, true, false, if◌then◌else◌, nat_le, List, [], ◌∷◌, drop, map, slice_get, min, Option, Some, None, IfSome, Result, Ok, Err, OnOk, is_err}
 use Rattle.fast_value.specs.declared.settings.Limits.{Limits}
 use Rattle.fast_value.specs.meaning.Limits.{bounds}
 use Rattle.fast_value.specs.declared.codes.Code.{Code}
@@ -16,9 +16,11 @@ use Rattle.fast_machine.specs.declared.machine.Machine.{Machine}
 use Rattle.fast_machine.specs.declared.machine.Turn.{Turn}
 use Rattle.fast_machine.specs.declared.machine.Turn.TheVariants.{Silent, Handed, Waits}
 use Rattle.fast_machine.specs.declared.turns.Turns.{Turns}
+use Rattle.fast_machine.specs.declared.quick_units.UnitTaken.{UnitTaken}
 use Rattle.fast_machine.specs.device.Passing.{IsPast}
 use Rattle.fast_machine.specs.declared.machine.Waiting.{Waiting}
 use Rattle.fast_machine.specs.declared.machine.Waiting.TheVariants.{Map, Identifier, SegmentMap, Field, Text, Number, Bytes, Mantissa}
+use Rattle.fast_units.specs.declared.stages.Stage.{Stage}
 use Rattle.fast_cursor.specs.device.Cursors.{ElementsData, FrameData, CursorData, entered, left_to}
 use Rattle.fast_stream.specs.meaning.Messages.{within_limits}
 use Rattle.fast_machine.specs.device.Positions.{Set, tree_in, body_in, IsFresh}
@@ -342,6 +344,10 @@ passed way set l n t t' counted counted' c c' i next turns same left frames h =
     fewer : (i b f e : ℕ) → 1 ≤ i → b + f + e + 1 ≤ i + b + f + e + 0
     fewer i b f e h = omega (arith, h)
 
+-- Bits of the map are used up.
+pub turns_used : (way : Way) (set : Set) (l : Limits) (n : ℕ) (m m' : Machine) → m' ≡ record m { cursor = record m.cursor { used = m'.cursor.used; ends = m'.cursor.ends } } → HasTurns way set l 1 n m → HasTurns way set l 1 n m'
+turns_used way set l n m m' same h = subst (λ (x : Machine). HasTurns way set l 1 n x) (sym same) (record { each = h.each; body = h.body; frames = h.frames; most = h.most; all = h.all })
+
 -- A fault ends a turn that is counted.
 pub fault_turns : (way : Way) (set : Set) (l : Limits) (n : ℕ) (m m' : Machine) (result : Result Turn FaultCode) (code : FaultCode) → result ≡ Err code → m'.turns.count ≡ m.turns.count → HasTurns way set l 1 n m → HasTurnsBehind result way set l n m'
 fault_turns way set l n m m' result code is same h = rw (is, same) (turns_taken way set l n m.turns.count m.counted m.cursor h)
@@ -613,3 +619,32 @@ pub fresh_turns : (set : Set) (l : Limits) (m : Machine) → IsFresh set m → I
 fresh_turns set l m f way =
     let map : m.cursor.map ≡ [] = ap (λ (c : CursorData). c.map) f.cursor in
     (0, subst (λ (w : Waiting). HasTurnsAt w way set l 0 m) (sym f.waiting) (subst (λ w. HasTurnsInMap w way set l 0 m.turns.count) (sym map) (let e = f.turns in omega (arith, e))))
+
+-- A unit of a message that is begun: no other turns are begun with it.
+none_more : (k x : ℕ) → x ≡ 0 → k ≡ k + x
+none_more k x e = omega (arith, e)
+
+pub paid_whole : (way : Way) (set : Set) (l : Limits) (n : ℕ) (m a : Machine) (q : Option UnitTaken) (w : Waiting) → m.waiting ≡ w → turns_begun_at w m.cursor.map way (tree_in set) l ≡ 0
+    → (HasTurnsAt w way set l n m → IfSome q (λ x. HasTurnsBehind x.turn way set l (1 + n) a)) → HasTurnsWaiting way set l n m
+    → IfSome q (λ x. HasTurnsBehind x.turn way set l (1 + n + turns_begun_at m.waiting m.cursor.map way (tree_in set) l) a)
+paid_whole way set l n m a q w is none f h =
+    subst (λ (k : ℕ). IfSome q (λ x. HasTurnsBehind x.turn way set l k a))
+    (none_more (1 + n) (turns_begun_at m.waiting m.cursor.map way (tree_in set) l) (ap (λ (v : Waiting). turns_begun_at v m.cursor.map way (tree_in set) l) is ∙ none))
+    (f (subst (λ (v : Waiting). HasTurnsAt v way set l n m) is h))
+
+-- the same of a unit that is taken, however much of it there is
+pub paid_awaited : (way : Way) (set : Set) (l : Limits) (n : ℕ) (m a : Machine) (turn : Result Turn FaultCode) (w : Waiting) → m.waiting ≡ w → turns_begun_at w m.cursor.map way (tree_in set) l ≡ 0
+    → (HasTurnsAt w way set l n m → HasTurnsBehind turn way set l n a) → HasTurnsWaiting way set l n m
+    → HasTurnsBehind turn way set l (n + turns_begun_at m.waiting m.cursor.map way (tree_in set) l) a
+paid_awaited way set l n m a turn w is none f h =
+    subst (λ (k : ℕ). HasTurnsBehind turn way set l k a)
+    (none_more n (turns_begun_at m.waiting m.cursor.map way (tree_in set) l) (ap (λ (v : Waiting). turns_begun_at v m.cursor.map way (tree_in set) l) is ∙ none))
+    (f (subst (λ (v : Waiting). HasTurnsAt v way set l n m) is h))
+
+pub paid_later : (way : Way) (set : Set) (l : Limits) (n : ℕ) (m a : Machine) (turn : Result Turn FaultCode)
+    → (m.waiting ≡ Text) ⊎ (((stage : Stage) × (m.waiting ≡ Number stage)) ⊎ ((stage : Stage) × (m.waiting ≡ Bytes stage)))
+    → (HasTurns way set l 1 n m → HasTurnsBehind turn way set l n a) → HasTurnsWaiting way set l n m
+    → HasTurnsBehind turn way set l (n + turns_begun_at m.waiting m.cursor.map way (tree_in set) l) a
+paid_later way set l n m a turn (inl is) f h = paid_awaited way set l n m a turn Text is refl f h
+paid_later way set l n m a turn (inr (inl (stage, is))) f h = paid_awaited way set l n m a turn (Number stage) is refl f h
+paid_later way set l n m a turn (inr (inr (stage, is))) f h = paid_awaited way set l n m a turn (Bytes stage) is refl f h

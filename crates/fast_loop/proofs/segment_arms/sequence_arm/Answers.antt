@@ -1,17 +1,18 @@
 -- The length, or none.
-use Rattle.std.proofs.Common.{sym, ap, ◌∙◌, subst}
-use Rattle.std.specs.Prelude.{◌≡◌, ℕ, Option, None, option_map}
+use Rattle.std.proofs.Common.{sym, ap, ◌∙◌, subst, refl}
+use Rattle.std.specs.Prelude.{◌≡◌, ℕ, Option, None, option_map, ◌<◌, List, length, slice_get, Some}
 use Rattle.std.proofs.lemmas.List.{take_rest}
 use Rattle.fast_value.specs.meaning.Kinds.{U}
 use Rattle.fast_value.specs.meaning.Limits.{bounds}
 use Rattle.fast_stream.specs.meaning.Messages.{within_limits}
 use Rattle.fast_tree.specs.device.Nodes.{field_data}
-use Rattle.fast_cursor.specs.device.Places.{at_place}
+use Rattle.fast_cursor.specs.device.Places.{at_place, place_left}
 use Rattle.fast_machine.specs.device.Positions.{placed, set_of, run_in}
 use Rattle.fast_loop.specs.device.Arms.{IsLengthTaken}
-use Rattle.fast_tree.specs.device.Numbers.{numbers_of}
+use Rattle.fast_tree.specs.device.Numbers.{numbers_of, AreBelow}
 use Rattle.fast_machine.specs.declared.machine.Turn.TheVariants.{Silent}
 use Rattle.fast_loop.proofs.arms.Lengths.{sequence_taken, absent_step}
+use Rattle.fast_loop.proofs.arms.Before.{first_some}
 use Rattle.fast_loop.proofs.arms.Taken.{took_handed}
 use Rattle.fast_loop.proofs.segment_arms.sequence_arm.Goals as goal
 
@@ -54,3 +55,47 @@ elements_arm-requires-clause-length g c =
       subst (λ (x : Option ℕ). IsLengthTaken set l m from c.from-node.result (field_data c.in-Sequence.length) (run_in set c.body_start-start.result) (option_map U x) c.in-Some.bytes) c.in-Some-claimed.is h,
       sym (c.in-Ok.ensures.count ∙ ap (within_limits (bounds l) m.counted) c.from.ensures),
     )
+
+pub node-requires : goal.node-requires
+node-requires g c = subst (λ (k : ℕ). k < length (set_of c.args.templates.now).nodes) (sym c.from-node.ensures) c.requires.at.0
+
+pub body_start-start-requires : goal.body_start-start-requires
+body_start-start-requires g c = subst (λ (k : ℕ). k < length (set_of c.args.templates.now).nodes) (sym c.from-node.ensures) c.requires.at.0
+
+pub elements_arm-requires-clause-node : goal.elements_arm-requires-clause-node
+elements_arm-requires-clause-node g c = subst (λ (k : ℕ). k < length (set_of c.args.templates.now).nodes) (sym c.from-node.ensures) c.requires.at.0
+
+pub elements_arm-requires-clause-run : goal.elements_arm-requires-clause-run
+elements_arm-requires-clause-run g c = (c.body_start-start.ensures c.node.result.now c.node.ensures.found).run
+
+pub elements_arm-requires-clause-below : goal.elements_arm-requires-clause-below
+elements_arm-requires-clause-below g c = subst (λ (ns : List ℕ). AreBelow (length (set_of c.args.templates.now).nodes) ns) (sym (c.body_start-start.ensures c.node.result.now c.node.ensures.found).nodes) (λ i inside. (c.node.ensures.body i inside).1)
+
+pub elements_arm-requires-clause-body : goal.elements_arm-requires-clause-body
+elements_arm-requires-clause-body g c x found = (c.body_start-start.ensures x found).nodes
+
+pub elements_arm-requires-clause-total : goal.elements_arm-requires-clause-total
+elements_arm-requires-clause-total g c = c.in-Ok.ensures.total
+
+pub count_within-requires : goal.count_within-requires
+count_within-requires g c = c.requires.spot.can.supplied.counted
+
+pub returns-in_default-read : goal.returns-in_default-read
+returns-in_default-read g c = record { went = (refl, refl, refl) }
+
+pub returns-in-Err : goal.returns-in-Err
+returns-in-Err g c = record { went = (refl, refl, refl) }
+
+pub returns-in-Ok : goal.returns-in-Ok
+returns-in-Ok g c = record { went = c.elements_arm.ensures.went }
+
+pub unreachable-requires : goal.unreachable-requires
+unreachable-requires g c = 
+    let (own, inside, is, operator, absent) = c.requires.sequence c.node.result.now (subst (λ (i : ℕ). slice_get (set_of c.args.templates.now).nodes i ≡ Some c.node.result.now) c.from-node.ensures c.node.ensures.found) in
+    c.in_default.not-Sequence own inside is
+
+pub slice_bounds-spot-count : goal.slice_bounds-spot-count
+slice_bounds-spot-count g c = c.in-Some.ensures.0
+
+pub advance-requires : goal.advance-requires
+advance-requires g c = first_some (place_left c.args.spot.now.place) c.args.op.now.node c.requires.at.1

@@ -10,7 +10,7 @@ use Rattle.fast_stream.specs.device.GrammarReaders.{reader_of}
 use Rattle.fast_units.specs.device.Stages.{term_behind, IsFieldUnit}
 use Rattle.fast_units.specs.declared.stages.Stage.{Stage}
 use Rattle.fast_units.specs.declared.stages.Stage.TheVariants.{Mantissa, MantissaDelta, Part}
-use Rattle.fast_units.proofs.ScalarTakes.{unit_settled, next_of_text}
+use Rattle.fast_units.proofs.ScalarTakes.{unit_settled, next_of_text, kept_settled, next_settled, no_number}
 use Rattle.fast_units.proofs.scalars.take_number.Goals as goal
 
 pub returns-in-Mantissa-clause-unit : goal.returns-in-Mantissa-clause-unit
@@ -50,3 +50,52 @@ pub returns-in-Part-clause-next : goal.returns-in-Part-clause-next
 returns-in-Part-clause-next c =
     let f = field_data c.args.field.now in
     next_of_text (bounds c.args.limits) f (previous_at f.entry (slots_dictionary c.args.slots.now)) c.take_part_size.result c.take_part_size.ensures.more
+
+pub take_mantissa-requires-clause-serves : goal.take_mantissa-requires-clause-serves
+take_mantissa-requires-clause-serves c = c.requires.serves
+
+pub take_mantissa_delta-requires-clause-serves : goal.take_mantissa_delta-requires-clause-serves
+take_mantissa_delta-requires-clause-serves c = c.requires.serves
+
+pub take_part_size-requires-clause-serves : goal.take_part_size-requires-clause-serves
+take_part_size-requires-clause-serves c = c.requires.serves
+
+pub returns-in-Mantissa-clause-next : goal.returns-in-Mantissa-clause-next
+returns-in-Mantissa-clause-next c = 
+    let f = field_data c.args.field.now in
+    next_settled (bounds c.args.limits) f (previous_at f.entry (slots_dictionary c.args.slots.now)) c.take_mantissa.result c.settled.result c.settled.ensures
+
+pub returns-in-Mantissa-clause-pending : goal.returns-in-Mantissa-clause-pending
+returns-in-Mantissa-clause-pending c = kept_settled c.args.pending.now.bytes c.args.rest.now c.take_mantissa.new.pending.bytes c.take_mantissa.result c.settled.result c.settled.ensures c.take_mantissa.ensures.whole c.take_mantissa.ensures.cut
+
+pub returns-in-Mantissa-clause-terms : goal.returns-in-Mantissa-clause-terms
+returns-in-Mantissa-clause-terms c = c.take_mantissa.ensures.terms
+
+pub returns-in-MantissaDelta-clause-next : goal.returns-in-MantissaDelta-clause-next
+returns-in-MantissaDelta-clause-next c = 
+    let f = field_data c.args.field.now in
+    next_settled (bounds c.args.limits) f (previous_at f.entry (slots_dictionary c.args.slots.now)) c.take_mantissa_delta.result c.settled-in-MantissaDelta.result c.settled-in-MantissaDelta.ensures
+
+pub returns-in-MantissaDelta-clause-pending : goal.returns-in-MantissaDelta-clause-pending
+returns-in-MantissaDelta-clause-pending c = kept_settled c.args.pending.now.bytes c.args.rest.now c.take_mantissa_delta.new.pending.bytes c.take_mantissa_delta.result c.settled-in-MantissaDelta.result c.settled-in-MantissaDelta.ensures c.take_mantissa_delta.ensures.whole c.take_mantissa_delta.ensures.cut
+
+pub returns-in-MantissaDelta-clause-terms : goal.returns-in-MantissaDelta-clause-terms
+returns-in-MantissaDelta-clause-terms c = c.take_mantissa_delta.ensures.terms
+
+pub take_part_size-requires-clause-limit : goal.take_part_size-requires-clause-limit
+take_part_size-requires-clause-limit c = c.requires.limit
+
+pub take_part_size-requires-clause-joined : goal.take_part_size-requires-clause-joined
+take_part_size-requires-clause-joined c = c.requires.joined
+
+pub returns-in-Part-clause-terms : goal.returns-in-Part-clause-terms
+returns-in-Part-clause-terms c = c.take_part_size.ensures.terms
+
+pub returns-in-Part-clause-capacity : goal.returns-in-Part-clause-capacity
+returns-in-Part-clause-capacity c = c.take_part_size.ensures.joined
+
+pub returns-in-Vector-clause-unit : goal.returns-in-Vector-clause-unit
+returns-in-Vector-clause-unit c = absurd (no_number (field_data c.args.field.now) c.args.stage c.in-Vector.is c.requires.number)
+
+pub returns-in-Vector-clause-pending : goal.returns-in-Vector-clause-pending
+returns-in-Vector-clause-pending c = absurd (no_number (field_data c.args.field.now) c.args.stage c.in-Vector.is c.requires.number)

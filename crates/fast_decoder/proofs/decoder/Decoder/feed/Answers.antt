@@ -1,5 +1,5 @@
 use Rattle.std.proofs.Common.{rules, ◌≡◌, ℕ, ◌+◌, ap, ◌∙◌, sym, subst, refl, arith}
-use Rattle.std.specs.Prelude.{List, Ok, Err, Some, Result, IsOk, OnOk, take, length}
+use Rattle.std.specs.Prelude.{List, Ok, Err, Some, Result, IsOk, OnOk, take, length, None, Option, IsSome}
 use Rattle.std.proofs.lemmas.List.{take_all}
 use Rattle.fast_stream.specs.declared.faults.FaultCode.{FaultCode}
 use Rattle.fast_stream.specs.declared.faults.FaultCode.TheVariants as Why
@@ -12,6 +12,8 @@ use Rattle.fast_decoder.proofs.streams.Carrying.{bytes_of, fed_data, carry_ok, c
 use Rattle.fast_machine.proofs.steps.Recounted.{meaning-turns, supplied-turns}
 use Rattle.fast_decoder.proofs.streams.Following.{carries_follow, fault_follows, failed_follows}
 use Rattle.fast_decoder.proofs.streams.Paying.{feed_paid, all_within, feed_turns, sound_on}
+use Rattle.fast_decoder.proofs.streams.Bounds.{stored-bound}
+use Rattle.fast_stream.specs.declared.faults.Fault.{Fault}
 use Rattle.fast_decoder.proofs.decoder.Decoder.feed.Goals as goal
 
 pub returns-in-Some-clause-carried : goal.returns-in-Some-clause-carried
@@ -104,3 +106,72 @@ returns-in-Err-clause-followed g c = λ w es so.
     fault_follows g.S.Sink.takes g.S.Sink.stops c.args.self.now (fed_data inside c.take_all-taken.new.machine c.take_all-taken.result.bytes (Some (record { code = c.in-Err.code; place = place }))) c.in-Err.code w es c.args.piece.now c.args.sink.now place c.take_all-taken.new.sink so
     (ap (λ (d : DecoderData). d.fault) (sym c.self.view_is) ∙ c.in_default.is) refl (ap (λ (d : DecoderData). tree d) c.self.view_is) (ap (λ (d : DecoderData). d.limits) c.self.view_is)
     (returns-in-Err-clause-carried g c w es so)
+
+pub returns-in-Some-clause-bounded : goal.returns-in-Some-clause-bounded
+returns-in-Some-clause-bounded g c = 
+    let inside : DecoderData = record { set = set_of c.self.inside.templates.now; limits = c.self.inside.limits; machine = c.self.inside.machine; consumed = c.self.inside.consumed; fault = c.self.inside.fault } in
+    let supplied : IsSupplied inside.set inside.limits c.begin_turns.new.self = subst (λ (m : Machine). IsSupplied inside.set inside.limits m) (sym c.begin_turns.ensures.same) (supplied-turns inside.set inside.limits inside.machine c.begin_turns.new.self.turns c.self.invariant.supplied) in
+    stored-bound inside.set inside.limits c.begin_turns.new.self supplied
+
+pub returns-in-Some-clause-turns : goal.returns-in-Some-clause-turns
+returns-in-Some-clause-turns g c = rw c.begin_turns.ensures.none (omega arith)
+
+pub returns-in-Some-clause-consumed : goal.returns-in-Some-clause-consumed
+returns-in-Some-clause-consumed g c = let same = ap (λ (d : DecoderData). d.consumed) c.self.view_is in (omega (arith, same), omega (arith, same))
+
+pub returns-then-piece-self-clause-bounded : goal.returns-then-piece-self-clause-bounded
+returns-then-piece-self-clause-bounded g c = 
+    let inside : DecoderData = record { set = set_of c.self.inside.templates.now; limits = c.self.inside.limits; machine = c.self.inside.machine; consumed = c.self.inside.consumed; fault = c.self.inside.fault } in
+    let supplied : IsSupplied inside.set inside.limits c.begin_turns.new.self = subst (λ (m : Machine). IsSupplied inside.set inside.limits m) (sym c.begin_turns.ensures.same) (supplied-turns inside.set inside.limits inside.machine c.begin_turns.new.self.turns c.self.invariant.supplied) in
+    stored-bound inside.set inside.limits c.begin_turns.new.self supplied
+
+pub returns-then-piece-self-clause-turns : goal.returns-then-piece-self-clause-turns
+returns-then-piece-self-clause-turns g c = rw c.begin_turns.ensures.none (omega arith)
+
+pub returns-then-piece-self-clause-consumed : goal.returns-then-piece-self-clause-consumed
+returns-then-piece-self-clause-consumed g c = let same = ap (λ (d : DecoderData). d.consumed) c.self.view_is in (omega (arith, same), omega (arith, same))
+
+pub returns-in-Ok-clause-bounded : goal.returns-in-Ok-clause-bounded
+returns-in-Ok-clause-bounded g c = stored-bound (set_of c.self.inside.templates.now) c.self.inside.limits c.take_all-taken.new.machine c.take_all-taken.ensures.supplied
+
+pub returns-in-Ok-clause-consumed : goal.returns-in-Ok-clause-consumed
+returns-in-Ok-clause-consumed g c = let same = ap (λ (d : DecoderData). d.consumed) c.self.view_is in let within = c.take_all-taken.ensures.within in (omega (arith, same), omega (arith, same, within))
+
+pub returns-in-Err-clause-bounded : goal.returns-in-Err-clause-bounded
+returns-in-Err-clause-bounded g c = stored-bound (set_of c.self.inside.templates.now) c.self.inside.limits c.take_all-taken.new.machine c.take_all-taken.ensures.supplied
+
+pub returns-in-Err-clause-consumed : goal.returns-in-Err-clause-consumed
+returns-in-Err-clause-consumed g c = let same = ap (λ (d : DecoderData). d.consumed) c.self.view_is in let within = c.take_all-taken.ensures.within in (omega (arith, same), omega (arith, same, within))
+
+pub returns-in-Some-clause-same_set : goal.returns-in-Some-clause-same_set
+returns-in-Some-clause-same_set g c = (ap (λ (d : DecoderData). tree d) c.self.view_is, ap (λ (d : DecoderData). d.limits) c.self.view_is)
+
+pub returns-then-piece-self-clause-same_set : goal.returns-then-piece-self-clause-same_set
+returns-then-piece-self-clause-same_set g c = (ap (λ (d : DecoderData). tree d) c.self.view_is, ap (λ (d : DecoderData). d.limits) c.self.view_is)
+
+pub returns-in-Ok-clause-same_set : goal.returns-in-Ok-clause-same_set
+returns-in-Ok-clause-same_set g c = (ap (λ (d : DecoderData). tree d) c.self.view_is, ap (λ (d : DecoderData). d.limits) c.self.view_is)
+
+pub returns-in-Err-clause-same_set : goal.returns-in-Err-clause-same_set
+returns-in-Err-clause-same_set g c = (ap (λ (d : DecoderData). tree d) c.self.view_is, ap (λ (d : DecoderData). d.limits) c.self.view_is)
+
+pub returns-then-piece-self-clause-stopped : goal.returns-then-piece-self-clause-stopped
+returns-then-piece-self-clause-stopped g c some = 
+    let none : c.args.self.now.fault ≡ None = ap (λ (d : DecoderData). d.fault) (sym c.self.view_is) ∙ c.in_default.is in
+    absurd (let k = subst (λ (f : Option Fault). IsSome f) none some in cc k)
+
+pub returns-in-Ok-clause-stopped : goal.returns-in-Ok-clause-stopped
+returns-in-Ok-clause-stopped g c some = 
+    let none : c.args.self.now.fault ≡ None = ap (λ (d : DecoderData). d.fault) (sym c.self.view_is) ∙ c.in_default.is in
+    absurd (let k = subst (λ (f : Option Fault). IsSome f) none some in cc k)
+
+pub returns-in-Err-clause-stopped : goal.returns-in-Err-clause-stopped
+returns-in-Err-clause-stopped g c some = 
+    let none : c.args.self.now.fault ≡ None = ap (λ (d : DecoderData). d.fault) (sym c.self.view_is) ∙ c.in_default.is in
+    absurd (let k = subst (λ (f : Option Fault). IsSome f) none some in cc k)
+
+pub returns-then-piece-self-clause-answer : goal.returns-then-piece-self-clause-answer
+returns-then-piece-self-clause-answer g c = refl
+
+pub returns-in-Err-clause-answer : goal.returns-in-Err-clause-answer
+returns-in-Err-clause-answer g c = refl

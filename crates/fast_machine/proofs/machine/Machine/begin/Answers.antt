@@ -1,6 +1,7 @@
 use Rattle.fast_machine.proofs.fields.Heads.{node_within, field_head, parts_head, group_head, sequence_head}
 use Rattle.std.proofs.Common.{rules, sym, ap, ◌∙◌}
 use Rattle.fast_tree.specs.device.Numbers.{numbers_of}
+use Rattle.fast_machine.proofs.fields.ScalarNodes.{first_below}
 use Rattle.fast_machine.proofs.machine.Machine.begin.Goals as goal
 
 pub begin_field-requires-clause-next : goal.begin_field-requires-clause-next
@@ -41,3 +42,6 @@ returns-in-Group-clause-turn g c = c.begin_group.ensures.turn
 
 pub returns-in-Sequence-clause-turn : goal.returns-in-Sequence-clause-turn
 returns-in-Sequence-clause-turn g c = c.begin_sequence.ensures.turn
+
+pub node-requires : goal.node-requires
+node-requires g c = first_below _ c.args.self.now.cursor.left c.in-Some.number c.requires.turn.placed.below (sym c.next.ensures ∙ c.in-Some.is)

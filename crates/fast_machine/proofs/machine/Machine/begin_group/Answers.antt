@@ -1,9 +1,12 @@
-use Rattle.std.proofs.Common.{sym, subst}
-use Rattle.fast_machine.specs.device.Positions.{set_of, run_in, turning, IsAtGroup}
+use Rattle.std.proofs.Common.{sym, subst, refl, ap, ◌∙◌, drop}
+use Rattle.fast_machine.specs.device.Positions.{set_of, run_in, turning, IsAtGroup, body_in}
 use Rattle.fast_machine.specs.device.Opening.{opened_result, opened_by}
 use Rattle.fast_machine.proofs.steps.FieldTurns.{turn_as}
-use Rattle.fast_machine.proofs.steps.Opened.{begun_turns}
-use Rattle.fast_machine.proofs.steps.SegmentTurns.{IsGroupBegun, group_there, group_present, group_absent, begun_from}
+use Rattle.fast_machine.proofs.steps.Opened.{begun_turns, opened_not_silent}
+use Rattle.fast_machine.proofs.steps.SegmentTurns.{IsGroupBegun, group_there, group_present, group_absent, begun_from, group_can, group_some, group_nests}
+use Rattle.fast_machine.proofs.steps.TurnCounts.{passed}
+use Rattle.fast_tree.specs.meaning.Tree.{group}
+use Rattle.fast_cursor.specs.device.Cursors.{CursorData}
 use Rattle.fast_machine.proofs.machine.Machine.begin_group.Goals.{then-optional+else-not-bit, else-optional}
 use Rattle.fast_machine.proofs.machine.Machine.begin_group.Goals as goal
 
@@ -38,3 +41,63 @@ returns-clause-turns g c way n h =
     ] in
     let (next, counted) = begun_turns way set c.args.limits n m c.if-optional.self c.args.node c.args.optional (run_in (set_of c.args.templates.now) c.args.start) begun c.requires.next h in
     rw (c.open_segment.ensures.turn, c.open_segment.ensures.waits) (c.enter_group-begun.ensures.turns way n c.args.optional next counted)
+
+pub enter_group-begun-requires-clause-turn : goal.enter_group-begun-requires-clause-turn
+enter_group-begun-requires-clause-turn g c = 
+    let m = c.args.self.now in
+    let set = set_of c.args.templates.now in
+    let begun : IsGroupBegun set c.args.limits m c.if-optional.self c.args.node (run_in (set_of c.args.templates.now) c.args.start) = elim c.if-optional.branch [
+      | then-optional+else-not-bit w ↦ group_present set c.args.limits m c.if-optional.self w.use_bit.new.self c.args.node (run_in (set_of c.args.templates.now) c.args.start)
+          (subst (λ b. IsAtGroup set m.cursor c.args.node b (run_in (set_of c.args.templates.now) c.args.start)) w.if-optional.true c.requires.next) (sym w.if-not-bit.ensures) w.use_bit.ensures.same w.use_bit.ensures.bits w.self-is
+      | else-optional w ↦ group_there set c.args.limits m c.if-optional.self c.args.node (run_in (set_of c.args.templates.now) c.args.start) (subst (λ b. IsAtGroup set m.cursor c.args.node b (run_in (set_of c.args.templates.now) c.args.start)) w.if-optional.false c.requires.next) w.self-is
+    ] in
+    group_can set c.args.limits m c.if-optional.self c.args.node c.args.optional (run_in set c.args.start) c.requires.turn c.requires.next begun
+
+pub enter_group-begun-requires-clause-left : goal.enter_group-begun-requires-clause-left
+enter_group-begun-requires-clause-left g c = 
+    let m = c.args.self.now in
+    let set = set_of c.args.templates.now in
+    let begun : IsGroupBegun set c.args.limits m c.if-optional.self c.args.node (run_in (set_of c.args.templates.now) c.args.start) = elim c.if-optional.branch [
+      | then-optional+else-not-bit w ↦ group_present set c.args.limits m c.if-optional.self w.use_bit.new.self c.args.node (run_in (set_of c.args.templates.now) c.args.start)
+          (subst (λ b. IsAtGroup set m.cursor c.args.node b (run_in (set_of c.args.templates.now) c.args.start)) w.if-optional.true c.requires.next) (sym w.if-not-bit.ensures) w.use_bit.ensures.same w.use_bit.ensures.bits w.self-is
+      | else-optional w ↦ group_there set c.args.limits m c.if-optional.self c.args.node (run_in (set_of c.args.templates.now) c.args.start) (subst (λ b. IsAtGroup set m.cursor c.args.node b (run_in (set_of c.args.templates.now) c.args.start)) w.if-optional.false c.requires.next) w.self-is
+    ] in
+    group_some set c.args.limits m c.if-optional.self c.args.node c.args.optional (run_in set c.args.start) c.requires.turn c.requires.next begun
+
+pub enter_group-begun-requires-clause-nested : goal.enter_group-begun-requires-clause-nested
+enter_group-begun-requires-clause-nested g c = 
+    let m = c.args.self.now in
+    let set = set_of c.args.templates.now in
+    let begun : IsGroupBegun set c.args.limits m c.if-optional.self c.args.node (run_in (set_of c.args.templates.now) c.args.start) = elim c.if-optional.branch [
+      | then-optional+else-not-bit w ↦ group_present set c.args.limits m c.if-optional.self w.use_bit.new.self c.args.node (run_in (set_of c.args.templates.now) c.args.start)
+          (subst (λ b. IsAtGroup set m.cursor c.args.node b (run_in (set_of c.args.templates.now) c.args.start)) w.if-optional.true c.requires.next) (sym w.if-not-bit.ensures) w.use_bit.ensures.same w.use_bit.ensures.bits w.self-is
+      | else-optional w ↦ group_there set c.args.limits m c.if-optional.self c.args.node (run_in (set_of c.args.templates.now) c.args.start) (subst (λ b. IsAtGroup set m.cursor c.args.node b (run_in (set_of c.args.templates.now) c.args.start)) w.if-optional.false c.requires.next) w.self-is
+    ] in
+    group_nests set c.args.limits m c.if-optional.self c.args.node c.args.optional (run_in set c.args.start) c.requires.turn c.requires.next begun
+
+pub enter_group-begun-requires-clause-run : goal.enter_group-begun-requires-clause-run
+enter_group-begun-requires-clause-run g c = c.requires.run
+
+pub enter_group-begun-requires-clause-below : goal.enter_group-begun-requires-clause-below
+enter_group-begun-requires-clause-below g c = c.requires.below
+
+pub enter_group-begun-requires-clause-body : goal.enter_group-begun-requires-clause-body
+enter_group-begun-requires-clause-body g c = c.requires.body
+
+pub enter_group-begun-requires-clause-node : goal.enter_group-begun-requires-clause-node
+enter_group-begun-requires-clause-node g c = c.requires.node
+
+pub returns-then-not-bit-clause-past : goal.returns-then-not-bit-clause-past
+returns-then-not-bit-clause-past g c i = ap (λ (x : CursorData). x.left) c.advance.ensures ∙ ap (λ (x : CursorData). drop 1 x.left) c.use_bit.ensures.same
+
+pub returns-then-not-bit-clause-turns : goal.returns-then-not-bit-clause-turns
+returns-then-not-bit-clause-turns g c way n h = 
+    let set = set_of c.args.templates.now in
+    let m = c.args.self.now in
+    let (at, number, some, next) = c.requires.next in
+    passed way set c.args.limits n m.turns.count m.turns.count m.counted m.counted m.cursor c.advance.new.self (group at c.args.optional (body_in set (run_in set c.args.start))) next refl refl
+    (ap (λ (x : CursorData). x.left) c.advance.ensures ∙ ap (λ (x : CursorData). drop 1 x.left) c.use_bit.ensures.same)
+    (ap (λ (x : CursorData). x.frames) c.advance.ensures ∙ ap (λ (x : CursorData). x.frames) c.use_bit.ensures.same) h
+
+pub returns-clause-past : goal.returns-clause-past
+returns-clause-past g c i = absurd (opened_not_silent c.enter_group-begun.result (sym c.open_segment.ensures.turn ∙ i))

@@ -9,6 +9,8 @@ use Rattle.fast_machine.specs.declared.machine.Waiting.{Waiting}
 use Rattle.fast_machine.proofs.steps.FieldTurns.{serves_here}
 use Rattle.fast_machine.proofs.machines.ScalarMachines.{still_supplied, first_taken}
 use Rattle.fast_machine.proofs.fields.ScalarNodes.{at_field_node, at_parts_node, at_sequence_node, no_group, first_below, served_node, first_begins}
+use Rattle.fast_machine.proofs.machines.HeldTexts.{can_take}
+use Rattle.fast_machine.specs.declared.machine.Waiting.TheVariants.{Field}
 use Rattle.fast_machine.proofs.machine.Machine.take_first_integer.Goals as goal
 
 pub take_first-progress-requires-clause-serves : goal.take_first-progress-requires-clause-serves
@@ -151,3 +153,9 @@ returns-in-Decimal-clause-turns g c = c.take_exponent.ensures.turns
 
 pub returns-in-Sequence-clause-turns : goal.returns-in-Sequence-clause-turns
 returns-in-Sequence-clause-turns g c = c.take_length.ensures.turns
+
+pub node-requires : goal.node-requires
+node-requires g c = 
+    let m = c.args.self.now in
+    let can = can_take (set_of c.args.templates.now) c.args.limits m m.turns Field c.requires.waits c.requires.ready in
+    first_below _ m.cursor.left c.in-Some.number can.0.below (sym c.next.ensures ∙ c.in-Some.is)

@@ -8,8 +8,10 @@ use Rattle.fast_machine.specs.device.Positions.{set_of}
 use Rattle.fast_machine.specs.device.UnitTaken.{IsSentItem}
 use Rattle.fast_machine.proofs.steps.FieldTurns.{serves_here}
 use Rattle.fast_machine.proofs.fields.Heads.{field_head}
-use Rattle.fast_machine.proofs.fields.ScalarNodes.{served_node, first_begins}
+use Rattle.fast_machine.proofs.fields.ScalarNodes.{served_node, first_begins, first_below}
 use Rattle.fast_machine.proofs.machines.SentItems.{held_item}
+use Rattle.fast_machine.proofs.machines.HeldTexts.{can_take}
+use Rattle.fast_machine.specs.declared.machine.Waiting.TheVariants.{Field}
 use Rattle.fast_machine.proofs.machine.Machine.take_held_number.Goals as goal
 
 pub integer_item-requires-clause-serves : goal.integer_item-requires-clause-serves
@@ -55,3 +57,9 @@ returns-clause-turns g c way n h =
     c.clear.new.self c.args.rest.now c.in_ok-bytes.bytes c.in_ok-item.item c.in_ok-entity.entity.len c.in_ok-bytes.count c.clear.ensures whole.within whole.joined behind among (c.in_ok-item.ensures.unit (bounds l)) in
     let sent = subst (λ (k : ℕ). IsSentItem set l m (record m { slots = c.integer_item.new.slots; entity = c.clear.new.self }) c.in_ok-number.number (field_data field) c.args.rest.now c.in_ok-item.item (c.in_ok-entity.entity.len - k)) (sym size) item in
     c.sent.ensures.turns set l m c.args.rest.now (field_data field) sent way n h
+
+pub node-requires : goal.node-requires
+node-requires g c = 
+    let m = c.args.self.now in
+    let can = can_take (set_of c.args.templates.now) c.args.limits m m.turns Field c.requires.waits c.requires.ready in
+    first_below _ m.cursor.left c.in_ok-number.number can.0.below (sym c.next.ensures ∙ c.in_ok-number.was)

@@ -14,7 +14,7 @@ use Rattle.fast_machine.specs.declared.machine.Machine.{Machine}
 use Rattle.fast_machine.specs.device.Positions.{set_of, IsReady, GoesOnWithBytes}
 use Rattle.fast_machine.specs.device.Scalars.{IsOfField, IsScalarUnit}
 use Rattle.fast_machine.specs.device.UnitTaken.{IsTakenTo}
-use Rattle.fast_machine.proofs.fields.ScalarNodes.{at_field_node}
+use Rattle.fast_machine.proofs.fields.ScalarNodes.{at_field_node, first_below}
 use Rattle.fast_machine.proofs.machines.HeldTexts.{counted, counted_reads, counted_ready, can_take}
 use Rattle.fast_machine.proofs.machines.ScalarMachines.{bytes_taken, still_supplied}
 use Rattle.fast_machine.proofs.steps.FieldTurns.{state_of}
@@ -62,3 +62,9 @@ returns-clause-taken g c =
     (some, within, gives) tt (λ e. absurd (cc e))).0 in
     subst (λ (r : Reader Dictionary). IsTakenTo g.S.Sink.takes g.S.Sink.stops set l r rest c.args.sink.now c.scalar_taken.result.bytes c.scalar_taken.result.turn c.scalar_taken.new.sink c.scalar_taken.new.self) (counted_reads set l m turns w waits refl)
     (c.scalar_taken.ensures.taken a ready (subst IsOfField (sym waits) tt) (omega (arith, some, within)) unit)
+
+pub node-requires : goal.node-requires
+node-requires g c = 
+    let m = c.args.self.now in
+    let can = can_take (set_of c.args.templates.now) c.args.limits m m.turns (Bytes (Vector c.args.size)) c.requires.waits c.requires.ready in
+    first_below _ m.cursor.left c.in_ok-number.number can.0.below (sym c.next.ensures ∙ c.in_ok-number.was)

@@ -4,7 +4,8 @@ use Rattle.fast_machine.specs.device.Positions.{set_of}
 use Rattle.fast_machine.specs.device.Scalars.{IsOfField}
 use Rattle.fast_machine.specs.device.TurnsLeft.{HasTurns}
 use Rattle.fast_machine.specs.declared.machine.Machine.{Machine}
-use Rattle.fast_machine.proofs.fields.ScalarNodes.{at_field_node, of_later, later_field, not_field, still_at_field}
+use Rattle.fast_machine.proofs.fields.ScalarNodes.{at_field_node, of_later, later_field, not_field, still_at_field, first_below}
+use Rattle.fast_machine.proofs.machines.ScalarMachines.{placed_by}
 use Rattle.fast_machine.proofs.machine.Machine.take_later_unit.Goals as goal
 
 pub returns-in_default-shape : goal.returns-in_default-shape
@@ -31,3 +32,9 @@ returns-clause-turns g c way n h =
     let same = c.take_scalar-progress.ensures.unit.same in
     c.scalar_taken.ensures.turns way n (subst (λ (x : Machine). IsOfField x.waiting) (sym same) (of_later m.waiting c.requires.waits))
     (subst (λ (x : Machine). HasTurns way set c.args.limits 1 n x) (sym same) h)
+
+pub node-requires : goal.node-requires
+node-requires g c = 
+    let m = c.args.self.now in
+    let (placed, mapped) = placed_by m.waiting (set_of c.args.templates.now) c.args.limits m (of_later m.waiting c.requires.waits) c.requires.ready.takes in
+    first_below _ m.cursor.left c.in-Some.number placed.below (sym c.next.ensures ∙ c.in-Some.is)

@@ -19,8 +19,10 @@ use Rattle.fast_machine.specs.device.Positions.{set_of, meaning, CanTake, IsTurn
 use Rattle.fast_machine.specs.declared.machine.Waiting.{Waiting}
 use Rattle.fast_machine.proofs.machines.UnitTaken.{cut_to, wrong_to}
 use Rattle.fast_machine.proofs.steps.FieldTurns.{serves_here, behind, mantissa_from, mantissa_next, serves_known, entry_here, turn_moved}
-use Rattle.fast_machine.proofs.fields.ScalarNodes.{at_parts_node, mantissa_parts, not_decimal, served_node}
+use Rattle.fast_machine.proofs.fields.ScalarNodes.{at_parts_node, mantissa_parts, not_decimal, served_node, first_below}
 use Rattle.fast_machine.proofs.machines.PartTakes.{integer_whole, integer_wrong, integer_cut, mantissa_sees, mantissa_sent, meaning_second, second_cut, second_ready, second_turn, part_supplied}
+use Rattle.fast_machine.proofs.machines.HeldTexts.{can_take}
+use Rattle.fast_machine.specs.declared.machine.Waiting.TheVariants.{Mantissa}
 use Rattle.fast_machine.proofs.machine.Machine.take_mantissa.Goals as goal
 
 pub returns-in_default-shape : goal.returns-in_default-shape
@@ -133,3 +135,9 @@ returns-in-Whole-clause-taken g c =
     (subst (λ (y : ℤ). IsTurn takes stops set l (read y) c.args.sink.now turn c.finish_decimal-turn.new.sink b)
     (to_z-of_z w32 x c.ranges.exponent)
     (turn_moved takes stops set l (read (to_z w32 (of_z w32 x))) (read (to_z w32 (of_z w32 x))) c.args.sink.now turn c.finish_decimal-turn.new.sink a b refl (ends.moves set (bounds l) l.strict (meaning set l b)) can ends.same ends.rests ends.past ends.on))
+
+pub node-requires : goal.node-requires
+node-requires g c = 
+    let m = c.args.self.now in
+    let can = can_take (set_of c.args.templates.now) c.args.limits m m.turns (Mantissa c.args.exponent) c.requires.waits c.requires.ready in
+    first_below _ m.cursor.left c.in-Some.number can.0.below (sym c.next.ensures ∙ c.in-Some.is)

@@ -21,10 +21,12 @@ use Rattle.fast_machine.proofs.steps.Recounted.{supplied-turns}
 use Rattle.fast_machine.proofs.steps.FieldTurns.{serves_here, behind, mantissa_from, mantissa_next, serves_known, entry_here}
 use Rattle.fast_machine.proofs.fields.Heads.{parts_head}
 use Rattle.fast_machine.proofs.machines.ScalarSteps.{supplied_moved, goes_on_moved}
-use Rattle.fast_machine.proofs.fields.ScalarNodes.{served_node}
+use Rattle.fast_machine.proofs.fields.ScalarNodes.{served_node, first_below}
 use Rattle.fast_machine.proofs.machines.PartTakes.{integer_at_once, mantissa_sees, mantissa_sent, meaning_second, second_turn, part_supplied}
 use Rattle.fast_units.proofs.NextUnits.{none_in_hand}
 use Rattle.fast_machine.proofs.steps.TurnCounts.{finished, one_unit}
+use Rattle.fast_machine.proofs.machines.HeldTexts.{can_take}
+use Rattle.fast_machine.specs.declared.machine.Waiting.TheVariants.{Mantissa}
 use Rattle.fast_machine.proofs.machine.Machine.take_short_mantissa.Goals as goal
 
 pub mantissa_item-requires-clause-serves : goal.mantissa_item-requires-clause-serves
@@ -89,3 +91,9 @@ returns-clause-turns g c way n h =
     let at : IsAtParts set m.cursor c.in_ok-number.number (field_data c.in-Decimal.exponent) (field_data c.in-Decimal.mantissa) = parts_head c.args.templates.now m.cursor c.in_ok-number.number c.node.result.now (sym c.next.ensures ∙ c.in_ok-number.was) c.node.ensures.found c.in-Decimal.exponent c.in-Decimal.mantissa c.in-Decimal.is in
     finished way set l (1 + n) a c.finish_decimal-turn.new.self _ c.finish_decimal-turn.result at.3 c.finish_decimal-turn.ensures.same c.finish_decimal-turn.ensures.past c.finish_decimal-turn.ensures.on
     (one_unit way set l 1 n m.turns.count a.turns.count m.counted m.cursor c.after-self.ensures h)
+
+pub node-requires : goal.node-requires
+node-requires g c = 
+    let m = c.args.self.now in
+    let can = can_take (set_of c.args.templates.now) c.args.limits m m.turns (Mantissa c.args.exponent) c.requires.waits c.requires.ready in
+    first_below _ m.cursor.left c.in_ok-number.number can.0.below (sym c.next.ensures ∙ c.in_ok-number.was)

@@ -9,7 +9,7 @@ use Rattle.fast_tree.specs.declared.instructions.Shape.TheVariants.{Field}
 use Rattle.fast_machine.specs.device.Positions.{set_of}
 use Rattle.fast_machine.proofs.steps.FieldTurns.{serves_here, state_of}
 use Rattle.fast_machine.proofs.fields.QuickFields.{sent_by_bit}
-use Rattle.fast_machine.proofs.fields.ScalarNodes.{served_node}
+use Rattle.fast_machine.proofs.fields.ScalarNodes.{served_node, first_below}
 use Rattle.fast_machine.proofs.machines.SentItems.{sent_item, number_waits, number_step}
 use Rattle.fast_machine.proofs.machine.Machine.take_short_number.Goals as goal
 
@@ -149,3 +149,6 @@ returns-in_ok-decimal-in-Decimal-clause-step g c =
     number_step g.S.Sink.takes g.S.Sink.stops set l m c.sent-in-Decimal.new.self c.args.rest.now c.args.sink.now c.sent-in-Decimal.result c.sent-in-Decimal.new.sink c.requires.waits waits
     (c.sent-in-Decimal.ensures.taken set l m c.args.rest.now (field_data field) bit item)
     (λ way n h. c.sent-in-Decimal.ensures.turns set l m c.args.rest.now (field_data field) item way n h)
+
+pub node-requires : goal.node-requires
+node-requires g c = first_below _ c.args.self.now.cursor.left c.in_ok-number.number c.requires.turn.placed.below (sym c.next.ensures ∙ c.in_ok-number.was)

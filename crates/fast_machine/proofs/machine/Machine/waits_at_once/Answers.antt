@@ -7,6 +7,7 @@ use Rattle.fast_machine.proofs.fields.Heads.{field_head}
 use Rattle.fast_machine.proofs.steps.FieldTurns.{state_of, sent_here, field_waits}
 use Rattle.fast_machine.proofs.steps.Awaiting.{first_turns}
 use Rattle.fast_machine.proofs.steps.TurnCounts.{one_taken}
+use Rattle.fast_machine.proofs.fields.ScalarNodes.{first_below}
 use Rattle.fast_machine.proofs.machine.Machine.waits_at_once.Goals as goal
 
 pub returns-clause-hands : goal.returns-clause-hands
@@ -37,3 +38,6 @@ pub returns-clause-turns : goal.returns-clause-turns
 returns-clause-turns g c e way k h =
     let m = c.args.self.now in
     first_turns way (set_of c.args.templates.now) c.args.limits k (field_data c.in-Field.field) m c.wait_first.new.self c.wait_first.ensures.text c.wait_first.ensures.number c.wait_first.ensures.same (one_taken way (set_of c.args.templates.now) c.args.limits k m.turns.count m.counted m.cursor h)
+
+pub node-requires : goal.node-requires
+node-requires g c = first_below _ c.args.self.now.cursor.left c.in-Some.number c.requires.turn.placed.below (sym c.next.ensures ∙ c.in-Some.is)

@@ -1,0 +1,100 @@
+-- The limits and the initial values are judged first; then the decoder is as its machine is made.
+use Rattle.std.proofs.Common.{◌≡◌, ◌∙◌, refl, sym, inl, inr, arith}
+use Rattle.std.specs.Prelude.{true, None}
+use Rattle.fast_machine.specs.device.Positions.{set_of}
+use Rattle.fast_decoder.specs.meaning.Decoding.{DecoderData, AreBadLimits}
+use Rattle.fast_decoder.proofs.streams.Bounds.{stored-bound}
+use Rattle.fast_decoder.proofs.streams.Starts.{sound_fresh, read_fresh}
+use Rattle.fast_decoder.proofs.decoder.Decoder.new.Goals as goal
+
+pub returns-then-limits-lt-MIN_TEXT-clause-bad_limits : goal.returns-then-limits-lt-MIN_TEXT-clause-bad_limits
+returns-then-limits-lt-MIN_TEXT-clause-bad_limits c = 
+    let bad : AreBadLimits c.args.limits = elim c.then-limits-lt-MIN_TEXT.either [
+      | inl few ↦ inl few
+      | inr many ↦ inr many.1
+    ] in
+    (λ e. bad, λ h. refl)
+
+pub returns-then-limits-lt-MIN_TEXT-clause-long_initial : goal.returns-then-limits-lt-MIN_TEXT-clause-long_initial
+returns-then-limits-lt-MIN_TEXT-clause-long_initial c = 
+    let bad : AreBadLimits c.args.limits = elim c.then-limits-lt-MIN_TEXT.either [
+      | inl few ↦ inl few
+      | inr many ↦ inr many.1
+    ] in
+    (λ e. absurd (cc e), λ h. absurd (h.0 bad))
+
+pub returns-then-has_long_initial-clause-bad_limits : goal.returns-then-has_long_initial-clause-bad_limits
+returns-then-has_long_initial-clause-bad_limits c = 
+    let least = c.if-limits-lt-MIN_TEXT.false in
+    let most = c.if-limits-gt-MAX_TEXT.false in
+    let good : ¬ (AreBadLimits c.args.limits) = λ h. elim h [
+      | inl few ↦ omega (arith, least, few)
+      | inr many ↦ omega (arith, most, many)
+    ] in
+    (λ e. absurd (cc e), λ h. absurd (good h))
+
+pub returns-then-has_long_initial-clause-long_initial : goal.returns-then-has_long_initial-clause-long_initial
+returns-then-has_long_initial-clause-long_initial c = 
+    let least = c.if-limits-lt-MIN_TEXT.false in
+    let most = c.if-limits-gt-MAX_TEXT.false in
+    let good : ¬ (AreBadLimits c.args.limits) = λ h. elim h [
+      | inl few ↦ omega (arith, least, few)
+      | inr many ↦ omega (arith, most, many)
+    ] in
+    (λ e. (good, c.has_long_initial.ensures.0 c.if-has_long_initial.true), λ h. refl)
+
+pub new-requires-clause-least : goal.new-requires-clause-least
+new-requires-clause-least c = c.if-limits-lt-MIN_TEXT.false
+
+pub new-requires-clause-initial : goal.new-requires-clause-initial
+new-requires-clause-initial c long = 
+    let yes : c.has_long_initial.result ≡ true = c.has_long_initial.ensures.1 long in
+    let k = sym yes ∙ c.if-has_long_initial.false in cc k
+
+pub returns-in-Err-clause-bad_limits : goal.returns-in-Err-clause-bad_limits
+returns-in-Err-clause-bad_limits c = 
+    let least = c.if-limits-lt-MIN_TEXT.false in
+    let most = c.if-limits-gt-MAX_TEXT.false in
+    let good : ¬ (AreBadLimits c.args.limits) = λ h. elim h [
+      | inl few ↦ omega (arith, least, few)
+      | inr many ↦ omega (arith, most, many)
+    ] in
+    (λ e. absurd (cc e), λ h. absurd (good h))
+
+pub returns-in-Err-clause-long_initial : goal.returns-in-Err-clause-long_initial
+returns-in-Err-clause-long_initial c = (
+      λ e. absurd (cc e),
+      λ h. absurd (let yes : c.has_long_initial.result ≡ true = c.has_long_initial.ensures.1 h.1 in let k = sym yes ∙ c.if-has_long_initial.false in cc k),
+    )
+
+pub returns-in-Ok-clause-bad_limits : goal.returns-in-Ok-clause-bad_limits
+returns-in-Ok-clause-bad_limits c = 
+    let least = c.if-limits-lt-MIN_TEXT.false in
+    let most = c.if-limits-gt-MAX_TEXT.false in
+    let good : ¬ (AreBadLimits c.args.limits) = λ h. elim h [
+      | inl few ↦ omega (arith, least, few)
+      | inr many ↦ omega (arith, most, many)
+    ] in
+    (λ e. absurd (cc e), λ h. absurd (good h))
+
+pub returns-in-Ok-clause-long_initial : goal.returns-in-Ok-clause-long_initial
+returns-in-Ok-clause-long_initial c = (
+      λ e. absurd (cc e),
+      λ h. absurd (let yes : c.has_long_initial.result ≡ true = c.has_long_initial.ensures.1 h.1 in let k = sym yes ∙ c.if-has_long_initial.false in cc k),
+    )
+
+pub invariant_of-result : goal.invariant_of-result
+invariant_of-result c = 
+    let made : DecoderData = record { set = set_of c.args.templates.now; limits = c.args.limits; machine = c.in-Ok.machine; consumed = 0; fault = None } in
+    sound_fresh made c.args.templates.now.nodes_name_later_nodes c.in-Ok.ensures.supplied c.in-Ok.ensures.fresh refl
+
+pub returns-in-Ok-clause-made : goal.returns-in-Ok-clause-made
+returns-in-Ok-clause-made c = 
+    let made : DecoderData = record { set = set_of c.args.templates.now; limits = c.args.limits; machine = c.in-Ok.machine; consumed = 0; fault = None } in
+    (read_fresh made c.args.templates.now.nodes_name_later_nodes c.in-Ok.ensures.supplied c.in-Ok.ensures.fresh refl refl, refl, refl)
+
+pub returns-in-Ok-clause-no_turn : goal.returns-in-Ok-clause-no_turn
+returns-in-Ok-clause-no_turn c = c.in-Ok.ensures.fresh.turns
+
+pub returns-in-Ok-clause-bounded : goal.returns-in-Ok-clause-bounded
+returns-in-Ok-clause-bounded c = stored-bound (set_of c.args.templates.now) c.args.limits c.in-Ok.machine c.in-Ok.ensures.supplied
