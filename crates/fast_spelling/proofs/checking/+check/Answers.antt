@@ -23,7 +23,7 @@ use Rattle.fast_spelling.specs.device.Fields.{Wrote}
 use Rattle.fast_spelling.specs.meaning.Suiting.{SuitsBody}
 use Rattle.fast_spelling.proofs.encodings.Instructions.{at_shape, usable_at, short_at, served, encodes_as, group_encodes, sequence_encodes}
 use Rattle.fast_spelling.proofs.limits.Depths.{item_depth, option_depth, slots_depth, rows_depth, option_depth_at, row_depth}
-use Rattle.fast_spelling.proofs.encodings.Progress.{written_start, more_at, all_written, IsClosed, ready_kept, keeps_on, keeps_all, row_more, rows_start, rows_done, has_bits}
+use Rattle.fast_spelling.proofs.encodings.Progress.{written_start, more_at, all_written, IsClosed, ready_kept, keeps_on, keeps_all, row_more, rows_start, rows_done, has_bits, on_handed_on}
 use Rattle.fast_spelling.proofs.limits.Suited.{one_suits, no_slot_suits, no_row_suits}
 use Rattle.fast_spelling.proofs.limits.Checked.{accepted_as, one_fits, one_total, one_row_right, one_row_fits, one_row_total, no_row_fits, no_row_total}
 use Rattle.fast_spelling.proofs.encodings.Sealed.{sealed}
@@ -826,3 +826,12 @@ try_segment-returns-clause-ok t c =
     on_both c.seal.result c.seal.ensures.ok bits (λ closes same.
     let z = sealed l body (slots_data c.args.slots.now) c.args.work.now.ledger.now new.ledger.now a c.open.new.self new.draft c.seal.new.self c.args.has_map _ _ kept.bytes c.open.ensures.bits wrote c.requires.map m n closes same in
     (z.bytes, z.bits_are, z.bytes_are, z.says))
+
+pub try_segment-returns-in_err-mark-clause-suits : goal.try_segment-returns-in_err-mark-clause-suits
+try_segment-returns-in_err-mark-clause-suits t c = on_handed_on _ _ c.from_residual.result c.from_residual.ensures.1
+
+pub try_segment-returns-in_err-mark-clause-fits : goal.try_segment-returns-in_err-mark-clause-fits
+try_segment-returns-in_err-mark-clause-fits t c = on_handed_on _ _ c.from_residual.result c.from_residual.ensures.1
+
+pub try_segment-returns-in_err-mark-clause-ok : goal.try_segment-returns-in_err-mark-clause-ok
+try_segment-returns-in_err-mark-clause-ok t c = on_handed_on _ _ c.from_residual.result c.from_residual.ensures.1

@@ -27,7 +27,7 @@ use Rattle.fast_spelling.specs.meaning.Encoding.{EncodesField, EncodesBody, Enco
 use Rattle.fast_spelling.specs.device.Fields.{Wrote}
 use Rattle.fast_tree.specs.declared.instructions.Shape.{Shape}
 use Rattle.fast_tree.specs.device.Numbers.{numbers_of, AreBetween}
-use Rattle.fast_spelling.proofs.encodings.Progress.{written_start, more_at, refused_at, suits_more, fits_more, all_written, ready_kept, keeps_on, keeps_all, on_both, suits_here, fits_here, closed, unclosed, row_more, row_refused, row_right, row_fits, rows_start, rows_done, has_bits}
+use Rattle.fast_spelling.proofs.encodings.Progress.{written_start, more_at, refused_at, suits_more, fits_more, all_written, ready_kept, keeps_on, keeps_all, on_both, suits_here, fits_here, closed, unclosed, row_more, row_refused, row_right, row_fits, rows_start, rows_done, has_bits, on_handed_on}
 use Rattle.fast_spelling.proofs.writing.+write.Goals as goal
 use Rattle.fast_spelling.proofs.writing.+write.Goals.{write_body-in-None+in_ok-write_absent-in-None, write_body-in-Some+in_ok-write_item-in-Some}
 
@@ -634,3 +634,24 @@ write_item-returns-in-Field-Group-8-clause-ok t c = tt
 
 pub write_item-returns-in-Field-Group-8-clause-keeps : goal.write_item-returns-in-Field-Group-8-clause-keeps
 write_item-returns-in-Field-Group-8-clause-keeps t c = keeps_all c.args.ledger.now
+
+pub write_body-returns-in_err-write_absent-in-None-clause-ok : goal.write_body-returns-in_err-write_absent-in-None-clause-ok
+write_body-returns-in_err-write_absent-in-None-clause-ok t c = on_handed_on _ _ c.from_residual.result c.from_residual.ensures.1
+
+pub write_body-returns-in_err-write_item-in-Some-clause-ok : goal.write_body-returns-in_err-write_item-in-Some-clause-ok
+write_body-returns-in_err-write_item-in-Some-clause-ok t c = on_handed_on _ _ c.from_residual-in_err-write_item-in-Some.result c.from_residual-in_err-write_item-in-Some.ensures.1
+
+pub write_item-returns-in_err-push_bit_if-in-Group-Group-clause-ok : goal.write_item-returns-in_err-push_bit_if-in-Group-Group-clause-ok
+write_item-returns-in_err-push_bit_if-in-Group-Group-clause-ok t c = on_handed_on _ _ c.from_residual.result c.from_residual.ensures.1
+
+pub write_item-returns-in_err-write_body-in-Group-Group-clause-ok : goal.write_item-returns-in_err-write_body-in-Group-Group-clause-ok
+write_item-returns-in_err-write_body-in-Group-Group-clause-ok t c = on_handed_on _ _ c.from_residual-in_err-write_body-in-Group-Group.result c.from_residual-in_err-write_body-in-Group-Group.ensures.1
+
+pub write_item-returns-in_err-write_field-in-Sequence-Sequence-clause-ok : goal.write_item-returns-in_err-write_field-in-Sequence-Sequence-clause-ok
+write_item-returns-in_err-write_field-in-Sequence-Sequence-clause-ok t c = on_handed_on _ _ c.from_residual-in_err-write_field-in-Sequence-Sequence.result c.from_residual-in_err-write_field-in-Sequence-Sequence.ensures.1
+
+pub write_item-returns-in_err-write_body-in-Sequence-Sequence-clause-ok : goal.write_item-returns-in_err-write_body-in-Sequence-Sequence-clause-ok
+write_item-returns-in_err-write_body-in-Sequence-Sequence-clause-ok t c = on_handed_on _ _ c.from_residual-in_err-write_body-in-Sequence-Sequence.result c.from_residual-in_err-write_body-in-Sequence-Sequence.ensures.1
+
+pub write_item-returns-in_err-close-in-Sequence-Sequence-clause-ok : goal.write_item-returns-in_err-close-in-Sequence-Sequence-clause-ok
+write_item-returns-in_err-close-in-Sequence-Sequence-clause-ok t c = on_handed_on _ _ c.from_residual-in_err-close-in-Sequence-Sequence.result c.from_residual-in_err-close-in-Sequence-Sequence.ensures.1
