@@ -2,6 +2,7 @@
 
 ghost use Rattle.std.specs.Prelude.{◌≡◌, [], ◌∷◌, ◌++◌, is_ok};
 ghost use Rattle.fast_template.specs.meaning.Flat.{tree_of};
+ghost use Rattle.fast_stream.specs.meaning.Events.{GroupStart, SequenceStart};
 ghost use Rattle.fast_stream.specs.meaning.Handed.{event_data};
 ghost use Rattle.fast_lines.specs.meaning.Lines.{line_of, node as node_words};
 ghost use Rattle.fast_text.specs.device.Front.{AreFronts, field_front, message_front};
@@ -83,6 +84,35 @@ fn put_message<T: Target>(
     }
 }
 
+/// Writes the line of the start of a group.
+#[inline(always)]
+fn put_group<T: Target>(line: &mut LineWriter<'_, T>, templates: &Templates, node: u32)
+    ensures { Writes T.written T.has_failed line.old
+        (line_of (tree_of templates.now) (GroupStart node) ++ 0x0A ∷ []) line.new }
+{
+    line.put(b"group ");
+    put_node(line, templates, node);
+    line.put(b"\n");
+}
+
+/// Writes the line of the start of a sequence.
+#[inline(always)]
+fn put_sequence<T: Target>(
+    line: &mut LineWriter<'_, T>,
+    templates: &Templates,
+    node: u32,
+    count: u32,
+)
+    ensures { Writes T.written T.has_failed line.old
+        (line_of (tree_of templates.now) (SequenceStart node count) ++ 0x0A ∷ []) line.new }
+{
+    line.put(b"sequence ");
+    put_node(line, templates, node);
+    line.put(b" ");
+    line.put_unsigned(u64::from(count));
+    line.put(b"\n");
+}
+
 /// Writes the line of an event.
 #[inline(always)]
 fn put_event<T: Target>(
@@ -103,19 +133,9 @@ fn put_event<T: Target>(
             put_field(line, templates, fronts, node);
             line.put_value_line(value);
         }
-        Event::GroupStart { node } => {
-            line.put(b"group ");
-            put_node(line, templates, node);
-            line.put(b"\n");
-        }
+        Event::GroupStart { node } => put_group(line, templates, node),
         Event::GroupEnd => line.put(b"end group\n"),
-        Event::SequenceStart { node, count } => {
-            line.put(b"sequence ");
-            put_node(line, templates, node);
-            line.put(b" ");
-            line.put_unsigned(u64::from(count));
-            line.put(b"\n");
-        }
+        Event::SequenceStart { node, count } => put_sequence(line, templates, node, count),
         Event::ElementStart => line.put(b"element\n"),
         Event::ElementEnd => line.put(b"end element\n"),
         Event::SequenceEnd => line.put(b"end sequence\n"),

@@ -237,6 +237,15 @@ impl<'a, T: Target> LineWriter<'a, T> {
         }
     }
 
+    /// Writes the letter of a kind of texts and the space behind it, and a text between quotes.
+    #[inline(always)]
+    fn put_text(&mut self, letter: &[u8], text: &[u8])
+        ensures { Writes T.written T.has_failed self.old (letter.now ++ quoted text.now) self.new }
+    {
+        self.put(letter);
+        self.put_quoted(text);
+    }
+
     /// Writes the letter of a value's kind, a space, and the value.
     pub fn put_value(&mut self, value: Scalar<'_>)
         ensures { Writes T.written T.has_failed self.old (value_text (scalar_data value.entry)) self.new }
@@ -256,14 +265,8 @@ impl<'a, T: Target> LineWriter<'a, T> {
                 self.put(b"e");
                 self.put_signed(i64::from(exponent));
             }
-            Scalar::Ascii(text) => {
-                self.put(b"a ");
-                self.put_quoted(text);
-            }
-            Scalar::Unicode(text) => {
-                self.put(b"s ");
-                self.put_quoted(text);
-            }
+            Scalar::Ascii(text) => self.put_text(b"a ", text),
+            Scalar::Unicode(text) => self.put_text(b"s ", text),
             Scalar::Bytes(bytes) => {
                 self.put(b"b ");
                 self.put_hex(bytes);

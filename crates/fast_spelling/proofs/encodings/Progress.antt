@@ -1,6 +1,6 @@
 -- One slot more, one element more, and a segment that is closed.
 use Rattle.std.proofs.Common.{◌≡◌, inl, inr, ℕ, suc, ◌+◌, ◌<◌, ◌≤◌, List, [], ◌∷◌, ◌++◌, length, take, drop, get_or, refl, ap, sym, subst, ◌∙◌, arith}
-use Rattle.std.specs.Prelude.{zero, Bool, true, nat_lt, Option, Some, None, option_map, slice_index, Result, Ok, Err, OnOk}
+use Rattle.std.specs.Prelude.{zero, Bool, true, nat_lt, Option, Some, None, option_map, slice_index, Result, Ok, Err, OnOk, IsErrAnd}
 use Rattle.std.specs.declared.vec.Vec.{Vec}
 use Rattle.std.specs.declared.alloc.Global.{Global}
 use Rattle.std.proofs.lemmas.List.{append_assoc, append-nil, drop_all}
@@ -198,6 +198,11 @@ keeps_on a b c h k = record { before = k.before ∙ h.before; room = k.room ∙ 
 
 pub keeps_all : (a : LedgerData) → Keeps a a
 keeps_all a = record { before = refl; room = refl; count = refl }
+
+-- of what a `?` hands on, nothing is said of Ok
+pub on_handed_on : {R E : Type 0} (P : Type 0) (Q : E → Type 0) (r : Result R E) → IsErrAnd r Q → OnOk r P
+on_handed_on P Q (Ok x) h = absurd h
+on_handed_on P Q (Err e) h = tt
 
 -- what is so where a call answers Ok, of two clauses
 pub on_both : {R E : Type 0} {A B C : Type 0} (r : Result R E) → OnOk r A → OnOk r B → (A → B → C) → OnOk r C

@@ -23,7 +23,7 @@ use Rattle.fast_spelling.specs.device.Fields.{Wrote}
 use Rattle.fast_spelling.specs.meaning.Suiting.{SuitsBody}
 use Rattle.fast_spelling.proofs.encodings.Instructions.{at_shape, usable_at, short_at, served, encodes_as, group_encodes, sequence_encodes}
 use Rattle.fast_spelling.proofs.limits.Depths.{item_depth, option_depth, slots_depth, rows_depth, option_depth_at, row_depth}
-use Rattle.fast_spelling.proofs.encodings.Progress.{written_start, more_at, all_written, IsClosed, ready_kept, keeps_on, keeps_all, row_more, rows_start, rows_done, has_bits}
+use Rattle.fast_spelling.proofs.encodings.Progress.{written_start, more_at, all_written, IsClosed, ready_kept, keeps_on, keeps_all, row_more, rows_start, rows_done, has_bits, on_handed_on}
 use Rattle.fast_spelling.proofs.limits.Suited.{one_suits, no_slot_suits, no_row_suits}
 use Rattle.fast_spelling.proofs.limits.Checked.{accepted_as, one_fits, one_total, one_row_right, one_row_fits, one_row_total, no_row_fits, no_row_total}
 use Rattle.fast_spelling.proofs.encodings.Sealed.{sealed}
@@ -132,6 +132,382 @@ try_body-loop-i-preserved-in_default-item t c =
       ready = ready_kept c.args.plan.now.templates.now l old.ledger new.ledger inv.ready keeps;
       keeps = keeps_on c.args.work.now.ledger old.ledger new.ledger inv.keeps keeps;
     }
+
+-- Each arm is asked what the invariant, and the form that it is, say.
+pub try_body-try_plain_unsigned-done-requires-clause-node : goal.try_body-try_plain_unsigned-done-requires-clause-node
+try_body-try_plain_unsigned-done-requires-clause-node t c = c.requires.nodes c.loop-i.i (omega (arith, c.if-body-slots.false, c.loop-i-test.true))
+
+pub try_body-try_plain_unsigned-done-requires-clause-form : goal.try_body-try_plain_unsigned-done-requires-clause-form
+try_body-try_plain_unsigned-done-requires-clause-form t c = c.in-PlainUInt32.ensures
+
+pub try_body-try_plain_unsigned-done-requires-clause-ready : goal.try_body-try_plain_unsigned-done-requires-clause-ready
+try_body-try_plain_unsigned-done-requires-clause-ready t c = c.loop-i.invariant.ready
+
+pub try_body-try_plain-done-requires-clause-node : goal.try_body-try_plain-done-requires-clause-node
+try_body-try_plain-done-requires-clause-node t c = c.requires.nodes c.loop-i.i (omega (arith, c.if-body-slots.false, c.loop-i-test.true))
+
+pub try_body-try_plain-done-requires-clause-form : goal.try_body-try_plain-done-requires-clause-form
+try_body-try_plain-done-requires-clause-form t c = c.in-PlainInt32.ensures
+
+pub try_body-try_plain-done-requires-clause-ready : goal.try_body-try_plain-done-requires-clause-ready
+try_body-try_plain-done-requires-clause-ready t c = c.loop-i.invariant.ready
+
+pub try_body-try_plain_unsigned-done-requires-in-PlainUInt64-clause-node : goal.try_body-try_plain_unsigned-done-requires-in-PlainUInt64-clause-node
+try_body-try_plain_unsigned-done-requires-in-PlainUInt64-clause-node t c = c.requires.nodes c.loop-i.i (omega (arith, c.if-body-slots.false, c.loop-i-test.true))
+
+pub try_body-try_plain_unsigned-done-requires-in-PlainUInt64-clause-form : goal.try_body-try_plain_unsigned-done-requires-in-PlainUInt64-clause-form
+try_body-try_plain_unsigned-done-requires-in-PlainUInt64-clause-form t c = c.in-PlainUInt64.ensures
+
+pub try_body-try_plain_unsigned-done-requires-in-PlainUInt64-clause-ready : goal.try_body-try_plain_unsigned-done-requires-in-PlainUInt64-clause-ready
+try_body-try_plain_unsigned-done-requires-in-PlainUInt64-clause-ready t c = c.loop-i.invariant.ready
+
+pub try_body-try_plain-done-requires-in-PlainInt64-clause-node : goal.try_body-try_plain-done-requires-in-PlainInt64-clause-node
+try_body-try_plain-done-requires-in-PlainInt64-clause-node t c = c.requires.nodes c.loop-i.i (omega (arith, c.if-body-slots.false, c.loop-i-test.true))
+
+pub try_body-try_plain-done-requires-in-PlainInt64-clause-form : goal.try_body-try_plain-done-requires-in-PlainInt64-clause-form
+try_body-try_plain-done-requires-in-PlainInt64-clause-form t c = c.in-PlainInt64.ensures
+
+pub try_body-try_plain-done-requires-in-PlainInt64-clause-ready : goal.try_body-try_plain-done-requires-in-PlainInt64-clause-ready
+try_body-try_plain-done-requires-in-PlainInt64-clause-ready t c = c.loop-i.invariant.ready
+
+pub try_body-try_constant-done-requires-clause-node : goal.try_body-try_constant-done-requires-clause-node
+try_body-try_constant-done-requires-clause-node t c = c.requires.nodes c.loop-i.i (omega (arith, c.if-body-slots.false, c.loop-i-test.true))
+
+pub try_body-try_constant-done-requires-clause-form : goal.try_body-try_constant-done-requires-clause-form
+try_body-try_constant-done-requires-clause-form t c = c.in-ConstantUInt32.ensures
+
+pub try_body-try_constant-done-requires-clause-ready : goal.try_body-try_constant-done-requires-clause-ready
+try_body-try_constant-done-requires-clause-ready t c = c.loop-i.invariant.ready
+
+pub try_body-try_constant-done-requires-in-ConstantInt32-clause-node : goal.try_body-try_constant-done-requires-in-ConstantInt32-clause-node
+try_body-try_constant-done-requires-in-ConstantInt32-clause-node t c = c.requires.nodes c.loop-i.i (omega (arith, c.if-body-slots.false, c.loop-i-test.true))
+
+pub try_body-try_constant-done-requires-in-ConstantInt32-clause-form : goal.try_body-try_constant-done-requires-in-ConstantInt32-clause-form
+try_body-try_constant-done-requires-in-ConstantInt32-clause-form t c = c.in-ConstantInt32.ensures
+
+pub try_body-try_constant-done-requires-in-ConstantInt32-clause-ready : goal.try_body-try_constant-done-requires-in-ConstantInt32-clause-ready
+try_body-try_constant-done-requires-in-ConstantInt32-clause-ready t c = c.loop-i.invariant.ready
+
+pub try_body-try_constant-done-requires-in-ConstantUInt64-clause-node : goal.try_body-try_constant-done-requires-in-ConstantUInt64-clause-node
+try_body-try_constant-done-requires-in-ConstantUInt64-clause-node t c = c.requires.nodes c.loop-i.i (omega (arith, c.if-body-slots.false, c.loop-i-test.true))
+
+pub try_body-try_constant-done-requires-in-ConstantUInt64-clause-form : goal.try_body-try_constant-done-requires-in-ConstantUInt64-clause-form
+try_body-try_constant-done-requires-in-ConstantUInt64-clause-form t c = c.in-ConstantUInt64.ensures
+
+pub try_body-try_constant-done-requires-in-ConstantUInt64-clause-ready : goal.try_body-try_constant-done-requires-in-ConstantUInt64-clause-ready
+try_body-try_constant-done-requires-in-ConstantUInt64-clause-ready t c = c.loop-i.invariant.ready
+
+pub try_body-try_constant-done-requires-in-ConstantInt64-clause-node : goal.try_body-try_constant-done-requires-in-ConstantInt64-clause-node
+try_body-try_constant-done-requires-in-ConstantInt64-clause-node t c = c.requires.nodes c.loop-i.i (omega (arith, c.if-body-slots.false, c.loop-i-test.true))
+
+pub try_body-try_constant-done-requires-in-ConstantInt64-clause-form : goal.try_body-try_constant-done-requires-in-ConstantInt64-clause-form
+try_body-try_constant-done-requires-in-ConstantInt64-clause-form t c = c.in-ConstantInt64.ensures
+
+pub try_body-try_constant-done-requires-in-ConstantInt64-clause-ready : goal.try_body-try_constant-done-requires-in-ConstantInt64-clause-ready
+try_body-try_constant-done-requires-in-ConstantInt64-clause-ready t c = c.loop-i.invariant.ready
+
+pub try_body-try_default-done-requires-clause-node : goal.try_body-try_default-done-requires-clause-node
+try_body-try_default-done-requires-clause-node t c = c.requires.nodes c.loop-i.i (omega (arith, c.if-body-slots.false, c.loop-i-test.true))
+
+pub try_body-try_default-done-requires-clause-form : goal.try_body-try_default-done-requires-clause-form
+try_body-try_default-done-requires-clause-form t c = c.in-DefaultUInt32.ensures
+
+pub try_body-try_default-done-requires-clause-ready : goal.try_body-try_default-done-requires-clause-ready
+try_body-try_default-done-requires-clause-ready t c = c.loop-i.invariant.ready
+
+pub try_body-try_default-done-requires-in-DefaultInt32-clause-node : goal.try_body-try_default-done-requires-in-DefaultInt32-clause-node
+try_body-try_default-done-requires-in-DefaultInt32-clause-node t c = c.requires.nodes c.loop-i.i (omega (arith, c.if-body-slots.false, c.loop-i-test.true))
+
+pub try_body-try_default-done-requires-in-DefaultInt32-clause-form : goal.try_body-try_default-done-requires-in-DefaultInt32-clause-form
+try_body-try_default-done-requires-in-DefaultInt32-clause-form t c = c.in-DefaultInt32.ensures
+
+pub try_body-try_default-done-requires-in-DefaultInt32-clause-ready : goal.try_body-try_default-done-requires-in-DefaultInt32-clause-ready
+try_body-try_default-done-requires-in-DefaultInt32-clause-ready t c = c.loop-i.invariant.ready
+
+pub try_body-try_default-done-requires-in-DefaultUInt64-clause-node : goal.try_body-try_default-done-requires-in-DefaultUInt64-clause-node
+try_body-try_default-done-requires-in-DefaultUInt64-clause-node t c = c.requires.nodes c.loop-i.i (omega (arith, c.if-body-slots.false, c.loop-i-test.true))
+
+pub try_body-try_default-done-requires-in-DefaultUInt64-clause-form : goal.try_body-try_default-done-requires-in-DefaultUInt64-clause-form
+try_body-try_default-done-requires-in-DefaultUInt64-clause-form t c = c.in-DefaultUInt64.ensures
+
+pub try_body-try_default-done-requires-in-DefaultUInt64-clause-ready : goal.try_body-try_default-done-requires-in-DefaultUInt64-clause-ready
+try_body-try_default-done-requires-in-DefaultUInt64-clause-ready t c = c.loop-i.invariant.ready
+
+pub try_body-try_default-done-requires-in-DefaultInt64-clause-node : goal.try_body-try_default-done-requires-in-DefaultInt64-clause-node
+try_body-try_default-done-requires-in-DefaultInt64-clause-node t c = c.requires.nodes c.loop-i.i (omega (arith, c.if-body-slots.false, c.loop-i-test.true))
+
+pub try_body-try_default-done-requires-in-DefaultInt64-clause-form : goal.try_body-try_default-done-requires-in-DefaultInt64-clause-form
+try_body-try_default-done-requires-in-DefaultInt64-clause-form t c = c.in-DefaultInt64.ensures
+
+pub try_body-try_default-done-requires-in-DefaultInt64-clause-ready : goal.try_body-try_default-done-requires-in-DefaultInt64-clause-ready
+try_body-try_default-done-requires-in-DefaultInt64-clause-ready t c = c.loop-i.invariant.ready
+
+pub try_body-try_copied-done-requires-clause-node : goal.try_body-try_copied-done-requires-clause-node
+try_body-try_copied-done-requires-clause-node t c = c.requires.nodes c.loop-i.i (omega (arith, c.if-body-slots.false, c.loop-i-test.true))
+
+pub try_body-try_copied-done-requires-clause-form : goal.try_body-try_copied-done-requires-clause-form
+try_body-try_copied-done-requires-clause-form t c = c.in-CopyUInt32.ensures
+
+pub try_body-try_copied-done-requires-clause-ready : goal.try_body-try_copied-done-requires-clause-ready
+try_body-try_copied-done-requires-clause-ready t c = c.loop-i.invariant.ready
+
+pub try_body-try_copied-done-requires-clause-numbers : goal.try_body-try_copied-done-requires-clause-numbers
+try_body-try_copied-done-requires-clause-numbers t c = tt
+
+pub try_body-try_copied-done-requires-in-CopyInt32-clause-node : goal.try_body-try_copied-done-requires-in-CopyInt32-clause-node
+try_body-try_copied-done-requires-in-CopyInt32-clause-node t c = c.requires.nodes c.loop-i.i (omega (arith, c.if-body-slots.false, c.loop-i-test.true))
+
+pub try_body-try_copied-done-requires-in-CopyInt32-clause-form : goal.try_body-try_copied-done-requires-in-CopyInt32-clause-form
+try_body-try_copied-done-requires-in-CopyInt32-clause-form t c = c.in-CopyInt32.ensures
+
+pub try_body-try_copied-done-requires-in-CopyInt32-clause-ready : goal.try_body-try_copied-done-requires-in-CopyInt32-clause-ready
+try_body-try_copied-done-requires-in-CopyInt32-clause-ready t c = c.loop-i.invariant.ready
+
+pub try_body-try_copied-done-requires-in-CopyInt32-clause-numbers : goal.try_body-try_copied-done-requires-in-CopyInt32-clause-numbers
+try_body-try_copied-done-requires-in-CopyInt32-clause-numbers t c = tt
+
+pub try_body-try_copied-done-requires-in-CopyUInt64-clause-node : goal.try_body-try_copied-done-requires-in-CopyUInt64-clause-node
+try_body-try_copied-done-requires-in-CopyUInt64-clause-node t c = c.requires.nodes c.loop-i.i (omega (arith, c.if-body-slots.false, c.loop-i-test.true))
+
+pub try_body-try_copied-done-requires-in-CopyUInt64-clause-form : goal.try_body-try_copied-done-requires-in-CopyUInt64-clause-form
+try_body-try_copied-done-requires-in-CopyUInt64-clause-form t c = c.in-CopyUInt64.ensures
+
+pub try_body-try_copied-done-requires-in-CopyUInt64-clause-ready : goal.try_body-try_copied-done-requires-in-CopyUInt64-clause-ready
+try_body-try_copied-done-requires-in-CopyUInt64-clause-ready t c = c.loop-i.invariant.ready
+
+pub try_body-try_copied-done-requires-in-CopyUInt64-clause-numbers : goal.try_body-try_copied-done-requires-in-CopyUInt64-clause-numbers
+try_body-try_copied-done-requires-in-CopyUInt64-clause-numbers t c = tt
+
+pub try_body-try_copied-done-requires-in-CopyInt64-clause-node : goal.try_body-try_copied-done-requires-in-CopyInt64-clause-node
+try_body-try_copied-done-requires-in-CopyInt64-clause-node t c = c.requires.nodes c.loop-i.i (omega (arith, c.if-body-slots.false, c.loop-i-test.true))
+
+pub try_body-try_copied-done-requires-in-CopyInt64-clause-form : goal.try_body-try_copied-done-requires-in-CopyInt64-clause-form
+try_body-try_copied-done-requires-in-CopyInt64-clause-form t c = c.in-CopyInt64.ensures
+
+pub try_body-try_copied-done-requires-in-CopyInt64-clause-ready : goal.try_body-try_copied-done-requires-in-CopyInt64-clause-ready
+try_body-try_copied-done-requires-in-CopyInt64-clause-ready t c = c.loop-i.invariant.ready
+
+pub try_body-try_copied-done-requires-in-CopyInt64-clause-numbers : goal.try_body-try_copied-done-requires-in-CopyInt64-clause-numbers
+try_body-try_copied-done-requires-in-CopyInt64-clause-numbers t c = tt
+
+pub try_body-try_next-done-requires-clause-node : goal.try_body-try_next-done-requires-clause-node
+try_body-try_next-done-requires-clause-node t c = c.requires.nodes c.loop-i.i (omega (arith, c.if-body-slots.false, c.loop-i-test.true))
+
+pub try_body-try_next-done-requires-clause-form : goal.try_body-try_next-done-requires-clause-form
+try_body-try_next-done-requires-clause-form t c = c.in-IncrementUInt32.ensures
+
+pub try_body-try_next-done-requires-clause-ready : goal.try_body-try_next-done-requires-clause-ready
+try_body-try_next-done-requires-clause-ready t c = c.loop-i.invariant.ready
+
+pub try_body-try_next-done-requires-clause-numbers : goal.try_body-try_next-done-requires-clause-numbers
+try_body-try_next-done-requires-clause-numbers t c = tt
+
+pub try_body-try_next-done-requires-in-IncrementInt32-clause-node : goal.try_body-try_next-done-requires-in-IncrementInt32-clause-node
+try_body-try_next-done-requires-in-IncrementInt32-clause-node t c = c.requires.nodes c.loop-i.i (omega (arith, c.if-body-slots.false, c.loop-i-test.true))
+
+pub try_body-try_next-done-requires-in-IncrementInt32-clause-form : goal.try_body-try_next-done-requires-in-IncrementInt32-clause-form
+try_body-try_next-done-requires-in-IncrementInt32-clause-form t c = c.in-IncrementInt32.ensures
+
+pub try_body-try_next-done-requires-in-IncrementInt32-clause-ready : goal.try_body-try_next-done-requires-in-IncrementInt32-clause-ready
+try_body-try_next-done-requires-in-IncrementInt32-clause-ready t c = c.loop-i.invariant.ready
+
+pub try_body-try_next-done-requires-in-IncrementInt32-clause-numbers : goal.try_body-try_next-done-requires-in-IncrementInt32-clause-numbers
+try_body-try_next-done-requires-in-IncrementInt32-clause-numbers t c = tt
+
+pub try_body-try_next-done-requires-in-IncrementUInt64-clause-node : goal.try_body-try_next-done-requires-in-IncrementUInt64-clause-node
+try_body-try_next-done-requires-in-IncrementUInt64-clause-node t c = c.requires.nodes c.loop-i.i (omega (arith, c.if-body-slots.false, c.loop-i-test.true))
+
+pub try_body-try_next-done-requires-in-IncrementUInt64-clause-form : goal.try_body-try_next-done-requires-in-IncrementUInt64-clause-form
+try_body-try_next-done-requires-in-IncrementUInt64-clause-form t c = c.in-IncrementUInt64.ensures
+
+pub try_body-try_next-done-requires-in-IncrementUInt64-clause-ready : goal.try_body-try_next-done-requires-in-IncrementUInt64-clause-ready
+try_body-try_next-done-requires-in-IncrementUInt64-clause-ready t c = c.loop-i.invariant.ready
+
+pub try_body-try_next-done-requires-in-IncrementUInt64-clause-numbers : goal.try_body-try_next-done-requires-in-IncrementUInt64-clause-numbers
+try_body-try_next-done-requires-in-IncrementUInt64-clause-numbers t c = tt
+
+pub try_body-try_next-done-requires-in-IncrementInt64-clause-node : goal.try_body-try_next-done-requires-in-IncrementInt64-clause-node
+try_body-try_next-done-requires-in-IncrementInt64-clause-node t c = c.requires.nodes c.loop-i.i (omega (arith, c.if-body-slots.false, c.loop-i-test.true))
+
+pub try_body-try_next-done-requires-in-IncrementInt64-clause-form : goal.try_body-try_next-done-requires-in-IncrementInt64-clause-form
+try_body-try_next-done-requires-in-IncrementInt64-clause-form t c = c.in-IncrementInt64.ensures
+
+pub try_body-try_next-done-requires-in-IncrementInt64-clause-ready : goal.try_body-try_next-done-requires-in-IncrementInt64-clause-ready
+try_body-try_next-done-requires-in-IncrementInt64-clause-ready t c = c.loop-i.invariant.ready
+
+pub try_body-try_next-done-requires-in-IncrementInt64-clause-numbers : goal.try_body-try_next-done-requires-in-IncrementInt64-clause-numbers
+try_body-try_next-done-requires-in-IncrementInt64-clause-numbers t c = tt
+
+pub try_body-try_difference-done-requires-clause-node : goal.try_body-try_difference-done-requires-clause-node
+try_body-try_difference-done-requires-clause-node t c = c.requires.nodes c.loop-i.i (omega (arith, c.if-body-slots.false, c.loop-i-test.true))
+
+pub try_body-try_difference-done-requires-clause-form : goal.try_body-try_difference-done-requires-clause-form
+try_body-try_difference-done-requires-clause-form t c = c.in-DeltaUInt32.ensures
+
+pub try_body-try_difference-done-requires-clause-ready : goal.try_body-try_difference-done-requires-clause-ready
+try_body-try_difference-done-requires-clause-ready t c = c.loop-i.invariant.ready
+
+pub try_body-try_difference-done-requires-clause-numbers : goal.try_body-try_difference-done-requires-clause-numbers
+try_body-try_difference-done-requires-clause-numbers t c = tt
+
+pub try_body-try_difference-done-requires-in-DeltaInt32-clause-node : goal.try_body-try_difference-done-requires-in-DeltaInt32-clause-node
+try_body-try_difference-done-requires-in-DeltaInt32-clause-node t c = c.requires.nodes c.loop-i.i (omega (arith, c.if-body-slots.false, c.loop-i-test.true))
+
+pub try_body-try_difference-done-requires-in-DeltaInt32-clause-form : goal.try_body-try_difference-done-requires-in-DeltaInt32-clause-form
+try_body-try_difference-done-requires-in-DeltaInt32-clause-form t c = c.in-DeltaInt32.ensures
+
+pub try_body-try_difference-done-requires-in-DeltaInt32-clause-ready : goal.try_body-try_difference-done-requires-in-DeltaInt32-clause-ready
+try_body-try_difference-done-requires-in-DeltaInt32-clause-ready t c = c.loop-i.invariant.ready
+
+pub try_body-try_difference-done-requires-in-DeltaInt32-clause-numbers : goal.try_body-try_difference-done-requires-in-DeltaInt32-clause-numbers
+try_body-try_difference-done-requires-in-DeltaInt32-clause-numbers t c = tt
+
+pub try_body-try_difference-done-requires-in-DeltaUInt64-clause-node : goal.try_body-try_difference-done-requires-in-DeltaUInt64-clause-node
+try_body-try_difference-done-requires-in-DeltaUInt64-clause-node t c = c.requires.nodes c.loop-i.i (omega (arith, c.if-body-slots.false, c.loop-i-test.true))
+
+pub try_body-try_difference-done-requires-in-DeltaUInt64-clause-form : goal.try_body-try_difference-done-requires-in-DeltaUInt64-clause-form
+try_body-try_difference-done-requires-in-DeltaUInt64-clause-form t c = c.in-DeltaUInt64.ensures
+
+pub try_body-try_difference-done-requires-in-DeltaUInt64-clause-ready : goal.try_body-try_difference-done-requires-in-DeltaUInt64-clause-ready
+try_body-try_difference-done-requires-in-DeltaUInt64-clause-ready t c = c.loop-i.invariant.ready
+
+pub try_body-try_difference-done-requires-in-DeltaUInt64-clause-numbers : goal.try_body-try_difference-done-requires-in-DeltaUInt64-clause-numbers
+try_body-try_difference-done-requires-in-DeltaUInt64-clause-numbers t c = tt
+
+pub try_body-try_difference-done-requires-in-DeltaInt64-clause-node : goal.try_body-try_difference-done-requires-in-DeltaInt64-clause-node
+try_body-try_difference-done-requires-in-DeltaInt64-clause-node t c = c.requires.nodes c.loop-i.i (omega (arith, c.if-body-slots.false, c.loop-i-test.true))
+
+pub try_body-try_difference-done-requires-in-DeltaInt64-clause-form : goal.try_body-try_difference-done-requires-in-DeltaInt64-clause-form
+try_body-try_difference-done-requires-in-DeltaInt64-clause-form t c = c.in-DeltaInt64.ensures
+
+pub try_body-try_difference-done-requires-in-DeltaInt64-clause-ready : goal.try_body-try_difference-done-requires-in-DeltaInt64-clause-ready
+try_body-try_difference-done-requires-in-DeltaInt64-clause-ready t c = c.loop-i.invariant.ready
+
+pub try_body-try_difference-done-requires-in-DeltaInt64-clause-numbers : goal.try_body-try_difference-done-requires-in-DeltaInt64-clause-numbers
+try_body-try_difference-done-requires-in-DeltaInt64-clause-numbers t c = tt
+
+pub try_body-try_plain-done-requires-in-PlainAscii-clause-node : goal.try_body-try_plain-done-requires-in-PlainAscii-clause-node
+try_body-try_plain-done-requires-in-PlainAscii-clause-node t c = c.requires.nodes c.loop-i.i (omega (arith, c.if-body-slots.false, c.loop-i-test.true))
+
+pub try_body-try_plain-done-requires-in-PlainAscii-clause-form : goal.try_body-try_plain-done-requires-in-PlainAscii-clause-form
+try_body-try_plain-done-requires-in-PlainAscii-clause-form t c = c.in-PlainAscii.ensures
+
+pub try_body-try_plain-done-requires-in-PlainAscii-clause-ready : goal.try_body-try_plain-done-requires-in-PlainAscii-clause-ready
+try_body-try_plain-done-requires-in-PlainAscii-clause-ready t c = c.loop-i.invariant.ready
+
+pub try_body-try_constant-done-requires-in-ConstantAscii-clause-node : goal.try_body-try_constant-done-requires-in-ConstantAscii-clause-node
+try_body-try_constant-done-requires-in-ConstantAscii-clause-node t c = c.requires.nodes c.loop-i.i (omega (arith, c.if-body-slots.false, c.loop-i-test.true))
+
+pub try_body-try_constant-done-requires-in-ConstantAscii-clause-form : goal.try_body-try_constant-done-requires-in-ConstantAscii-clause-form
+try_body-try_constant-done-requires-in-ConstantAscii-clause-form t c = c.in-ConstantAscii.ensures
+
+pub try_body-try_constant-done-requires-in-ConstantAscii-clause-ready : goal.try_body-try_constant-done-requires-in-ConstantAscii-clause-ready
+try_body-try_constant-done-requires-in-ConstantAscii-clause-ready t c = c.loop-i.invariant.ready
+
+pub try_body-try_default-done-requires-in-DefaultAscii-clause-node : goal.try_body-try_default-done-requires-in-DefaultAscii-clause-node
+try_body-try_default-done-requires-in-DefaultAscii-clause-node t c = c.requires.nodes c.loop-i.i (omega (arith, c.if-body-slots.false, c.loop-i-test.true))
+
+pub try_body-try_default-done-requires-in-DefaultAscii-clause-form : goal.try_body-try_default-done-requires-in-DefaultAscii-clause-form
+try_body-try_default-done-requires-in-DefaultAscii-clause-form t c = c.in-DefaultAscii.ensures
+
+pub try_body-try_default-done-requires-in-DefaultAscii-clause-ready : goal.try_body-try_default-done-requires-in-DefaultAscii-clause-ready
+try_body-try_default-done-requires-in-DefaultAscii-clause-ready t c = c.loop-i.invariant.ready
+
+pub try_body-try_copied_other-done-requires-clause-node : goal.try_body-try_copied_other-done-requires-clause-node
+try_body-try_copied_other-done-requires-clause-node t c = c.requires.nodes c.loop-i.i (omega (arith, c.if-body-slots.false, c.loop-i-test.true))
+
+pub try_body-try_copied_other-done-requires-clause-form : goal.try_body-try_copied_other-done-requires-clause-form
+try_body-try_copied_other-done-requires-clause-form t c = c.in-CopyAscii.ensures
+
+pub try_body-try_copied_other-done-requires-clause-ready : goal.try_body-try_copied_other-done-requires-clause-ready
+try_body-try_copied_other-done-requires-clause-ready t c = c.loop-i.invariant.ready
+
+pub try_body-try_chosen-done-requires-clause-node : goal.try_body-try_chosen-done-requires-clause-node
+try_body-try_chosen-done-requires-clause-node t c = c.requires.nodes c.loop-i.i (omega (arith, c.if-body-slots.false, c.loop-i-test.true))
+
+pub try_body-try_chosen-done-requires-clause-form : goal.try_body-try_chosen-done-requires-clause-form
+try_body-try_chosen-done-requires-clause-form t c = c.in-TailAscii.ensures
+
+pub try_body-try_chosen-done-requires-clause-ready : goal.try_body-try_chosen-done-requires-clause-ready
+try_body-try_chosen-done-requires-clause-ready t c = c.loop-i.invariant.ready
+
+pub try_body-try_chosen-done-requires-in-DeltaAscii-clause-node : goal.try_body-try_chosen-done-requires-in-DeltaAscii-clause-node
+try_body-try_chosen-done-requires-in-DeltaAscii-clause-node t c = c.requires.nodes c.loop-i.i (omega (arith, c.if-body-slots.false, c.loop-i-test.true))
+
+pub try_body-try_chosen-done-requires-in-DeltaAscii-clause-form : goal.try_body-try_chosen-done-requires-in-DeltaAscii-clause-form
+try_body-try_chosen-done-requires-in-DeltaAscii-clause-form t c = c.in-DeltaAscii.ensures
+
+pub try_body-try_chosen-done-requires-in-DeltaAscii-clause-ready : goal.try_body-try_chosen-done-requires-in-DeltaAscii-clause-ready
+try_body-try_chosen-done-requires-in-DeltaAscii-clause-ready t c = c.loop-i.invariant.ready
+
+pub try_body-try_plain-done-requires-in-PlainUnicode-clause-node : goal.try_body-try_plain-done-requires-in-PlainUnicode-clause-node
+try_body-try_plain-done-requires-in-PlainUnicode-clause-node t c = c.requires.nodes c.loop-i.i (omega (arith, c.if-body-slots.false, c.loop-i-test.true))
+
+pub try_body-try_plain-done-requires-in-PlainUnicode-clause-form : goal.try_body-try_plain-done-requires-in-PlainUnicode-clause-form
+try_body-try_plain-done-requires-in-PlainUnicode-clause-form t c = c.in-PlainUnicode.ensures
+
+pub try_body-try_plain-done-requires-in-PlainUnicode-clause-ready : goal.try_body-try_plain-done-requires-in-PlainUnicode-clause-ready
+try_body-try_plain-done-requires-in-PlainUnicode-clause-ready t c = c.loop-i.invariant.ready
+
+pub try_body-try_chosen-done-requires-in-DeltaUnicode-clause-node : goal.try_body-try_chosen-done-requires-in-DeltaUnicode-clause-node
+try_body-try_chosen-done-requires-in-DeltaUnicode-clause-node t c = c.requires.nodes c.loop-i.i (omega (arith, c.if-body-slots.false, c.loop-i-test.true))
+
+pub try_body-try_chosen-done-requires-in-DeltaUnicode-clause-form : goal.try_body-try_chosen-done-requires-in-DeltaUnicode-clause-form
+try_body-try_chosen-done-requires-in-DeltaUnicode-clause-form t c = c.in-DeltaUnicode.ensures
+
+pub try_body-try_chosen-done-requires-in-DeltaUnicode-clause-ready : goal.try_body-try_chosen-done-requires-in-DeltaUnicode-clause-ready
+try_body-try_chosen-done-requires-in-DeltaUnicode-clause-ready t c = c.loop-i.invariant.ready
+
+pub try_body-try_plain-done-requires-in-PlainBytes-clause-node : goal.try_body-try_plain-done-requires-in-PlainBytes-clause-node
+try_body-try_plain-done-requires-in-PlainBytes-clause-node t c = c.requires.nodes c.loop-i.i (omega (arith, c.if-body-slots.false, c.loop-i-test.true))
+
+pub try_body-try_plain-done-requires-in-PlainBytes-clause-form : goal.try_body-try_plain-done-requires-in-PlainBytes-clause-form
+try_body-try_plain-done-requires-in-PlainBytes-clause-form t c = c.in-PlainBytes.ensures
+
+pub try_body-try_plain-done-requires-in-PlainBytes-clause-ready : goal.try_body-try_plain-done-requires-in-PlainBytes-clause-ready
+try_body-try_plain-done-requires-in-PlainBytes-clause-ready t c = c.loop-i.invariant.ready
+
+pub try_body-try_chosen-done-requires-in-TailBytes-clause-node : goal.try_body-try_chosen-done-requires-in-TailBytes-clause-node
+try_body-try_chosen-done-requires-in-TailBytes-clause-node t c = c.requires.nodes c.loop-i.i (omega (arith, c.if-body-slots.false, c.loop-i-test.true))
+
+pub try_body-try_chosen-done-requires-in-TailBytes-clause-form : goal.try_body-try_chosen-done-requires-in-TailBytes-clause-form
+try_body-try_chosen-done-requires-in-TailBytes-clause-form t c = c.in-TailBytes.ensures
+
+pub try_body-try_chosen-done-requires-in-TailBytes-clause-ready : goal.try_body-try_chosen-done-requires-in-TailBytes-clause-ready
+try_body-try_chosen-done-requires-in-TailBytes-clause-ready t c = c.loop-i.invariant.ready
+
+pub try_body-try_plain-done-requires-in-PlainDecimal-clause-node : goal.try_body-try_plain-done-requires-in-PlainDecimal-clause-node
+try_body-try_plain-done-requires-in-PlainDecimal-clause-node t c = c.requires.nodes c.loop-i.i (omega (arith, c.if-body-slots.false, c.loop-i-test.true))
+
+pub try_body-try_plain-done-requires-in-PlainDecimal-clause-form : goal.try_body-try_plain-done-requires-in-PlainDecimal-clause-form
+try_body-try_plain-done-requires-in-PlainDecimal-clause-form t c = c.in-PlainDecimal.ensures
+
+pub try_body-try_plain-done-requires-in-PlainDecimal-clause-ready : goal.try_body-try_plain-done-requires-in-PlainDecimal-clause-ready
+try_body-try_plain-done-requires-in-PlainDecimal-clause-ready t c = c.loop-i.invariant.ready
+
+pub try_body-try_copied_other-done-requires-in-CopyDecimal-clause-node : goal.try_body-try_copied_other-done-requires-in-CopyDecimal-clause-node
+try_body-try_copied_other-done-requires-in-CopyDecimal-clause-node t c = c.requires.nodes c.loop-i.i (omega (arith, c.if-body-slots.false, c.loop-i-test.true))
+
+pub try_body-try_copied_other-done-requires-in-CopyDecimal-clause-form : goal.try_body-try_copied_other-done-requires-in-CopyDecimal-clause-form
+try_body-try_copied_other-done-requires-in-CopyDecimal-clause-form t c = c.in-CopyDecimal.ensures
+
+pub try_body-try_copied_other-done-requires-in-CopyDecimal-clause-ready : goal.try_body-try_copied_other-done-requires-in-CopyDecimal-clause-ready
+try_body-try_copied_other-done-requires-in-CopyDecimal-clause-ready t c = c.loop-i.invariant.ready
+
+pub try_body-try_chosen-done-requires-in-DeltaDecimal-clause-node : goal.try_body-try_chosen-done-requires-in-DeltaDecimal-clause-node
+try_body-try_chosen-done-requires-in-DeltaDecimal-clause-node t c = c.requires.nodes c.loop-i.i (omega (arith, c.if-body-slots.false, c.loop-i-test.true))
+
+pub try_body-try_chosen-done-requires-in-DeltaDecimal-clause-form : goal.try_body-try_chosen-done-requires-in-DeltaDecimal-clause-form
+try_body-try_chosen-done-requires-in-DeltaDecimal-clause-form t c = c.in-DeltaDecimal.ensures
+
+pub try_body-try_chosen-done-requires-in-DeltaDecimal-clause-ready : goal.try_body-try_chosen-done-requires-in-DeltaDecimal-clause-ready
+try_body-try_chosen-done-requires-in-DeltaDecimal-clause-ready t c = c.loop-i.invariant.ready
+
+pub try_body-try_other-done-requires-clause-node : goal.try_body-try_other-done-requires-clause-node
+try_body-try_other-done-requires-clause-node t c = c.requires.nodes c.loop-i.i (omega (arith, c.if-body-slots.false, c.loop-i-test.true))
+
+pub try_body-try_other-done-requires-clause-ready : goal.try_body-try_other-done-requires-clause-ready
+try_body-try_other-done-requires-clause-ready t c = c.loop-i.invariant.ready
 
 pub try_body-returns-then-is_err-2-clause-keeps : goal.try_body-returns-then-is_err-2-clause-keeps
 try_body-returns-then-is_err-2-clause-keeps t c =
@@ -450,3 +826,12 @@ try_segment-returns-clause-ok t c =
     on_both c.seal.result c.seal.ensures.ok bits (λ closes same.
     let z = sealed l body (slots_data c.args.slots.now) c.args.work.now.ledger.now new.ledger.now a c.open.new.self new.draft c.seal.new.self c.args.has_map _ _ kept.bytes c.open.ensures.bits wrote c.requires.map m n closes same in
     (z.bytes, z.bits_are, z.bytes_are, z.says))
+
+pub try_segment-returns-in_err-mark-clause-suits : goal.try_segment-returns-in_err-mark-clause-suits
+try_segment-returns-in_err-mark-clause-suits t c = on_handed_on _ _ c.from_residual.result c.from_residual.ensures.1
+
+pub try_segment-returns-in_err-mark-clause-fits : goal.try_segment-returns-in_err-mark-clause-fits
+try_segment-returns-in_err-mark-clause-fits t c = on_handed_on _ _ c.from_residual.result c.from_residual.ensures.1
+
+pub try_segment-returns-in_err-mark-clause-ok : goal.try_segment-returns-in_err-mark-clause-ok
+try_segment-returns-in_err-mark-clause-ok t c = on_handed_on _ _ c.from_residual.result c.from_residual.ensures.1

@@ -13,6 +13,7 @@ use Rattle.fast_spelling.specs.device.Usual.{IsNumber}
 use Rattle.fast_spelling.proofs.rules.Usual.{number_of}
 use Rattle.fast_spelling.proofs.bytes.Spelling.{on_ok}
 use Rattle.fast_spelling.proofs.encodings.Instructions.{served, encodes_as, field_encodes}
+use Rattle.fast_spelling.proofs.encodings.Progress.{keeps_all}
 use Rattle.fast_spelling.proofs.checking.try_difference.Goals as goal
 
 pub write_difference-requires-clause-served : goal.write_difference-requires-clause-served
@@ -36,3 +37,18 @@ returns-clause-ok c =
     let y : Option ItemData = Some (one v) in
     on_ok c.write_difference.result c.write_difference.ensures.ok (λ k. encodes_as l (instruction_in (nodes_of c.args.plan.now.templates.now) c.args.node) (field at f) y y d old new after c.known_at-at.ensures.instruction.1 refl
     (field_encodes l at f v d old new after (subst (λ (z : ScalarData). Wrote (EncodesField l f d (Some z)) old new after) c.in-Some.ensures.0 (k l c.requires.ready.room))))
+
+pub known_at-at-requires-clause-node : goal.known_at-at-requires-clause-node
+known_at-at-requires-clause-node c = c.requires.node
+
+pub known_at-at-requires-clause-form : goal.known_at-at-requires-clause-form
+known_at-at-requires-clause-form c = c.requires.form
+
+pub returns-in_default-clause-keeps : goal.returns-in_default-clause-keeps
+returns-in_default-clause-keeps c = keeps_all c.args.work.now.ledger
+
+pub write_difference-requires-clause-operator : goal.write_difference-requires-clause-operator
+write_difference-requires-clause-operator c = c.known_at-at.ensures.operator
+
+pub returns-clause-keeps : goal.returns-clause-keeps
+returns-clause-keeps c = c.write_difference.ensures.keeps

@@ -10,6 +10,7 @@ use Rattle.fast_spelling.specs.meaning.Suiting.{SuitsBody, SuitsTemplate, FitsLi
 use Rattle.fast_spelling.proofs.bytes.Spelling.{on_ok}
 use Rattle.fast_spelling.proofs.limits.Checked.{on_any}
 use Rattle.fast_spelling.proofs.encodings.Whole.{template_suits, message_made}
+use Rattle.fast_spelling.proofs.encodings.Progress.{keeps_all, keeps_on, ready_kept}
 use Rattle.fast_spelling.proofs.checking.try_message.Goals as goal
 
 suited : (c : goal.After-finish) → SuitsTemplate (tree_of c.args.plan.now.templates.now) (message_data c.args.message.now)
@@ -43,3 +44,21 @@ returns-clause-ok c = on_ok c.finish.result c.finish.ensures
     c.begin.new.self c.write_identifier.new.draft c.try_body.new.work.draft c.finish.new.self.bytes.items
     c.template-template.ensures.found c.requires.known c.in_ok-begin.ensures.bits c.in_ok-begin.ensures.bytes
     c.in_ok-write_identifier.ensures.ok c.reset_if.ensures.now (body_wrote c))
+
+pub returns-in_err-begin-clause-keeps : goal.returns-in_err-begin-clause-keeps
+returns-in_err-begin-clause-keeps c = keeps_all c.args.work.now.ledger
+
+pub write_identifier-requires : goal.write_identifier-requires
+write_identifier-requires c = record { ready = c.requires.ready }
+
+pub returns-in_err-write_identifier-clause-keeps : goal.returns-in_err-write_identifier-clause-keeps
+returns-in_err-write_identifier-clause-keeps c = c.write_identifier.ensures.keeps
+
+pub try_body-requires-clause-ready : goal.try_body-requires-clause-ready
+try_body-requires-clause-ready c = ready_kept c.args.plan.now.templates.now c.args.plan.now.limits c.args.work.now.ledger c.reset_if.new.ledger c.requires.ready (keeps_on c.args.work.now.ledger c.write_identifier.new.ledger c.reset_if.new.ledger c.write_identifier.ensures.keeps c.reset_if.ensures.keeps)
+
+pub returns-then-not-try_body-clause-keeps : goal.returns-then-not-try_body-clause-keeps
+returns-then-not-try_body-clause-keeps c = keeps_on c.args.work.now.ledger c.reset_if.new.ledger c.try_body.new.work.ledger (keeps_on c.args.work.now.ledger c.write_identifier.new.ledger c.reset_if.new.ledger c.write_identifier.ensures.keeps c.reset_if.ensures.keeps) c.try_body.ensures.keeps
+
+pub returns-clause-keeps : goal.returns-clause-keeps
+returns-clause-keeps c = keeps_on c.args.work.now.ledger c.reset_if.new.ledger c.try_body.new.work.ledger (keeps_on c.args.work.now.ledger c.write_identifier.new.ledger c.reset_if.new.ledger c.write_identifier.ensures.keeps c.reset_if.ensures.keeps) c.try_body.ensures.keeps

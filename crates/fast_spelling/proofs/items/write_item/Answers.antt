@@ -6,8 +6,12 @@ use Rattle.fast_wire.specs.device.Shortest.{IsShortest}
 use Rattle.fast_tree.specs.device.Nodes.{field_data}
 use Rattle.fast_dict.specs.meaning.Sending.{sent_data}
 use Rattle.fast_dict.specs.declared.operators.table.Sent.{Sent}
-use Rattle.fast_spelling.specs.device.Drafts.{SpellsItem, SpellsPart}
+use Rattle.fast_spelling.specs.device.Drafts.{SpellsItem, SpellsPart, IsSendable, IsSendableValue, IsSendablePart}
 use Rattle.fast_spelling.proofs.bytes.Spelling.{on_ok, handed}
+use Rattle.fast_value.specs.meaning.Kinds.{signed_range, IsWithin}
+use Rattle.fast_value.specs.meaning.Values.{scalar_data}
+use Rattle.std.specs.Int.{w128}
+use Rattle.std.proofs.lemmas.Int.{to_z-of_z}
 use Rattle.fast_spelling.proofs.items.write_item.Goals as goal
 
 pub returns-in_ok-write_delta_as-in-IntegerDelta-clause-ok : goal.returns-in_ok-write_delta_as-in-IntegerDelta-clause-ok
@@ -32,3 +36,18 @@ returns-in_ok-write_signed_as-in-TextDelta-clause-ok c =
       k.1 ∙ ap (λ (w : List ℕ). w ++ k.0) h.1 ∙ append_assoc c.args.bytes.now.items h.0 k.0,
       subst (λ (x : Sent). SpellsItem (field_data c.args.at.field.now) (sent_data x) (h.0 ++ k.0)) (sym c.in-TextDelta.is) (h.0, k.0, subst (λ (b : Bool). IsShortest true b (Some c.in-TextDelta.taken) h.0) (sym c.args.at.same_nullable) (handed c.args.at.nullable c.in-TextDelta.taken h.0 (search rules) h.2), subst (λ (q : Kind). SpellsPart q false c.in-TextDelta.part.now k.0) (sym c.args.at.same_kind) k.2, refl),
     ))
+
+pub write_delta_as-requires : goal.write_delta_as-requires
+write_delta_as-requires c = subst (IsWithin (signed_range 68)) (sym (to_z-of_z w128 c.in-IntegerDelta.delta (search rules))) (subst (λ (x : Sent). IsSendable (field_data c.args.at.field.now) (sent_data x)) c.in-IntegerDelta.is c.requires)
+
+pub write_signed_as-requires : goal.write_signed_as-requires
+write_signed_as-requires c = subst (IsWithin (signed_range 68)) (sym (to_z-of_z w128 c.in-DecimalDelta.exponent (search rules))) (subst (λ (x : Sent). IsSendable (field_data c.args.at.field.now) (sent_data x)) c.in-DecimalDelta.is c.requires).0
+
+pub write_signed_as-requires-in-DecimalDelta : goal.write_signed_as-requires-in-DecimalDelta
+write_signed_as-requires-in-DecimalDelta c = subst (IsWithin (signed_range 68)) (sym (to_z-of_z w128 c.in-DecimalDelta.mantissa (search rules))) (subst (λ (x : Sent). IsSendable (field_data c.args.at.field.now) (sent_data x)) c.in-DecimalDelta.is c.requires).1
+
+pub write_value-requires : goal.write_value-requires
+write_value-requires c = subst (λ (k : Kind). IsSendableValue k (scalar_data c.in-Value.value)) c.args.at.same_kind (subst (λ (x : Sent). IsSendable (field_data c.args.at.field.now) (sent_data x)) c.in-Value.is c.requires)
+
+pub write_text-requires : goal.write_text-requires
+write_text-requires c = subst (λ (k : Kind). IsSendablePart k c.in-TextDelta.part.now) c.args.at.same_kind (subst (λ (x : Sent). IsSendable (field_data c.args.at.field.now) (sent_data x)) c.in-TextDelta.is c.requires).1

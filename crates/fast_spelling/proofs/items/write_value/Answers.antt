@@ -23,3 +23,8 @@ returns-in_ok-write_narrow_as-in-Dec-2-clause-ok c =
       subst (λ (v : Scalar). SpellsValue c.args.kind c.args.nullable (scalar_data v) (h.0 ++ k.0)) (sym c.in-Dec.is)
           (h.0, k.0, subst (λ (n : ℤ). IsShortest true c.args.nullable (Some n) h.0) (to_z-of_z w64 c.from.result (search rules) ∙ c.from.ensures ∙ to_z-of_z w32 c.in-Dec.exponent (search rules)) h.2, subst (λ (n : ℤ). IsShortest true false (Some n) k.0) (to_z-of_z w64 c.in-Dec.mantissa (search rules)) k.2, refl),
     )
+
+pub returns-in_ok-write_unsigned_as-in-U-clause-ok : goal.returns-in_ok-write_unsigned_as-in-U-clause-ok
+returns-in_ok-write_unsigned_as-in-U-clause-ok c = 
+    let h = c.in_ok-write_unsigned_as-in-U.ensures in
+    (h.0, h.1, subst (λ (v : Scalar). SpellsValue c.args.kind c.args.nullable (scalar_data v) h.0) (sym c.in-U.is) h.2)

@@ -14,6 +14,7 @@ use Rattle.fast_spelling.specs.meaning.Suiting.{SuitsBody}
 use Rattle.fast_spelling.proofs.encodings.Instructions.{told, told_at}
 use Rattle.fast_spelling.proofs.bytes.Spelling.{on_ok}
 use Rattle.fast_spelling.proofs.encodings.Whole.{slots_suit, body_refused, message_unmapped, message_written}
+use Rattle.fast_spelling.proofs.encodings.Progress.{keeps_on, ready_kept}
 use Rattle.fast_spelling.proofs.messages.write_message.Goals as goal
 
 pub write_body-requires-clause-suits : goal.write_body-requires-clause-suits
@@ -54,3 +55,18 @@ returns-clause-err c = told c.close.result c.close.ensures.err (λ e h.
     c.clear.new.self c.write_identifier.new.draft c.write_body.new.draft c.mark-mark.result.bits e
     c.template-template.ensures.found c.requires.known c.clear.ensures.bits (c.mark-mark.ensures.bits ∙ c.clear.new.self.bits.ok.0 ∙ ap length c.clear.ensures.bits)
     c.in_ok-write_identifier.ensures.ok c.reset_if.ensures.now (body_wrote c) h.2 h.0)
+
+pub write_identifier-requires : goal.write_identifier-requires
+write_identifier-requires c = record { ready = c.requires.ready }
+
+pub returns-in_err-write_identifier-clause-keeps : goal.returns-in_err-write_identifier-clause-keeps
+returns-in_err-write_identifier-clause-keeps c = c.write_identifier.ensures.keeps
+
+pub write_body-requires-clause-ready : goal.write_body-requires-clause-ready
+write_body-requires-clause-ready c = ready_kept c.args.templates.now c.args.limits c.args.ledger.now c.reset_if.new.ledger c.requires.ready (keeps_on c.args.ledger.now c.write_identifier.new.ledger c.reset_if.new.ledger c.write_identifier.ensures.keeps c.reset_if.ensures.keeps)
+
+pub returns-in_err-write_body-clause-keeps : goal.returns-in_err-write_body-clause-keeps
+returns-in_err-write_body-clause-keeps c = keeps_on c.args.ledger.now c.reset_if.new.ledger c.write_body.new.ledger (keeps_on c.args.ledger.now c.write_identifier.new.ledger c.reset_if.new.ledger c.write_identifier.ensures.keeps c.reset_if.ensures.keeps) c.write_body.ensures.keeps
+
+pub returns-clause-keeps : goal.returns-clause-keeps
+returns-clause-keeps c = keeps_on c.args.ledger.now c.reset_if.new.ledger c.write_body.new.ledger (keeps_on c.args.ledger.now c.write_identifier.new.ledger c.reset_if.new.ledger c.write_identifier.ensures.keeps c.reset_if.ensures.keeps) c.write_body.ensures.keeps

@@ -1,12 +1,15 @@
 -- The field is handed on with what is known of it.
-use Rattle.std.proofs.Common.{subst}
-use Rattle.std.specs.Prelude.{Some}
+use Rattle.std.proofs.Common.{subst, ◌≡◌, sym}
+use Rattle.std.specs.Prelude.{Some, IfErr}
 use Rattle.fast_value.specs.meaning.Kinds.{U}
 use Rattle.fast_tree.specs.declared.instructions.FieldInstruction.{FieldInstruction}
 use Rattle.fast_tree.specs.device.Nodes.{field_data}
 use Rattle.fast_spelling.specs.meaning.Encoding.{EncodesField}
-use Rattle.fast_spelling.specs.device.Fields.{Wrote}
+use Rattle.fast_spelling.specs.device.Fields.{Wrote, IsSuited, IsServed}
 use Rattle.fast_spelling.proofs.bytes.Spelling.{on_ok}
+use Rattle.fast_tree.specs.declared.operators.Operator.TheVariants.{None as no_operator, Copy, Increment, Delta, Default, Constant}
+use Rattle.fast_spelling.specs.device.Drafts.{IsTold}
+use Rattle.fast_spelling.specs.meaning.Refusals.{RefusesField}
 use Rattle.fast_spelling.proofs.quick.write_kept_unsigned.Goals as goal
 
 pub returns-in-None-clause-ok : goal.returns-in-None-clause-ok
@@ -32,3 +35,108 @@ returns-in-Default-clause-ok c = on_ok c.write_default.result c.write_default.en
 pub returns-in-Constant-clause-ok : goal.returns-in-Constant-clause-ok
 returns-in-Constant-clause-ok c = on_ok c.write_constant.result c.write_constant.ensures.ok (λ k l same.
     subst (λ (g : FieldInstruction). Wrote (EncodesField l (field_data g) c.args.ledger.now.now (Some (U c.args.number))) c.args.draft.now c.write_constant.new.draft c.write_constant.new.ledger.now) c.of-in-Constant.ensures (k l same))
+
+pub write_plain-requires-clause-operator : goal.write_plain-requires-clause-operator
+write_plain-requires-clause-operator c = subst (λ (g : FieldInstruction). g.operator ≡ no_operator) (sym c.of.ensures) c.in-None.is
+
+pub write_plain-requires-clause-served : goal.write_plain-requires-clause-served
+write_plain-requires-clause-served c = subst (λ (g : FieldInstruction). IsServed c.args.ledger.now (field_data g)) (sym c.of.ensures) c.requires.served
+
+pub write_plain-requires-clause-suited : goal.write_plain-requires-clause-suited
+write_plain-requires-clause-suited c = subst (λ (g : FieldInstruction). IsSuited c.args.ledger.now.max_text (field_data g) (Some (U c.args.number))) (sym c.of.ensures) c.requires.suited
+
+pub returns-in-None-clause-err : goal.returns-in-None-clause-err
+returns-in-None-clause-err c = subst (λ (g : FieldInstruction). IfErr c.write_plain.result (IsTold (RefusesField (field_data g) c.args.ledger.now.now (Some (U c.args.number))))) c.of.ensures c.write_plain.ensures.err
+
+pub returns-in-None-clause-keeps : goal.returns-in-None-clause-keeps
+returns-in-None-clause-keeps c = c.write_plain.ensures.keeps
+
+pub write_copied-requires-clause-operator : goal.write_copied-requires-clause-operator
+write_copied-requires-clause-operator c = subst (λ (g : FieldInstruction). g.operator ≡ Copy) (sym c.of-in-Copy.ensures) c.in-Copy.is
+
+pub write_copied-requires-clause-served : goal.write_copied-requires-clause-served
+write_copied-requires-clause-served c = subst (λ (g : FieldInstruction). IsServed c.args.ledger.now (field_data g)) (sym c.of-in-Copy.ensures) c.requires.served
+
+pub write_copied-requires-clause-suited : goal.write_copied-requires-clause-suited
+write_copied-requires-clause-suited c = subst (λ (g : FieldInstruction). IsSuited c.args.ledger.now.max_text (field_data g) (Some (U c.args.number))) (sym c.of-in-Copy.ensures) c.requires.suited
+
+pub returns-in-Copy-clause-err : goal.returns-in-Copy-clause-err
+returns-in-Copy-clause-err c = subst (λ (g : FieldInstruction). IfErr c.write_copied.result (IsTold (RefusesField (field_data g) c.args.ledger.now.now (Some (U c.args.number))))) c.of-in-Copy.ensures c.write_copied.ensures.err
+
+pub returns-in-Copy-clause-keeps : goal.returns-in-Copy-clause-keeps
+returns-in-Copy-clause-keeps c = c.write_copied.ensures.keeps
+
+pub write_next-requires-clause-operator : goal.write_next-requires-clause-operator
+write_next-requires-clause-operator c = subst (λ (g : FieldInstruction). g.operator ≡ Increment) (sym c.of-in-Increment.ensures) c.in-Increment.is
+
+pub write_next-requires-clause-served : goal.write_next-requires-clause-served
+write_next-requires-clause-served c = subst (λ (g : FieldInstruction). IsServed c.args.ledger.now (field_data g)) (sym c.of-in-Increment.ensures) c.requires.served
+
+pub write_next-requires-clause-suited : goal.write_next-requires-clause-suited
+write_next-requires-clause-suited c = subst (λ (g : FieldInstruction). IsSuited c.args.ledger.now.max_text (field_data g) (Some (U c.args.number))) (sym c.of-in-Increment.ensures) c.requires.suited
+
+pub returns-in-Increment-clause-err : goal.returns-in-Increment-clause-err
+returns-in-Increment-clause-err c = subst (λ (g : FieldInstruction). IfErr c.write_next.result (IsTold (RefusesField (field_data g) c.args.ledger.now.now (Some (U c.args.number))))) c.of-in-Increment.ensures c.write_next.ensures.err
+
+pub returns-in-Increment-clause-keeps : goal.returns-in-Increment-clause-keeps
+returns-in-Increment-clause-keeps c = c.write_next.ensures.keeps
+
+pub write_difference-requires-clause-operator : goal.write_difference-requires-clause-operator
+write_difference-requires-clause-operator c = subst (λ (g : FieldInstruction). g.operator ≡ Delta) (sym c.of-in-Delta.ensures) c.in-Delta.is
+
+pub write_difference-requires-clause-served : goal.write_difference-requires-clause-served
+write_difference-requires-clause-served c = subst (λ (g : FieldInstruction). IsServed c.args.ledger.now (field_data g)) (sym c.of-in-Delta.ensures) c.requires.served
+
+pub write_difference-requires-clause-suited : goal.write_difference-requires-clause-suited
+write_difference-requires-clause-suited c = subst (λ (g : FieldInstruction). IsSuited c.args.ledger.now.max_text (field_data g) (Some (U c.args.number))) (sym c.of-in-Delta.ensures) c.requires.suited
+
+pub returns-in-Delta-clause-err : goal.returns-in-Delta-clause-err
+returns-in-Delta-clause-err c = subst (λ (g : FieldInstruction). IfErr c.write_difference.result (IsTold (RefusesField (field_data g) c.args.ledger.now.now (Some (U c.args.number))))) c.of-in-Delta.ensures c.write_difference.ensures.err
+
+pub returns-in-Delta-clause-keeps : goal.returns-in-Delta-clause-keeps
+returns-in-Delta-clause-keeps c = c.write_difference.ensures.keeps
+
+pub write_default-requires-clause-operator : goal.write_default-requires-clause-operator
+write_default-requires-clause-operator c = subst (λ (g : FieldInstruction). g.operator ≡ Default) (sym c.of-in-Default.ensures) c.in-Default.is
+
+pub write_default-requires-clause-served : goal.write_default-requires-clause-served
+write_default-requires-clause-served c = subst (λ (g : FieldInstruction). IsServed c.args.ledger.now (field_data g)) (sym c.of-in-Default.ensures) c.requires.served
+
+pub write_default-requires-clause-suited : goal.write_default-requires-clause-suited
+write_default-requires-clause-suited c = subst (λ (g : FieldInstruction). IsSuited c.args.ledger.now.max_text (field_data g) (Some (U c.args.number))) (sym c.of-in-Default.ensures) c.requires.suited
+
+pub returns-in-Default-clause-err : goal.returns-in-Default-clause-err
+returns-in-Default-clause-err c = subst (λ (g : FieldInstruction). IfErr c.write_default.result (IsTold (RefusesField (field_data g) c.args.ledger.now.now (Some (U c.args.number))))) c.of-in-Default.ensures c.write_default.ensures.err
+
+pub returns-in-Default-clause-keeps : goal.returns-in-Default-clause-keeps
+returns-in-Default-clause-keeps c = c.write_default.ensures.keeps
+
+pub write_constant-requires-clause-operator : goal.write_constant-requires-clause-operator
+write_constant-requires-clause-operator c = subst (λ (g : FieldInstruction). g.operator ≡ Constant) (sym c.of-in-Constant.ensures) c.in-Constant.is
+
+pub write_constant-requires-clause-served : goal.write_constant-requires-clause-served
+write_constant-requires-clause-served c = subst (λ (g : FieldInstruction). IsServed c.args.ledger.now (field_data g)) (sym c.of-in-Constant.ensures) c.requires.served
+
+pub write_constant-requires-clause-suited : goal.write_constant-requires-clause-suited
+write_constant-requires-clause-suited c = subst (λ (g : FieldInstruction). IsSuited c.args.ledger.now.max_text (field_data g) (Some (U c.args.number))) (sym c.of-in-Constant.ensures) c.requires.suited
+
+pub returns-in-Constant-clause-err : goal.returns-in-Constant-clause-err
+returns-in-Constant-clause-err c = subst (λ (g : FieldInstruction). IfErr c.write_constant.result (IsTold (RefusesField (field_data g) c.args.ledger.now.now (Some (U c.args.number))))) c.of-in-Constant.ensures c.write_constant.ensures.err
+
+pub returns-in-Constant-clause-keeps : goal.returns-in-Constant-clause-keeps
+returns-in-Constant-clause-keeps c = c.write_constant.ensures.keeps
+
+pub choose_value-requires-clause-served : goal.choose_value-requires-clause-served
+choose_value-requires-clause-served c = c.requires.served
+
+pub choose_value-requires-clause-suited : goal.choose_value-requires-clause-suited
+choose_value-requires-clause-suited c = c.requires.suited
+
+pub returns-in-Tail-clause-ok : goal.returns-in-Tail-clause-ok
+returns-in-Tail-clause-ok c = c.choose_value.ensures.ok
+
+pub returns-in-Tail-clause-err : goal.returns-in-Tail-clause-err
+returns-in-Tail-clause-err c = c.choose_value.ensures.err
+
+pub returns-in-Tail-clause-keeps : goal.returns-in-Tail-clause-keeps
+returns-in-Tail-clause-keeps c = c.choose_value.ensures.keeps

@@ -27,7 +27,7 @@ use Rattle.fast_spelling.specs.meaning.Encoding.{EncodesField, EncodesBody, Enco
 use Rattle.fast_spelling.specs.device.Fields.{Wrote}
 use Rattle.fast_tree.specs.declared.instructions.Shape.{Shape}
 use Rattle.fast_tree.specs.device.Numbers.{numbers_of, AreBetween}
-use Rattle.fast_spelling.proofs.encodings.Progress.{written_start, more_at, refused_at, suits_more, fits_more, all_written, ready_kept, keeps_on, keeps_all, on_both, suits_here, fits_here, closed, unclosed, row_more, row_refused, row_right, row_fits, rows_start, rows_done, has_bits}
+use Rattle.fast_spelling.proofs.encodings.Progress.{written_start, more_at, refused_at, suits_more, fits_more, all_written, ready_kept, keeps_on, keeps_all, on_both, suits_here, fits_here, closed, unclosed, row_more, row_refused, row_right, row_fits, rows_start, rows_done, has_bits, on_handed_on}
 use Rattle.fast_spelling.proofs.writing.+write.Goals as goal
 use Rattle.fast_spelling.proofs.writing.+write.Goals.{write_body-in-None+in_ok-write_absent-in-None, write_body-in-Some+in_ok-write_item-in-Some}
 
@@ -553,3 +553,105 @@ write_item-returns-in-Field-Group-8-clause-err t c =
     let v = c.node.result.now in
     absurd (suits_as (instruction_in nodes c.args.node) (instruction_among nodes (label_of c.args.node v) (Sequence c.in-Field-Group.field-0-0 c.in-Field-Group.field-1-0)) (Some (item_data c.args.item.now)) (Some (group_item (slots_data c.in-Field-Group.field-0-1.items)))
     (at_shape nodes c.args.node v (Sequence c.in-Field-Group.field-0-0 c.in-Field-Group.field-1-0) c.node.ensures.found c.node.ensures.body c.in-Field-Group.is-0) (ap (λ (z : Item). Some (item_data z)) c.in-Field-Group.is-1 ∙ ap Some (item_data-Group c.in-Field-Group.field-0-1)) c.requires.suits)
+
+pub write_body-returns-then-i-body-clause-keeps : goal.write_body-returns-then-i-body-clause-keeps
+write_body-returns-then-i-body-clause-keeps t c = c.loop-i.invariant.keeps
+
+pub write_body-write_absent-requires-clause-ready : goal.write_body-write_absent-requires-clause-ready
+write_body-write_absent-requires-clause-ready t c = c.loop-i.invariant.ready
+
+pub write_body-returns-in_err-write_absent-in-None-clause-keeps : goal.write_body-returns-in_err-write_absent-in-None-clause-keeps
+write_body-returns-in_err-write_absent-in-None-clause-keeps t c = keeps_on c.args.ledger.now c.loop-i.ledger c.write_absent.new.ledger c.loop-i.invariant.keeps c.write_absent.ensures.keeps
+
+pub write_body-returns-in_err-write_item-in-Some-clause-keeps : goal.write_body-returns-in_err-write_item-in-Some-clause-keeps
+write_body-returns-in_err-write_item-in-Some-clause-keeps t c = keeps_on c.args.ledger.now c.loop-i.ledger c.write_item.new.ledger c.loop-i.invariant.keeps c.write_item.ensures.keeps
+
+pub write_body-returns-clause-keeps : goal.write_body-returns-clause-keeps
+write_body-returns-clause-keeps t c = c.loop-i.invariant.keeps
+
+pub write_item-returns-in_err-push_bit_if-in-Group-Group-clause-keeps : goal.write_item-returns-in_err-push_bit_if-in-Group-Group-clause-keeps
+write_item-returns-in_err-push_bit_if-in-Group-Group-clause-keeps t c = keeps_all c.args.ledger.now
+
+pub write_item-returns-in_err-write_body-in-Group-Group-clause-keeps : goal.write_item-returns-in_err-write_body-in-Group-Group-clause-keeps
+write_item-returns-in_err-write_body-in-Group-Group-clause-keeps t c = c.write_body.ensures.keeps
+
+pub write_item-returns-in_ok-write_body-in-Group-Group-clause-keeps : goal.write_item-returns-in_ok-write_body-in-Group-Group-clause-keeps
+write_item-returns-in_ok-write_body-in-Group-Group-clause-keeps t c = c.write_body.ensures.keeps
+
+pub write_item-returns-in_err-write_field-in-Sequence-Sequence-clause-keeps : goal.write_item-returns-in_err-write_field-in-Sequence-Sequence-clause-keeps
+write_item-returns-in_err-write_field-in-Sequence-Sequence-clause-keeps t c = record { before = c.write_field-in-Sequence-Sequence.ensures.before; room = c.write_field-in-Sequence-Sequence.ensures.max_text; count = c.write_field-in-Sequence-Sequence.ensures.length }
+
+pub write_item-returns-in-Field-One-clause-keeps : goal.write_item-returns-in-Field-One-clause-keeps
+write_item-returns-in-Field-One-clause-keeps t c = record { before = c.write_field.ensures.before; room = c.write_field.ensures.max_text; count = c.write_field.ensures.length }
+
+pub write_item-returns-in-Decimal-One-clause-keeps : goal.write_item-returns-in-Decimal-One-clause-keeps
+write_item-returns-in-Decimal-One-clause-keeps t c = c.write_decimal.ensures.keeps
+
+pub write_item-returns-in-Field-Group-clause-ok : goal.write_item-returns-in-Field-Group-clause-ok
+write_item-returns-in-Field-Group-clause-ok t c = tt
+
+pub write_item-returns-in-Field-Group-clause-keeps : goal.write_item-returns-in-Field-Group-clause-keeps
+write_item-returns-in-Field-Group-clause-keeps t c = keeps_all c.args.ledger.now
+
+pub write_item-returns-in-Field-Group-2-clause-ok : goal.write_item-returns-in-Field-Group-2-clause-ok
+write_item-returns-in-Field-Group-2-clause-ok t c = tt
+
+pub write_item-returns-in-Field-Group-2-clause-keeps : goal.write_item-returns-in-Field-Group-2-clause-keeps
+write_item-returns-in-Field-Group-2-clause-keeps t c = keeps_all c.args.ledger.now
+
+pub write_item-returns-in-Field-Group-3-clause-ok : goal.write_item-returns-in-Field-Group-3-clause-ok
+write_item-returns-in-Field-Group-3-clause-ok t c = tt
+
+pub write_item-returns-in-Field-Group-3-clause-keeps : goal.write_item-returns-in-Field-Group-3-clause-keeps
+write_item-returns-in-Field-Group-3-clause-keeps t c = keeps_all c.args.ledger.now
+
+pub write_item-returns-in-Field-Group-4-clause-ok : goal.write_item-returns-in-Field-Group-4-clause-ok
+write_item-returns-in-Field-Group-4-clause-ok t c = tt
+
+pub write_item-returns-in-Field-Group-4-clause-keeps : goal.write_item-returns-in-Field-Group-4-clause-keeps
+write_item-returns-in-Field-Group-4-clause-keeps t c = keeps_all c.args.ledger.now
+
+pub write_item-returns-in-Field-Group-5-clause-ok : goal.write_item-returns-in-Field-Group-5-clause-ok
+write_item-returns-in-Field-Group-5-clause-ok t c = tt
+
+pub write_item-returns-in-Field-Group-5-clause-keeps : goal.write_item-returns-in-Field-Group-5-clause-keeps
+write_item-returns-in-Field-Group-5-clause-keeps t c = keeps_all c.args.ledger.now
+
+pub write_item-returns-in-Field-Group-6-clause-ok : goal.write_item-returns-in-Field-Group-6-clause-ok
+write_item-returns-in-Field-Group-6-clause-ok t c = tt
+
+pub write_item-returns-in-Field-Group-6-clause-keeps : goal.write_item-returns-in-Field-Group-6-clause-keeps
+write_item-returns-in-Field-Group-6-clause-keeps t c = keeps_all c.args.ledger.now
+
+pub write_item-returns-in-Field-Group-7-clause-ok : goal.write_item-returns-in-Field-Group-7-clause-ok
+write_item-returns-in-Field-Group-7-clause-ok t c = tt
+
+pub write_item-returns-in-Field-Group-7-clause-keeps : goal.write_item-returns-in-Field-Group-7-clause-keeps
+write_item-returns-in-Field-Group-7-clause-keeps t c = keeps_all c.args.ledger.now
+
+pub write_item-returns-in-Field-Group-8-clause-ok : goal.write_item-returns-in-Field-Group-8-clause-ok
+write_item-returns-in-Field-Group-8-clause-ok t c = tt
+
+pub write_item-returns-in-Field-Group-8-clause-keeps : goal.write_item-returns-in-Field-Group-8-clause-keeps
+write_item-returns-in-Field-Group-8-clause-keeps t c = keeps_all c.args.ledger.now
+
+pub write_body-returns-in_err-write_absent-in-None-clause-ok : goal.write_body-returns-in_err-write_absent-in-None-clause-ok
+write_body-returns-in_err-write_absent-in-None-clause-ok t c = on_handed_on _ _ c.from_residual.result c.from_residual.ensures.1
+
+pub write_body-returns-in_err-write_item-in-Some-clause-ok : goal.write_body-returns-in_err-write_item-in-Some-clause-ok
+write_body-returns-in_err-write_item-in-Some-clause-ok t c = on_handed_on _ _ c.from_residual-in_err-write_item-in-Some.result c.from_residual-in_err-write_item-in-Some.ensures.1
+
+pub write_item-returns-in_err-push_bit_if-in-Group-Group-clause-ok : goal.write_item-returns-in_err-push_bit_if-in-Group-Group-clause-ok
+write_item-returns-in_err-push_bit_if-in-Group-Group-clause-ok t c = on_handed_on _ _ c.from_residual.result c.from_residual.ensures.1
+
+pub write_item-returns-in_err-write_body-in-Group-Group-clause-ok : goal.write_item-returns-in_err-write_body-in-Group-Group-clause-ok
+write_item-returns-in_err-write_body-in-Group-Group-clause-ok t c = on_handed_on _ _ c.from_residual-in_err-write_body-in-Group-Group.result c.from_residual-in_err-write_body-in-Group-Group.ensures.1
+
+pub write_item-returns-in_err-write_field-in-Sequence-Sequence-clause-ok : goal.write_item-returns-in_err-write_field-in-Sequence-Sequence-clause-ok
+write_item-returns-in_err-write_field-in-Sequence-Sequence-clause-ok t c = on_handed_on _ _ c.from_residual-in_err-write_field-in-Sequence-Sequence.result c.from_residual-in_err-write_field-in-Sequence-Sequence.ensures.1
+
+pub write_item-returns-in_err-write_body-in-Sequence-Sequence-clause-ok : goal.write_item-returns-in_err-write_body-in-Sequence-Sequence-clause-ok
+write_item-returns-in_err-write_body-in-Sequence-Sequence-clause-ok t c = on_handed_on _ _ c.from_residual-in_err-write_body-in-Sequence-Sequence.result c.from_residual-in_err-write_body-in-Sequence-Sequence.ensures.1
+
+pub write_item-returns-in_err-close-in-Sequence-Sequence-clause-ok : goal.write_item-returns-in_err-close-in-Sequence-Sequence-clause-ok
+write_item-returns-in_err-close-in-Sequence-Sequence-clause-ok t c = on_handed_on _ _ c.from_residual-in_err-close-in-Sequence-Sequence.result c.from_residual-in_err-close-in-Sequence-Sequence.ensures.1

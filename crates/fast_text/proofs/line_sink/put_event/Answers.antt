@@ -1,4 +1,4 @@
-use Rattle.std.proofs.Common.{◌∷◌, [], ◌∙◌, sym, ap, append_assoc, decimal}
+use Rattle.std.proofs.Common.{◌∷◌, [], sym, append_assoc}
 use Rattle.fast_value.specs.meaning.Values.{scalar_data}
 use Rattle.fast_template.specs.meaning.Flat.{tree_of}
 use Rattle.fast_lines.specs.meaning.Lines.{written as value_text}
@@ -13,10 +13,13 @@ pub returns-in-Field : goal.returns-in-Field
 returns-in-Field g c = rw c.in-Field.is (writes_same (sym (append_assoc (field_front (tree_of c.args.templates.now) c.in-Field.node) (value_text (scalar_data c.in-Field.value)) (0x0A ∷ []))) (writes_both c.put_field.ensures c.put_value_line.ensures))
 
 pub returns-in-GroupStart : goal.returns-in-GroupStart
-returns-in-GroupStart g c = rw c.in-GroupStart.is (writes_both (writes_both c.put.ensures c.put_node.ensures) c.put-in-GroupStart.ensures)
+returns-in-GroupStart g c = rw c.in-GroupStart.is c.put_group.ensures
+
+pub returns-in-GroupEnd : goal.returns-in-GroupEnd
+returns-in-GroupEnd g c = rw c.in-GroupEnd.is c.put.ensures
 
 pub returns-in-SequenceStart : goal.returns-in-SequenceStart
-returns-in-SequenceStart g c = rw c.in-SequenceStart.is (writes_both (writes_both (writes_both (writes_both c.put-in-SequenceStart.ensures c.put_node-in-SequenceStart.ensures) c.put-in-SequenceStart-2.ensures) (writes_same (ap decimal c.from.ensures) c.put_unsigned.ensures)) c.put-in-SequenceStart-3.ensures)
+returns-in-SequenceStart g c = rw c.in-SequenceStart.is c.put_sequence.ensures
 
 pub returns-in-ElementEnd : goal.returns-in-ElementEnd
 returns-in-ElementEnd g c = rw c.in-ElementEnd.is c.put-in-ElementEnd.ensures

@@ -24,3 +24,6 @@ returns-clause-ok c = elim c.if-has_map.branch [
     ap (λ (d : Draft). d.bytes.items) w.self-is ∙ sym (take-append-drop c.args.mark.bytes c.args.self.now.bytes.items),
   )
 ]
+
+pub put_map-requires : goal.put_map-requires
+put_map-requires c = c.requires.bytes

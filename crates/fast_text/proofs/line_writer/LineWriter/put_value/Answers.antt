@@ -24,10 +24,10 @@ returns-in-Dec g c =
     rw c.in-Dec.is (writes_both (writes_both (writes_both c.put-in-Dec.ensures (writes_same mantissa c.put_signed-in-Dec.ensures)) c.put-in-Dec-2.ensures) (writes_same exponent c.put_signed-in-Dec-2.ensures))
 
 pub returns-in-Ascii : goal.returns-in-Ascii
-returns-in-Ascii g c = rw c.in-Ascii.is (writes_both c.put-in-Ascii.ensures c.put_quoted.ensures)
+returns-in-Ascii g c = rw c.in-Ascii.is c.put_text.ensures
 
 pub returns-in-Unicode : goal.returns-in-Unicode
-returns-in-Unicode g c = rw c.in-Unicode.is (writes_both c.put-in-Unicode.ensures c.put_quoted-in-Unicode.ensures)
+returns-in-Unicode g c = rw c.in-Unicode.is c.put_text-in-Unicode.ensures
 
 pub returns-in-Bytes : goal.returns-in-Bytes
 returns-in-Bytes g c = rw c.in-Bytes.is (writes_both c.put-in-Bytes.ensures c.put_hex.ensures)
