@@ -11,7 +11,7 @@ pub one_more : {X : Type 0} (f : X → ℕ) (xs : List X) (ws : List ℕ) (n w :
 one_more f xs ws n w x long each here is k y below at = elim (cases_lt k n) [
   | inl before ↦ get_or_append_left ws (w ∷ []) 0 k (omega (arith, before, long)) ∙ each k y before at
   | inr behind ↦
-    let place : n ≡ k = omega (arith, behind, below) in
-    let same : x ≡ y = cc in
-    get_or_push ws w 0 k (long ∙ place) ∙ is ∙ ap f same
+      let place : n ≡ k = omega (arith, behind, below) in
+      let same : x ≡ y = cc in
+      get_or_push ws w 0 k (long ∙ place) ∙ is ∙ ap f same
 ]

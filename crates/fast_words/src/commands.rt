@@ -108,7 +108,10 @@ fn with_options<'a>(alloc: Global, command: Command<'a>) -> Result<Command<'a>, 
     ensures { IfOk result (MakesApp (with_options (app_of command.entry))) }
 {
     let explain = "Says behind the line on standard error, in words, what is wrong, and where";
-    with_arg(with_limits(alloc, command), flag_arg(alloc, "explain", explain))
+    with_arg(
+        with_limits(alloc, command),
+        flag_arg(alloc, "explain", explain),
+    )
 }
 
 /// A command that was made, with the options that all of them have.

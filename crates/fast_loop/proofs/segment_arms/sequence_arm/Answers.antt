@@ -90,7 +90,7 @@ pub returns-in-Ok : goal.returns-in-Ok
 returns-in-Ok g c = record { went = c.elements_arm.ensures.went }
 
 pub unreachable-requires : goal.unreachable-requires
-unreachable-requires g c = 
+unreachable-requires g c =
     let (own, inside, is, operator, absent) = c.requires.sequence c.node.result.now (subst (λ (i : ℕ). slice_get (set_of c.args.templates.now).nodes i ≡ Some c.node.result.now) c.from-node.ensures c.node.ensures.found) in
     c.in_default.not-Sequence own inside is
 

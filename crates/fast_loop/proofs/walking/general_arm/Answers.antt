@@ -66,7 +66,7 @@ returns-else-step-gt0-2 g c =
     }
 
 pub returns-then-step-gt0 : goal.returns-then-step-gt0
-returns-then-step-gt0 g c = 
+returns-then-step-gt0 g c =
     let is = c.in-Ok.is ∙ ap Ok c.in-Handed.is in
     record {
       gone = (

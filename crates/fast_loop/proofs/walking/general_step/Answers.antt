@@ -127,7 +127,7 @@ returns-then-left-rest-clause-step g c =
     (so_far_as takes stops set l m rest s left c.waits_at_once.new.sink c.waits_at_once.new.self c.waits_at_once.ensures.same none before)
 
 pub returns-clause-step : goal.returns-clause-step
-returns-clause-step g c = 
+returns-clause-step g c =
     let takes = g.S.Sink.takes in
     let stops = g.S.Sink.stops in
     let set = set_of c.args.templates.now in
@@ -177,7 +177,7 @@ pub slice_bounds-left-count : goal.slice_bounds-left-count
 slice_bounds-left-count g c = c.in-Some.ensures.step.within
 
 pub loop-quick-smaller : goal.loop-quick-smaller
-loop-quick-smaller g c = 
+loop-quick-smaller g c =
     let takes = g.S.Sink.takes in
     let stops = g.S.Sink.stops in
     let set = set_of c.args.templates.now in
@@ -187,7 +187,7 @@ loop-quick-smaller g c =
     fewer_left takes stops set l left c.in-Some.quick.bytes (length left) c.in-Some.ensures.some c.in-Some.ensures.step.within (le_refl (length left))
 
 pub overflow_sub-result : goal.overflow_sub-result
-overflow_sub-result g c = 
+overflow_sub-result g c =
     let takes = g.S.Sink.takes in
     let stops = g.S.Sink.stops in
     let set = set_of c.args.templates.now in
@@ -198,7 +198,7 @@ overflow_sub-result g c =
     omega (arith, fewer)
 
 pub overflow_sub-rest : goal.overflow_sub-rest
-overflow_sub-rest g c = 
+overflow_sub-rest g c =
     let takes = g.S.Sink.takes in
     let stops = g.S.Sink.stops in
     let set = set_of c.args.templates.now in
@@ -212,7 +212,7 @@ pub overflow_sub-rest-then-left-rest : goal.overflow_sub-rest-then-left-rest
 overflow_sub-rest-then-left-rest g c = c.loop-quick.invariant.far.within
 
 pub slice_bounds-left-count-then-waits_at_once : goal.slice_bounds-left-count-then-waits_at_once
-slice_bounds-left-count-then-waits_at_once g c = 
+slice_bounds-left-count-then-waits_at_once g c =
     let takes = g.S.Sink.takes in
     let stops = g.S.Sink.stops in
     let set = set_of c.args.templates.now in
@@ -226,7 +226,7 @@ slice_bounds-left-count-then-waits_at_once g c =
     step.within
 
 pub overflow_sub-bytes : goal.overflow_sub-bytes
-overflow_sub-bytes g c = 
+overflow_sub-bytes g c =
     let takes = g.S.Sink.takes in
     let stops = g.S.Sink.stops in
     let set = set_of c.args.templates.now in

@@ -25,6 +25,6 @@ returns-in_ok-write_narrow_as-in-Dec-2-clause-ok c =
     )
 
 pub returns-in_ok-write_unsigned_as-in-U-clause-ok : goal.returns-in_ok-write_unsigned_as-in-U-clause-ok
-returns-in_ok-write_unsigned_as-in-U-clause-ok c = 
+returns-in_ok-write_unsigned_as-in-U-clause-ok c =
     let h = c.in_ok-write_unsigned_as-in-U.ensures in
     (h.0, h.1, subst (λ (v : Scalar). SpellsValue c.args.kind c.args.nullable (scalar_data v) h.0) (sym c.in-U.is) h.2)

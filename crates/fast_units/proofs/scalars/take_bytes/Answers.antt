@@ -63,7 +63,7 @@ pub take_part_vector-requires-clause-joined : goal.take_part_vector-requires-cla
 take_part_vector-requires-clause-joined c = c.requires.joined
 
 pub returns-in-Vector-clause-unit : goal.returns-in-Vector-clause-unit
-returns-in-Vector-clause-unit c = 
+returns-in-Vector-clause-unit c =
     let l = c.args.limits in
     let f = field_data c.args.field.now in
     let old = slots_dictionary c.args.slots.now in
@@ -82,7 +82,7 @@ pub returns-in-Vector-clause-capacity : goal.returns-in-Vector-clause-capacity
 returns-in-Vector-clause-capacity c = (c.take_vector.ensures.scratch, c.take_vector.ensures.joined)
 
 pub returns-in-Vector-clause-kept : goal.returns-in-Vector-clause-kept
-returns-in-Vector-clause-kept c i = 
+returns-in-Vector-clause-kept c i =
     let l = c.args.limits in
     let f = field_data c.args.field.now in
     let old = slots_dictionary c.args.slots.now in
@@ -100,7 +100,7 @@ pub returns-in-Part-clause-capacity : goal.returns-in-Part-clause-capacity
 returns-in-Part-clause-capacity c = (c.take_part.ensures.scratch, c.take_part.ensures.joined)
 
 pub returns-in-Part-clause-kept : goal.returns-in-Part-clause-kept
-returns-in-Part-clause-kept c i = 
+returns-in-Part-clause-kept c i =
     let l = c.args.limits in
     let f = field_data c.args.field.now in
     let old = slots_dictionary c.args.slots.now in
@@ -111,7 +111,7 @@ returns-in-Part-clause-kept c i =
     (k.0, subst (λ stage. IsBytesStage (bounds l) f p stage c.take_part.new.scratch.text) (sym c.in-Part.is) (b.0, (b.1.0, b.1.1, k.1 b.1.0 (subst (λ x. subtraction_step f p x ≡ Ok b.1.0) same b.1.1))))
 
 pub returns-in-PartVector-clause-unit : goal.returns-in-PartVector-clause-unit
-returns-in-PartVector-clause-unit c = 
+returns-in-PartVector-clause-unit c =
     let l = c.args.limits in
     let f = field_data c.args.field.now in
     let old = slots_dictionary c.args.slots.now in
@@ -131,7 +131,7 @@ pub returns-in-PartVector-clause-capacity : goal.returns-in-PartVector-clause-ca
 returns-in-PartVector-clause-capacity c = (c.take_part_vector.ensures.scratch, c.take_part_vector.ensures.joined)
 
 pub returns-in-PartVector-clause-kept : goal.returns-in-PartVector-clause-kept
-returns-in-PartVector-clause-kept c i = 
+returns-in-PartVector-clause-kept c i =
     let l = c.args.limits in
     let f = field_data c.args.field.now in
     let old = slots_dictionary c.args.slots.now in

@@ -61,7 +61,7 @@ pub take_part_size-requires-clause-serves : goal.take_part_size-requires-clause-
 take_part_size-requires-clause-serves c = c.requires.serves
 
 pub returns-in-Mantissa-clause-next : goal.returns-in-Mantissa-clause-next
-returns-in-Mantissa-clause-next c = 
+returns-in-Mantissa-clause-next c =
     let f = field_data c.args.field.now in
     next_settled (bounds c.args.limits) f (previous_at f.entry (slots_dictionary c.args.slots.now)) c.take_mantissa.result c.settled.result c.settled.ensures
 
@@ -72,7 +72,7 @@ pub returns-in-Mantissa-clause-terms : goal.returns-in-Mantissa-clause-terms
 returns-in-Mantissa-clause-terms c = c.take_mantissa.ensures.terms
 
 pub returns-in-MantissaDelta-clause-next : goal.returns-in-MantissaDelta-clause-next
-returns-in-MantissaDelta-clause-next c = 
+returns-in-MantissaDelta-clause-next c =
     let f = field_data c.args.field.now in
     next_settled (bounds c.args.limits) f (previous_at f.entry (slots_dictionary c.args.slots.now)) c.take_mantissa_delta.result c.settled-in-MantissaDelta.result c.settled-in-MantissaDelta.ensures
 

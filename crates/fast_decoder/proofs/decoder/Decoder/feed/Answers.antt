@@ -108,7 +108,7 @@ returns-in-Err-clause-followed g c = λ w es so.
     (returns-in-Err-clause-carried g c w es so)
 
 pub returns-in-Some-clause-bounded : goal.returns-in-Some-clause-bounded
-returns-in-Some-clause-bounded g c = 
+returns-in-Some-clause-bounded g c =
     let inside : DecoderData = record { set = set_of c.self.inside.templates.now; limits = c.self.inside.limits; machine = c.self.inside.machine; consumed = c.self.inside.consumed; fault = c.self.inside.fault } in
     let supplied : IsSupplied inside.set inside.limits c.begin_turns.new.self = subst (λ (m : Machine). IsSupplied inside.set inside.limits m) (sym c.begin_turns.ensures.same) (supplied-turns inside.set inside.limits inside.machine c.begin_turns.new.self.turns c.self.invariant.supplied) in
     stored-bound inside.set inside.limits c.begin_turns.new.self supplied
@@ -120,7 +120,7 @@ pub returns-in-Some-clause-consumed : goal.returns-in-Some-clause-consumed
 returns-in-Some-clause-consumed g c = let same = ap (λ (d : DecoderData). d.consumed) c.self.view_is in (omega (arith, same), omega (arith, same))
 
 pub returns-then-piece-self-clause-bounded : goal.returns-then-piece-self-clause-bounded
-returns-then-piece-self-clause-bounded g c = 
+returns-then-piece-self-clause-bounded g c =
     let inside : DecoderData = record { set = set_of c.self.inside.templates.now; limits = c.self.inside.limits; machine = c.self.inside.machine; consumed = c.self.inside.consumed; fault = c.self.inside.fault } in
     let supplied : IsSupplied inside.set inside.limits c.begin_turns.new.self = subst (λ (m : Machine). IsSupplied inside.set inside.limits m) (sym c.begin_turns.ensures.same) (supplied-turns inside.set inside.limits inside.machine c.begin_turns.new.self.turns c.self.invariant.supplied) in
     stored-bound inside.set inside.limits c.begin_turns.new.self supplied
@@ -156,17 +156,17 @@ pub returns-in-Err-clause-same_set : goal.returns-in-Err-clause-same_set
 returns-in-Err-clause-same_set g c = (ap (λ (d : DecoderData). tree d) c.self.view_is, ap (λ (d : DecoderData). d.limits) c.self.view_is)
 
 pub returns-then-piece-self-clause-stopped : goal.returns-then-piece-self-clause-stopped
-returns-then-piece-self-clause-stopped g c some = 
+returns-then-piece-self-clause-stopped g c some =
     let none : c.args.self.now.fault ≡ None = ap (λ (d : DecoderData). d.fault) (sym c.self.view_is) ∙ c.in_default.is in
     absurd (let k = subst (λ (f : Option Fault). IsSome f) none some in cc k)
 
 pub returns-in-Ok-clause-stopped : goal.returns-in-Ok-clause-stopped
-returns-in-Ok-clause-stopped g c some = 
+returns-in-Ok-clause-stopped g c some =
     let none : c.args.self.now.fault ≡ None = ap (λ (d : DecoderData). d.fault) (sym c.self.view_is) ∙ c.in_default.is in
     absurd (let k = subst (λ (f : Option Fault). IsSome f) none some in cc k)
 
 pub returns-in-Err-clause-stopped : goal.returns-in-Err-clause-stopped
-returns-in-Err-clause-stopped g c some = 
+returns-in-Err-clause-stopped g c some =
     let none : c.args.self.now.fault ≡ None = ap (λ (d : DecoderData). d.fault) (sym c.self.view_is) ∙ c.in_default.is in
     absurd (let k = subst (λ (f : Option Fault). IsSome f) none some in cc k)
 

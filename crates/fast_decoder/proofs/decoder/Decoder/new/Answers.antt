@@ -8,7 +8,7 @@ use Rattle.fast_decoder.proofs.streams.Starts.{sound_fresh, read_fresh}
 use Rattle.fast_decoder.proofs.decoder.Decoder.new.Goals as goal
 
 pub returns-then-limits-lt-MIN_TEXT-clause-bad_limits : goal.returns-then-limits-lt-MIN_TEXT-clause-bad_limits
-returns-then-limits-lt-MIN_TEXT-clause-bad_limits c = 
+returns-then-limits-lt-MIN_TEXT-clause-bad_limits c =
     let bad : AreBadLimits c.args.limits = elim c.then-limits-lt-MIN_TEXT.either [
       | inl few ↦ inl few
       | inr many ↦ inr many.1
@@ -16,7 +16,7 @@ returns-then-limits-lt-MIN_TEXT-clause-bad_limits c =
     (λ e. bad, λ h. refl)
 
 pub returns-then-limits-lt-MIN_TEXT-clause-long_initial : goal.returns-then-limits-lt-MIN_TEXT-clause-long_initial
-returns-then-limits-lt-MIN_TEXT-clause-long_initial c = 
+returns-then-limits-lt-MIN_TEXT-clause-long_initial c =
     let bad : AreBadLimits c.args.limits = elim c.then-limits-lt-MIN_TEXT.either [
       | inl few ↦ inl few
       | inr many ↦ inr many.1
@@ -24,7 +24,7 @@ returns-then-limits-lt-MIN_TEXT-clause-long_initial c =
     (λ e. absurd (cc e), λ h. absurd (h.0 bad))
 
 pub returns-then-has_long_initial-clause-bad_limits : goal.returns-then-has_long_initial-clause-bad_limits
-returns-then-has_long_initial-clause-bad_limits c = 
+returns-then-has_long_initial-clause-bad_limits c =
     let least = c.if-limits-lt-MIN_TEXT.false in
     let most = c.if-limits-gt-MAX_TEXT.false in
     let good : ¬ (AreBadLimits c.args.limits) = λ h. elim h [
@@ -34,7 +34,7 @@ returns-then-has_long_initial-clause-bad_limits c =
     (λ e. absurd (cc e), λ h. absurd (good h))
 
 pub returns-then-has_long_initial-clause-long_initial : goal.returns-then-has_long_initial-clause-long_initial
-returns-then-has_long_initial-clause-long_initial c = 
+returns-then-has_long_initial-clause-long_initial c =
     let least = c.if-limits-lt-MIN_TEXT.false in
     let most = c.if-limits-gt-MAX_TEXT.false in
     let good : ¬ (AreBadLimits c.args.limits) = λ h. elim h [
@@ -47,12 +47,12 @@ pub new-requires-clause-least : goal.new-requires-clause-least
 new-requires-clause-least c = c.if-limits-lt-MIN_TEXT.false
 
 pub new-requires-clause-initial : goal.new-requires-clause-initial
-new-requires-clause-initial c long = 
+new-requires-clause-initial c long =
     let yes : c.has_long_initial.result ≡ true = c.has_long_initial.ensures.1 long in
     let k = sym yes ∙ c.if-has_long_initial.false in cc k
 
 pub returns-in-Err-clause-bad_limits : goal.returns-in-Err-clause-bad_limits
-returns-in-Err-clause-bad_limits c = 
+returns-in-Err-clause-bad_limits c =
     let least = c.if-limits-lt-MIN_TEXT.false in
     let most = c.if-limits-gt-MAX_TEXT.false in
     let good : ¬ (AreBadLimits c.args.limits) = λ h. elim h [
@@ -63,12 +63,12 @@ returns-in-Err-clause-bad_limits c =
 
 pub returns-in-Err-clause-long_initial : goal.returns-in-Err-clause-long_initial
 returns-in-Err-clause-long_initial c = (
-      λ e. absurd (cc e),
-      λ h. absurd (let yes : c.has_long_initial.result ≡ true = c.has_long_initial.ensures.1 h.1 in let k = sym yes ∙ c.if-has_long_initial.false in cc k),
-    )
+  λ e. absurd (cc e),
+  λ h. absurd (let yes : c.has_long_initial.result ≡ true = c.has_long_initial.ensures.1 h.1 in let k = sym yes ∙ c.if-has_long_initial.false in cc k),
+)
 
 pub returns-in-Ok-clause-bad_limits : goal.returns-in-Ok-clause-bad_limits
-returns-in-Ok-clause-bad_limits c = 
+returns-in-Ok-clause-bad_limits c =
     let least = c.if-limits-lt-MIN_TEXT.false in
     let most = c.if-limits-gt-MAX_TEXT.false in
     let good : ¬ (AreBadLimits c.args.limits) = λ h. elim h [
@@ -79,17 +79,17 @@ returns-in-Ok-clause-bad_limits c =
 
 pub returns-in-Ok-clause-long_initial : goal.returns-in-Ok-clause-long_initial
 returns-in-Ok-clause-long_initial c = (
-      λ e. absurd (cc e),
-      λ h. absurd (let yes : c.has_long_initial.result ≡ true = c.has_long_initial.ensures.1 h.1 in let k = sym yes ∙ c.if-has_long_initial.false in cc k),
-    )
+  λ e. absurd (cc e),
+  λ h. absurd (let yes : c.has_long_initial.result ≡ true = c.has_long_initial.ensures.1 h.1 in let k = sym yes ∙ c.if-has_long_initial.false in cc k),
+)
 
 pub invariant_of-result : goal.invariant_of-result
-invariant_of-result c = 
+invariant_of-result c =
     let made : DecoderData = record { set = set_of c.args.templates.now; limits = c.args.limits; machine = c.in-Ok.machine; consumed = 0; fault = None } in
     sound_fresh made c.args.templates.now.nodes_name_later_nodes c.in-Ok.ensures.supplied c.in-Ok.ensures.fresh refl
 
 pub returns-in-Ok-clause-made : goal.returns-in-Ok-clause-made
-returns-in-Ok-clause-made c = 
+returns-in-Ok-clause-made c =
     let made : DecoderData = record { set = set_of c.args.templates.now; limits = c.args.limits; machine = c.in-Ok.machine; consumed = 0; fault = None } in
     (read_fresh made c.args.templates.now.nodes_name_later_nodes c.in-Ok.ensures.supplied c.in-Ok.ensures.fresh refl refl, refl, refl)
 

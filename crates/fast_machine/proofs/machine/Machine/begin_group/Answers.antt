@@ -43,7 +43,7 @@ returns-clause-turns g c way n h =
     rw (c.open_segment.ensures.turn, c.open_segment.ensures.waits) (c.enter_group-begun.ensures.turns way n c.args.optional next counted)
 
 pub enter_group-begun-requires-clause-turn : goal.enter_group-begun-requires-clause-turn
-enter_group-begun-requires-clause-turn g c = 
+enter_group-begun-requires-clause-turn g c =
     let m = c.args.self.now in
     let set = set_of c.args.templates.now in
     let begun : IsGroupBegun set c.args.limits m c.if-optional.self c.args.node (run_in (set_of c.args.templates.now) c.args.start) = elim c.if-optional.branch [
@@ -54,7 +54,7 @@ enter_group-begun-requires-clause-turn g c =
     group_can set c.args.limits m c.if-optional.self c.args.node c.args.optional (run_in set c.args.start) c.requires.turn c.requires.next begun
 
 pub enter_group-begun-requires-clause-left : goal.enter_group-begun-requires-clause-left
-enter_group-begun-requires-clause-left g c = 
+enter_group-begun-requires-clause-left g c =
     let m = c.args.self.now in
     let set = set_of c.args.templates.now in
     let begun : IsGroupBegun set c.args.limits m c.if-optional.self c.args.node (run_in (set_of c.args.templates.now) c.args.start) = elim c.if-optional.branch [
@@ -65,7 +65,7 @@ enter_group-begun-requires-clause-left g c =
     group_some set c.args.limits m c.if-optional.self c.args.node c.args.optional (run_in set c.args.start) c.requires.turn c.requires.next begun
 
 pub enter_group-begun-requires-clause-nested : goal.enter_group-begun-requires-clause-nested
-enter_group-begun-requires-clause-nested g c = 
+enter_group-begun-requires-clause-nested g c =
     let m = c.args.self.now in
     let set = set_of c.args.templates.now in
     let begun : IsGroupBegun set c.args.limits m c.if-optional.self c.args.node (run_in (set_of c.args.templates.now) c.args.start) = elim c.if-optional.branch [
@@ -91,7 +91,7 @@ pub returns-then-not-bit-clause-past : goal.returns-then-not-bit-clause-past
 returns-then-not-bit-clause-past g c i = ap (λ (x : CursorData). x.left) c.advance.ensures ∙ ap (λ (x : CursorData). drop 1 x.left) c.use_bit.ensures.same
 
 pub returns-then-not-bit-clause-turns : goal.returns-then-not-bit-clause-turns
-returns-then-not-bit-clause-turns g c way n h = 
+returns-then-not-bit-clause-turns g c way n h =
     let set = set_of c.args.templates.now in
     let m = c.args.self.now in
     let (at, number, some, next) = c.requires.next in

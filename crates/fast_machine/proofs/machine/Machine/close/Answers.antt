@@ -51,12 +51,12 @@ pub leave_segment-begun-requires-clause-turn : goal.leave_segment-begun-requires
 leave_segment-begun-requires-clause-turn g c = subst (λ (x : CursorData). CanTurn (set_of c.args.templates.now) c.args.limits (record c.args.self.now { cursor = x })) (sym c.place-place.ensures.same) c.requires.turn
 
 pub returns-in_err-hand-clause-on : goal.returns-in_err-hand-clause-on
-returns-in_err-hand-clause-on g c i = 
+returns-in_err-hand-clause-on g c i =
     let r = err_from_is_err_and c.from_residual.result c.from_residual.ensures.1 in
     absurd (let k = sym r.1 ∙ i in cc k)
 
 pub returns-in_err-hand-clause-turns : goal.returns-in_err-hand-clause-turns
-returns-in_err-hand-clause-turns g c way n h = 
+returns-in_err-hand-clause-turns g c way n h =
     let m = c.args.self.now in
     let r = err_from_is_err_and c.from_residual.result c.from_residual.ensures.1 in
     fault_turns way (set_of c.args.templates.now) c.args.limits n m m c.from_residual.result r.0 r.1 refl h
@@ -65,7 +65,7 @@ pub returns-then-is_outermost-clause-on : goal.returns-then-is_outermost-clause-
 returns-then-is_outermost-clause-on g c i = absurd (cc i)
 
 pub returns-then-is_outermost-clause-turns : goal.returns-then-is_outermost-clause-turns
-returns-then-is_outermost-clause-turns g c way n h = 
+returns-then-is_outermost-clause-turns g c way n h =
     let m = c.args.self.now in
     let set = set_of c.args.templates.now in
     subst (λ (w : List ℕ). HasTurnsInMap w way set c.args.limits n m.turns.count) (sym (ap (λ (x : CursorData). x.map) c.clear_map.ensures)) (turns_taken way set c.args.limits n m.turns.count m.counted m.cursor h)

@@ -53,14 +53,14 @@ returns-in-Ok-clause-turn g c =
     c.begin_mantissa.ensures.turn
 
 pub begin_mantissa-requires-clause-mantissa : goal.begin_mantissa-requires-clause-mantissa
-begin_mantissa-requires-clause-mantissa g c = 
+begin_mantissa-requires-clause-mantissa g c =
     serves_known (set_of c.args.templates.now) c.args.self.now c.use_bit_of.new.self.slots (field_data c.args.mantissa.now) (ap (λ (x : Machine). slots_terms x.slots) c.use_bit_of.ensures.same) c.requires.mantissa
 
 pub returns-in-None-clause-past : goal.returns-in-None-clause-past
 returns-in-None-clause-past g c i = ap (λ (x : CursorData). x.left) c.advance.ensures ∙ ap (λ (x : Machine). drop 1 x.cursor.left) c.use_bit_of.ensures.same
 
 pub returns-in-None-clause-turns : goal.returns-in-None-clause-turns
-returns-in-None-clause-turns g c way n h = 
+returns-in-None-clause-turns g c way n h =
     let set = set_of c.args.templates.now in
     let m = c.args.self.now in
     let mid = c.use_bit_of.new.self in
@@ -72,7 +72,7 @@ returns-in-None-clause-turns g c way n h =
     (ap (λ (x : CursorData). x.frames) c.advance.ensures ∙ ap (λ (x : Machine). x.cursor.frames) same) h
 
 pub returns-in-Err-clause-turn : goal.returns-in-Err-clause-turn
-returns-in-Err-clause-turn g c = 
+returns-in-Err-clause-turn g c =
     let set = set_of c.args.templates.now in
     let l = c.args.limits in
     let m = c.args.self.now in
@@ -86,7 +86,7 @@ pub returns-in-Err-clause-past : goal.returns-in-Err-clause-past
 returns-in-Err-clause-past g c i = absurd (cc i)
 
 pub returns-in-Err-clause-turns : goal.returns-in-Err-clause-turns
-returns-in-Err-clause-turns g c way n h = 
+returns-in-Err-clause-turns g c way n h =
     let m = c.args.self.now in
     fault_turns way (set_of c.args.templates.now) c.args.limits n m c.use_bit_of.new.self (Err (Why.Stream c.in-Err.code)) (Why.Stream c.in-Err.code) refl (ap (λ (x : Machine). x.turns.count) c.use_bit_of.ensures.same) h
 
@@ -94,6 +94,6 @@ pub returns-in-Ok-clause-past : goal.returns-in-Ok-clause-past
 returns-in-Ok-clause-past g c i = c.begin_mantissa.ensures.past i ∙ ap (λ (x : Machine). drop 1 x.cursor.left) c.use_bit_of.ensures.same
 
 pub returns-in-Ok-clause-turns : goal.returns-in-Ok-clause-turns
-returns-in-Ok-clause-turns g c way n h = 
+returns-in-Ok-clause-turns g c way n h =
     let set = set_of c.args.templates.now in
     c.begin_mantissa.ensures.turns way n (turns_used way set c.args.limits n c.args.self.now c.use_bit_of.new.self c.use_bit_of.ensures.same h)

@@ -50,12 +50,12 @@ returns-clause-turns g c way n h =
     next_counts (set_of c.args.templates.now) c.args.limits m d c.in-Some.width b c.requires.end c.after-self.result c.after-self.ensures way n h
 
 pub close_segment-requires-clause-turn : goal.close_segment-requires-clause-turn
-close_segment-requires-clause-turn g c = 
+close_segment-requires-clause-turn g c =
     let same : c.next_element.new.self ≡ c.args.self.now.cursor = c.next_element.ensures.none c.in_default.is in
     subst (λ (x : CursorData). CanTurn (set_of c.args.templates.now) c.args.limits (placed (record c.args.self.now { cursor = x }) c.args.place)) (sym same) c.requires.turn
 
 pub returns-in_default-clause-turn : goal.returns-in_default-clause-turn
-returns-in_default-clause-turn g c = 
+returns-in_default-clause-turn g c =
     let set = set_of c.args.templates.now in
     let l = c.args.limits in
     let same : c.next_element.new.self ≡ c.args.self.now.cursor = c.next_element.ensures.none c.in_default.is in
@@ -63,6 +63,6 @@ returns-in_default-clause-turn g c =
     subst (λ (x : CursorData). IsTurn g.S.Sink.takes g.S.Sink.stops set l (turning set l (placed (record c.args.self.now { cursor = x }) c.args.place)) c.args.sink.now (opened_result r) c.close_segment.new.sink (opened_by r c.close_segment.new.self)) same c.close_segment.ensures.turn
 
 pub returns-in_default-clause-turns : goal.returns-in_default-clause-turns
-returns-in_default-clause-turns g c way n h = 
+returns-in_default-clause-turns g c way n h =
     let same : c.next_element.new.self ≡ c.args.self.now.cursor = c.next_element.ensures.none c.in_default.is in
     c.close_segment.ensures.turns way n (subst (λ (x : CursorData). HasTurns way (set_of c.args.templates.now) c.args.limits 1 n (placed (record c.args.self.now { cursor = x }) c.args.place)) (sym same) h)

@@ -106,7 +106,7 @@ pub returns-in_default-clause-past : goal.returns-in_default-clause-past
 returns-in_default-clause-past g c i = ap (λ (x : CursorData). x.left) c.advance.ensures ∙ ap (λ (x : Machine). drop 1 x.cursor.left) c.use_bit_of.ensures.same
 
 pub returns-in_default-clause-turns : goal.returns-in_default-clause-turns
-returns-in_default-clause-turns g c way n h = 
+returns-in_default-clause-turns g c way n h =
     let set = set_of c.args.templates.now in
     let m = c.args.self.now in
     let mid = c.use_bit_of.new.self in
@@ -121,12 +121,12 @@ pub count_within-requires : goal.count_within-requires
 count_within-requires g c = subst (λ (k : ℕ). k ≤ c.args.limits.max_total) (sym (ap (λ (x : Machine). x.counted) c.use_bit_of.ensures.same)) c.requires.turn.supplied.counted
 
 pub returns-in_err-hand-in-Ok-clause-past : goal.returns-in_err-hand-in-Ok-clause-past
-returns-in_err-hand-in-Ok-clause-past g c i = 
+returns-in_err-hand-in-Ok-clause-past g c i =
     let r = err_from_is_err_and c.from_residual.result c.from_residual.ensures.1 in
     absurd (let k = sym r.1 ∙ i in cc k)
 
 pub returns-in_err-hand-in-Ok-clause-turns : goal.returns-in_err-hand-in-Ok-clause-turns
-returns-in_err-hand-in-Ok-clause-turns g c way n h = 
+returns-in_err-hand-in-Ok-clause-turns g c way n h =
     let m = c.args.self.now in
     let mid = c.use_bit_of.new.self in
     let r = err_from_is_err_and c.from_residual.result c.from_residual.ensures.1 in
@@ -142,7 +142,7 @@ pub next_element-requires-clause-below : goal.next_element-requires-clause-below
 next_element-requires-clause-below g c = c.requires.below
 
 pub returns-in-Err-clause-turn : goal.returns-in-Err-clause-turn
-returns-in-Err-clause-turn g c = 
+returns-in-Err-clause-turn g c =
     let m = c.args.self.now in
     let l = c.args.limits in
     let f = field_data c.args.length.now in
@@ -162,7 +162,7 @@ pub returns-in-Err-clause-past : goal.returns-in-Err-clause-past
 returns-in-Err-clause-past g c i = absurd (cc i)
 
 pub returns-in-Err-clause-turns : goal.returns-in-Err-clause-turns
-returns-in-Err-clause-turns g c way n h = 
+returns-in-Err-clause-turns g c way n h =
     let m = c.args.self.now in
     fault_turns way (set_of c.args.templates.now) c.args.limits n m c.use_bit_of.new.self (Err (Why.Stream c.in-Err.code)) (Why.Stream c.in-Err.code) refl (ap (λ (x : Machine). x.turns.count) c.use_bit_of.ensures.same) h
 
@@ -170,7 +170,7 @@ pub returns-in_ok-hand-in-Ok-clause-past : goal.returns-in_ok-hand-in-Ok-clause-
 returns-in_ok-hand-in-Ok-clause-past g c i = absurd (c.next_element.ensures.on i)
 
 pub next_element-requires-clause-nested : goal.next_element-requires-clause-nested
-next_element-requires-clause-nested g c = 
+next_element-requires-clause-nested g c =
     let m = c.args.self.now in
     let set = set_of c.args.templates.now in
     let ns = run_in set c.args.start in

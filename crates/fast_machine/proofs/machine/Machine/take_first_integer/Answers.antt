@@ -155,7 +155,7 @@ pub returns-in-Sequence-clause-turns : goal.returns-in-Sequence-clause-turns
 returns-in-Sequence-clause-turns g c = c.take_length.ensures.turns
 
 pub node-requires : goal.node-requires
-node-requires g c = 
+node-requires g c =
     let m = c.args.self.now in
     let can = can_take (set_of c.args.templates.now) c.args.limits m m.turns Field c.requires.waits c.requires.ready in
     first_below _ m.cursor.left c.in-Some.number can.0.below (sym c.next.ensures ∙ c.in-Some.is)

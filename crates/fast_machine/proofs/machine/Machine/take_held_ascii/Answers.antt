@@ -79,7 +79,7 @@ pub scalar_taken-requires-clause-serves : goal.scalar_taken-requires-clause-serv
 scalar_taken-requires-clause-serves g c = served_node (set_of c.args.templates.now) c.args.limits c.args.self.now c.in_ok-number.number c.node.result.now (Field c.in-Field.field) c.requires.ready.supplied c.node.ensures.found c.in-Field.is
 
 pub scalar_taken-requires-clause-progress : goal.scalar_taken-requires-clause-progress
-scalar_taken-requires-clause-progress g c = 
+scalar_taken-requires-clause-progress g c =
     let set = set_of c.args.templates.now in
     let l = c.args.limits in
     let m = c.args.self.now in
@@ -98,7 +98,7 @@ pub returns-clause-on : goal.returns-clause-on
 returns-clause-on g c = c.scalar_taken.ensures.on From.Scratch c.in_ok-bytes.bytes refl
 
 pub returns-clause-turns : goal.returns-clause-turns
-returns-clause-turns g c way n h = 
+returns-clause-turns g c way n h =
     let m = c.args.self.now in
     c.scalar_taken.ensures.turns way (1 + n) (subst IsOfField (sym c.requires.waits) tt)
     (one_unit way (set_of c.args.templates.now) c.args.limits 1 n m.turns.count c.after-self.result.count m.counted m.cursor c.after-self.ensures h)
@@ -134,7 +134,7 @@ pub returns-in_default : goal.returns-in_default
 returns-in_default g c = record { none = (refl, refl); taken = tt; on = tt; turns = λ way n h. tt }
 
 pub node-requires : goal.node-requires
-node-requires g c = 
+node-requires g c =
     let m = c.args.self.now in
     let can = can_take (set_of c.args.templates.now) c.args.limits m m.turns Text c.requires.waits c.requires.ready in
     first_below _ m.cursor.left c.in_ok-number.number can.0.below (sym c.next.ensures ∙ c.in_ok-number.was)

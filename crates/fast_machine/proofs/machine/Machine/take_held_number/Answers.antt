@@ -59,7 +59,7 @@ returns-clause-turns g c way n h =
     c.sent.ensures.turns set l m c.args.rest.now (field_data field) sent way n h
 
 pub node-requires : goal.node-requires
-node-requires g c = 
+node-requires g c =
     let m = c.args.self.now in
     let can = can_take (set_of c.args.templates.now) c.args.limits m m.turns Field c.requires.waits c.requires.ready in
     first_below _ m.cursor.left c.in_ok-number.number can.0.below (sym c.next.ensures ∙ c.in_ok-number.was)

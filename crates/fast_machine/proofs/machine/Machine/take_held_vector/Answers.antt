@@ -64,7 +64,7 @@ returns-clause-taken g c =
     (c.scalar_taken.ensures.taken a ready (subst IsOfField (sym waits) tt) (omega (arith, some, within)) unit)
 
 pub node-requires : goal.node-requires
-node-requires g c = 
+node-requires g c =
     let m = c.args.self.now in
     let can = can_take (set_of c.args.templates.now) c.args.limits m m.turns (Bytes (Vector c.args.size)) c.requires.waits c.requires.ready in
     first_below _ m.cursor.left c.in_ok-number.number can.0.below (sym c.next.ensures ∙ c.in_ok-number.was)

@@ -34,7 +34,7 @@ returns-clause-turns g c way n h =
     (subst (λ (x : Machine). HasTurns way set c.args.limits 1 n x) (sym same) h)
 
 pub node-requires : goal.node-requires
-node-requires g c = 
+node-requires g c =
     let m = c.args.self.now in
     let (placed, mapped) = placed_by m.waiting (set_of c.args.templates.now) c.args.limits m (of_later m.waiting c.requires.waits) c.requires.ready.takes in
     first_below _ m.cursor.left c.in-Some.number placed.below (sym c.next.ensures ∙ c.in-Some.is)

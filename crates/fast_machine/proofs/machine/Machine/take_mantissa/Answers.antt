@@ -137,7 +137,7 @@ returns-in-Whole-clause-taken g c =
     (turn_moved takes stops set l (read (to_z w32 (of_z w32 x))) (read (to_z w32 (of_z w32 x))) c.args.sink.now turn c.finish_decimal-turn.new.sink a b refl (ends.moves set (bounds l) l.strict (meaning set l b)) can ends.same ends.rests ends.past ends.on))
 
 pub node-requires : goal.node-requires
-node-requires g c = 
+node-requires g c =
     let m = c.args.self.now in
     let can = can_take (set_of c.args.templates.now) c.args.limits m m.turns (Mantissa c.args.exponent) c.requires.waits c.requires.ready in
     first_below _ m.cursor.left c.in-Some.number can.0.below (sym c.next.ensures ∙ c.in-Some.is)

@@ -93,7 +93,7 @@ returns-clause-turns g c way n h =
     (one_unit way set l 1 n m.turns.count a.turns.count m.counted m.cursor c.after-self.ensures h)
 
 pub node-requires : goal.node-requires
-node-requires g c = 
+node-requires g c =
     let m = c.args.self.now in
     let can = can_take (set_of c.args.templates.now) c.args.limits m m.turns (Mantissa c.args.exponent) c.requires.waits c.requires.ready in
     first_below _ m.cursor.left c.in_ok-number.number can.0.below (sym c.next.ensures ∙ c.in_ok-number.was)
