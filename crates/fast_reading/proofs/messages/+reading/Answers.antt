@@ -1,6 +1,6 @@
 -- Slots, groups and sequences are read as their events have them.
-use Rattle.std.proofs.Common.{◌≡◌, ◌<◌, ◌+◌, List, [], ◌∷◌, ◌++◌, inl, inr, length, drop, refl, ap, sym, subst, ◌∙◌, arith, rules}
-use Rattle.std.specs.Prelude.{◌^◌, Option, slice_index}
+use Rattle.std.proofs.Common.{◌≡◌, ◌<◌, ◌+◌, List, [], ◌∷◌, ◌++◌, inl, inr, length, drop, refl, ap, sym, subst, ◌∙◌, arith, rules, ◌*◌, ◌-◌}
+use Rattle.std.specs.Prelude.{◌^◌, Option, slice_index, Result, Ok, Err, IfOk, IsErrAnd}
 use Rattle.std.specs.declared.vec.Vec.{Vec}
 use Rattle.std.specs.declared.alloc.Global.{Global}
 use Rattle.std.proofs.lemmas.List.{length-append}
@@ -26,8 +26,17 @@ use Rattle.fast_reading.specs.device.Refusing.{HasNoNext}
 use Rattle.fast_reading.specs.meaning.Unsaid.{HasNoBody, HasNoItem, HasNoRows}
 use Rattle.fast_reading.proofs.refusals.Refused.{on_bad, always, item_next, group_refused, sequence_refused}
 use Rattle.fast_reading.proofs.refusals.RefusedBodies.{place_refused, rows_next, rows_surplus, rows_element, rows_misplaced, rows_missing}
+use Rattle.fast_tree.specs.declared.instructions.Shape.{Shape}
+use Rattle.fast_tree.specs.device.Numbers.{numbers_of, AreBetween}
+use Rattle.fast_reading.specs.device.Cursors.{ahead}
+use Rattle.fast_reading.proofs.readings.Shorter.{said_shorter, advance_shorter}
 use Rattle.fast_reading.proofs.messages.+reading.Goals as goal
 use Rattle.fast_reading.proofs.messages.+reading.Goals.{read_body-then-names+in_ok-item+in_ok-push, read_body-else-names+then-may_be_absent+in_ok-push-2}
+
+-- of what a `?` hands on, nothing is said of Ok
+on_handed_on : {R E : Type 0} (P : R → Type 0) (Q : E → Type 0) (r : Result R E) → IsErrAnd r Q → IfOk r P
+on_handed_on P Q (Ok x) h = absurd h
+on_handed_on P Q (Err e) h = tt
 
 pub read_body-loop-i-preserved : goal.read_body-loop-i-preserved
 read_body-loop-i-preserved t c =
@@ -263,3 +272,138 @@ read_rows-returns-in_err-next-2-clause-refused t c =
     rw p.1 (subst (OnBadLine (HasNoRows set body c.args.count c.args.at)) (sym p.2) (on_bad (HasNoNext c.loop-rows.place) (HasNoRows set body c.args.count c.args.at)
     (λ none. rows_next set body rs c.args.count c.args.at c.loop-rows.place c.loop-rows.invariant.read none)
     c.in_err-next-2.field-0.0 (c.in_err-next-2.ensures.refused)))
+
+pub read_body-returns-in_err-item-clause-ok : goal.read_body-returns-in_err-item-clause-ok
+read_body-returns-in_err-item-clause-ok t c = on_handed_on _ _ c.from_residual.result c.from_residual.ensures.1
+
+pub read_body-returns-in_err-push-clause-ok : goal.read_body-returns-in_err-push-clause-ok
+read_body-returns-in_err-push-clause-ok t c = on_handed_on _ _ c.from_residual-in_err-push.result c.from_residual-in_err-push.ensures.1
+
+pub read_body-returns-in_err-push-2-clause-ok : goal.read_body-returns-in_err-push-2-clause-ok
+read_body-returns-in_err-push-2-clause-ok t c = on_handed_on _ _ c.from_residual-in_err-push-2.result c.from_residual-in_err-push-2.ensures.1
+
+pub read_body-returns-in_err-next-clause-ok : goal.read_body-returns-in_err-next-clause-ok
+read_body-returns-in_err-next-clause-ok t c = on_handed_on _ _ c.from_residual-in_err-next.result c.from_residual-in_err-next.ensures.1
+
+pub read_item-returns-in_err-next-in-Group-clause-ok : goal.read_item-returns-in_err-next-in-Group-clause-ok
+read_item-returns-in_err-next-in-Group-clause-ok t c = on_handed_on _ _ c.from_residual.result c.from_residual.ensures.1
+
+pub read_item-returns-in_err-slots-in-Group-clause-ok : goal.read_item-returns-in_err-slots-in-Group-clause-ok
+read_item-returns-in_err-slots-in-Group-clause-ok t c = on_handed_on _ _ c.from_residual-in_err-slots-in-Group.result c.from_residual-in_err-slots-in-Group.ensures.1
+
+pub read_item-returns-in_err-next-in-Sequence-clause-ok : goal.read_item-returns-in_err-next-in-Sequence-clause-ok
+read_item-returns-in_err-next-in-Sequence-clause-ok t c = on_handed_on _ _ c.from_residual-in_err-next-in-Sequence.result c.from_residual-in_err-next-in-Sequence.ensures.1
+
+pub read_item-returns-in_err-rows-in-Sequence-clause-ok : goal.read_item-returns-in_err-rows-in-Sequence-clause-ok
+read_item-returns-in_err-rows-in-Sequence-clause-ok t c = on_handed_on _ _ c.from_residual-in_err-rows-in-Sequence.result c.from_residual-in_err-rows-in-Sequence.ensures.1
+
+pub read_rows-returns-in_err-next-clause-ok : goal.read_rows-returns-in_err-next-clause-ok
+read_rows-returns-in_err-next-clause-ok t c = on_handed_on _ _ c.from_residual.result c.from_residual.ensures.1
+
+pub read_rows-returns-in_err-row-clause-ok : goal.read_rows-returns-in_err-row-clause-ok
+read_rows-returns-in_err-row-clause-ok t c = on_handed_on _ _ c.from_residual-in_err-row.result c.from_residual-in_err-row.ensures.1
+
+pub read_rows-returns-in_err-push-clause-ok : goal.read_rows-returns-in_err-push-clause-ok
+read_rows-returns-in_err-push-clause-ok t c = on_handed_on _ _ c.from_residual-in_err-push.result c.from_residual-in_err-push.ensures.1
+
+pub read_rows-returns-in_err-next-2-clause-ok : goal.read_rows-returns-in_err-next-2-clause-ok
+read_rows-returns-in_err-next-2-clause-ok t c = on_handed_on _ _ c.from_residual-in_err-next-2.result c.from_residual-in_err-next-2.ensures.1
+
+pub read_item-read_value-requires-clause-node : goal.read_item-read_value-requires-clause-node
+read_item-read_value-requires-clause-node t c = c.requires.node
+
+pub read_item-read_value-requires-clause-named : goal.read_item-read_value-requires-clause-named
+read_item-read_value-requires-clause-named t c = c.requires.named
+
+pub read_item-returns-in-Field-clause-ok : goal.read_item-returns-in-Field-clause-ok
+read_item-returns-in-Field-clause-ok t c = c.read_value.ensures.ok
+
+pub read_item-returns-in-Field-clause-line : goal.read_item-returns-in-Field-clause-line
+read_item-returns-in-Field-clause-line t c = c.read_value.ensures.line
+
+pub read_item-returns-in-Field-clause-refused : goal.read_item-returns-in-Field-clause-refused
+read_item-returns-in-Field-clause-refused t c = c.read_value.ensures.refused
+
+pub read_body-returns-else-may_be_absent-clause-ok : goal.read_body-returns-else-may_be_absent-clause-ok
+read_body-returns-else-may_be_absent-clause-ok t c = tt
+
+pub read_body-returns-then-not-is_ending-clause-ok : goal.read_body-returns-then-not-is_ending-clause-ok
+read_body-returns-then-not-is_ending-clause-ok t c = tt
+
+pub read_rows-returns-then-has_all-clause-ok : goal.read_rows-returns-then-has_all-clause-ok
+read_rows-returns-then-has_all-clause-ok t c = tt
+
+pub read_rows-returns-then-not-is_sequence_end-clause-ok : goal.read_rows-returns-then-not-is_sequence_end-clause-ok
+read_rows-returns-then-not-is_sequence_end-clause-ok t c = tt
+
+pub read_rows-returns-then-lacks_some-clause-ok : goal.read_rows-returns-then-lacks_some-clause-ok
+read_rows-returns-then-lacks_some-clause-ok t c = tt
+
+pub read_body-returns-clause-line : goal.read_body-returns-clause-line
+read_body-returns-clause-line t c = tt
+
+pub read_body-returns-clause-refused : goal.read_body-returns-clause-refused
+read_body-returns-clause-refused t c = tt
+
+pub read_rows-returns-clause-line : goal.read_rows-returns-clause-line
+read_rows-returns-clause-line t c = tt
+
+pub read_rows-returns-clause-refused : goal.read_rows-returns-clause-refused
+read_rows-returns-clause-refused t c = tt
+
+pub read_item-returns-in_ok-slots-in-Group-clause-line : goal.read_item-returns-in_ok-slots-in-Group-clause-line
+read_item-returns-in_ok-slots-in-Group-clause-line t c = tt
+
+pub read_item-returns-in_ok-slots-in-Group-clause-refused : goal.read_item-returns-in_ok-slots-in-Group-clause-refused
+read_item-returns-in_ok-slots-in-Group-clause-refused t c = tt
+
+pub read_item-returns-in_ok-rows-in-Sequence-clause-line : goal.read_item-returns-in_ok-rows-in-Sequence-clause-line
+read_item-returns-in_ok-rows-in-Sequence-clause-line t c = tt
+
+pub read_item-returns-in_ok-rows-in-Sequence-clause-refused : goal.read_item-returns-in_ok-rows-in-Sequence-clause-refused
+read_item-returns-in_ok-rows-in-Sequence-clause-refused t c = tt
+
+pub read_body-read_item-requires : goal.read_body-read_item-requires
+read_body-read_item-requires t c = 
+    let inside : c.loop-i.i < length c.args.body.now = omega arith in
+    let d : 3 * length (ahead c.args.at) + 2 ≡ t = c.decreases in
+    let shorter = said_shorter (tree_of c.args.templates.now) c.loop-i.invariant.read c.args.at c.loop-i.place c.loop-i.invariant.said in
+    let smaller : 3 * length (ahead c.loop-i.place) + 1 < t = omega (arith, d, shorter) in
+    (smaller, (c.requires c.loop-i.i inside, c.names.ensures.0 c.if-names.true))
+
+pub read_item-read_body-requires : goal.read_item-read_body-requires
+read_item-read_body-requires t c = 
+    let d : 3 * length (ahead c.args.at) + 1 ≡ t = c.decreases in
+    let shorter = advance_shorter c.args.at c.in_ok-next-in-Group.next c.in_ok-next-in-Group.ensures.ok in
+    let smaller : 3 * length (ahead c.in_ok-next-in-Group.next) + 2 < t = omega (arith, d, shorter) in
+    let shape = Group c.in-Group.optional c.in-Group.body in
+    let later = subst (λ (z : Shape). AreBetween c.args.node (length (nodes_of c.args.templates.now)) (numbers_of z)) c.in-Group.is c.node.ensures.body in
+    (smaller, rw c.deref.ensures.value (λ k h. (later k h).1))
+
+pub read_item-read_rows-requires : goal.read_item-read_rows-requires
+read_item-read_rows-requires t c = 
+    let d : 3 * length (ahead c.args.at) + 1 ≡ t = c.decreases in
+    let shorter = advance_shorter c.args.at c.in_ok-next-in-Sequence.next c.in_ok-next-in-Sequence.ensures.ok in
+    let smaller : 3 * length (ahead c.in_ok-next-in-Sequence.next) + 2 < t = omega (arith, d, shorter) in
+    let later = subst (λ (z : Shape). AreBetween c.args.node (length (nodes_of c.args.templates.now)) (numbers_of z)) c.in-Sequence.is c.node.ensures.body in
+    (smaller, rw c.deref-in-Sequence.ensures.value (λ k h. (later k h).1))
+
+pub read_rows-read_body-requires : goal.read_rows-read_body-requires
+read_rows-read_body-requires t c = 
+    let d : 3 * length (ahead c.args.at) + 2 ≡ t = c.decreases in
+    let shorter = said_shorter (tree_of c.args.templates.now) _ c.args.at c.loop-rows.place c.loop-rows.invariant.read.said in
+    let next = advance_shorter c.loop-rows.place c.in_ok-next.next c.in_ok-next.ensures.ok in
+    let smaller : 3 * length (ahead c.in_ok-next.next) + 2 < t = omega (arith, d, shorter, next) in
+    (smaller, c.requires)
+
+pub read_rows-loop-rows-smaller : goal.read_rows-loop-rows-smaller
+read_rows-loop-rows-smaller t c = 
+    let shorter = advance_shorter c.loop-rows.place c.in_ok-next.next c.in_ok-next.ensures.ok in
+    let next = said_shorter (tree_of c.args.templates.now) _ c.in_ok-next.next c.in_ok-row.next c.in_ok-row.ensures.ok.said in
+    let smaller : length (ahead c.in_ok-row.next) < length (ahead c.loop-rows.place) = omega (arith, shorter, next) in
+    smaller
+
+pub read_body-loop-i-smaller : goal.read_body-loop-i-smaller
+read_body-loop-i-smaller t c = 
+    let smaller : length c.args.body.now - (c.loop-i.i + 1) < length c.args.body.now - c.loop-i.i = omega arith in
+    smaller
