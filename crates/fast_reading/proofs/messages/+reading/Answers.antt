@@ -364,7 +364,7 @@ pub read_item-returns-in_ok-rows-in-Sequence-clause-refused : goal.read_item-ret
 read_item-returns-in_ok-rows-in-Sequence-clause-refused t c = tt
 
 pub read_body-read_item-requires : goal.read_body-read_item-requires
-read_body-read_item-requires t c = 
+read_body-read_item-requires t c =
     let inside : c.loop-i.i < length c.args.body.now = omega arith in
     let d : 3 * length (ahead c.args.at) + 2 ≡ t = c.decreases in
     let shorter = said_shorter (tree_of c.args.templates.now) c.loop-i.invariant.read c.args.at c.loop-i.place c.loop-i.invariant.said in
@@ -372,7 +372,7 @@ read_body-read_item-requires t c =
     (smaller, (c.requires c.loop-i.i inside, c.names.ensures.0 c.if-names.true))
 
 pub read_item-read_body-requires : goal.read_item-read_body-requires
-read_item-read_body-requires t c = 
+read_item-read_body-requires t c =
     let d : 3 * length (ahead c.args.at) + 1 ≡ t = c.decreases in
     let shorter = advance_shorter c.args.at c.in_ok-next-in-Group.next c.in_ok-next-in-Group.ensures.ok in
     let smaller : 3 * length (ahead c.in_ok-next-in-Group.next) + 2 < t = omega (arith, d, shorter) in
@@ -381,7 +381,7 @@ read_item-read_body-requires t c =
     (smaller, rw c.deref.ensures.value (λ k h. (later k h).1))
 
 pub read_item-read_rows-requires : goal.read_item-read_rows-requires
-read_item-read_rows-requires t c = 
+read_item-read_rows-requires t c =
     let d : 3 * length (ahead c.args.at) + 1 ≡ t = c.decreases in
     let shorter = advance_shorter c.args.at c.in_ok-next-in-Sequence.next c.in_ok-next-in-Sequence.ensures.ok in
     let smaller : 3 * length (ahead c.in_ok-next-in-Sequence.next) + 2 < t = omega (arith, d, shorter) in
@@ -389,7 +389,7 @@ read_item-read_rows-requires t c =
     (smaller, rw c.deref-in-Sequence.ensures.value (λ k h. (later k h).1))
 
 pub read_rows-read_body-requires : goal.read_rows-read_body-requires
-read_rows-read_body-requires t c = 
+read_rows-read_body-requires t c =
     let d : 3 * length (ahead c.args.at) + 2 ≡ t = c.decreases in
     let shorter = said_shorter (tree_of c.args.templates.now) _ c.args.at c.loop-rows.place c.loop-rows.invariant.read.said in
     let next = advance_shorter c.loop-rows.place c.in_ok-next.next c.in_ok-next.ensures.ok in
@@ -397,13 +397,13 @@ read_rows-read_body-requires t c =
     (smaller, c.requires)
 
 pub read_rows-loop-rows-smaller : goal.read_rows-loop-rows-smaller
-read_rows-loop-rows-smaller t c = 
+read_rows-loop-rows-smaller t c =
     let shorter = advance_shorter c.loop-rows.place c.in_ok-next.next c.in_ok-next.ensures.ok in
     let next = said_shorter (tree_of c.args.templates.now) _ c.in_ok-next.next c.in_ok-row.next c.in_ok-row.ensures.ok.said in
     let smaller : length (ahead c.in_ok-row.next) < length (ahead c.loop-rows.place) = omega (arith, shorter, next) in
     smaller
 
 pub read_body-loop-i-smaller : goal.read_body-loop-i-smaller
-read_body-loop-i-smaller t c = 
+read_body-loop-i-smaller t c =
     let smaller : length c.args.body.now - (c.loop-i.i + 1) < length c.args.body.now - c.loop-i.i = omega arith in
     smaller
