@@ -1,3 +1,2 @@
-pub mod Making
 pub mod Subcommands
 pub mod Given

@@ -7,7 +7,7 @@ use Rattle.clap.specs.Walk.{Text, finished, nothing_held, settled, stop_after, w
 use Rattle.clap.specs.Facts.{explicit_source}
 use Rattle.clap.specs.Takes.{is_given}
 use Rattle.std.specs.List.{list_any}
-use Rattle.fast_words.specs.meaning.Commands.{fastcat_app}
+use Rattle.fast_usage.specs.meaning.Commands.{fastcat_app}
 
 -- what fails by no kind does not fail by its last step
 last_none : (a b : Kinds) → or_else a b ≡ [] → b ≡ []

@@ -1,4 +1,3 @@
 -- What is meant: the contracts of the public functions rest on these definitions.
-pub mod Commands
 pub mod Plans
 pub mod Words

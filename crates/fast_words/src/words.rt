@@ -6,12 +6,12 @@ ghost use Rattle.clap.specs.Simple.{subcommand_of};
 ghost use Rattle.clap.specs.Faults.{fault_of};
 ghost use Rattle.clap.specs.Kinds.{FailsBy};
 ghost use Rattle.clap.specs.Matches.{found_of};
-ghost use Rattle.fast_words.specs.meaning.Commands.{fastcat_app};
+ghost use Rattle.fast_usage.specs.meaning.Commands.{fastcat_app};
 ghost use Rattle.fast_words.specs.meaning.Words.{task_named, IsPlanOf, IsNumberAt};
 
-use crate::commands::fastcat_command;
 use crate::plans::{BUILT_IN, Plan, Task};
 use clap::{ArgMatches, Error};
+use fast_usage::fastcat_command;
 use fast_value::Limits;
 use std::alloc::Global;
 

@@ -6,8 +6,8 @@ use Rattle.clap.specs.Simple.{app_of, is_simple, subcommand_of}
 use Rattle.clap.specs.Matches.{found_of}
 use Rattle.clap.specs.Walk.{Text, rows_of}
 use Rattle.std.proofs.lemmas.Bool.{false≢true}
-use Rattle.fast_words.specs.meaning.Commands.{fastcat_app}
-use Rattle.fast_words.proofs.Making.{fastcat_simple, fastcat_free}
+use Rattle.fast_usage.specs.meaning.Commands.{fastcat_app}
+use Rattle.fast_usage.proofs.Making.{fastcat_simple, fastcat_free}
 use Rattle.fast_words.specs.meaning.Words.{IsPlanOf}
 use Rattle.fast_words.proofs.Subcommands.{names_one, found_both, still_there}
 use Rattle.fast_words.proofs.words.plan.Goals as goal

@@ -6,7 +6,7 @@ ghost use Rattle.clap.specs.Walk.{rule_of};
 ghost use Rattle.clap.specs.Simple.{app_of};
 ghost use Rattle.clap.specs.declared.builder.command.Command.{Command};
 ghost use Rattle.clap.specs.declared.builder.command.Command.TheViews.{out-Command};
-ghost use Rattle.fast_words.specs.meaning.Commands.{number_rule, flag_rule, templates_rule, input_rule, with_limits, with_options, with_input, check_app, show_app, convert_app, fastcat_app, MakesApp};
+ghost use Rattle.fast_usage.specs.meaning.Commands.{number_rule, flag_rule, templates_rule, input_rule, with_limits, with_options, with_input, check_app, show_app, convert_app, fastcat_app, MakesApp};
 
 use clap::{Arg, ArgAction, Command, value_parser};
 use std::alloc::{AllocError, Global};

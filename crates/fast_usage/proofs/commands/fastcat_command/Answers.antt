@@ -2,9 +2,9 @@ use Rattle.std.proofs.Common.{ap, ◌∙◌, ◌≡◌, rules, true, false}
 use Rattle.std.proofs.lemmas.Result.{IfOk-weaker}
 use Rattle.clap.specs.Simple.{App, app_of_fields}
 use Rattle.clap.specs.declared.builder.command.Command.TheViews.{out-Command}
-use Rattle.fast_words.specs.meaning.Commands.{check_app, show_app, convert_app}
-use Rattle.fast_words.proofs.Making.{makes_command_of}
-use Rattle.fast_words.proofs.commands.fastcat_command.Goals as goal
+use Rattle.fast_usage.specs.meaning.Commands.{check_app, show_app, convert_app}
+use Rattle.fast_usage.proofs.Making.{makes_command_of}
+use Rattle.fast_usage.proofs.commands.fastcat_command.Goals as goal
 
 pub returns : goal.returns
 returns c =

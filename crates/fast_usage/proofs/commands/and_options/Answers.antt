@@ -1,5 +1,5 @@
 use Rattle.std.proofs.lemmas.Result.{IfOk-weaker, IfOk-at_ok}
-use Rattle.fast_words.proofs.commands.and_options.Goals as goal
+use Rattle.fast_usage.proofs.commands.and_options.Goals as goal
 
 pub returns : goal.returns
 returns c = IfOk-weaker c.with_options.result _ _ (λ r h. (c.in_ok-command.field-0, c.in_ok-command.was, h)) c.with_options.ensures

@@ -1,8 +1,8 @@
 use Rattle.std.proofs.Common.{codes}
 use Rattle.std.proofs.lemmas.Result.{IfOk-weaker}
-use Rattle.fast_words.specs.meaning.Commands.{flag_rule}
-use Rattle.fast_words.proofs.Making.{makes_rule_of}
-use Rattle.fast_words.proofs.commands.with_options.Goals as goal
+use Rattle.fast_usage.specs.meaning.Commands.{flag_rule}
+use Rattle.fast_usage.proofs.Making.{makes_rule_of}
+use Rattle.fast_usage.proofs.commands.with_options.Goals as goal
 
 pub returns : goal.returns
 returns c =

@@ -10,7 +10,7 @@ use Rattle.clap.specs.declared.builder.arg.Arg.{Arg}
 use Rattle.clap.specs.declared.builder.command.Command.{Command}
 use Rattle.clap.specs.declared.builder.command.Command.TheViews.{out-Command}
 use Rattle.clap.proofs.OnLiterals.{clap_on_literals}
-use Rattle.fast_words.specs.meaning.Commands.{MakesApp, fastcat_app, with_options}
+use Rattle.fast_usage.specs.meaning.Commands.{MakesApp, fastcat_app, with_options}
 
 -- one more argument
 pub makes_rule : (app : App) (r : Rule) (old new : Command) (a : Arg) → MakesApp app old → rule_of a ≡ r → a.global ≡ false → AddsArg old a new → MakesApp (with_rule app r) new

@@ -1,9 +1,9 @@
 use Rattle.std.proofs.Common.{codes, ap, ◌∙◌, ◌≡◌}
 use Rattle.std.proofs.lemmas.Result.{IfOk-weaker}
 use Rattle.clap.specs.Simple.{app_of, app_of_fields, new_app}
-use Rattle.fast_words.specs.meaning.Commands.{with_input}
-use Rattle.fast_words.proofs.Making.{makes_options_of}
-use Rattle.fast_words.proofs.commands.convert_command.Goals as goal
+use Rattle.fast_usage.specs.meaning.Commands.{with_input}
+use Rattle.fast_usage.proofs.Making.{makes_options_of}
+use Rattle.fast_usage.proofs.commands.convert_command.Goals as goal
 
 pub returns : goal.returns
 returns c =

@@ -2,9 +2,9 @@ use Rattle.std.proofs.Common.{codes, ap, ◌∙◌, ◌≡◌, rules, false}
 use Rattle.std.proofs.lemmas.Result.{IfOk-weaker}
 use Rattle.clap.specs.Simple.{app_of, app_of_fields, new_app}
 use Rattle.clap.specs.declared.builder.command.Command.TheViews.{out-Command}
-use Rattle.fast_words.specs.meaning.Commands.{templates_rule}
-use Rattle.fast_words.proofs.Making.{makes_rule, makes_options_of, still_local}
-use Rattle.fast_words.proofs.commands.check_command.Goals as goal
+use Rattle.fast_usage.specs.meaning.Commands.{templates_rule}
+use Rattle.fast_usage.proofs.Making.{makes_rule, makes_options_of, still_local}
+use Rattle.fast_usage.proofs.commands.check_command.Goals as goal
 
 pub returns : goal.returns
 returns c =

@@ -1,5 +1,5 @@
 use Rattle.std.proofs.lemmas.Result.{IfOk-weaker}
-use Rattle.fast_words.proofs.commands.with_subcommand.Goals as goal
+use Rattle.fast_usage.proofs.commands.with_subcommand.Goals as goal
 
 pub returns : goal.returns
 returns c = IfOk-weaker c.subcommand.result _ _ (λ r h. (c.in_ok-subcommand.field-0, c.in_ok-subcommand.was, h)) c.subcommand.ensures

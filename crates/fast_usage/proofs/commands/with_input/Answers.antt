@@ -1,9 +1,9 @@
 use Rattle.std.proofs.Common.{refl, codes}
 use Rattle.std.proofs.lemmas.Result.{IfOk-weaker}
 use Rattle.clap.specs.Simple.{app_of}
-use Rattle.fast_words.specs.meaning.Commands.{templates_rule, input_rule, flag_rule}
-use Rattle.fast_words.proofs.Making.{makes_rule, makes_rule_of}
-use Rattle.fast_words.proofs.commands.with_input.Goals as goal
+use Rattle.fast_usage.specs.meaning.Commands.{templates_rule, input_rule, flag_rule}
+use Rattle.fast_usage.proofs.Making.{makes_rule, makes_rule_of}
+use Rattle.fast_usage.proofs.commands.with_input.Goals as goal
 
 pub returns : goal.returns
 returns c =
