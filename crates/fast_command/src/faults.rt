@@ -4,7 +4,7 @@ ghost use Rattle.std.specs.Prelude.{◌≡◌};
 ghost use Rattle.fast_command.specs.meaning.Report.{status_of};
 
 use fast_decoder::{Fault, MakeError};
-use fast_reading::faults::LineFault;
+use fast_reading::LineFault;
 use fast_spelling::EncodeFault;
 use fast_template::{StaticCode, StaticFault};
 use fast_text::{LineWriter, Room, Target};

@@ -11,11 +11,11 @@ use Rattle.fast_template.specs.meaning.Flat.{nodes_of, tree_of}
 use Rattle.fast_dict.specs.device.EntryTexts.{HasLongInitial}
 use Rattle.fast_decoder.specs.meaning.Decoding.{AreBadLimits}
 use Rattle.fast_laws.proofs.nodes.Granting.{set_is_granted}
-use Rattle.fast_reading.specs.declared.faults.TextFault.{TextFault}
-use Rattle.fast_reading.specs.meaning.Back.{IsRead}
-use Rattle.fast_reading.specs.meaning.Reading.{closed}
-use Rattle.fast_reading.proofs.readings.Back.{lines_closed}
-use Rattle.fast_reading.proofs.readings.ReadAgain.{shown_lines_are_read}
+use Rattle.fast_messages.specs.declared.faults.TextFault.{TextFault}
+use Rattle.fast_messages.specs.meaning.Back.{IsRead}
+use Rattle.fast_messages.specs.meaning.Reading.{closed}
+use Rattle.fast_messages.proofs.readings.Back.{lines_closed}
+use Rattle.fast_messages.proofs.readings.ReadAgain.{shown_lines_are_read}
 use Rattle.fast_command.specs.declared.faults.ShowEnd.{ShowEnd}
 use Rattle.fast_command.specs.declared.faults.ShowEnd.TheVariants.{Good}
 use Rattle.fast_command.specs.declared.faults.RunFault.{RunFault}

@@ -18,7 +18,7 @@ use Rattle.fast_stream.specs.meaning.Streams.{End, Stream, Chain, between}
 use Rattle.fast_stream.proofs.streams.Reading.{one_answer, read_back}
 use Rattle.fast_lines.specs.meaning.Hex.{digits_in}
 use Rattle.fast_lines.specs.meaning.Lines.{hex_digit, hex_byte, lines}
-use Rattle.fast_reading.specs.meaning.Reading.{closed}
+use Rattle.fast_messages.specs.meaning.Reading.{closed}
 use Rattle.fast_text.specs.meaning.Streams.{Appends}
 use Rattle.fast_command.specs.declared.faults.ShowEnd.{ShowEnd}
 use Rattle.fast_command.specs.declared.faults.ShowEnd.TheVariants.{Good, Faulted, Truncated}

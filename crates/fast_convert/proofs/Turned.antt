@@ -11,7 +11,7 @@ use Rattle.fast_text.proofs.Writing.{appends_no_more}
 use Rattle.fast_command.specs.declared.faults.RunFault.{RunFault}
 use Rattle.fast_command.specs.declared.faults.RunFault.TheVariants.{Read, Write, BadHex, Templates as Refused, Make, Text, Encode, Memory}
 use Rattle.fast_encoder.specs.meaning.Encoders.{EncoderData, tree}
-use Rattle.fast_reading.specs.meaning.Reading.{Says}
+use Rattle.fast_messages.specs.meaning.Reading.{Says}
 use Rattle.fast_convert.specs.meaning.Converting.{AreWritten, IsWhole, IsTurned, IsConverted}
 
 -- what the target keeps is handed on

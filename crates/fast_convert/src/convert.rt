@@ -11,8 +11,7 @@ ghost use Rattle.fast_convert.specs.meaning.Converting.{form, AreWritten, IsConv
 use fast_command::show::refusal;
 use fast_command::{RunFault, read_whole};
 use fast_encoder::{EncodeFault, Encoder, MakeError};
-use fast_reading::faults::TextFault;
-use fast_reading::messages::read_lines;
+use fast_reading::{TextFault, read_lines};
 use fast_template::Templates;
 use fast_text::{Failed, LineWriter, Room, Source, Target};
 use fast_value::{Limits, Message};

@@ -21,13 +21,13 @@ ghost use Rattle.fast_lines.specs.meaning.Lines.{lines, written};
 ghost use Rattle.fast_lines.specs.meaning.Values.{IsHeld, HasBytes, HoldsBytes};
 ghost use Rattle.fast_spelling.specs.meaning.Again.{IsGrantedTree};
 ghost use Rattle.fast_spelling.specs.meaning.Suiting.{SuitsTemplate};
-ghost use Rattle.fast_reading.specs.meaning.Distinct.{HasDistinctBodies};
-ghost use Rattle.fast_reading.specs.meaning.Lined.{IsLined, HasNames, HasDistinctNames};
-ghost use Rattle.fast_reading.specs.declared.faults.TextFault.{TextFault};
-ghost use Rattle.fast_reading.specs.device.Ahead.{IsShown};
-ghost use Rattle.fast_reading.specs.meaning.Back.{IsRead, IsReadAs, IsReadAgain};
-ghost use Rattle.fast_reading.specs.meaning.Reading.{closed, Says};
-ghost use Rattle.fast_reading.specs.meaning.Unsaid.{SaysNothing};
+ghost use Rattle.fast_messages.specs.meaning.Distinct.{HasDistinctBodies};
+ghost use Rattle.fast_messages.specs.meaning.Lined.{IsLined, HasNames, HasDistinctNames};
+ghost use Rattle.fast_messages.specs.declared.faults.TextFault.{TextFault};
+ghost use Rattle.fast_messages.specs.device.Ahead.{IsShown};
+ghost use Rattle.fast_messages.specs.meaning.Back.{IsRead, IsReadAs, IsReadAgain};
+ghost use Rattle.fast_messages.specs.meaning.Reading.{closed, Says};
+ghost use Rattle.fast_messages.specs.meaning.Unsaid.{SaysNothing};
 
 /// Events are those of one list of messages.
 pub fn one_list()

@@ -2,7 +2,7 @@
 
 use fast_explain::Note;
 use fast_notation::StaticCode;
-use fast_reading::faults::LineFault;
+use fast_reading::LineFault;
 use fast_spelling::EncodeFault;
 use fast_stream::FaultCode;
 use fast_value::Code;

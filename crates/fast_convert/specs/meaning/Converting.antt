@@ -13,10 +13,10 @@ use Rattle.fast_lines.specs.meaning.Lines.{hex_byte}
 use Rattle.fast_spelling.specs.meaning.Encoding.{EncodesMessage}
 use Rattle.fast_spelling.specs.meaning.Refusals.{IsRefused}
 use Rattle.fast_spelling.specs.meaning.Suiting.{SuitsTemplate, FitsLimits}
-use Rattle.fast_reading.specs.declared.faults.TextFault.TheVariants.{BadLine}
-use Rattle.fast_reading.specs.meaning.Reading.{Says}
-use Rattle.fast_reading.specs.device.Runs.{IsLineOf}
-use Rattle.fast_reading.specs.meaning.Unsaid.{SaysNothing}
+use Rattle.fast_messages.specs.declared.faults.TextFault.TheVariants.{BadLine}
+use Rattle.fast_messages.specs.meaning.Reading.{Says}
+use Rattle.fast_messages.specs.device.Runs.{IsLineOf}
+use Rattle.fast_messages.specs.meaning.Unsaid.{SaysNothing}
 use Rattle.fast_text.specs.meaning.Streams.{Reads, Appends, AppendsFront}
 use Rattle.fast_command.specs.declared.faults.RunFault.{RunFault}
 use Rattle.fast_command.specs.declared.faults.RunFault.TheVariants.{Read, Write, Make, Text, Encode, Memory}

@@ -12,9 +12,9 @@ use Rattle.fast_stream.specs.declared.faults.MakeError.TheVariants.{BadLimits, I
 use Rattle.fast_stream.specs.meaning.Events.{EventData}
 use Rattle.fast_stream.specs.meaning.Streams.{between}
 use Rattle.fast_decoder.specs.meaning.Decoding.{AreBadLimits}
-use Rattle.fast_reading.specs.declared.faults.TextFault.{TextFault}
-use Rattle.fast_reading.specs.meaning.Back.{IsReadAgain}
-use Rattle.fast_reading.specs.meaning.Reading.{closed}
+use Rattle.fast_messages.specs.declared.faults.TextFault.{TextFault}
+use Rattle.fast_messages.specs.meaning.Back.{IsReadAgain}
+use Rattle.fast_messages.specs.meaning.Reading.{closed}
 use Rattle.fast_text.specs.meaning.Streams.{Appends}
 use Rattle.fast_command.specs.declared.faults.ShowEnd.{ShowEnd}
 use Rattle.fast_command.specs.declared.faults.ShowEnd.TheVariants.{Good, Faulted, Truncated}

@@ -3,7 +3,7 @@
 use super::super::expect;
 use fast_command::{RunFault, ShowEnd, report};
 use fast_decoder::{Fault, FaultCode, MakeError};
-use fast_reading::faults::LineFault;
+use fast_reading::LineFault;
 use fast_spelling::EncodeFault;
 use fast_template::{StaticCode, StaticFault};
 use fast_text::ToBytes;

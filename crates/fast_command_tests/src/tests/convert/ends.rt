@@ -4,7 +4,7 @@ use super::super::{LENIENT, built_in_set, expect, set_of, show};
 use super::convert;
 use fast_command::RunFault;
 use fast_decoder::MakeError;
-use fast_reading::faults::LineFault;
+use fast_reading::LineFault;
 use fast_spelling::EncodeFault;
 use fast_template::Templates;
 use fast_text::{FromBytes, ToBytes};

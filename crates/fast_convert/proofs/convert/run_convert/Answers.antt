@@ -3,12 +3,12 @@ use Rattle.std.proofs.Common.{◌≡◌, ℕ, rules, Bool, map, sym, subst}
 use Rattle.std.specs.Prelude.{IsTrue}
 use Rattle.fast_value.specs.meaning.Views.{message_data}
 use Rattle.fast_template.specs.meaning.Flat.{tree_of}
-use Rattle.fast_reading.specs.declared.faults.LineFault.{LineFault}
-use Rattle.fast_reading.specs.declared.faults.TextFault.{TextFault}
-use Rattle.fast_reading.specs.declared.faults.TextFault.TheVariants.{BadLine}
-use Rattle.fast_reading.specs.device.Ahead.{OnBadLine}
-use Rattle.fast_reading.specs.meaning.Reading.{Says}
-use Rattle.fast_reading.specs.meaning.Unsaid.{SaysNothing}
+use Rattle.fast_messages.specs.declared.faults.LineFault.{LineFault}
+use Rattle.fast_messages.specs.declared.faults.TextFault.{TextFault}
+use Rattle.fast_messages.specs.declared.faults.TextFault.TheVariants.{BadLine}
+use Rattle.fast_messages.specs.device.Ahead.{OnBadLine}
+use Rattle.fast_messages.specs.meaning.Reading.{Says}
+use Rattle.fast_messages.specs.meaning.Unsaid.{SaysNothing}
 use Rattle.fast_convert.specs.meaning.Converting.{IsWhole}
 use Rattle.fast_convert.proofs.Turned.{from_new, all_handed_on, all_not_handed_on}
 use Rattle.fast_convert.proofs.convert.run_convert.Goals as goal

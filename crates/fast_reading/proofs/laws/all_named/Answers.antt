@@ -1,4 +1,4 @@
-use Rattle.fast_reading.proofs.names.AllNamed.{all_named}
+use Rattle.fast_messages.proofs.names.AllNamed.{all_named}
 use Rattle.fast_reading.proofs.laws.all_named.Goals as goal
 
 pub returns : goal.returns

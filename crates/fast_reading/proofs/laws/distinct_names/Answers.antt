@@ -1,4 +1,4 @@
-use Rattle.fast_reading.proofs.names.SetNames.{distinct_names}
+use Rattle.fast_messages.proofs.names.SetNames.{distinct_names}
 use Rattle.fast_reading.proofs.laws.distinct_names.Goals as goal
 
 pub returns : goal.returns

@@ -1,4 +1,4 @@
-use Rattle.fast_reading.proofs.unique.OneListOfEvents.{same_events}
+use Rattle.fast_messages.proofs.unique.OneListOfEvents.{same_events}
 use Rattle.fast_reading.proofs.laws.one_list_of_events.Goals as goal
 
 pub returns : goal.returns

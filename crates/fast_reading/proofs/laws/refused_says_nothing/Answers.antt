@@ -1,5 +1,5 @@
-use Rattle.fast_reading.proofs.names.AllNamed.{all_named}
-use Rattle.fast_reading.proofs.names.SetNames.{distinct_names}
+use Rattle.fast_messages.proofs.names.AllNamed.{all_named}
+use Rattle.fast_messages.proofs.names.SetNames.{distinct_names}
 use Rattle.fast_reading.proofs.laws.refused_says_nothing.Goals as goal
 
 pub returns : goal.returns

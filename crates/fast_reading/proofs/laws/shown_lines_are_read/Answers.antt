@@ -1,4 +1,4 @@
-use Rattle.fast_reading.proofs.readings.ReadAgain.{shown_lines_are_read}
+use Rattle.fast_messages.proofs.readings.ReadAgain.{shown_lines_are_read}
 use Rattle.fast_reading.proofs.laws.shown_lines_are_read.Goals as goal
 
 pub returns : goal.returns

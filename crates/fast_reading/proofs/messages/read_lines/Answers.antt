@@ -5,14 +5,14 @@ use Rattle.fast_value.specs.declared.messages.Message.{Message}
 use Rattle.fast_value.specs.meaning.Messages.{MessageData}
 use Rattle.fast_value.specs.meaning.Views.{message_data}
 use Rattle.fast_template.specs.meaning.Flat.{nodes_of, tree_of}
-use Rattle.fast_reading.specs.device.Progress.{AreMessagesRead}
-use Rattle.fast_reading.proofs.readings.Bodies.{messages_more}
-use Rattle.fast_reading.specs.device.Ahead.{OnBadLine, HasNoLines}
-use Rattle.fast_reading.specs.meaning.Reading.{closed}
-use Rattle.fast_reading.specs.meaning.Unsaid.{HasNoMessage, SaysNothing}
-use Rattle.fast_reading.proofs.names.Preorder.{distinct_bodies}
-use Rattle.fast_reading.proofs.refusals.Refused.{on_bad}
-use Rattle.fast_reading.proofs.refusals.RefusedMessages.{text_refused, rest_refused}
+use Rattle.fast_messages.specs.device.Progress.{AreMessagesRead}
+use Rattle.fast_messages.proofs.readings.Bodies.{messages_more}
+use Rattle.fast_messages.specs.device.Ahead.{OnBadLine, HasNoLines}
+use Rattle.fast_messages.specs.meaning.Reading.{closed}
+use Rattle.fast_messages.specs.meaning.Unsaid.{HasNoMessage, SaysNothing}
+use Rattle.fast_messages.proofs.names.Preorder.{distinct_bodies}
+use Rattle.fast_messages.proofs.refusals.Refused.{on_bad}
+use Rattle.fast_messages.proofs.refusals.RefusedMessages.{text_refused, rest_refused}
 use Rattle.fast_reading.proofs.messages.read_lines.Goals as goal
 
 pub loop-alloc-preserved : goal.loop-alloc-preserved

@@ -2,8 +2,8 @@
 use Rattle.std.proofs.Common.{length, map}
 use Rattle.fast_value.specs.meaning.Views.{message_data}
 use Rattle.fast_template.specs.meaning.Flat.{tree_of}
-use Rattle.fast_reading.specs.device.Cursors.{ahead}
-use Rattle.fast_reading.specs.device.Progress.{AreMessagesRead}
+use Rattle.fast_messages.specs.device.Cursors.{ahead}
+use Rattle.fast_messages.specs.device.Progress.{AreMessagesRead}
 use Rattle.fast_reading.proofs.messages.read_lines.Given as goal
 
 abbrev pub invariant-loop-alloc : goal.invariant-loop-alloc

@@ -1,0 +1,11 @@
+//! A message of the lines of its events, one after the other.
+#![tactic(auto)]
+
+pub mod cursors;
+pub mod endings;
+pub mod faults;
+pub mod kinds;
+pub mod messages;
+pub mod naming;
+
+pub use faults::{LineFault, TextFault};
