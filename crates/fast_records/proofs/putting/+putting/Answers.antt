@@ -1,5 +1,5 @@
 -- Slots, groups and sequences are put as their events have them.
-use Rattle.std.proofs.Common.{◌≡◌, ◌+◌, ◌∷◌, List, inl, inr, drop, map, refl, ap, sym, subst, ◌∙◌, arith}
+use Rattle.std.proofs.Common.{◌≡◌, ◌+◌, ◌≤◌, ◌∷◌, List, inl, inr, drop, length, map, refl, ap, sym, subst, ◌∙◌, arith}
 use Rattle.std.specs.Prelude.{Option, slice_index}
 use Rattle.std.specs.declared.vec.Vec.{Vec}
 use Rattle.std.proofs.lemmas.Result.{err_from_is_err_and}
@@ -20,7 +20,7 @@ use Rattle.fast_spelling.specs.device.Nodes.{instruction_in}
 use Rattle.fast_spelling.proofs.encodings.Instructions.{at_shape}
 use Rattle.fast_records.specs.device.Putting.{IsPutTo, ArePutTo}
 use Rattle.fast_records.proofs.Put.{slot_at, body_ended, rows_more, rows_done, field_put, parts_put, group_put, sequence_put}
-use Rattle.fast_records.specs.device.Due.{HasNoBody, IsStuck, HasNoRows}
+use Rattle.fast_records.specs.device.Due.{HasNoBody, IsStuck, IsWithin, HasNoRows}
 use Rattle.fast_records.specs.meaning.Putting.{OnMisplaced}
 use Rattle.fast_records.specs.declared.putting.Mark.TheVariants as Is
 use Rattle.fast_records.proofs.Due.{on_misplaced, always, pass_none, pass_some, stuck_at, never_field, never_parts, never_group, never_sequence, never_slots, never_rows, there_one, there_parts, there_group, there_sequence, left_next, left_stuck, left_end, rows_next, rows_unstarted, rows_stuck, rows_unended}
@@ -307,3 +307,57 @@ put_slot-returns-in_ok-value-in-Field-clause-put t c =
       | inl w ↦ field_put n (instruction_in nodes n) (label_of n v) (field_data w.0) value (item_data (V.One c.in_ok-value-in-Field.value)) from mid (at_shape nodes n v (Field w.0) c.node.ensures.found c.node.ensures.body w.1) refl item first
       | inr w ↦ parts_put n (instruction_in nodes n) (label_of n v) (field_data w.0) (field_data w.1) value (item_data (V.One c.in_ok-value-in-Field.value)) from mid (at_shape nodes n v (Decimal w.0 w.1) c.node.ensures.found c.node.ensures.body w.2) refl item first
     ]
+
+-- where a part was refused, the whole was, at the same place
+pub put_body-returns-in_err-item-clause-within : goal.put_body-returns-in_err-item-clause-within
+put_body-returns-in_err-item-clause-within t c = λ h.
+    let p = err_from_is_err_and c.from_residual.result c.from_residual.ensures.1 in
+    rw p.1 (subst (IsWithin (length c.args.given.now)) (sym p.2) (c.in_err-item.ensures.within (c.loop-node.invariant.2 h)))
+
+pub put_body-returns-in_err-next-clause-within : goal.put_body-returns-in_err-next-clause-within
+put_body-returns-in_err-next-clause-within t c = λ h.
+    let p = err_from_is_err_and c.from_residual-in_err-next.result c.from_residual-in_err-next.ensures.1 in
+    rw p.1 (subst (IsWithin (length c.args.given.now)) (sym p.2) (c.in_err-next.ensures.within (c.loop-node.invariant.2 h)))
+
+pub put_body-returns-clause-next : goal.put_body-returns-clause-next
+put_body-returns-clause-next t c = λ h. c.in_ok-next.ensures.next
+
+pub put_rows-returns-in_err-next-clause-within : goal.put_rows-returns-in_err-next-clause-within
+put_rows-returns-in_err-next-clause-within t c = λ h.
+    let p = err_from_is_err_and c.from_residual.result c.from_residual.ensures.1 in
+    rw p.1 (subst (IsWithin (length c.args.given.now)) (sym p.2) (c.in_err-next.ensures.within (c.loop-i.invariant.2 h)))
+
+pub put_rows-returns-in_err-row-clause-within : goal.put_rows-returns-in_err-row-clause-within
+put_rows-returns-in_err-row-clause-within t c = λ h.
+    let p = err_from_is_err_and c.from_residual-in_err-row.result c.from_residual-in_err-row.ensures.1 in
+    rw p.1 (subst (IsWithin (length c.args.given.now)) (sym p.2) (c.in_err-row.ensures.within c.in_ok-next.ensures.next))
+
+pub put_rows-returns-in_err-next-2-clause-within : goal.put_rows-returns-in_err-next-2-clause-within
+put_rows-returns-in_err-next-2-clause-within t c = λ h.
+    let p = err_from_is_err_and c.from_residual-in_err-next-2.result c.from_residual-in_err-next-2.ensures.1 in
+    rw p.1 (subst (IsWithin (length c.args.given.now)) (sym p.2) (c.in_err-next-2.ensures.within (c.loop-i.invariant.2 h)))
+
+pub put_rows-returns-clause-next : goal.put_rows-returns-clause-next
+put_rows-returns-clause-next t c = λ h. c.in_ok-next-2.ensures.next
+
+pub put_slot-returns-in_err-slots-in-Group-clause-within : goal.put_slot-returns-in_err-slots-in-Group-clause-within
+put_slot-returns-in_err-slots-in-Group-clause-within t c = λ h.
+    let p = err_from_is_err_and c.from_residual.result c.from_residual.ensures.1 in
+    let within : c.args.at + 1 ≤ length c.args.given.now = omega (arith, c.in-Some.ensures.inside) in
+    rw p.1 (subst (IsWithin (length c.args.given.now)) (sym p.2) (c.in_err-slots-in-Group.ensures.within within))
+
+pub put_slot-returns-in_err-rows-in-Sequence-clause-within : goal.put_slot-returns-in_err-rows-in-Sequence-clause-within
+put_slot-returns-in_err-rows-in-Sequence-clause-within t c = λ h.
+    let p = err_from_is_err_and c.from_residual-in_err-rows-in-Sequence.result c.from_residual-in_err-rows-in-Sequence.ensures.1 in
+    let within : c.args.at + 1 ≤ length c.args.given.now = omega (arith, c.in-Some.ensures.inside) in
+    rw p.1 (subst (IsWithin (length c.args.given.now)) (sym p.2) (c.in_err-rows-in-Sequence.ensures.within within))
+
+pub put_slot-returns-in_ok-slots-in-Group-clause-next : goal.put_slot-returns-in_ok-slots-in-Group-clause-next
+put_slot-returns-in_ok-slots-in-Group-clause-next t c = λ h.
+    let within : c.args.at + 1 ≤ length c.args.given.now = omega (arith, c.in-Some.ensures.inside) in
+    c.in_ok-slots-in-Group.ensures.next within
+
+pub put_slot-returns-in_ok-rows-in-Sequence-clause-next : goal.put_slot-returns-in_ok-rows-in-Sequence-clause-next
+put_slot-returns-in_ok-rows-in-Sequence-clause-next t c = λ h.
+    let within : c.args.at + 1 ≤ length c.args.given.now = omega (arith, c.in-Some.ensures.inside) in
+    c.in_ok-rows-in-Sequence.ensures.next within
