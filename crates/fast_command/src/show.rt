@@ -262,11 +262,10 @@ pub fn run_show<S: Source, T: Target>(
     ensures long_initial { IsRefusal templates.now limits MakeError.InitialTooLong
         → result ≡ Err (RunFault.Make MakeError.InitialTooLong) }
 {
-    let mut show = match Show::new(alloc, templates, limits, hex) {
-        Ok(show) => show,
-        Err(error) => return Err(refusal(error)),
-    };
-    show_reads(&mut show, templates, limits, hex, max_reads, reader, writer)
+    match Show::new(alloc, templates, limits, hex) {
+        Ok(mut show) => show_reads(&mut show, templates, limits, hex, max_reads, reader, writer),
+        Err(error) => Err(refusal(error)),
+    }
 }
 
 /// Reads and shows, up to the end of the input or of the run. Set, limits and `hex` are there for what the clauses say.
