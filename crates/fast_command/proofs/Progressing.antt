@@ -1,6 +1,6 @@
 -- From what the parts of a run do to what it has shown.
 use Rattle.std.proofs.Common.{◌≡◌, ◌⊎◌, ℕ, ◌+◌, ◌*◌, ◌≤◌, Bool, true, false, List, [], ◌∷◌, ◌++◌, Option, Some, None, Result, Ok, Err, refl, ap, sym, ◌∙◌, inl, inr, subst, length, length-append, suc, arith, append_assoc, append-nil}
-use Rattle.std.specs.Prelude.{All, IsTrue, is_some, if◌then◌else◌}
+use Rattle.std.specs.Prelude.{All, IsTrue, is_some, if◌then◌else◌, OnOk, IfErr, MatchOption}
 use Rattle.std.proofs.lemmas.List.Elements.{All-append}
 use Rattle.fast_value.specs.declared.settings.Limits.{Limits}
 use Rattle.fast_value.specs.declared.codes.Code.{Code}
@@ -16,6 +16,8 @@ use Rattle.fast_stream.specs.meaning.Streams.{End, between, inside, faulted, Str
 use Rattle.fast_stream.specs.meaning.Account.{Account, account_at}
 use Rattle.fast_decoder.specs.meaning.Decoding.{DecoderData, IsFaultAt, IsAt, HasRead, tree, account, answer}
 use Rattle.fast_decoder.proofs.streams.Ends.{read-stream}
+use Rattle.fast_template.specs.meaning.Flat.{tree_of}
+use Rattle.fast_text.specs.device.Fronts.{set_of}
 use Rattle.fast_lines.specs.meaning.Lines.{lines}
 use Rattle.fast_lines.specs.meaning.Hex.{Unhexed, digits_in, ArePairs}
 use Rattle.fast_lines.specs.meaning.Values.{HoldsBytes}
@@ -32,7 +34,7 @@ use Rattle.fast_command.specs.declared.faults.RunFault.TheVariants.{Write, BadHe
 use Rattle.fast_command.specs.meaning.Closing.{fault_line, truncated_line, closing}
 use Rattle.fast_command.specs.device.Unhexing.{StandsAt}
 use Rattle.fast_command.specs.meaning.Showing.{StandsFor, IsGoodEnd}
-use Rattle.fast_command.specs.device.Progress.{IsTaken, Progress, Change, Fed, CutShort, IsFedAt, GoesOn, Ended, IsBadPlace, IsClosedAt}
+use Rattle.fast_command.specs.device.Progress.{IsTaken, Progress, Change, Fed, CutShort, IsFedAt, IsFed, GoesOn, Ended, IsBadPlace, IsClosedAt, changed}
 use Rattle.fast_command.proofs.Characters.{is_shown}
 use Rattle.fast_command.proofs.Lined.{lines-append}
 
@@ -328,3 +330,24 @@ fed_in u t b es bytes d w same h = subst (λ (v : Tree). Fed v b es bytes d w) s
 -- the same at a fault
 pub fed_at_in : (u t : Tree) (k l : Limits) (b : List ℕ) (es : List EventData) (bytes : List ℕ) (d : DecoderData) (w : Change) (c : FaultCode) → u ≡ t → k ≡ l → IsFedAt u k b es bytes d w c → IsFedAt t l b es bytes d w c
 fed_at_in u t k l b es bytes d w c same limits h = subst (λ (m : Limits). IsFedAt t m b es bytes d w c) limits (subst (λ (v : Tree). IsFedAt v k b es bytes d w c) same h)
+
+-- How a run goes on or ends behind a piece whose bytes were fed.
+pub piece_fed : {T : Type 0} (written : T → Option (List ℕ)) (has_failed : T → Bool) (old mid new : T) (t : Tree) (l : Limits) (hex : Bool) (s s' : Show) (text b piece bytes : List ℕ) (es : List EventData) (fed : Result (Unit {0}) Fault) (r : Option (Result ShowEnd RunFault))
+    → Progress t l hex s text b es → s'.fronts ≡ s.fronts → (tree s'.decoder ≡ tree s.decoder) × (s'.decoder.limits ≡ s.decoder.limits) → is_some s'.unhexer ≡ is_some s.unhexer → fed ≡ answer s'.decoder.fault
+    → IsTaken s'.unhexer (text ++ piece) (b ++ bytes) → IsFed (tree_of (set_of s.fronts).now) s.decoder.limits b es bytes s'.decoder (changed written has_failed old mid) fed
+    → OnOk fed (new ≡ mid) → OnOk fed (MatchOption r (Unit {0}) (λ (e : Result ShowEnd RunFault). (place : ℕ) × (e ≡ Err (BadHex place)) × IsBadPlace s'.unhexer place))
+    → IfErr fed (λ (f : Fault). MatchOption r ⊥ (IsClosedAt f f.code (changed written has_failed mid new)))
+    → MatchOption r (GoesOn t l hex s' (text ++ piece) es (changed written has_failed old new)) (Ended t l hex ⊥ (text ++ piece) es (changed written has_failed old new))
+piece_fed {T} written has_failed old mid new t l hex s s' text b piece bytes es (Ok u) r p fronts same hex_same told taken fed stays behind closed =
+    let on = goes_on t l hex s s' text b piece bytes es (changed written has_failed old mid) p fronts same hex_same (no_fault _ _ told) taken (fed_in _ t b es bytes s'.decoder _ p.names fed) in
+    subst (λ (z : T). MatchOption r (GoesOn t l hex s' (text ++ piece) es (changed written has_failed old z)) (Ended t l hex ⊥ (text ++ piece) es (changed written has_failed old z))) (sym stays) (at r on behind)
+  where
+    at : (r : Option (Result ShowEnd RunFault)) → GoesOn t l hex s' (text ++ piece) es (changed written has_failed old mid)
+        → MatchOption r (Unit {0}) (λ (e : Result ShowEnd RunFault). (place : ℕ) × (e ≡ Err (BadHex place)) × IsBadPlace s'.unhexer place)
+        → MatchOption r (GoesOn t l hex s' (text ++ piece) es (changed written has_failed old mid)) (Ended t l hex ⊥ (text ++ piece) es (changed written has_failed old mid))
+    at None on h = on
+    at (Some e) on h = rw h.1 (bad_character_ends t l hex s' (text ++ piece) es _ h.0 on h.2)
+piece_fed written has_failed old mid new t l hex s s' text b piece bytes es (Err f) None p fronts same hex_same told taken fed stays behind closed = absurd closed
+piece_fed written has_failed old mid new t l hex s s' text b piece bytes es (Err f) (Some r) p fronts same hex_same told taken fed stays behind closed =
+    let at = stands_for s'.unhexer (text ++ piece) (b ++ bytes) taken in
+    fault_ends t l hex (text ++ piece) b bytes es s'.decoder (changed written has_failed old mid) (changed written has_failed mid new) f r (same.0 ∙ p.set) (same.1 ∙ p.limits) (this_fault _ f told) p.holds (fed_at_in _ t s.decoder.limits l b es bytes s'.decoder _ f.code p.names p.limits fed) closed refl refl (at.0, rw (hex_same ∙ p.hex_is) at at.1)

@@ -1,6 +1,6 @@
 //! Shows a stream as lines.
 
-ghost use Rattle.std.specs.Prelude.{◌≡◌, ◌⊎◌, ℕ, ◌+◌, ◌<◌, ◌≤◌, ◌^◌, List, [], ◌++◌, Bool, IsTrue, Err, IfErr, length, is_some, IfOk, IfSome, IfNone, All, MatchOption};
+ghost use Rattle.std.specs.Prelude.{◌≡◌, ◌⊎◌, ℕ, ◌+◌, ◌<◌, ◌≤◌, ◌^◌, List, [], ◌++◌, Bool, true, false, IsTrue, Err, OnOk, IfErr, length, is_some, IfOk, IfSome, IfNone, All, MatchOption};
 ghost use Rattle.fast_tree.specs.meaning.Tree.{Tree};
 ghost use Rattle.fast_template.specs.meaning.Flat.{tree_of};
 ghost use Rattle.fast_value.specs.declared.settings.Limits.{Limits};
@@ -20,7 +20,7 @@ use fast_decoder::{Decoder, Fault, FaultCode, MakeError};
 use fast_template::Templates;
 use fast_text::{Fronts, LineSink, Source, Target};
 use fast_value::Limits;
-use std::alloc::Global;
+use std::alloc::{AllocError, Global};
 
 /// How many bytes are read at a time, at most.
 const READ_SIZE: usize = 4096;
@@ -31,6 +31,14 @@ struct Show<'a> {
     fronts: Fronts<'a>,
     decoder: Decoder<'a>,
     unhexer: Option<Unhexer>,
+}
+
+/// What turns the input into bytes, where it is hexadecimal.
+fn unhexer_of(hex: bool) -> Option<Unhexer>
+    ensures there { is_some result ≡ hex }
+    ensures taken { IsTaken result [] [] }
+{
+    if hex { Some(Unhexer::new()) } else { None }
 }
 
 /// The bytes of a piece of the input: those that it stands for, or itself where the input is not hexadecimal.
@@ -130,16 +138,32 @@ impl<'a> Show<'a> {
         ensures long_initial { IsRefusal templates.entry.now limits MakeError.InitialTooLong
             → result ≡ Err MakeError.InitialTooLong }
     {
-        let decoder = Decoder::new(alloc, templates, limits)?;
-        let Ok(fronts) = Fronts::new(alloc, templates) else {
-            return Err(MakeError::Memory);
-        };
-        let unhexer = if hex { Some(Unhexer::new()) } else { None };
-        Ok(Show {
-            fronts,
-            decoder,
-            unhexer,
-        })
+        match Decoder::new(alloc, templates, limits) {
+            Ok(decoder) => Show::of(decoder, Fronts::new(alloc, templates), unhexer_of(hex)),
+            Err(error) => Err(error),
+        }
+    }
+
+    /// A run that has read nothing, of a new decoder and of what was made to name its events, if anything was.
+    fn of(
+        decoder: Decoder<'a>,
+        fronts: Result<Fronts<'a>, AllocError>,
+        unhexer: Option<Unhexer>,
+    ) -> Result<Show<'a>, MakeError>
+        requires new { HasRead decoder [] [] }
+        requires taken { IsTaken unhexer [] [] }
+        requires set { IfOk fronts (λ f. tree_of (set_of f).now ≡ tree decoder) }
+        ensures made { IfOk result (λ s. Progress (tree decoder.entry) decoder.entry.limits (is_some unhexer) s [] [] []) }
+        ensures refused { IfErr result (λ e. e ≡ MakeError.Memory) }
+    {
+        match fronts {
+            Ok(fronts) => Ok(Show {
+                fronts,
+                decoder,
+                unhexer,
+            }),
+            Err(_) => Err(MakeError::Memory),
+        }
     }
 
     /// Takes a piece of the input and writes the lines of what it gives, and answers how the run ends if it ends here.
@@ -155,7 +179,23 @@ impl<'a> Show<'a> {
     {
         let mut room = [0; READ_SIZE];
         let bytes = bytes_of(&mut self.unhexer, piece, &mut room);
-        match feed(&mut self.decoder, &self.fronts, bytes, writer) {
+        let fed = feed(&mut self.decoder, &self.fronts, bytes, writer);
+        self.behind(fed, writer)
+    }
+
+    /// How the run ends behind a feed, if it ends here.
+    fn behind<T: Target>(
+        &self,
+        fed: Result<(), Fault>,
+        writer: &mut T,
+    ) -> Option<Result<ShowEnd, RunFault>>
+        ensures unchanged { OnOk fed (writer.new ≡ writer.old) }
+        ensures read { OnOk fed (MatchOption result (Unit {0})
+            (λ r. (place : ℕ) × (r ≡ Err (RunFault.BadHex place)) × IsBadPlace self.now.unhexer place)) }
+        ensures closed { IfErr fed (λ fault. MatchOption result ⊥
+            (IsClosedAt fault fault.code (changed T.written T.has_failed writer.old writer.new))) }
+    {
+        match fed {
             Ok(()) => match bad_character(&self.unhexer) {
                 None => None,
                 Some(place) => Some(Err(RunFault::BadHex(place))),
@@ -173,14 +213,25 @@ impl<'a> Show<'a> {
         if let Some(place) = bad_end(&self.unhexer) {
             return Err(RunFault::BadHex(place));
         }
-        if self.decoder.between() {
+        let Some(consumed) = self.cut_at() else {
             return Ok(ShowEnd::Good);
-        }
-        let consumed = self.decoder.consumed();
+        };
         match write_truncated(consumed, writer) {
             Ok(()) => Ok(ShowEnd::Truncated(consumed)),
             Err(_) => Err(RunFault::Write),
         }
+    }
+
+    /// Behind how many bytes the stream ends inside a message, if it does.
+    fn cut_at(&self) -> Option<u64>
+        ensures whole { IfNone result ((account self.now.decoder).is_between ≡ true) }
+        ensures cut { IfSome result
+            (λ n. ((account self.now.decoder).is_between ≡ false) × (n ≡ (account self.now.decoder).consumed)) }
+    {
+        if self.decoder.between() {
+            return None;
+        }
+        Some(self.decoder.consumed())
     }
 }
 
@@ -211,11 +262,10 @@ pub fn run_show<S: Source, T: Target>(
     ensures long_initial { IsRefusal templates.now limits MakeError.InitialTooLong
         → result ≡ Err (RunFault.Make MakeError.InitialTooLong) }
 {
-    let mut show = match Show::new(alloc, templates, limits, hex) {
-        Ok(show) => show,
-        Err(error) => return Err(refusal(error)),
-    };
-    show_reads(&mut show, templates, limits, hex, max_reads, reader, writer)
+    match Show::new(alloc, templates, limits, hex) {
+        Ok(mut show) => show_reads(&mut show, templates, limits, hex, max_reads, reader, writer),
+        Err(error) => Err(refusal(error)),
+    }
 }
 
 /// Reads and shows, up to the end of the input or of the run. Set, limits and `hex` are there for what the clauses say.

@@ -1,12 +1,14 @@
 //! Turns lines, as a stream is shown, back into the stream.
 
-ghost use Rattle.std.specs.Prelude.{◌≡◌, ◌⊎◌, map, Err, IsTrue, OnOk, OnErr};
+ghost use Rattle.std.specs.Prelude.{◌≡◌, ◌⊎◌, ℕ, Bool, List, Option, map, Err, IsTrue, OnOk, OnErr};
 ghost use Rattle.fast_value.specs.meaning.Views.{message_data};
+ghost use Rattle.fast_template.specs.meaning.Flat.{tree_of};
+ghost use Rattle.fast_dict.specs.meaning.Dictionary.{fresh};
 ghost use Rattle.fast_decoder.specs.meaning.Decoding.{AreBadLimits};
 ghost use Rattle.fast_encoder.specs.meaning.Encoders.{tree};
 ghost use Rattle.fast_text.specs.meaning.Streams.{Appends, AppendsFront};
 ghost use Rattle.fast_command.specs.meaning.Showing.{IsRefusal};
-ghost use Rattle.fast_convert.specs.meaning.Converting.{form, AreWritten, IsConverted};
+ghost use Rattle.fast_convert.specs.meaning.Converting.{form, AreWritten, IsWhole, IsConverted};
 
 use fast_command::show::refusal;
 use fast_command::{RunFault, read_whole};
@@ -103,16 +105,56 @@ pub fn run_convert<S: Source, T: Target>(
         Ok(encoder) => encoder,
         Err(error) => return Err(refusal(error)),
     };
+    convert_read(alloc, templates, &mut encoder, hex, reader, writer)
+}
+
+/// Reads lines, and turns them into the stream that a new encoder writes of them.
+fn convert_read<S: Source, T: Target>(
+    alloc: Global,
+    templates: &Templates,
+    encoder: &mut Encoder<'_>,
+    hex: bool,
+    reader: &mut S,
+    writer: &mut T,
+) -> Result<(), RunFault>
+    requires set { tree encoder.old ≡ tree_of templates.now }
+    requires fresh { encoder.old.dictionary ≡ fresh (tree_of templates.now).entries }
+    ensures converted { IsConverted templates.now encoder.old.limits hex (S.left reader.old) (S.left reader.new)
+        (T.written writer.old) (T.written writer.new) (IsTrue (S.has_failed reader.new))
+        (IsTrue (T.has_failed writer.new)) result }
+    ensures writer_told { (result ≡ Err RunFault.Write) ⊎ (T.has_failed writer.new ≡ T.has_failed writer.old) }
+    ensures reader_told { (result ≡ Err RunFault.Read) ⊎ (S.has_failed reader.new ≡ S.has_failed reader.old) }
+{
     let text = match read_whole(alloc, LIMIT, reader) {
         Ok(text) => text,
         Err(fault) => return Err(fault),
     };
-    let messages = match read_lines(alloc, templates, &text) {
+    convert_text(alloc, templates, encoder, &text, hex, writer)
+}
+
+/// Turns the lines of a text into the stream that a new encoder writes of them.
+fn convert_text<T: Target>(
+    alloc: Global,
+    templates: &Templates,
+    encoder: &mut Encoder<'_>,
+    text: &[u8],
+    hex: bool,
+    writer: &mut T,
+) -> Result<(), RunFault>
+    requires set { tree encoder.old ≡ tree_of templates.now }
+    requires fresh { encoder.old.dictionary ≡ fresh (tree_of templates.now).entries }
+    // Of any reader that has given the whole text.
+    ensures converted { (left_old left_new : Option (List ℕ)) (reader_failed : Bool) → IsWhole left_old left_new text.now
+        → IsConverted templates.now encoder.old.limits hex left_old left_new (T.written writer.old) (T.written writer.new)
+        (IsTrue reader_failed) (IsTrue (T.has_failed writer.new)) result }
+    ensures writer_told { (result ≡ Err RunFault.Write) ⊎ (T.has_failed writer.new ≡ T.has_failed writer.old) }
+{
+    let messages = match read_lines(alloc, templates, text) {
         Ok(messages) => messages,
         Err(TextFault::BadLine { line, kind }) => return Err(RunFault::Text { line, kind }),
         Err(TextFault::Memory) => return Err(RunFault::Memory),
     };
-    let ending = write_messages(alloc, &mut encoder, &messages, hex, writer);
+    let ending = write_messages(alloc, encoder, &messages, hex, writer);
     match writer.flush() {
         Ok(()) => ending,
         Err(_) => Err(RunFault::Write),

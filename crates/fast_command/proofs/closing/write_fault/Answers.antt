@@ -9,7 +9,7 @@ returns-clause-written g c =
     let all = writes_both (writes_both (writes_both (writes_both c.put.ensures name) c.put-3.ensures) c.put_unsigned.ensures) c.put-4.ensures in
     let same = c.finish.ensures.same_target ∙ all.same_target ∙ c.new-line.ensures.same_target in
     let whole = λ (ended : g.row.T.Denot) (e : ended ≡ c.finish.new.self.target.now). (is_put c.args.target.now ended c.finish.result c.new-line.ensures.as_it_is e c.new-line.ensures.fresh all c.finish.ensures).whole in
-    search (rules, whole, same)
+    whole _ (search (rules, same))
 
 pub returns-clause-part : goal.returns-clause-part
 returns-clause-part g c =
@@ -17,7 +17,7 @@ returns-clause-part g c =
     let all = writes_both (writes_both (writes_both (writes_both c.put.ensures name) c.put-3.ensures) c.put_unsigned.ensures) c.put-4.ensures in
     let same = c.finish.ensures.same_target ∙ all.same_target ∙ c.new-line.ensures.same_target in
     let part = λ (ended : g.row.T.Denot) (e : ended ≡ c.finish.new.self.target.now). (is_put c.args.target.now ended c.finish.result c.new-line.ensures.as_it_is e c.new-line.ensures.fresh all c.finish.ensures).part in
-    search (rules, part, same)
+    part _ (search (rules, same))
 
 pub returns-clause-fails : goal.returns-clause-fails
 returns-clause-fails g c =
@@ -25,7 +25,7 @@ returns-clause-fails g c =
     let all = writes_both (writes_both (writes_both (writes_both c.put.ensures name) c.put-3.ensures) c.put_unsigned.ensures) c.put-4.ensures in
     let same = c.finish.ensures.same_target ∙ all.same_target ∙ c.new-line.ensures.same_target in
     let fails = λ (ended : g.row.T.Denot) (e : ended ≡ c.finish.new.self.target.now). (is_put c.args.target.now ended c.finish.result c.new-line.ensures.as_it_is e c.new-line.ensures.fresh all c.finish.ensures).fails in
-    search (rules, fails, same)
+    fails _ (search (rules, same))
 
 pub returns-clause-stays : goal.returns-clause-stays
 returns-clause-stays g c =
@@ -33,4 +33,4 @@ returns-clause-stays g c =
     let all = writes_both (writes_both (writes_both (writes_both c.put.ensures name) c.put-3.ensures) c.put_unsigned.ensures) c.put-4.ensures in
     let same = c.finish.ensures.same_target ∙ all.same_target ∙ c.new-line.ensures.same_target in
     let stays = λ (ended : g.row.T.Denot) (e : ended ≡ c.finish.new.self.target.now). (is_put c.args.target.now ended c.finish.result c.new-line.ensures.as_it_is e c.new-line.ensures.fresh all c.finish.ensures).stays in
-    search (rules, stays, same)
+    stays _ (search (rules, same))

@@ -90,3 +90,30 @@ returns-in-Some-clause-writer_told g c =
     let h = round_flushed c.flush.ensures.kept c.loop-read.invariant.round in
     let w = c.in-Some.ensures (tree_of c.args.templates.now) c.args.limits c.args.hex h.text h.bytes h.events h.progress in
     told_on w.told (at_good c.flush.result (sym c.if-is_err.ensures.value) c.flush.ensures.stays ∙ c.loop-read.invariant.writer_stays)
+
+pub returns-then-is_err-clause-writer_told : goal.returns-then-is_err-clause-writer_told
+returns-then-is_err-clause-writer_told g c = inl refl
+
+pub returns-then-is_err-clause-reader_told : goal.returns-then-is_err-clause-reader_told
+returns-then-is_err-clause-reader_told g c = inr c.loop-read.invariant.reader_stays
+
+pub returns-in-Err-clause-writer_told : goal.returns-in-Err-clause-writer_told
+returns-in-Err-clause-writer_told g c = inr (at_good c.flush.result (sym c.if-is_err.ensures.value) c.flush.ensures.stays ∙ c.loop-read.invariant.writer_stays)
+
+pub returns-in-Err-clause-reader_told : goal.returns-in-Err-clause-reader_told
+returns-in-Err-clause-reader_told g c = inl refl
+
+pub returns-then-count-eq0-clause-reader_told : goal.returns-then-count-eq0-clause-reader_told
+returns-then-count-eq0-clause-reader_told g c = inr (c.in-Ok.ensures.stays ∙ c.loop-read.invariant.reader_stays)
+
+pub take-requires-clause-few : goal.take-requires-clause-few
+take-requires-clause-few g c = omega (arith, length-take c.in-Ok.count c.read.new.buf, c.read.auto.buf)
+
+pub returns-in-Some-clause-reader_told : goal.returns-in-Some-clause-reader_told
+returns-in-Some-clause-reader_told g c = inr (c.in-Ok.ensures.stays ∙ c.loop-read.invariant.reader_stays)
+
+pub returns-clause-writer_told : goal.returns-clause-writer_told
+returns-clause-writer_told g c = inr c.loop-read.invariant.writer_stays
+
+pub returns-clause-reader_told : goal.returns-clause-reader_told
+returns-clause-reader_told g c = inl refl

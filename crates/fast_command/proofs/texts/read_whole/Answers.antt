@@ -1,4 +1,4 @@
-use Rattle.std.proofs.Common.{◌≡◌, ◌<◌, ◌++◌, ◌∙◌, refl, ap, inr, length, take, rules, [], List, ℕ}
+use Rattle.std.proofs.Common.{◌≡◌, ◌<◌, ◌++◌, ◌∙◌, refl, ap, inl, inr, length, take, rules, [], List, ℕ}
 use Rattle.fast_text.proofs.Writing.{reads_none, reads_both, reads_no_more}
 use Rattle.fast_command.proofs.texts.read_whole.Goals as goal
 
@@ -19,3 +19,21 @@ returns-then-len-limit-clause-unread g c =
     let piece = take c.in-Ok.count c.read.new.buf in
     let long : c.args.limit < length (text ++ piece) = search rules in
     inr (text ++ piece, reads_both _ _ _ text piece c.loop-read.invariant.bytes c.in-Ok.ensures.bytes, long)
+
+pub returns-in_default-clause-told : goal.returns-in_default-clause-told
+returns-in_default-clause-told g c = inl refl
+
+pub returns-then-count-eq0-clause-told : goal.returns-then-count-eq0-clause-told
+returns-then-count-eq0-clause-told g c = inr (c.in-Ok.ensures.stays ∙ c.loop-read.invariant.stays)
+
+pub returns-then-count-eq0-clause-short : goal.returns-then-count-eq0-clause-short
+returns-then-count-eq0-clause-short g c = c.loop-read.invariant.few
+
+pub returns-then-is_err-clause-told : goal.returns-then-is_err-clause-told
+returns-then-is_err-clause-told g c = inr (c.in-Ok.ensures.stays ∙ c.loop-read.invariant.stays)
+
+pub returns-then-len-limit-clause-told : goal.returns-then-len-limit-clause-told
+returns-then-len-limit-clause-told g c = inl refl
+
+pub returns-clause-told : goal.returns-clause-told
+returns-clause-told g c = inl refl

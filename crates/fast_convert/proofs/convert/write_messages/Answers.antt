@@ -1,10 +1,9 @@
 -- Each message is encoded from the dictionary that those before it have left.
-use Rattle.std.proofs.Common.{◌≡◌, ◌∙◌, rules, inr, get_or}
+use Rattle.std.proofs.Common.{◌≡◌, ◌∙◌, rules, inr, get_or, sym}
 use Rattle.std.specs.Prelude.{IsTrue}
-use Rattle.fast_text.specs.meaning.Streams.{Appends, AppendsFront}
 use Rattle.fast_spelling.specs.declared.faults.EncodeFault.TheVariants as Fault
 use Rattle.fast_encoder.specs.meaning.Encoders.{tree}
-use Rattle.fast_convert.specs.meaning.Converting.{form}
+use Rattle.fast_command.proofs.Showing.{at_good, at_error}
 use Rattle.fast_convert.proofs.Coded.{coded_from, refused_from, so_more, so_cut, so_without, so_refused}
 use Rattle.fast_convert.proofs.convert.write_messages.Goals as goal
 
@@ -31,8 +30,8 @@ returns-then-is_err-clause-written g c =
     let m = c.index-messages-number.result in
     let there : get_or c.args.messages.now c.loop-number.number m ≡ m = search rules in
     let one = coded_from e c.loop-number.encoder c.encode.new.self _ _ _ c.loop-number.invariant.set c.loop-number.invariant.limits c.clear.ensures.items c.in-Ok.ensures.ok in
-    let part : AppendsFront (g.T.Target.written c.loop-number.writer) (g.T.Target.written c.write_bytes.new.writer) (form c.args.hex c.encode.new.out.items) = search (rules, c.write_bytes.ensures.part, c.is_err.ensures.value, c.if-is_err.true, c.deref.ensures.value) in
-    let failed : IsTrue (g.T.Target.has_failed c.write_bytes.new.writer) = search (rules, c.write_bytes.ensures.fails, c.is_err.ensures.value, c.if-is_err.true) in
+    let part = rw c.deref.ensures.value at (at_error c.write_bytes.result (sym c.if-is_err.ensures.value) c.write_bytes.ensures.part) in
+    let failed = at_error c.write_bytes.result (sym c.if-is_err.ensures.value) c.write_bytes.ensures.fails in
     so_cut (tree e) e.limits c.args.hex e.dictionary c.args.messages.now c.loop-number.number _ _ _ _ _ m c.encode.new.out.items _ c.loop-number-test.true there c.loop-number.invariant.so one part failed
 
 pub loop-number-preserved : goal.loop-number-preserved
@@ -41,8 +40,8 @@ loop-number-preserved g c =
     let m = c.index-messages-number.result in
     let there : get_or c.args.messages.now c.loop-number.number m ≡ m = search rules in
     let one = coded_from e c.loop-number.encoder c.encode.new.self _ _ _ c.loop-number.invariant.set c.loop-number.invariant.limits c.clear.ensures.items c.in-Ok.ensures.ok in
-    let written : Appends (g.T.Target.written c.loop-number.writer) (g.T.Target.written c.write_bytes.new.writer) (form c.args.hex c.encode.new.out.items) = search (rules, c.write_bytes.ensures.written, c.is_err.ensures.value, c.if-is_err.false, c.deref.ensures.value) in
-    let stays : g.T.Target.has_failed c.write_bytes.new.writer ≡ g.T.Target.has_failed c.loop-number.writer = search (rules, c.write_bytes.ensures.stays, c.is_err.ensures.value, c.if-is_err.false) in
+    let written = rw c.deref.ensures.value at (at_good c.write_bytes.result (sym c.if-is_err.ensures.value) c.write_bytes.ensures.written) in
+    let stays = at_good c.write_bytes.result (sym c.if-is_err.ensures.value) c.write_bytes.ensures.stays in
     record {
       so = so_more (tree e) e.limits c.args.hex e.dictionary c.args.messages.now c.loop-number.number _ _ _ _ _ m c.encode.new.out.items c.loop-number-test.true there c.loop-number.invariant.so one written;
       set = c.encode.ensures.same_set.0 ∙ c.loop-number.invariant.set;

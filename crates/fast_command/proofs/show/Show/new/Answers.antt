@@ -1,19 +1,22 @@
-use Rattle.std.proofs.Common.{rules, ap}
-use Rattle.std.proofs.lemmas.List.Elements.{All-nil}
-use Rattle.fast_template.specs.meaning.Flat.{tree_of}
-use Rattle.fast_lines.specs.meaning.Values.{HoldsBytes}
-use Rattle.fast_command.proofs.Progressing.{no_fault_yet}
 use Rattle.fast_command.proofs.show.Show.new.Goals as goal
-use Rattle.fast_command.proofs.show.Show.new.Goals.{then-hex, else-hex}
 
-pub returns-clause-made : goal.returns-clause-made
-returns-clause-made c = record {
-  names = ap tree_of c.in-Ok.ensures;
-  set = c.in_ok-decoder.ensures.made.1;
-  limits = c.in_ok-decoder.ensures.made.2;
-  so = c.in_ok-decoder.ensures.made.0;
-  holds = All-nil HoldsBytes;
-  good = no_fault_yet _ c.in_ok-decoder.ensures.made.0;
-  hex_is = elim c.if-hex.branch [ then-hex w ↦ search (rules, w) | else-hex w ↦ search (rules, w) ];
-  taken = elim c.if-hex.branch [ then-hex w ↦ rw w.unhexer-is w.new-then-hex.ensures | else-hex w ↦ search (rules, w) ];
-}
+pub of-requires-clause-new : goal.of-requires-clause-new
+of-requires-clause-new c = c.in-Ok.ensures.made.0
+
+pub of-requires-clause-taken : goal.of-requires-clause-taken
+of-requires-clause-taken c = c.unhexer_of.ensures.taken
+
+pub returns-in-Ok-clause-made : goal.returns-in-Ok-clause-made
+returns-in-Ok-clause-made c = rw c.in-Ok.ensures.made.1 at (rw c.in-Ok.ensures.made.2 at (rw c.unhexer_of.ensures.there at c.of.ensures.made))
+
+pub returns-in-Ok-clause-bad_limits : goal.returns-in-Ok-clause-bad_limits
+returns-in-Ok-clause-bad_limits c = λ bad. let e = c.in-Ok.ensures.bad_limits.1 bad in absurd (cc)
+
+pub returns-in-Ok-clause-long_initial : goal.returns-in-Ok-clause-long_initial
+returns-in-Ok-clause-long_initial c = λ bad. let e = c.in-Ok.ensures.long_initial.1 bad in absurd (cc)
+
+pub returns-in-Err-clause-bad_limits : goal.returns-in-Err-clause-bad_limits
+returns-in-Err-clause-bad_limits c = λ bad. let e = c.in-Err.ensures.bad_limits.1 bad in cc
+
+pub returns-in-Err-clause-long_initial : goal.returns-in-Err-clause-long_initial
+returns-in-Err-clause-long_initial c = λ bad. let e = c.in-Err.ensures.long_initial.1 bad in cc
