@@ -1,4 +1,5 @@
 -- What a new encoder of the set and the limits does of what is read is what the run has done.
+use Rattle.std.proofs.Common.{inr, refl}
 use Rattle.fast_convert.proofs.convert.run_convert.Goals as goal
 
 pub convert_read-requires-clause-set : goal.convert_read-requires-clause-set
@@ -15,3 +16,15 @@ returns-clause-bad_limits g c = λ bad. let e = c.in-Ok.ensures.bad_limits.1 bad
 
 pub returns-clause-long_initial : goal.returns-clause-long_initial
 returns-clause-long_initial g c = λ bad. let e = c.in-Ok.ensures.long_initial.1 bad in absurd (cc)
+
+pub returns-in-Err-clause-writer_told : goal.returns-in-Err-clause-writer_told
+returns-in-Err-clause-writer_told g c = inr refl
+
+pub returns-in-Err-clause-reader_told : goal.returns-in-Err-clause-reader_told
+returns-in-Err-clause-reader_told g c = inr refl
+
+pub returns-clause-writer_told : goal.returns-clause-writer_told
+returns-clause-writer_told g c = c.convert_read.ensures.writer_told
+
+pub returns-clause-reader_told : goal.returns-clause-reader_told
+returns-clause-reader_told g c = c.convert_read.ensures.reader_told
