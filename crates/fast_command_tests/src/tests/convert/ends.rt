@@ -1,5 +1,6 @@
 //! How a run ends, and what is written by then.
 
+use super::super::sinks::Taker;
 use super::super::{LENIENT, built_in_set, expect, set_of, show};
 use super::convert;
 use fast_command::RunFault;
@@ -7,11 +8,10 @@ use fast_decoder::MakeError;
 use fast_reading::faults::LineFault;
 use fast_spelling::EncodeFault;
 use fast_template::Templates;
-use fast_text::{FromBytes, ToBytes};
+use fast_text::{FromBytes, Watched};
 use fast_value::Limits;
 use std::alloc::Global;
 use std::process::Abort;
-use std::test::Fail;
 
 /// A run over this text ends so, and has written this.
 fn expect_end(
@@ -24,17 +24,18 @@ fn expect_end(
     written: &str,
 ) {
     let mut cells = [0; 512];
-    let mut target = ToBytes::new(&mut cells);
+    let mut target = Watched::new(Taker::whole(&mut cells));
     let mut source = FromBytes::new(text.as_bytes());
     let end = convert(alloc, set, limits, true, &mut source, &mut target);
-    let is_right = end == wanted && target.bytes() == written.as_bytes();
-    expect(rt, is_right, text, target.bytes().len());
+    let taker = target.into_inner();
+    let is_right = end == wanted && taker.bytes() == written.as_bytes();
+    expect(rt, is_right, text, taker.kept);
 }
 
 const X: &str = "message T1\nfield 0 x u 942755\nend message\n";
 
 /// Lines, and the streams that are written of them.
-const WHOLE: [(&str, &str); 4] = [
+const WHOLE: &[(&str, &str)] = &[
     ("", ""),
     (X, "c0813945a3\n"),
     (
@@ -48,16 +49,15 @@ const WHOLE: [(&str, &str); 4] = [
 ];
 
 #[test]
-fn lines_are_written_as_a_stream(rt: HostRuntime) -> Result<(), Fail> {
-    let set = built_in_set(rt.alloc())?;
+fn lines_are_written_as_a_stream(rt: HostRuntime) {
+    let set = built_in_set(&rt, rt.alloc());
     for (text, written) in WHOLE {
         expect_end(&rt, rt.alloc(), &set, LENIENT, text, Ok(()), written);
     }
-    Ok(())
 }
 
 /// Texts that are not the lines of messages: nothing is written of the lines before the one at fault.
-const FAULTY: [(&str, u64, LineFault); 6] = [
+const FAULTY: &[(&str, u64, LineFault)] = &[
     (
         "message T1\nfield 0 x u 5\nend message\nmessage TX\n",
         4,
@@ -71,18 +71,20 @@ const FAULTY: [(&str, u64, LineFault); 6] = [
 ];
 
 #[test]
-fn a_line_at_fault_is_told_and_nothing_is_written(rt: HostRuntime) -> Result<(), Fail> {
-    let set = built_in_set(rt.alloc())?;
+fn a_line_at_fault_is_told_and_nothing_is_written(rt: HostRuntime) {
+    let set = built_in_set(&rt, rt.alloc());
     for (text, line, kind) in FAULTY {
-        let end = Err(RunFault::Text { line, kind });
+        let end = Err(RunFault::Text {
+            line: *line,
+            kind: *kind,
+        });
         expect_end(&rt, rt.alloc(), &set, LENIENT, text, end, "");
     }
-    Ok(())
 }
 
 #[test]
-fn the_messages_before_one_that_is_refused_are_written(rt: HostRuntime) -> Result<(), Fail> {
-    let set = built_in_set(rt.alloc())?;
+fn the_messages_before_one_that_is_refused_are_written(rt: HostRuntime) {
+    let set = built_in_set(&rt, rt.alloc());
     let text =
         "message T3\nfield 3 t a \"ABCDE\"\nend message\nmessage T3\nfield 3 t a \"AB\"\nend message\n";
     let end = Err(RunFault::Encode {
@@ -98,37 +100,34 @@ fn the_messages_before_one_that_is_refused_are_written(rt: HostRuntime) -> Resul
         end,
         "e08341424344c5\n",
     );
-    Ok(())
 }
 
 #[test]
-fn limits_are_refused_before_the_text_is_read(rt: HostRuntime) -> Result<(), Fail> {
-    let set = built_in_set(rt.alloc())?;
+fn limits_are_refused_before_the_text_is_read(rt: HostRuntime) {
+    let set = built_in_set(&rt, rt.alloc());
     let short = Limits {
         max_text: 15,
         ..LENIENT
     };
     let end = Err(RunFault::Make(MakeError::BadLimits));
     expect_end(&rt, rt.alloc(), &set, short, "message TX", end, "");
-    Ok(())
 }
 
 #[test]
-fn a_long_initial_value_is_refused_before_the_text_is_read(rt: HostRuntime) -> Result<(), Fail> {
+fn a_long_initial_value_is_refused_before_the_text_is_read(rt: HostRuntime) {
     let text =
         "[[template]]\nname = 'N'\nid = 1\nfields = [{ kind = 'ascii', name = 's', op = 'copy', value = 'seventeen letters' }]\n";
-    let set = set_of(rt.alloc(), text)?;
+    let set = set_of(&rt, rt.alloc(), text);
     let short = Limits {
         max_text: 16,
         ..LENIENT
     };
     let end = Err(RunFault::Make(MakeError::InitialTooLong));
     expect_end(&rt, rt.alloc(), &set, short, "message TX", end, "");
-    Ok(())
 }
 
 /// Lines of whole messages, each of which is shown again as it was.
-const THERE_AND_BACK: [&str; 8] = [
+const THERE_AND_BACK: &[&str] = &[
     "message T3\nfield 3 t a \"ABCDE\"\nend message\nmessage T3\nfield 3 t a \"ABCXY\"\nend message\n",
     "message T4\nfield 4 d a \"GEH6\"\nend message\nmessage T4\nfield 4 d a \"GEM6\"\nend message\nmessage T4\nfield 4 d a \"ZZGEM6\"\nend message\n",
     "message T5\nfield 5 n u 4294967295\nend message\nmessage T5\nfield 5 n u 0\nend message\n",
@@ -140,23 +139,28 @@ const THERE_AND_BACK: [&str; 8] = [
 ];
 
 #[test]
-fn what_is_written_is_shown_as_it_was(rt: HostRuntime) -> Result<(), Fail> {
-    let set = built_in_set(rt.alloc())?;
+fn what_is_written_is_shown_as_it_was(rt: HostRuntime) {
+    let set = built_in_set(&rt, rt.alloc());
     for text in THERE_AND_BACK {
         expect(&rt, comes_back(rt.alloc(), &set, text), text, text.len());
     }
-    Ok(())
 }
 
 /// Whether the lines that a stream is written of are shown of it.
 fn comes_back(alloc: Global, set: &Templates, text: &str) -> bool {
     let mut cells = [0; 512];
-    let mut stream = ToBytes::new(&mut cells);
+    let mut target = Watched::new(Taker::whole(&mut cells));
     let mut source = FromBytes::new(text.as_bytes());
-    let end = convert(alloc, set, LENIENT, false, &mut source, &mut stream);
-    let mut room = [0; 512];
-    let mut lines = ToBytes::new(&mut room);
-    let mut source = FromBytes::new(stream.bytes());
-    let shown = show(alloc, set, LENIENT, false, 1000, &mut source, &mut lines);
-    end == Ok(()) && shown.is_ok() && lines.bytes() == text.as_bytes()
+    let end = convert(alloc, set, LENIENT, false, &mut source, &mut target);
+    let stream = target.into_inner();
+    end == Ok(()) && is_shown_as(alloc, set, stream.bytes(), text)
+}
+
+/// Whether this is shown of a stream.
+fn is_shown_as(alloc: Global, set: &Templates, stream: &[u8], text: &str) -> bool {
+    let mut cells = [0; 512];
+    let mut target = Watched::new(Taker::whole(&mut cells));
+    let mut source = FromBytes::new(stream);
+    let end = show(alloc, set, LENIENT, false, 1000, &mut source, &mut target);
+    end.is_ok() && target.into_inner().bytes() == text.as_bytes()
 }
