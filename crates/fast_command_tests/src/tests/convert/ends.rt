@@ -34,83 +34,67 @@ fn expect_end(
 
 const X: &str = "message T1\nfield 0 x u 942755\nend message\n";
 
-/// Lines, and the streams that are written of them.
-const WHOLE: &[(&str, &str)] = &[
-    ("", ""),
-    (X, "c0813945a3\n"),
+/// The most bytes of a text, lines, how a run over them ends, and what is written by then.
+#[rattlefmt::skip]
+const ENDS: &[(usize, &str, Result<(), RunFault>, &str)] = &[
+    // lines are written as a stream
+    (1024, "", Ok(()), ""),
+    (1024, X, Ok(()), "c0813945a3\n"),
     (
+        1024,
         "message T1\nfield 0 x u 942755\nend message\nmessage T1\nfield 0 x u 0\nend message",
+        Ok(()),
         "c0813945a3\n8080\n",
     ),
     (
+        1024,
         "message T6\nfield 6 x u 0\nend message\nmessage T9\nend message\nmessage T9\nend message\nmessage T6\nend message\n",
+        Ok(()),
         "e08681\nc089\n80\nc086\n",
     ),
-];
-
-#[test]
-fn lines_are_written_as_a_stream(rt: HostRuntime) {
-    let set = built_in_set(&rt, rt.alloc());
-    for (text, written) in WHOLE {
-        expect_end(&rt, rt.alloc(), &set, LENIENT, text, Ok(()), written);
-    }
-}
-
-/// Texts that are not the lines of messages: nothing is written of the lines before the one at fault.
-const FAULTY: &[(&str, u64, LineFault)] = &[
+    // a line at fault is told, and nothing is written of the lines before it
     (
+        1024,
         "message T1\nfield 0 x u 5\nend message\nmessage TX\n",
-        4,
-        LineFault::UnknownTemplate,
+        Err(RunFault::Text { line: 4, kind: LineFault::UnknownTemplate }),
+        "",
     ),
-    ("message T1\nfield 1 x u 5\n", 2, LineFault::OutOfPlace),
-    ("message T1\nfield 0 x u 05\n", 2, LineFault::Form),
-    ("message T1\nfield 0 x i 5\n", 2, LineFault::WrongValue),
-    ("message T1\nend message\n", 2, LineFault::PassedOver),
-    ("message T1\nfield 0 x u 5\n", 3, LineFault::Missing),
+    (
+        1024,
+        "message T1\nfield 1 x u 5\n",
+        Err(RunFault::Text { line: 2, kind: LineFault::OutOfPlace }),
+        "",
+    ),
+    (1024, "message T1\nfield 0 x u 05\n", Err(RunFault::Text { line: 2, kind: LineFault::Form }), ""),
+    (
+        1024,
+        "message T1\nfield 0 x i 5\n",
+        Err(RunFault::Text { line: 2, kind: LineFault::WrongValue }),
+        "",
+    ),
+    (1024, "message T1\nend message\n", Err(RunFault::Text { line: 2, kind: LineFault::PassedOver }), ""),
+    (1024, "message T1\nfield 0 x u 5\n", Err(RunFault::Text { line: 3, kind: LineFault::Missing }), ""),
+    // the messages before one that is refused are written
+    (
+        1024,
+        "message T3\nfield 3 t a \"ABCDE\"\nend message\nmessage T3\nfield 3 t a \"AB\"\nend message\n",
+        Err(RunFault::Encode { message: 1, fault: EncodeFault::E3 }),
+        "e08341424344c5\n",
+    ),
+    // limits are refused before the text is read
+    (15, "message TX", Err(RunFault::Make(MakeError::BadLimits)), ""),
 ];
 
 #[test]
-fn a_line_at_fault_is_told_and_nothing_is_written(rt: HostRuntime) {
+fn a_run_over_lines_ends_so_and_has_written_this(rt: HostRuntime) {
     let set = built_in_set(&rt, rt.alloc());
-    for (text, line, kind) in FAULTY {
-        let end = Err(RunFault::Text {
-            line: *line,
-            kind: *kind,
-        });
-        expect_end(&rt, rt.alloc(), &set, LENIENT, text, end, "");
+    for (max_text, text, end, written) in ENDS {
+        let limits = Limits {
+            max_text: *max_text,
+            ..LENIENT
+        };
+        expect_end(&rt, rt.alloc(), &set, limits, text, *end, written);
     }
-}
-
-#[test]
-fn the_messages_before_one_that_is_refused_are_written(rt: HostRuntime) {
-    let set = built_in_set(&rt, rt.alloc());
-    let text =
-        "message T3\nfield 3 t a \"ABCDE\"\nend message\nmessage T3\nfield 3 t a \"AB\"\nend message\n";
-    let end = Err(RunFault::Encode {
-        message: 1,
-        fault: EncodeFault::E3,
-    });
-    expect_end(
-        &rt,
-        rt.alloc(),
-        &set,
-        LENIENT,
-        text,
-        end,
-        "e08341424344c5\n",
-    );
-}
-
-#[test]
-fn limits_are_refused_before_the_text_is_read(rt: HostRuntime) {
-    let set = built_in_set(&rt, rt.alloc());
-    let short = Limits {
-        max_text: 15,
-        ..LENIENT
-    };
-    let end = Err(RunFault::Make(MakeError::BadLimits));
-    expect_end(&rt, rt.alloc(), &set, short, "message TX", end, "");
 }
 
 #[test]
