@@ -5,14 +5,15 @@
 
 mod command;
 mod convert;
+mod sinks;
 
 use fast_command::{RunFault, ShowEnd, built_in, run_show};
 use fast_template::Templates;
-use fast_text::{Source, Target};
+use fast_text::{Source, Watched};
 use fast_value::Limits;
+use sinks::Taker;
 use std::alloc::Global;
 use std::process::Abort;
-use std::test::Fail;
 
 /// Lenient, with the limits that the program has by default.
 const LENIENT: Limits = Limits {
@@ -22,25 +23,25 @@ const LENIENT: Limits = Limits {
     max_total: 1000,
 };
 
-/// The set of a text.
-fn set_of(alloc: Global, text: &str) -> Result<Templates, Fail> {
-    Ok(Templates::read(alloc, text)?)
+/// The set of a text, without which the test ends here. It has no `?` of its own then, whose way out its proof would pay for.
+fn set_of(rt: &impl Abort, alloc: Global, text: &str) -> Templates {
+    Templates::read(alloc, text).expect(rt, "the set of a text")
 }
 
 /// The built-in set.
-fn built_in_set(alloc: Global) -> Result<Templates, Fail> {
-    Ok(built_in(alloc)?)
+fn built_in_set(rt: &impl Abort, alloc: Global) -> Templates {
+    built_in(alloc).expect(rt, "the built-in set")
 }
 
 /// Shows a stream, in at most so many reads.
-fn show<S: Source, T: Target>(
+fn show<S: Source>(
     alloc: Global,
     set: &Templates,
     limits: Limits,
     is_hex: bool,
     max_reads: u32,
     source: &mut S,
-    target: &mut T,
+    target: &mut Watched<Taker<'_>>,
 ) -> Result<ShowEnd, RunFault> {
     run_show(
         alloc,

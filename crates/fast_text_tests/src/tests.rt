@@ -10,11 +10,10 @@ mod text;
 use fast_template::Templates;
 use std::alloc::Global;
 use std::process::Abort;
-use std::test::Fail;
 
-/// The set of a text.
-fn set_of(alloc: Global, text: &str) -> Result<Templates, Fail> {
-    Ok(Templates::read(alloc, text)?)
+/// The set of a text, without which the test ends here. It has no `?` of its own then, whose way out its proof would pay for.
+fn set_of(rt: &impl Abort, alloc: Global, text: &str) -> Templates {
+    Templates::read(alloc, text).expect(rt, "the set of a text")
 }
 
 /// One comparison, of what a test names so.

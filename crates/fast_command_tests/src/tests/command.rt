@@ -4,24 +4,24 @@ mod check;
 mod devices;
 mod faults;
 mod show;
-mod sinks;
 mod texts;
 mod vectors;
 mod words;
 
 use super::LENIENT;
+use super::sinks::Taker;
 use fast_command::{RunFault, ShowEnd, show_all};
 use fast_template::Templates;
-use fast_text::{Source, Target};
+use fast_text::{Source, Watched};
 use std::alloc::Global;
 
 /// Shows a stream, which is bytes, in at most so many reads, and flushes at the end.
-fn show_whole<S: Source, T: Target>(
+fn show_whole<S: Source>(
     alloc: Global,
     set: &Templates,
     max_reads: u32,
     source: &mut S,
-    target: &mut T,
+    target: &mut Watched<Taker<'_>>,
 ) -> Result<ShowEnd, RunFault> {
     show_all(
         alloc,

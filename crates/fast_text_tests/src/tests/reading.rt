@@ -6,7 +6,7 @@ mod wrong_lines;
 use fast_reading::{TextFault, read_lines};
 use fast_template::Templates;
 use std::alloc::Global;
-use std::test::Fail;
+use std::process::Abort;
 
 /// A template with an instruction of every kind, of which most are optional, and one without any.
 const SET: &str = r#"
@@ -59,6 +59,6 @@ fn count_of(alloc: Global, set: &Templates, text: &[u8]) -> Result<usize, TextFa
 }
 
 /// The set.
-fn set_of(alloc: Global) -> Result<Templates, Fail> {
-    super::set_of(alloc, SET)
+fn set_of(rt: &impl Abort, alloc: Global) -> Templates {
+    super::set_of(rt, alloc, SET)
 }

@@ -6,7 +6,6 @@ use fast_template::Templates;
 use fast_text::{Target, ToBytes};
 use fast_value::Limits;
 use std::process::Abort;
-use std::test::Fail;
 
 const LINES: &str = "templates 2\nnodes 3\nentries 1\ndepth 0\ncap 4\n";
 
@@ -36,34 +35,30 @@ fn expect_lines(rt: &impl Abort, set: &Templates, limits: Limits, room: usize, l
     expect(rt, is_right, lines, room);
 }
 
+/// How many elements a message has at most, and the lines of the built-in set.
+#[rattlefmt::skip]
+const BUILT_IN_LINES: &[(u32, &str)] = &[
+    (1000, "templates 19\nnodes 26\nentries 13\ndepth 1\ncap 4008\n"),
+    (0, "templates 19\nnodes 26\nentries 13\ndepth 1\ncap 8\n"),
+];
+
 #[test]
-fn the_built_in_set_in_five_lines(rt: HostRuntime) -> Result<(), Fail> {
-    let set = built_in_set(rt.alloc())?;
-    let no_elements = Limits {
-        max_total: 0,
-        ..LENIENT
-    };
-    for (limits, lines) in [
-        (
-            LENIENT,
-            "templates 19\nnodes 26\nentries 13\ndepth 1\ncap 4008\n",
-        ),
-        (
-            no_elements,
-            "templates 19\nnodes 26\nentries 13\ndepth 1\ncap 8\n",
-        ),
-    ] {
+fn the_built_in_set_in_five_lines(rt: HostRuntime) {
+    let set = built_in_set(&rt, rt.alloc());
+    for (max_total, lines) in BUILT_IN_LINES {
+        let limits = Limits {
+            max_total: *max_total,
+            ..LENIENT
+        };
         expect_lines(&rt, &set, limits, 64, lines);
     }
-    Ok(())
 }
 
 /// A writer that fails leaves a front of the lines.
 #[test]
-fn a_set_in_five_lines(rt: HostRuntime) -> Result<(), Fail> {
-    let set = set_of(rt.alloc(), SET)?;
+fn a_set_in_five_lines(rt: HostRuntime) {
+    let set = set_of(&rt, rt.alloc(), SET);
     for room in 0..=64 {
         expect_lines(&rt, &set, LENIENT, room, LINES);
     }
-    Ok(())
 }

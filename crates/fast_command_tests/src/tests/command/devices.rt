@@ -1,57 +1,26 @@
 //! Readers and writers of std that fail at a call, end too early, or give and take one byte a call.
 
+use super::super::sinks::{Answer, Giver, Taker};
 use super::super::{built_in_set, expect};
 use super::show_whole;
-use super::sinks::{Answer, Taker};
 use fast_command::{RunFault, ShowEnd};
 use fast_template::Templates;
-use fast_text::{FromBytes, ToBytes, Watched};
+use fast_text::{FromBytes, Watched};
 use std::alloc::Global;
-use std::io::{self, ErrorKind, Read};
-use std::test::Fail;
 
 const STREAM: [u8; 5] = [0xc0, 0x81, 0x39, 0x45, 0xa3];
 
-const LINES: &[u8] = b"message T1\nfield 0 x u 942755\nend message\n";
+const LINES: &str = "message T1\nfield 0 x u 942755\nend message\n";
 
 /// For none of the bytes, one, two and so on: how much of the lines they decide, and the last line where nothing comes behind them.
-const FRONTS: [(usize, &[u8]); 6] = [
-    (0, b""),
-    (0, b"truncated at 1\n"),
-    (11, b"truncated at 2\n"),
-    (11, b"truncated at 3\n"),
-    (11, b"truncated at 4\n"),
-    (42, b""),
+const FRONTS: &[(usize, &str)] = &[
+    (0, ""),
+    (0, "truncated at 1\n"),
+    (11, "truncated at 2\n"),
+    (11, "truncated at 3\n"),
+    (11, "truncated at 4\n"),
+    (42, ""),
 ];
-
-/// Gives a byte a call, but at one.
-#[derive(Drop)]
-struct Giver<'a> {
-    bytes: &'a [u8],
-    calls: usize,
-    differs_at: usize,
-    answer: Answer,
-}
-
-impl Read for Giver<'_> {
-    fn read(&mut self, buf: &mut [u8]) -> io::Result<usize> {
-        self.calls = self.calls.saturating_add(1);
-        if self.calls == self.differs_at {
-            return match self.answer {
-                Answer::Failure => Err(ErrorKind::Other.into()),
-                Answer::Nothing => Ok(0),
-            };
-        }
-        match (self.bytes.split_first(), buf.first_mut()) {
-            (Some((byte, rest)), Some(cell)) => {
-                *cell = *byte;
-                self.bytes = rest;
-                Ok(1)
-            }
-            _ => Ok(0),
-        }
-    }
-}
 
 /// The end of a stream that ends so early.
 fn end_behind(count: usize) -> ShowEnd {
@@ -63,15 +32,14 @@ fn end_behind(count: usize) -> ShowEnd {
 }
 
 #[test]
-fn a_reader_that_fails_or_ends_at_any_call(rt: HostRuntime) -> Result<(), Fail> {
-    let set = built_in_set(rt.alloc())?;
-    for (given, (decided, close)) in FRONTS.into_iter().enumerate() {
+fn a_reader_that_fails_or_ends_at_any_call(rt: HostRuntime) {
+    let set = built_in_set(&rt, rt.alloc());
+    for (given, (decided, close)) in FRONTS.iter().enumerate() {
         for answer in [Answer::Failure, Answer::Nothing] {
-            let is_right = is_shown_in_front(rt.alloc(), &set, given, answer, decided, close);
+            let is_right = is_shown_in_front(rt.alloc(), &set, given, answer, *decided, close);
             expect(&rt, is_right, "a reader that differs", given);
         }
     }
-    Ok(())
 }
 
 /// Whether, where a reader gives so many pieces and then answers so, the lines are shown that these decide, and behind an end its own.
@@ -81,58 +49,75 @@ fn is_shown_in_front(
     given: usize,
     answer: Answer,
     decided: usize,
-    close: &[u8],
+    close: &str,
 ) -> bool {
-    let mut source = Watched::new(Giver {
-        bytes: &STREAM,
-        calls: 0,
-        differs_at: given.saturating_add(1),
-        answer,
-    });
+    let mut source = Watched::new(Giver::new(&STREAM, given.saturating_add(1), answer));
     let mut cells = [0; 64];
-    let mut target = ToBytes::new(&mut cells);
+    let mut target = Watched::new(Taker::whole(&mut cells));
     let end = show_whole(alloc, set, 1000, &mut source, &mut target);
     let (due, close) = match answer {
-        Answer::Failure => (Err(RunFault::Read), b"".as_slice()),
+        Answer::Failure => (Err(RunFault::Read), ""),
         Answer::Nothing => (Ok(end_behind(given)), close),
     };
-    let shown = target.bytes();
+    let taker = target.into_inner();
+    let shown = taker.bytes();
     let (front, last) = shown.split_at(decided.min(shown.len()));
-    end == due && Some(front) == LINES.get(..decided) && last == close
+    end == due && Some(front) == LINES.as_bytes().get(..decided) && last == close.as_bytes()
 }
 
 #[test]
-fn a_writer_that_fails_or_takes_nothing_at_any_call(rt: HostRuntime) -> Result<(), Fail> {
-    let set = built_in_set(rt.alloc())?;
+fn a_writer_that_fails_or_takes_nothing_at_any_call(rt: HostRuntime) {
+    let set = built_in_set(&rt, rt.alloc());
     for taken in 0..=LINES.len() {
         for answer in [Answer::Failure, Answer::Nothing] {
-            let mut source = FromBytes::new(&STREAM);
-            let mut target = Watched::new(Taker::new(taken.saturating_add(1), answer, 0));
-            let end = show_whole(rt.alloc(), &set, 1000, &mut source, &mut target);
-            let due = if taken < LINES.len() {
-                Err(RunFault::Write)
-            } else {
-                Ok(ShowEnd::Good)
-            };
-            let is_right = end == due && target.into_inner().has_kept(LINES, taken);
+            let is_right = is_taken_in_front(rt.alloc(), &set, taken, answer);
             expect(&rt, is_right, "a writer that differs", taken);
         }
     }
-    Ok(())
+}
+
+/// Whether, where a writer takes so many bytes and then answers so, it has these of the lines, and the run has failed where there are more.
+fn is_taken_in_front(alloc: Global, set: &Templates, taken: usize, answer: Answer) -> bool {
+    let mut source = FromBytes::new(&STREAM);
+    let mut cells = [0; 64];
+    let taker = Taker::new(&mut cells, taken.saturating_add(1), answer, 0);
+    let mut target = Watched::new(taker);
+    let end = show_whole(alloc, set, 1000, &mut source, &mut target);
+    let due = if taken < LINES.len() {
+        Err(RunFault::Write)
+    } else {
+        Ok(ShowEnd::Good)
+    };
+    end == due && target.into_inner().has_kept(LINES.as_bytes(), taken)
 }
 
 /// There is a flush before each read, of which the second tells the end, and a last one, also where the run has failed.
 #[test]
-fn a_writer_that_fails_at_any_flush(rt: HostRuntime) -> Result<(), Fail> {
-    let set = built_in_set(rt.alloc())?;
+fn a_writer_that_fails_at_any_flush(rt: HostRuntime) {
+    let set = built_in_set(&rt, rt.alloc());
     for (fails_at, flushes, kept) in [(1, 2, 0), (2, 3, 42), (3, 3, 42), (4, 3, 42)] {
-        let mut source = FromBytes::new(&STREAM);
-        let mut target = Watched::new(Taker::new(0, Answer::Failure, fails_at));
-        let end = show_whole(rt.alloc(), &set, 1000, &mut source, &mut target);
-        let taker = target.into_inner();
-        let is_told = (end == Err(RunFault::Write)) == (fails_at <= 3);
-        let is_right = is_told && taker.flushes == flushes && taker.has_kept(LINES, kept);
+        let is_right = is_flushed(rt.alloc(), &set, fails_at, flushes, kept);
         expect(&rt, is_right, "a flush that fails", fails_at);
     }
-    Ok(())
+}
+
+/// Whether, where a writer fails at this flush, if it comes to it, there are so many, and it has so much of the lines.
+fn is_flushed(
+    alloc: Global,
+    set: &Templates,
+    fails_at: usize,
+    flushes: usize,
+    kept: usize,
+) -> bool {
+    let mut source = FromBytes::new(&STREAM);
+    let mut cells = [0; 64];
+    let mut target = Watched::new(Taker::new(&mut cells, 0, Answer::Failure, fails_at));
+    let end = show_whole(alloc, set, 6, &mut source, &mut target);
+    let due = if fails_at <= 3 {
+        Err(RunFault::Write)
+    } else {
+        Ok(ShowEnd::Good)
+    };
+    let taker = target.into_inner();
+    end == due && taker.flushes == flushes && taker.has_kept(LINES.as_bytes(), kept)
 }

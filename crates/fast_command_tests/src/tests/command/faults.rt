@@ -11,74 +11,51 @@ use fast_value::Code;
 use std::process::Abort;
 
 /// An end has this status and this line.
-fn expect_report(rt: &impl Abort, ending: Result<ShowEnd, RunFault>, status: u8, line: &str) {
+fn expect_report(rt: &impl Abort, ending: &Result<ShowEnd, RunFault>, status: u8, line: &str) {
     let mut cells = [0; 64];
     let mut target = ToBytes::new(&mut cells);
-    let is_right = report(&ending, &mut target) == status && target.bytes() == line.as_bytes();
+    let is_right = report(ending, &mut target) == status && target.bytes() == line.as_bytes();
     expect(rt, is_right, line, usize::from(status));
 }
 
+/// How a run ends, the status, and the line.
+#[rattlefmt::skip]
+const ENDS: &[(Result<ShowEnd, RunFault>, u8, &str)] = &[
+    (Ok(ShowEnd::Good), 0, ""),
+    (Ok(ShowEnd::Faulted(Fault { code: FaultCode::Stream(Code::D9), place: 2 })), 1, ""),
+    (Ok(ShowEnd::Truncated(1)), 1, ""),
+    (
+        Err(RunFault::Templates(StaticFault { code: StaticCode::S2, template: Some(0) })),
+        2,
+        "fastcat: templates S2 in template 0\n",
+    ),
+    (
+        Err(RunFault::Templates(StaticFault { code: StaticCode::S1, template: None })),
+        2,
+        "fastcat: templates S1\n",
+    ),
+    (Err(RunFault::Make(MakeError::BadLimits)), 2, "fastcat: limits 1\n"),
+    (Err(RunFault::Make(MakeError::InitialTooLong)), 2, "fastcat: limits 2\n"),
+    (
+        Err(RunFault::Text { line: 3, kind: LineFault::UnknownTemplate }),
+        1,
+        "fastcat: line 3 kind 2\n",
+    ),
+    (
+        Err(RunFault::Encode { message: 0, fault: EncodeFault::E3 }),
+        1,
+        "fastcat: message 0 E3\n",
+    ),
+    (Err(RunFault::Read), 3, "fastcat: reading failed\n"),
+    (Err(RunFault::Write), 3, "fastcat: writing failed\n"),
+    (Err(RunFault::BadHex(4)), 3, "fastcat: hex at 4\n"),
+    (Err(RunFault::Memory), 3, "fastcat: no memory\n"),
+];
+
 #[test]
 fn each_end_has_its_status_and_its_line(rt: HostRuntime) {
-    let fault = Fault {
-        code: FaultCode::Stream(Code::D9),
-        place: 2,
-    };
-    for ending in [
-        ShowEnd::Good,
-        ShowEnd::Faulted(fault),
-        ShowEnd::Truncated(1),
-    ] {
-        let status = if ending == ShowEnd::Good { 0 } else { 1 };
-        expect_report(&rt, Ok(ending), status, "");
-    }
-    let in_template = StaticFault {
-        code: StaticCode::S2,
-        template: Some(0),
-    };
-    let in_text = StaticFault {
-        code: StaticCode::S1,
-        template: None,
-    };
-    for (fault, status, line) in [
-        (
-            RunFault::Templates(in_template),
-            2,
-            "fastcat: templates S2 in template 0\n",
-        ),
-        (RunFault::Templates(in_text), 2, "fastcat: templates S1\n"),
-        (
-            RunFault::Make(MakeError::BadLimits),
-            2,
-            "fastcat: limits 1\n",
-        ),
-        (
-            RunFault::Make(MakeError::InitialTooLong),
-            2,
-            "fastcat: limits 2\n",
-        ),
-        (
-            RunFault::Text {
-                line: 3,
-                kind: LineFault::UnknownTemplate,
-            },
-            1,
-            "fastcat: line 3 kind 2\n",
-        ),
-        (
-            RunFault::Encode {
-                message: 0,
-                fault: EncodeFault::E3,
-            },
-            1,
-            "fastcat: message 0 E3\n",
-        ),
-        (RunFault::Read, 3, "fastcat: reading failed\n"),
-        (RunFault::Write, 3, "fastcat: writing failed\n"),
-        (RunFault::BadHex(4), 3, "fastcat: hex at 4\n"),
-        (RunFault::Memory, 3, "fastcat: no memory\n"),
-    ] {
-        expect_report(&rt, Err(fault), status, line);
+    for (ending, status, line) in ENDS {
+        expect_report(&rt, ending, *status, line);
     }
 }
 

@@ -1,15 +1,13 @@
 //! Streams as lines.
 
+use super::super::sinks::{Answer, Giver, Taker};
 use super::super::{LENIENT, built_in_set, expect, set_of, show};
-use super::show_whole;
-use super::sinks::{Drip, Taker};
 use fast_command::{RunFault, ShowEnd};
 use fast_template::Templates;
-use fast_text::{FromBytes, Target, ToBytes, Watched};
+use fast_text::{FromBytes, Target, Watched};
 use fast_value::Limits;
 use std::alloc::{AllocError, Global};
 use std::process::Abort;
-use std::test::Fail;
 
 const STRICT: Limits = Limits {
     strict: true,
@@ -47,9 +45,9 @@ fn expect_shown(
     stream: Stream<'_>,
     end: &str,
     lines: &str,
-) -> Result<(), Fail> {
+) {
     let mut cells = [0; 512];
-    let mut target = ToBytes::new(&mut cells);
+    let mut target = Watched::new(Taker::whole(&mut cells));
     let mut source = FromBytes::new(stream.bytes);
     let found = show(
         alloc,
@@ -60,14 +58,14 @@ fn expect_shown(
         &mut source,
         &mut target,
     );
-    let found = told(alloc, &found)?;
-    let shown = target.bytes();
+    let found = told(alloc, &found).expect(rt, "memory");
+    let taker = target.into_inner();
+    let shown = taker.bytes();
     let has_lines = match shown.strip_suffix(b"\n") {
         Some(shown) => shown == lines.as_bytes(),
         None => shown.is_empty() && lines.is_empty(),
     };
     expect(rt, has_lines && found.as_str() == end, lines, shown.len());
-    Ok(())
 }
 
 /// Takes the next column of a row.
@@ -78,13 +76,7 @@ fn column<'t>(rest: &mut &'t str) -> &'t str {
 }
 
 /// Each row comes of the set: hexadecimal digits, the end and the lines, with an empty line before the next row.
-fn expect_rows(
-    rt: &impl Abort,
-    alloc: Global,
-    set: &Templates,
-    limits: Limits,
-    rows: &str,
-) -> Result<(), Fail> {
+fn expect_rows(rt: &impl Abort, alloc: Global, set: &Templates, limits: Limits, rows: &str) {
     for row in rows.split("\n\n") {
         let mut rest = row;
         let stream = Stream {
@@ -92,9 +84,8 @@ fn expect_rows(
             is_hex: true,
         };
         let end = column(&mut rest);
-        expect_shown(rt, alloc, set, limits, stream, end, rest.trim())?;
+        expect_shown(rt, alloc, set, limits, stream, end, rest.trim());
     }
-    Ok(())
 }
 
 const LENIENT_ROWS: &str = "\
@@ -172,16 +163,15 @@ fault R8 at 3";
 const SHORT_ROWS: &str = "C0 | Err(Make(BadLimits)) |";
 
 #[test]
-fn rows_through_show(rt: HostRuntime) -> Result<(), Fail> {
-    let set = set_of(rt.alloc(), SET)?;
+fn rows_through_show(rt: HostRuntime) {
+    let set = set_of(&rt, rt.alloc(), SET);
     for (limits, rows) in [
         (LENIENT, LENIENT_ROWS),
         (STRICT, STRICT_ROWS),
         (SHORT, SHORT_ROWS),
     ] {
-        expect_rows(&rt, rt.alloc(), &set, limits, rows)?;
+        expect_rows(&rt, rt.alloc(), &set, limits, rows);
     }
-    Ok(())
 }
 
 const BUILT_IN_ROWS: &str = "\
@@ -210,9 +200,9 @@ fault L2 at 7
 C0 8G | Err(BadHex(4)) |";
 
 #[test]
-fn streams_of_the_built_in_set(rt: HostRuntime) -> Result<(), Fail> {
-    let set = built_in_set(rt.alloc())?;
-    expect_rows(&rt, rt.alloc(), &set, LENIENT, BUILT_IN_ROWS)
+fn streams_of_the_built_in_set(rt: HostRuntime) {
+    let set = built_in_set(&rt, rt.alloc());
+    expect_rows(&rt, rt.alloc(), &set, LENIENT, BUILT_IN_ROWS);
 }
 
 /// A message with a group and a sequence of two elements.
@@ -240,37 +230,58 @@ end sequence
 end message
 ";
 
-/// How many of these lines are decided by so many bytes: none, one, two and so on.
-const DECIDED: [usize; 15] = [0, 0, 1, 3, 3, 3, 5, 7, 7, 7, 8, 8, 11, 12, 16];
+/// For none of its bytes, one, two and so on: how much of these lines they decide, and the last line where nothing comes behind them.
+#[rattlefmt::skip]
+const NESTED_FRONTS: &[(usize, &str)] = &[
+    (0, ""),
+    (0, "truncated at 1\n"),
+    (12, "truncated at 2\n"),
+    (38, "truncated at 3\n"),
+    (38, "truncated at 4\n"),
+    (38, "truncated at 5\n"),
+    (66, "truncated at 6\n"),
+    (93, "truncated at 7\n"),
+    (93, "truncated at 8\n"),
+    (93, "truncated at 9\n"),
+    (113, "truncated at 10\n"),
+    (113, "truncated at 11\n"),
+    (151, "truncated at 12\n"),
+    (171, "truncated at 13\n"),
+    (225, ""),
+];
 
-/// The end and the lines of the front of `NESTED` with so many bytes, which decide so many lines.
-fn nested_front(alloc: Global, len: usize, decided: usize) -> Result<(String, String), AllocError> {
-    let mut lines = String::new(alloc);
-    for line in NESTED_LINES.lines().take(decided) {
-        lines.push_str(line)?;
-        lines.push_str("\n")?;
-    }
-    if len == 0 || len == NESTED.len() {
-        return Ok((format!(in alloc; "Ok(Good)")?, lines));
-    }
-    let end = format!(in alloc; "truncated at {len}")?;
-    lines.push_str(end.as_str())?;
-    Ok((format!(in alloc; "Ok(Truncated({len}))")?, lines))
+/// Whether the front of `NESTED` with so many bytes gives so much of its lines, and then this one.
+fn is_nested_front(
+    alloc: Global,
+    set: &Templates,
+    len: usize,
+    decided: usize,
+    close: &str,
+) -> bool {
+    let mut source = FromBytes::new(NESTED.get(..len).unwrap_or(&[]));
+    let mut cells = [0; 512];
+    let mut target = Watched::new(Taker::whole(&mut cells));
+    let end = show(alloc, set, LENIENT, false, 100, &mut source, &mut target);
+    let due = if close.is_empty() {
+        ShowEnd::Good
+    } else {
+        ShowEnd::Truncated(len as u64)
+    };
+    let taker = target.into_inner();
+    let shown = taker.bytes();
+    let (front, last) = shown.split_at(decided.min(shown.len()));
+    end == Ok(due)
+        && Some(front) == NESTED_LINES.as_bytes().get(..decided)
+        && last == close.as_bytes()
 }
 
 #[test]
-fn a_nested_message_cut_anywhere(rt: HostRuntime) -> Result<(), Fail> {
-    let alloc = rt.alloc();
-    let set = built_in_set(alloc)?;
-    for (len, decided) in DECIDED.into_iter().enumerate() {
-        let (end, lines) = nested_front(alloc, len, decided)?;
-        let stream = Stream {
-            bytes: NESTED.get(..len).unwrap_or(&[]),
-            is_hex: false,
-        };
-        expect_shown(&rt, alloc, &set, LENIENT, stream, &end, lines.trim())?;
+fn a_nested_message_cut_anywhere(rt: HostRuntime) {
+    let set = built_in_set(&rt, rt.alloc());
+    for (len, (decided, close)) in NESTED_FRONTS.iter().enumerate() {
+        let is_right = is_nested_front(rt.alloc(), &set, len, *decided, close);
+        expect(&rt, is_right, "a nested message that is cut", len);
     }
-    Ok(())
 }
 
 /// An initial value of 17 characters.
@@ -278,8 +289,8 @@ const LONG_INITIAL: &str =
     "[[template]]\nname = 'A'\nfields = [{kind='ascii', name='x', op='default', value='12345678901234567'}]";
 
 #[test]
-fn limits_without_a_decoder(rt: HostRuntime) -> Result<(), Fail> {
-    let set = set_of(rt.alloc(), LONG_INITIAL)?;
+fn limits_without_a_decoder(rt: HostRuntime) {
+    let set = set_of(&rt, rt.alloc(), LONG_INITIAL);
     for (max_text, end) in [
         (15, "Err(Make(BadLimits))"),
         (16, "Err(Make(InitialTooLong))"),
@@ -293,24 +304,19 @@ fn limits_without_a_decoder(rt: HostRuntime) -> Result<(), Fail> {
             bytes: b"",
             is_hex: false,
         };
-        expect_shown(&rt, rt.alloc(), &set, limits, stream, end, "")?;
+        expect_shown(&rt, rt.alloc(), &set, limits, stream, end, "");
     }
-    Ok(())
 }
 
-/// The message of `ROW_1`, a byte a read, with a read that fails, if there is one.
-fn drip(fails_at: u64) -> Drip<'static> {
-    Drip {
-        bytes: &[0xc0, 0x81, 0x39, 0x45, 0xa3],
-        reads: 0,
-        fails_at,
-        failed: false,
-    }
+/// The message of `ROW_1`, and more than is read of it, a byte a read, with a read that fails, if there is one.
+fn drip(fails_at: usize) -> Watched<Giver<'static>> {
+    let bytes = &[0xc0, 0x81, 0x39, 0x45, 0xa3, 0, 0, 0];
+    Watched::new(Giver::new(bytes, fails_at, Answer::Failure))
 }
 
 #[test]
-fn reads_come_to_an_end(rt: HostRuntime) -> Result<(), Fail> {
-    let set = set_of(rt.alloc(), SET)?;
+fn reads_come_to_an_end(rt: HostRuntime) {
+    let set = set_of(&rt, rt.alloc(), SET);
     for (max_reads, fails_at, shown, reads) in [
         (3, 0, "message T1\n", 3),
         (100, 4, "message T1\n", 4),
@@ -320,7 +326,7 @@ fn reads_come_to_an_end(rt: HostRuntime) -> Result<(), Fail> {
     ] {
         let mut source = drip(fails_at);
         let mut cells = [0; 512];
-        let mut target = ToBytes::new(&mut cells);
+        let mut target = Watched::new(Taker::whole(&mut cells));
         let end = show(
             rt.alloc(),
             &set,
@@ -331,50 +337,42 @@ fn reads_come_to_an_end(rt: HostRuntime) -> Result<(), Fail> {
             &mut target,
         );
         let is_right = end == Err(RunFault::Read)
-            && target.bytes() == shown.as_bytes()
-            && source.reads == reads;
+            && target.into_inner().bytes() == shown.as_bytes()
+            && source.into_inner().calls == reads;
         expect(&rt, is_right, shown, max_reads as usize);
     }
-    Ok(())
 }
 
 /// What `C0 81 39 45 A3 C0` gives.
 const CUT_LINES: &str = "message T1\nfield 0 x u 942755\nend message\ntruncated at 6\n";
 
 #[test]
-fn a_writer_that_fails_leaves_a_front(rt: HostRuntime) -> Result<(), Fail> {
-    let set = set_of(rt.alloc(), SET)?;
+fn a_writer_that_fails_leaves_a_front(rt: HostRuntime) {
+    let set = set_of(&rt, rt.alloc(), SET);
     for room in 0..CUT_LINES.len() {
-        let mut cells = [0; 64];
-        let (cells, _) = cells.split_at_mut(room.min(64));
-        let mut target = ToBytes::new(cells);
-        let mut source = FromBytes::new(b"C0 81 39 45 A3 C0");
-        let end = show(
-            rt.alloc(),
-            &set,
-            LENIENT,
-            true,
-            100,
-            &mut source,
-            &mut target,
-        );
-        let is_right = end == Err(RunFault::Write)
-            && target.failed()
-            && target.bytes() == &CUT_LINES.as_bytes()[..room];
-        expect(&rt, is_right, "room", room);
+        expect(&rt, leaves_a_front(rt.alloc(), &set, room), "room", room);
     }
-    Ok(())
+}
+
+/// Whether a writer that has room for so much of the lines keeps it, and fails.
+fn leaves_a_front(alloc: Global, set: &Templates, room: usize) -> bool {
+    let mut cells = [0; 64];
+    let (cells, _) = cells.split_at_mut(room.min(64));
+    let mut target = Watched::new(Taker::whole(cells));
+    let mut source = FromBytes::new(b"C0 81 39 45 A3 C0");
+    let end = show(alloc, set, LENIENT, true, 100, &mut source, &mut target);
+    let has_failed = Target::failed(&target);
+    end == Err(RunFault::Write)
+        && has_failed
+        && target.into_inner().has_kept(CUT_LINES.as_bytes(), room)
 }
 
 #[test]
-fn a_long_stream_is_shown_whole(rt: HostRuntime) -> Result<(), Fail> {
-    let set = set_of(rt.alloc(), SET)?;
-    let mut stream = Vec::new(rt.alloc());
-    stream.extend_from_slice(&[0xc0, 0x81, 0x39, 0x45, 0xa3])?;
-    for _ in 0..5000 {
-        stream.extend_from_slice(&[0x80, 0x80])?;
-    }
-    let mut source = FromBytes::new(stream.as_slice());
+fn a_long_stream_is_shown_whole(rt: HostRuntime) {
+    let set = set_of(&rt, rt.alloc(), SET);
+    let mut stream = [0x80; 10_005];
+    stream[..5].copy_from_slice(&[0xc0, 0x81, 0x39, 0x45, 0xa3]);
+    let mut source = FromBytes::new(&stream);
     let mut target = Watched::new(Taker::counting(0));
     let end = show(
         rt.alloc(),
@@ -387,12 +385,11 @@ fn a_long_stream_is_shown_whole(rt: HostRuntime) -> Result<(), Fail> {
     );
     let is_right = end == Ok(ShowEnd::Good) && target.into_inner().lines == 3 * 5001;
     expect(&rt, is_right, "lines", stream.len());
-    Ok(())
 }
 
 #[test]
-fn lines_can_be_seen_before_each_read(rt: HostRuntime) -> Result<(), Fail> {
-    let set = set_of(rt.alloc(), SET)?;
+fn lines_can_be_seen_before_each_read(rt: HostRuntime) {
+    let set = set_of(&rt, rt.alloc(), SET);
     for (fails_at, fault, reads, flushes) in [
         (0, RunFault::Read, 6, 6),
         (3, RunFault::Write, 2, 3),
@@ -409,26 +406,8 @@ fn lines_can_be_seen_before_each_read(rt: HostRuntime) -> Result<(), Fail> {
             &mut target,
         );
         let is_right = end == Err(fault)
-            && source.reads == reads
+            && source.into_inner().calls == reads
             && target.into_inner().flushes == flushes;
         expect(&rt, is_right, "flushes", 6);
     }
-    Ok(())
-}
-
-#[test]
-fn a_failure_of_the_last_flush_is_told(rt: HostRuntime) -> Result<(), Fail> {
-    let set = built_in_set(rt.alloc())?;
-    for (fails_at, due) in [(3, Err(RunFault::Write)), (4, Ok(ShowEnd::Good))] {
-        let mut source = FromBytes::new(b"\xc0\x81\x39\x45\xa3");
-        let mut target = Watched::new(Taker::counting(fails_at));
-        let end = show_whole(rt.alloc(), &set, 6, &mut source, &mut target);
-        expect(
-            &rt,
-            end == due && target.into_inner().flushes == 3,
-            "last flush",
-            3,
-        );
-    }
-    Ok(())
 }

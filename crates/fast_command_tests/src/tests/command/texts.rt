@@ -2,34 +2,34 @@
 
 use super::super::expect;
 use fast_command::{RunFault, read_templates, read_whole};
-use fast_template::{StaticCode, StaticFault, Templates};
+use fast_template::{StaticCode, StaticFault};
 use fast_text::FromBytes;
 use std::alloc::Global;
-use std::test::Fail;
-
-/// The set that is read of these bytes.
-fn set_in(alloc: Global, text: &[u8]) -> Result<Templates, RunFault> {
-    read_templates(alloc, &mut FromBytes::new(text))
-}
 
 #[test]
-fn a_text_is_read_to_its_end(rt: HostRuntime) -> Result<(), Fail> {
+fn a_text_is_read_to_its_end(rt: HostRuntime) {
     let text = [b'a'; 10_000];
     let mut source = FromBytes::new(&text);
-    let Ok(read) = read_whole(rt.alloc(), 10_000, &mut source) else {
-        return Err(Fail::from("the text is not read"));
+    let is_whole = match read_whole(rt.alloc(), 10_000, &mut source) {
+        Ok(read) => read.as_slice() == text.as_slice(),
+        Err(_) => false,
     };
-    expect(&rt, read.as_slice() == text.as_slice(), "whole", read.len());
-    Ok(())
+    expect(&rt, is_whole, "whole", text.len());
+}
+
+/// How many templates the set has that is read of these bytes, or why they are refused.
+fn count_in(alloc: Global, text: &[u8]) -> Result<u32, RunFault> {
+    match read_templates(alloc, &mut FromBytes::new(text)) {
+        Ok(set) => Ok(set.count()),
+        Err(fault) => Err(fault),
+    }
 }
 
 #[test]
-fn a_set_is_read_of_a_text_that_is_one(rt: HostRuntime) -> Result<(), Fail> {
-    let text = b"[[template]]\nname = 'A'\n[[template]]\nname = 'B'";
-    let Ok(set) = set_in(rt.alloc(), text) else {
-        return Err(Fail::from("the set is not read"));
-    };
-    expect(&rt, set.count() == 2, "two templates", 0);
+fn a_set_is_read_of_a_text_that_is_one(rt: HostRuntime) {
+    let text = "[[template]]\nname = 'A'\n[[template]]\nname = 'B'";
+    let found = count_in(rt.alloc(), text.as_bytes());
+    expect(&rt, found == Ok(2), "two templates", 0);
     let refusals: [(&[u8], _, _); 2] = [
         (b"[[template]]\nname = '\xff'", StaticCode::S1, None),
         (
@@ -39,9 +39,8 @@ fn a_set_is_read_of_a_text_that_is_one(rt: HostRuntime) -> Result<(), Fail> {
         ),
     ];
     for (text, code, template) in refusals {
-        let found = set_in(rt.alloc(), text).err();
-        let due = Some(RunFault::Templates(StaticFault { code, template }));
+        let found = count_in(rt.alloc(), text);
+        let due = Err(RunFault::Templates(StaticFault { code, template }));
         expect(&rt, found == due, "refused", text.len());
     }
-    Ok(())
 }

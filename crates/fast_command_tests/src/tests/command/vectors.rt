@@ -4,10 +4,20 @@ use super::super::built_in_set;
 use fast_examples::sets::SPELLED;
 use fast_template::{FieldInstruction, Shape, Templates};
 use std::alloc::{AllocError, Global};
-use std::test::Fail;
+use std::process::Abort;
+
+/// A text, for which there is memory.
+fn made(rt: &impl Abort, text: Result<String, AllocError>) -> String {
+    text.expect(rt, "memory")
+}
+
+/// Puts a text behind another.
+fn put(rt: &impl Abort, text: &mut String, more: &str) {
+    text.push_str(more).expect(rt, "memory");
+}
 
 /// Kind, presence, operator, initial value and entry.
-fn field_text(alloc: Global, field: &FieldInstruction) -> Result<String, AllocError> {
+fn field_text(rt: &impl Abort, alloc: Global, field: &FieldInstruction) -> String {
     let FieldInstruction {
         kind,
         optional,
@@ -15,78 +25,79 @@ fn field_text(alloc: Global, field: &FieldInstruction) -> Result<String, AllocEr
         initial,
         entry,
     } = field;
-    format!(in alloc; " {kind:?} {optional} {operator:?} {initial:?} {entry:?}")
+    made(
+        rt,
+        format!(in alloc; " {kind:?} {optional} {operator:?} {initial:?} {entry:?}"),
+    )
 }
 
 /// The numbers of the nodes of a body.
-fn numbers_text(alloc: Global, body: &[u32]) -> Result<String, AllocError> {
-    let mut text = String::from_str(alloc, " of")?;
+fn numbers_text(rt: &impl Abort, alloc: Global, body: &[u32]) -> String {
+    let mut text = made(rt, String::from_str(alloc, " of"));
     for n in body {
-        text.push_str(format!(in alloc; " {n}")?.as_str())?;
+        put(rt, &mut text, &made(rt, format!(in alloc; " {n}")));
     }
-    Ok(text)
+    text
 }
 
 /// What a node stands for.
-fn shape_text(alloc: Global, shape: &Shape) -> Result<String, AllocError> {
-    match shape {
-        Shape::Field(field) => field_text(alloc, field),
-        Shape::Decimal { exponent, mantissa } => {
-            let mut text = field_text(alloc, exponent)?;
-            text.push_str(field_text(alloc, mantissa)?.as_str())?;
-            Ok(text)
-        }
-        Shape::Group { optional, body } => {
-            let numbers = numbers_text(alloc, body)?;
-            format!(in alloc; " {optional}{numbers}")
-        }
-        Shape::Sequence { length, body } => {
-            let mut text = field_text(alloc, length)?;
-            text.push_str(numbers_text(alloc, body)?.as_str())?;
-            Ok(text)
-        }
-    }
+fn shape_text(rt: &impl Abort, alloc: Global, shape: &Shape) -> String {
+    let (front, back) = match shape {
+        Shape::Field(field) => return field_text(rt, alloc, field),
+        Shape::Decimal { exponent, mantissa } => (
+            field_text(rt, alloc, exponent),
+            field_text(rt, alloc, mantissa),
+        ),
+        Shape::Group { optional, body } => (
+            made(rt, format!(in alloc; " {optional}")),
+            numbers_text(rt, alloc, body),
+        ),
+        Shape::Sequence { length, body } => (
+            field_text(rt, alloc, length),
+            numbers_text(rt, alloc, body),
+        ),
+    };
+    made(rt, format!(in alloc; "{front}{back}"))
 }
 
 /// A node with its number and its name.
-fn node_text(alloc: Global, set: &Templates, n: u32) -> Result<String, AllocError> {
+fn node_text(rt: &impl Abort, alloc: Global, set: &Templates, n: u32) -> String {
     if n >= set.nodes() {
-        return Ok(String::new(alloc));
+        return String::new(alloc);
     }
     let node = set.node(n);
     let name = node.name.as_str();
-    let shape = shape_text(alloc, &node.shape)?;
-    format!(in alloc; "{n} {name}{shape}\n")
+    let shape = shape_text(rt, alloc, &node.shape);
+    made(rt, format!(in alloc; "{n} {name}{shape}\n"))
 }
 
 /// The name of a template, its identifier, whether it resets, and its nodes.
-fn head_text(alloc: Global, set: &Templates, i: u32) -> Result<String, AllocError> {
+fn head_text(rt: &impl Abort, alloc: Global, set: &Templates, i: u32) -> String {
     if i >= set.count() {
-        return Ok(String::new(alloc));
+        return String::new(alloc);
     }
     let template = set.template(i);
     let (name, id, reset) = (template.name.as_str(), template.id, template.reset);
-    let numbers = numbers_text(alloc, &template.body)?;
-    format!(in alloc; "{name} {id:?} {reset}{numbers}\n")
+    let numbers = numbers_text(rt, alloc, &template.body);
+    made(rt, format!(in alloc; "{name} {id:?} {reset}{numbers}\n"))
 }
 
 /// A set as a text: its entries, its templates and its nodes.
-fn spelled(alloc: Global, set: &Templates) -> Result<String, AllocError> {
+fn spelled(rt: &impl Abort, alloc: Global, set: &Templates) -> String {
     let entries = set.entries();
-    let mut text = format!(in alloc; "{entries}\n")?;
+    let mut text = made(rt, format!(in alloc; "{entries}\n"));
     for i in 0..set.count() {
-        text.push_str(head_text(alloc, set, i)?.as_str())?;
+        put(rt, &mut text, &head_text(rt, alloc, set, i));
     }
     for n in 0..set.nodes() {
-        text.push_str(node_text(alloc, set, n)?.as_str())?;
+        put(rt, &mut text, &node_text(rt, alloc, set, n));
     }
-    Ok(text)
+    text
 }
 
 #[test]
-fn the_built_in_set_is_that_of_the_examples(rt: HostRuntime) -> Result<(), Fail> {
-    let set = built_in_set(rt.alloc())?;
-    let text = spelled(rt.alloc(), &set)?;
+fn the_built_in_set_is_that_of_the_examples(rt: HostRuntime) {
+    let set = built_in_set(&rt, rt.alloc());
+    let text = spelled(&rt, rt.alloc(), &set);
     assert!(rt; text.as_str() == SPELLED, "{text}");
-    Ok(())
 }

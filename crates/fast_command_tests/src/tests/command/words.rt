@@ -5,8 +5,6 @@ use clap::Error;
 use clap::error::ErrorKind;
 use fast_words::{BUILT_IN, Plan, Task, plan};
 use std::alloc::Global;
-use std::process::Abort;
-use std::test::Fail;
 
 const DEFAULTS: Plan<'static> = Plan {
     task: Task::Show,
@@ -20,158 +18,119 @@ const DEFAULTS: Plan<'static> = Plan {
     max_total: 1000,
 };
 
+const CHECK: Plan<'static> = Plan {
+    task: Task::Check,
+    ..DEFAULTS
+};
+
+/// Words, and what they ask for.
+const PLANS: &[(&str, Plan<'static>)] = &[
+    ("fastcat show t.toml", DEFAULTS),
+    ("fastcat check t.toml", CHECK),
+    (
+        "fastcat show t.toml stream --strict",
+        Plan {
+            input: Some("stream"),
+            strict: true,
+            ..DEFAULTS
+        },
+    ),
+    (
+        "fastcat check --explain t.toml",
+        Plan {
+            explain: true,
+            ..CHECK
+        },
+    ),
+    (
+        "fastcat show --hex @vectors",
+        Plan {
+            templates: BUILT_IN,
+            hex: true,
+            ..DEFAULTS
+        },
+    ),
+    (
+        "fastcat convert t.toml lines --hex",
+        Plan {
+            task: Task::Convert,
+            input: Some("lines"),
+            hex: true,
+            ..DEFAULTS
+        },
+    ),
+    (
+        "fastcat check --max-text=16 --max-elements 4294967295 t.toml --max-total=0",
+        Plan {
+            max_text: 16,
+            max_elements: 4294967295,
+            max_total: 0,
+            ..CHECK
+        },
+    ),
+];
+
+/// The words of a line, of which there are at most eight.
+fn words_of<'r, 't>(line: &'t str, room: &'r mut [&'t str; 8]) -> &'r [&'t str] {
+    let mut count = 0_usize;
+    for word in line.split(' ') {
+        if let Some(cell) = room.get_mut(count) {
+            *cell = word;
+            count = count.saturating_add(1);
+        }
+    }
+    room.get(..count).unwrap_or(&[])
+}
+
 /// What words ask for, or why they are refused.
 fn asked<'w>(alloc: Global, words: &'w [&'w str]) -> Result<Plan<'w>, Error> {
     plan(alloc, words)
 }
 
-/// These words ask for this.
-fn expect_plan(
-    rt: &impl Abort,
-    alloc: Global,
-    words: &[&str],
-    wanted: Plan<'_>,
-) -> Result<(), Fail> {
-    let Ok(found) = asked(alloc, words) else {
-        return Err(Fail::from("the words are refused"));
-    };
-    expect(rt, found == wanted, "words", words.len());
-    Ok(())
-}
-
-/// These words are refused, for this cause and with this status.
-fn expect_refusal(
-    rt: &impl Abort,
-    alloc: Global,
-    words: &[&str],
-    kind: ErrorKind,
-    status: i32,
-) -> Result<(), Fail> {
-    let Err(error) = asked(alloc, words) else {
-        return Err(Fail::from("the words are taken"));
-    };
-    let is_right = error.kind() == kind && error.exit_code() == status;
-    expect(rt, is_right, "refused words", words.len());
-    Ok(())
+/// Whether the words of a line ask for this.
+fn is_plan(alloc: Global, line: &str, wanted: &Plan<'_>) -> bool {
+    let mut room = [""; 8];
+    match asked(alloc, words_of(line, &mut room)) {
+        Ok(found) => found == *wanted,
+        Err(_) => false,
+    }
 }
 
 #[test]
-fn words_and_their_plans(rt: HostRuntime) -> Result<(), Fail> {
-    let show = DEFAULTS;
-    let check = Plan {
-        task: Task::Check,
-        ..DEFAULTS
-    };
-    for (words, wanted) in [
-        (["fastcat", "show", "t.toml"].as_slice(), show),
-        (["fastcat", "check", "t.toml"].as_slice(), check),
-        (
-            ["fastcat", "show", "t.toml", "stream", "--strict"].as_slice(),
-            Plan {
-                input: Some("stream"),
-                strict: true,
-                ..show
-            },
-        ),
-        (
-            ["fastcat", "check", "--explain", "t.toml"].as_slice(),
-            Plan {
-                explain: true,
-                ..check
-            },
-        ),
-        (
-            ["fastcat", "show", "--hex", BUILT_IN].as_slice(),
-            Plan {
-                templates: BUILT_IN,
-                hex: true,
-                ..show
-            },
-        ),
-        (
-            ["fastcat", "convert", "t.toml", "lines", "--hex"].as_slice(),
-            Plan {
-                task: Task::Convert,
-                input: Some("lines"),
-                hex: true,
-                ..show
-            },
-        ),
-        (
-            [
-                "fastcat",
-                "check",
-                "--max-text=16",
-                "--max-elements",
-                "4294967295",
-                "t.toml",
-                "--max-total=0",
-            ]
-            .as_slice(),
-            Plan {
-                max_text: 16,
-                max_elements: 4294967295,
-                max_total: 0,
-                ..check
-            },
-        ),
-    ] {
-        expect_plan(&rt, rt.alloc(), words, wanted)?;
+fn words_and_their_plans(rt: HostRuntime) {
+    for (line, wanted) in PLANS {
+        expect(&rt, is_plan(rt.alloc(), line, wanted), line, line.len());
     }
-    Ok(())
+}
+
+/// Words that are refused, for what cause, and with what status.
+#[rattlefmt::skip]
+const REFUSALS: &[(&str, ErrorKind, i32)] = &[
+    ("fastcat", ErrorKind::MissingSubcommand, 2),
+    ("fastcat frob", ErrorKind::InvalidSubcommand, 2),
+    ("fastcat check", ErrorKind::MissingRequiredArgument, 2),
+    ("fastcat check t.toml --strict", ErrorKind::UnknownArgument, 2),
+    ("fastcat check t.toml stream", ErrorKind::UnknownArgument, 2),
+    ("fastcat show t.toml --max-total=4294967296", ErrorKind::ValueValidation, 2),
+    ("fastcat convert t.toml --strict", ErrorKind::UnknownArgument, 2),
+    ("fastcat show --help", ErrorKind::DisplayHelp, 0),
+    ("fastcat --version", ErrorKind::DisplayVersion, 0),
+    ("fastcat show --version", ErrorKind::UnknownArgument, 2),
+];
+
+/// Whether the words of a line are refused, for this cause and with this status.
+fn is_refused(alloc: Global, line: &str, kind: ErrorKind, status: i32) -> bool {
+    let mut room = [""; 8];
+    match asked(alloc, words_of(line, &mut room)) {
+        Ok(_) => false,
+        Err(error) => error.kind() == kind && error.exit_code() == status,
+    }
 }
 
 #[test]
-fn words_that_are_refused(rt: HostRuntime) -> Result<(), Fail> {
-    for (words, kind, status) in [
-        (["fastcat"].as_slice(), ErrorKind::MissingSubcommand, 2),
-        (
-            ["fastcat", "frob"].as_slice(),
-            ErrorKind::InvalidSubcommand,
-            2,
-        ),
-        (
-            ["fastcat", "check"].as_slice(),
-            ErrorKind::MissingRequiredArgument,
-            2,
-        ),
-        (
-            ["fastcat", "check", "t.toml", "--strict"].as_slice(),
-            ErrorKind::UnknownArgument,
-            2,
-        ),
-        (
-            ["fastcat", "check", "t.toml", "stream"].as_slice(),
-            ErrorKind::UnknownArgument,
-            2,
-        ),
-        (
-            ["fastcat", "show", "t.toml", "--max-total=4294967296"].as_slice(),
-            ErrorKind::ValueValidation,
-            2,
-        ),
-        (
-            ["fastcat", "convert", "t.toml", "--strict"].as_slice(),
-            ErrorKind::UnknownArgument,
-            2,
-        ),
-        (
-            ["fastcat", "show", "--help"].as_slice(),
-            ErrorKind::DisplayHelp,
-            0,
-        ),
-        (
-            ["fastcat", "--version"].as_slice(),
-            ErrorKind::DisplayVersion,
-            0,
-        ),
-        (
-            ["fastcat", "show", "--version"].as_slice(),
-            ErrorKind::UnknownArgument,
-            2,
-        ),
-    ] {
-        expect_refusal(&rt, rt.alloc(), words, kind, status)?;
+fn words_that_are_refused(rt: HostRuntime) {
+    for (line, kind, status) in REFUSALS {
+        let is_refused = is_refused(rt.alloc(), line, *kind, *status);
+        expect(&rt, is_refused, line, line.len());
     }
-    Ok(())
 }

@@ -1,5 +1,6 @@
 //! How a run ends, and what is written by then.
 
+use super::super::sinks::Taker;
 use super::super::{LENIENT, built_in_set, expect, set_of, show};
 use super::convert;
 use fast_command::RunFault;
@@ -7,11 +8,10 @@ use fast_decoder::MakeError;
 use fast_reading::LineFault;
 use fast_spelling::EncodeFault;
 use fast_template::Templates;
-use fast_text::{FromBytes, ToBytes};
+use fast_text::{FromBytes, Watched};
 use fast_value::Limits;
 use std::alloc::Global;
 use std::process::Abort;
-use std::test::Fail;
 
 /// A run over this text ends so, and has written this.
 fn expect_end(
@@ -24,111 +24,94 @@ fn expect_end(
     written: &str,
 ) {
     let mut cells = [0; 512];
-    let mut target = ToBytes::new(&mut cells);
+    let mut target = Watched::new(Taker::whole(&mut cells));
     let mut source = FromBytes::new(text.as_bytes());
     let end = convert(alloc, set, limits, true, &mut source, &mut target);
-    let is_right = end == wanted && target.bytes() == written.as_bytes();
-    expect(rt, is_right, text, target.bytes().len());
+    let taker = target.into_inner();
+    let is_right = end == wanted && taker.bytes() == written.as_bytes();
+    expect(rt, is_right, text, taker.kept);
 }
 
 const X: &str = "message T1\nfield 0 x u 942755\nend message\n";
 
-/// Lines, and the streams that are written of them.
-const WHOLE: [(&str, &str); 4] = [
-    ("", ""),
-    (X, "c0813945a3\n"),
+/// The most bytes of a text, lines, how a run over them ends, and what is written by then.
+#[rattlefmt::skip]
+const ENDS: &[(usize, &str, Result<(), RunFault>, &str)] = &[
+    // lines are written as a stream
+    (1024, "", Ok(()), ""),
+    (1024, X, Ok(()), "c0813945a3\n"),
     (
+        1024,
         "message T1\nfield 0 x u 942755\nend message\nmessage T1\nfield 0 x u 0\nend message",
+        Ok(()),
         "c0813945a3\n8080\n",
     ),
     (
+        1024,
         "message T6\nfield 6 x u 0\nend message\nmessage T9\nend message\nmessage T9\nend message\nmessage T6\nend message\n",
+        Ok(()),
         "e08681\nc089\n80\nc086\n",
     ),
-];
-
-#[test]
-fn lines_are_written_as_a_stream(rt: HostRuntime) -> Result<(), Fail> {
-    let set = built_in_set(rt.alloc())?;
-    for (text, written) in WHOLE {
-        expect_end(&rt, rt.alloc(), &set, LENIENT, text, Ok(()), written);
-    }
-    Ok(())
-}
-
-/// Texts that are not the lines of messages: nothing is written of the lines before the one at fault.
-const FAULTY: [(&str, u64, LineFault); 6] = [
+    // a line at fault is told, and nothing is written of the lines before it
     (
+        1024,
         "message T1\nfield 0 x u 5\nend message\nmessage TX\n",
-        4,
-        LineFault::UnknownTemplate,
+        Err(RunFault::Text { line: 4, kind: LineFault::UnknownTemplate }),
+        "",
     ),
-    ("message T1\nfield 1 x u 5\n", 2, LineFault::OutOfPlace),
-    ("message T1\nfield 0 x u 05\n", 2, LineFault::Form),
-    ("message T1\nfield 0 x i 5\n", 2, LineFault::WrongValue),
-    ("message T1\nend message\n", 2, LineFault::PassedOver),
-    ("message T1\nfield 0 x u 5\n", 3, LineFault::Missing),
+    (
+        1024,
+        "message T1\nfield 1 x u 5\n",
+        Err(RunFault::Text { line: 2, kind: LineFault::OutOfPlace }),
+        "",
+    ),
+    (1024, "message T1\nfield 0 x u 05\n", Err(RunFault::Text { line: 2, kind: LineFault::Form }), ""),
+    (
+        1024,
+        "message T1\nfield 0 x i 5\n",
+        Err(RunFault::Text { line: 2, kind: LineFault::WrongValue }),
+        "",
+    ),
+    (1024, "message T1\nend message\n", Err(RunFault::Text { line: 2, kind: LineFault::PassedOver }), ""),
+    (1024, "message T1\nfield 0 x u 5\n", Err(RunFault::Text { line: 3, kind: LineFault::Missing }), ""),
+    // the messages before one that is refused are written
+    (
+        1024,
+        "message T3\nfield 3 t a \"ABCDE\"\nend message\nmessage T3\nfield 3 t a \"AB\"\nend message\n",
+        Err(RunFault::Encode { message: 1, fault: EncodeFault::E3 }),
+        "e08341424344c5\n",
+    ),
+    // limits are refused before the text is read
+    (15, "message TX", Err(RunFault::Make(MakeError::BadLimits)), ""),
 ];
 
 #[test]
-fn a_line_at_fault_is_told_and_nothing_is_written(rt: HostRuntime) -> Result<(), Fail> {
-    let set = built_in_set(rt.alloc())?;
-    for (text, line, kind) in FAULTY {
-        let end = Err(RunFault::Text { line, kind });
-        expect_end(&rt, rt.alloc(), &set, LENIENT, text, end, "");
+fn a_run_over_lines_ends_so_and_has_written_this(rt: HostRuntime) {
+    let set = built_in_set(&rt, rt.alloc());
+    for (max_text, text, end, written) in ENDS {
+        let limits = Limits {
+            max_text: *max_text,
+            ..LENIENT
+        };
+        expect_end(&rt, rt.alloc(), &set, limits, text, *end, written);
     }
-    Ok(())
 }
 
 #[test]
-fn the_messages_before_one_that_is_refused_are_written(rt: HostRuntime) -> Result<(), Fail> {
-    let set = built_in_set(rt.alloc())?;
-    let text =
-        "message T3\nfield 3 t a \"ABCDE\"\nend message\nmessage T3\nfield 3 t a \"AB\"\nend message\n";
-    let end = Err(RunFault::Encode {
-        message: 1,
-        fault: EncodeFault::E3,
-    });
-    expect_end(
-        &rt,
-        rt.alloc(),
-        &set,
-        LENIENT,
-        text,
-        end,
-        "e08341424344c5\n",
-    );
-    Ok(())
-}
-
-#[test]
-fn limits_are_refused_before_the_text_is_read(rt: HostRuntime) -> Result<(), Fail> {
-    let set = built_in_set(rt.alloc())?;
-    let short = Limits {
-        max_text: 15,
-        ..LENIENT
-    };
-    let end = Err(RunFault::Make(MakeError::BadLimits));
-    expect_end(&rt, rt.alloc(), &set, short, "message TX", end, "");
-    Ok(())
-}
-
-#[test]
-fn a_long_initial_value_is_refused_before_the_text_is_read(rt: HostRuntime) -> Result<(), Fail> {
+fn a_long_initial_value_is_refused_before_the_text_is_read(rt: HostRuntime) {
     let text =
         "[[template]]\nname = 'N'\nid = 1\nfields = [{ kind = 'ascii', name = 's', op = 'copy', value = 'seventeen letters' }]\n";
-    let set = set_of(rt.alloc(), text)?;
+    let set = set_of(&rt, rt.alloc(), text);
     let short = Limits {
         max_text: 16,
         ..LENIENT
     };
     let end = Err(RunFault::Make(MakeError::InitialTooLong));
     expect_end(&rt, rt.alloc(), &set, short, "message TX", end, "");
-    Ok(())
 }
 
 /// Lines of whole messages, each of which is shown again as it was.
-const THERE_AND_BACK: [&str; 8] = [
+const THERE_AND_BACK: &[&str] = &[
     "message T3\nfield 3 t a \"ABCDE\"\nend message\nmessage T3\nfield 3 t a \"ABCXY\"\nend message\n",
     "message T4\nfield 4 d a \"GEH6\"\nend message\nmessage T4\nfield 4 d a \"GEM6\"\nend message\nmessage T4\nfield 4 d a \"ZZGEM6\"\nend message\n",
     "message T5\nfield 5 n u 4294967295\nend message\nmessage T5\nfield 5 n u 0\nend message\n",
@@ -140,23 +123,28 @@ const THERE_AND_BACK: [&str; 8] = [
 ];
 
 #[test]
-fn what_is_written_is_shown_as_it_was(rt: HostRuntime) -> Result<(), Fail> {
-    let set = built_in_set(rt.alloc())?;
+fn what_is_written_is_shown_as_it_was(rt: HostRuntime) {
+    let set = built_in_set(&rt, rt.alloc());
     for text in THERE_AND_BACK {
         expect(&rt, comes_back(rt.alloc(), &set, text), text, text.len());
     }
-    Ok(())
 }
 
 /// Whether the lines that a stream is written of are shown of it.
 fn comes_back(alloc: Global, set: &Templates, text: &str) -> bool {
     let mut cells = [0; 512];
-    let mut stream = ToBytes::new(&mut cells);
+    let mut target = Watched::new(Taker::whole(&mut cells));
     let mut source = FromBytes::new(text.as_bytes());
-    let end = convert(alloc, set, LENIENT, false, &mut source, &mut stream);
-    let mut room = [0; 512];
-    let mut lines = ToBytes::new(&mut room);
-    let mut source = FromBytes::new(stream.bytes());
-    let shown = show(alloc, set, LENIENT, false, 1000, &mut source, &mut lines);
-    end == Ok(()) && shown.is_ok() && lines.bytes() == text.as_bytes()
+    let end = convert(alloc, set, LENIENT, false, &mut source, &mut target);
+    let stream = target.into_inner();
+    end == Ok(()) && is_shown_as(alloc, set, stream.bytes(), text)
+}
+
+/// Whether this is shown of a stream.
+fn is_shown_as(alloc: Global, set: &Templates, stream: &[u8], text: &str) -> bool {
+    let mut cells = [0; 512];
+    let mut target = Watched::new(Taker::whole(&mut cells));
+    let mut source = FromBytes::new(stream);
+    let end = show(alloc, set, LENIENT, false, 1000, &mut source, &mut target);
+    end.is_ok() && target.into_inner().bytes() == text.as_bytes()
 }

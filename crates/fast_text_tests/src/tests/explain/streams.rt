@@ -6,7 +6,7 @@ use fast_stream::FaultCode;
 use fast_text::{FromBytes, Source};
 use fast_value::{Code, Limits};
 use std::alloc::Global;
-use std::test::Fail;
+use std::process::Abort;
 
 /// Templates with a field in each sort of place. The nodes of T are 0 to 9, those of U 10 to 20.
 const SET: &str = r#"
@@ -59,24 +59,25 @@ fn limits(strict: bool) -> Limits {
 
 /// What is said at a place of an input that was read in pieces of five bytes.
 fn told(
+    rt: &impl Abort,
     alloc: Global,
     input: &[u8],
     is_hex: bool,
     code: Option<FaultCode>,
     place: u64,
-) -> Result<Note, Fail> {
+) -> Note {
     let strict = matches!(
         code,
         Some(FaultCode::Stream(Code::R6 | Code::R7 | Code::R8))
     );
-    let templates = set_of(alloc, SET)?;
+    let templates = set_of(rt, alloc, SET);
     let source = FromBytes::new(input);
     let mut reader = Kept::new(alloc, source, &templates, limits(strict), is_hex);
     let mut piece = [0; 5];
     for _read in 0..input.len() {
         let _ = reader.read(&mut piece);
     }
-    Ok(explain_stream(code, place, &reader))
+    explain_stream(code, place, &reader)
 }
 
 /// The second line of what is said.
@@ -88,7 +89,7 @@ fn line_of(note: &Note) -> &str {
 type Row = (&'static str, Option<Code>, u64, &'static str);
 
 #[rattlefmt::skip]
-static ROWS: [Row; 28] = [
+const ROWS: &[Row] = &[
     ("", None, 0, "the presence map or the template identifier of a message"),
     ("40", None, 1, "the presence map or the template identifier of a message"),
     ("C0", None, 1, "the presence map or the template identifier of a message"),
@@ -120,45 +121,42 @@ static ROWS: [Row; 28] = [
 ];
 
 #[test]
-fn fields_at_fault_are_told(rt: HostRuntime) -> Result<(), Fail> {
-    for (digits, code, place, wanted) in ROWS.iter() {
+fn fields_at_fault_are_told(rt: HostRuntime) {
+    for (digits, code, place, wanted) in ROWS {
         let code = code.map(FaultCode::Stream);
-        let note = told(rt.alloc(), digits.as_bytes(), true, code, *place)?;
+        let note = told(&rt, rt.alloc(), digits.as_bytes(), true, code, *place);
         let is_told = line_of(&note).strip_prefix("  ") == Some(*wanted);
         expect(&rt, is_told, note.as_str(), *place as usize);
     }
-    Ok(())
 }
 
 #[test]
-fn faults_are_told_with_the_bytes_around(rt: HostRuntime) -> Result<(), Fail> {
+fn faults_are_told_with_the_bytes_around(rt: HostRuntime) {
     let input = b"\xE0\x81\x10\x00\x00\x00\x80\x01\x02\x03\x04\x05\x06\x07\x08\x09\x0A";
     let code = Some(FaultCode::Stream(Code::D2));
-    let note = told(rt.alloc(), input, false, code, 7)?;
+    let note = told(&rt, rt.alloc(), input, false, code, 7);
     let wanted = "  an integer lies outside its type, or has ten bytes and no stop bit
   template \"T\", field 0 \"a\"
   offset 0x6: E0 81 10 00 00 00 [80] 01 02 03 04 05 06 07 08
 ";
     expect(&rt, note.as_str() == wanted, note.as_str(), wanted.len());
-    Ok(())
 }
 
 #[test]
-fn digits_are_told_as_bytes(rt: HostRuntime) -> Result<(), Fail> {
-    let note = told(rt.alloc(), b"e 0\n81 C2 0", true, None, 3)?;
+fn digits_are_told_as_bytes(rt: HostRuntime) {
+    let note = told(&rt, rt.alloc(), b"e 0\n81 C2 0", true, None, 3);
     let wanted = "  the stream ends inside a message
   template \"T\", field 1 \"b\"
   offset 0x2: E0 81 [C2] 0
 ";
     expect(&rt, note.as_str() == wanted, note.as_str(), wanted.len());
-    Ok(())
 }
 
 #[test]
-fn long_inputs_keep_their_offsets(rt: HostRuntime) -> Result<(), Fail> {
-    let mut input = vec![in rt.alloc(); 0x80; 20000]?;
-    input.push(0xAB)?;
-    let note = told(rt.alloc(), &input, false, None, 20001)?;
+fn long_inputs_keep_their_offsets(rt: HostRuntime) {
+    let mut input = [0x80; 20001];
+    input[20000] = 0xAB;
+    let note = told(&rt, rt.alloc(), &input, false, None, 20001);
     let offset = "  offset 0x4e20: 80 80 80 80 80 80 80 80 [AB]\n";
     expect(
         &rt,
@@ -166,8 +164,8 @@ fn long_inputs_keep_their_offsets(rt: HostRuntime) -> Result<(), Fail> {
         note.as_str(),
         offset.len(),
     );
-    let digits = vec![in rt.alloc(); b'7'; 20001]?;
-    let note = told(rt.alloc(), &digits, true, None, 10000)?;
+    let digits = [b'7'; 20001];
+    let note = told(&rt, rt.alloc(), &digits, true, None, 10000);
     let offset = "  offset 0x270f: 77 77 77 77 77 77 77 77 [77] 7\n";
     expect(
         &rt,
@@ -175,5 +173,4 @@ fn long_inputs_keep_their_offsets(rt: HostRuntime) -> Result<(), Fail> {
         note.as_str(),
         offset.len(),
     );
-    Ok(())
 }

@@ -4,11 +4,10 @@ use super::super::expect;
 use fast_explain::{Note, explain_templates};
 use fast_notation::{CheckedSet, StaticCode, StaticFault};
 use std::alloc::Global;
-use std::test::Fail;
 
 /// Texts, and the words that are said of each.
 #[rattlefmt::skip]
-const ROWS: [(&str, &str); 8] = [
+const ROWS: &[(&str, &str)] = &[
     ("[[template]]\nname = \"T\"\nname = 1\n", "  the text is not TOML, or not of the form of a template set
   line 3, column 1
   duplicate key
@@ -57,18 +56,15 @@ fn told(alloc: Global, text: &str) -> Option<Note> {
 }
 
 #[test]
-fn refused_texts_are_explained(rt: HostRuntime) -> Result<(), Fail> {
-    for (text, lines) in &ROWS {
-        let Some(note) = told(rt.alloc(), text) else {
-            return Err(Fail::from("a text is taken"));
-        };
+fn refused_texts_are_explained(rt: HostRuntime) {
+    for (text, lines) in ROWS {
+        let note = told(rt.alloc(), text).expect(&rt, "a text is refused");
         expect(&rt, note.as_str() == *lines, text, note.as_str().len());
     }
-    Ok(())
 }
 
 #[test]
-fn bytes_that_are_no_text_are_explained(rt: HostRuntime) -> Result<(), Fail> {
+fn bytes_that_are_no_text_are_explained(rt: HostRuntime) {
     let fault = StaticFault {
         code: StaticCode::S1,
         template: None,
@@ -79,5 +75,4 @@ fn bytes_that_are_no_text_are_explained(rt: HostRuntime) -> Result<(), Fail> {
   a byte that is not UTF-8
 ";
     expect(&rt, note.as_str() == wanted, note.as_str(), wanted.len());
-    Ok(())
 }

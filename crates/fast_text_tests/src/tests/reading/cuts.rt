@@ -3,7 +3,6 @@
 use super::super::expect;
 use super::{ALL, count_of, set_of};
 use fast_reading::TextFault;
-use std::test::Fail;
 
 /// Where each message ends, behind its last LF.
 const ENDS: [usize; 4] = [0, 300, 374, 399];
@@ -28,9 +27,9 @@ fn is_right(want: Option<usize>, answer: Result<usize, TextFault>) -> bool {
 }
 
 #[test]
-fn a_text_that_is_cut_says_the_messages_before_or_nothing(rt: HostRuntime) -> Result<(), Fail> {
+fn a_text_that_is_cut_says_the_messages_before_or_nothing(rt: HostRuntime) {
     let alloc = rt.alloc();
-    let set = set_of(alloc)?;
+    let set = set_of(&rt, alloc);
     let text = ALL.as_bytes();
     for length in 0..text.len() {
         let answer = count_of(alloc, &set, &text[..length]);
@@ -39,5 +38,4 @@ fn a_text_that_is_cut_says_the_messages_before_or_nothing(rt: HostRuntime) -> Re
     }
     let whole = count_of(alloc, &set, text);
     expect(&rt, whole == Ok(3), "a whole text", text.len());
-    Ok(())
 }

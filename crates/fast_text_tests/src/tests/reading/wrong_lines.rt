@@ -4,7 +4,9 @@ use super::super::expect;
 use super::{count_of, set_of};
 use LineFault::{Form, Missing, OutOfPlace, PassedOver, UnknownTemplate, WrongCount, WrongValue};
 use fast_reading::{LineFault, TextFault};
-use std::test::Fail;
+use fast_template::Templates;
+use std::alloc::Global;
+use std::process::Abort;
 
 /// What is wrong, and texts with the number of the line.
 type Rows = &'static [(LineFault, &'static [(u64, &'static str)])];
@@ -121,27 +123,34 @@ const FAULTS: Rows = &[
     ),
 ];
 
-#[test]
-fn the_first_line_at_fault_is_named(rt: HostRuntime) -> Result<(), Fail> {
-    let alloc = rt.alloc();
-    let set = set_of(alloc)?;
-    for (kind, texts) in FAULTS {
-        for (line, text) in *texts {
-            let answer = count_of(alloc, &set, text.as_bytes());
-            let want = TextFault::BadLine {
-                line: *line,
-                kind: *kind,
-            };
-            expect(&rt, answer == Err(want), text, *line as usize);
-        }
+/// Each text has this fault, in the line that stands with it.
+fn expect_fault(
+    rt: &impl Abort,
+    alloc: Global,
+    set: &Templates,
+    kind: LineFault,
+    texts: &[(u64, &str)],
+) {
+    for (line, text) in texts {
+        let answer = count_of(alloc, set, text.as_bytes());
+        let want = TextFault::BadLine { line: *line, kind };
+        expect(rt, answer == Err(want), text, *line as usize);
     }
-    Ok(())
 }
 
 #[test]
-fn a_line_that_is_not_utf8_is_of_no_form(rt: HostRuntime) -> Result<(), Fail> {
+fn the_first_line_at_fault_is_named(rt: HostRuntime) {
     let alloc = rt.alloc();
-    let set = set_of(alloc)?;
+    let set = set_of(&rt, alloc);
+    for (kind, texts) in FAULTS {
+        expect_fault(&rt, alloc, &set, *kind, texts);
+    }
+}
+
+#[test]
+fn a_line_that_is_not_utf8_is_of_no_form(rt: HostRuntime) {
+    let alloc = rt.alloc();
+    let set = set_of(&rt, alloc);
     for (line, kind, text) in [
         (
             3,
@@ -165,11 +174,10 @@ fn a_line_that_is_not_utf8_is_of_no_form(rt: HostRuntime) -> Result<(), Fail> {
             line as usize,
         );
     }
-    Ok(())
 }
 
 #[test]
-fn a_fault_has_a_number_and_a_sentence(rt: HostRuntime) -> Result<(), Fail> {
+fn a_fault_has_a_number_and_a_sentence(rt: HostRuntime) {
     let alloc = rt.alloc();
     for (fault, sentence) in [
         (
@@ -188,8 +196,7 @@ fn a_fault_has_a_number_and_a_sentence(rt: HostRuntime) -> Result<(), Fail> {
         ),
         (TextFault::Memory, "there is no memory left"),
     ] {
-        let found = format!(in alloc; "{fault}")?;
+        let found = format!(in alloc; "{fault}").expect(&rt, "memory");
         expect(&rt, found.as_str() == sentence, sentence, found.len());
     }
-    Ok(())
 }

@@ -11,9 +11,10 @@ use fast_template::Templates;
 use fast_text::{LineSink, Target, ToBytes};
 use fast_value::Scalar;
 use std::alloc::Global;
-use std::test::Fail;
+use std::process::Abort;
 
-fn set(alloc: Global) -> Result<Templates, Fail> {
+/// A template with a field of each sort.
+fn set(rt: &impl Abort, alloc: Global) -> Templates {
     let text = r#"
 [[template]]
 name = "T15"
@@ -24,7 +25,7 @@ fields = [
 {kind="sequence", name="legs", fields=[{kind="ascii", name="sym"}, {kind="int32", name="px"}]},
 ]
 "#;
-    set_of(alloc, text)
+    set_of(rt, alloc, text)
 }
 
 #[rattlefmt::skip]
@@ -64,23 +65,23 @@ const LONG: &[Event<'static>] = &[Field {
 const UNKNOWN: &[Event<'static>] = &[MessageStart { template: 1 }, GroupStart { node: 6 }];
 
 /// What they show, events, and their lines.
-const ROWS: [(&str, &[Event<'static>], &[u8]); 4] = [
+const ROWS: &[(&str, &[Event<'static>], &str)] = &[
     (
         "events",
         EVENTS,
-        b"message T15\nfield 0 x u 5\ngroup 1 g\nfield 2 b b 01ff\nend group\nsequence 3 legs 1\nelement\nfield 4 sym a \"AB\"\nfield 5 px i -98\nend element\nend sequence\nend message\n",
+        "message T15\nfield 0 x u 5\ngroup 1 g\nfield 2 b b 01ff\nend group\nsequence 3 legs 1\nelement\nfield 4 sym a \"AB\"\nfield 5 px i -98\nend element\nend sequence\nend message\n",
     ),
     (
         "values",
         VALUES,
-        b"field 0 x u 18446744073709551615\nfield 0 x i 9223372036854775807\nfield 0 x d -15e-1\nfield 0 x d -9223372036854775808e63\nfield 0 x b \nfield 0 x a \"\"\nfield 0 x s \"\\\"\\\\\\x00\\x1f\\x7f\xc3\xa9 a\"\n",
+        "field 0 x u 18446744073709551615\nfield 0 x i 9223372036854775807\nfield 0 x d -15e-1\nfield 0 x d -9223372036854775808e63\nfield 0 x b \nfield 0 x a \"\"\nfield 0 x s \"\\\"\\\\\\x00\\x1f\\x7fé a\"\n",
     ),
     (
         "a long value",
         LONG,
-        b"field 2 b b a5a5a5a5a5a5a5a5a5a5a5a5a5a5a5a5a5a5a5a5a5a5a5a5a5a5a5a5a5a5a5a5a5a5a5a5a5a5a5a5a5a5a5a5a5a5a5a5a5a5a5a5a5a5a5a5a5a5a5a5a5a5a5a5a5\n",
+        "field 2 b b a5a5a5a5a5a5a5a5a5a5a5a5a5a5a5a5a5a5a5a5a5a5a5a5a5a5a5a5a5a5a5a5a5a5a5a5a5a5a5a5a5a5a5a5a5a5a5a5a5a5a5a5a5a5a5a5a5a5a5a5a5a5a5a5a5\n",
     ),
-    ("unknown numbers", UNKNOWN, b"message \ngroup 6 \n"),
+    ("unknown numbers", UNKNOWN, "message \ngroup 6 \n"),
 ];
 
 /// Whether a sink over the cells writes these bytes of the events, and stops or not.
@@ -103,10 +104,10 @@ fn is_written(
 }
 
 #[test]
-fn each_event_is_its_line(rt: HostRuntime) -> Result<(), Fail> {
-    let set = set(rt.alloc())?;
+fn each_event_is_its_line(rt: HostRuntime) {
+    let set = set(&rt, rt.alloc());
     for (name, events, lines) in ROWS {
-        let is_written = is_written(&set, &mut [0; 512], events, Ok(()), lines);
+        let is_written = is_written(&set, &mut [0; 512], events, Ok(()), lines.as_bytes());
         expect(&rt, is_written, name, events.len());
     }
     for room in 0..12 {
@@ -115,7 +116,6 @@ fn each_event_is_its_line(rt: HostRuntime) -> Result<(), Fail> {
         let stops = is_written(&set, &mut cells[..room], &EVENTS[..1], Err(Stop), front);
         expect(&rt, stops, "a full target", room);
     }
-    Ok(())
 }
 
 /// The ASCII text that a line has.
@@ -147,8 +147,8 @@ fn text_in(line: &[u8]) -> &[u8] {
 
 /// A text that a sink has no room for goes on to the target, and the line goes on behind it.
 #[test]
-fn a_long_text_stands_in_its_line(rt: HostRuntime) -> Result<(), Fail> {
-    let set = set(rt.alloc())?;
+fn a_long_text_stands_in_its_line(rt: HostRuntime) {
+    let set = set(&rt, rt.alloc());
     let text = [b'A'; 600];
     let mut cells = [0; 1024];
     let mut target = ToBytes::new(&mut cells);
@@ -160,5 +160,4 @@ fn a_long_text_stands_in_its_line(rt: HostRuntime) -> Result<(), Fail> {
     expect(&rt, taken.is_ok(), "a long text is taken", 600);
     let stands = text_in(target.bytes()) == text.as_slice();
     expect(&rt, stands, "a long text stands", 600);
-    Ok(())
 }
