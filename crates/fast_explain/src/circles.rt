@@ -1,11 +1,11 @@
 //! Templates that refer to themselves, by way of others.
 
 use crate::keys::{name_of, target_of};
-use crate::notes::{Note, Quoted};
+use crate::notes::{Note, put, put_quoted};
+use crate::sizes::{index, number_of};
 use crate::walks::Walk;
 use std::alloc::{AllocError, Global};
 use std::collections::HashMap;
-use std::fmt::Write;
 use toml::Value;
 
 /// How many templates of a circle are told at most.
@@ -20,37 +20,65 @@ struct Search {
     before: Vec<Option<usize>>,
 }
 
+/// Takes up a template behind another one, if it was not found before.
+fn add(search: &mut Search, number: usize, target: usize) -> Result<(), AllocError> {
+    if let Some(before) = search.before.get_mut(target) {
+        if before.is_none() {
+            *before = Some(number);
+            search.found.push(target)?;
+        }
+    }
+    Ok(())
+}
+
+/// The number of the template that a field refers to, if it does.
+fn target_number(names: &HashMap<String, usize>, field: &Value) -> Option<usize> {
+    number_of(names, target_of(field)?)
+}
+
 /// Takes up what a template refers to, and tells whether the first one is among it.
 fn take_up(
     alloc: Global,
     names: &HashMap<String, usize>,
-    templates: &[Value],
+    template: &Value,
     search: &mut Search,
     number: usize,
     first: usize,
 ) -> Result<bool, AllocError> {
-    let Some(template) = templates.get(number) else {
-        return Ok(false);
-    };
     let mut walk = Walk::new(alloc, template);
     for _field in 0..u64::MAX {
         let Some(field) = walk.next()? else {
             break;
         };
-        let Some(target) = target_of(field).and_then(|name| names.get(name)) else {
+        let Some(target) = target_number(names, field) else {
             continue;
         };
-        if *target == first {
+        if target == first {
             return Ok(true);
         }
-        if let Some(before) = search.before.get_mut(*target) {
-            if before.is_none() {
-                *before = Some(number);
-                search.found.push(*target)?;
-            }
-        }
+        add(&mut *search, number, target)?;
     }
     Ok(false)
+}
+
+/// The templates of a circle, from the one that refers to the first one: each is the one behind which the last was found.
+fn circle_to(
+    alloc: Global,
+    before: &[Option<usize>],
+    last: usize,
+    first: usize,
+) -> Result<Vec<usize>, AllocError> {
+    let mut circle = Vec::new(alloc);
+    let mut number = last;
+    for _step in 0..before.len() {
+        circle.push(number)?;
+        match before.get(number) {
+            Some(Some(before)) if number != first => number = *before,
+            _ => break,
+        }
+    }
+    circle.reverse();
+    Ok(circle)
 }
 
 /// The templates of a circle: the last of them refers to the first one.
@@ -65,47 +93,58 @@ fn circle_from(
         before: vec![in alloc; None; templates.len()]?,
     };
     search.found.push(first)?;
-    let mut circle = Vec::new(alloc);
     for k in 0..templates.len() {
-        let Some(number) = search.found.get(k) else {
+        let Some(number) = search.found.get(k).copied() else {
             break;
         };
-        let mut number = *number;
-        if take_up(alloc, names, templates, &mut search, number, first)? {
-            for _step in 0..templates.len() {
-                circle.push(number)?;
-                match search.before.get(number) {
-                    Some(Some(before)) if number != first => number = *before,
-                    _ => break,
-                }
-            }
-            circle.reverse();
-            return Ok(circle);
+        let Some(template) = templates.get(number) else {
+            continue;
+        };
+        if take_up(alloc, names, template, &mut search, number, first)? {
+            return circle_to(alloc, search.before.as_slice(), number, first);
         }
     }
-    Ok(circle)
+    Ok(Vec::new(alloc))
 }
 
-/// Tells the circle of references that leads from a template to itself.
+/// Puts the name of a template, and what comes behind it.
+fn put_name(note: &mut Note, template: &Value, behind: &str) {
+    if let Some(name) = name_of(template) {
+        let _ = put_quoted(note, name) && put(note, &[behind]);
+    }
+}
+
+/// Tells the names of the templates of a circle.
+fn tell_names(note: &mut Note, templates: &[Value], circle: &[usize]) {
+    let mut count: usize = 0;
+    for number in circle {
+        if count == TOLD {
+            let _ = put(note, &[".., "]);
+            break;
+        }
+        count = count.saturating_add(1);
+        if let Some(template) = templates.get(*number) {
+            put_name(note, template, ", ");
+        }
+    }
+}
+
+/// Ends the line of a place, and tells the circle of references that leads from a template to itself.
 pub(crate) fn tell_circle(
     alloc: Global,
-    names: &HashMap<String, usize>,
     templates: &[Value],
     first: usize,
     note: &mut Note,
 ) -> Result<(), AllocError> {
-    let circle = circle_from(alloc, names, templates, first)?;
-    let _ = write!(note, "  ");
-    for (k, number) in circle.iter().enumerate() {
-        if k == TOLD {
-            let _ = write!(note, ".., ");
-            break;
-        }
-        if let Some(name) = templates.get(*number).and_then(name_of) {
-            let _ = write!(note, "{}, ", Quoted(name));
-        }
-    }
-    let name = templates.get(first).and_then(name_of).unwrap_or("");
-    let _ = writeln!(note, "{}: each refers to the next", Quoted(name));
+    let _ = put(note, &["\n"]);
+    let names = index(alloc, templates)?;
+    let circle = circle_from(alloc, &names, templates, first)?;
+    let _ = put(note, &["  "]);
+    tell_names(note, templates, circle.as_slice());
+    let name = match templates.get(first) {
+        Some(template) => name_of(template).unwrap_or(""),
+        None => "",
+    };
+    let _ = put_quoted(note, name) && put(note, &[": each refers to the next\n"]);
     Ok(())
 }

@@ -1,8 +1,8 @@
 //! Texts that are no array of templates, and places in a text.
 
-use crate::notes::{Found, Note, Quoted, Right};
-use std::fmt::Write;
-use toml::Table;
+use crate::keys::{unknown_key, value_at};
+use crate::notes::{Found, Note, Right, put, put_number, put_quoted, tell_right};
+use toml::{Table, Value};
 
 /// The only key of a template text.
 static KEYS: [&str; 1] = ["template"];
@@ -21,34 +21,47 @@ pub(crate) fn tell_place(note: &mut Note, before: &[u8]) {
             column = column.saturating_add(1);
         }
     }
-    let _ = writeln!(note, "  line {line}, column {column}");
+    let _ = put(note, &["  line "])
+        && put_number(note, line as u64)
+        && put(note, &[", column "])
+        && put_number(note, column as u64)
+        && put(note, &["\n"]);
 }
 
 /// Tells of a document without an array of templates what stands in its place.
 pub(crate) fn tell_document(note: &mut Note, document: &Table) {
-    for key in document.keys() {
-        if key.as_str() != "template" {
-            return tell_key(note, key.as_str(), Found::Key, Right::OneOf(&KEYS));
-        }
+    if let Some(key) = unknown_key(document, &KEYS) {
+        return tell_key(note, key, Found::Key, Right::OneOf(&KEYS));
     }
-    let Some(value) = document.get("template") else {
-        return tell_key(note, "template", Found::Nothing, TABLES);
-    };
-    let Some(items) = value.as_array() else {
-        return tell_key(note, "template", Found::of(value), TABLES);
-    };
-    for (k, item) in items.as_slice().iter().enumerate() {
-        if item.as_table().is_none() {
-            let _ = writeln!(note, "  template {k}");
-            let _ = writeln!(note, "  {}: a table", Found::of(item));
-            return;
-        }
+    match value_at(document, "template") {
+        Some(value) => tell_value(note, value),
+        None => tell_key(note, "template", Found::Nothing, TABLES),
     }
-    tell_key(note, "template", Found::Type("empty"), TABLES)
+}
+
+/// Tells of what stands in the place of the templates what is wrong.
+fn tell_value(note: &mut Note, value: &Value) {
+    match value.as_array() {
+        Some(items) => tell_items(note, items.as_slice()),
+        None => tell_key(note, "template", Found::Of(value), TABLES),
+    }
+}
+
+/// Tells the first of some templates that is none.
+fn tell_items(note: &mut Note, items: &[Value]) {
+    let mut number: u64 = 0;
+    for item in items {
+        if !item.is_table() {
+            let _ = put(note, &["  template "]) && put_number(note, number) && put(note, &["\n"]);
+            return tell_right(note, Found::Of(item), Right::Said("a table"));
+        }
+        number = number.saturating_add(1);
+    }
+    tell_key(note, "template", Found::Empty, TABLES)
 }
 
 /// Tells what is wrong at a key of a document.
 fn tell_key(note: &mut Note, key: &str, found: Found<'_>, right: Right) {
-    let _ = writeln!(note, "  key {}", Quoted(key));
-    let _ = writeln!(note, "  {found}: {right}");
+    let _ = put(note, &["  key "]) && put_quoted(note, key) && put(note, &["\n"]);
+    tell_right(note, found, right);
 }

@@ -2,20 +2,35 @@
 
 use toml::{Table, Value};
 
+/// What stands at a key.
+pub(crate) fn value_at<'a>(table: &'a Table, key: &str) -> Option<&'a Value> {
+    table.get(key)
+}
+
+/// Whether something stands at a key.
+pub(crate) fn has_key(table: &Table, key: &str) -> bool {
+    value_at(table, key).is_some()
+}
+
 /// What stands at a key of a value that is a table.
 pub(crate) fn entry_of<'a>(value: &'a Value, key: &str) -> Option<&'a Value> {
-    value.as_table()?.get(key)
+    value_at(value.as_table()?, key)
+}
+
+/// The table at a key, if there is one.
+pub(crate) fn table_at<'a>(table: &'a Table, key: &str) -> Option<&'a Table> {
+    value_at(table, key)?.as_table()
 }
 
 /// The text at a key, if there is one.
 pub(crate) fn text_of<'a>(table: &'a Table, key: &str) -> Option<&'a str> {
-    table.get(key)?.as_str()
+    value_at(table, key)?.as_str()
 }
 
 /// Whether a table says true at a key.
 pub(crate) fn has_flag(table: &Table, key: &str) -> bool {
-    match table.get(key) {
-        Some(value) => value.as_bool().unwrap_or(false),
+    match value_at(table, key) {
+        Some(value) => matches!(value.as_bool(), Some(true)),
         None => false,
     }
 }
@@ -33,13 +48,16 @@ pub(crate) fn items_of<'a>(value: &'a Value, key: &str) -> &'a [Value] {
 
 /// The name that a table has.
 pub(crate) fn name_of(value: &Value) -> Option<&str> {
-    entry_of(value, "name")?.as_str()
+    text_of(value.as_table()?, "name")
 }
 
 /// The name of the template that a field refers to, if it is a reference.
 pub(crate) fn target_of(field: &Value) -> Option<&str> {
-    let kind = entry_of(field, "kind")?.as_str()?;
-    if kind == "ref" { name_of(field) } else { None }
+    let table = field.as_table()?;
+    match text_of(table, "kind") {
+        Some("ref") => text_of(table, "name"),
+        _ => None,
+    }
 }
 
 /// Whether a field is a group or a sequence.
@@ -48,4 +66,24 @@ pub(crate) fn is_segment(field: &Value) -> bool {
         return false;
     };
     matches!(text_of(table, "kind"), Some("group" | "sequence"))
+}
+
+/// Whether a word is one of these.
+pub(crate) fn is_one_of(words: &[&str], word: &str) -> bool {
+    for known in words {
+        if *known == word {
+            return true;
+        }
+    }
+    false
+}
+
+/// The first key of a table that is not one of these.
+pub(crate) fn unknown_key<'a>(table: &'a Table, known: &[&str]) -> Option<&'a str> {
+    for key in table.keys() {
+        if !is_one_of(known, key.as_str()) {
+            return Some(key.as_str());
+        }
+    }
+    None
 }

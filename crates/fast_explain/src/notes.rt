@@ -1,8 +1,7 @@
 //! Where the words of an explanation are kept, and how what stands in a text is told.
 
 use arrayvec::ArrayString;
-use std::fmt;
-use std::fmt::{Display, Formatter, Write};
+use std::fmt::Write;
 use toml::Value;
 
 /// How many bytes an explanation has at most.
@@ -14,63 +13,17 @@ pub type Note = ArrayString<NOTE_ROOM>;
 /// How many characters of a text are told at most.
 const QUOTED: usize = 64;
 
-/// A text between quotes, without what a terminal would obey.
-#[derive(Clone, Copy)]
-pub(crate) struct Quoted<'a>(pub(crate) &'a str);
-
-impl Display for Quoted<'_> {
-    fn fmt<W: Write>(&self, f: &mut Formatter<W>) -> fmt::Result {
-        f.write_char('"')?;
-        let mut count: usize = 0;
-        for c in self.0.chars() {
-            if count == QUOTED {
-                return f.write_str("\"..");
-            }
-            count = count.saturating_add(1);
-            f.write_char(if c.is_control() { '?' } else { c })?;
-        }
-        f.write_char('"')
-    }
-}
-
 /// What stands at a place.
 #[derive(Clone, Copy)]
 pub(crate) enum Found<'a> {
     /// Nothing.
     Nothing,
+    /// An array without items.
+    Empty,
     /// A key that has no meaning there.
     Key,
-    /// A text.
-    Text(&'a str),
-    /// A number.
-    Number(i64),
-    /// A value of a type of TOML.
-    Type(&'static str),
-}
-
-impl<'a> Found<'a> {
-    /// What a value is.
-    pub(crate) fn of(value: &'a Value) -> Found<'a> {
-        if let Some(text) = value.as_str() {
-            return Found::Text(text);
-        }
-        match value.as_integer() {
-            Some(number) => Found::Number(number),
-            None => Found::Type(value.type_str()),
-        }
-    }
-}
-
-impl Display for Found<'_> {
-    fn fmt<W: Write>(&self, f: &mut Formatter<W>) -> fmt::Result {
-        match self {
-            Found::Nothing => f.write_str("missing"),
-            Found::Key => f.write_str("no such key"),
-            Found::Text(text) => write!(f, "{}", Quoted(text)),
-            Found::Number(number) => write!(f, "{number}"),
-            Found::Type(name) => f.write_str(name),
-        }
-    }
+    /// A value of the text.
+    Of(&'a Value),
 }
 
 /// What would be right at a place.
@@ -82,18 +35,24 @@ pub(crate) enum Right {
     Said(&'static str),
 }
 
-impl Display for Right {
-    fn fmt<W: Write>(&self, f: &mut Formatter<W>) -> fmt::Result {
+/// In which part of a field something stands.
+#[derive(Clone, Copy)]
+pub(crate) enum Part {
+    /// In none: in the field itself.
+    Whole,
+    Length,
+    Exponent,
+    Mantissa,
+}
+
+impl Part {
+    /// The key of a part.
+    pub(crate) fn key(self) -> &'static str {
         match self {
-            Right::Said(words) => f.write_str(words),
-            Right::OneOf(words) => {
-                f.write_str("one of")?;
-                for (k, word) in words.iter().enumerate() {
-                    f.write_str(if k == 0 { " " } else { ", " })?;
-                    f.write_str(word)?;
-                }
-                Ok(())
-            }
+            Part::Whole => "",
+            Part::Length => "length",
+            Part::Exponent => "exponent",
+            Part::Mantissa => "mantissa",
         }
     }
 }
@@ -101,8 +60,8 @@ impl Display for Right {
 /// What is not right about a table: below which of its keys, and why.
 #[derive(Clone, Copy)]
 pub(crate) struct Misfit<'a> {
-    /// The key of the part of a field in which it stands, if it stands in one.
-    pub(crate) part: Option<&'static str>,
+    /// The part of a field in which it stands.
+    pub(crate) part: Part,
     /// The key; without one it is the value itself.
     pub(crate) key: Option<&'a str>,
     /// What stands there.
@@ -111,13 +70,117 @@ pub(crate) struct Misfit<'a> {
     pub(crate) right: Right,
 }
 
+/// Puts texts behind what is told, up to one for which there is no room, and says whether there was room for all.
+pub(crate) fn put(note: &mut Note, texts: &[&str]) -> bool {
+    for text in texts {
+        if note.write_str(text).is_err() {
+            return false;
+        }
+    }
+    true
+}
+
+/// Puts a number.
+pub(crate) fn put_number(note: &mut Note, number: u64) -> bool {
+    write!(note, "{number}").is_ok()
+}
+
+/// Puts a text between quotes, without what a terminal would obey.
+pub(crate) fn put_quoted(note: &mut Note, text: &str) -> bool {
+    let mut count: usize = 0;
+    if !put(note, &["\""]) {
+        return false;
+    }
+    for c in text.chars() {
+        if count == QUOTED {
+            return put(note, &["\".."]);
+        }
+        count = count.saturating_add(1);
+        if note
+            .write_char(if c.is_control() { '?' } else { c })
+            .is_err()
+        {
+            return false;
+        }
+    }
+    put(note, &["\""])
+}
+
+/// Puts a text or a number, and of other values the type.
+fn put_value(note: &mut Note, value: &Value) -> bool {
+    if let Some(text) = value.as_str() {
+        return put_quoted(note, text);
+    }
+    match value.as_integer() {
+        Some(number) => write!(note, "{number}").is_ok(),
+        None => put(note, &[value.type_str()]),
+    }
+}
+
+/// Puts what stands at a place.
+pub(crate) fn put_found(note: &mut Note, found: Found<'_>) -> bool {
+    match found {
+        Found::Nothing => put(note, &["missing"]),
+        Found::Empty => put(note, &["empty"]),
+        Found::Key => put(note, &["no such key"]),
+        Found::Of(value) => put_value(note, value),
+    }
+}
+
+/// Puts the words of which one would be right.
+fn put_words(note: &mut Note, words: &[&str]) -> bool {
+    if !put(note, &["one of"]) {
+        return false;
+    }
+    let mut before = " ";
+    for word in words {
+        if !put(note, &[before, *word]) {
+            return false;
+        }
+        before = ", ";
+    }
+    true
+}
+
+/// Puts what would be right.
+fn put_right(note: &mut Note, right: Right) -> bool {
+    match right {
+        Right::Said(words) => put(note, &[words]),
+        Right::OneOf(words) => put_words(note, words),
+    }
+}
+
+/// Tells in a line what stands at a place and what would be right there.
+pub(crate) fn tell_right(note: &mut Note, found: Found<'_>, right: Right) {
+    let _ = put(note, &["  "])
+        && put_found(note, found)
+        && put(note, &[": "])
+        && put_right(note, right)
+        && put(note, &["\n"]);
+}
+
+/// Ends the line of a place with the keys of a misfit.
+fn tell_keys(note: &mut Note, part: Part, key: Option<&str>) {
+    let name = part.key();
+    match key {
+        Some(key) => {
+            let begun = match part {
+                Part::Whole => put(note, &[", key "]),
+                _ => put(note, &[", key \"", name, "\", key "]),
+            };
+            let _ = begun && put_quoted(note, key) && put(note, &["\n"]);
+        }
+        None => {
+            let _ = match part {
+                Part::Whole => put(note, &["\n"]),
+                _ => put(note, &[", key \"", name, "\"\n"]),
+            };
+        }
+    }
+}
+
 /// Ends the line of a place with the keys of a misfit, and tells what is wrong there in the next.
 pub(crate) fn tell(note: &mut Note, misfit: &Misfit<'_>) {
-    let _ = match (misfit.part, misfit.key) {
-        (Some(part), Some(key)) => writeln!(note, ", key \"{part}\", key {}", Quoted(key)),
-        (Some(part), None) => writeln!(note, ", key \"{part}\""),
-        (None, Some(key)) => writeln!(note, ", key {}", Quoted(key)),
-        (None, None) => writeln!(note),
-    };
-    let _ = writeln!(note, "  {}: {}", misfit.found, misfit.right);
+    tell_keys(note, misfit.part, misfit.key);
+    tell_right(note, misfit.found, misfit.right);
 }

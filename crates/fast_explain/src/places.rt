@@ -1,15 +1,16 @@
 //! Where a code of template texts stands in a template.
 
 use crate::circles::tell_circle;
-use crate::keys::{entry_of, is_segment, items_of, name_of, target_of};
-use crate::notes::{Found, Misfit, Note, Quoted, Right, tell};
-use crate::sizes::{depth_at, index, segment_bits, size_named, sizes_of};
+use crate::keys::{entry_of, items_of, name_of, target_of};
+use crate::notes::{
+    Found, Misfit, Note, Part, Right, put, put_found, put_number, put_quoted, tell,
+};
+use crate::sizes::{Known, depth_at, index, number_of, segment_bits, size_named, sizes_of};
 use crate::walks::{Walk, tell_template};
 use crate::{shapes, uses};
 use fast_notation::{NESTING_LIMIT, NODE_LIMIT, SEGMENT_LIMIT, StaticCode};
 use std::alloc::{AllocError, Global};
 use std::collections::HashMap;
-use std::fmt::Write;
 use toml::Value;
 
 /// The templates of a text, and one of them.
@@ -18,6 +19,20 @@ pub(crate) struct Place<'a> {
     pub(crate) templates: &'a [Value],
     pub(crate) number: usize,
     pub(crate) template: &'a Value,
+}
+
+/// A reference that names no template.
+fn target_misfit<'a>(names: &HashMap<String, usize>, field: &'a Value) -> Option<Misfit<'a>> {
+    let name = target_of(field)?;
+    if number_of(names, name).is_some() {
+        return None;
+    }
+    Some(Misfit {
+        part: Part::Whole,
+        key: Some("name"),
+        found: Found::Of(entry_of(field, "name")?),
+        right: Right::Said("the name of a template of this text"),
+    })
 }
 
 /// What does not fit in a field, by the code.
@@ -29,69 +44,163 @@ fn misfit_at<'a>(
 ) -> Option<Misfit<'a>> {
     match code {
         StaticCode::S1 => shapes::field_misfit(field),
-        StaticCode::D8 => match target_of(field) {
-            Some(name) if names.get(name).is_none() => Some(Misfit {
-                part: None,
-                key: Some("name"),
-                found: Found::Text(name),
-                right: Right::Said("the name of a template of this text"),
-            }),
-            _ => None,
-        },
+        StaticCode::D8 => target_misfit(names, field),
         _ => uses::field_misfit(alloc, field, code),
     }
 }
 
-/// Tells the first field that does not fit, by the code.
-fn tell_field(
+/// Tells what number is too great, and what it is at most.
+fn tell_most(note: &mut Note, number: u64, words: &str, most: u64) {
+    let _ = put(note, &["\n"]);
+    let _ = put(note, &["  "])
+        && put_number(note, number)
+        && put(note, &[words])
+        && put_number(note, most)
+        && put(note, &["\n"]);
+}
+
+/// Tells whether a field is a reference from which too many lead on, and if so, which.
+fn tells_links(known: Known<'_>, walk: &Walk<'_>, field: &Value, note: &mut Note) -> bool {
+    let Some(name) = target_of(field) else {
+        return false;
+    };
+    match size_named(known, name) {
+        Some(size) if size.links < NESTING_LIMIT as u64 => return false,
+        _ => {}
+    }
+    walk.tell_way(note);
+    let _ = put(note, &["\n"]);
+    let _ = put(note, &["  "])
+        && put_quoted(note, name)
+        && put(
+            note,
+            &[": a template from which fewer references lead on\n"],
+        );
+    true
+}
+
+/// Tells whether groups and sequences nest too deep down to a field, and if so, how deep.
+fn tells_depth(known: Known<'_>, walk: &Walk<'_>, field: &Value, note: &mut Note) -> bool {
+    if tells_links(known, walk, field, note) {
+        return true;
+    }
+    let depth = depth_at(known, walk.depth(), field);
+    if depth <= NESTING_LIMIT as u64 {
+        return false;
+    }
+    walk.tell_way(note);
+    let words = " groups and sequences, one in another: at most ";
+    tell_most(note, depth, words, NESTING_LIMIT as u64);
+    true
+}
+
+/// Tells whether the segment of a field can use too many bits, and if so, how many.
+fn tells_bits(known: Known<'_>, walk: &Walk<'_>, field: &Value, note: &mut Note) -> bool {
+    let bits = segment_bits(known, items_of(field, "fields"));
+    if bits <= SEGMENT_LIMIT as u64 {
+        return false;
+    }
+    walk.tell_way(note);
+    tell_most(note, bits, " bits: at most ", SEGMENT_LIMIT as u64);
+    true
+}
+
+/// Tells whether a field is at fault with the code, and if so, why.
+fn tells(
     alloc: Global,
-    place: Place<'_>,
+    known: Known<'_>,
+    walk: &Walk<'_>,
+    field: &Value,
     code: StaticCode,
     note: &mut Note,
-) -> Result<(), AllocError> {
-    let names = index(alloc, place.templates)?;
-    let mut walk = Walk::new(alloc, place.template);
+) -> bool {
+    match code {
+        StaticCode::C4 => tells_depth(known, walk, field, note),
+        StaticCode::C5 => tells_bits(known, walk, field, note),
+        _ => match misfit_at(alloc, known.names, field, code) {
+            Some(misfit) => {
+                walk.tell_way(note);
+                tell(note, &misfit);
+                true
+            }
+            None => false,
+        },
+    }
+}
+
+/// Tells the first field that is at fault with the code, and whether there is one.
+fn tell_first(
+    alloc: Global,
+    known: Known<'_>,
+    template: &Value,
+    code: StaticCode,
+    note: &mut Note,
+) -> Result<bool, AllocError> {
+    let mut walk = Walk::new(alloc, template);
     for _field in 0..u64::MAX {
         let Some(field) = walk.next()? else {
             break;
         };
-        if let Some(misfit) = misfit_at(alloc, &names, field, code) {
-            walk.tell_way(note);
-            tell(note, &misfit);
-            return Ok(());
+        if tells(alloc, known, &walk, field, code, &mut *note) {
+            return Ok(true);
         }
     }
-    let _ = writeln!(note);
+    Ok(false)
+}
+
+/// Tells the first field that is at fault with the code, or what stands behind the place where none is.
+fn tell_field(
+    alloc: Global,
+    known: Known<'_>,
+    template: &Value,
+    code: StaticCode,
+    note: &mut Note,
+) -> Result<(), AllocError> {
+    if !tell_first(alloc, known, template, code, note)? {
+        let _ = put(note, &["\n"]);
+        if matches!(code, StaticCode::C5) {
+            let _ = put(
+                note,
+                &["  it stands in a template that this one refers to\n"],
+            );
+        }
+    }
     Ok(())
 }
 
-/// Tells what is not of the form of a template.
-fn tell_shape(alloc: Global, place: Place<'_>, note: &mut Note) -> Result<(), AllocError> {
-    match shapes::template_misfit(place.template) {
-        Some(misfit) => {
-            tell(note, &misfit);
-            Ok(())
-        }
-        None => tell_field(alloc, place, StaticCode::S1, note),
+/// Tells which earlier template has what stands at a key of another one.
+fn tell_earlier(note: &mut Note, number: u64, earlier: &Value, found: Found<'_>) {
+    let name = name_of(earlier).unwrap_or("");
+    let _ = put(note, &["  "])
+        && put_found(note, found)
+        && put(note, &[": template "])
+        && put_number(note, number)
+        && put(note, &[" "])
+        && put_quoted(note, name)
+        && put(note, &[" has it\n"]);
+}
+
+/// Whether two templates have the same name or the same identifier, whichever stands at the key.
+fn is_same(one: &Value, other: &Value, key: &str) -> bool {
+    match key {
+        "name" => name_of(one) == name_of(other),
+        _ => match id_of(one) {
+            Some(id) => id_of(other) == Some(id),
+            None => false,
+        },
     }
 }
 
 /// Tells which earlier template has the name or the identifier, whichever stands at the key.
 fn tell_twice(place: Place<'_>, key: &'static str, note: &mut Note) {
-    let _ = writeln!(note, ", key \"{key}\"");
+    let _ = put(note, &[", key \"", key, "\"\n"]);
     for (k, other) in place.templates.iter().enumerate() {
         if k >= place.number {
             return;
         }
-        let is_same = match key {
-            "name" => name_of(other) == name_of(place.template),
-            _ => id_of(other).is_some() && id_of(other) == id_of(place.template),
-        };
-        if is_same {
+        if is_same(other, place.template, key) {
             if let Some(value) = entry_of(place.template, key) {
-                let found = Found::of(value);
-                let name = name_of(other).unwrap_or("");
-                let _ = writeln!(note, "  {found}: template {k} {} has it", Quoted(name));
+                tell_earlier(note, k as u64, other, Found::Of(value));
             }
             return;
         }
@@ -103,88 +212,94 @@ fn id_of(template: &Value) -> Option<i64> {
     entry_of(template, "id")?.as_integer()
 }
 
-/// Tells which references are too many, or where groups and sequences nest too deep.
-fn tell_depth(alloc: Global, place: Place<'_>, note: &mut Note) -> Result<(), AllocError> {
-    let names = index(alloc, place.templates)?;
-    let sizes = sizes_of(alloc, &names, place.templates)?;
-    let mut walk = Walk::new(alloc, place.template);
-    for _field in 0..u64::MAX {
-        let Some(field) = walk.next()? else {
-            break;
-        };
-        if let Some(name) = target_of(field) {
-            if size_named(&names, &sizes, name).is_none_or(|size| size.links
-                >= NESTING_LIMIT as u64)
-            {
-                walk.tell_way(note);
-                let _ = writeln!(note);
-                let _ = writeln!(
-                    note,
-                    "  {}: a template from which fewer references lead on",
-                    Quoted(name)
-                );
-                return Ok(());
+/// Tells how many nodes there are up to a template and with it.
+fn tell_nodes(known: Known<'_>, number: usize, note: &mut Note) {
+    let mut nodes: u64 = 0;
+    for (k, size) in known.sizes.iter().enumerate() {
+        if k <= number {
+            if let Some(size) = size {
+                nodes = nodes.saturating_add(size.nodes);
             }
         }
-        let depth = depth_at(&names, &sizes, walk.depth(), field);
-        if depth > NESTING_LIMIT as u64 {
-            walk.tell_way(note);
-            let _ = writeln!(note);
-            let _ = writeln!(
-                note,
-                "  {depth} groups and sequences, one in another: at most {NESTING_LIMIT}"
-            );
-            return Ok(());
-        }
     }
-    let _ = writeln!(note);
-    Ok(())
-}
-
-/// Tells how many nodes there are up to a template and with it.
-fn tell_nodes(alloc: Global, place: Place<'_>, note: &mut Note) -> Result<(), AllocError> {
-    let names = index(alloc, place.templates)?;
-    let sizes = sizes_of(alloc, &names, place.templates)?;
-    let mut nodes: u64 = 0;
-    for (k, size) in sizes.iter().enumerate() {
-        if k <= place.number {
-            nodes = nodes.saturating_add(size.map_or(0, |size| size.nodes));
-        }
-    }
-    let _ = writeln!(note);
-    let _ = writeln!(note, "  {nodes} nodes up to its end: at most {NODE_LIMIT}");
-    Ok(())
+    tell_most(
+        note,
+        nodes,
+        " nodes up to its end: at most ",
+        NODE_LIMIT as u64,
+    );
 }
 
 /// Tells which segment can use too many bits.
-fn tell_bits(alloc: Global, place: Place<'_>, note: &mut Note) -> Result<(), AllocError> {
-    let names = index(alloc, place.templates)?;
-    let sizes = sizes_of(alloc, &names, place.templates)?;
-    let own = segment_bits(&names, &sizes, items_of(place.template, "fields")).saturating_add(1);
+fn tell_bits(
+    alloc: Global,
+    known: Known<'_>,
+    template: &Value,
+    note: &mut Note,
+) -> Result<(), AllocError> {
+    let own = segment_bits(known, items_of(template, "fields")).saturating_add(1);
     if own > SEGMENT_LIMIT as u64 {
-        let _ = writeln!(note);
-        let _ = writeln!(
-            note,
-            "  {own} bits, with that of the identifier: at most {SEGMENT_LIMIT}"
-        );
+        let words = " bits, with that of the identifier: at most ";
+        tell_most(note, own, words, SEGMENT_LIMIT as u64);
         return Ok(());
     }
-    let mut walk = Walk::new(alloc, place.template);
-    for _field in 0..u64::MAX {
-        let Some(field) = walk.next()? else {
-            break;
-        };
-        let bits = segment_bits(&names, &sizes, items_of(field, "fields"));
-        if bits > SEGMENT_LIMIT as u64 {
-            walk.tell_way(note);
-            let _ = writeln!(note);
-            let _ = writeln!(note, "  {bits} bits: at most {SEGMENT_LIMIT}");
-            return Ok(());
+    tell_field(alloc, known, template, StaticCode::C5, note)
+}
+
+/// Tells where in a template a code stands that is one of sizes.
+fn tell_size(
+    alloc: Global,
+    names: &HashMap<String, usize>,
+    place: Place<'_>,
+    code: StaticCode,
+    note: &mut Note,
+) -> Result<(), AllocError> {
+    let sizes = sizes_of(alloc, names, place.templates)?;
+    let known = Known {
+        names,
+        sizes: sizes.as_slice(),
+    };
+    match code {
+        StaticCode::C5 => tell_bits(alloc, known, place.template, note),
+        StaticCode::C6 => {
+            tell_nodes(known, place.number, note);
+            Ok(())
+        }
+        _ => tell_field(alloc, known, place.template, code, note),
+    }
+}
+
+/// Tells where in a template a code stands for which the names of all are looked at.
+fn tell_named(
+    alloc: Global,
+    place: Place<'_>,
+    code: StaticCode,
+    note: &mut Note,
+) -> Result<(), AllocError> {
+    let names = index(alloc, place.templates)?;
+    match code {
+        StaticCode::C4 | StaticCode::C5 | StaticCode::C6 => tell_size(
+            alloc, &names, place, code, note,
+        ),
+        _ => {
+            let known = Known {
+                names: &names,
+                sizes: &[],
+            };
+            tell_field(alloc, known, place.template, code, note)
         }
     }
-    let _ = writeln!(note);
-    let _ = writeln!(note, "  it stands in a template that this one refers to");
-    Ok(())
+}
+
+/// Tells what is not of the form of a template.
+fn tell_shape(alloc: Global, place: Place<'_>, note: &mut Note) -> Result<(), AllocError> {
+    match shapes::template_misfit(place.template) {
+        Some(misfit) => {
+            tell(note, &misfit);
+            Ok(())
+        }
+        None => tell_named(alloc, place, StaticCode::S1, note),
+    }
 }
 
 /// Tells where in a template a code stands.
@@ -197,9 +312,6 @@ pub(crate) fn tell_code(
     tell_template(note, place.number, place.template);
     match code {
         StaticCode::S1 => tell_shape(alloc, place, note),
-        StaticCode::S2 | StaticCode::S3 | StaticCode::S4 | StaticCode::S5 | StaticCode::D8 => {
-            tell_field(alloc, place, code, note)
-        }
         StaticCode::C1 => {
             tell_twice(place, "name", note);
             Ok(())
@@ -208,14 +320,8 @@ pub(crate) fn tell_code(
             tell_twice(place, "id", note);
             Ok(())
         }
-        StaticCode::C3 => {
-            let _ = writeln!(note);
-            let names = index(alloc, place.templates)?;
-            tell_circle(alloc, &names, place.templates, place.number, note)
-        }
-        StaticCode::C4 => tell_depth(alloc, place, note),
-        StaticCode::C5 => tell_bits(alloc, place, note),
-        StaticCode::C6 => tell_nodes(alloc, place, note),
+        StaticCode::C3 => tell_circle(alloc, place.templates, place.number, note),
         StaticCode::Memory => Ok(()),
+        _ => tell_named(alloc, place, code, note),
     }
 }

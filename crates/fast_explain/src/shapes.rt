@@ -1,7 +1,7 @@
 //! Tables that are not of the form of a template or of a field.
 
-use crate::keys::text_of;
-use crate::notes::{Found, Misfit, Right};
+use crate::keys::{has_key, is_one_of, text_of, unknown_key, value_at};
+use crate::notes::{Found, Misfit, Part, Right};
 use toml::{Table, Value};
 
 /// The keys of a template.
@@ -68,56 +68,101 @@ static OPERATORS: [&str; 7] = [
     "tail",
 ];
 
-const NAME: Right = Right::Said("a name, of 1 to 64 letters, digits, _, - and points");
+/// The parts of fields, in the order in which they are looked at.
+static PARTS: [Part; 3] = [Part::Length, Part::Exponent, Part::Mantissa];
 
-const DICTIONARY: Right = Right::Said(
-    "a name other than type, of 1 to 64 letters, digits, _, - and points",
-);
+/// What may stand at a key.
+#[derive(Clone, Copy)]
+enum Form {
+    /// A name, which may not be missing.
+    OwnName,
+    Name,
+    Dictionary,
+    Flag,
+    Fields,
+    Id,
+    /// What a field is, which may not be missing.
+    Kind,
+    Operator,
+    Text,
+    /// Nothing, since there is no operator.
+    NoValue,
+    /// Nothing, since the operator keeps nothing.
+    NoKey,
+}
 
-const TABLE: Right = Right::Said("a table");
+/// A key, and what may stand at it.
+type Rule = (&'static str, Form);
 
-const FIELDS: Right = Right::Said("an array of tables");
+/// The rules of a template.
+static TEMPLATE_RULES: [Rule; 5] = [
+    ("name", Form::OwnName),
+    ("id", Form::Id),
+    ("reset", Form::Flag),
+    ("dictionary", Form::Dictionary),
+    ("fields", Form::Fields),
+];
 
-const FLAG: Right = Right::Said("true or false");
+/// The rules of all fields.
+static FIELD_RULES: [Rule; 3] = [
+    ("kind", Form::Kind),
+    ("name", Form::OwnName),
+    ("optional", Form::Flag),
+];
 
-const TEXT: Right = Right::Said("a text between quotes");
+/// The rules of a group or a sequence.
+static SEGMENT_RULES: [Rule; 1] = [("fields", Form::Fields)];
 
-const ID: Right = Right::Said("a number of 0 to 4294967295");
+/// The rules of a part of a field.
+static PART_RULES: [Rule; 1] = [("name", Form::Name)];
 
-const VALUE_ALONE: Right = Right::Said("nothing, since there is no operator");
+/// The rules of an operator.
+static OPERATOR_RULES: [Rule; 2] = [("op", Form::Operator), ("value", Form::Text)];
 
-const KEY_ALONE: Right = Right::Said(
-    "nothing, since the operator is not copy, increment, delta or tail",
-);
+/// The rules where there is no operator.
+static NONE_RULES: [Rule; 3] = [
+    ("value", Form::NoValue),
+    ("key", Form::NoKey),
+    ("dictionary", Form::NoKey),
+];
+
+/// The rules beside an operator that keeps nothing.
+static CONSTANT_RULES: [Rule; 2] = [("key", Form::NoKey), ("dictionary", Form::NoKey)];
+
+/// The rules beside an operator that keeps a value.
+static KEPT_RULES: [Rule; 2] = [("key", Form::Name), ("dictionary", Form::Dictionary)];
+
+/// What would be right where something stands that has not this form.
+fn right_of(form: Form) -> Right {
+    match form {
+        Form::Kind => Right::OneOf(&KINDS),
+        Form::Operator => Right::OneOf(&OPERATORS),
+        _ => Right::Said(words_of(form)),
+    }
+}
+
+/// What is said of a form.
+fn words_of(form: Form) -> &'static str {
+    match form {
+        Form::OwnName | Form::Name => "a name, of 1 to 64 letters, digits, _, - and points",
+        Form::Dictionary => "a name other than type, of 1 to 64 letters, digits, _, - and points",
+        Form::Flag => "true or false",
+        Form::Fields => "an array of tables",
+        Form::Id => "a number of 0 to 4294967295",
+        Form::Kind | Form::Operator | Form::Text => "a text between quotes",
+        Form::NoValue => "nothing, since there is no operator",
+        Form::NoKey => "nothing, since the operator is not copy, increment, delta or tail",
+    }
+}
 
 /// What does not fit at a key.
 fn at<'a>(key: &'a str, found: Found<'a>, right: Right) -> Option<Misfit<'a>> {
     Some(Misfit {
-        part: None,
+        part: Part::Whole,
         key: Some(key),
         found,
         right,
     })
-}
-
-/// Whether a text is one of these.
-fn is_one_of(words: &[&str], text: &str) -> bool {
-    for word in words {
-        if *word == text {
-            return true;
-        }
-    }
-    false
-}
-
-/// A key that is not one of these.
-fn other_key<'a>(table: &'a Table, known: &'static [&'static str]) -> Option<Misfit<'a>> {
-    for key in table.keys() {
-        if !is_one_of(known, key.as_str()) {
-            return at(key.as_str(), Found::Key, Right::OneOf(known));
-        }
-    }
-    None
 }
 
 /// Whether the byte may stand in a name.
@@ -135,160 +180,157 @@ fn is_name(text: &str) -> bool {
     !text.is_empty() && text.len() <= 64
 }
 
-/// A name that is none, where one stands.
-fn no_name<'a>(table: &'a Table, key: &'static str) -> Option<Misfit<'a>> {
-    let value = table.get(key)?;
-    match value.as_str() {
-        Some(text) if is_name(text) => None,
-        _ => at(key, Found::of(value), NAME),
+/// Whether a text has a form of texts.
+fn suits(text: &str, form: Form) -> bool {
+    match form {
+        Form::Kind => is_one_of(&KINDS, text),
+        Form::Operator => is_one_of(&OPERATORS, text),
+        Form::Dictionary => is_name(text) && text != "type",
+        _ => is_name(text),
     }
 }
 
-/// A name that is none, or missing.
-fn no_own_name<'a>(table: &'a Table) -> Option<Misfit<'a>> {
-    match table.get("name") {
-        Some(_) => no_name(table, "name"),
-        None => at("name", Found::Nothing, NAME),
+/// Whether a value has a form.
+fn fits(value: &Value, form: Form) -> bool {
+    match form {
+        Form::Flag => value.is_bool(),
+        Form::Fields => value.is_array(),
+        Form::Text => value.is_str(),
+        Form::Id => matches!(value.as_integer(), Some(0..=4_294_967_295)),
+        Form::NoValue | Form::NoKey => false,
+        _ => match value.as_str() {
+            Some(text) => suits(text, form),
+            None => false,
+        },
     }
 }
 
-/// A name of a dictionary that is none, where one stands.
-fn no_dictionary<'a>(table: &'a Table) -> Option<Misfit<'a>> {
-    let value = table.get("dictionary")?;
-    match value.as_str() {
-        Some(text) if is_name(text) && text != "type" => None,
-        _ => at("dictionary", Found::of(value), DICTIONARY),
-    }
-}
-
-/// A truth value that is none, where one stands.
-fn no_flag<'a>(table: &'a Table, key: &'static str) -> Option<Misfit<'a>> {
-    let value = table.get(key)?;
-    match value.as_bool() {
-        Some(_) => None,
-        None => at(key, Found::of(value), FLAG),
-    }
-}
-
-/// Fields that are no array, where some stand.
-fn no_fields<'a>(table: &'a Table) -> Option<Misfit<'a>> {
-    let value = table.get("fields")?;
-    match value.as_array() {
-        Some(_) => None,
-        None => at("fields", Found::of(value), FIELDS),
-    }
-}
-
-/// An identifier that is none, where one stands.
-fn no_id<'a>(table: &'a Table) -> Option<Misfit<'a>> {
-    let value = table.get("id")?;
-    match value.as_integer() {
-        Some(number) if 0 <= number && number <= 4_294_967_295 => None,
-        _ => at("id", Found::of(value), ID),
-    }
-}
-
-/// What does not fit in a template, but for its fields.
-pub(crate) fn template_misfit<'a>(template: &'a Value) -> Option<Misfit<'a>> {
-    let Some(table) = template.as_table() else {
-        return no_table(template);
+/// What does not fit at the key of a rule.
+fn broken<'a>(table: &'a Table, key: &'static str, form: Form) -> Option<Misfit<'a>> {
+    let found = match value_at(table, key) {
+        Some(value) if fits(value, form) => return None,
+        Some(value) => Found::Of(value),
+        None if matches!(form, Form::OwnName | Form::Kind) => Found::Nothing,
+        None => return None,
     };
-    other_key(table, &TEMPLATE_KEYS)
-        .or(no_own_name(table))
-        .or(no_id(table))
-        .or(no_flag(table, "reset"))
-        .or(no_dictionary(table))
-        .or(no_fields(table))
+    at(key, found, right_of(form))
+}
+
+/// What does not fit by the first rule that is broken.
+fn first_broken<'a>(table: &'a Table, rules: &[Rule]) -> Option<Misfit<'a>> {
+    for (key, form) in rules {
+        let misfit = broken(table, *key, *form);
+        if misfit.is_some() {
+            return misfit;
+        }
+    }
+    None
+}
+
+/// A key that is not one of these, or what does not fit by the rules.
+fn unfit<'a>(
+    table: &'a Table,
+    keys: &'static [&'static str],
+    rules: &[Rule],
+) -> Option<Misfit<'a>> {
+    match unknown_key(table, keys) {
+        Some(key) => at(key, Found::Key, Right::OneOf(keys)),
+        None => first_broken(table, rules),
+    }
 }
 
 /// A value that is no table.
 fn no_table<'a>(value: &'a Value) -> Option<Misfit<'a>> {
     Some(Misfit {
-        part: None,
+        part: Part::Whole,
         key: None,
-        found: Found::of(value),
-        right: TABLE,
+        found: Found::Of(value),
+        right: Right::Said("a table"),
     })
 }
 
-/// An operator that is none, or a value that is no text, where they stand.
-fn no_operator<'a>(table: &'a Table) -> Option<Misfit<'a>> {
-    if let Some(value) = table.get("op") {
-        match value.as_str() {
-            Some(text) if is_one_of(&OPERATORS, text) => {}
-            _ => return at("op", Found::of(value), Right::OneOf(&OPERATORS)),
-        }
-    }
-    let value = table.get("value")?;
-    match value.as_str() {
-        Some(_) => None,
-        None => at("value", Found::of(value), TEXT),
+/// What does not fit in a template, but for its fields.
+pub(crate) fn template_misfit<'a>(template: &'a Value) -> Option<Misfit<'a>> {
+    match template.as_table() {
+        Some(table) => unfit(table, &TEMPLATE_KEYS, &TEMPLATE_RULES),
+        None => no_table(template),
     }
 }
 
-/// Something that stands beside an operator and has no use there.
-fn no_use<'a>(table: &'a Table, key: &'static str, right: Right) -> Option<Misfit<'a>> {
-    let value = table.get(key)?;
-    at(key, Found::of(value), right)
+/// The rules beside an operator.
+fn rules_beside(operator: &str) -> &'static [Rule] {
+    match operator {
+        "none" => &NONE_RULES,
+        "constant" | "default" => &CONSTANT_RULES,
+        _ => &KEPT_RULES,
+    }
 }
 
 /// What does not fit of an operator and what stands beside it.
 fn operator_misfit<'a>(table: &'a Table) -> Option<Misfit<'a>> {
-    let misfit = no_operator(table);
+    let misfit = first_broken(table, &OPERATOR_RULES);
     if misfit.is_some() {
         return misfit;
     }
-    match text_of(table, "op").unwrap_or("none") {
-        "none" => no_use(table, "value", VALUE_ALONE)
-            .or(no_use(table, "key", KEY_ALONE))
-            .or(no_use(table, "dictionary", KEY_ALONE)),
-        "constant" | "default" => {
-            no_use(table, "key", KEY_ALONE).or(no_use(table, "dictionary", KEY_ALONE))
-        }
-        _ => no_name(table, "key").or(no_dictionary(table)),
-    }
+    first_broken(
+        table,
+        match text_of(table, "op") {
+            Some(operator) => rules_beside(operator),
+            None => &NONE_RULES,
+        },
+    )
 }
 
-/// A misfit in a part of a field.
-fn inside<'a>(part: &'static str, misfit: Option<Misfit<'a>>) -> Option<Misfit<'a>> {
-    let misfit = misfit?;
-    Some(Misfit {
-        part: Some(part),
-        ..misfit
-    })
+/// What does not fit in the value of a part of a field.
+fn inner_misfit<'a>(value: &'a Value, keys: &'static [&'static str]) -> Option<Misfit<'a>> {
+    let Some(table) = value.as_table() else {
+        return no_table(value);
+    };
+    let misfit = unfit(table, keys, &PART_RULES);
+    if misfit.is_some() {
+        return misfit;
+    }
+    operator_misfit(table)
 }
 
 /// What does not fit in a part of a field, where it stands.
-fn part_misfit<'a>(
-    table: &'a Table,
-    part: &'static str,
-    keys: &'static [&'static str],
-) -> Option<Misfit<'a>> {
-    let value = table.get(part)?;
-    let Some(inner) = value.as_table() else {
-        return inside(part, no_table(value));
-    };
-    let misfit = other_key(inner, keys)
-        .or(no_name(inner, "name"))
-        .or(operator_misfit(inner));
-    inside(part, misfit)
+fn part_misfit<'a>(table: &'a Table, part: Part) -> Option<Misfit<'a>> {
+    let value = value_at(table, part.key())?;
+    let misfit = inner_misfit(
+        value,
+        match part {
+            Part::Length => &LENGTH_KEYS,
+            _ => &OPERATOR_KEYS,
+        },
+    )?;
+    Some(Misfit { part, ..misfit })
 }
 
-/// What does not fit in a field of a kind, but for the fields in it.
-fn misfit_of_kind<'a>(table: &'a Table, kind: &str) -> Option<Misfit<'a>> {
+/// The keys of a field of a kind.
+fn keys_of(table: &Table, kind: &str) -> &'static [&'static str] {
     match kind {
-        "group" => other_key(table, &GROUP_KEYS).or(no_fields(table)),
-        "sequence" => other_key(table, &SEQUENCE_KEYS)
-            .or(no_fields(table))
-            .or(part_misfit(table, "length", &LENGTH_KEYS)),
-        "ref" => other_key(table, &REFERENCE_KEYS),
-        "decimal" if table.get("exponent").is_some() || table.get("mantissa").is_some() => {
-            other_key(table, &PARTS_KEYS)
-                .or(part_misfit(table, "exponent", &OPERATOR_KEYS))
-                .or(part_misfit(table, "mantissa", &OPERATOR_KEYS))
-        }
-        _ => other_key(table, &SCALAR_KEYS).or(operator_misfit(table)),
+        "group" => &GROUP_KEYS,
+        "sequence" => &SEQUENCE_KEYS,
+        "ref" => &REFERENCE_KEYS,
+        "decimal" if has_key(table, "exponent") || has_key(table, "mantissa") => &PARTS_KEYS,
+        _ => &SCALAR_KEYS,
     }
+}
+
+/// What does not fit in a field of a kind, but for the fields in it. Keys that a kind has not are told first, so that the rules are
+/// those of all kinds.
+fn misfit_of_kind<'a>(table: &'a Table, kind: &str) -> Option<Misfit<'a>> {
+    let misfit = unfit(table, keys_of(table, kind), &SEGMENT_RULES);
+    if misfit.is_some() {
+        return misfit;
+    }
+    for part in &PARTS {
+        let misfit = part_misfit(table, *part);
+        if misfit.is_some() {
+            return misfit;
+        }
+    }
+    operator_misfit(table)
 }
 
 /// What does not fit in a field, but for the fields in it.
@@ -296,17 +338,9 @@ pub(crate) fn field_misfit<'a>(field: &'a Value) -> Option<Misfit<'a>> {
     let Some(table) = field.as_table() else {
         return no_table(field);
     };
-    let misfit = other_key(table, &FIELD_KEYS);
+    let misfit = unfit(table, &FIELD_KEYS, &FIELD_RULES);
     if misfit.is_some() {
         return misfit;
     }
-    let Some(value) = table.get("kind") else {
-        return at("kind", Found::Nothing, Right::OneOf(&KINDS));
-    };
-    match value.as_str() {
-        Some(kind) if is_one_of(&KINDS, kind) => no_own_name(table)
-            .or(no_flag(table, "optional"))
-            .or(misfit_of_kind(table, kind)),
-        _ => at("kind", Found::of(value), Right::OneOf(&KINDS)),
-    }
+    misfit_of_kind(table, text_of(table, "kind")?)
 }

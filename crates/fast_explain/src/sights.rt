@@ -1,6 +1,6 @@
 //! A second decoder of what is read: it stands at the end where the first one does, and tells at which field.
 
-use crate::notes::{Note, Quoted};
+use crate::notes::{Note, put, put_number, put_quoted};
 use crate::tails::{is_digit, value_of};
 use arrayvec::ArrayVec;
 use fast_decoder::{Decoder, Due, Event, FaultCode, Sink, Stop};
@@ -8,7 +8,6 @@ use fast_template::Templates;
 use fast_tree::{Node, Shape, Template};
 use fast_value::{Code, Limits};
 use std::alloc::Global;
-use std::fmt::Write;
 
 /// How many groups and sequences nest at most.
 const DEPTH: usize = 64;
@@ -54,13 +53,27 @@ pub(crate) struct Shadow<'t> {
 }
 
 /// Whether a code is one of presence maps.
-fn is_of_maps(code: FaultCode) -> bool {
-    matches!(code, FaultCode::Stream(Code::R7 | Code::R8 | Code::L3))
+fn is_of_maps(code: Option<FaultCode>) -> bool {
+    matches!(
+        code,
+        Some(FaultCode::Stream(Code::R7 | Code::R8 | Code::L3))
+    )
 }
 
 /// Whether a code is one of sequences with too many elements.
-fn is_of_counts(code: FaultCode) -> bool {
-    matches!(code, FaultCode::Stream(Code::L2 | Code::L5))
+fn is_of_counts(code: Option<FaultCode>) -> bool {
+    matches!(code, Some(FaultCode::Stream(Code::L2 | Code::L5)))
+}
+
+/// What of a message is at fault with a code, or cut, before its template is known.
+fn part_of_message(code: Option<FaultCode>) -> &'static str {
+    if code.is_none() {
+        "  the presence map or the template identifier of a message"
+    } else if is_of_maps(code) {
+        "  the presence map of a message"
+    } else {
+        "  the template identifier of a message"
+    }
 }
 
 /// The nodes of the segment within a node.
@@ -75,8 +88,9 @@ fn body_of(node: &Node) -> &[u32] {
 fn last_before(body: &[u32], next: Option<u32>) -> Option<u32> {
     let mut last = None;
     for number in body {
-        if next.is_none_or(|next| *number < next) {
-            last = Some(*number);
+        match next {
+            Some(next) if *number >= next => {}
+            _ => last = Some(*number),
         }
     }
     last
@@ -89,8 +103,10 @@ fn tell_node(number: u32, node: &Node, note: &mut Note) {
         Shape::Group { .. } => "group",
         Shape::Sequence { .. } => "sequence",
     };
-    let name = Quoted(node.name.as_str());
-    let _ = write!(note, ", {word} {number} {name}");
+    let _ = put(note, &[", ", word, " "])
+        && put_number(note, u64::from(number))
+        && put(note, &[" "])
+        && put_quoted(note, node.name.as_str());
 }
 
 impl<'t> Shadow<'t> {
@@ -114,13 +130,22 @@ impl<'t> Shadow<'t> {
         }
     }
 
+    /// Takes a piece of the stream, or of its hexadecimal digits.
+    pub(crate) fn take_in(&mut self, piece: &[u8], is_hex: bool) {
+        if is_hex {
+            self.take_digits(piece);
+        } else {
+            self.take(piece);
+        }
+    }
+
     /// Takes bytes of the stream.
-    pub(crate) fn take(&mut self, bytes: &[u8]) {
+    fn take(&mut self, bytes: &[u8]) {
         let _ = self.decoder.feed(bytes, &mut self.hearer);
     }
 
     /// Takes bytes of the stream as hexadecimal digits.
-    pub(crate) fn take_digits(&mut self, text: &[u8]) {
+    fn take_digits(&mut self, text: &[u8]) {
         for character in text {
             if is_digit(*character) {
                 let value = value_of(*character);
@@ -152,33 +177,42 @@ impl<'t> Shadow<'t> {
         }
     }
 
-    /// Tells what of a message of this template is at fault with this code, or cut: the groups and sequences that are open, and what is
-    /// in hand of the innermost one.
-    fn tell_way(&self, template: &Template, code: Option<FaultCode>, note: &mut Note) {
-        let _ = write!(note, "  template {}", Quoted(template.name.as_str()));
-        for number in self.hearer.open.iter() {
-            self.tell_number(*number, note);
-        }
-        let next = match self.decoder.in_hand() {
-            Due::SegmentMap => {
-                let _ = note.write_str(", its presence map");
-                return;
-            }
-            Due::Instruction(number) => Some(number),
-            Due::Nothing => None,
-        };
-        if code.is_some_and(is_of_maps) {
-            let _ = note.write_str(", its presence map");
+    /// Tells what is in hand of a message of this template: of the innermost segment this node, or what lies before it.
+    fn tell_due(
+        &self,
+        template: &Template,
+        code: Option<FaultCode>,
+        next: Option<u32>,
+        note: &mut Note,
+    ) {
+        if is_of_maps(code) {
+            let _ = put(note, &[", its presence map"]);
             return;
         }
         // A sequence that is too long has been passed.
-        let place = if code.is_some_and(is_of_counts) {
+        let place = if is_of_counts(code) {
             last_before((&*self).segment(&*template), next)
         } else {
             next
         };
         if let Some(number) = place {
             self.tell_number(number, note);
+        }
+    }
+
+    /// Tells what of a message of this template is at fault with this code, or cut: the groups and sequences that are open, and what is
+    /// in hand of the innermost one.
+    fn tell_way(&self, template: &Template, code: Option<FaultCode>, note: &mut Note) {
+        let _ = put(note, &["  template "]) && put_quoted(note, template.name.as_str());
+        for number in self.hearer.open.iter() {
+            self.tell_number(*number, note);
+        }
+        match self.decoder.in_hand() {
+            Due::SegmentMap => {
+                let _ = put(note, &[", its presence map"]);
+            }
+            Due::Instruction(number) => self.tell_due(template, code, Some(number), note),
+            Due::Nothing => self.tell_due(template, code, None, note),
         }
     }
 
@@ -193,21 +227,12 @@ impl<'t> Shadow<'t> {
 
     /// Tells what is at fault with this code, or what is cut: a field, or a presence map.
     pub(crate) fn tell_place(&self, code: Option<FaultCode>, note: &mut Note) {
-        match (self.template(), code) {
-            (Some(template), _) => self.tell_way(template, code, note),
-            (None, None) => {
-                let _ = note.write_str(
-                    "  the presence map or the template identifier of a message",
-                );
-            }
-            (None, Some(code)) => {
-                let _ = note.write_str(if is_of_maps(code) {
-                    "  the presence map of a message"
-                } else {
-                    "  the template identifier of a message"
-                });
+        match self.template() {
+            Some(template) => self.tell_way(template, code, note),
+            None => {
+                let _ = put(note, &[part_of_message(code)]);
             }
         }
-        let _ = writeln!(note);
+        let _ = put(note, &["\n"]);
     }
 }

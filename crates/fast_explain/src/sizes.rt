@@ -1,6 +1,6 @@
 //! What templates come to with their references in place.
 
-use crate::keys::{entry_of, has_flag, is_segment, items_of, name_of, target_of, text_of};
+use crate::keys::{has_flag, has_key, is_segment, items_of, name_of, table_at, target_of, text_of};
 use crate::walks::Walk;
 use fast_notation::{NESTING_LIMIT, operator_named};
 use std::alloc::{AllocError, Global};
@@ -8,7 +8,7 @@ use std::collections::HashMap;
 use toml::{Table, Value};
 
 /// What the fields of a template come to. Numbers that are too great stay at the greatest.
-#[derive(Clone, Copy, Debug)]
+#[derive(Clone, Copy)]
 pub(crate) struct Size {
     /// The nodes.
     pub(crate) nodes: u64,
@@ -35,6 +35,21 @@ pub(crate) fn index(
     Ok(names)
 }
 
+/// The number of the template of a name, if there is one.
+pub(crate) fn number_of(names: &HashMap<String, usize>, name: &str) -> Option<usize> {
+    match names.get(name) {
+        Some(number) => Some(*number),
+        None => None,
+    }
+}
+
+/// What is known of the templates of a text: the number of each by its name, and the sizes of those that have one.
+#[derive(Clone, Copy)]
+pub(crate) struct Known<'a> {
+    pub(crate) names: &'a HashMap<String, usize>,
+    pub(crate) sizes: &'a [Option<Size>],
+}
+
 /// The presence bits that the operator of a table uses: one or none.
 fn own_bit(table: &Table, optional: bool) -> u64 {
     match operator_named(text_of(table, "op").unwrap_or("none")) {
@@ -45,11 +60,8 @@ fn own_bit(table: &Table, optional: bool) -> u64 {
 
 /// The presence bits that the operator of a part of a field uses.
 fn part_bit(table: &Table, part: &str, optional: bool) -> u64 {
-    match table.get(part) {
-        Some(value) => match value.as_table() {
-            Some(inner) => own_bit(inner, optional),
-            None => 0,
-        },
+    match table_at(table, part) {
+        Some(inner) => own_bit(inner, optional),
         None => 0,
     }
 }
@@ -63,7 +75,7 @@ fn bits_of(field: &Value) -> u64 {
     match text_of(table, "kind") {
         Some("group") => u64::from(optional),
         Some("sequence") => part_bit(table, "length", optional),
-        Some(_) if table.get("op").is_some() => own_bit(table, optional),
+        Some(_) if has_key(table, "op") => own_bit(table, optional),
         _ => part_bit(table, "exponent", optional).saturating_add(part_bit(
             table, "mantissa", false,
         )),
@@ -71,25 +83,20 @@ fn bits_of(field: &Value) -> u64 {
 }
 
 /// The size of the template of a name, if it is known.
-pub(crate) fn size_named(
-    names: &HashMap<String, usize>,
-    sizes: &[Option<Size>],
-    name: &str,
-) -> Option<Size> {
-    let number = names.get(name)?;
-    *sizes.get(*number)?
+pub(crate) fn size_named(known: Known<'_>, name: &str) -> Option<Size> {
+    let number = number_of(known.names, name)?;
+    *known.sizes.get(number)?
 }
 
 /// The bits that fields use of their segment.
-pub(crate) fn segment_bits(
-    names: &HashMap<String, usize>,
-    sizes: &[Option<Size>],
-    fields: &[Value],
-) -> u64 {
+pub(crate) fn segment_bits(known: Known<'_>, fields: &[Value]) -> u64 {
     let mut bits: u64 = 0;
     for field in fields {
         let more = match target_of(field) {
-            Some(name) => size_named(names, sizes, name).map_or(0, |size| size.bits),
+            Some(name) => match size_named(known, name) {
+                Some(size) => size.bits,
+                None => 0,
+            },
             None => bits_of(field),
         };
         bits = bits.saturating_add(more);
@@ -98,54 +105,82 @@ pub(crate) fn segment_bits(
 }
 
 /// How deep groups and sequences nest down to a field, and in it where it is a reference.
-pub(crate) fn depth_at(
-    names: &HashMap<String, usize>,
-    sizes: &[Option<Size>],
-    around: usize,
-    field: &Value,
-) -> u64 {
+pub(crate) fn depth_at(known: Known<'_>, around: usize, field: &Value) -> u64 {
     let inner = match target_of(field) {
-        Some(name) => size_named(names, sizes, name).map_or(0, |size| size.depth),
+        Some(name) => match size_named(known, name) {
+            Some(size) => size.depth,
+            None => 0,
+        },
         None => u64::from(is_segment(field)),
     };
     inner.saturating_add(around as u64)
 }
 
+/// The size of a template with one field more, of which so many groups and sequences are around, if it is known.
+fn size_with(known: Known<'_>, around: usize, field: &Value, size: Size) -> Option<Size> {
+    let depth = depth_at(known, around, field).max(size.depth);
+    let (nodes, links) = match target_of(field) {
+        Some(name) => {
+            let more = size_named(known, name)?;
+            (more.nodes, more.links.saturating_add(1))
+        }
+        None => (1, 0),
+    };
+    Some(Size {
+        nodes: size.nodes.saturating_add(nodes),
+        depth,
+        links: links.max(size.links),
+        bits: size.bits,
+    })
+}
+
 /// The size of a template, if those are known that it refers to.
-fn size_of(
-    alloc: Global,
-    names: &HashMap<String, usize>,
-    sizes: &[Option<Size>],
-    template: &Value,
-) -> Result<Option<Size>, AllocError> {
-    let mut nodes: u64 = 0;
-    let mut depth = 0;
-    let mut links = 0;
+fn size_of(alloc: Global, known: Known<'_>, template: &Value) -> Result<Option<Size>, AllocError> {
+    let mut size = Some(Size {
+        nodes: 0,
+        depth: 0,
+        links: 0,
+        bits: segment_bits(known, items_of(template, "fields")),
+    });
     let mut walk = Walk::new(alloc, template);
     for _field in 0..u64::MAX {
+        let Some(before) = size else {
+            break;
+        };
         let Some(field) = walk.next()? else {
             break;
         };
-        let more = match target_of(field) {
-            Some(name) => match size_named(names, sizes, name) {
-                Some(size) => {
-                    links = size.links.saturating_add(1).max(links);
-                    size.nodes
-                }
-                None => return Ok(None),
-            },
-            None => 1,
-        };
-        nodes = nodes.saturating_add(more);
-        depth = depth_at(names, sizes, walk.depth(), field).max(depth);
+        size = size_with(known, walk.depth(), field, before);
     }
-    let bits = segment_bits(names, sizes, items_of(template, "fields"));
-    Ok(Some(Size {
-        nodes,
-        depth,
-        links,
-        bits,
-    }))
+    Ok(size)
+}
+
+/// The sizes of templates, where some are known.
+fn next_sizes(
+    alloc: Global,
+    known: Known<'_>,
+    templates: &[Value],
+) -> Result<Vec<Option<Size>>, AllocError> {
+    let mut next = Vec::new(alloc);
+    for (k, template) in templates.iter().enumerate() {
+        let size = match known.sizes.get(k) {
+            Some(Some(size)) => Some(*size),
+            _ => size_of(alloc, known, template)?,
+        };
+        next.push(size)?;
+    }
+    Ok(next)
+}
+
+/// How many sizes are known.
+fn count_of(sizes: &[Option<Size>]) -> usize {
+    let mut count: usize = 0;
+    for size in sizes {
+        if size.is_some() {
+            count = count.saturating_add(1);
+        }
+    }
+    count
 }
 
 /// The sizes of all templates from which no more than 64 references lead on.
@@ -156,21 +191,13 @@ pub(crate) fn sizes_of(
 ) -> Result<Vec<Option<Size>>, AllocError> {
     let mut sizes = vec![in alloc; None; templates.len()]?;
     for _round in 0..=NESTING_LIMIT {
-        let mut next = Vec::new(alloc);
-        let mut learnt = false;
-        for (k, template) in templates.iter().enumerate() {
-            let known = match sizes.get(k) {
-                Some(Some(size)) => Some(*size),
-                _ => {
-                    let size = size_of(alloc, names, &sizes, template)?;
-                    learnt = learnt || size.is_some();
-                    size
-                }
-            };
-            next.push(known)?;
-        }
-        sizes = next;
-        if !learnt {
+        let before = count_of(sizes.as_slice());
+        let known = Known {
+            names,
+            sizes: sizes.as_slice(),
+        };
+        sizes = next_sizes(alloc, known, templates)?;
+        if count_of(sizes.as_slice()) == before {
             break;
         }
     }

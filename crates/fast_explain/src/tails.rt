@@ -2,7 +2,7 @@
 
 ghost use Rattle.std.specs.Prelude.{◌≡◌};
 
-use crate::notes::Note;
+use crate::notes::{Note, put};
 use crate::sights::Shadow;
 use fast_stream::FaultCode;
 use fast_template::Templates;
@@ -71,8 +71,9 @@ impl Tail {
         self.cells.get(at).copied().unwrap_or(0)
     }
 
-    /// Tells the bytes of the stream around one of them.
+    /// Tells the offset of a byte of the stream, and the bytes around it.
     fn tell(&self, place: u64, note: &mut Note) {
+        let _ = write!(note, "  offset 0x{place:x}:");
         let mut digits = self.dropped;
         for number in self.count.saturating_sub(KEPT as u64)..self.count {
             let byte = self.byte(number);
@@ -84,7 +85,7 @@ impl Tail {
                 digits = digits.saturating_add(1);
             }
         }
-        let _ = writeln!(note);
+        let _ = put(note, &["\n"]);
     }
 }
 
@@ -105,13 +106,13 @@ fn tell_digit(note: &mut Note, number: u64, place: u64, is_last: bool, digit: u8
     }
     let is_it = number == place;
     if !is_last {
-        let _ = write!(note, "{}", if is_it { " [" } else { " " });
+        let _ = put(note, &[if is_it { " [" } else { " " }]);
     }
     if let Some(character) = DIGITS.get(digit as usize) {
         let _ = note.write_char(char::from(*character));
     }
     if is_last && is_it {
-        let _ = write!(note, "]");
+        let _ = put(note, &["]"]);
     }
 }
 
@@ -146,11 +147,7 @@ impl<'t, S> Kept<'t, S> {
     {
         self.tail.take(piece);
         if let Some(shadow) = &mut self.shadow {
-            if self.tail.is_hex {
-                shadow.take_digits(piece);
-            } else {
-                shadow.take(piece);
-            }
+            shadow.take_in(piece, self.tail.is_hex);
         }
     }
 
@@ -164,7 +161,6 @@ impl<'t, S> Kept<'t, S> {
     /// Tells the offset of the last of so many bytes of the stream, and the bytes around it.
     pub fn tell_bytes(&self, consumed: u64, note: &mut Note) {
         if let Some(place) = consumed.checked_sub(1) {
-            let _ = write!(note, "  offset 0x{place:x}:");
             self.tail.tell(place, note);
         }
     }

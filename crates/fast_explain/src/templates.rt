@@ -3,12 +3,24 @@
 ghost use Rattle.std.specs.Prelude.{◌≤◌, length};
 
 use crate::documents::{tell_document, tell_place};
-use crate::notes::{NOTE_ROOM, Note};
+use crate::keys::value_at;
+use crate::notes::{NOTE_ROOM, Note, put};
 use crate::places::{Place, tell_code};
 use fast_notation::{StaticCode, StaticFault};
 use std::alloc::{AllocError, Global};
 use std::fmt::Write;
-use toml::Table;
+use toml::{Table, Value};
+
+/// The templates of a document.
+fn templates_of(document: &Table) -> &[Value] {
+    let Some(value) = value_at(document, "template") else {
+        return &[];
+    };
+    match value.as_array() {
+        Some(items) => items.as_slice(),
+        None => &[],
+    }
+}
 
 /// Tells where a fault stands in the document of a text.
 fn tell_fault(
@@ -22,13 +34,7 @@ fn tell_fault(
         return Ok(());
     };
     let number = number as usize;
-    let Some(value) = document.get("template") else {
-        return Ok(());
-    };
-    let Some(items) = value.as_array() else {
-        return Ok(());
-    };
-    let templates = items.as_slice();
+    let templates = templates_of(document);
     match templates.get(number) {
         Some(template) => {
             let place = Place {
@@ -42,6 +48,26 @@ fn tell_fault(
     }
 }
 
+/// Tells where a fault stands in a text that is UTF-8.
+fn tell_read(
+    alloc: Global,
+    text: &str,
+    fault: StaticFault,
+    note: &mut Note,
+) -> Result<(), AllocError> {
+    match toml::table_from_str(alloc, text) {
+        Ok(document) => tell_fault(alloc, &document, fault, note),
+        Err(error) => {
+            if let Some(span) = error.span() {
+                let bytes = text.as_bytes();
+                tell_place(note, &bytes[..span.start.min(bytes.len())]);
+                let _ = put(note, &["  ", error.message(), "\n"]);
+            }
+            Ok(())
+        }
+    }
+}
+
 /// Tells where a fault stands in a text.
 fn tell_text(
     alloc: Global,
@@ -49,22 +75,12 @@ fn tell_text(
     fault: StaticFault,
     note: &mut Note,
 ) -> Result<(), AllocError> {
-    let text = match str::from_utf8(bytes) {
-        Ok(text) => text,
+    match str::from_utf8(bytes) {
+        Ok(text) => tell_read(alloc, text, fault, note),
         Err(error) => {
             let place = error.valid_up_to().min(bytes.len());
             tell_place(note, &bytes[..place]);
-            let _ = writeln!(note, "  a byte that is not UTF-8");
-            return Ok(());
-        }
-    };
-    match toml::table_from_str(alloc, text) {
-        Ok(document) => tell_fault(alloc, &document, fault, note),
-        Err(error) => {
-            if let Some(span) = error.span() {
-                tell_place(note, &bytes[..span.start.min(bytes.len())]);
-                let _ = writeln!(note, "  {}", error.message());
-            }
+            let _ = put(note, &["  a byte that is not UTF-8\n"]);
             Ok(())
         }
     }

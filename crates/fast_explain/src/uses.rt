@@ -1,7 +1,7 @@
 //! Operators that do not suit their types, and initial values that are missing or mean nothing.
 
-use crate::keys::{has_flag, text_of};
-use crate::notes::{Found, Misfit, Right};
+use crate::keys::{has_flag, has_key, is_one_of, table_at, text_of, value_at};
+use crate::notes::{Found, Misfit, Part, Right};
 use fast_notation::StaticCode;
 use fast_value::{InitialFault, Kind, Value as Initial, parse_initial};
 use std::alloc::Global;
@@ -21,19 +21,18 @@ static FOR_DECIMALS: [&str; 5] = ["none", "constant", "default", "copy", "delta"
 struct Use<'a> {
     /// The table that has its keys.
     table: &'a Table,
-    part: Option<&'static str>,
+    part: Part,
     kind: Kind,
     optional: bool,
 }
 
-/// The kind of a name.
+/// The kind of a name, but for decimals.
 fn kind_named(name: &str) -> Option<Kind> {
     match name {
         "uInt32" => Some(Kind::UInt32),
         "int32" => Some(Kind::Int32),
         "uInt64" => Some(Kind::UInt64),
         "int64" => Some(Kind::Int64),
-        "decimal" => Some(Kind::Decimal),
         "ascii" => Some(Kind::Ascii),
         "unicode" => Some(Kind::Unicode),
         "bytes" => Some(Kind::Bytes),
@@ -66,52 +65,82 @@ fn initial_of(kind: Kind) -> &'static str {
     }
 }
 
-/// Whether a word is one of these.
-fn is_one_of(words: &[&str], word: &str) -> bool {
-    for known in words {
-        if *known == word {
-            return true;
-        }
-    }
-    false
-}
-
 /// Whether an initial value is none of its use.
 fn is_no_initial(alloc: Global, used: Use<'_>, text: &str) -> bool {
     match parse_initial(alloc, used.kind, text) {
-        Ok(Initial::I(number)) => used.part == Some("exponent") && !(-63 <= number && number <= 63),
+        Ok(Initial::I(number)) => matches!(used.part, Part::Exponent)
+            && !(-63 <= number && number <= 63),
         Ok(_) => false,
         Err(InitialFault::S3) => true,
         Err(InitialFault::Memory) => false,
     }
 }
 
+/// What has to stand beside a mandatory default.
+fn right_default(used: Use<'_>) -> &'static str {
+    match used.part {
+        Part::Mantissa => "the value that is taken by default",
+        _ => "the value that is taken by default, or optional = true",
+    }
+}
+
+/// What the initial value of a use has to be.
+fn right_initial(used: Use<'_>) -> &'static str {
+    match used.part {
+        Part::Exponent => "1 to 20 digits, perhaps behind a -, for a number of -63 to 63",
+        _ => initial_of(used.kind),
+    }
+}
+
+/// What has to stand in the place of an initial value, if that is what the code says.
+fn other_initial(alloc: Global, used: Use<'_>, text: &str, code: StaticCode) -> Option<Right> {
+    match code {
+        StaticCode::S3 if is_no_initial(alloc, used, text) => Some(Right::Said(right_initial(
+            used,
+        ))),
+        _ => None,
+    }
+}
+
+/// The initial value that has to stand beside an operator, if that is what the code says.
+fn missing_initial(used: Use<'_>, operator: &str, code: StaticCode) -> Option<Right> {
+    match code {
+        StaticCode::S4 if operator == "constant" => Some(Right::Said(
+            "the value that the constant has",
+        )),
+        StaticCode::S5 if operator == "default" && !used.optional => Some(Right::Said(right_default(
+            used,
+        ))),
+        _ => None,
+    }
+}
+
+/// What would be right of the use of an operator, if it is at fault as the code says.
+fn right_of(alloc: Global, used: Use<'_>, operator: &str, code: StaticCode) -> Option<Right> {
+    if matches!(code, StaticCode::S2) {
+        let suiting = operators_of(used.kind);
+        if is_one_of(suiting, operator) {
+            return None;
+        }
+        return Some(Right::OneOf(suiting));
+    }
+    match text_of(used.table, "value") {
+        Some(text) => other_initial(alloc, used, text, code),
+        None => missing_initial(used, operator, code),
+    }
+}
+
 /// What is wrong with the use of an operator, if it is what the code says.
 fn use_misfit<'a>(alloc: Global, used: Use<'a>, code: StaticCode) -> Option<Misfit<'a>> {
     let operator = text_of(used.table, "op").unwrap_or("none");
-    let suiting = operators_of(used.kind);
-    let initial = text_of(used.table, "value");
-    let (key, found, right) = match code {
-        StaticCode::S2 if !is_one_of(suiting, operator) => {
-            ("op", Found::Text(operator), Right::OneOf(suiting))
-        }
-        StaticCode::S3 => match initial {
-            Some(text) if is_no_initial(alloc, used, text) => {
-                ("value", Found::Text(text), Right::Said(right_initial(used)))
-            }
-            _ => return None,
-        },
-        StaticCode::S4 if operator == "constant" && initial.is_none() => {
-            (
-                "value",
-                Found::Nothing,
-                Right::Said("the value that the constant has"),
-            )
-        }
-        StaticCode::S5 if operator == "default" && !used.optional && initial.is_none() => {
-            ("value", Found::Nothing, Right::Said(right_default(used)))
-        }
-        _ => return None,
+    let right = right_of(alloc, used, operator, code)?;
+    let key = match code {
+        StaticCode::S2 => "op",
+        _ => "value",
+    };
+    let found = match value_at(used.table, key) {
+        Some(value) if value.is_str() => Found::Of(value),
+        _ => Found::Nothing,
     };
     Some(Misfit {
         part: used.part,
@@ -121,38 +150,69 @@ fn use_misfit<'a>(alloc: Global, used: Use<'a>, code: StaticCode) -> Option<Misf
     })
 }
 
-/// What has to stand beside a mandatory default.
-fn right_default(used: Use<'_>) -> &'static str {
-    match used.part {
-        Some("mantissa") => "the value that is taken by default",
-        _ => "the value that is taken by default, or optional = true",
-    }
-}
-
-/// What the initial value of a use has to be.
-fn right_initial(used: Use<'_>) -> &'static str {
-    match used.part {
-        Some("exponent") => "1 to 20 digits, perhaps behind a -, for a number of -63 to 63",
-        _ => initial_of(used.kind),
-    }
-}
-
 /// What is wrong with the use of an operator by a part of a field, if it is what the code says.
 fn part_misfit<'a>(
     alloc: Global,
     table: &'a Table,
-    part: &'static str,
+    part: Part,
     kind: Kind,
     optional: bool,
     code: StaticCode,
 ) -> Option<Misfit<'a>> {
     let used = Use {
-        table: table.get(part)?.as_table()?,
-        part: Some(part),
+        table: table_at(table, part.key())?,
+        part,
         kind,
         optional,
     };
     use_misfit(alloc, used, code)
+}
+
+/// What is wrong with the use of an operator by a field that has no parts, if it is what the code says.
+fn whole_misfit<'a>(
+    alloc: Global,
+    table: &'a Table,
+    kind: Option<Kind>,
+    optional: bool,
+    code: StaticCode,
+) -> Option<Misfit<'a>> {
+    let used = Use {
+        table,
+        part: Part::Whole,
+        kind: kind?,
+        optional,
+    };
+    use_misfit(alloc, used, code)
+}
+
+/// What is wrong with the uses of operators by a decimal, if it is what the code says.
+fn decimal_misfit<'a>(
+    alloc: Global,
+    table: &'a Table,
+    optional: bool,
+    code: StaticCode,
+) -> Option<Misfit<'a>> {
+    if !has_key(table, "exponent") && !has_key(table, "mantissa") {
+        return whole_misfit(alloc, table, Some(Kind::Decimal), optional, code);
+    }
+    let exponent = part_misfit(alloc, table, Part::Exponent, Kind::Int32, optional, code);
+    let mantissa = part_misfit(alloc, table, Part::Mantissa, Kind::Int64, false, code);
+    exponent.or(mantissa)
+}
+
+/// What is wrong with the uses of operators by a field of a kind, if it is what the code says.
+fn misfit_of_kind<'a>(
+    alloc: Global,
+    table: &'a Table,
+    name: &str,
+    optional: bool,
+    code: StaticCode,
+) -> Option<Misfit<'a>> {
+    match name {
+        "sequence" => part_misfit(alloc, table, Part::Length, Kind::UInt32, optional, code),
+        "decimal" => decimal_misfit(alloc, table, optional, code),
+        _ => whole_misfit(alloc, table, kind_named(name), optional, code),
+    }
 }
 
 /// What is wrong with the uses of operators by a field, if it is what the code says.
@@ -162,28 +222,6 @@ pub(crate) fn field_misfit<'a>(
     code: StaticCode,
 ) -> Option<Misfit<'a>> {
     let table = field.as_table()?;
-    let optional = has_flag(table, "optional");
     let name = text_of(table, "kind")?;
-    match name {
-        "sequence" => part_misfit(alloc, table, "length", Kind::UInt32, optional, code),
-        "decimal" if table.get("exponent").is_some() || table.get("mantissa").is_some() => {
-            part_misfit(alloc, table, "exponent", Kind::Int32, optional, code).or(part_misfit(
-                alloc,
-                table,
-                "mantissa",
-                Kind::Int64,
-                false,
-                code,
-            ))
-        }
-        _ => {
-            let used = Use {
-                table,
-                part: None,
-                kind: kind_named(name)?,
-                optional,
-            };
-            use_misfit(alloc, used, code)
-        }
-    }
+    misfit_of_kind(alloc, table, name, has_flag(table, "optional"), code)
 }

@@ -1,9 +1,8 @@
 //! The fields of a template as they stand in a text, one after the other, and the way that leads to each.
 
 use crate::keys::{items_of, name_of};
-use crate::notes::{Note, Quoted};
+use crate::notes::{Note, put, put_number, put_quoted};
 use std::alloc::{AllocError, Global};
-use std::fmt::Write;
 use toml::Value;
 
 /// How many fields a way names at its begin and at its end; those between are left out.
@@ -42,19 +41,21 @@ impl<'a> Walk<'a> {
                 passed: 0,
             })?;
         }
+        self.last = self.following();
+        Ok(self.last)
+    }
+
+    /// The first field of the innermost table that has one left. Tables without one are left.
+    fn following(&mut self) -> Option<&'a Value> {
         for _level in 0..=self.levels.len() {
-            let Some(level) = self.levels.last_mut() else {
-                break;
-            };
+            let level = self.levels.last_mut()?;
             if let Some(field) = level.fields.get(level.passed) {
                 level.passed = level.passed.saturating_add(1);
-                self.last = Some(field);
-                return Ok(self.last);
+                return Some(field);
             }
             let _ = self.levels.pop();
         }
-        self.last = None;
-        Ok(None)
+        None
     }
 
     /// How many groups and sequences are around the field that was come to last.
@@ -68,7 +69,7 @@ impl<'a> Walk<'a> {
         for (k, level) in self.levels.iter().enumerate() {
             let number = level.passed.saturating_sub(1);
             if k == NAMED && count > 2 * NAMED {
-                let _ = write!(note, ", ..");
+                let _ = put(note, &[", .."]);
             }
             if k < NAMED || count - k <= NAMED {
                 tell_field(note, number, level.fields.get(number));
@@ -79,18 +80,20 @@ impl<'a> Walk<'a> {
 
 /// Tells which of the fields of a table one is.
 fn tell_field(note: &mut Note, number: usize, field: Option<&Value>) {
-    let _ = write!(note, ", field {number}");
+    let _ = put(note, &[", field "]) && put_number(note, number as u64);
     if let Some(field) = field {
         if let Some(name) = name_of(field) {
-            let _ = write!(note, " {}", Quoted(name));
+            let _ = put(note, &[" "]) && put_quoted(note, name);
         }
     }
 }
 
 /// Begins the line of a place with a template.
 pub(crate) fn tell_template(note: &mut Note, number: usize, template: &Value) {
-    let _ = match name_of(template) {
-        Some(name) => write!(note, "  template {}", Quoted(name)),
-        None => write!(note, "  template {number}"),
-    };
+    let begun = put(note, &["  template "]);
+    let _ = begun
+        && match name_of(template) {
+            Some(name) => put_quoted(note, name),
+            None => put_number(note, number as u64),
+        };
 }
