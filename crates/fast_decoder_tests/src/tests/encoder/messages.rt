@@ -50,8 +50,10 @@ fn end(alloc: Global, open: &mut Vec<Open>) -> Open {
 
 /// A digit's value.
 fn half_of(digit: u8) -> u8 {
-    let digits = b"0123456789ABCDEF";
-    digits.iter().position(|d| *d == digit).unwrap_or(0) as u8
+    match digit {
+        b'A'..=b'F' => digit.wrapping_sub(b'A' - 10),
+        _ => digit.wrapping_sub(b'0'),
+    }
 }
 
 /// The bytes of digits, two for each.
@@ -214,9 +216,8 @@ fn slots_of(alloc: Global, words: &str) -> Result<Option<Slots>, AllocError> {
 
 /// The number of a message's template.
 fn template_of(words: &str) -> Option<u32> {
-    let word = words.split_whitespace().next()?;
-    let (_, number) = word.split_once('m')?;
-    number.parse().ok()
+    let (word, _) = words.split_once(' ').unwrap_or((words, ""));
+    word.strip_prefix('m')?.parse().ok()
 }
 
 /// The message of these words, where they are one.
