@@ -243,11 +243,11 @@ fn stopped_at(fault: Fault) -> Account {
 }
 
 /// Feeds a piece. Without a contract, so that a call is cheap to prove, as those of the next functions.
-fn feed<S: Sink>(decoder: &mut Decoder<'_>, piece: &[u8], sink: &mut S) -> Result<(), Fault> {
+fn feed(decoder: &mut Decoder<'_>, piece: &[u8], sink: &mut Script<'_>) -> Result<(), Fault> {
     decoder.feed(piece, sink)
 }
 
-fn push<S: Sink>(decoder: &mut Decoder<'_>, byte: u8, sink: &mut S) -> Result<(), Fault> {
+fn push(decoder: &mut Decoder<'_>, byte: u8, sink: &mut Script<'_>) -> Result<(), Fault> {
     decoder.push(byte, sink)
 }
 
@@ -281,11 +281,11 @@ fn expect(rt: &impl Abort, is_right: bool, of: &str, at: usize) {
 }
 
 /// Feeds the bytes in pieces of this size, as far as there is no fault.
-fn feed_pieces<S: Sink>(
+fn feed_pieces(
     decoder: &mut Decoder<'_>,
     bytes: &[u8],
     size: usize,
-    sink: &mut S,
+    sink: &mut Script<'_>,
 ) -> Account
     requires { 0 < size }
 {
@@ -299,7 +299,7 @@ fn feed_pieces<S: Sink>(
 }
 
 /// Pushes the bytes, as far as there is no fault.
-fn push_all<S: Sink>(decoder: &mut Decoder<'_>, bytes: &[u8], sink: &mut S) -> Account {
+fn push_all(decoder: &mut Decoder<'_>, bytes: &[u8], sink: &mut Script<'_>) -> Account {
     let mut answer = Ok(());
     for byte in bytes {
         if answer.is_ok() {
@@ -310,7 +310,7 @@ fn push_all<S: Sink>(decoder: &mut Decoder<'_>, bytes: &[u8], sink: &mut S) -> A
 }
 
 /// Feeds the pieces one after the other, as far as there is no fault.
-fn feed_each<S: Sink>(decoder: &mut Decoder<'_>, pieces: &[&[u8]], sink: &mut S) -> Account {
+fn feed_each(decoder: &mut Decoder<'_>, pieces: &[&[u8]], sink: &mut Script<'_>) -> Account {
     let mut answer = Ok(());
     for piece in pieces {
         if answer.is_ok() {

@@ -3,7 +3,7 @@
 use super::{
     Account, Case, LENIENT, Script, account_of, expect, expect_case, feed, reset, stopped_at,
 };
-use fast_decoder::{Decoder, Fault, FaultCode, Sink};
+use fast_decoder::{Decoder, Fault, FaultCode};
 use fast_template::VECTORS;
 use fast_value::Code;
 use std::process::Abort;
@@ -24,7 +24,7 @@ const WRONG: &[&[u8]] = &[
 ];
 
 /// Feeds the pieces in one call. Without a contract, so that a call is cheap to prove.
-fn feed_all<S: Sink>(decoder: &mut Decoder<'_>, pieces: &[&[u8]], sink: &mut S) -> Account {
+fn feed_all(decoder: &mut Decoder<'_>, pieces: &[&[u8]], sink: &mut Script<'_>) -> Account {
     let answer = decoder.feed_all(pieces, sink);
     account_of(decoder, answer)
 }
