@@ -24,7 +24,7 @@ mod worked;
 ghost use Rattle.std.specs.Prelude.{◌<◌};
 
 use fast_decoder::{Decoder, Event, Fault, MakeError, Recorded, Recorder, Sink, Stop};
-use fast_template::{StaticFault, Templates, VECTORS};
+use fast_template::{StaticFault, Templates};
 use fast_value::{Limits, Scalar};
 use itoa::{Buffer, Integer};
 use rows::{Columns, Row, bytes_of, row_of};
@@ -243,11 +243,11 @@ fn stopped_at(fault: Fault) -> Account {
 }
 
 /// Feeds a piece. Without a contract, so that a call is cheap to prove, as those of the next functions.
-fn feed<S: Sink>(decoder: &mut Decoder<'_>, piece: &[u8], sink: &mut S) -> Result<(), Fault> {
+fn feed(decoder: &mut Decoder<'_>, piece: &[u8], sink: &mut Script<'_>) -> Result<(), Fault> {
     decoder.feed(piece, sink)
 }
 
-fn push<S: Sink>(decoder: &mut Decoder<'_>, byte: u8, sink: &mut S) -> Result<(), Fault> {
+fn push(decoder: &mut Decoder<'_>, byte: u8, sink: &mut Script<'_>) -> Result<(), Fault> {
     decoder.push(byte, sink)
 }
 
@@ -281,11 +281,11 @@ fn expect(rt: &impl Abort, is_right: bool, of: &str, at: usize) {
 }
 
 /// Feeds the bytes in pieces of this size, as far as there is no fault.
-fn feed_pieces<S: Sink>(
+fn feed_pieces(
     decoder: &mut Decoder<'_>,
     bytes: &[u8],
     size: usize,
-    sink: &mut S,
+    sink: &mut Script<'_>,
 ) -> Account
     requires { 0 < size }
 {
@@ -299,7 +299,7 @@ fn feed_pieces<S: Sink>(
 }
 
 /// Pushes the bytes, as far as there is no fault.
-fn push_all<S: Sink>(decoder: &mut Decoder<'_>, bytes: &[u8], sink: &mut S) -> Account {
+fn push_all(decoder: &mut Decoder<'_>, bytes: &[u8], sink: &mut Script<'_>) -> Account {
     let mut answer = Ok(());
     for byte in bytes {
         if answer.is_ok() {
@@ -310,7 +310,7 @@ fn push_all<S: Sink>(decoder: &mut Decoder<'_>, bytes: &[u8], sink: &mut S) -> A
 }
 
 /// Feeds the pieces one after the other, as far as there is no fault.
-fn feed_each<S: Sink>(decoder: &mut Decoder<'_>, pieces: &[&[u8]], sink: &mut S) -> Account {
+fn feed_each(decoder: &mut Decoder<'_>, pieces: &[&[u8]], sink: &mut Script<'_>) -> Account {
     let mut answer = Ok(());
     for piece in pieces {
         if answer.is_ok() {
@@ -382,17 +382,10 @@ fn expect_line(
     Ok(())
 }
 
-/// The row comes of a new decoder, however it is cut.
-fn expect_row_anyhow(
-    rt: &impl Abort,
-    alloc: Global,
-    set: &Templates,
-    row: &Row<'_>,
-) -> Result<(), Fail> {
-    let mut decoder = decoder_of(alloc, set, row.limits)?;
-    expect_row(rt, &mut decoder, row);
-    expect_row_cut(rt, &mut decoder, row);
-    Ok(())
+/// The row comes of a decoder, however it is cut.
+fn expect_row_anyhow(rt: &impl Abort, decoder: &mut Decoder<'_>, row: &Row<'_>) {
+    expect_row(rt, decoder, row);
+    expect_row_cut(rt, decoder, row);
 }
 
 /// The row on a line comes of the template set, however it is cut.
@@ -405,7 +398,7 @@ fn expect_line_cut(
     let columns = Columns::of(line);
     let bytes = bytes_of(alloc, columns.bytes)?;
     let row = row_of(columns, &bytes)?;
-    expect_row_anyhow(rt, alloc, set, &row)
+    expect_of(rt, alloc, set, row.limits, Case::Comes(&row))
 }
 
 /// Each row of a table comes of the template set.
@@ -425,9 +418,17 @@ fn expect_rows(rt: &impl Abort, alloc: Global, text: &str, tables: &[&str]) -> R
     Ok(())
 }
 
-/// What is shown by a new decoder of the built-in set.
+/// What is shown by a new decoder.
 #[derive(Clone, Copy)]
-enum Case {
+enum Case<'t> {
+    /// A row comes, however it is cut.
+    Comes(&'t Row<'t>),
+    /// The steps of this name are read back that are not refused.
+    ReadsBack(&'t str, &'t str),
+    /// A recorder keeps the events of these bytes.
+    Keeps(&'t [u8], &'t str),
+    /// Any two bytes end in events or a fault.
+    Ends,
     /// Pieces are fed as one.
     AsOne,
     /// Pieces are fed up to a fault.
@@ -447,9 +448,15 @@ fn expect_shown(
     rt: &impl Abort,
     alloc: Global,
     decoder: &mut Decoder<'_>,
-    case: Case,
+    case: Case<'_>,
 ) -> Result<(), Fail> {
     match case {
+        Case::Comes(row) => expect_row_anyhow(rt, decoder, row),
+        Case::ReadsBack(name, steps) => {
+            return encoder::expect_heard(rt, alloc, decoder, name, steps);
+        }
+        Case::Keeps(bytes, events) => sinks::expect_kept(rt, alloc, decoder, bytes, events),
+        Case::Ends => sinks::expect_all_ends(rt, decoder),
         Case::AsOne => pieces::expect_as_one(rt, decoder),
         Case::UpToFault => pieces::expect_up_to_fault(rt, decoder),
         Case::StopsBySink => sinks::expect_stops(rt, decoder),
@@ -461,8 +468,25 @@ fn expect_shown(
 }
 
 /// A new decoder shows it. A function that makes a decoder is dear to prove, so that there is one for all.
-fn expect_case(rt: &impl Abort, alloc: Global, case: Case) -> Result<(), Fail> {
-    let set = set_of(alloc, VECTORS)?;
-    let mut decoder = decoder_of(alloc, &set, LENIENT)?;
+fn expect_of(
+    rt: &impl Abort,
+    alloc: Global,
+    set: &Templates,
+    limits: Limits,
+    case: Case<'_>,
+) -> Result<(), Fail> {
+    let mut decoder = decoder_of(alloc, set, limits)?;
     expect_shown(rt, alloc, &mut decoder, case)
+}
+
+/// A new decoder of the set with this text shows it.
+fn expect_case(
+    rt: &impl Abort,
+    alloc: Global,
+    text: &str,
+    limits: Limits,
+    case: Case<'_>,
+) -> Result<(), Fail> {
+    let set = set_of(alloc, text)?;
+    expect_of(rt, alloc, &set, limits, case)
 }

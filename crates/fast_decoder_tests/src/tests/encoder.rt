@@ -20,7 +20,7 @@ mod rows;
 mod values;
 mod worked;
 
-use super::{LENIENT, Script, decoder_of, feed, set_of};
+use super::{Case, LENIENT, Script, expect_of, feed, set_of};
 use fast_decoder::{Decoder, MakeError};
 use fast_encoder::{EncodeFault, Encoder};
 use fast_template::Templates;
@@ -161,18 +161,19 @@ fn is_read(alloc: Global, decoder: &mut Decoder<'_>, step: &Step<'_>) -> Result<
     is_heard(alloc, decoder, step.due, events.as_str().trim())
 }
 
-/// The steps that are not refused are read back.
-fn expect_heard(
+/// The steps of this name that are not refused are read back.
+pub fn expect_heard(
     rt: &impl Abort,
     alloc: Global,
     decoder: &mut Decoder<'_>,
-    row: &Row<'_>,
+    name: &str,
+    steps: &str,
 ) -> Result<(), Fail> {
-    for line in row.steps.lines() {
+    for line in steps.lines() {
         let step = Step::of(line);
         if !step.is_refused() {
             let is_read = is_read(alloc, decoder, &step)?;
-            expect(rt, is_read, row.name, line);
+            expect(rt, is_read, name, line);
         }
     }
     Ok(())
@@ -190,8 +191,8 @@ fn expect_read(
         strict,
         ..row.limits
     };
-    let mut decoder = decoder_of(alloc, set, limits)?;
-    expect_heard(rt, alloc, &mut decoder, row)
+    let case = Case::ReadsBack(row.name, row.steps);
+    expect_of(rt, alloc, set, limits, case)
 }
 
 /// A row comes of the set, with or without the messages that are refused, and is read back in strict mode or in lenient.

@@ -208,7 +208,7 @@ fn put_between(text: &mut String, front: &str, word: &str, after: &str) -> Resul
 const FIELD: &str = "{kind='uInt32', optional=true, op='copy', name='f";
 
 /// A template of 300 optional copies.
-fn wide_text(alloc: Global) -> Result<String, AllocError> {
+pub fn wide_text(alloc: Global) -> Result<String, AllocError> {
     let mut text = String::new(alloc);
     put(
         &mut text,

@@ -1,7 +1,10 @@
 //! Streams that are fed as a list of pieces.
 
-use super::{Account, Case, Script, account_of, expect, expect_case, feed, reset, stopped_at};
-use fast_decoder::{Decoder, Fault, FaultCode, Sink};
+use super::{
+    Account, Case, LENIENT, Script, account_of, expect, expect_case, feed, reset, stopped_at,
+};
+use fast_decoder::{Decoder, Fault, FaultCode};
+use fast_template::VECTORS;
 use fast_value::Code;
 use std::process::Abort;
 use std::test::Fail;
@@ -21,7 +24,7 @@ const WRONG: &[&[u8]] = &[
 ];
 
 /// Feeds the pieces in one call. Without a contract, so that a call is cheap to prove.
-fn feed_all<S: Sink>(decoder: &mut Decoder<'_>, pieces: &[&[u8]], sink: &mut S) -> Account {
+fn feed_all(decoder: &mut Decoder<'_>, pieces: &[&[u8]], sink: &mut Script<'_>) -> Account {
     let answer = decoder.feed_all(pieces, sink);
     account_of(decoder, answer)
 }
@@ -60,7 +63,7 @@ pub fn expect_as_one(rt: &impl Abort, decoder: &mut Decoder<'_>) {
 
 #[test]
 fn pieces_are_fed_as_one(rt: HostRuntime) -> Result<(), Fail> {
-    expect_case(&rt, rt.alloc(), Case::AsOne)
+    expect_case(&rt, rt.alloc(), VECTORS, LENIENT, Case::AsOne)
 }
 
 /// The pieces are fed up to a fault, and no piece behind it.
@@ -77,5 +80,5 @@ pub fn expect_up_to_fault(rt: &impl Abort, decoder: &mut Decoder<'_>) {
 
 #[test]
 fn pieces_are_fed_up_to_a_fault(rt: HostRuntime) -> Result<(), Fail> {
-    expect_case(&rt, rt.alloc(), Case::UpToFault)
+    expect_case(&rt, rt.alloc(), VECTORS, LENIENT, Case::UpToFault)
 }

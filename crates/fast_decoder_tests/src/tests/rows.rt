@@ -109,11 +109,20 @@ impl Columns<'_> {
 /// Sets what a word says of the limits.
 fn set_limit(limits: &mut Limits, word: &str) -> Option<()> {
     match word.split_once('=') {
-        Some(("text", number)) => limits.max_text = number.parse().ok()?,
-        Some(("elements", number)) => limits.max_elements = number.parse().ok()?,
-        Some(("total", number)) => limits.max_total = number.parse().ok()?,
-        Some(_) => return None,
-        None => limits.strict = is_strict(word)?,
+        Some((name, number)) => set_number(limits, name, number.parse().ok()?),
+        None => {
+            limits.strict = is_strict(word)?;
+            Some(())
+        }
+    }
+}
+
+fn set_number(limits: &mut Limits, name: &str, number: u32) -> Option<()> {
+    match name {
+        "text" => limits.max_text = number as usize,
+        "elements" => limits.max_elements = number,
+        "total" => limits.max_total = number,
+        _ => return None,
     }
     Some(())
 }

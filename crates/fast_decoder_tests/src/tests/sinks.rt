@@ -5,10 +5,10 @@ use super::rows::{Columns, row_of};
 use super::worked::{LONG, LONG_EVENTS};
 use super::{
     Case, LENIENT, STRICT, Script, account_of, decoder_of, expect, expect_case, expect_line,
-    expect_row, feed, feed_each, push, read, reset, set_of, stopped_at,
+    expect_row, feed, feed_each, push, read, reset, stopped_at,
 };
 use fast_decoder::{Decoder, Event, Fault, FaultCode, Recorded, Sink};
-use fast_template::VECTORS;
+use fast_template::{Templates, VECTORS};
 use fast_value::Code;
 use std::alloc::Global;
 use std::process::Abort;
@@ -23,7 +23,7 @@ fn has_stopped(decoder: &Decoder<'_>, answer: Result<(), Fault>, fault: Fault) -
 }
 
 /// Whether a decoder that has stopped with this fault stays so, whatever it is fed.
-fn stays_stopped<S: Sink>(decoder: &mut Decoder<'_>, sink: &mut S, fault: Fault) -> bool {
+fn stays_stopped(decoder: &mut Decoder<'_>, sink: &mut Script<'_>, fault: Fault) -> bool {
     for _ in 0..3 {
         for piece in [LONG, &[]] {
             let answer = feed(decoder, piece, sink);
@@ -63,7 +63,7 @@ pub fn expect_stops(rt: &impl Abort, decoder: &mut Decoder<'_>) {
 
 #[test]
 fn a_sink_stops_the_decoder(rt: HostRuntime) -> Result<(), Fail> {
-    expect_case(&rt, rt.alloc(), Case::StopsBySink)
+    expect_case(&rt, rt.alloc(), VECTORS, LENIENT, Case::StopsBySink)
 }
 
 /// The event that was kept.
@@ -101,41 +101,42 @@ fn are_due(events: &str, kept: &[Recorded]) -> bool {
 }
 
 /// A recorder keeps the events of a message.
-fn expect_kept(
+pub fn expect_kept(
     rt: &impl Abort,
     alloc: Global,
-    text: &str,
+    decoder: &mut Decoder<'_>,
     bytes: &[u8],
     events: &str,
-) -> Result<(), Fail> {
-    let set = set_of(alloc, text)?;
-    let mut decoder = decoder_of(alloc, &set, STRICT)?;
+) {
     let mut script = Script::keeping(alloc);
-    let answer = feed(&mut decoder, bytes, &mut script);
+    let answer = feed(decoder, bytes, &mut script);
     let is_kept = answer.is_ok() && are_due(events, script.kept());
     expect(rt, is_kept, "kept", script.kept().len());
-    Ok(())
 }
 
 #[test]
 fn a_recorder_keeps_each_event(rt: HostRuntime) -> Result<(), Fail> {
     let alloc = rt.alloc();
-    expect_kept(&rt, alloc, VECTORS, LONG, LONG_EVENTS)?;
+    let case = Case::Keeps(LONG, LONG_EVENTS);
+    expect_case(&rt, alloc, VECTORS, STRICT, case)?;
     let events = thousand_events(alloc)?;
-    expect_kept(&rt, alloc, CONSTANTS, THOUSAND, &events)
+    let case = Case::Keeps(THOUSAND, &events);
+    expect_case(&rt, alloc, CONSTANTS, STRICT, case)
 }
+
+const CLAIM: &[u8] = &[0xC0, 0x82, 0x0F, 0x7F, 0x7F, 0x7F, 0xFF];
+
+const TOO_MANY: Fault = Fault {
+    code: FaultCode::Stream(Code::L2),
+    place: 7,
+};
 
 /// Whether a claim of too many elements stops the decoder.
 fn is_stopped_by_a_claim(decoder: &mut Decoder<'_>) -> bool {
     let mut script = Script::of("m1");
-    let fault = Fault {
-        code: FaultCode::Stream(Code::L2),
-        place: 7,
-    };
-    let claim = [0xC0, 0x82, 0x0F, 0x7F, 0x7F, 0x7F, 0xFF];
-    let answer = feed(decoder, &claim, &mut script);
-    has_stopped(decoder, answer, fault)
-        && stays_stopped(decoder, &mut script, fault)
+    let answer = feed(decoder, CLAIM, &mut script);
+    has_stopped(decoder, answer, TOO_MANY)
+        && stays_stopped(decoder, &mut script, TOO_MANY)
         && script.is_played()
 }
 
@@ -151,7 +152,7 @@ pub fn expect_stays(rt: &impl Abort, alloc: Global, decoder: &mut Decoder<'_>) -
 
 #[test]
 fn a_fault_stays_until_reset(rt: HostRuntime) -> Result<(), Fail> {
-    expect_case(&rt, rt.alloc(), Case::StaysStopped)
+    expect_case(&rt, rt.alloc(), VECTORS, LENIENT, Case::StaysStopped)
 }
 
 /// Messages that are cut: within an integer behind the identifier, twice within the first field, and in an element.
@@ -201,7 +202,7 @@ pub fn expect_forgets(
 
 #[test]
 fn a_reset_forgets(rt: HostRuntime) -> Result<(), Fail> {
-    expect_case(&rt, rt.alloc(), Case::Forgets)
+    expect_case(&rt, rt.alloc(), VECTORS, LENIENT, Case::Forgets)
 }
 
 /// Texts that are cut and joined.
@@ -229,13 +230,17 @@ fn expect_events(
 /// only compared come out the same.
 #[test]
 fn feeds_take_no_memory(rt: HostRuntime) -> Result<(), Fail> {
-    let Ok(set) = read(rt.alloc(), VECTORS) else {
-        return Ok(());
-    };
-    let Ok(mut decoder) = decoder_of(rt.alloc(), &set, LENIENT) else {
-        return Ok(());
-    };
-    expect_both(&rt, &mut decoder)
+    match read(rt.alloc(), VECTORS) {
+        Ok(set) => expect_no_memory(&rt, rt.alloc(), &set),
+        Err(_) => Ok(()),
+    }
+}
+
+fn expect_no_memory(rt: &impl Abort, alloc: Global, set: &Templates) -> Result<(), Fail> {
+    match decoder_of(alloc, set, LENIENT) {
+        Ok(mut decoder) => expect_both(rt, &mut decoder),
+        Err(_) => Ok(()),
+    }
 }
 
 /// The events of two streams of the built-in set.
@@ -273,7 +278,7 @@ fn expect_ends(rt: &impl Abort, decoder: &mut Decoder<'_>, first: u8) {
 }
 
 /// The same of all first bytes.
-fn expect_all_ends(rt: &impl Abort, decoder: &mut Decoder<'_>) {
+pub fn expect_all_ends(rt: &impl Abort, decoder: &mut Decoder<'_>) {
     for first in 0..=255u8 {
         expect_ends(rt, decoder, first);
     }
@@ -284,8 +289,5 @@ const PLAIN: &str = "[[template]]\nname = 'T'\nid = 1\nfields = [{kind='uInt32',
 
 #[test]
 fn any_two_bytes_end_in_events_or_a_fault(rt: HostRuntime) -> Result<(), Fail> {
-    let set = set_of(rt.alloc(), PLAIN)?;
-    let mut decoder = decoder_of(rt.alloc(), &set, STRICT)?;
-    expect_all_ends(&rt, &mut decoder);
-    Ok(())
+    expect_case(&rt, rt.alloc(), PLAIN, STRICT, Case::Ends)
 }

@@ -91,6 +91,20 @@ fn join_tail(
     Ok(())
 }
 
+/// Joins what was sent with what is kept of its base.
+fn join_sent(
+    field: &FieldInstruction,
+    previous: Previous<'_>,
+    sent: Sent<'_>,
+    buffer: &mut Vec<u8>,
+) -> Result<(), Failed> {
+    match sent {
+        Sent::TextDelta(length, part) => join_delta(field, previous, length, part, buffer),
+        Sent::Value(value) => join_tail(field, previous, value, buffer),
+        _ => Ok(()),
+    }
+}
+
 /// What an operator gives, with a text joined in the buffer.
 fn answer<'a>(
     field: &'a FieldInstruction,
@@ -102,11 +116,7 @@ fn answer<'a>(
     if !needs_join(field.operator, bit, sent) {
         return Ok(decide(field, previous, bit, sent)?);
     }
-    match sent {
-        Sent::TextDelta(length, part) => join_delta(field, previous, length, part, buffer)?,
-        Sent::Value(value) => join_tail(field, previous, value, buffer)?,
-        _ => {}
-    }
+    join_sent(field, previous, sent, buffer)?;
     Ok(joined(field.kind, buffer)?)
 }
 

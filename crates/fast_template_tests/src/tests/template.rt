@@ -63,7 +63,7 @@ fn expect_within(
     (before, after): (&str, &str),
     text: &str,
     want: Due,
-) -> Result<(), Fail> {
+) -> Result<(), AllocError> {
     let whole = joined(alloc, &[before, text, after])?;
     expect_fault(rt, alloc, whole.as_str(), want, text);
     Ok(())
@@ -76,7 +76,7 @@ fn expect_all_within(
     around: (&str, &str),
     texts: &[&str],
     want: Due,
-) -> Result<(), Fail> {
+) -> Result<(), AllocError> {
     for text in texts {
         expect_within(rt, alloc, around, text, want)?;
     }
@@ -89,7 +89,7 @@ fn expect_faults(
     alloc: Global,
     around: (&str, &str),
     faults: Faults,
-) -> Result<(), Fail> {
+) -> Result<(), AllocError> {
     for (want, texts) in faults {
         expect_all_within(rt, alloc, around, texts, *want)?;
     }

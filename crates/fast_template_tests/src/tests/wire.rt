@@ -349,10 +349,15 @@ fn entities_byte_by_byte(rt: HostRuntime) {
     }
     let is_too_long = w.push(1) == Step::TooLong;
     expect(&rt, is_too_long, "too long", w.as_slice());
+    let begins_anew = begins_anew(&mut w);
+    expect(&rt, begins_anew, "whole", w.as_slice());
+}
+
+/// Whether an entity that is cleared is whole behind two bytes, and keeps them.
+fn begins_anew(w: &mut Entity) -> bool {
     w.clear();
     let is_whole = w.push(0x7f) == Step::More && w.push(0x80) == Step::Whole;
-    let is_kept = w.as_slice() == [0x7f, 0x80].as_slice();
-    expect(&rt, is_whole && is_kept, "whole", w.as_slice());
+    is_whole && w.as_slice() == [0x7f, 0x80].as_slice()
 }
 
 /// An integer, and which function writes it.

@@ -50,17 +50,25 @@ fn end(alloc: Global, open: &mut Vec<Open>) -> Open {
 
 /// A digit's value.
 fn half_of(digit: u8) -> u8 {
-    let digits = b"0123456789ABCDEF";
-    digits.iter().position(|d| *d == digit).unwrap_or(0) as u8
+    match digit {
+        b'A'..=b'F' => digit.wrapping_sub(b'A' - 10),
+        _ => digit.wrapping_sub(b'0'),
+    }
+}
+
+/// The byte of two digits.
+fn byte_of(pair: &[u8]) -> u8 {
+    match pair {
+        [high, low] => half_of(*high).wrapping_mul(16).wrapping_add(half_of(*low)),
+        _ => 0,
+    }
 }
 
 /// The bytes of digits, two for each.
 fn bytes_of(alloc: Global, digits: &[u8]) -> Result<Vec<u8>, AllocError> {
     let mut bytes = Vec::new(alloc);
     for pair in digits.chunks(2) {
-        if let [high, low] = pair {
-            bytes.push(half_of(*high).wrapping_mul(16).wrapping_add(half_of(*low)))?;
-        }
+        bytes.push(byte_of(pair))?;
     }
     Ok(bytes)
 }
@@ -177,9 +185,9 @@ fn add_plain(alloc: Global, open: &mut Vec<Open>, word: &str) -> Result<bool, Al
     Ok(true)
 }
 
-/// Whether a word begins a group or a sequence.
+/// Whether a word begins a message, a group or a sequence.
 fn is_opening(word: &str) -> bool {
-    matches!(word.as_bytes().first(), Some(b'g' | b's'))
+    matches!(word.as_bytes().first(), Some(b'm' | b'g' | b's'))
 }
 
 /// Adds a word of a message.
@@ -194,10 +202,9 @@ fn add_word(alloc: Global, open: &mut Vec<Open>, word: &str) -> Result<bool, All
     }
 }
 
-/// Adds the words of a message, whose first is the message's own.
+/// Adds the words of a message.
 fn add_words(alloc: Global, open: &mut Vec<Open>, words: &str) -> Result<bool, AllocError> {
-    open.push(Open::new(alloc))?;
-    for word in words.split_whitespace().skip(1) {
+    for word in words.split_whitespace() {
         if !add_word(alloc, open, word)? {
             return Ok(false);
         }
@@ -214,9 +221,8 @@ fn slots_of(alloc: Global, words: &str) -> Result<Option<Slots>, AllocError> {
 
 /// The number of a message's template.
 fn template_of(words: &str) -> Option<u32> {
-    let word = words.split_whitespace().next()?;
-    let (_, number) = word.split_once('m')?;
-    number.parse().ok()
+    let (word, _) = words.split_once(' ').unwrap_or((words, ""));
+    word.strip_prefix('m')?.parse().ok()
 }
 
 /// The message of these words, where they are one.

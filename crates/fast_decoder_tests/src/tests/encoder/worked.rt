@@ -1,10 +1,8 @@
 //! Messages of a set with templates of every kind.
 
-use super::super::put;
+use super::super::limits::wide_text;
 use super::expect_rows;
 use fast_template::VECTORS;
-use itoa::Buffer;
-use std::alloc::{AllocError, Global};
 use std::test::Fail;
 
 const MESSAGES: &[&str] = &[
@@ -109,33 +107,6 @@ const TEXTS: &[&str] = &[
 #[test]
 fn texts(rt: HostRuntime) -> Result<(), Fail> {
     expect_rows(&rt, rt.alloc(), VECTORS, TEXTS)
-}
-
-/// Adds a field with this number.
-fn put_field(text: &mut String, number: u32) -> Result<(), AllocError> {
-    let mut buffer = Buffer::new();
-    put(
-        text,
-        &[
-            "{kind='uInt32', name='f",
-            buffer.format(number),
-            "', optional=true, op='copy'},",
-        ],
-    )
-}
-
-/// A template of 300 optional fields.
-fn wide_text(alloc: Global) -> Result<String, AllocError> {
-    let mut text = String::new(alloc);
-    put(
-        &mut text,
-        &["[[template]]\nname = 'Wide'\nid = 1\nfields = ["],
-    )?;
-    for i in 0..300u32 {
-        put_field(&mut text, i)?;
-    }
-    put(&mut text, &["]"])?;
-    Ok(text)
 }
 
 const WIDE: &[&str] = &[

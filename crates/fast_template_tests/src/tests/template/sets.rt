@@ -101,11 +101,22 @@ fn has_parts(set: &Templates) -> bool {
     is_template(set, 14, &[15, 16, 18], false) && is_template(set, 8, &[], true) && is_seven(set, 2)
 }
 
+/// The set is spelled so.
+fn expect_set(
+    rt: &impl Abort,
+    alloc: Global,
+    set: &Templates,
+    want: &str,
+) -> Result<(), AllocError> {
+    let spelled = spelled(alloc, set)?;
+    expect(rt, spelled.as_str() == want, spelled.as_str(), want.len());
+    Ok(())
+}
+
 /// The set of a text is spelled so.
 fn expect_spelled(rt: &impl Abort, alloc: Global, text: &str, want: &str) -> Result<(), Fail> {
     let set = set_of(alloc, text)?;
-    let spelled = spelled(alloc, &set)?;
-    expect(rt, spelled.as_str() == want, spelled.as_str(), text.len());
+    expect_set(rt, alloc, &set, want)?;
     Ok(())
 }
 
@@ -206,7 +217,12 @@ const TOO_MANY_BITS: Faults = &[
 ];
 
 /// Texts behind a template with so many fields have what is due.
-fn expect_behind(rt: &impl Abort, alloc: Global, count: usize, faults: Faults) -> Result<(), Fail> {
+fn expect_behind(
+    rt: &impl Abort,
+    alloc: Global,
+    count: usize,
+    faults: Faults,
+) -> Result<(), AllocError> {
     let text = copying(alloc, count)?;
     expect_faults(rt, alloc, (text.as_str(), ""), faults)
 }
@@ -214,7 +230,8 @@ fn expect_behind(rt: &impl Abort, alloc: Global, count: usize, faults: Faults) -
 #[test]
 fn a_message_has_1022_bits(rt: HostRuntime) -> Result<(), Fail> {
     expect_behind(&rt, rt.alloc(), 1021, ENOUGH_BITS)?;
-    expect_behind(&rt, rt.alloc(), 1022, TOO_MANY_BITS)
+    expect_behind(&rt, rt.alloc(), 1022, TOO_MANY_BITS)?;
+    Ok(())
 }
 
 /// A number and a text, each with an entry.

@@ -3,6 +3,8 @@
 use super::{Faults, expect_faults, finds, set_of};
 use StaticCode::{C1, C2, D8, S1, S2, S3, S4, S5};
 use fast_template::StaticCode;
+use std::alloc::{AllocError, Global};
+use std::process::Abort;
 use std::test::Fail;
 
 const ALL_FORMS: &str =
@@ -177,32 +179,35 @@ const REST: Faults = &[
     (Some((S1, Some(1))), &["[[template]]\nname='B'\nid='1'", "[[template]]\nname='B'\nfields=1\n[[template]]\nname='A'"]),
 ];
 
-/// What stands around texts, and what they have.
-const PASSES: &[((&str, &str), Faults)] = &[
-    (("", ""), WHOLE),
-    (
-        (
-            "[[template]]\nname='A'\n[[template]]\nname='B'\nfields=[",
-            "]",
-        ),
-        SECOND_FIELDS,
-    ),
-    (("[[template]]\nname='A'\n", ""), KEYS),
-    (("[[template]]\nname='A'\nfields=[", "]"), FIELDS),
-    (("[[template]]\nname='A'\nfields=[", "]"), TWO_CODES),
-    (
-        (
-            "[[template]]\nname='A'\nid=1\nfields=[{kind='ref', name='X'}, {kind='uInt32', name='x', op='constant'}]\n",
-            "",
-        ),
-        REST,
-    ),
-];
+const SECOND: (&str, &str) = (
+    "[[template]]\nname='A'\n[[template]]\nname='B'\nfields=[",
+    "]",
+);
+
+const FIRST: (&str, &str) = ("[[template]]\nname='A'\nfields=[", "]");
+
+const BEHIND: (&str, &str) = (
+    "[[template]]\nname='A'\nid=1\nfields=[{kind='ref', name='X'}, {kind='uInt32', name='x', op='constant'}]\n",
+    "",
+);
+
+/// What texts and templates have. A table of all that stands around texts, and of what they have, would be dear to prove.
+fn expect_templates(rt: &impl Abort, alloc: Global) -> Result<(), AllocError> {
+    expect_faults(rt, alloc, ("", ""), WHOLE)?;
+    expect_faults(rt, alloc, SECOND, SECOND_FIELDS)?;
+    expect_faults(rt, alloc, ("[[template]]\nname='A'\n", ""), KEYS)
+}
+
+/// What fields and later templates have.
+fn expect_fields(rt: &impl Abort, alloc: Global) -> Result<(), AllocError> {
+    expect_faults(rt, alloc, FIRST, FIELDS)?;
+    expect_faults(rt, alloc, FIRST, TWO_CODES)?;
+    expect_faults(rt, alloc, BEHIND, REST)
+}
 
 #[test]
 fn texts_have_the_faults_of_the_passes(rt: HostRuntime) -> Result<(), Fail> {
-    for (around, faults) in PASSES {
-        expect_faults(&rt, rt.alloc(), *around, faults)?;
-    }
+    expect_templates(&rt, rt.alloc())?;
+    expect_fields(&rt, rt.alloc())?;
     Ok(())
 }
