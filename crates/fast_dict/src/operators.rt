@@ -24,7 +24,7 @@ use fast_value::{Code, Kind, Scalar};
 pub use integers::integer_delta;
 pub use table::{Sent, checked, decide, needs_join, received, replaced};
 pub use texts::{Kept, checked_text, is_utf8, joined, sized, subtract, tail_base, tail_keeps};
-pub use unsent::{Left, leave};
+pub use unsent::{Left, leave, null_empties};
 
 /// What an operator gives.
 #[derive(Clone, Copy, Debug)]

@@ -14,7 +14,7 @@ use Rattle.fast_tree.specs.meaning.Entries.{keeps_value}
 use Rattle.fast_dict.specs.declared.slots.Slots.{Slots}
 use Rattle.fast_dict.specs.meaning.Answers.{kept_text}
 use Rattle.fast_dict.specs.meaning.Dictionary.{Dictionary, PreviousData, undefined, empty, assigned, previous_at, write_at}
-use Rattle.fast_dict.specs.meaning.Operators.{decide, decide_by, nothing, unsent, start_value, zero_in, tail_base, of_kind, with_tail}
+use Rattle.fast_dict.specs.meaning.Operators.{decide, decide_by, nothing, unsent, start_value, zero_in, tail_base, of_kind, with_tail, null_empties}
 use Rattle.fast_dict.specs.device.Held.{text_size}
 use Rattle.fast_dict.specs.meaning.Slots.{slots_dictionary, slots_texts_fit, HoldsAscii}
 use Rattle.fast_stream.specs.meaning.Fields.{sent_text}
@@ -23,7 +23,7 @@ use Rattle.fast_stream.specs.device.GrammarReaders.{reader_of}
 use Rattle.fast_units.specs.device.Deciding.{IsDecided}
 use Rattle.fast_items.specs.device.FieldsAs.{IsFieldAs, GivesWhole, reader_in}
 use Rattle.fast_units.specs.device.NextUnits.{IsNextText, text_or_null}
-use Rattle.fast_units.specs.device.TextDecisions.{is_emptied, IsTextDecided}
+use Rattle.fast_units.specs.device.TextDecisions.{IsTextDecided}
 use Rattle.fast_items.specs.device.TextItems.{SendsText, text_source, text_taken, HoldsNothing, IsPutText, IsSentText, IsFirstTail}
 use Rattle.fast_units.specs.declared.progress.Progress.TheVariants.{Whole}
 use Rattle.fast_units.specs.declared.source.ValueSource.{ValueSource}
@@ -114,12 +114,12 @@ tail_alone (x ∷ part) = by (leb_tells (length (x ∷ part)) 0)
 -- What is decided of a text that was sent.
 module _ (f : FieldData) (optional : Bool) (operator : Operator) (entry : ℕ) (old new : Dictionary) (scratch piece text : List ℕ) (said : IsFieldAs f Ascii optional operator entry) where
   -- It stands in the scratch, and the entry, if there is one, is as it was.
-  pub scratch_decided : operator ≢ Op.Constant → operator ≢ Op.Delta → is_emptied operator ≡ false → new ≡ old → scratch ≡ text
+  pub scratch_decided : operator ≢ Op.Constant → operator ≢ Op.Delta → null_empties operator ≡ false → new ≡ old → scratch ≡ text
       → IsTextDecided (decide f (previous_at f.entry old) true (sent_text f.kind (Some text))) f old new scratch piece (Ok From.Scratch)
   scratch_decided no_constant no_delta left same h =
       let e = checked_ascii f.kind text said.kind in
       text_as f old new scratch piece (Ok From.Scratch)
-      (decided_plain f (previous_at f.entry old) text (ascii_is_text f.kind said.kind) (λ i. no_constant (sym said.operator ∙ i)) (λ i. no_delta (sym said.operator ∙ i)) (ap is_emptied said.operator ∙ left))
+      (decided_plain f (previous_at f.entry old) text (ascii_is_text f.kind said.kind) (λ i. no_constant (sym said.operator ∙ i)) (λ i. no_delta (sym said.operator ∙ i)) (ap null_empties said.operator ∙ left))
       (text_given f old new scratch piece From.Scratch text (AsciiText text) e (checked_is f.kind text (AsciiText text) e) (ap (λ t. Some (value_of_text f.kind t)) h) same)
 
   kept_at : keeps_value operator ≡ true → entry < length old → new ≡ write_at (Some entry) (assigned Ascii (AsciiText text)) old
@@ -168,7 +168,7 @@ first_whole optional entry room rest old new scratch text n next within nothing_
 
 -- The text is put where it stays.
 module _ (operator : Operator) (entry : ℕ) (old new : Slots) (scratch : List ℕ) where
-  scratch_by : (text : List ℕ) (o : Operator) → operator ≡ o → SendsText o → is_emptied o ≡ false → text_source o ≡ From.Scratch → o ≢ Op.Constant → o ≢ Op.Delta → new ≡ old → scratch ≡ text
+  scratch_by : (text : List ℕ) (o : Operator) → operator ≡ o → SendsText o → null_empties o ≡ false → text_source o ≡ From.Scratch → o ≢ Op.Constant → o ≢ Op.Delta → new ≡ old → scratch ≡ text
       → IsPutText operator entry (Some text) old new scratch (text_source operator)
   scratch_by text o e sends left stands no_constant no_delta same h =
       let source : text_source operator ≡ From.Scratch = ap text_source e ∙ stands in
@@ -177,7 +177,7 @@ module _ (operator : Operator) (entry : ℕ) (old new : Slots) (scratch : List �
         tt,
         tt,
         λ f optional piece said serves. scratch_decided f optional operator entry (slots_dictionary old) (slots_dictionary new) scratch piece text said
-            (λ i. no_constant (sym e ∙ i)) (λ i. no_delta (sym e ∙ i)) (ap is_emptied e ∙ left) (ap slots_dictionary same) h,
+            (λ i. no_constant (sym e ∙ i)) (λ i. no_delta (sym e ∙ i)) (ap null_empties e ∙ left) (ap slots_dictionary same) h,
       )
 
   pub scratch_put : (text : List ℕ) → (operator ≡ Op.None) ⊎ (operator ≡ Op.Default) → new ≡ old → scratch ≡ text → IsPutText operator entry (Some text) old new scratch (text_source operator)
@@ -205,27 +205,27 @@ module _ (operator : Operator) (entry : ℕ) (old new : Slots) (scratch : List �
       )
 
   -- NULL leaves the entry as it is, or makes it empty.
-  left_by : (o : Operator) → operator ≡ o → SendsText o → is_emptied o ≡ false → o ≢ Op.Constant → new ≡ old → IsPutText operator entry None old new scratch From.Absent
+  left_by : (o : Operator) → operator ≡ o → SendsText o → null_empties o ≡ false → o ≢ Op.Constant → new ≡ old → IsPutText operator entry None old new scratch From.Absent
   left_by o e sends left no_constant same = (
     subst SendsText (sym e) sends,
     tt,
     tt,
     λ f optional piece said serves. absent_left f (slots_dictionary old) (slots_dictionary new) scratch piece
-        (λ i. no_constant (sym e ∙ sym said.operator ∙ i)) (ap is_emptied (said.operator ∙ e) ∙ left) (ap slots_dictionary same),
+        (λ i. no_constant (sym e ∙ sym said.operator ∙ i)) (ap null_empties (said.operator ∙ e) ∙ left) (ap slots_dictionary same),
   )
 
   pub null_left : (operator ≡ Op.None) ⊎ (operator ≡ Op.Default) → new ≡ old → IsPutText operator entry None old new scratch From.Absent
   null_left (inl e) same = left_by Op.None e tt refl (λ i. absurd (cc i)) same
   null_left (inr e) same = left_by Op.Default e tt refl (λ i. absurd (cc i)) same
 
-  emptied_by : (o : Operator) → operator ≡ o → SendsText o → is_emptied o ≡ true → keeps_value o ≡ true → o ≢ Op.Constant → slots_dictionary new ≡ write_at (Some entry) empty (slots_dictionary old)
+  emptied_by : (o : Operator) → operator ≡ o → SendsText o → null_empties o ≡ true → keeps_value o ≡ true → o ≢ Op.Constant → slots_dictionary new ≡ write_at (Some entry) empty (slots_dictionary old)
       → IsPutText operator entry None old new scratch From.Absent
   emptied_by o e sends empties keeps no_constant written = (
     subst SendsText (sym e) sends,
     tt,
     tt,
     λ f optional piece said serves. absent_emptied f (slots_dictionary old) (slots_dictionary new) scratch piece
-        (λ i. no_constant (sym e ∙ sym said.operator ∙ i)) (ap is_emptied (said.operator ∙ e) ∙ empties)
+        (λ i. no_constant (sym e ∙ sym said.operator ∙ i)) (ap null_empties (said.operator ∙ e) ∙ empties)
         (written ∙ ap (λ x. write_at x empty (slots_dictionary old)) (sym (said.entry (ap keeps_value e ∙ keeps)))),
   )
 

@@ -14,7 +14,7 @@ use Rattle.fast_tree.specs.declared.operators.Operator.TheVariants as Op
 use Rattle.fast_tree.specs.meaning.Tree.{FieldData}
 use Rattle.fast_dict.specs.meaning.Answers.{kept_text}
 use Rattle.fast_dict.specs.meaning.Dictionary.{Dictionary, PreviousData, empty, assigned, previous_at, write_at}
-use Rattle.fast_dict.specs.meaning.Operators.{Outcome, null, decide, checked_text, Kept, kept_of, kept_length, joined, subtraction_step, text_step, tail_base, with_tail, ◌>>=◌}
+use Rattle.fast_dict.specs.meaning.Operators.{Outcome, null, decide, checked_text, Kept, kept_of, kept_length, joined, subtraction_step, text_step, tail_base, with_tail, ◌>>=◌, null_empties}
 use Rattle.fast_dict.proofs.Extended.{text_of_text}
 use Rattle.fast_stream.specs.device.Readers.{Reader}
 use Rattle.fast_stream.specs.meaning.Grammar.{give, integer, ascii_text, raw, of_result}
@@ -26,7 +26,7 @@ use Rattle.fast_units.specs.device.Settling.{GivesField}
 use Rattle.fast_items.specs.device.FieldsAs.{GivesWhole}
 use Rattle.fast_items.specs.device.TextsAs.{IsJoined, IsTailed}
 use Rattle.fast_units.specs.device.Stages.{term_behind}
-use Rattle.fast_units.specs.device.TextDecisions.{is_emptied, IsTextDecided, behind_part_size}
+use Rattle.fast_units.specs.device.TextDecisions.{IsTextDecided, behind_part_size}
 use Rattle.fast_units.specs.declared.progress.Progress.TheVariants.{Whole}
 use Rattle.fast_units.specs.declared.source.ValueSource.{ValueSource}
 use Rattle.fast_units.specs.declared.source.ValueSource.TheVariants as From
@@ -129,7 +129,7 @@ module _ (s : Bool) (l : Bounds) (f : FieldData) (rest : List ℕ) (old new : Di
         within,
         gives_unit f old old scratch piece From.Absent s (integer (signed_range 31) f.optional D7 give) (text_change l f p) (reader_of s (field_term l f p true)) (take a rest) None (decide f p true null)
             (ap (reader_of s) (subtraction_field l f p is_text is_delta)) t (delta_null f p is_delta)
-            (absent_left f old old scratch piece (λ e. let i : Op.Delta ≡ Op.Constant = sym is_delta ∙ e in absurd (cc i)) (ap is_emptied is_delta) refl),
+            (absent_left f old old scratch piece (λ e. let i : Op.Delta ≡ Op.Constant = sym is_delta ∙ e in absurd (cc i)) (ap null_empties is_delta) refl),
       )
 
   pub delta_whole : (source : ValueSource) (k : ℤ) (a b : ℕ) → IsFirstInt (λ y. y) s (signed_range 31) f.optional (First.Whole (Some k) a) rest → b ≤ length (drop a rest)
@@ -150,7 +150,7 @@ module _ (s : Bool) (l : Bounds) (f : FieldData) (rest : List ℕ) (old new : Di
       → GivesWhole (reader_of s (field_term l f (previous_at f.entry old) true)) f rest old new scratch From.Absent a a
   tail_null_whole a given becomes =
       null_whole s l f rest old new scratch From.Absent (ap family is_kind ∙ is_text) (λ e. no_ascii (sym is_kind ∙ e)) no_delta no_constant a given
-      (λ piece. absent_emptied f old new scratch piece no_constant (ap is_emptied is_tail) (rw is_entry becomes))
+      (λ piece. absent_emptied f old new scratch piece no_constant (ap null_empties is_tail) (rw is_entry becomes))
 
   pub tail_whole : (size a : ℕ) → IsFirstInt (λ y. option_map pos y) s (unsigned_range 32) f.optional (First.Whole (Some size) a) rest → size ≤ l.max_text → size ≤ length (drop a rest)
       → IsTailed kind entry (take size (drop a rest)) old new → GivesWhole (reader_of s (field_term l f (previous_at f.entry old) true)) f rest old new scratch From.Entry a (a + size)

@@ -17,7 +17,7 @@ use Rattle.fast_tree.specs.declared.operators.Operator.{Operator}
 use Rattle.fast_tree.specs.meaning.Tree.{FieldData}
 use Rattle.fast_tree.specs.meaning.Entries.{keeps_value}
 use Rattle.fast_dict.specs.meaning.Dictionary.{Dictionary, PreviousData, previous_at}
-use Rattle.fast_dict.specs.meaning.Operators.{Outcome, null, decide, checked_text}
+use Rattle.fast_dict.specs.meaning.Operators.{Outcome, null, decide, checked_text, null_empties}
 use Rattle.fast_stream.specs.device.Readers.{Reader, Done}
 use Rattle.fast_stream.specs.meaning.Grammar.{Grammar, give, integer, raw, ◌>>=◌}
 use Rattle.fast_stream.specs.device.GrammarReaders.{reader_of}
@@ -27,7 +27,7 @@ use Rattle.fast_units.specs.device.Settling.{GivesField}
 use Rattle.fast_items.specs.device.FieldsAs.{GivesWhole}
 use Rattle.fast_items.specs.device.TextsAs.{HasBegun}
 use Rattle.fast_units.specs.declared.stages.Stage.TheVariants.{Vector}
-use Rattle.fast_units.specs.device.TextDecisions.{is_emptied, IsTextDecided, behind_size}
+use Rattle.fast_units.specs.device.TextDecisions.{IsTextDecided, behind_size}
 use Rattle.fast_units.specs.declared.source.ValueSource.{ValueSource}
 use Rattle.fast_units.specs.declared.source.ValueSource.TheVariants as From
 use Rattle.fast_units.proofs.Turning.{turns_as, turns_run}
@@ -122,7 +122,7 @@ module _ (s : Bool) (l : Bounds) (f : FieldData) (rest : List ℕ) (old new : Di
       }
 
 -- An operator that keeps no value.
-unkept : (o : Operator) → keeps_value o ≡ false → (o ≢ Op.Delta) × (is_emptied o ≡ false)
+unkept : (o : Operator) → keeps_value o ≡ false → (o ≢ Op.Delta) × (null_empties o ≡ false)
 unkept Op.None e = ((λ i. absurd (cc i)), refl)
 unkept Op.Constant e = ((λ i. absurd (cc i)), refl)
 unkept Op.Default e = ((λ i. absurd (cc i)), refl)

@@ -16,13 +16,13 @@ use Rattle.fast_tree.specs.meaning.Entries.{keeps_value}
 use Rattle.fast_dict.specs.meaning.Answers.{kept_text}
 use Rattle.fast_dict.specs.meaning.Dictionary.{Dictionary, PreviousData, undefined, empty, assigned, previous_at, value_in, write_at}
 use Rattle.fast_dict.specs.device.Held.{text_size}
-use Rattle.fast_dict.specs.meaning.Operators.{◌>>=◌, Outcome, gives, keeps, gives_none, checked_in, checked, checked_text, null, decide, decide_by, start_value, zero_in, delta_base, tail_base, with_tail, Kept, append_to, prepend_to, kept_of, kept_length, subtraction_step}
+use Rattle.fast_dict.specs.meaning.Operators.{◌>>=◌, Outcome, gives, keeps, gives_none, checked_in, checked, checked_text, null, decide, decide_by, start_value, zero_in, delta_base, tail_base, with_tail, Kept, append_to, prepend_to, kept_of, kept_length, subtraction_step, null_empties}
 use Rattle.fast_dict.specs.meaning.Stores.{Terms, IsStorable}
 use Rattle.fast_dict.specs.meaning.Slots.{slots_dictionary, slots_terms, slots_texts_fit}
 use Rattle.fast_dict.specs.declared.slots.Slots.{Slots}
 use Rattle.fast_stream.specs.meaning.Fields.{sent_text}
 use Rattle.fast_units.specs.device.Settling.{HasRoomFor, Serves, value_at}
-use Rattle.fast_units.specs.device.TextDecisions.{is_emptied, IsTextDecided}
+use Rattle.fast_units.specs.device.TextDecisions.{IsTextDecided}
 use Rattle.fast_units.specs.declared.source.ValueSource.{ValueSource}
 use Rattle.fast_units.specs.declared.source.ValueSource.TheVariants as From
 
@@ -36,10 +36,10 @@ pub written : (e : ℕ) (d : Dictionary) (p : PreviousData) → e < length d →
 written e d p h = get_or-set_same d e p undefined h
 
 -- NULL
-decided_null : (f : FieldData) (p : PreviousData) → f.operator ≢ Constant → decide f p true null ≡ gives_none (if is_emptied f.operator then empty else p)
+decided_null : (f : FieldData) (p : PreviousData) → f.operator ≢ Constant → decide f p true null ≡ gives_none (if null_empties f.operator then empty else p)
 decided_null f p n = by f.operator n
   where
-    by : (operator : Operator) → operator ≢ Constant → decide_by operator true f p null ≡ gives_none (if is_emptied operator then empty else p)
+    by : (operator : Operator) → operator ≢ Constant → decide_by operator true f p null ≡ gives_none (if null_empties operator then empty else p)
     by no_operator n = refl
     by Constant n = absurd (n refl)
     by Default n = refl
@@ -50,14 +50,14 @@ decided_null f p n = by f.operator n
 
 module _ (f : FieldData) (old new : Dictionary) (scratch piece : List ℕ) where
   -- The field is absent, and its entry is empty, or as it was.
-  pub absent_emptied : f.operator ≢ Constant → is_emptied f.operator ≡ true → new ≡ write_at f.entry empty old → IsTextDecided (decide f (previous_at f.entry old) true null) f old new scratch piece (Ok From.Absent)
+  pub absent_emptied : f.operator ≢ Constant → null_empties f.operator ≡ true → new ≡ write_at f.entry empty old → IsTextDecided (decide f (previous_at f.entry old) true null) f old new scratch piece (Ok From.Absent)
   absent_emptied n e h = (
     record { value = None; next = empty },
     decided_null f (previous_at f.entry old) n ∙ ap (λ b. gives_none (if b then empty else previous_at f.entry old)) e,
     record { value = refl; dictionary = h },
   )
 
-  pub absent_left : f.operator ≢ Constant → is_emptied f.operator ≡ false → new ≡ old → IsTextDecided (decide f (previous_at f.entry old) true null) f old new scratch piece (Ok From.Absent)
+  pub absent_left : f.operator ≢ Constant → null_empties f.operator ≡ false → new ≡ old → IsTextDecided (decide f (previous_at f.entry old) true null) f old new scratch piece (Ok From.Absent)
   absent_left n e h = (
     record { value = None; next = previous_at f.entry old },
     decided_null f (previous_at f.entry old) n ∙ ap (λ b. gives_none (if b then empty else previous_at f.entry old)) e,
@@ -140,10 +140,10 @@ module _ (f : FieldData) (p : PreviousData) (text : List ℕ) (is_text : family 
   checked_sent : checked f (value_of_text f.kind text) ≡ checked_text f.kind text
   checked_sent = ap (λ g. checked_in g f.kind (value_of_text f.kind text)) is_text ∙ ap (checked_text f.kind) (text_of_text f.kind text)
 
-  pub decided_plain : f.operator ≢ Constant → f.operator ≢ Delta → is_emptied f.operator ≡ false → decide f p true (sent_text f.kind (Some text)) ≡ (checked_text f.kind text >>= (λ w. gives w p))
+  pub decided_plain : f.operator ≢ Constant → f.operator ≢ Delta → null_empties f.operator ≡ false → decide f p true (sent_text f.kind (Some text)) ≡ (checked_text f.kind text >>= (λ w. gives w p))
   decided_plain n m e = by f.operator n m e ∙ ap (λ r. r >>= (λ w. gives w p)) checked_sent
     where
-      by : (operator : Operator) → operator ≢ Constant → operator ≢ Delta → is_emptied operator ≡ false
+      by : (operator : Operator) → operator ≢ Constant → operator ≢ Delta → null_empties operator ≡ false
           → decide_by operator true f p (sent_text f.kind (Some text)) ≡ (checked f (value_of_text f.kind text) >>= (λ w. gives w p))
       by no_operator n m e = refl
       by Constant n m e = absurd (n refl)
@@ -261,7 +261,7 @@ module _ (s : Slots) (f : FieldData) (serves : Serves (length (slots_dictionary 
   part_together k kept part e l = let m = kept_fits k kept e in let n = l kept e in omega (arith, m, n)
 
 -- other operators
-pub not_emptied : (operator : Operator) → operator ≢ Copy → operator ≢ Increment → operator ≢ Tail → is_emptied operator ≡ false
+pub not_emptied : (operator : Operator) → operator ≢ Copy → operator ≢ Increment → operator ≢ Tail → null_empties operator ≡ false
 not_emptied no_operator n m k = refl
 not_emptied Constant n m k = refl
 not_emptied Default n m k = refl

@@ -13,7 +13,7 @@ ghost use Rattle.fast_dict.specs.meaning.Operators.{Kept as KeptData, null, deci
 ghost use Rattle.fast_dict.specs.meaning.Slots.{slots_dictionary, slots_terms};
 ghost use Rattle.fast_stream.specs.meaning.Fields.{sent_text};
 ghost use Rattle.fast_units.specs.device.Settling.{value_at};
-ghost use Rattle.fast_units.specs.device.TextDecisions.{is_emptied, IsTextDecided};
+ghost use Rattle.fast_units.specs.device.TextDecisions.{IsTextDecided};
 ghost use Rattle.fast_units.specs.device.Words.{HasRoomFor, ServesField, previous_of};
 
 use crate::fields::{assign, assign_empty, previous};
@@ -21,20 +21,9 @@ use crate::scratch::Scratch;
 use crate::source::ValueSource;
 use fast_dict::Slots;
 use fast_dict::operators::texts::text_of;
-use fast_dict::operators::{Kept, checked_text, subtract, tail_base, tail_keeps};
+use fast_dict::operators::{Kept, checked_text, null_empties, subtract, tail_base, tail_keeps};
 use fast_tree::{FieldInstruction, Operator};
 use fast_value::{Code, Scalar};
-
-/// Whether NULL makes the entry empty. Under the other operators it leaves the entry as it is.
-#[inline]
-fn is_emptied(operator: Operator) -> bool
-    ensures { result ≡ is_emptied operator }
-{
-    matches!(
-        operator,
-        Operator::Copy | Operator::Increment | Operator::Tail
-    )
-}
 
 /// NULL was sent: the field is absent.
 pub fn finish_absent(slots: &mut Slots, field: &FieldInstruction) -> ValueSource
@@ -45,7 +34,7 @@ pub fn finish_absent(slots: &mut Slots, field: &FieldInstruction) -> ValueSource
         (slots_dictionary slots.old) (slots_dictionary slots.new) scratch piece (Ok result) }
     ensures terms { slots_terms slots.new ≡ slots_terms slots.old }
 {
-    if is_emptied(field.operator) {
+    if null_empties(field.operator) {
         assign_empty(slots, field);
     }
     ValueSource::Absent

@@ -88,6 +88,14 @@ unsent f (assigned kind v) = of_kind f.kind kind v >>= (λ w. keeps f.kind (next
 unsent f undefined = from_initial f.kind f.optional D5 f.initial
 unsent f empty = from_initial f.kind f.optional D6 None
 
+-- Whether NULL leaves an empty entry, as it does under the operators that take their value from it where nothing is sent.
+-- FAST 1.1: Template Definition, Copy, Increment and Tail Operators.
+abbrev pub null_empties : Operator → Bool
+null_empties Copy = true
+null_empties Increment = true
+null_empties Tail = true
+null_empties operator = false
+
 -- A constant, and a default where nothing is sent, are the initial value; without one a default is absent.
 -- FAST 1.1: Template Definition, Constant and Default Operators.
 abbrev pub fixed : Option ScalarData → PreviousData → Result Outcome Code

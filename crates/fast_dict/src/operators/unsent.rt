@@ -6,7 +6,7 @@ ghost use Rattle.fast_value.specs.meaning.Values.{scalar_data};
 ghost use Rattle.fast_tree.specs.device.Nodes.{field_data};
 ghost use Rattle.fast_dict.specs.meaning.Answers.{outcome_data, left_data, left_answer};
 ghost use Rattle.fast_dict.specs.meaning.Dictionary.{PreviousData};
-ghost use Rattle.fast_dict.specs.meaning.Operators.{decide, nothing, null, unsent, from_initial, incremented, range_of};
+ghost use Rattle.fast_dict.specs.meaning.Operators.{decide, nothing, null, null_empties, unsent, from_initial, incremented, range_of};
 ghost use Rattle.fast_dict.specs.meaning.Previous.{previous_data};
 
 use super::integers::{integer_of, integer_value, range_of};
@@ -55,6 +55,18 @@ impl Left {
     }
 }
 
+/// Whether NULL leaves an empty entry, as under the operators that take their value from it where nothing is sent. Under the others
+/// it leaves the entry as it is.
+#[inline]
+pub fn null_empties(operator: Operator) -> bool
+    ensures { result ≡ null_empties operator }
+{
+    matches!(
+        operator,
+        Operator::Copy | Operator::Increment | Operator::Tail
+    )
+}
+
 /// What is left of a field of which no value is sent: where its presence bit is clear, nothing is, and else NULL. Of a constant nothing is sent
 /// in any case.
 ///
@@ -71,11 +83,9 @@ pub fn leave(field: &FieldInstruction, previous: Previous<'_>, bit: bool) -> Res
     match field.operator {
         Operator::Constant if bit => Ok(Left::Initial),
         Operator::Default if !bit => Ok(Left::Initial),
-        Operator::Copy | Operator::Increment | Operator::Tail if bit => Ok(Left::Emptied),
-        Operator::Copy | Operator::Increment | Operator::Tail => kept(field, previous),
-        Operator::None | Operator::Constant | Operator::Default | Operator::Delta => {
-            Ok(Left::Absent)
-        }
+        operator if !null_empties(operator) => Ok(Left::Absent),
+        _ if bit => Ok(Left::Emptied),
+        _ => kept(field, previous),
     }
 }
 

@@ -1,10 +1,8 @@
 -- What the operators' functions leave of a text field, behind its units.
-use Rattle.std.specs.Prelude.{◌≡◌, ℕ, ◌-◌, ◌<◌, Bool, true, false, List, ℤ, Option, Result, Ok, Err}
+use Rattle.std.specs.Prelude.{◌≡◌, ℕ, ◌-◌, ◌<◌, true, List, ℤ, Option, Result, Ok, Err}
 use Rattle.fast_value.specs.declared.codes.Code.{Code}
 use Rattle.fast_value.specs.declared.settings.Limits.{Limits}
 use Rattle.fast_value.specs.meaning.Limits.{Bounds, bounds}
-use Rattle.fast_tree.specs.declared.operators.Operator.{Operator}
-use Rattle.fast_tree.specs.declared.operators.Operator.TheVariants.{Copy, Increment, Tail}
 use Rattle.fast_tree.specs.meaning.Tree.{FieldData}
 use Rattle.fast_dict.specs.meaning.Dictionary.{Dictionary, PreviousData, previous_at}
 use Rattle.fast_dict.specs.meaning.Operators.{Outcome, Kept, kept_length, decide}
@@ -21,13 +19,6 @@ use Rattle.fast_units.specs.declared.stages.FieldStep.{FieldStep}
 use Rattle.fast_units.specs.declared.stages.FieldStep.TheVariants.{Settled, Next}
 use Rattle.fast_units.specs.declared.progress.Progress.{Progress}
 use Rattle.fast_units.specs.declared.progress.Progress.TheVariants.{Whole, Wrong}
-
--- NULL makes the entry empty. Under the other operators it leaves the entry as it is.
-abbrev pub is_emptied : Operator → Bool
-is_emptied Copy = true
-is_emptied Increment = true
-is_emptied Tail = true
-is_emptied operator = false
 
 -- What the operator decides is settled, or it is a fault.
 abbrev pub IsTextDecided : Result Outcome Code → FieldData → Dictionary → Dictionary → List ℕ → List ℕ → Result ValueSource Code → Type 0

@@ -8,13 +8,13 @@ use Rattle.fast_tree.specs.declared.operators.Operator.{Operator}
 use Rattle.fast_tree.specs.declared.operators.Operator.TheVariants as Op
 use Rattle.fast_tree.specs.device.Nodes.{field_data}
 use Rattle.fast_dict.specs.meaning.Dictionary.{previous_at}
-use Rattle.fast_dict.specs.meaning.Operators.{decide, checked_text}
+use Rattle.fast_dict.specs.meaning.Operators.{decide, checked_text, null_empties}
 use Rattle.fast_dict.specs.meaning.Slots.{slots_dictionary}
 use Rattle.fast_stream.specs.meaning.Fields.{sent_text}
 use Rattle.fast_stream.specs.meaning.Grammar.{give, ascii_text}
 use Rattle.fast_stream.specs.device.GrammarReaders.{reader_of}
 use Rattle.fast_units.specs.device.NextUnits.{IsNextText}
-use Rattle.fast_units.specs.device.TextDecisions.{is_emptied, first_reader}
+use Rattle.fast_units.specs.device.TextDecisions.{first_reader}
 use Rattle.fast_units.specs.declared.progress.Progress.TheVariants.{Whole}
 use Rattle.fast_units.specs.declared.source.ValueSource.TheVariants as From
 use Rattle.fast_units.proofs.NextTexts.{goes_on, text_whole}
@@ -24,9 +24,9 @@ use Rattle.fast_units.proofs.TextUnits.{text_field, behind_text, gives_unit}
 use Rattle.fast_units.proofs.held_texts.held_ascii.Goals as goal
 
 -- Neither operator keeps a value.
-plain : (o : Operator) → (o ≡ Op.None) ⊎ (o ≡ Op.Default) → (o ≢ Op.Constant) × (o ≢ Op.Delta) × (is_emptied o ≡ false)
-plain o (inl e) = ((λ i. let j : Op.None ≡ Op.Constant = sym e ∙ i in absurd (cc j)), (λ i. let j : Op.None ≡ Op.Delta = sym e ∙ i in absurd (cc j)), ap is_emptied e)
-plain o (inr e) = ((λ i. let j : Op.Default ≡ Op.Constant = sym e ∙ i in absurd (cc j)), (λ i. let j : Op.Default ≡ Op.Delta = sym e ∙ i in absurd (cc j)), ap is_emptied e)
+plain : (o : Operator) → (o ≡ Op.None) ⊎ (o ≡ Op.Default) → (o ≢ Op.Constant) × (o ≢ Op.Delta) × (null_empties o ≡ false)
+plain o (inl e) = ((λ i. let j : Op.None ≡ Op.Constant = sym e ∙ i in absurd (cc j)), (λ i. let j : Op.None ≡ Op.Delta = sym e ∙ i in absurd (cc j)), ap null_empties e)
+plain o (inr e) = ((λ i. let j : Op.Default ≡ Op.Constant = sym e ∙ i in absurd (cc j)), (λ i. let j : Op.Default ≡ Op.Delta = sym e ∙ i in absurd (cc j)), ap null_empties e)
 
 pub returns-clause-unit : goal.returns-clause-unit
 returns-clause-unit c limits slots is_room =

@@ -7,12 +7,12 @@ use Rattle.fast_value.specs.meaning.Limits.{bounds}
 use Rattle.fast_tree.specs.declared.operators.Operator.TheVariants as Op
 use Rattle.fast_tree.specs.device.Nodes.{field_data}
 use Rattle.fast_dict.specs.meaning.Dictionary.{previous_at}
-use Rattle.fast_dict.specs.meaning.Operators.{decide, checked_text}
+use Rattle.fast_dict.specs.meaning.Operators.{decide, checked_text, null_empties}
 use Rattle.fast_dict.specs.meaning.Slots.{slots_dictionary}
 use Rattle.fast_stream.specs.meaning.Fields.{sent_text}
 use Rattle.fast_stream.specs.meaning.Grammar.{give, raw}
 use Rattle.fast_stream.specs.device.GrammarReaders.{reader_of}
-use Rattle.fast_units.specs.device.TextDecisions.{is_emptied, reader_behind}
+use Rattle.fast_units.specs.device.TextDecisions.{reader_behind}
 use Rattle.fast_units.specs.declared.source.ValueSource.TheVariants as From
 use Rattle.fast_units.specs.declared.stages.Stage.TheVariants.{Vector}
 use Rattle.fast_units.proofs.NextUnits.{run_whole}
@@ -45,6 +45,6 @@ returns-clause-unit c limits slots =
       within,
       gives_unit f d d c.append.new.self.text piece From.Scratch limits.strict (raw size give) (λ v. behind_text l f p (Some v)) (reader_behind limits f d (Vector size)) text text (decide f p true (sent_text f.kind (Some text))) here
           (run_whole limits.strict size text whole) refl
-          (decided_as f d d c.append.new.self.text piece (Ok From.Scratch) (decided_plain f p text c.requires.text no_constant no_delta (ap is_emptied bare))
+          (decided_as f d d c.append.new.self.text piece (Ok From.Scratch) (decided_plain f p text c.requires.text no_constant no_delta (ap null_empties bare))
           (text_given f d d c.append.new.self.text piece From.Scratch text (value_of_text f.kind text) checked refl (ap (λ t. Some (value_of_text f.kind t)) scratch) refl)),
     )
