@@ -1,0 +1,38 @@
+-- The step of a node says of its field what stands there.
+use Rattle.std.proofs.Common.{◌≡◌, ◌<◌, ◌∙◌, ap, sym, refl, subst, arith, List, length}
+use Rattle.std.specs.Prelude.{Some, is_some, slice_get}
+use Rattle.std.proofs.lemmas.Option.{slice_get_read}
+use Rattle.std.proofs.lemmas.List.{length-map}
+use Rattle.fast_tree.specs.declared.instructions.Node.{Node}
+use Rattle.fast_tree.specs.declared.instructions.Shape.TheVariants.{Field}
+use Rattle.fast_tree.specs.meaning.Entries.{keeps_value}
+use Rattle.fast_template.specs.meaning.Flat.{nodes_of}
+use Rattle.fast_spelling.specs.declared.forms.Step.{Step}
+use Rattle.fast_spelling.specs.device.Forms.{step_of, steps_of}
+use Rattle.fast_spelling.proofs.rules.FormsTold.{step_is, entry_there, entry_missing}
+use Rattle.fast_spelling.proofs.checking.nodes.known_at.Goals as goal
+use Rattle.fast_spelling.proofs.checking.nodes.known_at.Goals.{then-keeps, else-keeps}
+
+pub invariant_of-result : goal.invariant_of-result
+invariant_of-result c =
+    let nodes = nodes_of c.args.plan.now.templates.now in
+    let steps = c.args.plan.now.steps.items in
+    let step = c.index-step.result.now in
+    let f = c.field_at.result.now in
+    let same : steps ≡ steps_of nodes = c.args.plan.now.steps_fit in
+    let long : length steps ≡ length nodes = ap length same ∙ length-map nodes (λ (v : Node). step_of v.shape) in
+    let inside : c.args.node < length steps = let low = c.requires.node in omega (arith, low, long) in
+    let read : slice_get steps c.args.node ≡ Some step = slice_get_read steps (length steps) c.args.node step refl inside c.index-step.ensures in
+    let of_node = step_is nodes c.args.node step (subst (λ (z : List Step). slice_get z c.args.node ≡ Some step) same read) in
+    let of_field : step_of (Field f) ≡ step = ap step_of (sym (c.field_at.ensures.shape of_node.0 of_node.1)) ∙ of_node.2 in
+    let kept : keeps_value c.args.operator ≡ is_some f.entry = ap keeps_value (sym c.field_at.ensures.operator) ∙ c.field_at.ensures.usable.kept in
+    record {
+      same_kind = c.field_at.ensures.kind;
+      same_nullable = ap (λ (s : Step). s.nullable) of_field;
+      same_entry = elim c.if-keeps.branch [
+        | then-keeps w ↦
+            entry_there f.entry (sym kept ∙ sym c.keeps.ensures.value ∙ w.if-keeps.true) ∙ ap Some (ap (λ (s : Step). s.entry) of_field) ∙ sym w.result-is
+        | else-keeps w ↦
+            entry_missing f.entry (sym kept ∙ sym c.keeps.ensures.value ∙ w.if-keeps.false) ∙ sym w.result-is
+      ];
+    }

@@ -1,0 +1,91 @@
+//! What is known of the node at which a message is.
+
+ghost use Rattle.std.specs.Prelude.{slice_get, ℕ, ◌≡◌, ◌<◌, length, Some};
+ghost use Rattle.fast_template.specs.meaning.Flat.{field_data, nodes_of, tree_of};
+ghost use Rattle.fast_spelling.specs.device.Forms.{Says, IsFieldAt};
+ghost use Rattle.fast_spelling.specs.device.Nodes.{instruction_in, IsThatField};
+ghost use Rattle.fast_tree.specs.declared.instructions.FieldInstruction.{FieldInstruction};
+ghost use Rattle.fast_tree.specs.declared.instructions.Node.{Node};
+ghost use Rattle.fast_tree.specs.declared.instructions.Shape.TheVariants.{Field};
+ghost use Rattle.fast_tree.specs.device.Usable.{IsUsable};
+ghost use Rattle.fast_tree.specs.meaning.Tree.{Label, field};
+ghost use Rattle.fast_dict.specs.device.EntryTexts.{HasLongInitial, IsLongText};
+
+use crate::fields::keeps;
+use crate::forms::Form;
+use crate::known::Known;
+use crate::plan::Plan;
+use fast_template::{FieldInstruction, Operator, Shape};
+use fast_value::Kind;
+
+/// The form of a node.
+#[inline(always)]
+pub fn form_at(plan: &Plan<'_>, node: u32) -> Form
+    requires { node < length (nodes_of plan.now.templates.now) }
+    ensures { (x : Node) → slice_get (nodes_of plan.now.templates.now) node ≡ Some x → Says result x.shape }
+{
+    plan.steps[node as usize].form
+}
+
+/// The field of a node that is one.
+#[inline(always)]
+pub fn field_at<'t>(
+    plan: &Plan<'t>,
+    node: u32,
+    kind: Kind,
+    operator: Operator,
+) -> &'t FieldInstruction
+    requires node { node < length (nodes_of plan.now.templates.now) }
+    requires form { IsFieldAt (nodes_of plan.now.templates.now) node kind operator }
+    ensures kind { result.now.kind ≡ kind }
+    ensures operator { result.now.operator ≡ operator }
+    ensures shape { (x : Node) → slice_get (nodes_of plan.now.templates.now) node ≡ Some x
+        → x.shape ≡ Field result.now }
+    ensures instruction { (at : Label)
+        × (instruction_in (nodes_of plan.now.templates.now) node ≡ field at (field_data result.now)) }
+    ensures usable { IsUsable (tree_of plan.now.templates.now).entries (field_data result.now) }
+    ensures initial { (m : ℕ) → ¬ (HasLongInitial m (nodes_of plan.now.templates.now))
+        → ¬ (IsLongText m (field_data result.now).initial) }
+{
+    match &plan.templates.node(node).shape {
+        Shape::Field(field) => field,
+        Shape::Decimal { .. } | Shape::Group { .. } | Shape::Sequence { .. } => unreachable!(),
+    }
+}
+
+/// Notes, for the proof alone, what field the node is.
+#[inline(always)]
+pub fn note_field(plan: &Plan<'_>, node: u32, kind: Kind, operator: Operator)
+    requires node { node < length (nodes_of plan.now.templates.now) }
+    requires form { IsFieldAt (nodes_of plan.now.templates.now) node kind operator }
+    ensures there { (f : FieldInstruction) × IsThatField plan.now.templates.now node kind operator f }
+{
+    let _ = (kind, operator);
+    plan.templates.node(node);
+}
+
+/// The field of a node that is one, with what its step says of it.
+#[inline(always)]
+pub fn known_at<'t>(plan: &Plan<'t>, node: u32, kind: Kind, operator: Operator) -> Known<'t>
+    requires node { node < length (nodes_of plan.now.templates.now) }
+    requires form { IsFieldAt (nodes_of plan.now.templates.now) node kind operator }
+    ensures kind { result.field.now.kind ≡ kind }
+    ensures operator { result.field.now.operator ≡ operator }
+    ensures instruction { (at : Label)
+        × (instruction_in (nodes_of plan.now.templates.now) node ≡ field at (field_data result.field.now)) }
+    ensures usable { IsUsable (tree_of plan.now.templates.now).entries (field_data result.field.now) }
+    ensures initial { (m : ℕ) → ¬ (HasLongInitial m (nodes_of plan.now.templates.now))
+        → ¬ (IsLongText m (field_data result.field.now).initial) }
+{
+    let step = plan.steps[node as usize];
+    Known {
+        field: field_at(plan, node, kind, operator),
+        kind,
+        nullable: step.nullable,
+        entry: if keeps(operator) {
+            Some(step.entry)
+        } else {
+            None
+        },
+    }
+}

@@ -1,0 +1,128 @@
+//! Tails of texts, and deltas of texts and decimals.
+
+ghost use Rattle.std.specs.Prelude.{◌≡◌, ◌-ℤ◌, Some, OnOk, IfErr};
+ghost use Rattle.fast_value.specs.declared.settings.Limits.{Limits};
+ghost use Rattle.fast_value.specs.meaning.Kinds.{exponent_of, mantissa_of};
+ghost use Rattle.fast_value.specs.meaning.Values.{scalar_data};
+ghost use Rattle.fast_tree.specs.declared.operators.Operator.TheVariants.{Delta, Tail};
+ghost use Rattle.fast_tree.specs.device.Nodes.{field_data};
+ghost use Rattle.fast_dict.specs.meaning.Operators.{decimal_delta};
+ghost use Rattle.fast_dict.specs.meaning.Sending.{sent_data};
+ghost use Rattle.fast_spelling.specs.meaning.Encoding.{EncodesField};
+ghost use Rattle.fast_spelling.specs.device.Drafts.{IsTold};
+ghost use Rattle.fast_spelling.specs.device.Fields.{IsServed, IsSuited, Wrote};
+ghost use Rattle.fast_spelling.specs.device.Nodes.{Keeps};
+ghost use Rattle.fast_spelling.specs.meaning.Refusals.{RefusesField};
+ghost use Rattle.fast_spelling.specs.device.Usual.{IsDecimal, IsText};
+
+use super::held::{exponents_apart, held_in, is_same, mantissas_apart};
+use crate::draft::Draft;
+use crate::faults::EncodeFault;
+use crate::fields::{note_range, send, write_chosen};
+use crate::known::Known;
+use crate::ledger::Ledger;
+use fast_dict::Sent;
+use fast_dict::operators::texts::text_of;
+use fast_dict::rule::items::{tail_of, text_delta, text_value};
+use fast_template::Operator;
+use fast_value::Scalar;
+
+/// Writes a text under tail: what the entry holds is not sent, and of another text of its length only what differs.
+#[inline(always)]
+pub fn write_tail(
+    draft: &mut Draft,
+    ledger: &mut Ledger,
+    at: Known<'_>,
+    value: Scalar<'_>,
+) -> Result<(), EncodeFault>
+    requires operator { at.field.now.operator ≡ Tail }
+    requires served { IsServed ledger.old (field_data at.field.now) }
+    requires suited { IsSuited ledger.old.max_text (field_data at.field.now) (Some (scalar_data value)) }
+    ensures ok { OnOk result ((l : Limits) → l.max_text ≡ ledger.old.max_text
+        → Wrote (EncodesField l (field_data at.entry.field.now) ledger.old.now (Some (scalar_data value.entry)))
+        draft.old draft.new ledger.new.now) }
+    ensures err { IfErr result
+        (IsTold (RefusesField (field_data at.entry.field.now) ledger.old.now (Some (scalar_data value.entry)))) }
+    ensures keeps { Keeps ledger.old ledger.new }
+{
+    match held_in(ledger, at, value) {
+        None => write_chosen(draft, ledger, at.field, Some(value)),
+        Some(held) if is_same(held, value) => Ok(draft.push_bit(false)?),
+        Some(held) => {
+            note_range(held);
+            let Some(part) = tail_of(text_of(held), text_of(value)) else {
+                return write_chosen(draft, ledger, at.field, Some(value));
+            };
+            let tail = Sent::Value(text_value(at.kind, part));
+            send(draft, ledger, at, Operator::Tail, Some(value), true, tail)
+        }
+    }
+}
+
+/// Writes a text under delta: what is taken from that which the entry holds, and what comes in its place.
+#[inline(always)]
+pub fn write_text_delta(
+    draft: &mut Draft,
+    ledger: &mut Ledger,
+    at: Known<'_>,
+    value: Scalar<'_>,
+) -> Result<(), EncodeFault>
+    requires operator { at.field.now.operator ≡ Delta }
+    requires served { IsServed ledger.old (field_data at.field.now) }
+    requires suited { IsSuited ledger.old.max_text (field_data at.field.now) (Some (scalar_data value)) }
+    requires text { IsText (scalar_data value) }
+    ensures ok { OnOk result ((l : Limits) → l.max_text ≡ ledger.old.max_text
+        → Wrote (EncodesField l (field_data at.entry.field.now) ledger.old.now (Some (scalar_data value.entry)))
+        draft.old draft.new ledger.new.now) }
+    ensures err { IfErr result
+        (IsTold (RefusesField (field_data at.entry.field.now) ledger.old.now (Some (scalar_data value.entry)))) }
+    ensures keeps { Keeps ledger.old ledger.new }
+{
+    match held_in(ledger, at, value) {
+        None => write_chosen(draft, ledger, at.field, Some(value)),
+        Some(held) => {
+            note_range(held);
+            let delta = text_delta(text_of(held), text_of(value));
+            send(draft, ledger, at, Operator::Delta, Some(value), true, delta)
+        }
+    }
+}
+
+/// Writes a decimal under delta: what its exponent and its mantissa are more than those that the entry holds.
+#[inline(always)]
+pub fn write_decimal_delta(
+    draft: &mut Draft,
+    ledger: &mut Ledger,
+    at: Known<'_>,
+    value: Scalar<'_>,
+) -> Result<(), EncodeFault>
+    requires operator { at.field.now.operator ≡ Delta }
+    requires served { IsServed ledger.old (field_data at.field.now) }
+    requires suited { IsSuited ledger.old.max_text (field_data at.field.now) (Some (scalar_data value)) }
+    requires decimal { IsDecimal (scalar_data value) }
+    ensures ok { OnOk result ((l : Limits) → l.max_text ≡ ledger.old.max_text
+        → Wrote (EncodesField l (field_data at.entry.field.now) ledger.old.now (Some (scalar_data value.entry)))
+        draft.old draft.new ledger.new.now) }
+    ensures err { IfErr result
+        (IsTold (RefusesField (field_data at.entry.field.now) ledger.old.now (Some (scalar_data value.entry)))) }
+    ensures keeps { Keeps ledger.old ledger.new }
+{
+    match held_in(ledger, at, value) {
+        None => write_chosen(draft, ledger, at.field, Some(value)),
+        Some(held) => {
+            note_range(held);
+            let delta = decimal_delta(held, value);
+            send(draft, ledger, at, Operator::Delta, Some(value), true, delta)
+        }
+    }
+}
+
+/// What is sent from one decimal to another.
+#[inline(always)]
+fn decimal_delta(base: Scalar<'_>, value: Scalar<'_>) -> Sent<'static>
+    ensures { sent_data result ≡ decimal_delta
+        (exponent_of (scalar_data value.entry) -ℤ exponent_of (scalar_data base.entry))
+        (mantissa_of (scalar_data value.entry) -ℤ mantissa_of (scalar_data base.entry)) }
+{
+    Sent::DecimalDelta(exponents_apart(value, base), mantissas_apart(value, base))
+}

@@ -1,0 +1,159 @@
+//! What a field's entry holds beside the value that is to be written.
+
+ghost use Rattle.std.specs.Prelude.{◌≡◌, ◌≤◌, ◌-ℤ◌, ◌↔◌, Some, length, IsTrue, IfSome};
+ghost use Rattle.fast_value.specs.meaning.Kinds.{IsWithin, signed_range, integer_of, exponent_of, mantissa_of, text_of, value_of_integer};
+ghost use Rattle.fast_value.specs.meaning.Values.{scalar_data};
+ghost use Rattle.fast_tree.specs.device.Nodes.{field_data};
+ghost use Rattle.fast_dict.specs.meaning.Dictionary.{assigned, empty, previous_at};
+ghost use Rattle.fast_dict.specs.meaning.Operators.{incremented, range_of};
+ghost use Rattle.fast_spelling.specs.device.Fields.{IsServed};
+
+use crate::fields::previous_of;
+use crate::known::Known;
+use crate::ledger::Ledger;
+use fast_dict::Previous;
+use fast_dict::operators::decimals::{exponent_of, mantissa_of};
+use fast_dict::operators::integers::integer_of;
+use fast_dict::operators::unsent::next_integer;
+use fast_value::{Kind, Scalar, Value};
+
+/// Whether the value is the field's initial value.
+#[inline(always)]
+pub fn is_initial(at: Known<'_>, value: Scalar<'_>) -> bool
+    ensures { IsTrue result ↔ ((field_data at.entry.field.now).initial ≡ Some (scalar_data value.entry)) }
+{
+    match (&at.field.initial, value) {
+        (Some(Value::U(initial)), Scalar::U(number)) => *initial == number,
+        (Some(Value::I(initial)), Scalar::I(number)) => *initial == number,
+        (Some(Value::Ascii(initial)), Scalar::Ascii(text)) => is_same_text(initial, text),
+        (Some(initial), _) => is_same(initial.as_scalar(), value),
+        (None, _) => false,
+    }
+}
+
+/// Whether the field's entry holds that a field was absent.
+#[inline(always)]
+pub fn is_empty_in(ledger: &Ledger, at: Known<'_>) -> bool
+    requires { IsServed ledger.now (field_data at.field.now) }
+    ensures { IsTrue result → previous_at (field_data at.entry.field.now).entry ledger.now.now ≡ empty }
+{
+    matches!(previous_of(ledger, at), Previous::Empty)
+}
+
+/// The value that the field's entry holds, if it holds one of the field's type, and of the value's form. A text is lent.
+#[inline(always)]
+pub fn held_in<'a>(ledger: &'a Ledger, at: Known<'_>, value: Scalar<'_>) -> Option<Scalar<'a>>
+    requires { IsServed ledger.now (field_data at.field.now) }
+    ensures value { IfSome result (λ held. previous_at (field_data at.entry.field.now).entry ledger.now.now
+        ≡ assigned (field_data at.entry.field.now).kind (scalar_data held)) }
+    ensures short { IfSome result (λ held. length (text_of (scalar_data held)) ≤ ledger.now.max_text) }
+{
+    let Some(entry) = at.entry else {
+        return None;
+    };
+    match value {
+        Scalar::U(_) => ledger.unsigned_at(entry as usize, at.kind),
+        Scalar::I(_) => ledger.signed_at(entry as usize, at.kind),
+        Scalar::Dec { .. } => ledger.decimal_at(entry as usize, at.kind),
+        Scalar::Ascii(_) => ledger.ascii_at(entry as usize, at.kind),
+        Scalar::Unicode(_) => ledger.unicode_at(entry as usize, at.kind),
+        Scalar::Bytes(_) => ledger.bytes_at(entry as usize, at.kind),
+    }
+}
+
+/// The same for the value of an integer.
+#[inline(always)]
+pub fn held_number_in(ledger: &Ledger, at: Known<'_>, value: Scalar<'_>) -> Option<Scalar<'static>>
+    requires { IsServed ledger.now (field_data at.field.now) }
+    ensures value { IfSome result (λ held. previous_at (field_data at.entry.field.now).entry ledger.now.now
+        ≡ assigned (field_data at.entry.field.now).kind (scalar_data held)) }
+    ensures short { IfSome result (λ held. length (text_of (scalar_data held)) ≤ ledger.now.max_text) }
+{
+    let Some(entry) = at.entry else {
+        return None;
+    };
+    match value {
+        Scalar::U(_) => ledger.unsigned_at(entry as usize, at.kind),
+        Scalar::I(_) => ledger.signed_at(entry as usize, at.kind),
+        Scalar::Dec { .. } | Scalar::Ascii(_) | Scalar::Unicode(_) | Scalar::Bytes(_) => None,
+    }
+}
+
+/// Whether a value is the one behind the one that is held.
+#[inline(always)]
+pub fn is_next(kind: Kind, held: Scalar<'_>, value: Scalar<'_>) -> bool
+    ensures { IsTrue result ↔ (value_of_integer kind (incremented (range_of kind) (integer_of (scalar_data held.entry)))
+        ≡ scalar_data value.entry) }
+{
+    is_same(next_integer(kind, held), value)
+}
+
+/// Whether two values are the same: 15e-1 and 150e-2 are not.
+#[inline(always)]
+pub fn is_same(a: Scalar<'_>, b: Scalar<'_>) -> bool
+    ensures { IsTrue result ↔ (scalar_data a.entry ≡ scalar_data b.entry) }
+{
+    match (a, b) {
+        (Scalar::U(a), Scalar::U(b)) => a == b,
+        (Scalar::I(a), Scalar::I(b)) => a == b,
+        (
+            Scalar::Dec { exponent, mantissa },
+            Scalar::Dec {
+                exponent: e,
+                mantissa: m,
+            },
+        ) => exponent == e && mantissa == m,
+        (Scalar::Ascii(a), Scalar::Ascii(b)) => is_same_text(a, b),
+        (Scalar::Unicode(a), Scalar::Unicode(b)) => a == b,
+        (Scalar::Bytes(a), Scalar::Bytes(b)) => a == b,
+        _ => false,
+    }
+}
+
+/// Whether two texts are the same. Those of one character are met most often.
+#[inline(always)]
+fn is_same_text(a: &[u8], b: &[u8]) -> bool
+    ensures { IsTrue result ↔ (a.now ≡ b.now) }
+{
+    if a.len() != b.len() {
+        return false;
+    }
+    if a.len() == 1 {
+        return a[0] == b[0];
+    }
+    is_same_long_text(a, b)
+}
+
+/// The same for texts of any length.
+fn is_same_long_text(a: &[u8], b: &[u8]) -> bool
+    ensures { IsTrue result ↔ (a.now ≡ b.now) }
+{
+    a == b
+}
+
+/// How much greater one exponent is than another.
+#[inline(always)]
+pub fn exponents_apart(a: Scalar<'_>, b: Scalar<'_>) -> i128
+    ensures value { result ≡ exponent_of (scalar_data a.entry) -ℤ exponent_of (scalar_data b.entry) }
+    ensures small { IsWithin (signed_range 68) result }
+{
+    exponent_of(a) - exponent_of(b)
+}
+
+/// How much greater one mantissa is than another.
+#[inline(always)]
+pub fn mantissas_apart(a: Scalar<'_>, b: Scalar<'_>) -> i128
+    ensures value { result ≡ mantissa_of (scalar_data a.entry) -ℤ mantissa_of (scalar_data b.entry) }
+    ensures small { IsWithin (signed_range 68) result }
+{
+    mantissa_of(a) - mantissa_of(b)
+}
+
+/// How much greater one integer is than another.
+#[inline(always)]
+pub fn difference(a: Scalar<'_>, b: Scalar<'_>) -> i128
+    ensures value { result ≡ integer_of (scalar_data a.entry) -ℤ integer_of (scalar_data b.entry) }
+    ensures small { IsWithin (signed_range 68) result }
+{
+    integer_of(a) - integer_of(b)
+}
