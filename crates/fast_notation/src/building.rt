@@ -1,129 +1,32 @@
 //! From a set as it is written to its nodes, with references in place.
 
-ghost use Rattle.std.specs.Prelude.{ℕ, suc, Bool, false, List, Option, ◌≡◌, ◌<◌, ◌≤◌, ◌*◌, ◌^◌, All, sum_by, ◌++◌, ◌∷◌, [], length, map, option_map, IfOk, OnOk, string_bytes};
+mod parts;
+
+ghost use Rattle.std.specs.Prelude.{ℕ, suc, Bool, List, Option, ◌≡◌, ◌<◌, ◌≤◌, ◌*◌, ◌^◌, All, sum_by, length, map, option_map, IfOk, OnOk, string_bytes};
 ghost use Rattle.std.specs.HashMap.{get_by_text};
-ghost use Rattle.fast_value.specs.meaning.Values.{value_data};
 ghost use Rattle.fast_tree.specs.meaning.Entries.{scope_of};
 ghost use Rattle.fast_tree.specs.meaning.AsWritten.{Written, scalar, by_parts, group, sequence, reference, no_more, more, length_use};
-ghost use Rattle.fast_notation.specs.device.Built.{with_shape, data_of, IsReady, AreBuilt};
+ghost use Rattle.fast_notation.specs.device.Built.{data_of, IsReady, AreBuilt};
 ghost use Rattle.fast_notation.specs.device.Chains.{Fits, nodes_in};
 ghost use Rattle.fast_notation.specs.device.EntryKeys.{scope_data, use_data};
 ghost use Rattle.fast_notation.specs.device.ReadSets.{IsChecked, IsSetBuilt};
-ghost use Rattle.fast_tree.specs.device.NodeData.{a_group, node_data, shape_data, outline};
+ghost use Rattle.fast_tree.specs.device.NodeData.{node_data, outline};
 ghost use Rattle.fast_tree.specs.device.Nodes.{field_data};
 ghost use Rattle.fast_tree.specs.meaning.Sizes.{nesting_limit, node_limit};
-ghost use Rattle.fast_notation.specs.meaning.Uses.{IsInitialOf, IsField};
-ghost use Rattle.fast_notation.specs.device.Sound.{IsSound};
+ghost use Rattle.fast_notation.specs.meaning.Uses.{IsField};
 ghost use Rattle.fast_notation.specs.device.WrittenSets.{instruction_data, operator_data, fields_data, written_data, templates_data};
 ghost use Rattle.fast_notation.specs.device.Builders.{templates_in, entries_in, IsBuilder, CanBuildAt, IsBuiltAt};
 
-use crate::codes::StaticCode;
 use crate::entries::{Entries, collect_entries};
 use crate::limits::NESTING_LIMIT;
 use crate::passes::WrittenSet;
 use crate::scopes::{OperatorUse, TextScope, exponent_use, length_use, mantissa_use, scalar_use};
-use crate::uses::{OperatorPart, initial_in};
+use crate::uses::OperatorPart;
 use crate::written::{WrittenInstruction, WrittenOperator, WrittenTemplate};
 use fast_tree::{FieldInstruction, Node, Shape, Template};
-use fast_value::{Kind, Value};
+use fast_value::Kind;
+use parts::{add_node, empty_group, initial_of, set_shape, template_of};
 use std::alloc::{AllocError, Global};
-
-/// The initial value of an operator, where it has one.
-fn initial_of(alloc: Global, used: OperatorUse<'_>) -> Result<Option<Value>, AllocError>
-    requires sound { IsSound (use_data used) }
-    requires exponent { used.part ≡ OperatorPart.Exponent → used.kind ≡ Kind.Int32 }
-    ensures { IfOk result (λ v. IsInitialOf (use_data used.entry) (use_data used.entry).written.value
-        (option_map value_data v)) }
-{
-    let Some(text) = &used.written.value else {
-        return Ok(None);
-    };
-    match initial_in(alloc, used.part, used.kind, text.as_str()) {
-        Ok(value) => Ok(Some(value)),
-        Err(StaticCode::S3) => unreachable!(),
-        Err(_) => Err(AllocError),
-    }
-}
-
-/// The name of a node that comes behind so many, whose number is put behind those of its body.
-fn name_of(
-    alloc: Global,
-    count: usize,
-    body: &mut Vec<u32>,
-    name: &str,
-) -> Result<String, AllocError>
-    requires { count < node_limit }
-    ensures name { IfOk result (λ s. string_bytes s ≡ name.now) }
-    ensures body { IfOk result (λ _. body.new.items ≡ body.old.items ++ count ∷ []) }
-{
-    body.push(count as u32)?;
-    String::from_str(alloc, name)
-}
-
-/// Puts a node behind the others.
-fn push_node(nodes: &mut Vec<Node>, node: Node) -> Result<(), AllocError>
-    ensures { OnOk result (data_of nodes.new ≡ data_of nodes.old ++ node_data node ∷ []) }
-{
-    nodes.push(node)?;
-    Ok(())
-}
-
-/// Puts a node behind the others, and its number behind those of its body.
-fn add_node(
-    alloc: Global,
-    nodes: &mut Vec<Node>,
-    body: &mut Vec<u32>,
-    name: &str,
-    shape: Shape,
-) -> Result<(), AllocError>
-    requires { length (data_of nodes.old) < node_limit }
-    ensures nodes { OnOk result (data_of nodes.new
-        ≡ data_of nodes.old ++ record { name = name.now; shape = shape_data shape } ∷ []) }
-    ensures body { OnOk result (body.new.items ≡ body.old.items ++ length (data_of nodes.old) ∷ []) }
-{
-    let name = name_of(alloc, nodes.len(), body, name)?;
-    push_node(nodes, Node { name, shape })
-}
-
-/// The shape of a node whose body is not built yet.
-fn empty_group(alloc: Global) -> Shape
-    ensures { shape_data result ≡ a_group false [] }
-{
-    Shape::Group {
-        optional: false,
-        body: Vec::new(alloc),
-    }
-}
-
-/// Gives a node its shape.
-fn set_shape(nodes: &mut [Node], number: usize, shape: Shape)
-    requires { number < length nodes.old }
-    ensures { map node_data nodes.new ≡ with_shape (map node_data nodes.old) number (shape_data shape) }
-{
-    nodes[number].shape = shape;
-}
-
-/// The template that is written, with the nodes of its body.
-fn template_of(
-    alloc: Global,
-    written: &WrittenTemplate,
-    body: Vec<u32>,
-) -> Result<Template, AllocError>
-    ensures { IfOk result (λ t. outline t
-        ≡ record {
-          name = (written_data written.now).name;
-          id = written.now.id;
-          reset = written.now.reset;
-          body = body.items;
-        }) }
-{
-    Ok(Template {
-        name: String::from_str(alloc, written.name.as_str())?,
-        id: written.id,
-        reset: written.reset,
-        body,
-    })
-}
 
 /// Where instructions stand: in the text of a template, from which so many references may still lead on.
 #[derive(Clone, Copy)]
