@@ -3,6 +3,7 @@
 mod check;
 mod devices;
 mod faults;
+mod nested;
 mod show;
 mod texts;
 mod vectors;

@@ -19,6 +19,7 @@ mod operators;
 mod rows;
 mod values;
 mod worked;
+mod zeros;
 
 use super::{Case, LENIENT, Script, expect_of, feed, set_of};
 use fast_decoder::{Decoder, MakeError};

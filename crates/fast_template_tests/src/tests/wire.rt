@@ -1,6 +1,9 @@
 //! Rows of bytes, worked out by hand.
 
-ghost use Rattle.std.specs.Prelude.{◌≤◌, ◌^◌, IfSome, length, unsigned_abs};
+mod maps;
+mod writing;
+
+ghost use Rattle.std.specs.Prelude.{◌≤◌, IfSome, length};
 ghost use Rattle.fast_wire.specs.meaning.Entities.{IsEntity};
 
 use WireFault::{D2, R6};
@@ -10,9 +13,8 @@ use fast_fronts::{
     quick_nullable_signed, quick_nullable_unsigned, quick_signed, quick_unsigned, short_entity,
 };
 use fast_wire::{
-    Entity, MAP_LIMIT, MapBuilder, MapStep, Step, WireFault, find_stop, map_bit, map_overlong,
-    map_push, read_nullable_signed, read_nullable_unsigned, read_signed, read_unsigned,
-    write_nullable_signed, write_nullable_unsigned, write_signed, write_unsigned,
+    Entity, Step, WireFault, read_nullable_signed, read_nullable_unsigned, read_signed,
+    read_unsigned,
 };
 use std::process::Abort;
 
@@ -358,117 +360,4 @@ fn begins_anew(w: &mut Entity) -> bool {
     w.clear();
     let is_whole = w.push(0x7f) == Step::More && w.push(0x80) == Step::Whole;
     is_whole && w.as_slice() == [0x7f, 0x80].as_slice()
-}
-
-/// An integer, and which function writes it.
-#[derive(Clone, Copy)]
-enum Number {
-    Unsigned(u64),
-    NullableUnsigned(Option<u64>),
-    Signed(i64),
-    NullableSigned(Option<i64>),
-}
-
-use Number::{NullableSigned, NullableUnsigned, Signed, Unsigned};
-
-/// The integer with more bits.
-fn nullable(number: Option<i64>) -> Option<i128>
-    ensures { IfSome result (λ n. unsigned_abs n ≤ 2 ^ 63) }
-{
-    Some(i128::from(number?))
-}
-
-/// What is written of it.
-fn written(number: Number) -> Entity {
-    match number {
-        Unsigned(number) => write_unsigned(number),
-        NullableUnsigned(number) => write_nullable_unsigned(number),
-        Signed(number) => write_signed(i128::from(number)),
-        NullableSigned(number) => write_nullable_signed(nullable(number)),
-    }
-}
-
-#[rattlefmt::skip]
-const WRITTEN: &[(Number, &[u8])] = &[
-    (Unsigned(942_755), &[0x39, 0x45, 0xa3]),
-    (Unsigned(0), &[0x80]),
-    (NullableUnsigned(None), &[0x80]),
-    (NullableUnsigned(Some(0xffff_ffff)), &[0x10, 0, 0, 0, 0x80]),
-    (Signed(-942_755), &[0x46, 0x3a, 0xdd]),
-    (Signed(8193), &[0x00, 0x40, 0x81]),
-    (Signed(-8193), &[0x7f, 0x3f, 0xff]),
-    (NullableSigned(None), &[0x80]),
-    (NullableSigned(Some(i64::MAX)), &[0x01, 0, 0, 0, 0, 0, 0, 0, 0, 0x80]),
-    (NullableSigned(Some(i64::MIN)), &[0x7f, 0, 0, 0, 0, 0, 0, 0, 0, 0x80]),
-];
-
-#[test]
-fn written_integers(rt: HostRuntime) {
-    for (number, bytes) in WRITTEN {
-        let is_right = written(*number).as_slice() == *bytes;
-        expect(&rt, is_right, "written", bytes);
-    }
-}
-
-/// The first stop bit of the bytes is in this one.
-fn expect_stop(rt: &impl Abort, bytes: &[u8], want: Option<usize>) {
-    expect(rt, find_stop(bytes) == want, "in", bytes);
-}
-
-#[test]
-fn stops(rt: HostRuntime) {
-    for len in 0..50 {
-        let mut bytes = [0x7f; 50];
-        expect_stop(&rt, &bytes[..len], None);
-        for stop in (0..len).rev() {
-            bytes[stop] = 0x80;
-            expect_stop(&rt, &bytes[..len], Some(stop));
-        }
-    }
-}
-
-#[test]
-fn maps_byte_by_byte(rt: HostRuntime) {
-    let mut cells = [0; MAP_LIMIT];
-    for len in 0..MAP_LIMIT - 1 {
-        let step = map_push(&mut cells, len, 0x40);
-        expect(&rt, step == MapStep::More, "pushed onto", &cells[..len]);
-    }
-    for (byte, want) in [(0x41, MapStep::TooLong), (0xc1, MapStep::Whole)] {
-        let step = map_push(&mut cells, MAP_LIMIT - 1, byte);
-        expect(&rt, step == want, "the last", &cells);
-    }
-    let is_kept = cells[0] == 0x40 && cells[MAP_LIMIT - 1] == 0xc1;
-    expect(&rt, is_kept, "kept", &cells);
-}
-
-/// Whether a map is longer than it need be; nothing where the bytes are no map.
-fn overlong(bytes: &[u8]) -> Option<bool> {
-    match entity(bytes) {
-        Some(map) => Some(map_overlong(map.as_slice())),
-        None => None,
-    }
-}
-
-#[test]
-fn maps(rt: HostRuntime) {
-    let mut builder = MapBuilder::new();
-    builder.set(299);
-    builder.set(0);
-    builder.set(8);
-    let map = builder.finish();
-    let map = map.as_slice();
-    for i in 0..1100 {
-        let is_set = i == 0 || i == 8 || i == 299;
-        assert!(rt; map_bit(map, i) == is_set, "at {i}");
-    }
-    let least = MapBuilder::new().finish();
-    let are_right = [
-        map.len() == 43,
-        !map_overlong(map),
-        least.as_slice() == [0x80].as_slice(),
-        overlong(&[0x40, 0x80]) == Some(true),
-        overlong(&[0x00, 0xc0]) == Some(false),
-    ];
-    expect_each(&rt, &are_right, map);
 }
