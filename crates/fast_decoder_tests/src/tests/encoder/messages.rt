@@ -1,6 +1,6 @@
 //! Messages that are read from their texts.
 
-use fast_value::{Item, Message, Scalar, Value};
+use fast_value::{Item, Message, Value};
 use std::alloc::{AllocError, Global};
 use std::mem;
 
