@@ -5,7 +5,10 @@
 
 mod command;
 mod convert;
+mod explain;
+mod reading;
 mod sinks;
+mod text;
 
 use fast_command::{RunFault, ShowEnd, built_in, run_show};
 use fast_template::Templates;

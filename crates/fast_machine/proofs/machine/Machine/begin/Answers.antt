@@ -1,5 +1,5 @@
 use Rattle.fast_machine.proofs.fields.Heads.{node_within, field_head, parts_head, group_head, sequence_head}
-use Rattle.std.proofs.Common.{rules, sym, ap, ◌∙◌}
+use Rattle.std.proofs.Common.{sym, ap, ◌∙◌}
 use Rattle.fast_tree.specs.device.Numbers.{numbers_of}
 use Rattle.fast_machine.proofs.fields.ScalarNodes.{first_below}
 use Rattle.fast_machine.proofs.machine.Machine.begin.Goals as goal
@@ -27,21 +27,32 @@ begin_sequence-requires-clause-next g c =
 pub begin_sequence-requires-clause-node : goal.begin_sequence-requires-clause-node
 begin_sequence-requires-clause-node g c = node_within c.args.templates.now c.args.self.now.cursor c.in-Some.number c.node.result.now (sym c.next.ensures ∙ c.in-Some.is) c.node.ensures.found
 
--- A goal that a wrong body would leave.
-pub returns-in-Field-clause-turns : goal.returns-in-Field-clause-turns
-returns-in-Field-clause-turns g c = search rules
+pub returns-in_default-clause-turns : goal.returns-in_default-clause-turns
+returns-in_default-clause-turns g c = c.close.ensures.turns
 
 pub returns-in-Field-clause-turn : goal.returns-in-Field-clause-turn
 returns-in-Field-clause-turn g c = c.begin_field.ensures.turn
 
+pub returns-in-Field-clause-turns : goal.returns-in-Field-clause-turns
+returns-in-Field-clause-turns g c = c.begin_field.ensures.turns
+
 pub returns-in-Decimal-clause-turn : goal.returns-in-Decimal-clause-turn
 returns-in-Decimal-clause-turn g c = c.begin_decimal.ensures.turn
+
+pub returns-in-Decimal-clause-turns : goal.returns-in-Decimal-clause-turns
+returns-in-Decimal-clause-turns g c = c.begin_decimal.ensures.turns
 
 pub returns-in-Group-clause-turn : goal.returns-in-Group-clause-turn
 returns-in-Group-clause-turn g c = c.begin_group.ensures.turn
 
+pub returns-in-Group-clause-turns : goal.returns-in-Group-clause-turns
+returns-in-Group-clause-turns g c = c.begin_group.ensures.turns
+
 pub returns-in-Sequence-clause-turn : goal.returns-in-Sequence-clause-turn
 returns-in-Sequence-clause-turn g c = c.begin_sequence.ensures.turn
+
+pub returns-in-Sequence-clause-turns : goal.returns-in-Sequence-clause-turns
+returns-in-Sequence-clause-turns g c = c.begin_sequence.ensures.turns
 
 pub node-requires : goal.node-requires
 node-requires g c = first_below _ c.args.self.now.cursor.left c.in-Some.number c.requires.turn.placed.below (sym c.next.ensures ∙ c.in-Some.is)
