@@ -1,17 +1,43 @@
-use Rattle.std.proofs.Common.{sym, ap, ◌∙◌, subst}
-use Rattle.fast_tree.specs.device.Numbers.{numbers_of}
+use Rattle.std.proofs.Common.{sym, ap, ◌∙◌, subst, arith}
+use Rattle.std.specs.Prelude.{◌≡◌, ℕ, List, [], ◌∷◌, None, length}
+use Rattle.fast_tree.specs.device.Numbers.{numbers_of, AreBelow}
 use Rattle.fast_tree.specs.device.Nodes.{field_data}
-use Rattle.fast_tree.specs.declared.instructions.Shape.TheVariants.{Field}
+use Rattle.fast_tree.specs.device.NodeData.{shape_data}
+use Rattle.fast_tree.specs.device.Usable.{IsUsableShape}
+use Rattle.fast_tree.specs.device.Bodies.{body_among}
+use Rattle.fast_tree.specs.declared.instructions.Node.{Node}
+use Rattle.fast_tree.specs.declared.instructions.Shape.{Shape}
+use Rattle.fast_tree.specs.declared.instructions.Shape.TheVariants.{Field, Decimal, Sequence}
+use Rattle.fast_cursor.specs.device.Segments.{first_node}
+use Rattle.fast_stream.specs.meaning.Messages.{State}
+use Rattle.fast_template.specs.meaning.Flat.{tree_of}
 use Rattle.fast_dict.specs.meaning.Slots.{slots_dictionary}
 use Rattle.fast_machine.specs.device.Scalars.{IsOfField}
-use Rattle.fast_machine.specs.device.Positions.{set_of, state_in, CanTake}
+use Rattle.fast_machine.specs.device.Positions.{set_of, state_in, CanTake, BeginsWithInteger}
 use Rattle.fast_machine.specs.declared.machine.Waiting.{Waiting}
-use Rattle.fast_machine.proofs.steps.FieldTurns.{serves_here}
-use Rattle.fast_machine.proofs.machines.ScalarMachines.{still_supplied, first_taken}
+use Rattle.fast_machine.proofs.steps.FieldTurns.{serves_here, serves_known}
+use Rattle.fast_machine.proofs.machines.ScalarMachines.{still_supplied, first_taken, unit_within}
 use Rattle.fast_machine.proofs.fields.ScalarNodes.{at_field_node, at_parts_node, at_sequence_node, no_group, first_below, served_node, first_begins}
 use Rattle.fast_machine.proofs.machines.HeldTexts.{can_take}
 use Rattle.fast_machine.specs.declared.machine.Waiting.TheVariants.{Field}
 use Rattle.fast_machine.proofs.machine.Machine.take_first_integer.Goals as goal
+
+-- Where there is no instruction, none begins with an integer.
+none_begins : (nodes : List Node) (ns : List ℕ) (s : State) → first_node ns ≡ None → BeginsWithInteger (body_among nodes ns) s → ⊥
+none_begins nodes [] s e h = h
+none_begins nodes (n ∷ ns) s e h = absurd (cc e)
+
+pub returns-in_default-clause-taken : goal.returns-in_default-clause-taken
+returns-in_default-clause-taken g c =
+    let m = c.args.self.now in
+    let can = can_take (set_of c.args.templates.now) c.args.limits m m.turns Field c.requires.waits c.requires.ready in
+    absurd (none_begins (set_of c.args.templates.now).nodes m.cursor.left (state_in (slots_dictionary m.slots) m.counted m.cursor) (sym c.next.ensures ∙ c.in_default.is) can.2)
+
+pub returns-in_default-clause-turns : goal.returns-in_default-clause-turns
+returns-in_default-clause-turns g c =
+    let m = c.args.self.now in
+    let can = can_take (set_of c.args.templates.now) c.args.limits m m.turns Field c.requires.waits c.requires.ready in
+    absurd (none_begins (set_of c.args.templates.now).nodes m.cursor.left (state_in (slots_dictionary m.slots) m.counted m.cursor) (sym c.next.ensures ∙ c.in_default.is) can.2)
 
 pub take_first-progress-requires-clause-serves : goal.take_first-progress-requires-clause-serves
 take_first-progress-requires-clause-serves g c =
@@ -159,3 +185,83 @@ node-requires g c =
     let m = c.args.self.now in
     let can = can_take (set_of c.args.templates.now) c.args.limits m m.turns Field c.requires.waits c.requires.ready in
     first_below _ m.cursor.left c.in-Some.number can.0.below (sym c.next.ensures ∙ c.in-Some.is)
+
+pub take_first-progress-requires-clause-limit : goal.take_first-progress-requires-clause-limit
+take_first-progress-requires-clause-limit g c = (c.requires.ready.supplied.max_text, c.requires.ready.supplied.least_text)
+
+pub take_first-progress-requires-clause-joined : goal.take_first-progress-requires-clause-joined
+take_first-progress-requires-clause-joined g c = omega (arith, c.requires.ready.supplied.max_text, c.requires.ready.supplied.joined_room)
+
+pub scalar_taken-requires-clause-serves : goal.scalar_taken-requires-clause-serves
+scalar_taken-requires-clause-serves g c =
+    let set = set_of c.args.templates.now in
+    let m = c.args.self.now in
+    serves_known set m c.take_first-progress.new.slots (field_data c.in-Field.field) c.take_first-progress.ensures.terms
+    (served_node set c.args.limits m c.in-Some.number c.node.result.now (Field c.in-Field.field) c.requires.ready.supplied c.node.ensures.found c.in-Field.is)
+
+pub scalar_taken-requires-clause-within : goal.scalar_taken-requires-clause-within
+scalar_taken-requires-clause-within g c =
+    unit_within c.args.limits _ (field_data c.in-Field.field) c.args.self.now.entity.bytes c.args.rest.now _ _ _ c.take_first-progress.result c.take_first-progress.ensures.unit
+
+pub take_exponent-requires-clause-waits : goal.take_exponent-requires-clause-waits
+take_exponent-requires-clause-waits g c = c.requires.waits
+
+pub take_exponent-requires-clause-ready : goal.take_exponent-requires-clause-ready
+take_exponent-requires-clause-ready g c = c.requires.ready
+
+pub take_exponent-requires-clause-some : goal.take_exponent-requires-clause-some
+take_exponent-requires-clause-some g c = c.requires.some
+
+pub take_exponent-requires-clause-exponent : goal.take_exponent-requires-clause-exponent
+take_exponent-requires-clause-exponent g c =
+    (served_node (set_of c.args.templates.now) c.args.limits c.args.self.now c.in-Some.number c.node.result.now (Decimal c.in-Decimal.exponent c.in-Decimal.mantissa) c.requires.ready.supplied c.node.ensures.found c.in-Decimal.is).0
+
+pub take_exponent-requires-clause-mantissa : goal.take_exponent-requires-clause-mantissa
+take_exponent-requires-clause-mantissa g c =
+    (served_node (set_of c.args.templates.now) c.args.limits c.args.self.now c.in-Some.number c.node.result.now (Decimal c.in-Decimal.exponent c.in-Decimal.mantissa) c.requires.ready.supplied c.node.ensures.found c.in-Decimal.is).1
+
+pub take_exponent-requires-clause-kind : goal.take_exponent-requires-clause-kind
+take_exponent-requires-clause-kind g c = (subst (λ (s : Shape). IsUsableShape (tree_of c.args.templates.now).entries (shape_data s)) c.in-Decimal.is c.node.ensures.usable).2
+
+pub body_start-start-requires : goal.body_start-start-requires
+body_start-start-requires g c =
+    let m = c.args.self.now in
+    let can = can_take (set_of c.args.templates.now) c.args.limits m m.turns Field c.requires.waits c.requires.ready in
+    first_below _ m.cursor.left c.in-Some.number can.0.below (sym c.next.ensures ∙ c.in-Some.is)
+
+pub take_length-requires-clause-waits : goal.take_length-requires-clause-waits
+take_length-requires-clause-waits g c = c.requires.waits
+
+pub take_length-requires-clause-ready : goal.take_length-requires-clause-ready
+take_length-requires-clause-ready g c = c.requires.ready
+
+pub take_length-requires-clause-some : goal.take_length-requires-clause-some
+take_length-requires-clause-some g c = c.requires.some
+
+pub take_length-requires-clause-run : goal.take_length-requires-clause-run
+take_length-requires-clause-run g c = (c.body_start-start.ensures c.node.result.now c.node.ensures.found).run
+
+pub take_length-requires-clause-serves : goal.take_length-requires-clause-serves
+take_length-requires-clause-serves g c =
+    (served_node (set_of c.args.templates.now) c.args.limits c.args.self.now c.in-Some.number c.node.result.now (Sequence c.in-Sequence.length c.in-Sequence.body) c.requires.ready.supplied c.node.ensures.found c.in-Sequence.is).0
+
+pub take_length-requires-clause-kind : goal.take_length-requires-clause-kind
+take_length-requires-clause-kind g c = (subst (λ (s : Shape). IsUsableShape (tree_of c.args.templates.now).entries (shape_data s)) c.in-Sequence.is c.node.ensures.usable).1
+
+pub take_length-requires-clause-below : goal.take_length-requires-clause-below
+take_length-requires-clause-below g c =
+    subst (AreBelow (length (set_of c.args.templates.now).nodes)) (sym (c.body_start-start.ensures c.node.result.now c.node.ensures.found).nodes) (λ k within. (c.node.ensures.body k within).1)
+
+pub take_length-requires-clause-body : goal.take_length-requires-clause-body
+take_length-requires-clause-body g c = λ x found. (c.body_start-start.ensures x found).nodes
+
+pub returns-in-Field-clause-turns : goal.returns-in-Field-clause-turns
+returns-in-Field-clause-turns g c way n h = c.scalar_taken.ensures.turns way n (subst IsOfField (sym c.requires.waits) tt) h
+
+pub returns-in-Group-clause-turns : goal.returns-in-Group-clause-turns
+returns-in-Group-clause-turns g c =
+    let set = set_of c.args.templates.now in
+    let m = c.args.self.now in
+    let first = sym c.next.ensures ∙ c.in-Some.is in
+    let can = can_take set c.args.limits m m.turns Field c.requires.waits c.requires.ready in
+    absurd (no_group set m.cursor c.in-Some.number c.node.result.now c.args.templates.now.nodes_name_later_nodes first c.node.ensures.found (state_in (slots_dictionary m.slots) m.counted m.cursor) c.in-Group.optional c.in-Group.body c.in-Group.is can.2)
