@@ -1,9 +1,10 @@
 -- The number that the bytes in hand begin, and what follows it.
-use Rattle.std.proofs.Common.{sym, ◌∙◌, subst, arith}
+use Rattle.std.proofs.Common.{refl, sym, ap, ◌∙◌, subst, arith}
 use Rattle.std.specs.Prelude.{ℕ, ◌+◌, ◌-◌, ◌<◌, ◌≤◌, length}
 use Rattle.fast_value.specs.meaning.Limits.{bounds}
 use Rattle.fast_tree.specs.device.Nodes.{field_data}
 use Rattle.fast_tree.specs.declared.instructions.Shape.TheVariants.{Field}
+use Rattle.fast_dict.specs.declared.slots.Slots.{Slots}
 use Rattle.fast_machine.specs.device.Positions.{set_of}
 use Rattle.fast_machine.specs.device.UnitTaken.{IsSentItem}
 use Rattle.fast_machine.proofs.steps.FieldTurns.{serves_here}
@@ -63,3 +64,79 @@ node-requires g c =
     let m = c.args.self.now in
     let can = can_take (set_of c.args.templates.now) c.args.limits m m.turns Field c.requires.waits c.requires.ready in
     first_below _ m.cursor.left c.in_ok-number.number can.0.below (sym c.next.ensures ∙ c.in_ok-number.was)
+
+pub returns-in_err-number-clause-none : goal.returns-in_err-number-clause-none
+returns-in_err-number-clause-none g c = rw c.from_residual.ensures (refl, refl)
+
+pub returns-in_err-number-clause-taken : goal.returns-in_err-number-clause-taken
+returns-in_err-number-clause-taken g c = rw c.from_residual.ensures tt
+
+pub returns-in_err-number-clause-on : goal.returns-in_err-number-clause-on
+returns-in_err-number-clause-on g c = rw c.from_residual.ensures tt
+
+pub returns-in_err-number-clause-turns : goal.returns-in_err-number-clause-turns
+returns-in_err-number-clause-turns g c way n h = rw c.from_residual.ensures tt
+
+pub returns-in_default : goal.returns-in_default
+returns-in_default g c = record { none = (refl, refl); taken = tt; on = tt; turns = λ way n h. tt }
+
+pub returns-in_err-bytes-clause-none : goal.returns-in_err-bytes-clause-none
+returns-in_err-bytes-clause-none g c = rw c.from_residual-in_err-bytes.ensures (refl, refl)
+
+pub returns-in_err-bytes-clause-taken : goal.returns-in_err-bytes-clause-taken
+returns-in_err-bytes-clause-taken g c = rw c.from_residual-in_err-bytes.ensures tt
+
+pub returns-in_err-bytes-clause-on : goal.returns-in_err-bytes-clause-on
+returns-in_err-bytes-clause-on g c = rw c.from_residual-in_err-bytes.ensures tt
+
+pub returns-in_err-bytes-clause-turns : goal.returns-in_err-bytes-clause-turns
+returns-in_err-bytes-clause-turns g c way n h = rw c.from_residual-in_err-bytes.ensures tt
+
+pub returns-in_err-entity-clause-none : goal.returns-in_err-entity-clause-none
+returns-in_err-entity-clause-none g c = rw c.from_residual-in_err-entity.ensures (refl, refl)
+
+pub returns-in_err-entity-clause-taken : goal.returns-in_err-entity-clause-taken
+returns-in_err-entity-clause-taken g c = rw c.from_residual-in_err-entity.ensures tt
+
+pub returns-in_err-entity-clause-on : goal.returns-in_err-entity-clause-on
+returns-in_err-entity-clause-on g c = rw c.from_residual-in_err-entity.ensures tt
+
+pub returns-in_err-entity-clause-turns : goal.returns-in_err-entity-clause-turns
+returns-in_err-entity-clause-turns g c way n h = rw c.from_residual-in_err-entity.ensures tt
+
+pub returns-then-entity-held-clause-none : goal.returns-then-entity-held-clause-none
+returns-then-entity-held-clause-none g c = (refl, refl)
+
+pub returns-then-entity-held-clause-taken : goal.returns-then-entity-held-clause-taken
+returns-then-entity-held-clause-taken g c = tt
+
+pub returns-then-entity-held-clause-on : goal.returns-then-entity-held-clause-on
+returns-then-entity-held-clause-on g c = tt
+
+pub returns-then-entity-held-clause-turns : goal.returns-then-entity-held-clause-turns
+returns-then-entity-held-clause-turns g c way n h = tt
+
+pub integer_item-requires-clause-first : goal.integer_item-requires-clause-first
+integer_item-requires-clause-first g c = c.in_ok-entity.ensures
+
+pub returns-in_err-item-clause-none : goal.returns-in_err-item-clause-none
+returns-in_err-item-clause-none g c = rw c.from_residual-in_err-item.ensures (ap (λ (s : Slots). record c.args.self.now { slots = s }) c.in_err-item.ensures.none, refl)
+
+pub returns-in_err-item-clause-taken : goal.returns-in_err-item-clause-taken
+returns-in_err-item-clause-taken g c = rw c.from_residual-in_err-item.ensures tt
+
+pub returns-in_err-item-clause-on : goal.returns-in_err-item-clause-on
+returns-in_err-item-clause-on g c = rw c.from_residual-in_err-item.ensures tt
+
+pub returns-in_err-item-clause-turns : goal.returns-in_err-item-clause-turns
+returns-in_err-item-clause-turns g c way n h = rw c.from_residual-in_err-item.ensures tt
+
+pub sent-requires : goal.sent-requires
+sent-requires g c =
+    record { left = (field_head c.args.templates.now c.args.self.now.cursor c.in_ok-number.number c.node.result.now (sym c.next.ensures ∙ c.in_ok-number.was) c.node.ensures.found c.in-Field.field c.in-Field.is).2 }
+
+pub returns-clause-none : goal.returns-clause-none
+returns-clause-none g c = tt
+
+pub returns-clause-on : goal.returns-clause-on
+returns-clause-on g c = c.sent.ensures.on

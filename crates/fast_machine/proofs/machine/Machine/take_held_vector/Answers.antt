@@ -1,10 +1,12 @@
 -- The bytes in hand and those behind them are the last unit of the field.
-use Rattle.std.proofs.Common.{refl, sym, ◌∙◌, subst, arith}
-use Rattle.std.specs.Prelude.{◌≡◌, ℕ, ◌≤◌, length}
+use Rattle.std.proofs.Common.{refl, sym, ap, ◌∙◌, subst, arith}
+use Rattle.std.specs.Prelude.{◌≡◌, ℕ, ◌+◌, ◌≤◌, length}
 use Rattle.fast_tree.specs.device.Nodes.{field_data}
 use Rattle.fast_tree.specs.meaning.Tree.{Body}
 use Rattle.fast_dict.specs.meaning.Dictionary.{Dictionary}
 use Rattle.fast_stream.specs.device.Readers.{Reader}
+use Rattle.fast_tree.specs.declared.instructions.Shape.TheVariants.{Field}
+use Rattle.fast_units.specs.declared.scratch.Scratch.{Scratch}
 use Rattle.fast_units.specs.declared.progress.Progress.TheVariants.{Whole}
 use Rattle.fast_units.specs.declared.source.ValueSource.TheVariants as From
 use Rattle.fast_units.specs.declared.stages.FieldStep.TheVariants.{Settled}
@@ -14,10 +16,11 @@ use Rattle.fast_machine.specs.declared.machine.Machine.{Machine}
 use Rattle.fast_machine.specs.device.Positions.{set_of, IsReady, GoesOnWithBytes}
 use Rattle.fast_machine.specs.device.Scalars.{IsOfField, IsScalarUnit}
 use Rattle.fast_machine.specs.device.UnitTaken.{IsTakenTo}
-use Rattle.fast_machine.proofs.fields.ScalarNodes.{at_field_node, first_below}
+use Rattle.fast_machine.proofs.fields.ScalarNodes.{at_field_node, served_node, first_below}
 use Rattle.fast_machine.proofs.machines.HeldTexts.{counted, counted_reads, counted_ready, can_take}
 use Rattle.fast_machine.proofs.machines.ScalarMachines.{bytes_taken, still_supplied}
 use Rattle.fast_machine.proofs.steps.FieldTurns.{state_of}
+use Rattle.fast_machine.proofs.steps.TurnCounts.{one_unit}
 use Rattle.fast_machine.proofs.machine.Machine.take_held_vector.Goals as goal
 
 pub held_vector-requires-clause-text : goal.held_vector-requires-clause-text
@@ -68,3 +71,57 @@ node-requires g c =
     let m = c.args.self.now in
     let can = can_take (set_of c.args.templates.now) c.args.limits m m.turns (Bytes (Vector c.args.size)) c.requires.waits c.requires.ready in
     first_below _ m.cursor.left c.in_ok-number.number can.0.below (sym c.next.ensures ∙ c.in_ok-number.was)
+
+pub returns-in_err-number-clause-none : goal.returns-in_err-number-clause-none
+returns-in_err-number-clause-none g c = rw c.from_residual.ensures (refl, refl)
+
+pub returns-in_err-number-clause-taken : goal.returns-in_err-number-clause-taken
+returns-in_err-number-clause-taken g c = rw c.from_residual.ensures tt
+
+pub returns-in_err-number-clause-on : goal.returns-in_err-number-clause-on
+returns-in_err-number-clause-on g c = rw c.from_residual.ensures tt
+
+pub returns-in_err-number-clause-turns : goal.returns-in_err-number-clause-turns
+returns-in_err-number-clause-turns g c way n h = rw c.from_residual.ensures tt
+
+pub returns-in_default : goal.returns-in_default
+returns-in_default g c = record { none = (refl, refl); taken = tt; on = tt; turns = λ way n h. tt }
+
+pub held_vector-requires-clause-more : goal.held_vector-requires-clause-more
+held_vector-requires-clause-more g c =
+    let set = set_of c.args.templates.now in
+    let l = c.args.limits in
+    let m = c.args.self.now in
+    let stage = Vector c.args.size in
+    let at = at_field_node set m.cursor c.in_ok-number.number c.node.result.now c.args.templates.now.nodes_name_later_nodes (sym c.next.ensures ∙ c.in_ok-number.was) c.node.ensures.found c.in-Field.field c.in-Field.is in
+    let can = can_take set l m m.turns (Bytes stage) c.requires.waits c.requires.ready in
+    let (sent, is_stage, front) = subst (λ (b : Body). GoesOnWithBytes l b (state_of m) stage m.text.text) at.3 can.3 in
+    front
+
+pub returns-in_err-bytes-clause-none : goal.returns-in_err-bytes-clause-none
+returns-in_err-bytes-clause-none g c = rw c.from_residual-in_err-bytes.ensures (ap (λ (t : Scratch). record c.args.self.now { text = t }) c.in_err-bytes.ensures.none, refl)
+
+pub returns-in_err-bytes-clause-taken : goal.returns-in_err-bytes-clause-taken
+returns-in_err-bytes-clause-taken g c = rw c.from_residual-in_err-bytes.ensures tt
+
+pub returns-in_err-bytes-clause-on : goal.returns-in_err-bytes-clause-on
+returns-in_err-bytes-clause-on g c = rw c.from_residual-in_err-bytes.ensures tt
+
+pub returns-in_err-bytes-clause-turns : goal.returns-in_err-bytes-clause-turns
+returns-in_err-bytes-clause-turns g c way n h = rw c.from_residual-in_err-bytes.ensures tt
+
+pub scalar_taken-requires-clause-serves : goal.scalar_taken-requires-clause-serves
+scalar_taken-requires-clause-serves g c =
+    served_node (set_of c.args.templates.now) c.args.limits c.args.self.now c.in_ok-number.number c.node.result.now (Field c.in-Field.field) c.requires.ready.supplied c.node.ensures.found c.in-Field.is
+
+pub returns-clause-none : goal.returns-clause-none
+returns-clause-none g c = tt
+
+pub returns-clause-on : goal.returns-clause-on
+returns-clause-on g c = c.scalar_taken.ensures.on From.Scratch c.in_ok-bytes.bytes refl
+
+pub returns-clause-turns : goal.returns-clause-turns
+returns-clause-turns g c way n h =
+    let m = c.args.self.now in
+    c.scalar_taken.ensures.turns way (1 + n) (subst IsOfField (sym c.requires.waits) tt)
+    (one_unit way (set_of c.args.templates.now) c.args.limits 1 n m.turns.count c.after-self.result.count m.counted m.cursor c.after-self.ensures h)

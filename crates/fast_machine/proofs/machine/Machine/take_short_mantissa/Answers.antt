@@ -1,11 +1,16 @@
 -- A whole mantissa, and the turn behind it.
-use Rattle.std.proofs.Common.{[], sym, ◌∙◌, subst, ℤ, ◌+◌}
+use Rattle.std.proofs.Common.{[], refl, sym, ap, ◌∙◌, subst, ℤ, ◌+◌}
 use mir.Syntax.{w32}
 use mir.Val.{to_z, of_z}
 use Rattle.std.proofs.lemmas.Int.{to_z-of_z}
 use Rattle.fast_value.specs.meaning.Limits.{bounds}
 use Rattle.fast_tree.specs.device.Nodes.{field_data}
 use Rattle.fast_tree.specs.declared.instructions.Shape.TheVariants.{Decimal}
+use Rattle.fast_tree.specs.declared.instructions.Shape.{Shape}
+use Rattle.fast_tree.specs.device.NodeData.{shape_data}
+use Rattle.fast_tree.specs.device.Usable.{IsUsableShape}
+use Rattle.fast_template.specs.meaning.Flat.{tree_of}
+use Rattle.fast_dict.specs.declared.slots.Slots.{Slots}
 use Rattle.fast_dict.specs.meaning.Dictionary.{Dictionary}
 use Rattle.fast_dict.specs.meaning.Slots.{slots_dictionary}
 use Rattle.fast_stream.specs.device.Continuations.{handed_then}
@@ -97,3 +102,70 @@ node-requires g c =
     let m = c.args.self.now in
     let can = can_take (set_of c.args.templates.now) c.args.limits m m.turns (Mantissa c.args.exponent) c.requires.waits c.requires.ready in
     first_below _ m.cursor.left c.in_ok-number.number can.0.below (sym c.next.ensures ∙ c.in_ok-number.was)
+
+pub returns-then-not-is_empty-clause-none : goal.returns-then-not-is_empty-clause-none
+returns-then-not-is_empty-clause-none g c = (refl, refl)
+
+pub returns-then-not-is_empty-clause-taken : goal.returns-then-not-is_empty-clause-taken
+returns-then-not-is_empty-clause-taken g c = tt
+
+pub returns-then-not-is_empty-clause-on : goal.returns-then-not-is_empty-clause-on
+returns-then-not-is_empty-clause-on g c = tt
+
+pub returns-then-not-is_empty-clause-turns : goal.returns-then-not-is_empty-clause-turns
+returns-then-not-is_empty-clause-turns g c way n h = tt
+
+pub returns-in_err-number-clause-none : goal.returns-in_err-number-clause-none
+returns-in_err-number-clause-none g c = rw c.from_residual.ensures (refl, refl)
+
+pub returns-in_err-number-clause-taken : goal.returns-in_err-number-clause-taken
+returns-in_err-number-clause-taken g c = rw c.from_residual.ensures tt
+
+pub returns-in_err-number-clause-on : goal.returns-in_err-number-clause-on
+returns-in_err-number-clause-on g c = rw c.from_residual.ensures tt
+
+pub returns-in_err-number-clause-turns : goal.returns-in_err-number-clause-turns
+returns-in_err-number-clause-turns g c way n h = rw c.from_residual.ensures tt
+
+pub returns-in_default : goal.returns-in_default
+returns-in_default g c = record { none = (refl, refl); taken = tt; on = tt; turns = λ way n h. tt }
+
+pub returns-in_err-entity-clause-none : goal.returns-in_err-entity-clause-none
+returns-in_err-entity-clause-none g c = rw c.from_residual-in_err-entity.ensures (refl, refl)
+
+pub returns-in_err-entity-clause-taken : goal.returns-in_err-entity-clause-taken
+returns-in_err-entity-clause-taken g c = rw c.from_residual-in_err-entity.ensures tt
+
+pub returns-in_err-entity-clause-on : goal.returns-in_err-entity-clause-on
+returns-in_err-entity-clause-on g c = rw c.from_residual-in_err-entity.ensures tt
+
+pub returns-in_err-entity-clause-turns : goal.returns-in_err-entity-clause-turns
+returns-in_err-entity-clause-turns g c way n h = rw c.from_residual-in_err-entity.ensures tt
+
+pub returns-in_err-item-clause-none : goal.returns-in_err-item-clause-none
+returns-in_err-item-clause-none g c = rw c.from_residual-in_err-item.ensures (ap (λ (s : Slots). record c.args.self.now { slots = s }) c.in_err-item.ensures.none, refl)
+
+pub returns-in_err-item-clause-taken : goal.returns-in_err-item-clause-taken
+returns-in_err-item-clause-taken g c = rw c.from_residual-in_err-item.ensures tt
+
+pub returns-in_err-item-clause-on : goal.returns-in_err-item-clause-on
+returns-in_err-item-clause-on g c = rw c.from_residual-in_err-item.ensures tt
+
+pub returns-in_err-item-clause-turns : goal.returns-in_err-item-clause-turns
+returns-in_err-item-clause-turns g c way n h = rw c.from_residual-in_err-item.ensures tt
+
+pub mantissa_item-requires-clause-first : goal.mantissa_item-requires-clause-first
+mantissa_item-requires-clause-first g c = c.in_ok-entity.ensures
+
+pub mantissa_item-requires-clause-kind : goal.mantissa_item-requires-clause-kind
+mantissa_item-requires-clause-kind g c = (subst (λ (s : Shape). IsUsableShape (tree_of c.args.templates.now).entries (shape_data s)) c.in-Decimal.is c.node.ensures.usable).3
+
+pub finish_decimal-turn-requires-clause-left : goal.finish_decimal-turn-requires-clause-left
+finish_decimal-turn-requires-clause-left g c =
+    (parts_head c.args.templates.now c.args.self.now.cursor c.in_ok-number.number c.node.result.now (sym c.next.ensures ∙ c.in_ok-number.was) c.node.ensures.found c.in-Decimal.exponent c.in-Decimal.mantissa c.in-Decimal.is).2
+
+pub returns-clause-none : goal.returns-clause-none
+returns-clause-none g c = tt
+
+pub returns-clause-on : goal.returns-clause-on
+returns-clause-on g c = c.finish_decimal-turn.ensures.on

@@ -1,13 +1,16 @@
 -- The number, and what follows it.
-use Rattle.std.proofs.Common.{rules, sym, ◌∙◌}
+use Rattle.std.proofs.Common.{rules, refl, sym, ap, ◌∙◌}
 use Rattle.std.specs.Prelude.{◌≡◌, ◌≢◌, false, Some}
+use Rattle.fast_value.specs.meaning.Kinds.{family}
 use Rattle.fast_value.specs.declared.kinds.Kind.TheVariants.{Ascii}
 use Rattle.fast_value.specs.meaning.Limits.{bounds}
 use Rattle.fast_tree.specs.device.Nodes.{field_data}
 use Rattle.fast_tree.specs.meaning.Tree.{uses_bit}
 use Rattle.fast_tree.specs.declared.instructions.Shape.TheVariants.{Field}
+use Rattle.fast_dict.specs.declared.slots.Slots.{Slots}
 use Rattle.fast_machine.specs.device.Positions.{set_of}
 use Rattle.fast_machine.proofs.steps.FieldTurns.{serves_here, state_of}
+use Rattle.fast_machine.proofs.fields.Heads.{field_head}
 use Rattle.fast_machine.proofs.fields.QuickFields.{sent_by_bit}
 use Rattle.fast_machine.proofs.fields.ScalarNodes.{served_node, first_below}
 use Rattle.fast_machine.proofs.machines.SentItems.{sent_item, number_waits, number_step}
@@ -92,7 +95,7 @@ returns-in_ok-decimal-in-Decimal-clause-taken g c =
     let m = c.args.self.now in
     let field = c.in-Field.field in
     let here = sym c.next.ensures ∙ c.in_ok-number.was in
-    let other : field.kind ≢ Ascii = search rules in
+    let other : field.kind ≢ Ascii = λ ascii. absurd (cc (sym c.in-Decimal.is ∙ ascii)) in
     let uses = c.in_ok-has_bit.ensures in
     let waits = number_waits g.S.Sink.takes g.S.Sink.stops c.args.templates.now l m c.args.sink.now c.in_ok-number.number c.node.result.now field c.requires.waits c.requires.turn here c.node.ensures.found c.in-Field.is
     (sent_by_bit (field_data field) (state_of m) c.in_ok-has_bit.has_bit uses.varies (sym uses.uses) uses.sent) other in
@@ -108,7 +111,7 @@ returns-in_ok-decimal-in-Decimal-clause-turns g c way n h =
     let m = c.args.self.now in
     let field = c.in-Field.field in
     let here = sym c.next.ensures ∙ c.in_ok-number.was in
-    let other : field.kind ≢ Ascii = search rules in
+    let other : field.kind ≢ Ascii = λ ascii. absurd (cc (sym c.in-Decimal.is ∙ ascii)) in
     let uses = c.in_ok-has_bit.ensures in
     let waits = number_waits g.S.Sink.takes g.S.Sink.stops c.args.templates.now l m c.args.sink.now c.in_ok-number.number c.node.result.now field c.requires.waits c.requires.turn here c.node.ensures.found c.in-Field.is
     (sent_by_bit (field_data field) (state_of m) c.in_ok-has_bit.has_bit uses.varies (sym uses.uses) uses.sent) other in
@@ -123,7 +126,7 @@ returns-in_ok-decimal-in-Decimal-clause-some g c =
     let m = c.args.self.now in
     let field = c.in-Field.field in
     let here = sym c.next.ensures ∙ c.in_ok-number.was in
-    let other : field.kind ≢ Ascii = search rules in
+    let other : field.kind ≢ Ascii = λ ascii. absurd (cc (sym c.in-Decimal.is ∙ ascii)) in
     let uses = c.in_ok-has_bit.ensures in
     let waits = number_waits g.S.Sink.takes g.S.Sink.stops c.args.templates.now l m c.args.sink.now c.in_ok-number.number c.node.result.now field c.requires.waits c.requires.turn here c.node.ensures.found c.in-Field.is
     (sent_by_bit (field_data field) (state_of m) c.in_ok-has_bit.has_bit uses.varies (sym uses.uses) uses.sent) other in
@@ -139,7 +142,7 @@ returns-in_ok-decimal-in-Decimal-clause-step g c =
     let m = c.args.self.now in
     let field = c.in-Field.field in
     let here = sym c.next.ensures ∙ c.in_ok-number.was in
-    let other : field.kind ≢ Ascii = search rules in
+    let other : field.kind ≢ Ascii = λ ascii. absurd (cc (sym c.in-Decimal.is ∙ ascii)) in
     let uses = c.in_ok-has_bit.ensures in
     let waits = number_waits g.S.Sink.takes g.S.Sink.stops c.args.templates.now l m c.args.sink.now c.in_ok-number.number c.node.result.now field c.requires.waits c.requires.turn here c.node.ensures.found c.in-Field.is
     (sent_by_bit (field_data field) (state_of m) c.in_ok-has_bit.has_bit uses.varies (sym uses.uses) uses.sent) other in
@@ -152,3 +155,188 @@ returns-in_ok-decimal-in-Decimal-clause-step g c =
 
 pub node-requires : goal.node-requires
 node-requires g c = first_below _ c.args.self.now.cursor.left c.in_ok-number.number c.requires.turn.placed.below (sym c.next.ensures ∙ c.in_ok-number.was)
+
+pub returns-in_err-number-clause-none : goal.returns-in_err-number-clause-none
+returns-in_err-number-clause-none g c = rw c.from_residual.ensures (refl, refl)
+
+pub returns-in_err-number-clause-step : goal.returns-in_err-number-clause-step
+returns-in_err-number-clause-step g c = rw c.from_residual.ensures tt
+
+pub returns-in_err-number-clause-some : goal.returns-in_err-number-clause-some
+returns-in_err-number-clause-some g c = rw c.from_residual.ensures tt
+
+pub returns-in_err-number-clause-taken : goal.returns-in_err-number-clause-taken
+returns-in_err-number-clause-taken g c = rw c.from_residual.ensures tt
+
+pub returns-in_err-number-clause-on : goal.returns-in_err-number-clause-on
+returns-in_err-number-clause-on g c = rw c.from_residual.ensures tt
+
+pub returns-in_err-number-clause-waits : goal.returns-in_err-number-clause-waits
+returns-in_err-number-clause-waits g c = c.requires.waits
+
+pub returns-in_err-number-clause-turns : goal.returns-in_err-number-clause-turns
+returns-in_err-number-clause-turns g c way n h = rw c.from_residual.ensures tt
+
+pub returns-in_default : goal.returns-in_default
+returns-in_default g c = record { none = (refl, refl); step = tt; some = tt; taken = tt; on = tt; waits = c.requires.waits; turns = λ way n h. tt }
+
+pub returns-in_err-has_bit-clause-none : goal.returns-in_err-has_bit-clause-none
+returns-in_err-has_bit-clause-none g c = rw c.from_residual-in_err-has_bit.ensures (refl, refl)
+
+pub returns-in_err-has_bit-clause-step : goal.returns-in_err-has_bit-clause-step
+returns-in_err-has_bit-clause-step g c = rw c.from_residual-in_err-has_bit.ensures tt
+
+pub returns-in_err-has_bit-clause-some : goal.returns-in_err-has_bit-clause-some
+returns-in_err-has_bit-clause-some g c = rw c.from_residual-in_err-has_bit.ensures tt
+
+pub returns-in_err-has_bit-clause-taken : goal.returns-in_err-has_bit-clause-taken
+returns-in_err-has_bit-clause-taken g c = rw c.from_residual-in_err-has_bit.ensures tt
+
+pub returns-in_err-has_bit-clause-on : goal.returns-in_err-has_bit-clause-on
+returns-in_err-has_bit-clause-on g c = rw c.from_residual-in_err-has_bit.ensures tt
+
+pub returns-in_err-has_bit-clause-waits : goal.returns-in_err-has_bit-clause-waits
+returns-in_err-has_bit-clause-waits g c = c.requires.waits
+
+pub returns-in_err-has_bit-clause-turns : goal.returns-in_err-has_bit-clause-turns
+returns-in_err-has_bit-clause-turns g c way n h = rw c.from_residual-in_err-has_bit.ensures tt
+
+pub returns-in_err-entity-in-UInt32-clause-none : goal.returns-in_err-entity-in-UInt32-clause-none
+returns-in_err-entity-in-UInt32-clause-none g c = rw c.from_residual-in_err-entity-in-UInt32.ensures (refl, refl)
+
+pub returns-in_err-entity-in-UInt32-clause-step : goal.returns-in_err-entity-in-UInt32-clause-step
+returns-in_err-entity-in-UInt32-clause-step g c = rw c.from_residual-in_err-entity-in-UInt32.ensures tt
+
+pub returns-in_err-entity-in-UInt32-clause-some : goal.returns-in_err-entity-in-UInt32-clause-some
+returns-in_err-entity-in-UInt32-clause-some g c = rw c.from_residual-in_err-entity-in-UInt32.ensures tt
+
+pub returns-in_err-entity-in-UInt32-clause-taken : goal.returns-in_err-entity-in-UInt32-clause-taken
+returns-in_err-entity-in-UInt32-clause-taken g c = rw c.from_residual-in_err-entity-in-UInt32.ensures tt
+
+pub returns-in_err-entity-in-UInt32-clause-on : goal.returns-in_err-entity-in-UInt32-clause-on
+returns-in_err-entity-in-UInt32-clause-on g c = rw c.from_residual-in_err-entity-in-UInt32.ensures tt
+
+pub returns-in_err-entity-in-UInt32-clause-waits : goal.returns-in_err-entity-in-UInt32-clause-waits
+returns-in_err-entity-in-UInt32-clause-waits g c = c.requires.waits
+
+pub returns-in_err-entity-in-UInt32-clause-turns : goal.returns-in_err-entity-in-UInt32-clause-turns
+returns-in_err-entity-in-UInt32-clause-turns g c way n h = rw c.from_residual-in_err-entity-in-UInt32.ensures tt
+
+pub returns-in_err-item-in-UInt32-clause-none : goal.returns-in_err-item-in-UInt32-clause-none
+returns-in_err-item-in-UInt32-clause-none g c = rw c.from_residual-in_err-item-in-UInt32.ensures (ap (λ (s : Slots). record c.args.self.now { slots = s }) c.in_err-item-in-UInt32.ensures.none, refl)
+
+pub returns-in_err-item-in-UInt32-clause-step : goal.returns-in_err-item-in-UInt32-clause-step
+returns-in_err-item-in-UInt32-clause-step g c = rw c.from_residual-in_err-item-in-UInt32.ensures tt
+
+pub returns-in_err-item-in-UInt32-clause-some : goal.returns-in_err-item-in-UInt32-clause-some
+returns-in_err-item-in-UInt32-clause-some g c = rw c.from_residual-in_err-item-in-UInt32.ensures tt
+
+pub returns-in_err-item-in-UInt32-clause-taken : goal.returns-in_err-item-in-UInt32-clause-taken
+returns-in_err-item-in-UInt32-clause-taken g c = rw c.from_residual-in_err-item-in-UInt32.ensures tt
+
+pub returns-in_err-item-in-UInt32-clause-on : goal.returns-in_err-item-in-UInt32-clause-on
+returns-in_err-item-in-UInt32-clause-on g c = rw c.from_residual-in_err-item-in-UInt32.ensures tt
+
+pub returns-in_err-item-in-UInt32-clause-waits : goal.returns-in_err-item-in-UInt32-clause-waits
+returns-in_err-item-in-UInt32-clause-waits g c = c.requires.waits
+
+pub returns-in_err-item-in-UInt32-clause-turns : goal.returns-in_err-item-in-UInt32-clause-turns
+returns-in_err-item-in-UInt32-clause-turns g c way n h = rw c.from_residual-in_err-item-in-UInt32.ensures tt
+
+pub returns-in_err-decimal-in-Decimal-clause-none : goal.returns-in_err-decimal-in-Decimal-clause-none
+returns-in_err-decimal-in-Decimal-clause-none g c = rw c.from_residual-in_err-decimal-in-Decimal.ensures (ap (λ (s : Slots). record c.args.self.now { slots = s }) c.in_err-decimal-in-Decimal.ensures.none, refl)
+
+pub returns-in_err-decimal-in-Decimal-clause-step : goal.returns-in_err-decimal-in-Decimal-clause-step
+returns-in_err-decimal-in-Decimal-clause-step g c = rw c.from_residual-in_err-decimal-in-Decimal.ensures tt
+
+pub returns-in_err-decimal-in-Decimal-clause-some : goal.returns-in_err-decimal-in-Decimal-clause-some
+returns-in_err-decimal-in-Decimal-clause-some g c = rw c.from_residual-in_err-decimal-in-Decimal.ensures tt
+
+pub returns-in_err-decimal-in-Decimal-clause-taken : goal.returns-in_err-decimal-in-Decimal-clause-taken
+returns-in_err-decimal-in-Decimal-clause-taken g c = rw c.from_residual-in_err-decimal-in-Decimal.ensures tt
+
+pub returns-in_err-decimal-in-Decimal-clause-on : goal.returns-in_err-decimal-in-Decimal-clause-on
+returns-in_err-decimal-in-Decimal-clause-on g c = rw c.from_residual-in_err-decimal-in-Decimal.ensures tt
+
+pub returns-in_err-decimal-in-Decimal-clause-waits : goal.returns-in_err-decimal-in-Decimal-clause-waits
+returns-in_err-decimal-in-Decimal-clause-waits g c = c.requires.waits
+
+pub returns-in_err-decimal-in-Decimal-clause-turns : goal.returns-in_err-decimal-in-Decimal-clause-turns
+returns-in_err-decimal-in-Decimal-clause-turns g c way n h = rw c.from_residual-in_err-decimal-in-Decimal.ensures tt
+
+pub integer_item-requires-clause-first : goal.integer_item-requires-clause-first
+integer_item-requires-clause-first g c = c.in_ok-entity-in-UInt32.ensures
+
+pub integer_item-requires-clause-varies : goal.integer_item-requires-clause-varies
+integer_item-requires-clause-varies g c = c.in_ok-has_bit.ensures.varies
+
+pub sent-requires : goal.sent-requires
+sent-requires g c =
+    record { left = (field_head c.args.templates.now c.args.self.now.cursor c.in_ok-number.number c.node.result.now (sym c.next.ensures ∙ c.in_ok-number.was) c.node.ensures.found c.in-Field.field c.in-Field.is).2 }
+
+pub sent-requires-in-Decimal : goal.sent-requires-in-Decimal
+sent-requires-in-Decimal g c =
+    record { left = (field_head c.args.templates.now c.args.self.now.cursor c.in_ok-number.number c.node.result.now (sym c.next.ensures ∙ c.in_ok-number.was) c.node.ensures.found c.in-Field.field c.in-Field.is).2 }
+
+pub delta_decimal-requires-clause-decimals : goal.delta_decimal-requires-clause-decimals
+delta_decimal-requires-clause-decimals g c = ap family c.in-Decimal.is
+
+pub returns-in_ok-item-in-UInt32-clause-none : goal.returns-in_ok-item-in-UInt32-clause-none
+returns-in_ok-item-in-UInt32-clause-none g c = tt
+
+pub returns-in_ok-item-in-UInt32-clause-on : goal.returns-in_ok-item-in-UInt32-clause-on
+returns-in_ok-item-in-UInt32-clause-on g c = c.sent.ensures.on
+
+pub returns-in_ok-item-in-UInt32-clause-waits : goal.returns-in_ok-item-in-UInt32-clause-waits
+returns-in_ok-item-in-UInt32-clause-waits g c = c.sent.ensures.waits ∙ c.requires.waits
+
+pub returns-in_ok-decimal-in-Decimal-clause-none : goal.returns-in_ok-decimal-in-Decimal-clause-none
+returns-in_ok-decimal-in-Decimal-clause-none g c = tt
+
+pub returns-in_ok-decimal-in-Decimal-clause-on : goal.returns-in_ok-decimal-in-Decimal-clause-on
+returns-in_ok-decimal-in-Decimal-clause-on g c = c.sent-in-Decimal.ensures.on
+
+pub returns-in_ok-decimal-in-Decimal-clause-waits : goal.returns-in_ok-decimal-in-Decimal-clause-waits
+returns-in_ok-decimal-in-Decimal-clause-waits g c = c.sent-in-Decimal.ensures.waits ∙ c.requires.waits
+
+pub returns-in-Decimal-2-clause-none : goal.returns-in-Decimal-2-clause-none
+returns-in-Decimal-2-clause-none g c = (refl, refl)
+
+pub returns-in-Decimal-2-clause-step : goal.returns-in-Decimal-2-clause-step
+returns-in-Decimal-2-clause-step g c = tt
+
+pub returns-in-Decimal-2-clause-some : goal.returns-in-Decimal-2-clause-some
+returns-in-Decimal-2-clause-some g c = tt
+
+pub returns-in-Decimal-2-clause-taken : goal.returns-in-Decimal-2-clause-taken
+returns-in-Decimal-2-clause-taken g c = tt
+
+pub returns-in-Decimal-2-clause-on : goal.returns-in-Decimal-2-clause-on
+returns-in-Decimal-2-clause-on g c = tt
+
+pub returns-in-Decimal-2-clause-waits : goal.returns-in-Decimal-2-clause-waits
+returns-in-Decimal-2-clause-waits g c = c.requires.waits
+
+pub returns-in-Decimal-2-clause-turns : goal.returns-in-Decimal-2-clause-turns
+returns-in-Decimal-2-clause-turns g c way n h = tt
+
+pub returns-in-Decimal-2-2-clause-none : goal.returns-in-Decimal-2-2-clause-none
+returns-in-Decimal-2-2-clause-none g c = (refl, refl)
+
+pub returns-in-Decimal-2-2-clause-step : goal.returns-in-Decimal-2-2-clause-step
+returns-in-Decimal-2-2-clause-step g c = tt
+
+pub returns-in-Decimal-2-2-clause-some : goal.returns-in-Decimal-2-2-clause-some
+returns-in-Decimal-2-2-clause-some g c = tt
+
+pub returns-in-Decimal-2-2-clause-taken : goal.returns-in-Decimal-2-2-clause-taken
+returns-in-Decimal-2-2-clause-taken g c = tt
+
+pub returns-in-Decimal-2-2-clause-on : goal.returns-in-Decimal-2-2-clause-on
+returns-in-Decimal-2-2-clause-on g c = tt
+
+pub returns-in-Decimal-2-2-clause-waits : goal.returns-in-Decimal-2-2-clause-waits
+returns-in-Decimal-2-2-clause-waits g c = c.requires.waits
+
+pub returns-in-Decimal-2-2-clause-turns : goal.returns-in-Decimal-2-2-clause-turns
+returns-in-Decimal-2-2-clause-turns g c way n h = tt
