@@ -1,13 +1,16 @@
-use Rattle.std.proofs.Common.{refl, []}
+use Rattle.std.proofs.Common.{refl, sym, [], subst}
 use Rattle.fast_value.specs.meaning.Limits.{bounds}
 use Rattle.fast_tree.specs.device.Nodes.{field_data}
 use Rattle.fast_dict.specs.meaning.Slots.{slots_dictionary}
 use Rattle.fast_stream.specs.device.Continuations.{mantissa_after_then}
 use Rattle.fast_machine.specs.device.Positions.{set_of, turning, meaning}
+use Rattle.fast_machine.specs.device.TurnsLeft.{HasTurnsAt}
+use Rattle.fast_machine.specs.declared.machine.Waiting.{Waiting}
 use Rattle.fast_stream.specs.declared.faults.FaultCode.TheVariants as Why
 use Rattle.fast_machine.proofs.machines.PartTakes.{integer_whole, integer_wrong, integer_cut, exponent_sees, exponent_sent, meaning_first, first_cut, first_ready, part_supplied}
 use Rattle.fast_machine.proofs.machines.UnitTaken.{cut_to, wrong_to}
 use Rattle.fast_machine.proofs.steps.FieldTurns.{serves_here, behind, parts_next}
+use Rattle.fast_machine.proofs.steps.TurnCounts.{fault_turns}
 use Rattle.fast_machine.proofs.machine.Machine.take_exponent.Goals as goal
 
 pub take_integer-requires-clause-serves : goal.take_integer-requires-clause-serves
@@ -65,3 +68,17 @@ returns-in-Whole-clause-taken g c =
     let is = meaning_first set l m c.requires.waits in
     integer_whole takes stops set l m f k (turning set l m) c.args.rest.now sent next is (exponent_sees (bounds l) n (field_data c.args.mantissa.now) (behind set l m)) c.take_integer.new.slots m.text.text c.in-Whole.source c.in-Whole.bytes (c.in-Whole.ensures.unit (bounds l) m.text.text)
     c.args.sink.now c.exponent_known-turn.result c.exponent_known-turn.new.sink c.exponent_known-turn.new.self c.exponent_known-turn.ensures.turn
+
+pub returns-in-Cut-clause-turns : goal.returns-in-Cut-clause-turns
+returns-in-Cut-clause-turns g c way n h =
+    let m = c.args.self.now in
+    let a = record m { slots = c.take_integer.new.slots; entity = c.take_integer.new.pending } in
+    rw c.cut.ensures.turn (subst (λ (w : Waiting). HasTurnsAt w way (set_of c.args.templates.now) c.args.limits n a) (sym c.requires.waits) h)
+
+pub returns-in-Wrong-clause-turns : goal.returns-in-Wrong-clause-turns
+returns-in-Wrong-clause-turns g c way n h =
+    let m = c.args.self.now in
+    fault_turns way (set_of c.args.templates.now) c.args.limits n m (record m { slots = c.take_integer.new.slots; entity = c.take_integer.new.pending }) c.wrong.result.turn (Why.Stream c.in-Wrong.code) c.wrong.ensures.turn refl h
+
+pub returns-in-Whole-clause-turns : goal.returns-in-Whole-clause-turns
+returns-in-Whole-clause-turns g c = c.exponent_known-turn.ensures.turns

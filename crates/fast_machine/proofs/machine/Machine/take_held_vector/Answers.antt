@@ -125,3 +125,31 @@ returns-clause-turns g c way n h =
     let m = c.args.self.now in
     c.scalar_taken.ensures.turns way (1 + n) (subst IsOfField (sym c.requires.waits) tt)
     (one_unit way (set_of c.args.templates.now) c.args.limits 1 n m.turns.count c.after-self.result.count m.counted m.cursor c.after-self.ensures h)
+
+pub held_vector-requires-clause-fits : goal.held_vector-requires-clause-fits
+held_vector-requires-clause-fits g c =
+    let set = set_of c.args.templates.now in
+    let l = c.args.limits in
+    let m = c.args.self.now in
+    let stage = Vector c.args.size in
+    let at = at_field_node set m.cursor c.in_ok-number.number c.node.result.now c.args.templates.now.nodes_name_later_nodes (sym c.next.ensures ∙ c.in_ok-number.was) c.node.ensures.found c.in-Field.field c.in-Field.is in
+    let can = can_take set l m m.turns (Bytes stage) c.requires.waits c.requires.ready in
+    let (sent, is_stage, front) = subst (λ (b : Body). GoesOnWithBytes l b (state_of m) stage m.text.text) at.3 can.3 in
+    rw c.requires.ready.supplied.text_room is_stage.4
+
+pub scalar_taken-requires-clause-progress : goal.scalar_taken-requires-clause-progress
+scalar_taken-requires-clause-progress g c =
+    let set = set_of c.args.templates.now in
+    let l = c.args.limits in
+    let m = c.args.self.now in
+    let w = Bytes (Vector c.args.size) in
+    let turns = c.after-self.result in
+    let can = can_take set l m turns w c.requires.waits c.requires.ready in
+    let a : Machine = counted set l m turns w c.requires.waits in
+    let ready : IsReady set l a = counted_ready set l m turns w c.requires.waits c.requires.ready can in
+    record {
+      supplied = still_supplied set l a m.slots m.entity c.held_vector.new.scratch m.joined refl c.in_ok-bytes.ensures.capacity refl ready.supplied;
+      placed = can.0;
+      mapped = can.1;
+      unused = can.2;
+    }
