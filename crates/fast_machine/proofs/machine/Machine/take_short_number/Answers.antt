@@ -14,7 +14,12 @@ use Rattle.fast_machine.proofs.fields.Heads.{field_head}
 use Rattle.fast_machine.proofs.fields.QuickFields.{sent_by_bit}
 use Rattle.fast_machine.proofs.fields.ScalarNodes.{served_node, first_below}
 use Rattle.fast_machine.proofs.machines.SentItems.{sent_item, number_waits, number_step}
+use Rattle.fast_machine.proofs.machine.Machine.take_short_number.Given.{Over}
 use Rattle.fast_machine.proofs.machine.Machine.take_short_number.Goals as goal
+
+-- An integer is no ASCII text.
+integer_kind : (g : Over) (c : goal.After-sent g) → c.in-Field.field.kind ≢ Ascii
+integer_kind g c = search rules
 
 pub integer_item-requires-clause-serves : goal.integer_item-requires-clause-serves
 integer_item-requires-clause-serves g c =
@@ -33,7 +38,7 @@ returns-in_ok-item-in-UInt32-clause-taken g c =
     let m = c.args.self.now in
     let field = c.in-Field.field in
     let here = sym c.next.ensures ∙ c.in_ok-number.was in
-    let other : field.kind ≢ Ascii = search rules in
+    let other = integer_kind g c in
     let uses = c.in_ok-has_bit.ensures in
     let waits = number_waits g.S.Sink.takes g.S.Sink.stops c.args.templates.now l m c.args.sink.now c.in_ok-number.number c.node.result.now field c.requires.waits c.requires.turn here c.node.ensures.found c.in-Field.is
     (sent_by_bit (field_data field) (state_of m) c.in_ok-has_bit.has_bit uses.varies (sym uses.uses) uses.sent) other in
@@ -48,7 +53,7 @@ returns-in_ok-item-in-UInt32-clause-turns g c way n h =
     let m = c.args.self.now in
     let field = c.in-Field.field in
     let here = sym c.next.ensures ∙ c.in_ok-number.was in
-    let other : field.kind ≢ Ascii = search rules in
+    let other = integer_kind g c in
     let uses = c.in_ok-has_bit.ensures in
     let waits = number_waits g.S.Sink.takes g.S.Sink.stops c.args.templates.now l m c.args.sink.now c.in_ok-number.number c.node.result.now field c.requires.waits c.requires.turn here c.node.ensures.found c.in-Field.is
     (sent_by_bit (field_data field) (state_of m) c.in_ok-has_bit.has_bit uses.varies (sym uses.uses) uses.sent) other in
@@ -63,7 +68,7 @@ returns-in_ok-item-in-UInt32-clause-some g c =
     let m = c.args.self.now in
     let field = c.in-Field.field in
     let here = sym c.next.ensures ∙ c.in_ok-number.was in
-    let other : field.kind ≢ Ascii = search rules in
+    let other = integer_kind g c in
     let uses = c.in_ok-has_bit.ensures in
     let waits = number_waits g.S.Sink.takes g.S.Sink.stops c.args.templates.now l m c.args.sink.now c.in_ok-number.number c.node.result.now field c.requires.waits c.requires.turn here c.node.ensures.found c.in-Field.is
     (sent_by_bit (field_data field) (state_of m) c.in_ok-has_bit.has_bit uses.varies (sym uses.uses) uses.sent) other in
@@ -78,7 +83,7 @@ returns-in_ok-item-in-UInt32-clause-step g c =
     let m = c.args.self.now in
     let field = c.in-Field.field in
     let here = sym c.next.ensures ∙ c.in_ok-number.was in
-    let other : field.kind ≢ Ascii = search rules in
+    let other = integer_kind g c in
     let uses = c.in_ok-has_bit.ensures in
     let waits = number_waits g.S.Sink.takes g.S.Sink.stops c.args.templates.now l m c.args.sink.now c.in_ok-number.number c.node.result.now field c.requires.waits c.requires.turn here c.node.ensures.found c.in-Field.is
     (sent_by_bit (field_data field) (state_of m) c.in_ok-has_bit.has_bit uses.varies (sym uses.uses) uses.sent) other in
