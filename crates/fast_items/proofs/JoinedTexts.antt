@@ -1,8 +1,12 @@
 -- Texts that are joined to what their entries hold.
-use Rattle.std.proofs.Common.{refl, sym, ap, arith, inl, inr, get_or, length-append}
-use Rattle.std.specs.Prelude.{◌≡◌, ◌⊎◌, ℕ, ◌+◌, ◌-◌, ◌<◌, ◌≤◌, Bool, true, false, nat_le, if◌then◌else◌, List, [], ◌∷◌, ◌++◌, length, take, drop, pos, negsuc, Ok, Err}
+use Rattle.std.proofs.Common.{refl, sym, ap, ◌∙◌, arith, inl, inr, get_or, length-append}
+use Rattle.std.proofs.Math.Nat.{min-le_left, min-le_right}
+use Rattle.std.specs.Prelude.{ℤ, ◌≤ℤ◌, ◌<ℤ◌, ◌≡◌, ◌≢◌, ◌⊎◌, Some, slice_get, ℕ, ◌+◌, ◌-◌, ◌<◌, ◌≤◌, Bool, true, false, nat_le, if◌then◌else◌, List, [], ◌∷◌, ◌++◌, length, take, drop, min, pos, negsuc, Ok, Err}
+use Rattle.std.specs.Int.Signed.{le_z}
 use Rattle.std.specs.Str.{is_utf8}
+use Rattle.std.proofs.lemmas.Int.{ints}
 use Rattle.std.proofs.lemmas.Str.{IsUtf8-append, is_utf8-from_IsUtf8, IsUtf8-from_is_utf8}
+use Rattle.std.proofs.lemmas.Bool.{leb-false}
 use Rattle.std.proofs.lemmas.Bool.Decides.{leb_tells}
 use Rattle.std.proofs.lemmas.List.{length-take-le, take-take, get_or-take}
 use Rattle.std.proofs.lemmas.List.Elements.{All-nil}
@@ -72,3 +76,27 @@ part_spelled rest last most begins within before stop byte fits =
     text_whole false most [] rest (All-nil (λ c. c < 128)) begins (last + 1) last (take last rest) (take last rest ++ (get_or rest last 0 - 128) ∷ [])
     (omega (arith, within)) (omega (arith, fits, all, front)) (omega (arith, here)) (λ k h. rw (at k (omega (arith, h))) (before k h)) (rw end stop) byte
     (sym (take-take last (last + 1) rest (omega arith))) (ap (λ b. take last rest ++ (b - 128) ∷ []) (sym end))
+
+-- A test of a subtraction length tells at which end the bytes are dropped.
+pub at_end : (k : ℤ) (d : ℕ) → le_z (pos 0) k ≡ true → (pos 0 ≤ℤ k → k ≡ pos d) → k ≡ pos d
+at_end (pos n) d h end = end (omega (arith, ints))
+at_end (negsuc n) d h end = absurd (cc h)
+
+pub at_front : (k : ℤ) (d : ℕ) → le_z (pos 0) k ≡ false → (k <ℤ pos 0 → k ≡ negsuc d) → k ≡ negsuc d
+at_front (pos n) d h front = absurd (omega (arith, leb-false 0 n h))
+at_front (negsuc n) d h front = front (omega (arith, ints))
+
+-- A text begins with a character where its first byte is neither a zero nor a bare stop bit.
+pub first_begins : (w : List ℕ) (b : ℕ) → Some b ≡ slice_get w 0 → b ≢ 0 → b ≢ 128 → BeginsWithCharacter w
+first_begins [] b is no_zero no_bare = tt
+first_begins (x ∷ w) b is no_zero no_bare =
+    let same : b ≡ x = cc is in
+    (λ e. no_zero (same ∙ e), λ e. no_bare (same ∙ e))
+
+-- An index of the bytes that there is room for.
+pub within_room : (rest : List ℕ) (room m last : ℕ) → m ≡ min (length rest) room → last < length (take m rest) → (last < length rest) × (last < room) × (last < m)
+within_room rest room m last least here =
+    let left = min-le_left (length rest) room in
+    let right = min-le_right (length rest) room in
+    let long : length (take m rest) ≡ m = length-take-le m rest (omega (arith, least, left)) in
+    (omega (arith, here, long, least, left), omega (arith, here, long, least, right), omega (arith, here, long))

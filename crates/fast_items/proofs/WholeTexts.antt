@@ -7,7 +7,6 @@ use Rattle.std.proofs.lemmas.List.{length-take-le, length-drop, drop-take}
 use Rattle.fast_fronts.specs.device.Fronts.{IsFirstInt}
 use Rattle.fast_fronts.specs.declared.fronts.First.TheVariants as First
 use Rattle.fast_wire.specs.meaning.Integers.{unsigned_range}
-use Rattle.fast_value.specs.declared.codes.Code.{Code}
 use Rattle.fast_value.specs.declared.codes.Code.TheVariants.{D2, L1}
 use Rattle.fast_value.specs.declared.kinds.Kind.TheVariants.{Ascii}
 use Rattle.fast_value.specs.meaning.Kinds.{texts, family, value_of_text}

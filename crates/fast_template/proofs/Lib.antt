@@ -6,3 +6,4 @@ pub mod TextNodes
 pub mod UsableFields
 pub mod BodyBits
 pub mod Growing
+pub mod NoMemory

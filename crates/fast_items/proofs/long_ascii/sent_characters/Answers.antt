@@ -16,3 +16,15 @@ returns-clause-source c = (c.if-not-put_text.ensures.put refl).1
 
 pub returns-clause-held : goal.returns-clause-held
 returns-clause-held c = (c.if-not-put_text.ensures.put refl).2
+
+pub returns-in_err-front-clause-unit : goal.returns-in_err-front-clause-unit
+returns-in_err-front-clause-unit c = rw c.from_residual.ensures tt
+
+pub returns-in_err-front-clause-source : goal.returns-in_err-front-clause-source
+returns-in_err-front-clause-source c = rw c.from_residual.ensures tt
+
+pub returns-in_err-front-clause-held : goal.returns-in_err-front-clause-held
+returns-in_err-front-clause-held c = rw c.from_residual.ensures tt
+
+pub returns-in_err-front-clause-none : goal.returns-in_err-front-clause-none
+returns-in_err-front-clause-none c = rw c.from_residual.ensures (refl, refl)

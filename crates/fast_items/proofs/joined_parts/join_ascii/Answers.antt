@@ -1,0 +1,30 @@
+use Rattle.std.proofs.Common.{refl, sym, subst, ◌∙◌, ◌++◌, ◌∷◌, [], ℤ, to_z, of_z}
+use Rattle.std.specs.Int.{w64}
+use Rattle.fast_value.specs.declared.kinds.Kind.TheVariants.{Ascii}
+use Rattle.fast_dict.specs.meaning.Slots.{slots_dictionary}
+use Rattle.fast_items.specs.device.TextsAs.{IsJoined}
+use Rattle.fast_units.proofs.LastUnits.{again}
+use Rattle.fast_items.proofs.JoinedTexts.{at_end, at_front}
+use Rattle.fast_items.proofs.joined_parts.join_ascii.Goals as goal
+
+pub returns-in_err-append_ascii-clause-joined : goal.returns-in_err-append_ascii-clause-joined
+returns-in_err-append_ascii-clause-joined c = rw c.from_residual.ensures tt
+
+pub returns-in_err-append_ascii-clause-none : goal.returns-in_err-append_ascii-clause-none
+returns-in_err-append_ascii-clause-none c = rw c.from_residual.ensures (c.in_err-append_ascii.ensures.none, refl)
+
+pub returns-in_err-prepend_ascii-clause-joined : goal.returns-in_err-prepend_ascii-clause-joined
+returns-in_err-prepend_ascii-clause-joined c = rw c.from_residual-in_err-prepend_ascii.ensures tt
+
+pub returns-in_err-prepend_ascii-clause-none : goal.returns-in_err-prepend_ascii-clause-none
+returns-in_err-prepend_ascii-clause-none c = rw c.from_residual-in_err-prepend_ascii.ensures c.in_err-prepend_ascii.ensures.none
+
+pub returns-in_ok-append_ascii-clause-joined : goal.returns-in_ok-append_ascii-clause-joined
+returns-in_ok-append_ascii-clause-joined c =
+    let told = at_end (to_z w64 (of_z w64 c.args.subtraction)) c.dropped_by-dropped.result c.if-subtraction-ge0.true c.dropped_by-dropped.ensures.end in
+    subst (λ (k : ℤ). IsJoined Ascii c.args.entry k (c.args.front.now ++ c.args.last ∷ []) c.args.room (slots_dictionary c.args.slots.now) (slots_dictionary c.append_ascii.new.slots)) (sym told ∙ again w64 c.args.subtraction c.ranges.subtraction) c.in_ok-append_ascii.ensures.joined
+
+pub returns-in_ok-prepend_ascii-clause-joined : goal.returns-in_ok-prepend_ascii-clause-joined
+returns-in_ok-prepend_ascii-clause-joined c =
+    let told = at_front (to_z w64 (of_z w64 c.args.subtraction)) c.dropped_by-dropped.result c.if-subtraction-ge0.false c.dropped_by-dropped.ensures.front in
+    subst (λ (k : ℤ). IsJoined Ascii c.args.entry k (c.args.front.now ++ c.args.last ∷ []) c.args.room (slots_dictionary c.args.slots.now) (slots_dictionary c.prepend_ascii.new.slots)) (sym told ∙ again w64 c.args.subtraction c.ranges.subtraction) c.in_ok-prepend_ascii.ensures.joined
