@@ -1,6 +1,6 @@
 -- What the entries of a dictionary that grows hold.
 use Rattle.std.proofs.Common.{◌≡◌, ℕ, ◌-◌, ◌≤◌, List, [], ◌∷◌, ◌++◌, length, map, take, refl, ap, sym, ◌∙◌, arith}
-use Rattle.std.specs.Prelude.{zero, suc, replicate, slice_index_or}
+use Rattle.std.specs.Prelude.{zero, suc, replicate, slice_index_or, slice_set}
 use Rattle.std.proofs.lemmas.List.{length-map}
 use Rattle.std.proofs.Math.ListN.{get_or-map}
 use Rattle.std.proofs.Math.Numerals.{sub-one}
@@ -36,3 +36,11 @@ pub same_fit : (xs ys : List Held) (size : ℕ) → map held_data ys ≡ map hel
 same_fit xs ys size e all i =
     let same : held_data (slice_index_or ys i Undefined) ≡ held_data (slice_index_or xs i Undefined) = sym (get_or-map held_data ys i Undefined) ∙ ap (λ ps. slice_index_or ps i undefined) e ∙ get_or-map held_data xs i Undefined in
     rw same (all i)
+
+-- One entry more that fits.
+pub set_fits : (xs : List Held) (i : ℕ) (x : Held) (size : ℕ) → ((j : ℕ) → text_size (held_data (slice_index_or xs j Undefined)) ≤ size) → text_size (held_data x) ≤ size → (j : ℕ) → text_size (held_data (slice_index_or (slice_set xs i x) j Undefined)) ≤ size
+set_fits [] i x size all h j = all j
+set_fits (y ∷ xs) zero x size all h zero = h
+set_fits (y ∷ xs) zero x size all h (suc j) = all (suc j)
+set_fits (y ∷ xs) (suc i) x size all h zero = all zero
+set_fits (y ∷ xs) (suc i) x size all h (suc j) = set_fits xs i x size (λ k. all (suc k)) h j

@@ -1,6 +1,6 @@
 -- What the entries of a block store hold, entry by entry.
 use Rattle.std.proofs.Common.{◌≡◌, ℕ, ◌-◌, ◌++◌, ◌<◌, ◌≤◌, List, [], ◌∷◌, length, refl, ap, sym, ◌∙◌, arith}
-use Rattle.std.specs.Prelude.{vec_len, IsTrue, true, is_some, take, drop, zero, suc, ◌≢◌, Option, Some, None, slice_index_or, slice_set, replicate}
+use Rattle.std.specs.Prelude.{vec_len, IsTrue, true, false, is_some, take, drop, zero, suc, ◌≢◌, Option, Some, None, slice_index_or, slice_set, replicate}
 use native.Mathlib.Numerals.{sub-one}
 use Rattle.std.proofs.lemmas.List.{length-set, get_or-set_same}
 use Rattle.fast_value.specs.declared.kinds.Kind.TheVariants as K
@@ -10,7 +10,7 @@ use Rattle.fast_dict.specs.meaning.Dictionary.{PreviousData, undefined, assigned
 use Rattle.fast_dict.specs.declared.entry.Entry.{Entry}
 use Rattle.fast_dict.specs.declared.entry.Entry.TheVariants.{Undefined, Ascii}
 use Rattle.fast_dict.specs.device.Entry.{text_length, with_text}
-use Rattle.fast_dict.specs.meaning.Slots.{text_in, entry_data, entries_data, length-entries, get-entries, slots_dictionary, HoldsAscii}
+use Rattle.fast_dict.specs.meaning.Slots.{text_in, entry_data, entries_data, length-entries, get-entries, slots_dictionary, slots_terms, HoldsAscii}
 use Rattle.fast_dict.specs.declared.slots.Slots.{Slots}
 
 -- the block of one store gives each entry what that of the other does
@@ -91,3 +91,17 @@ set_holds s new i n h some entries places =
       (n, ap (λ es. slice_index_or es i Undefined) entries ∙ get_or-set_same s.entries.items i (Ascii n) Undefined within),
       ap (λ ps. is_some (slice_index_or ps i None)) places ∙ some,
     )
+
+-- One entry more that fits.
+pub set_fits : (xs : List Entry) (i : ℕ) (e : Entry) (size : ℕ) → ((j : ℕ) → text_length (slice_index_or xs j Undefined) ≤ size) → text_length e ≤ size → (j : ℕ) → text_length (slice_index_or (slice_set xs i e) j Undefined) ≤ size
+set_fits [] i e size all h j = all j
+set_fits (x ∷ xs) zero e size all h zero = h
+set_fits (x ∷ xs) zero e size all h (suc j) = all (suc j)
+set_fits (x ∷ xs) (suc i) e size all h zero = all zero
+set_fits (x ∷ xs) (suc i) e size all h (suc j) = set_fits xs i e size (λ k. all (suc k)) h j
+
+-- An entry more that is set leaves the rest of the store.
+pub same_terms : (s new : Slots) (i : ℕ) (e : Entry) → new.entries.items ≡ slice_set s.entries.items i e → new.places ≡ s.places → new.max_text ≡ s.max_text → slots_terms new ≡ slots_terms s
+same_terms s new i e entries places room =
+    let terms : ℕ → ℕ → List (Option ℕ) → Terms = λ n m ps. record { entries = n; max_text = m; takes_text = λ j. is_some (slice_index_or ps j None); can_refuse = false } in
+    ap (λ n. terms n new.max_text new.places.items) (ap length entries ∙ length-set s.entries.items i e) ∙ ap (λ m. terms (length s.entries.items) m new.places.items) room ∙ ap (λ ps. terms (length s.entries.items) s.max_text ps.items) places

@@ -1,5 +1,5 @@
 -- Eight bytes that are the same as one number are the same one by one.
-use Rattle.std.proofs.Common.{◌≡◌, ◌+◌, ◌<◌, ℕ, drop, get_or, arith}
+use Rattle.std.proofs.Common.{rules, ◌≡◌, ◌+◌, ◌<◌, ℕ, drop, get_or, arith}
 use Rattle.fast_dict.specs.meaning.Rule.{common_front}
 use Rattle.fast_dict.proofs.Fronts.{eight_more}
 use Rattle.fast_dict.proofs.rule.common.common_eights.Goals as goal
@@ -17,3 +17,51 @@ loop-size-preserved c =
       in_a = c.loop-size-test.true;
       in_b = c.if-size-b.true;
     }
+
+pub loop-size-init : goal.loop-size-init
+loop-size-init c = search rules
+
+pub overflow_add-size : goal.overflow_add-size
+overflow_add-size c = search rules
+
+pub overflow_add-size-in-loop-size : goal.overflow_add-size-in-loop-size
+overflow_add-size-in-loop-size c = search rules
+
+pub eight_at-requires : goal.eight_at-requires
+eight_at-requires c = c.loop-size-test.true
+
+pub eight_at-requires-then-size-b : goal.eight_at-requires-then-size-b
+eight_at-requires-then-size-b c = c.if-size-b.true
+
+pub overflow_add-size-in-loop-size-2 : goal.overflow_add-size-in-loop-size-2
+overflow_add-size-in-loop-size-2 c = search rules
+
+pub loop-size-smaller : goal.loop-size-smaller
+loop-size-smaller c = omega (arith, c.loop-size-test.true)
+
+pub returns-else-eight_at-clause-size : goal.returns-else-eight_at-clause-size
+returns-else-eight_at-clause-size c = c.loop-size.invariant.size
+
+pub returns-else-eight_at-clause-in_a : goal.returns-else-eight_at-clause-in_a
+returns-else-eight_at-clause-in_a c = c.loop-size.invariant.in_a
+
+pub returns-else-eight_at-clause-in_b : goal.returns-else-eight_at-clause-in_b
+returns-else-eight_at-clause-in_b c = c.loop-size.invariant.in_b
+
+pub returns-else-size-b-clause-size : goal.returns-else-size-b-clause-size
+returns-else-size-b-clause-size c = c.loop-size.invariant.size
+
+pub returns-else-size-b-clause-in_a : goal.returns-else-size-b-clause-in_a
+returns-else-size-b-clause-in_a c = c.loop-size.invariant.in_a
+
+pub returns-else-size-b-clause-in_b : goal.returns-else-size-b-clause-in_b
+returns-else-size-b-clause-in_b c = c.loop-size.invariant.in_b
+
+pub returns-after-loop-size-clause-size : goal.returns-after-loop-size-clause-size
+returns-after-loop-size-clause-size c = c.loop-size.invariant.size
+
+pub returns-after-loop-size-clause-in_a : goal.returns-after-loop-size-clause-in_a
+returns-after-loop-size-clause-in_a c = c.loop-size.invariant.in_a
+
+pub returns-after-loop-size-clause-in_b : goal.returns-after-loop-size-clause-in_b
+returns-after-loop-size-clause-in_b c = c.loop-size.invariant.in_b

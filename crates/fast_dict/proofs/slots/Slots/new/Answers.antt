@@ -1,5 +1,5 @@
 -- The slots lie one behind the other, and the block has room for all of them.
-use Rattle.std.proofs.Common.{◌≡◌, ◌*◌, vec_len, rules, arith, length}
+use Rattle.std.proofs.Common.{◌≡◌, ◌*◌, ◌∙◌, sym, vec_len, rules, arith, length}
 use Rattle.std.specs.Prelude.{count_by, replicate}
 use Rattle.fast_dict.specs.declared.entry.Entry.TheVariants.{Undefined}
 use Rattle.fast_dict.proofs.Placing.{places-ordered, places-within, has_place}
@@ -27,3 +27,6 @@ returns-clause-entries c =
 
 pub returns-clause-texts : goal.returns-clause-texts
 returns-clause-texts c e = rw c.in_ok-places.ensures.items (has_place c.args.max_text 0 c.args.takes_text.now e)
+
+pub invariant_of-result-clause-paired : goal.invariant_of-result-clause-paired
+invariant_of-result-clause-paired c = c.in_ok-places.ensures.len ∙ sym c.in_ok-entries.ensures.len
