@@ -35,6 +35,7 @@ use Rattle.fast_spelling.specs.meaning.Encoding.{Encodes}
 use Rattle.fast_spelling.specs.meaning.Suiting.{Suits}
 use Rattle.fast_tree.specs.meaning.Tree.{Instruction}
 use Rattle.std.specs.Prelude.{get_or}
+use mathlib.Core.List.{not-mem-nil}
 use Rattle.fast_spelling.proofs.checking.+check.Goals as goal
 use Rattle.fast_spelling.proofs.checking.+check.Goals.{try_body-in-PlainUInt32, try_body-in-PlainInt32, try_body-in-PlainUInt64, try_body-in-PlainInt64, try_body-in-ConstantUInt32, try_body-in-ConstantInt32, try_body-in-ConstantUInt64, try_body-in-ConstantInt64, try_body-in-DefaultUInt32, try_body-in-DefaultInt32, try_body-in-DefaultUInt64, try_body-in-DefaultInt64, try_body-in-CopyUInt32, try_body-in-CopyInt32, try_body-in-CopyUInt64, try_body-in-CopyInt64, try_body-in-IncrementUInt32, try_body-in-IncrementInt32, try_body-in-IncrementUInt64, try_body-in-IncrementInt64, try_body-in-DeltaUInt32, try_body-in-DeltaInt32, try_body-in-DeltaUInt64, try_body-in-DeltaInt64, try_body-in-PlainAscii, try_body-in-ConstantAscii, try_body-in-DefaultAscii, try_body-in-CopyAscii, try_body-in-TailAscii, try_body-in-DeltaAscii, try_body-in-PlainUnicode, try_body-in-DeltaUnicode, try_body-in-PlainBytes, try_body-in-TailBytes, try_body-in-PlainDecimal, try_body-in-CopyDecimal, try_body-in-DeltaDecimal, try_body-in-Other}
 
@@ -1052,3 +1053,54 @@ try_segment-returns-then-not-try_body-clause-ok t c = tt
 
 pub try_segment-returns-then-not-try_body-clause-keeps : goal.try_segment-returns-then-not-try_body-clause-keeps
 try_segment-returns-then-not-try_body-clause-keeps t c = c.try_body.ensures.keeps
+
+pub try_body-is_err-requires : goal.try_body-is_err-requires
+try_body-is_err-requires t c κs = (λ a m. absurd (not-mem-nil m), λ a m. absurd (not-mem-nil m))
+
+pub try_body-is_err-requires-in-loop-i : goal.try_body-is_err-requires-in-loop-i
+try_body-is_err-requires-in-loop-i t c κs = (λ a m. absurd (not-mem-nil m), λ a m. absurd (not-mem-nil m))
+
+pub try_item-is_err-requires : goal.try_item-is_err-requires
+try_item-is_err-requires t c κs = (λ a m. absurd (not-mem-nil m), λ a m. absurd (not-mem-nil m))
+
+pub try_item-deref-requires : goal.try_item-deref-requires
+try_item-deref-requires t c κs = (λ a m. absurd (not-mem-nil m), λ a m. absurd (not-mem-nil m))
+
+pub try_item-deref-requires-in-Group-Group : goal.try_item-deref-requires-in-Group-Group
+try_item-deref-requires-in-Group-Group t c κs = (λ a m. absurd (not-mem-nil m), λ a m. absurd (not-mem-nil m))
+
+pub try_item-is_ok-requires : goal.try_item-is_ok-requires
+try_item-is_ok-requires t c κs = (λ a m. absurd (not-mem-nil m), λ a m. absurd (not-mem-nil m))
+
+pub try_item-len-requires : goal.try_item-len-requires
+try_item-len-requires t c κs = (λ a m. absurd (not-mem-nil m), λ a m. absurd (not-mem-nil m))
+
+pub try_item-len-requires-else-len-plan : goal.try_item-len-requires-else-len-plan
+try_item-len-requires-else-len-plan t c κs = (λ a m. absurd (not-mem-nil m), λ a m. absurd (not-mem-nil m))
+
+pub try_item-len-requires-in-Sequence-Sequence : goal.try_item-len-requires-in-Sequence-Sequence
+try_item-len-requires-in-Sequence-Sequence t c κs = (λ a m. absurd (not-mem-nil m), λ a m. absurd (not-mem-nil m))
+
+pub try_item-is_err-requires-in-Sequence-Sequence : goal.try_item-is_err-requires-in-Sequence-Sequence
+try_item-is_err-requires-in-Sequence-Sequence t c κs = (λ a m. absurd (not-mem-nil m), λ a m. absurd (not-mem-nil m))
+
+pub try_item-len-requires-in-Sequence-Sequence-2 : goal.try_item-len-requires-in-Sequence-Sequence-2
+try_item-len-requires-in-Sequence-Sequence-2 t c κs = (λ a m. absurd (not-mem-nil m), λ a m. absurd (not-mem-nil m))
+
+pub try_item-deref-row-items-requires : goal.try_item-deref-row-items-requires
+try_item-deref-row-items-requires t c κs = (λ a m. absurd (not-mem-nil m), λ a m. absurd (not-mem-nil m))
+
+pub try_item-deref-requires-in-loop-row : goal.try_item-deref-requires-in-loop-row
+try_item-deref-requires-in-loop-row t c κs = (λ a m. absurd (not-mem-nil m), λ a m. absurd (not-mem-nil m))
+
+pub try_item-deref-requires-in-loop-row-2 : goal.try_item-deref-requires-in-loop-row-2
+try_item-deref-requires-in-loop-row-2 t c κs = (λ a m. absurd (not-mem-nil m), λ a m. absurd (not-mem-nil m))
+
+pub try_item-is_err-requires-in-loop-row : goal.try_item-is_err-requires-in-loop-row
+try_item-is_err-requires-in-loop-row t c κs = (λ a m. absurd (not-mem-nil m), λ a m. absurd (not-mem-nil m))
+
+pub try_segment-branch-mark-requires : goal.try_segment-branch-mark-requires
+try_segment-branch-mark-requires t c κs = (λ a m. absurd (not-mem-nil m), λ a m. absurd (not-mem-nil m))
+
+pub try_segment-from_residual-requires : goal.try_segment-from_residual-requires
+try_segment-from_residual-requires t c κs = (λ a m. absurd (not-mem-nil m), (λ a m. absurd (not-mem-nil m), λ a m. absurd (not-mem-nil m)))
