@@ -946,9 +946,6 @@ try_item-returns-else-is_err-clause-keeps t c = c.try_segment.ensures.keeps
 pub try_item-returns-in_default : goal.try_item-returns-in_default
 try_item-returns-in_default t c = record { accepted = λ h. absurd (cc h); ok = λ h. absurd (cc h); keeps = keeps_all c.args.work.now.ledger }
 
-pub try_item-returns-in_default-2 : goal.try_item-returns-in_default-2
-try_item-returns-in_default-2 t c = record { accepted = λ h. absurd (cc h); ok = λ h. absurd (cc h); keeps = keeps_all c.args.work.now.ledger }
-
 pub try_item-returns-in_default-3-clause-ok : goal.try_item-returns-in_default-3-clause-ok
 try_item-returns-in_default-3-clause-ok t c = λ h. absurd (cc h)
 
