@@ -2,3 +2,4 @@
 pub mod Depths
 pub mod Suited
 pub mod Checked
+pub mod Tried

@@ -1,10 +1,11 @@
 -- Slots, groups and sequences are written as they are encoded, and suit and fit.
-use Rattle.std.proofs.Common.{◌≡◌, ◌<◌, ◌≤◌, ◌+◌, ◌*◌, ℕ, List, length, refl, ap, sym, subst, ◌∙◌, arith}
-use Rattle.std.specs.Prelude.{◌^◌, true, Option, Some, None, option_map, Result, Ok, Err, OnOk, is_ok}
+use Rattle.std.proofs.Common.{◌≡◌, ◌<◌, ◌≤◌, ◌+◌, ◌*◌, ◌++◌, ◌∷◌, [], ℕ, List, Bool, length, refl, ap, sym, subst, ◌∙◌, arith}
+use Rattle.std.specs.Prelude.{◌^◌, true, false, if◌then◌else◌, vec_len, Option, Some, None, option_map, Result, Ok, Err, OnOk, is_ok}
+use Rattle.std.proofs.lemmas.List.{length-append}
 use Rattle.fast_value.specs.declared.messages.Item.{Item}
 use Rattle.fast_value.specs.declared.settings.Limits.{Limits}
 use Rattle.fast_value.specs.meaning.Kinds.{ScalarData, U, text_of}
-use Rattle.fast_value.specs.meaning.Messages.{ItemData, one, group as group_item, sequence as sequence_item, count, rows_total}
+use Rattle.fast_value.specs.meaning.Messages.{ItemData, one, group as group_item, sequence as sequence_item, count, total, rows_total}
 use Rattle.fast_value.specs.meaning.Values.{value_data}
 use Rattle.fast_value.specs.meaning.Views.{item_data, slots_data, elements_data}
 use Rattle.fast_value.proofs.ItemViews.{item_data-One, item_data-Group, item_data-Sequence, count-elements_data}
@@ -23,9 +24,9 @@ use Rattle.fast_spelling.specs.device.Fields.{Wrote}
 use Rattle.fast_spelling.specs.meaning.Suiting.{SuitsBody}
 use Rattle.fast_spelling.proofs.encodings.Instructions.{at_shape, usable_at, short_at, served, encodes_as, group_encodes, sequence_encodes}
 use Rattle.fast_spelling.proofs.limits.Depths.{item_depth, option_depth, slots_depth, rows_depth, option_depth_at, row_depth}
-use Rattle.fast_spelling.proofs.encodings.Progress.{written_start, more_at, all_written, IsClosed, ready_kept, keeps_on, keeps_all, row_more, rows_start, rows_done, has_bits, on_handed_on}
+use Rattle.fast_spelling.proofs.encodings.Progress.{written_start, more_at, all_written, IsClosed, ready_kept, keeps_on, keeps_all, row_more, rows_start, rows_done, has_bits, slots_last, on_handed_on}
 use Rattle.fast_spelling.proofs.limits.Suited.{one_suits, no_slot_suits, no_row_suits}
-use Rattle.fast_spelling.proofs.limits.Checked.{accepted_as, one_fits, one_total, one_row_right, one_row_fits, one_row_total, no_row_fits, no_row_total}
+use Rattle.fast_spelling.proofs.limits.Checked.{accepted_as, one_fits, one_total, one_row_right, one_row_fits, one_row_total, no_row_fits, no_row_total, on_any}
 use Rattle.fast_spelling.proofs.encodings.Sealed.{sealed}
 use Rattle.fast_spelling.specs.declared.faults.EncodeFault.{EncodeFault}
 use Rattle.fast_spelling.specs.declared.plan.Work.{Work}
@@ -34,6 +35,7 @@ use Rattle.fast_spelling.specs.meaning.Encoding.{Encodes}
 use Rattle.fast_spelling.specs.meaning.Suiting.{Suits}
 use Rattle.fast_tree.specs.meaning.Tree.{Instruction}
 use Rattle.std.specs.Prelude.{get_or}
+use mathlib.Core.List.{not-mem-nil}
 use Rattle.fast_spelling.proofs.checking.+check.Goals as goal
 use Rattle.fast_spelling.proofs.checking.+check.Goals.{try_body-in-PlainUInt32, try_body-in-PlainInt32, try_body-in-PlainUInt64, try_body-in-PlainInt64, try_body-in-ConstantUInt32, try_body-in-ConstantInt32, try_body-in-ConstantUInt64, try_body-in-ConstantInt64, try_body-in-DefaultUInt32, try_body-in-DefaultInt32, try_body-in-DefaultUInt64, try_body-in-DefaultInt64, try_body-in-CopyUInt32, try_body-in-CopyInt32, try_body-in-CopyUInt64, try_body-in-CopyInt64, try_body-in-IncrementUInt32, try_body-in-IncrementInt32, try_body-in-IncrementUInt64, try_body-in-IncrementInt64, try_body-in-DeltaUInt32, try_body-in-DeltaInt32, try_body-in-DeltaUInt64, try_body-in-DeltaInt64, try_body-in-PlainAscii, try_body-in-ConstantAscii, try_body-in-DefaultAscii, try_body-in-CopyAscii, try_body-in-TailAscii, try_body-in-DeltaAscii, try_body-in-PlainUnicode, try_body-in-DeltaUnicode, try_body-in-PlainBytes, try_body-in-TailBytes, try_body-in-PlainDecimal, try_body-in-CopyDecimal, try_body-in-DeltaDecimal, try_body-in-Other}
 
@@ -835,3 +837,267 @@ try_segment-returns-in_err-mark-clause-fits t c = on_handed_on _ _ c.from_residu
 
 pub try_segment-returns-in_err-mark-clause-ok : goal.try_segment-returns-in_err-mark-clause-ok
 try_segment-returns-in_err-mark-clause-ok t c = on_handed_on _ _ c.from_residual.result c.from_residual.ensures.1
+
+pub try_body-returns-then-body-slots-clause-ok : goal.try_body-returns-then-body-slots-clause-ok
+try_body-returns-then-body-slots-clause-ok t c = λ h. absurd (cc h)
+
+pub try_body-bounds-slots-i : goal.try_body-bounds-slots-i
+try_body-bounds-slots-i t c = c.loop-i-test.true
+
+pub try_body-bounds-body-i : goal.try_body-bounds-body-i
+try_body-bounds-body-i t c = omega (arith, c.if-body-slots.false, c.loop-i-test.true)
+
+pub try_body-try_none-requires-clause-node : goal.try_body-try_none-requires-clause-node
+try_body-try_none-requires-clause-node t c = c.requires.nodes c.loop-i.i (omega (arith, c.if-body-slots.false, c.loop-i-test.true))
+
+pub try_body-try_none-requires-clause-ready : goal.try_body-try_none-requires-clause-ready
+try_body-try_none-requires-clause-ready t c = c.loop-i.invariant.ready
+
+pub try_body-returns-then-is_err-clause-suits : goal.try_body-returns-then-is_err-clause-suits
+try_body-returns-then-is_err-clause-suits t c = λ h. absurd (cc h)
+
+pub try_body-returns-then-is_err-clause-fits : goal.try_body-returns-then-is_err-clause-fits
+try_body-returns-then-is_err-clause-fits t c = λ h. absurd (cc h)
+
+pub try_body-returns-then-is_err-clause-ok : goal.try_body-returns-then-is_err-clause-ok
+try_body-returns-then-is_err-clause-ok t c = λ h. absurd (cc h)
+
+pub try_body-returns-then-is_err-clause-keeps : goal.try_body-returns-then-is_err-clause-keeps
+try_body-returns-then-is_err-clause-keeps t c = keeps_on c.args.work.now.ledger c.loop-i.work.ledger c.try_none.new.work.ledger c.loop-i.invariant.keeps c.try_none.ensures.keeps
+
+pub try_body-returns-then-not-try_item : goal.try_body-returns-then-not-try_item
+try_body-returns-then-not-try_item t c =
+    record {
+      suits = λ h. absurd (cc h);
+      fits = λ h. absurd (cc h);
+      ok = λ h. absurd (cc h);
+      keeps = keeps_on c.args.work.now.ledger c.loop-i.work.ledger c.try_item.new.work.ledger c.loop-i.invariant.keeps c.try_item.ensures.keeps;
+    }
+
+pub try_body-form_at-requires : goal.try_body-form_at-requires
+try_body-form_at-requires t c = c.requires.nodes c.loop-i.i (omega (arith, c.if-body-slots.false, c.loop-i-test.true))
+
+pub try_body-returns-then-is_err-2-clause-suits : goal.try_body-returns-then-is_err-2-clause-suits
+try_body-returns-then-is_err-2-clause-suits t c = λ h. absurd (cc h)
+
+pub try_body-returns-then-is_err-2-clause-fits : goal.try_body-returns-then-is_err-2-clause-fits
+try_body-returns-then-is_err-2-clause-fits t c = λ h. absurd (cc h)
+
+pub try_body-returns-then-is_err-2-clause-ok : goal.try_body-returns-then-is_err-2-clause-ok
+try_body-returns-then-is_err-2-clause-ok t c = λ h. absurd (cc h)
+
+pub try_body-returns-clause-suits : goal.try_body-returns-clause-suits
+try_body-returns-clause-suits t c = λ _.
+    let past : length c.args.body.now ≤ c.loop-i.i = omega (arith, c.if-body-slots.false, c.loop-i-test.false) in
+    c.loop-i.invariant.suits (no_slot_suits (nodes_of c.args.plan.now.templates.now) c.args.body.now c.args.slots.now c.loop-i.i past c.loop-i-test.false)
+
+pub try_body-returns-clause-fits : goal.try_body-returns-clause-fits
+try_body-returns-clause-fits t c = λ _.
+    let none = slots_last c.args.slots.now c.loop-i.i c.loop-i-test.false in
+    let left = ap total none in
+    let sum = c.loop-i.invariant.sum in
+    (c.loop-i.invariant.fits (rw none tt), omega (arith, left, sum))
+
+pub try_body-returns-clause-keeps : goal.try_body-returns-clause-keeps
+try_body-returns-clause-keeps t c = c.loop-i.invariant.keeps
+
+pub try_item-node-requires : goal.try_item-node-requires
+try_item-node-requires t c = c.requires.node
+
+pub try_item-push_bit_if-requires : goal.try_item-push_bit_if-requires
+try_item-push_bit_if-requires t c = tt
+
+pub try_item-returns-then-is_err-clause-ok : goal.try_item-returns-then-is_err-clause-ok
+try_item-returns-then-is_err-clause-ok t c = λ h. absurd (cc h)
+
+pub try_item-returns-then-is_err-clause-keeps : goal.try_item-returns-then-is_err-clause-keeps
+try_item-returns-then-is_err-clause-keeps t c = keeps_all c.args.work.now.ledger
+
+pub try_item-segment_bits-has_map-requires : goal.try_item-segment_bits-has_map-requires
+try_item-segment_bits-has_map-requires t c = c.requires.node
+
+pub try_item-returns-then-len-plan-clause-ok : goal.try_item-returns-then-len-plan-clause-ok
+try_item-returns-then-len-plan-clause-ok t c = λ h. absurd (cc h)
+
+pub try_item-returns-then-len-plan-clause-keeps : goal.try_item-returns-then-len-plan-clause-keeps
+try_item-returns-then-len-plan-clause-keeps t c = keeps_all c.args.work.now.ledger
+
+pub try_item-returns-then-is_err-2-clause-ok : goal.try_item-returns-then-is_err-2-clause-ok
+try_item-returns-then-is_err-2-clause-ok t c = λ h. absurd (cc h)
+
+pub try_item-returns-then-is_err-2-clause-keeps : goal.try_item-returns-then-is_err-2-clause-keeps
+try_item-returns-then-is_err-2-clause-keeps t c = record { before = c.write_field.ensures.before; room = c.write_field.ensures.max_text; count = c.write_field.ensures.length }
+
+pub try_item-overflow_sub-work : goal.try_item-overflow_sub-work
+try_item-overflow_sub-work t c = omega (arith, c.len-in-Sequence-Sequence-2.ensures, c.len-else-len-plan.ensures, c.if-len-work.false)
+
+pub try_item-bounds-row-items-row-index : goal.try_item-bounds-row-items-row-index
+try_item-bounds-row-items-row-index t c = c.loop-row-test.true
+
+pub try_item-returns-then-is_err-3-clause-ok : goal.try_item-returns-then-is_err-3-clause-ok
+try_item-returns-then-is_err-3-clause-ok t c = λ h. absurd (cc h)
+
+pub try_item-returns-then-is_err-3-clause-keeps : goal.try_item-returns-then-is_err-3-clause-keeps
+try_item-returns-then-is_err-3-clause-keeps t c = keeps_on c.args.work.now.ledger c.loop-row.work.ledger c.try_segment-in-loop-row.new.work.ledger c.loop-row.invariant.keeps c.try_segment-in-loop-row.ensures.keeps
+
+pub try_item-returns-else-is_err-clause-keeps : goal.try_item-returns-else-is_err-clause-keeps
+try_item-returns-else-is_err-clause-keeps t c = c.try_segment.ensures.keeps
+
+pub try_item-returns-in_default : goal.try_item-returns-in_default
+try_item-returns-in_default t c = record { accepted = λ h. absurd (cc h); ok = λ h. absurd (cc h); keeps = keeps_all c.args.work.now.ledger }
+
+pub try_item-returns-in_default-3-clause-ok : goal.try_item-returns-in_default-3-clause-ok
+try_item-returns-in_default-3-clause-ok t c = λ h. absurd (cc h)
+
+pub try_item-returns-in_default-3-clause-keeps : goal.try_item-returns-in_default-3-clause-keeps
+try_item-returns-in_default-3-clause-keeps t c = keeps_all c.args.work.now.ledger
+
+pub try_segment-open-requires : goal.try_segment-open-requires
+try_segment-open-requires t c = tt
+
+pub try_segment-try_body-requires : goal.try_segment-try_body-requires
+try_segment-try_body-requires t c =
+    let d : 4 * slots_depth (slots_data c.args.slots.now) + 3 ≡ t = c.decreases in
+    let smaller : 4 * slots_depth (slots_data c.args.slots.now) + 2 < t = omega (arith, d) in
+    (smaller, (c.requires.nodes, c.requires.ready))
+
+map_has_room : (has : Bool) (m : ℕ) (old mid new more : List ℕ) → m ≡ length old → mid ≡ old ++ (if has then 0 ∷ [] else []) → new ≡ mid ++ more → m + (if has then 1 else 0) ≤ length new
+map_has_room true m old mid new more at e f =
+    let kept = ap length e ∙ length-append old (0 ∷ []) in
+    let all = ap length f ∙ length-append mid more in
+    omega (arith, at, kept, all)
+map_has_room false m old mid new more at e f =
+    let kept = ap length e ∙ length-append old [] in
+    let all = ap length f ∙ length-append mid more in
+    omega (arith, at, kept, all)
+
+not_shorter : {X : Type 0} (m : ℕ) (old mid new more : List X) → m ≡ length old → mid ≡ old → new ≡ mid ++ more → m ≤ length new
+not_shorter m old mid new more at e f =
+    let same = ap length e in
+    let all = ap length f ∙ length-append mid more in
+    omega (arith, at, same, all)
+
+pub try_segment-seal-requires-clause-bytes : goal.try_segment-seal-requires-clause-bytes
+try_segment-seal-requires-clause-bytes t c =
+    let kept = c.in_ok-mark.ensures in
+    let a = c.args.work.now.draft.bytes in
+    let b = c.try_body.new.work.draft.bytes in
+    let wrote = c.if-not-try_body.ensures.ok refl in
+    let long : vec_len b ≡ length b.items = b.ok.0 in
+    let has_room = map_has_room c.args.has_map c.in_ok-mark.mark.bytes a.items c.open.new.self.bytes.items b.items wrote.1 (kept.mark.0 ∙ a.ok.0) kept.bytes wrote.3 in
+    omega (arith, has_room, long)
+
+pub try_segment-seal-requires-clause-bits : goal.try_segment-seal-requires-clause-bits
+try_segment-seal-requires-clause-bits t c =
+    let kept = c.in_ok-mark.ensures in
+    let a = c.args.work.now.draft.bits in
+    let b = c.try_body.new.work.draft.bits in
+    let wrote = c.if-not-try_body.ensures.ok refl in
+    let long : vec_len b ≡ length b.items = b.ok.0 in
+    let more = not_shorter c.in_ok-mark.mark.bits a.items c.open.new.self.bits.items b.items wrote.0 (kept.mark.1 ∙ a.ok.0) c.open.ensures.bits wrote.2 in
+    omega (arith, more, long)
+
+pub try_segment-returns-clause-suits : goal.try_segment-returns-clause-suits
+try_segment-returns-clause-suits t c = on_any c.seal.result (c.if-not-try_body.ensures.suits refl)
+
+pub try_segment-returns-clause-fits : goal.try_segment-returns-clause-fits
+try_segment-returns-clause-fits t c = on_any c.seal.result (c.if-not-try_body.ensures.fits refl)
+
+pub try_segment-returns-clause-keeps : goal.try_segment-returns-clause-keeps
+try_segment-returns-clause-keeps t c = c.try_body.ensures.keeps
+
+pub try_body-returns-then-body-slots-clause-suits : goal.try_body-returns-then-body-slots-clause-suits
+try_body-returns-then-body-slots-clause-suits t c = λ h. absurd (cc h)
+
+pub try_body-returns-then-body-slots-clause-fits : goal.try_body-returns-then-body-slots-clause-fits
+try_body-returns-then-body-slots-clause-fits t c = λ h. absurd (cc h)
+
+pub try_body-returns-then-body-slots-clause-keeps : goal.try_body-returns-then-body-slots-clause-keeps
+try_body-returns-then-body-slots-clause-keeps t c = keeps_all c.args.work.now.ledger
+
+pub try_item-returns-then-is_err-clause-accepted : goal.try_item-returns-then-is_err-clause-accepted
+try_item-returns-then-is_err-clause-accepted t c = λ h. absurd (cc h)
+
+pub try_item-returns-then-len-plan-clause-accepted : goal.try_item-returns-then-len-plan-clause-accepted
+try_item-returns-then-len-plan-clause-accepted t c = λ h. absurd (cc h)
+
+pub try_item-returns-then-is_err-2-clause-accepted : goal.try_item-returns-then-is_err-2-clause-accepted
+try_item-returns-then-is_err-2-clause-accepted t c = λ h. absurd (cc h)
+
+pub try_item-segment_bits-has_map-requires-in-Sequence-Sequence : goal.try_item-segment_bits-has_map-requires-in-Sequence-Sequence
+try_item-segment_bits-has_map-requires-in-Sequence-Sequence t c = c.requires.node
+
+pub try_item-returns-then-is_err-3-clause-accepted : goal.try_item-returns-then-is_err-3-clause-accepted
+try_item-returns-then-is_err-3-clause-accepted t c = λ h. absurd (cc h)
+
+pub try_item-returns-after-loop-row-clause-keeps : goal.try_item-returns-after-loop-row-clause-keeps
+try_item-returns-after-loop-row-clause-keeps t c = c.loop-row.invariant.keeps
+
+pub try_item-returns-in_default-3-clause-accepted : goal.try_item-returns-in_default-3-clause-accepted
+try_item-returns-in_default-3-clause-accepted t c = λ h. absurd (cc h)
+
+pub try_segment-returns-in_err-mark-clause-keeps : goal.try_segment-returns-in_err-mark-clause-keeps
+try_segment-returns-in_err-mark-clause-keeps t c = keeps_all c.args.work.now.ledger
+
+pub try_segment-returns-then-not-try_body-clause-suits : goal.try_segment-returns-then-not-try_body-clause-suits
+try_segment-returns-then-not-try_body-clause-suits t c = tt
+
+pub try_segment-returns-then-not-try_body-clause-fits : goal.try_segment-returns-then-not-try_body-clause-fits
+try_segment-returns-then-not-try_body-clause-fits t c = tt
+
+pub try_segment-returns-then-not-try_body-clause-ok : goal.try_segment-returns-then-not-try_body-clause-ok
+try_segment-returns-then-not-try_body-clause-ok t c = tt
+
+pub try_segment-returns-then-not-try_body-clause-keeps : goal.try_segment-returns-then-not-try_body-clause-keeps
+try_segment-returns-then-not-try_body-clause-keeps t c = c.try_body.ensures.keeps
+
+pub try_body-is_err-requires : goal.try_body-is_err-requires
+try_body-is_err-requires t c κs = (λ a m. absurd (not-mem-nil m), λ a m. absurd (not-mem-nil m))
+
+pub try_body-is_err-requires-in-loop-i : goal.try_body-is_err-requires-in-loop-i
+try_body-is_err-requires-in-loop-i t c κs = (λ a m. absurd (not-mem-nil m), λ a m. absurd (not-mem-nil m))
+
+pub try_item-is_err-requires : goal.try_item-is_err-requires
+try_item-is_err-requires t c κs = (λ a m. absurd (not-mem-nil m), λ a m. absurd (not-mem-nil m))
+
+pub try_item-deref-requires : goal.try_item-deref-requires
+try_item-deref-requires t c κs = (λ a m. absurd (not-mem-nil m), λ a m. absurd (not-mem-nil m))
+
+pub try_item-deref-requires-in-Group-Group : goal.try_item-deref-requires-in-Group-Group
+try_item-deref-requires-in-Group-Group t c κs = (λ a m. absurd (not-mem-nil m), λ a m. absurd (not-mem-nil m))
+
+pub try_item-is_ok-requires : goal.try_item-is_ok-requires
+try_item-is_ok-requires t c κs = (λ a m. absurd (not-mem-nil m), λ a m. absurd (not-mem-nil m))
+
+pub try_item-len-requires : goal.try_item-len-requires
+try_item-len-requires t c κs = (λ a m. absurd (not-mem-nil m), λ a m. absurd (not-mem-nil m))
+
+pub try_item-len-requires-else-len-plan : goal.try_item-len-requires-else-len-plan
+try_item-len-requires-else-len-plan t c κs = (λ a m. absurd (not-mem-nil m), λ a m. absurd (not-mem-nil m))
+
+pub try_item-len-requires-in-Sequence-Sequence : goal.try_item-len-requires-in-Sequence-Sequence
+try_item-len-requires-in-Sequence-Sequence t c κs = (λ a m. absurd (not-mem-nil m), λ a m. absurd (not-mem-nil m))
+
+pub try_item-is_err-requires-in-Sequence-Sequence : goal.try_item-is_err-requires-in-Sequence-Sequence
+try_item-is_err-requires-in-Sequence-Sequence t c κs = (λ a m. absurd (not-mem-nil m), λ a m. absurd (not-mem-nil m))
+
+pub try_item-len-requires-in-Sequence-Sequence-2 : goal.try_item-len-requires-in-Sequence-Sequence-2
+try_item-len-requires-in-Sequence-Sequence-2 t c κs = (λ a m. absurd (not-mem-nil m), λ a m. absurd (not-mem-nil m))
+
+pub try_item-deref-row-items-requires : goal.try_item-deref-row-items-requires
+try_item-deref-row-items-requires t c κs = (λ a m. absurd (not-mem-nil m), λ a m. absurd (not-mem-nil m))
+
+pub try_item-deref-requires-in-loop-row : goal.try_item-deref-requires-in-loop-row
+try_item-deref-requires-in-loop-row t c κs = (λ a m. absurd (not-mem-nil m), λ a m. absurd (not-mem-nil m))
+
+pub try_item-deref-requires-in-loop-row-2 : goal.try_item-deref-requires-in-loop-row-2
+try_item-deref-requires-in-loop-row-2 t c κs = (λ a m. absurd (not-mem-nil m), λ a m. absurd (not-mem-nil m))
+
+pub try_item-is_err-requires-in-loop-row : goal.try_item-is_err-requires-in-loop-row
+try_item-is_err-requires-in-loop-row t c κs = (λ a m. absurd (not-mem-nil m), λ a m. absurd (not-mem-nil m))
+
+pub try_segment-branch-mark-requires : goal.try_segment-branch-mark-requires
+try_segment-branch-mark-requires t c κs = (λ a m. absurd (not-mem-nil m), λ a m. absurd (not-mem-nil m))
+
+pub try_segment-from_residual-requires : goal.try_segment-from_residual-requires
+try_segment-from_residual-requires t c κs = (λ a m. absurd (not-mem-nil m), (λ a m. absurd (not-mem-nil m), λ a m. absurd (not-mem-nil m)))

@@ -1,5 +1,6 @@
 -- A whole message, by its parts: it suits and fits as they do.
 use Rattle.std.proofs.Common.{ℕ, List, refl, ap, subst, ◌≤◌, arith}
+use mathlib.Core.List.{not-mem-nil}
 use Rattle.fast_value.specs.meaning.Messages.{Slots, total}
 use Rattle.fast_value.specs.meaning.Views.{message_data, slots_data}
 use Rattle.fast_tree.specs.device.Bodies.{body_among}
@@ -62,3 +63,21 @@ returns-then-not-try_body-clause-keeps c = keeps_on c.args.work.now.ledger c.res
 
 pub returns-clause-keeps : goal.returns-clause-keeps
 returns-clause-keeps c = keeps_on c.args.work.now.ledger c.reset_if.new.ledger c.try_body.new.work.ledger (keeps_on c.args.work.now.ledger c.write_identifier.new.ledger c.reset_if.new.ledger c.write_identifier.ensures.keeps c.reset_if.ensures.keeps) c.try_body.ensures.keeps
+
+pub branch-begin-requires : goal.branch-begin-requires
+branch-begin-requires c κs = (λ a m. absurd (not-mem-nil m), λ a m. absurd (not-mem-nil m))
+
+pub from_residual-requires : goal.from_residual-requires
+from_residual-requires c κs = (λ a m. absurd (not-mem-nil m), (λ a m. absurd (not-mem-nil m), λ a m. absurd (not-mem-nil m)))
+
+pub branch-write_identifier-requires : goal.branch-write_identifier-requires
+branch-write_identifier-requires c κs = (λ a m. absurd (not-mem-nil m), λ a m. absurd (not-mem-nil m))
+
+pub from_residual-requires-in_err-write_identifier : goal.from_residual-requires-in_err-write_identifier
+from_residual-requires-in_err-write_identifier c κs = (λ a m. absurd (not-mem-nil m), (λ a m. absurd (not-mem-nil m), λ a m. absurd (not-mem-nil m)))
+
+pub deref-requires : goal.deref-requires
+deref-requires c κs = (λ a m. absurd (not-mem-nil m), λ a m. absurd (not-mem-nil m))
+
+pub deref-requires-2 : goal.deref-requires-2
+deref-requires-2 c κs = (λ a m. absurd (not-mem-nil m), λ a m. absurd (not-mem-nil m))

@@ -2,6 +2,7 @@
 use Rattle.std.proofs.Common.{◌≡◌, ◌++◌, ◌∷◌, [], List, ℕ, ap, sym, subst, ◌∙◌, refl}
 use Rattle.std.specs.Prelude.{Bool, true, false, if◌then◌else◌, option_map}
 use Rattle.std.proofs.lemmas.List.{append-nil}
+use mathlib.Core.List.{not-mem-nil}
 use Rattle.fast_value.specs.meaning.Values.{scalar_data}
 use Rattle.fast_tree.specs.meaning.Tree.{FieldData, uses_bit}
 use Rattle.fast_tree.specs.device.Nodes.{field_data}
@@ -31,3 +32,21 @@ returns-clause-ok c = λ l same.
           let used : uses_bit f ≡ false = sym c.uses_bit.ensures ∙ w.if-uses_bit.false in
           ([], h.0, ap (λ (d : Draft). d.bits.items) w.draft-is ∙ sym (append-nil c.args.draft.now.bits.items), h.1 ∙ ap (λ (d : List ℕ). d ++ h.0) (ap (λ (d : Draft). d.bytes.items) w.draft-is), done [] (ap (λ (u : Bool). if u then c.args.bit ∷ [] else []) (sym used)))
     ]
+
+pub branch-push_bit-requires : goal.branch-push_bit-requires
+branch-push_bit-requires c κs = (λ a m. absurd (not-mem-nil m), λ a m. absurd (not-mem-nil m))
+
+pub from_residual-requires : goal.from_residual-requires
+from_residual-requires c κs = (λ a m. absurd (not-mem-nil m), (λ a m. absurd (not-mem-nil m), λ a m. absurd (not-mem-nil m)))
+
+pub branch-write_item-requires : goal.branch-write_item-requires
+branch-write_item-requires c κs = (λ a m. absurd (not-mem-nil m), λ a m. absurd (not-mem-nil m))
+
+pub from_residual-requires-in_err-write_item : goal.from_residual-requires-in_err-write_item
+from_residual-requires-in_err-write_item c κs = (λ a m. absurd (not-mem-nil m), (λ a m. absurd (not-mem-nil m), λ a m. absurd (not-mem-nil m)))
+
+pub branch-keep-requires : goal.branch-keep-requires
+branch-keep-requires c κs = (λ a m. absurd (not-mem-nil m), λ a m. absurd (not-mem-nil m))
+
+pub from_residual-requires-in_err-keep : goal.from_residual-requires-in_err-keep
+from_residual-requires-in_err-keep c κs = (λ a m. absurd (not-mem-nil m), (λ a m. absurd (not-mem-nil m), λ a m. absurd (not-mem-nil m)))

@@ -2,6 +2,7 @@
 use Rattle.std.proofs.Common.{◌≡◌, ◌≢◌, ◌+◌, ◌-◌, ◌≤◌, ◌<◌, ◌++◌, ◌∷◌, [], suc, List, ℕ, refl, ◌∙◌, ap, arith, length, take, get_or}
 use Rattle.std.specs.Prelude.{slice_set}
 use Rattle.std.proofs.lemmas.List.{set_split, set-append_right, drop_all, length-append}
+use mathlib.Core.List.{not-mem-nil}
 use Rattle.fast_spelling.proofs.bytes.Spelling.{ascii_spelled, some_left}
 use Rattle.fast_spelling.proofs.items.write_ascii.Goals as goal
 
@@ -31,3 +32,36 @@ returns-clause-ok c =
       ap (λ (w : List ℕ). slice_set w i x) whole ∙ last_replaced old t i n x place some,
       λ room h. ascii_spelled t c.args.nullable room n c.requires some other h,
     )
+
+pub is_empty-requires : goal.is_empty-requires
+is_empty-requires c κs = λ a m. absurd (not-mem-nil m)
+
+pub extend_from_slice-requires : goal.extend_from_slice-requires
+extend_from_slice-requires c κs = (λ a m. absurd (not-mem-nil m), λ a m. absurd (not-mem-nil m))
+
+pub branch-extend_from_slice-requires : goal.branch-extend_from_slice-requires
+branch-extend_from_slice-requires c κs = (λ a m. absurd (not-mem-nil m), λ a m. absurd (not-mem-nil m))
+
+pub from_residual-requires : goal.from_residual-requires
+from_residual-requires c κs = (λ a m. absurd (not-mem-nil m), (λ a m. absurd (not-mem-nil m), λ a m. absurd (not-mem-nil m)))
+
+pub extend_from_slice-requires-else-nullable : goal.extend_from_slice-requires-else-nullable
+extend_from_slice-requires-else-nullable c κs = (λ a m. absurd (not-mem-nil m), λ a m. absurd (not-mem-nil m))
+
+pub branch-extend_from_slice-requires-else-nullable : goal.branch-extend_from_slice-requires-else-nullable
+branch-extend_from_slice-requires-else-nullable c κs = (λ a m. absurd (not-mem-nil m), λ a m. absurd (not-mem-nil m))
+
+pub from_residual-requires-in_err-extend_from_slice-2 : goal.from_residual-requires-in_err-extend_from_slice-2
+from_residual-requires-in_err-extend_from_slice-2 c κs = (λ a m. absurd (not-mem-nil m), (λ a m. absurd (not-mem-nil m), λ a m. absurd (not-mem-nil m)))
+
+pub extend_from_slice-requires-2 : goal.extend_from_slice-requires-2
+extend_from_slice-requires-2 c κs = (λ a m. absurd (not-mem-nil m), λ a m. absurd (not-mem-nil m))
+
+pub branch-extend_from_slice-requires-2 : goal.branch-extend_from_slice-requires-2
+branch-extend_from_slice-requires-2 c κs = (λ a m. absurd (not-mem-nil m), λ a m. absurd (not-mem-nil m))
+
+pub from_residual-requires-in_err-extend_from_slice-3 : goal.from_residual-requires-in_err-extend_from_slice-3
+from_residual-requires-in_err-extend_from_slice-3 c κs = (λ a m. absurd (not-mem-nil m), (λ a m. absurd (not-mem-nil m), λ a m. absurd (not-mem-nil m)))
+
+pub len-last-requires : goal.len-last-requires
+len-last-requires c κs = (λ a m. absurd (not-mem-nil m), λ a m. absurd (not-mem-nil m))

@@ -1,6 +1,7 @@
 -- Deltas are one or two signed integers, or one and a part of a text.
 use Rattle.std.proofs.Common.{◌++◌, List, ℕ, refl, ◌∙◌, ap, sym, subst, append_assoc, rules, Bool, true, false}
 use Rattle.std.specs.Prelude.{Some}
+use mathlib.Core.List.{not-mem-nil}
 use Rattle.fast_value.specs.declared.kinds.Kind.{Kind}
 use Rattle.fast_wire.specs.device.Shortest.{IsShortest}
 use Rattle.fast_tree.specs.device.Nodes.{field_data}
@@ -51,3 +52,36 @@ write_value-requires c = subst (λ (k : Kind). IsSendableValue k (scalar_data c.
 
 pub write_text-requires : goal.write_text-requires
 write_text-requires c = subst (λ (k : Kind). IsSendablePart k c.in-TextDelta.part.now) c.args.at.same_kind (subst (λ (x : Sent). IsSendable (field_data c.args.at.field.now) (sent_data x)) c.in-TextDelta.is c.requires).1
+
+pub extend_from_slice-requires : goal.extend_from_slice-requires
+extend_from_slice-requires c κs = (λ a m. absurd (not-mem-nil m), λ a m. absurd (not-mem-nil m))
+
+pub branch-extend_from_slice-requires : goal.branch-extend_from_slice-requires
+branch-extend_from_slice-requires c κs = (λ a m. absurd (not-mem-nil m), λ a m. absurd (not-mem-nil m))
+
+pub from_residual-requires : goal.from_residual-requires
+from_residual-requires c κs = (λ a m. absurd (not-mem-nil m), (λ a m. absurd (not-mem-nil m), λ a m. absurd (not-mem-nil m)))
+
+pub branch-write_delta_as-requires : goal.branch-write_delta_as-requires
+branch-write_delta_as-requires c κs = (λ a m. absurd (not-mem-nil m), λ a m. absurd (not-mem-nil m))
+
+pub from_residual-requires-in_err-write_delta_as-in-IntegerDelta : goal.from_residual-requires-in_err-write_delta_as-in-IntegerDelta
+from_residual-requires-in_err-write_delta_as-in-IntegerDelta c κs = (λ a m. absurd (not-mem-nil m), (λ a m. absurd (not-mem-nil m), λ a m. absurd (not-mem-nil m)))
+
+pub branch-write_signed_as-requires : goal.branch-write_signed_as-requires
+branch-write_signed_as-requires c κs = (λ a m. absurd (not-mem-nil m), λ a m. absurd (not-mem-nil m))
+
+pub from_residual-requires-in_err-write_signed_as-in-DecimalDelta : goal.from_residual-requires-in_err-write_signed_as-in-DecimalDelta
+from_residual-requires-in_err-write_signed_as-in-DecimalDelta c κs = (λ a m. absurd (not-mem-nil m), (λ a m. absurd (not-mem-nil m), λ a m. absurd (not-mem-nil m)))
+
+pub branch-write_signed_as-requires-in-DecimalDelta : goal.branch-write_signed_as-requires-in-DecimalDelta
+branch-write_signed_as-requires-in-DecimalDelta c κs = (λ a m. absurd (not-mem-nil m), λ a m. absurd (not-mem-nil m))
+
+pub from_residual-requires-in_err-write_signed_as-in-DecimalDelta-2 : goal.from_residual-requires-in_err-write_signed_as-in-DecimalDelta-2
+from_residual-requires-in_err-write_signed_as-in-DecimalDelta-2 c κs = (λ a m. absurd (not-mem-nil m), (λ a m. absurd (not-mem-nil m), λ a m. absurd (not-mem-nil m)))
+
+pub branch-write_signed_as-requires-in-TextDelta : goal.branch-write_signed_as-requires-in-TextDelta
+branch-write_signed_as-requires-in-TextDelta c κs = (λ a m. absurd (not-mem-nil m), λ a m. absurd (not-mem-nil m))
+
+pub from_residual-requires-in_err-write_signed_as-in-TextDelta : goal.from_residual-requires-in_err-write_signed_as-in-TextDelta
+from_residual-requires-in_err-write_signed_as-in-TextDelta c κs = (λ a m. absurd (not-mem-nil m), (λ a m. absurd (not-mem-nil m), λ a m. absurd (not-mem-nil m)))

@@ -1,6 +1,7 @@
 -- Depths fall at each call, and a group and a sequence are what their slots and their elements are.
 use Rattle.std.proofs.Common.{◌≡◌, ◌+◌, ◌*◌, ◌<◌, ◌≤◌, ap, sym, ◌∙◌, arith, get_or}
 use Rattle.std.specs.Prelude.{Option}
+use mathlib.Core.List.{not-mem-nil}
 use Rattle.fast_value.specs.declared.messages.Item.{Item}
 use Rattle.fast_value.specs.meaning.Messages.{group as group_item, sequence as sequence_item}
 use Rattle.fast_value.specs.meaning.Views.{item_data, slots_data, elements_data}
@@ -64,3 +65,30 @@ room_after_sequence-loop-row-init t c =
       within = (λ w. w, λ w. w);
       sum = omega (arith, long, c.in_ok-left.ensures);
     }
+
+pub room_after_item-deref-requires : goal.room_after_item-deref-requires
+room_after_item-deref-requires t c κs = (λ a m. absurd (not-mem-nil m), λ a m. absurd (not-mem-nil m))
+
+pub room_after_item-deref-requires-in-Sequence : goal.room_after_item-deref-requires-in-Sequence
+room_after_item-deref-requires-in-Sequence t c κs = (λ a m. absurd (not-mem-nil m), λ a m. absurd (not-mem-nil m))
+
+pub room_after_sequence-branch-left-requires : goal.room_after_sequence-branch-left-requires
+room_after_sequence-branch-left-requires t c κs = λ a m. absurd (not-mem-nil m)
+
+pub room_after_sequence-from_residual-requires : goal.room_after_sequence-from_residual-requires
+room_after_sequence-from_residual-requires t c κs = λ a m. absurd (not-mem-nil m)
+
+pub room_after_sequence-deref-requires : goal.room_after_sequence-deref-requires
+room_after_sequence-deref-requires t c κs = (λ a m. absurd (not-mem-nil m), λ a m. absurd (not-mem-nil m))
+
+pub room_after_sequence-branch-left-requires-in-loop-row : goal.room_after_sequence-branch-left-requires-in-loop-row
+room_after_sequence-branch-left-requires-in-loop-row t c κs = λ a m. absurd (not-mem-nil m)
+
+pub room_after_sequence-from_residual-requires-in_err-left-2 : goal.room_after_sequence-from_residual-requires-in_err-left-2
+room_after_sequence-from_residual-requires-in_err-left-2 t c κs = λ a m. absurd (not-mem-nil m)
+
+pub room_after_slots-branch-left-requires : goal.room_after_slots-branch-left-requires
+room_after_slots-branch-left-requires t c κs = λ a m. absurd (not-mem-nil m)
+
+pub room_after_slots-from_residual-requires : goal.room_after_slots-from_residual-requires
+room_after_slots-from_residual-requires t c κs = λ a m. absurd (not-mem-nil m)

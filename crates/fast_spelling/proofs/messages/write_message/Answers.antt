@@ -2,6 +2,7 @@
 use Rattle.std.proofs.Common.{ℕ, List, ap, sym, subst, ◌∙◌}
 use Rattle.std.specs.Prelude.{length}
 use Rattle.std.proofs.lemmas.Result.{err_from_is_err_and}
+use mathlib.Core.List.{not-mem-nil}
 use Rattle.fast_value.specs.meaning.Messages.{Slots}
 use Rattle.fast_value.specs.meaning.Views.{message_data, slots_data}
 use Rattle.fast_tree.specs.device.Bodies.{body_among}
@@ -70,3 +71,21 @@ returns-in_err-write_body-clause-keeps c = keeps_on c.args.ledger.now c.reset_if
 
 pub returns-clause-keeps : goal.returns-clause-keeps
 returns-clause-keeps c = keeps_on c.args.ledger.now c.reset_if.new.ledger c.write_body.new.ledger (keeps_on c.args.ledger.now c.write_identifier.new.ledger c.reset_if.new.ledger c.write_identifier.ensures.keeps c.reset_if.ensures.keeps) c.write_body.ensures.keeps
+
+pub branch-write_identifier-requires : goal.branch-write_identifier-requires
+branch-write_identifier-requires c κs = (λ a m. absurd (not-mem-nil m), λ a m. absurd (not-mem-nil m))
+
+pub from_residual-requires : goal.from_residual-requires
+from_residual-requires c κs = (λ a m. absurd (not-mem-nil m), (λ a m. absurd (not-mem-nil m), λ a m. absurd (not-mem-nil m)))
+
+pub deref-requires : goal.deref-requires
+deref-requires c κs = (λ a m. absurd (not-mem-nil m), λ a m. absurd (not-mem-nil m))
+
+pub deref-requires-2 : goal.deref-requires-2
+deref-requires-2 c κs = (λ a m. absurd (not-mem-nil m), λ a m. absurd (not-mem-nil m))
+
+pub branch-write_body-requires : goal.branch-write_body-requires
+branch-write_body-requires c κs = (λ a m. absurd (not-mem-nil m), λ a m. absurd (not-mem-nil m))
+
+pub from_residual-requires-in_err-write_body : goal.from_residual-requires-in_err-write_body
+from_residual-requires-in_err-write_body c κs = (λ a m. absurd (not-mem-nil m), (λ a m. absurd (not-mem-nil m), λ a m. absurd (not-mem-nil m)))

@@ -4,6 +4,7 @@ use Rattle.std.specs.Prelude.{Some}
 use Rattle.std.specs.Int.{w32, w64}
 use Rattle.std.proofs.lemmas.Int.{to_z-of_z}
 use Rattle.std.proofs.lemmas.Result.{err_from_is_err_and}
+use mathlib.Core.List.{not-mem-nil}
 use Rattle.fast_value.specs.declared.values.Value.{Value}
 use Rattle.fast_value.specs.declared.settings.Limits.{Limits}
 use Rattle.fast_value.specs.meaning.Kinds.{I}
@@ -17,6 +18,7 @@ use Rattle.fast_spelling.specs.meaning.Encoding.{EncodesField, EncodesDecimal}
 use Rattle.fast_spelling.specs.device.Fields.{Wrote}
 use Rattle.fast_spelling.specs.meaning.Refusals.{RefusesField, RefusesDecimal}
 use Rattle.fast_spelling.proofs.bytes.Spelling.{on_ok}
+use Rattle.fast_spelling.proofs.encodings.Progress.{on_handed_on}
 use Rattle.fast_spelling.proofs.encodings.Instructions.{told, told_at, wrote_twice}
 use Rattle.fast_spelling.proofs.parts.write_decimal.Goals as goal
 
@@ -59,3 +61,24 @@ returns-in_ok-write_field-in-Dec-clause-err c = told c.write_field-in-Dec.result
     let first = subst (λ (n : ℤ). Wrote (EncodesField l e d (Some (I n))) c.args.draft.now c.write_field.new.draft c.write_field.new.ledger.now) ex (c.in_ok-write_field-in-Dec.ensures.ok l same) in
     subst (λ (v : Value). RefusesDecimal l e m d (Some (one (value_data v))) f) (sym c.in-Dec.is)
     (inr (first.0, first.1, c.write_field.new.ledger.now, first.4, subst (λ (n : ℤ). RefusesField m c.write_field.new.ledger.now (Some (I n)) f) ey h)))
+
+pub branch-write_field-requires : goal.branch-write_field-requires
+branch-write_field-requires c κs = (λ a m. absurd (not-mem-nil m), λ a m. absurd (not-mem-nil m))
+
+pub from_residual-requires : goal.from_residual-requires
+from_residual-requires c κs = (λ a m. absurd (not-mem-nil m), (λ a m. absurd (not-mem-nil m), λ a m. absurd (not-mem-nil m)))
+
+pub returns-in_err-write_field-in-Dec-clause-ok : goal.returns-in_err-write_field-in-Dec-clause-ok
+returns-in_err-write_field-in-Dec-clause-ok c = on_handed_on _ _ c.from_residual.result c.from_residual.ensures.1
+
+pub write_field-requires-clause-served : goal.write_field-requires-clause-served
+write_field-requires-clause-served c = c.requires.exponent
+
+pub returns-in_err-write_field-in-Dec-clause-keeps : goal.returns-in_err-write_field-in-Dec-clause-keeps
+returns-in_err-write_field-in-Dec-clause-keeps c = record { before = c.write_field.ensures.before; room = c.write_field.ensures.max_text; count = c.write_field.ensures.length }
+
+pub returns-in_ok-write_field-in-Dec-clause-keeps : goal.returns-in_ok-write_field-in-Dec-clause-keeps
+returns-in_ok-write_field-in-Dec-clause-keeps c =
+    let first = c.write_field.ensures in
+    let second = c.write_field-in-Dec.ensures in
+    record { before = second.before ∙ first.before; room = second.max_text ∙ first.max_text; count = second.length ∙ first.length }

@@ -2,6 +2,7 @@
 use Rattle.std.proofs.Common.{◌≡◌, ◌<◌, ◌≤◌, ◌+◌, ◌*◌, ℕ, List, inl, inr, get_or, length, drop, ap, sym, subst, ◌∙◌, arith}
 use Rattle.std.specs.Prelude.{true, nat_lt, Option, Some, None, slice_index}
 use Rattle.std.proofs.lemmas.Result.{err_from_is_err_and}
+use mathlib.Core.List.{not-mem-nil}
 use Rattle.fast_value.specs.declared.messages.Item.{Item}
 use Rattle.fast_value.specs.meaning.Kinds.{ScalarData, U, text_of}
 use Rattle.fast_value.specs.meaning.Messages.{ItemData, one, group as group_item, sequence as sequence_item, count}
@@ -655,3 +656,63 @@ write_item-returns-in_err-write_body-in-Sequence-Sequence-clause-ok t c = on_han
 
 pub write_item-returns-in_err-close-in-Sequence-Sequence-clause-ok : goal.write_item-returns-in_err-close-in-Sequence-Sequence-clause-ok
 write_item-returns-in_err-close-in-Sequence-Sequence-clause-ok t c = on_handed_on _ _ c.from_residual-in_err-close-in-Sequence-Sequence.result c.from_residual-in_err-close-in-Sequence-Sequence.ensures.1
+
+pub write_body-branch-write_absent-requires : goal.write_body-branch-write_absent-requires
+write_body-branch-write_absent-requires t c κs = (λ a m. absurd (not-mem-nil m), λ a m. absurd (not-mem-nil m))
+
+pub write_body-from_residual-requires : goal.write_body-from_residual-requires
+write_body-from_residual-requires t c κs = (λ a m. absurd (not-mem-nil m), (λ a m. absurd (not-mem-nil m), λ a m. absurd (not-mem-nil m)))
+
+pub write_body-branch-write_item-requires : goal.write_body-branch-write_item-requires
+write_body-branch-write_item-requires t c κs = (λ a m. absurd (not-mem-nil m), λ a m. absurd (not-mem-nil m))
+
+pub write_body-from_residual-requires-in_err-write_item-in-Some : goal.write_body-from_residual-requires-in_err-write_item-in-Some
+write_body-from_residual-requires-in_err-write_item-in-Some t c κs = (λ a m. absurd (not-mem-nil m), (λ a m. absurd (not-mem-nil m), λ a m. absurd (not-mem-nil m)))
+
+pub write_item-branch-push_bit_if-requires : goal.write_item-branch-push_bit_if-requires
+write_item-branch-push_bit_if-requires t c κs = (λ a m. absurd (not-mem-nil m), λ a m. absurd (not-mem-nil m))
+
+pub write_item-from_residual-requires : goal.write_item-from_residual-requires
+write_item-from_residual-requires t c κs = (λ a m. absurd (not-mem-nil m), (λ a m. absurd (not-mem-nil m), λ a m. absurd (not-mem-nil m)))
+
+pub write_item-deref-requires : goal.write_item-deref-requires
+write_item-deref-requires t c κs = (λ a m. absurd (not-mem-nil m), λ a m. absurd (not-mem-nil m))
+
+pub write_item-deref-requires-in-Group-Group : goal.write_item-deref-requires-in-Group-Group
+write_item-deref-requires-in-Group-Group t c κs = (λ a m. absurd (not-mem-nil m), λ a m. absurd (not-mem-nil m))
+
+pub write_item-branch-write_body-requires : goal.write_item-branch-write_body-requires
+write_item-branch-write_body-requires t c κs = (λ a m. absurd (not-mem-nil m), λ a m. absurd (not-mem-nil m))
+
+pub write_item-from_residual-requires-in_err-write_body-in-Group-Group : goal.write_item-from_residual-requires-in_err-write_body-in-Group-Group
+write_item-from_residual-requires-in_err-write_body-in-Group-Group t c κs = (λ a m. absurd (not-mem-nil m), (λ a m. absurd (not-mem-nil m), λ a m. absurd (not-mem-nil m)))
+
+pub write_item-len-requires : goal.write_item-len-requires
+write_item-len-requires t c κs = (λ a m. absurd (not-mem-nil m), λ a m. absurd (not-mem-nil m))
+
+pub write_item-branch-write_field-requires : goal.write_item-branch-write_field-requires
+write_item-branch-write_field-requires t c κs = (λ a m. absurd (not-mem-nil m), λ a m. absurd (not-mem-nil m))
+
+pub write_item-from_residual-requires-in_err-write_field-in-Sequence-Sequence : goal.write_item-from_residual-requires-in_err-write_field-in-Sequence-Sequence
+write_item-from_residual-requires-in_err-write_field-in-Sequence-Sequence t c κs = (λ a m. absurd (not-mem-nil m), (λ a m. absurd (not-mem-nil m), λ a m. absurd (not-mem-nil m)))
+
+pub write_item-deref-row-items-requires : goal.write_item-deref-row-items-requires
+write_item-deref-row-items-requires t c κs = (λ a m. absurd (not-mem-nil m), λ a m. absurd (not-mem-nil m))
+
+pub write_item-deref-requires-in-loop-row : goal.write_item-deref-requires-in-loop-row
+write_item-deref-requires-in-loop-row t c κs = (λ a m. absurd (not-mem-nil m), λ a m. absurd (not-mem-nil m))
+
+pub write_item-deref-requires-in-loop-row-2 : goal.write_item-deref-requires-in-loop-row-2
+write_item-deref-requires-in-loop-row-2 t c κs = (λ a m. absurd (not-mem-nil m), λ a m. absurd (not-mem-nil m))
+
+pub write_item-branch-write_body-requires-in-loop-row : goal.write_item-branch-write_body-requires-in-loop-row
+write_item-branch-write_body-requires-in-loop-row t c κs = (λ a m. absurd (not-mem-nil m), λ a m. absurd (not-mem-nil m))
+
+pub write_item-from_residual-requires-in_err-write_body-in-Sequence-Sequence : goal.write_item-from_residual-requires-in_err-write_body-in-Sequence-Sequence
+write_item-from_residual-requires-in_err-write_body-in-Sequence-Sequence t c κs = (λ a m. absurd (not-mem-nil m), (λ a m. absurd (not-mem-nil m), λ a m. absurd (not-mem-nil m)))
+
+pub write_item-branch-close-requires : goal.write_item-branch-close-requires
+write_item-branch-close-requires t c κs = (λ a m. absurd (not-mem-nil m), λ a m. absurd (not-mem-nil m))
+
+pub write_item-from_residual-requires-in_err-close-in-Sequence-Sequence : goal.write_item-from_residual-requires-in_err-close-in-Sequence-Sequence
+write_item-from_residual-requires-in_err-close-in-Sequence-Sequence t c κs = (λ a m. absurd (not-mem-nil m), (λ a m. absurd (not-mem-nil m), λ a m. absurd (not-mem-nil m)))

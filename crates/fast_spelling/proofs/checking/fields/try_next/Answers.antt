@@ -3,7 +3,7 @@ use Rattle.std.proofs.Common.{refl, sym, subst}
 use Rattle.std.specs.Prelude.{Option, Some}
 use Rattle.fast_value.specs.meaning.Kinds.{ScalarData}
 use Rattle.fast_value.specs.meaning.Messages.{ItemData, one}
-use Rattle.fast_value.specs.meaning.Values.{value_data}
+use Rattle.fast_value.specs.meaning.Values.{value_data, scalar_data}
 use Rattle.fast_tree.specs.meaning.Tree.{field}
 use Rattle.fast_template.specs.meaning.Flat.{nodes_of, field_data}
 use Rattle.fast_spelling.specs.device.Nodes.{instruction_in}
@@ -14,6 +14,8 @@ use Rattle.fast_spelling.proofs.rules.Usual.{number_of}
 use Rattle.fast_spelling.proofs.bytes.Spelling.{on_ok}
 use Rattle.fast_spelling.proofs.encodings.Instructions.{served, encodes_as, field_encodes}
 use Rattle.fast_spelling.proofs.encodings.Progress.{keeps_all}
+use Rattle.fast_spelling.proofs.limits.Checked.{on_any}
+use Rattle.fast_spelling.proofs.limits.Tried.{suited_as, field_suits, without_text}
 use Rattle.fast_spelling.proofs.checking.fields.try_next.Goals as goal
 
 pub write_next-requires-clause-served : goal.write_next-requires-clause-served
@@ -52,3 +54,14 @@ write_next-requires-clause-operator c = c.known_at-at.ensures.operator
 
 pub returns-clause-keeps : goal.returns-clause-keeps
 returns-clause-keeps c = c.write_next.ensures.keeps
+
+pub write_next-requires-clause-suited : goal.write_next-requires-clause-suited
+write_next-requires-clause-suited c = suited_as c.args.work.now.ledger.max_text (field_data c.known_at-at.result.field.now) c.args.kind (scalar_data c.in-Some.scalar) (value_data c.args.value.now) c.known_at-at.ensures.kind c.in-Some.ensures.0 c.in-Some.ensures.1 (without_text (value_data c.args.value.now) c.args.work.now.ledger.max_text c.in-Some.ensures.2)
+
+pub returns-clause-suits : goal.returns-clause-suits
+returns-clause-suits c =
+    let here = c.known_at-at.ensures.instruction in
+    on_any c.write_next.result (field_suits (instruction_in (nodes_of c.args.plan.now.templates.now) c.args.node) here.0 (field_data c.known_at-at.result.field.now) c.args.kind (value_data c.args.value.now) here.1 c.known_at-at.ensures.kind c.in-Some.ensures.1)
+
+pub returns-clause-fits : goal.returns-clause-fits
+returns-clause-fits c = on_any c.write_next.result (without_text (value_data c.args.value.now) c.args.plan.now.limits.max_text c.in-Some.ensures.2)

@@ -1,6 +1,7 @@
 -- A value is written as it is encoded, and suits.
 use Rattle.std.proofs.Common.{◌≡◌, inl, inr, refl, sym, subst}
 use Rattle.std.specs.Prelude.{Option, Some}
+use mathlib.Core.List.{not-mem-nil}
 use Rattle.fast_value.specs.meaning.Kinds.{ScalarData}
 use Rattle.fast_value.specs.meaning.Messages.{ItemData, one}
 use Rattle.fast_value.specs.meaning.Values.{value_data}
@@ -14,6 +15,7 @@ use Rattle.fast_spelling.specs.meaning.Encoding.{EncodesField}
 use Rattle.fast_spelling.specs.device.Fields.{Wrote}
 use Rattle.fast_spelling.specs.meaning.Suiting.{Suits}
 use Rattle.fast_spelling.proofs.encodings.Instructions.{at_shape, usable_at, short_at, served, encodes_as, field_encodes, decimal_encodes}
+use Rattle.fast_spelling.proofs.encodings.Progress.{on_handed_on}
 use Rattle.fast_spelling.proofs.limits.Suited.{decimal_right}
 use Rattle.fast_spelling.proofs.checking.fields.try_other.Goals as goal
 
@@ -70,3 +72,33 @@ returns-in_ok-write_decimal-in-Decimal-clause-ok c =
     let here : i ≡ j = at_shape nodes c.args.node v (Decimal c.in-Decimal.exponent c.in-Decimal.mantissa) c.node.ensures.found c.node.ensures.body c.in-Decimal.is in
     encodes_as c.args.plan.now.limits i j y y c.args.work.now.ledger.now c.args.work.now.draft c.write_decimal.new.draft c.write_decimal.new.ledger.now here refl
     (decimal_encodes c.args.plan.now.limits at (field_data c.in-Decimal.exponent) (field_data c.in-Decimal.mantissa) (value_data c.args.value.now) c.args.work.now.ledger.now c.args.work.now.draft c.write_decimal.new.draft c.write_decimal.new.ledger.now (c.in_ok-write_decimal-in-Decimal.ensures.ok c.args.plan.now.limits c.requires.ready.room))
+
+pub branch-write_field-requires : goal.branch-write_field-requires
+branch-write_field-requires c κs = (λ a m. absurd (not-mem-nil m), λ a m. absurd (not-mem-nil m))
+
+pub from_residual-requires : goal.from_residual-requires
+from_residual-requires c κs = (λ a m. absurd (not-mem-nil m), (λ a m. absurd (not-mem-nil m), λ a m. absurd (not-mem-nil m)))
+
+pub branch-write_decimal-requires : goal.branch-write_decimal-requires
+branch-write_decimal-requires c κs = (λ a m. absurd (not-mem-nil m), λ a m. absurd (not-mem-nil m))
+
+pub from_residual-requires-in_err-write_decimal-in-Decimal : goal.from_residual-requires-in_err-write_decimal-in-Decimal
+from_residual-requires-in_err-write_decimal-in-Decimal c κs = (λ a m. absurd (not-mem-nil m), (λ a m. absurd (not-mem-nil m), λ a m. absurd (not-mem-nil m)))
+
+pub returns-in_err-write_field-in-Field-clause-suits : goal.returns-in_err-write_field-in-Field-clause-suits
+returns-in_err-write_field-in-Field-clause-suits c = on_handed_on _ _ c.from_residual.result c.from_residual.ensures.1
+
+pub returns-in_err-write_field-in-Field-clause-fits : goal.returns-in_err-write_field-in-Field-clause-fits
+returns-in_err-write_field-in-Field-clause-fits c = on_handed_on _ _ c.from_residual.result c.from_residual.ensures.1
+
+pub returns-in_err-write_field-in-Field-clause-ok : goal.returns-in_err-write_field-in-Field-clause-ok
+returns-in_err-write_field-in-Field-clause-ok c = on_handed_on _ _ c.from_residual.result c.from_residual.ensures.1
+
+pub returns-in_err-write_decimal-in-Decimal-clause-suits : goal.returns-in_err-write_decimal-in-Decimal-clause-suits
+returns-in_err-write_decimal-in-Decimal-clause-suits c = on_handed_on _ _ c.from_residual-in_err-write_decimal-in-Decimal.result c.from_residual-in_err-write_decimal-in-Decimal.ensures.1
+
+pub returns-in_err-write_decimal-in-Decimal-clause-fits : goal.returns-in_err-write_decimal-in-Decimal-clause-fits
+returns-in_err-write_decimal-in-Decimal-clause-fits c = on_handed_on _ _ c.from_residual-in_err-write_decimal-in-Decimal.result c.from_residual-in_err-write_decimal-in-Decimal.ensures.1
+
+pub returns-in_err-write_decimal-in-Decimal-clause-ok : goal.returns-in_err-write_decimal-in-Decimal-clause-ok
+returns-in_err-write_decimal-in-Decimal-clause-ok c = on_handed_on _ _ c.from_residual-in_err-write_decimal-in-Decimal.result c.from_residual-in_err-write_decimal-in-Decimal.ensures.1

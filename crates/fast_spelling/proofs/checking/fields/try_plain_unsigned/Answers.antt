@@ -3,6 +3,7 @@ use Rattle.std.proofs.Common.{◌≡◌, ◌<◌, ◌∙◌, ap, sym, refl, subs
 use Rattle.std.specs.Prelude.{Bool, true, false, pos, Option, Some, slice_get, if◌then◌else◌}
 use Rattle.std.proofs.lemmas.Option.{slice_get_read}
 use Rattle.std.proofs.lemmas.List.{append-nil, length-map}
+use mathlib.Core.List.{not-mem-nil}
 use Rattle.fast_wire.specs.device.Shortest.{IsShortest}
 use Rattle.fast_value.specs.declared.kinds.Kind.{Kind}
 use Rattle.fast_value.specs.meaning.Kinds.{ScalarData, U, text_of}
@@ -66,3 +67,9 @@ returns-clause-ok c =
     let says = field_done l f d p (Some v) true (value v) [] w.0 d refl h.usable.tail suited (plain_ruled f p v h.under) (value_sendable f.kind v l.max_text small right (omega (arith, none))) spelled (ap (λ (u : Bool). if u then true ∷ [] else []) (sym unused)) kept in
     encodes_as l (instruction_in nodes c.args.node) (field h.instruction.0 f) y y d old (record { bits = old.bits; bytes = c.write_unsigned_as.new.bytes }) d h.instruction.1 refl
     (field_encodes l h.instruction.0 f v d old (record { bits = old.bits; bytes = c.write_unsigned_as.new.bytes }) d ([], w.0, sym (append-nil old.bits.items), w.1, says))
+
+pub branch-write_unsigned_as-requires : goal.branch-write_unsigned_as-requires
+branch-write_unsigned_as-requires c κs = (λ a m. absurd (not-mem-nil m), λ a m. absurd (not-mem-nil m))
+
+pub from_residual-requires : goal.from_residual-requires
+from_residual-requires c κs = (λ a m. absurd (not-mem-nil m), (λ a m. absurd (not-mem-nil m), λ a m. absurd (not-mem-nil m)))

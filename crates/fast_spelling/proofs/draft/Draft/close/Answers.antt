@@ -2,6 +2,7 @@
 use Rattle.std.proofs.Common.{[], ap, sym, subst, ◌∙◌, drop, List}
 use Rattle.std.specs.Prelude.{Bool, true}
 use Rattle.std.proofs.lemmas.List.{take-append-drop, take_rest}
+use mathlib.Core.List.{not-mem-nil}
 use Rattle.fast_spelling.specs.meaning.Encoding.{ShortestMap}
 use Rattle.fast_spelling.specs.declared.draft.Draft.{Draft}
 use Rattle.fast_spelling.proofs.bytes.Bits.{closes_without}
@@ -27,3 +28,15 @@ returns-clause-ok c = elim c.if-has_map.branch [
 
 pub put_map-requires : goal.put_map-requires
 put_map-requires c = c.requires.bytes
+
+pub deref-requires : goal.deref-requires
+deref-requires c κs = (λ a m. absurd (not-mem-nil m), λ a m. absurd (not-mem-nil m))
+
+pub branch-put_map-requires : goal.branch-put_map-requires
+branch-put_map-requires c κs = (λ a m. absurd (not-mem-nil m), λ a m. absurd (not-mem-nil m))
+
+pub from_residual-requires : goal.from_residual-requires
+from_residual-requires c κs = (λ a m. absurd (not-mem-nil m), (λ a m. absurd (not-mem-nil m), λ a m. absurd (not-mem-nil m)))
+
+pub truncate-requires : goal.truncate-requires
+truncate-requires c κs = (λ a m. absurd (not-mem-nil m), λ a m. absurd (not-mem-nil m))

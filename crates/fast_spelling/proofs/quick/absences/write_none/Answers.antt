@@ -1,15 +1,17 @@
 -- The field is handed on with what is known of it.
-use Rattle.std.proofs.Common.{sym, subst}
-use Rattle.std.specs.Prelude.{true, None}
+use Rattle.std.proofs.Common.{sym, subst, ap, ◌∙◌}
+use Rattle.std.specs.Prelude.{true, None, IfErr}
 use Rattle.fast_tree.specs.declared.instructions.FieldInstruction.{FieldInstruction}
 use Rattle.fast_tree.specs.device.Nodes.{field_data}
 use Rattle.fast_spelling.specs.meaning.Encoding.{EncodesField}
-use Rattle.fast_spelling.specs.device.Fields.{Wrote}
+use Rattle.fast_spelling.specs.device.Fields.{Wrote, IsServed, IsSuited}
 use Rattle.fast_spelling.proofs.bytes.Spelling.{on_ok}
 use Rattle.fast_dict.specs.meaning.Dictionary.{previous_at}
 use Rattle.fast_dict.specs.meaning.Operators.{null}
 use Rattle.fast_dict.specs.meaning.Rule.{Rule}
 use Rattle.fast_spelling.proofs.rules.Usual.{absent_plain, absent_delta}
+use Rattle.fast_spelling.specs.device.Drafts.{IsTold}
+use Rattle.fast_spelling.specs.meaning.Refusals.{RefusesField}
 use Rattle.fast_spelling.proofs.quick.absences.write_none.Goals as goal
 
 pub send-requires-clause-ruled : goal.send-requires-clause-ruled
@@ -39,3 +41,78 @@ returns-in-Default-clause-ok c = on_ok c.write_no_default.result c.write_no_defa
 pub returns-in-Copy-clause-ok : goal.returns-in-Copy-clause-ok
 returns-in-Copy-clause-ok c = on_ok c.write_no_copy.result c.write_no_copy.ensures.ok (λ k l same.
     subst (λ (g : FieldInstruction). Wrote (EncodesField l (field_data g) c.args.ledger.now.now None) c.args.draft.now c.write_no_copy.new.draft c.write_no_copy.new.ledger.now) c.of-in-Copy.ensures (k l same))
+
+pub send-requires-clause-operator : goal.send-requires-clause-operator
+send-requires-clause-operator c = ap (λ (g : FieldInstruction). g.operator) c.of.ensures
+
+pub send-requires-clause-served : goal.send-requires-clause-served
+send-requires-clause-served c = subst (λ (g : FieldInstruction). IsServed c.args.ledger.now (field_data g)) (sym c.of.ensures) c.requires.served
+
+pub send-requires-clause-suited : goal.send-requires-clause-suited
+send-requires-clause-suited c = subst (λ (g : FieldInstruction). IsSuited c.args.ledger.now.max_text (field_data g) None) (sym c.of.ensures) c.requires.suited
+
+pub returns-in-None-clause-err : goal.returns-in-None-clause-err
+returns-in-None-clause-err c = subst (λ (g : FieldInstruction). IfErr c.send.result (IsTold (RefusesField (field_data g) c.args.ledger.now.now None))) c.of.ensures c.send.ensures.err
+
+pub returns-in-None-clause-keeps : goal.returns-in-None-clause-keeps
+returns-in-None-clause-keeps c = record { before = c.send.ensures.before; room = c.send.ensures.max_text; count = c.send.ensures.length }
+
+pub send-requires-in-Delta-clause-operator : goal.send-requires-in-Delta-clause-operator
+send-requires-in-Delta-clause-operator c = ap (λ (g : FieldInstruction). g.operator) c.of-in-Delta.ensures
+
+pub send-requires-in-Delta-clause-served : goal.send-requires-in-Delta-clause-served
+send-requires-in-Delta-clause-served c = subst (λ (g : FieldInstruction). IsServed c.args.ledger.now (field_data g)) (sym c.of-in-Delta.ensures) c.requires.served
+
+pub send-requires-in-Delta-clause-suited : goal.send-requires-in-Delta-clause-suited
+send-requires-in-Delta-clause-suited c = subst (λ (g : FieldInstruction). IsSuited c.args.ledger.now.max_text (field_data g) None) (sym c.of-in-Delta.ensures) c.requires.suited
+
+pub returns-in-Delta-clause-err : goal.returns-in-Delta-clause-err
+returns-in-Delta-clause-err c = subst (λ (g : FieldInstruction). IfErr c.send-in-Delta.result (IsTold (RefusesField (field_data g) c.args.ledger.now.now None))) c.of-in-Delta.ensures c.send-in-Delta.ensures.err
+
+pub returns-in-Delta-clause-keeps : goal.returns-in-Delta-clause-keeps
+returns-in-Delta-clause-keeps c = record { before = c.send-in-Delta.ensures.before; room = c.send-in-Delta.ensures.max_text; count = c.send-in-Delta.ensures.length }
+
+pub write_no_default-requires-clause-operator : goal.write_no_default-requires-clause-operator
+write_no_default-requires-clause-operator c = ap (λ (g : FieldInstruction). g.operator) c.of-in-Default.ensures ∙ c.in-Default.is
+
+pub write_no_default-requires-clause-served : goal.write_no_default-requires-clause-served
+write_no_default-requires-clause-served c = subst (λ (g : FieldInstruction). IsServed c.args.ledger.now (field_data g)) (sym c.of-in-Default.ensures) c.requires.served
+
+pub write_no_default-requires-clause-suited : goal.write_no_default-requires-clause-suited
+write_no_default-requires-clause-suited c = subst (λ (g : FieldInstruction). IsSuited c.args.ledger.now.max_text (field_data g) None) (sym c.of-in-Default.ensures) c.requires.suited
+
+pub returns-in-Default-clause-err : goal.returns-in-Default-clause-err
+returns-in-Default-clause-err c = subst (λ (g : FieldInstruction). IfErr c.write_no_default.result (IsTold (RefusesField (field_data g) c.args.ledger.now.now None))) c.of-in-Default.ensures c.write_no_default.ensures.err
+
+pub returns-in-Default-clause-keeps : goal.returns-in-Default-clause-keeps
+returns-in-Default-clause-keeps c = c.write_no_default.ensures.keeps
+
+pub write_no_copy-requires-clause-operator : goal.write_no_copy-requires-clause-operator
+write_no_copy-requires-clause-operator c = ap (λ (g : FieldInstruction). g.operator) c.of-in-Copy.ensures ∙ c.in-Copy.is
+
+pub write_no_copy-requires-clause-served : goal.write_no_copy-requires-clause-served
+write_no_copy-requires-clause-served c = subst (λ (g : FieldInstruction). IsServed c.args.ledger.now (field_data g)) (sym c.of-in-Copy.ensures) c.requires.served
+
+pub write_no_copy-requires-clause-suited : goal.write_no_copy-requires-clause-suited
+write_no_copy-requires-clause-suited c = subst (λ (g : FieldInstruction). IsSuited c.args.ledger.now.max_text (field_data g) None) (sym c.of-in-Copy.ensures) c.requires.suited
+
+pub returns-in-Copy-clause-err : goal.returns-in-Copy-clause-err
+returns-in-Copy-clause-err c = subst (λ (g : FieldInstruction). IfErr c.write_no_copy.result (IsTold (RefusesField (field_data g) c.args.ledger.now.now None))) c.of-in-Copy.ensures c.write_no_copy.ensures.err
+
+pub returns-in-Copy-clause-keeps : goal.returns-in-Copy-clause-keeps
+returns-in-Copy-clause-keeps c = c.write_no_copy.ensures.keeps
+
+pub choose_none-requires-clause-served : goal.choose_none-requires-clause-served
+choose_none-requires-clause-served c = c.requires.served
+
+pub choose_none-requires-clause-suited : goal.choose_none-requires-clause-suited
+choose_none-requires-clause-suited c = c.requires.suited
+
+pub returns-in-Increment-clause-ok : goal.returns-in-Increment-clause-ok
+returns-in-Increment-clause-ok c = c.choose_none.ensures.ok
+
+pub returns-in-Increment-clause-err : goal.returns-in-Increment-clause-err
+returns-in-Increment-clause-err c = c.choose_none.ensures.err
+
+pub returns-in-Increment-clause-keeps : goal.returns-in-Increment-clause-keeps
+returns-in-Increment-clause-keeps c = c.choose_none.ensures.keeps

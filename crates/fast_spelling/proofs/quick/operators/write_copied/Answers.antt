@@ -2,6 +2,7 @@
 use Rattle.std.proofs.Common.{ℕ, [], ◌∷◌, refl, ap, sym, subst, ◌∙◌}
 use Rattle.std.specs.Prelude.{false, Some}
 use Rattle.std.proofs.lemmas.List.{append-nil}
+use mathlib.Core.List.{not-mem-nil}
 use Rattle.fast_value.specs.meaning.Values.{scalar_data}
 use Rattle.fast_tree.specs.device.Nodes.{field_data}
 use Rattle.fast_dict.specs.meaning.Dictionary.{assigned}
@@ -62,3 +63,9 @@ returns-in-Some-2-clause-err c = c.send.ensures.err
 
 pub returns-in-Some-2-clause-keeps : goal.returns-in-Some-2-clause-keeps
 returns-in-Some-2-clause-keeps c = record { before = c.send.ensures.before; room = c.send.ensures.max_text; count = c.send.ensures.length }
+
+pub branch-push_bit-requires : goal.branch-push_bit-requires
+branch-push_bit-requires c κs = (λ a m. absurd (not-mem-nil m), λ a m. absurd (not-mem-nil m))
+
+pub from_residual-requires : goal.from_residual-requires
+from_residual-requires c κs = (λ a m. absurd (not-mem-nil m), (λ a m. absurd (not-mem-nil m), λ a m. absurd (not-mem-nil m)))

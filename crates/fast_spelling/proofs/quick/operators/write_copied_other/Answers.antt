@@ -2,12 +2,13 @@
 use Rattle.std.proofs.Common.{ℕ, [], ◌∷◌, refl, ap, sym, subst, ◌∙◌}
 use Rattle.std.specs.Prelude.{false, Some}
 use Rattle.std.proofs.lemmas.List.{append-nil}
+use mathlib.Core.List.{not-mem-nil}
 use Rattle.fast_value.specs.meaning.Values.{scalar_data}
 use Rattle.fast_tree.specs.device.Nodes.{field_data}
-use Rattle.fast_dict.specs.meaning.Dictionary.{assigned}
+use Rattle.fast_dict.specs.meaning.Dictionary.{assigned, previous_at}
 use Rattle.fast_spelling.specs.device.Fields.{IsSuited}
-use Rattle.fast_spelling.proofs.rules.Usual.{copy_passed}
-use Rattle.fast_spelling.proofs.encodings.Progress.{keeps_all}
+use Rattle.fast_spelling.proofs.rules.Usual.{copy_passed, copy_other, value_sendable}
+use Rattle.fast_spelling.proofs.encodings.Progress.{keeps_all, on_handed_on}
 use Rattle.fast_spelling.proofs.quick.operators.write_copied_other.Goals as goal
 
 pub returns-in_ok-push_bit-in-Some-clause-ok : goal.returns-in_ok-push_bit-in-Some-clause-ok
@@ -62,3 +63,20 @@ returns-in-Some-2-clause-err c = c.send.ensures.err
 
 pub returns-in-Some-2-clause-keeps : goal.returns-in-Some-2-clause-keeps
 returns-in-Some-2-clause-keeps c = record { before = c.send.ensures.before; room = c.send.ensures.max_text; count = c.send.ensures.length }
+
+pub branch-push_bit-requires : goal.branch-push_bit-requires
+branch-push_bit-requires c κs = (λ a m. absurd (not-mem-nil m), λ a m. absurd (not-mem-nil m))
+
+pub from_residual-requires : goal.from_residual-requires
+from_residual-requires c κs = (λ a m. absurd (not-mem-nil m), (λ a m. absurd (not-mem-nil m), λ a m. absurd (not-mem-nil m)))
+
+pub returns-in_err-push_bit-in-Some-clause-ok : goal.returns-in_err-push_bit-in-Some-clause-ok
+returns-in_err-push_bit-in-Some-clause-ok c = on_handed_on _ _ c.from_residual.result c.from_residual.ensures.1
+
+pub send-requires-clause-ruled : goal.send-requires-clause-ruled
+send-requires-clause-ruled c =
+    let f = field_data c.args.at.field.now in
+    copy_other f (previous_at f.entry c.args.ledger.now.now) (scalar_data c.in-Some.held) (scalar_data c.args.value) c.requires.operator c.in-Some.ensures.value (λ e. absurd (cc (c.if-is_same.ensures.1 e)))
+
+pub send-requires-clause-sendable : goal.send-requires-clause-sendable
+send-requires-clause-sendable c = value_sendable c.args.at.field.now.kind (scalar_data c.args.value) c.args.ledger.now.max_text c.requires.served.small c.requires.suited.0 c.requires.suited.1

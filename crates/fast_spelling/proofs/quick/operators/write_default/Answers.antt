@@ -2,6 +2,7 @@
 use Rattle.std.proofs.Common.{ℕ, [], ◌∷◌, refl, sym, subst, ◌∙◌}
 use Rattle.std.specs.Prelude.{false, Some}
 use Rattle.std.proofs.lemmas.List.{append-nil}
+use mathlib.Core.List.{not-mem-nil}
 use Rattle.fast_value.specs.meaning.Values.{scalar_data}
 use Rattle.fast_tree.specs.device.Nodes.{field_data}
 use Rattle.fast_spelling.specs.device.Fields.{IsSuited}
@@ -18,3 +19,9 @@ returns-then-is_initial-clause-ok c = λ l same.
       c.push_bit.ensures.bytes ∙ sym (append-nil c.args.draft.now.bytes.items),
       default_passed l f c.args.ledger.now.now v c.requires.operator c.requires.served.usable.tail (subst (λ (m : ℕ). IsSuited m f (Some v)) (sym same) c.requires.suited) (c.if-is_initial.ensures.0 refl),
     )
+
+pub branch-push_bit-requires : goal.branch-push_bit-requires
+branch-push_bit-requires c κs = (λ a m. absurd (not-mem-nil m), λ a m. absurd (not-mem-nil m))
+
+pub from_residual-requires : goal.from_residual-requires
+from_residual-requires c κs = (λ a m. absurd (not-mem-nil m), (λ a m. absurd (not-mem-nil m), λ a m. absurd (not-mem-nil m)))
