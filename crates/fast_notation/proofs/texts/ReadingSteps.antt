@@ -1,6 +1,6 @@
 -- What the steps of reading come to, one by one: a test, a value, and a fault that goes on.
-use Rattle.std.proofs.Common.{◌≡◌, ap, sym, ◌∙◌, Bool, true, false, Option, Some, None, Ok, Err}
-use Rattle.std.specs.Prelude.{if◌then◌else◌, Result, IsErrAnd, IfOk}
+use Rattle.std.proofs.Common.{◌≡◌, ap, sym, subst, ◌∙◌, Bool, true, false, Option, Some, None, Ok, Err}
+use Rattle.std.specs.Prelude.{if◌then◌else◌, Result, IsErrAnd, IfOk, IfErr}
 use Rattle.fast_notation.specs.declared.keys.Unread.{Unread}
 use Rattle.fast_notation.specs.declared.keys.Unread.TheVariants.{Shape, Memory}
 use Rattle.fast_notation.specs.device.Reading.{◌>>=◌}
@@ -26,6 +26,11 @@ no_ok (Err y) P Q h = tt
 
 pub ok_no_err : {T E A : Type 0} {x : T} {y : E} → ◌≡◌ {A = Result T E} (Ok x) (Err y) → A
 ok_no_err e = absurd (cc)
+
+-- what is told of a fault holds of it where it goes on
+pub told_err : {T E : Type 0} (r : Result T E) (x : E) (P : E → Type 0) → IsErrAnd r (λ y. y ≡ x) → P x → IfErr r P
+told_err (Ok v) x P h p = absurd h
+told_err (Err y) x P h p = subst P (sym h) p
 
 -- a fault of shape that goes on was one of shape
 pub passed_on : {T U : Type 0} (r : Result T Unread) (x : Unread) → IsErrAnd r (λ y. y ≡ x) → r ≡ Err Shape → ◌≡◌ {A = Result U Unread} (Err x) (Err Shape)
