@@ -7,3 +7,4 @@ pub mod WrittenLaws
 pub mod SetLaws
 pub mod SoundUses
 pub mod InstructionForms
+pub mod ReadingSteps

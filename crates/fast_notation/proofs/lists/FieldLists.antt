@@ -1,15 +1,18 @@
 -- The instructions at the key `fields`, and those of the items of an array, one after the other.
-use Rattle.std.proofs.Common.{◌≡◌, ℕ, ◌+◌, ◌<◌, ◌≤◌, max, List, [], ◌∷◌, ◌++◌, length, map, drop, get_or, refl, ap, sym, ◌∙◌, arith, suc, zero, Option, Some, None, Ordering, Less, Equal, Greater, codes, nat_cmp, Bool, true, false}
+use Rattle.std.proofs.Common.{◌≡◌, ◌≢◌, inl, inr, ℕ, ◌+◌, ◌<◌, ◌≤◌, max, List, [], ◌∷◌, ◌++◌, length, map, drop, get_or, refl, ap, sym, ◌∙◌, arith, suc, zero, Option, Some, None, Ordering, Less, Equal, Greater, codes, nat_cmp, Bool, true, false}
 use Rattle.std.specs.Prelude.{if◌then◌else◌}
 use Rattle.std.specs.Ordering.{match_ordering}
 use Rattle.std.specs.Cmp.Lexicographic.{slice_cmp}
+use Rattle.std.specs.Str.{bytes_eq}
+use Rattle.std.proofs.lemmas.Slice.Eq.{bytes_eq-Decides}
+use Rattle.std.proofs.lemmas.Bool.{cases_Bool}
 use Rattle.std.proofs.lemmas.List.{map-append, drop_all}
 use Rattle.toml.specs.Data.{Data, string, integer, float, boolean, datetime, array, table, Items, no_items, Members, no_members, member, get_member, as_table, depth, items_depth, members_depth}
 use Rattle.toml.specs.View.{view, items_view}
 use Rattle.toml.proofs.Views.{items_view-drop}
 use Rattle.toml.specs.declared.value.Value.{Value}
 use Rattle.fast_tree.specs.meaning.AsWritten.{Declared, DeclaredList, no_more}
-use Rattle.fast_notation.specs.device.Reading.{◌>>=◌, has_only, text_of, of_kind, name_of, flag_of, length_of, items_of, in_front, declared_of, fields_of, array_fields, all_fields, group_of, sequence_of}
+use Rattle.fast_notation.specs.device.Reading.{◌>>=◌, has_only, text_of, of_kind, name_of, flag_of, length_of, items_of, in_front, declared_of, fields_of, array_fields, all_fields, group_of, sequence_of, reference_of, kind_named, field_of}
 use Rattle.fast_notation.specs.device.WrittenSets.{list_of, instruction_data, fields_data}
 use Rattle.fast_notation.specs.declared.written.WrittenInstruction.{WrittenInstruction}
 
@@ -170,6 +173,55 @@ kind_read d ms t kind inner is_table text some fields =
     ∙ ap (λ o. o >>= (λ s. s >>= (λ k. of_kind k ms (fields_of ms)))) text
     ∙ ap (λ s. s >>= (λ k. of_kind k ms (fields_of ms))) some
     ∙ ap (of_kind kind ms) fields
+
+-- a group, a sequence, a reference, or a field of a kind
+pub group_read : (d : Data) (ms : Members) (t : Option (List ℕ)) (kind : List ℕ) (inner : Option DeclaredList) → as_table d ≡ Some ms → text_of (get_member (codes "kind") ms) ≡ Some t
+    → t ≡ Some kind → kind ≡ codes "group" → fields_of ms ≡ inner → declared_of d ≡ group_of ms inner
+group_read d ms t kind inner is_table text some group fields = kind_read d ms t kind inner is_table text some fields ∙ ap (λ k. of_kind k ms inner) group
+
+pub sequence_read : (d : Data) (ms : Members) (t : Option (List ℕ)) (kind : List ℕ) (inner : Option DeclaredList) → as_table d ≡ Some ms → text_of (get_member (codes "kind") ms) ≡ Some t
+    → t ≡ Some kind → kind ≡ codes "sequence" → fields_of ms ≡ inner → declared_of d ≡ sequence_of ms inner
+sequence_read d ms t kind inner is_table text some sequence fields = kind_read d ms t kind inner is_table text some fields ∙ ap (λ k. of_kind k ms inner) sequence
+
+pub reference_read : (d : Data) (ms : Members) (t : Option (List ℕ)) (kind : List ℕ) → as_table d ≡ Some ms → text_of (get_member (codes "kind") ms) ≡ Some t → t ≡ Some kind
+    → kind ≡ codes "ref" → declared_of d ≡ reference_of ms
+reference_read d ms t kind is_table text some ref = kind_read d ms t kind (fields_of ms) is_table text some refl ∙ ap (λ k. of_kind k ms (fields_of ms)) ref
+
+differs : (s t : List ℕ) → s ≢ t → bytes_eq s t ≡ false
+differs s t other = elim (cases_Bool (bytes_eq s t)) as (λ _. bytes_eq s t ≡ false) [
+  | inl same ↦ absurd (other ((bytes_eq-Decides s t).0 same))
+  | inr e ↦ e
+]
+
+passed_over : {A : Type 0} (b : Bool) (x y : A) → b ≡ false → (if b then x else y) ≡ y
+passed_over b x y e = ap (λ c. if c then x else y) e
+
+pub other_read : (d : Data) (ms : Members) (t : Option (List ℕ)) (kind : List ℕ) → as_table d ≡ Some ms → text_of (get_member (codes "kind") ms) ≡ Some t → t ≡ Some kind
+    → kind ≢ codes "group" → kind ≢ codes "sequence" → kind ≢ codes "ref" → declared_of d ≡ (kind_named kind >>= (λ k. field_of k ms))
+other_read d ms t kind is_table text some not_group not_sequence not_ref =
+    kind_read d ms t kind (fields_of ms) is_table text some refl
+    ∙ passed_over (bytes_eq kind (codes "group")) _ _ (differs kind (codes "group") not_group)
+    ∙ passed_over (bytes_eq kind (codes "sequence")) _ _ (differs kind (codes "sequence") not_sequence)
+    ∙ passed_over (bytes_eq kind (codes "ref")) _ _ (differs kind (codes "ref") not_ref)
+
+-- data without a table, and a table without a kind
+pub no_table : (d : Data) → as_table d ≡ None → declared_of d ≡ None
+no_table (table ms) e = absurd (cc)
+no_table (array x) e = refl
+no_table (string x) e = refl
+no_table (integer x) e = refl
+no_table (float x) e = refl
+no_table (boolean x) e = refl
+no_table (datetime x) e = refl
+
+pub kind_unread : (d : Data) (ms : Members) → as_table d ≡ Some ms → text_of (get_member (codes "kind") ms) ≡ None → declared_of d ≡ None
+kind_unread d ms is_table none = ap declared_of (table_is d ms is_table) ∙ ap (λ o. o >>= (λ s. s >>= (λ k. of_kind k ms (fields_of ms)))) none
+
+pub no_kind : (d : Data) (ms : Members) (t : Option (List ℕ)) → as_table d ≡ Some ms → text_of (get_member (codes "kind") ms) ≡ Some t → t ≡ None → declared_of d ≡ None
+no_kind d ms t is_table text none =
+    ap declared_of (table_is d ms is_table)
+    ∙ ap (λ o. o >>= (λ s. s >>= (λ k. of_kind k ms (fields_of ms)))) text
+    ∙ ap (λ s. s >>= (λ k. of_kind k ms (fields_of ms))) none
 
 -- a group's instructions can't be read
 pub group_unread : (d : Data) (ms : Members) (t : Option (List ℕ)) (kind : List ℕ) → as_table d ≡ Some ms → text_of (get_member (codes "kind") ms) ≡ Some t → t ≡ Some kind

@@ -1,4 +1,4 @@
-use Rattle.std.proofs.Common.{map, subst, sym, ◌∙◌, arith, inr, Some}
+use Rattle.std.proofs.Common.{◌<◌, ◌^◌, map, subst, sym, ◌∙◌, arith, inl, inr, Some}
 use Rattle.fast_tree.specs.device.Numbers.{NameLaterNodes}
 use Rattle.fast_notation.specs.device.WrittenSets.{written_data}
 use Rattle.fast_notation.proofs.nodes.BuiltSets.{built_in_preorder, built_names_nodes, built_names_later_nodes, built_distinct_ids, built_few_nodes, built_count}
@@ -6,12 +6,14 @@ use Rattle.fast_notation.proofs.nodes.BuiltUsable.{built_usable}
 use Rattle.fast_tree.specs.device.NodeData.{node_data}
 use Rattle.fast_tree.specs.device.Usable.{AreUsable}
 use Rattle.fast_notation.proofs.references.Headings.{same_names, same_ids, built_headings}
+use Rattle.std.proofs.lemmas.List.{length-map}
 use Rattle.std.proofs.lemmas.Result.{err_from_is_err_and}
 use Rattle.toml.specs.Parse.{parse_document}
 use Rattle.fast_notation.specs.declared.codes.StaticCode.TheVariants.{C5}
 use Rattle.fast_notation.proofs.outcomes.NoTrees.{no_tree}
 use Rattle.fast_notation.proofs.outcomes.Firsts.{chains_first, first_width, written_first}
 use Rattle.fast_notation.proofs.outcomes.ReadLaws.{tree_read, wide_stands}
+use Rattle.fast_notation.proofs.texts.ReadingSteps.{no_ok, told_err}
 use Rattle.fast_notation.proofs.sets.CheckedSet.read.Goals as goal
 
 pub check_segments-requires-clause-later : goal.check_segments-requires-clause-later
@@ -110,3 +112,64 @@ returns-in-Err-clause-first c =
     let first =
     first_width ts c.in-Ok.built k (record { names = w.names; ids = w.ids; sound = w.sound }) w.known (λ j d inside. (chains.fits j d inside, chains.shallow j d inside)) chains.few_nodes c.in-Ok.ensures narrow in
     written_first (parse_document c.args.text.now) w.document ts C5 (Some k) w.reads w.shape (wide_stands ts c.in-Ok.built k f.0 c.in-Ok.ensures f.1 f.2) first
+
+pub returns-in_err-set-clause-read : goal.returns-in_err-set-clause-read
+returns-in_err-set-clause-read c = no_ok c.from_residual.result _ _ c.from_residual.ensures.1
+
+pub returns-in_err-set-clause-fault : goal.returns-in_err-set-clause-fault
+returns-in_err-set-clause-fault c = told_err c.from_residual.result c.in_err-set.field-0.0 _ c.from_residual.ensures.1 c.in_err-set.ensures.fault
+
+pub returns-in_err-set-clause-first : goal.returns-in_err-set-clause-first
+returns-in_err-set-clause-first c = told_err c.from_residual.result c.in_err-set.field-0.0 _ c.from_residual.ensures.1 c.in_err-set.ensures.first
+
+pub returns-in_err-check_chains-clause-read : goal.returns-in_err-check_chains-clause-read
+returns-in_err-check_chains-clause-read c = no_ok c.from_residual-in_err-check_chains.result _ _ c.from_residual-in_err-check_chains.ensures.1
+
+pub returns-in_err-check_chains-clause-fault : goal.returns-in_err-check_chains-clause-fault
+returns-in_err-check_chains-clause-fault c =
+    let w = c.in_ok-set.ensures.set in
+    let ts = map written_data c.in_ok-set.set.templates.items in
+    told_err c.from_residual-in_err-check_chains.result c.in_err-check_chains.field-0.0 _ c.from_residual-in_err-check_chains.ensures.1
+    (inr (record { document = w.document; written = ts; reads = w.reads; shape = w.shape; stands = c.in_err-check_chains.ensures.fault }))
+
+pub check_chains-requires-clause-names : goal.check_chains-requires-clause-names
+check_chains-requires-clause-names c = c.in_ok-set.ensures.names
+
+pub check_chains-requires-clause-apart : goal.check_chains-requires-clause-apart
+check_chains-requires-clause-apart c = c.in_ok-set.ensures.set.names
+
+pub check_chains-requires-clause-known : goal.check_chains-requires-clause-known
+check_chains-requires-clause-known c = c.in_ok-set.ensures.set.known
+
+pub check_chains-requires-clause-sound : goal.check_chains-requires-clause-sound
+check_chains-requires-clause-sound c = c.in_ok-set.ensures.set.sound
+
+pub check_chains-requires-clause-few : goal.check_chains-requires-clause-few
+check_chains-requires-clause-few c = subst (λ n. n < 2 ^ 32) (length-map c.in_ok-set.set.templates.items written_data) c.in_ok-set.ensures.set.shape.4
+
+pub build_set-requires : goal.build_set-requires
+build_set-requires c =
+    let w = c.in_ok-set.ensures.set in
+    let chains = c.in_ok-check_chains.ensures in
+    record { many = w.shape.4; index = c.in_ok-set.ensures.names; names = w.names; known = w.known; sound = w.sound; fits = chains.fits; few = chains.few_nodes }
+
+pub returns-in_default-clause-read : goal.returns-in_default-clause-read
+returns-in_default-clause-read c = tt
+
+pub returns-in_default-clause-fault : goal.returns-in_default-clause-fault
+returns-in_default-clause-fault c = inl tt
+
+pub returns-in_default-clause-first : goal.returns-in_default-clause-first
+returns-in_default-clause-first c = ((λ document ts at w. tt), λ unread. tt)
+
+pub returns-in-Err-clause-read : goal.returns-in-Err-clause-read
+returns-in-Err-clause-read c = tt
+
+pub returns-clause-fault : goal.returns-clause-fault
+returns-clause-fault c = tt
+
+pub returns-clause-first : goal.returns-clause-first
+returns-clause-first c = tt
+
+pub returns-clause-none : goal.returns-clause-none
+returns-clause-none c = tt
