@@ -1,6 +1,5 @@
 -- The sum is kept.
-use Rattle.std.proofs.Common.{sym, FitsSigned, ◌≡◌, ◌∙◌, ◌+ℤ◌, rules, Ok}
-use Rattle.std.specs.Int.{w128}
+use Rattle.std.proofs.Common.{sym, ◌≡◌, ◌∙◌, ◌+ℤ◌, rules, Ok}
 use Rattle.fast_value.specs.meaning.Kinds.{value_of_integer}
 use Rattle.fast_value.specs.declared.codes.Code.TheVariants.{D2}
 use Rattle.fast_tree.specs.device.Nodes.{field_data}
@@ -10,7 +9,6 @@ use Rattle.fast_dict.specs.meaning.Slots.{slots_dictionary}
 use Rattle.fast_units.specs.device.Deciding.{base_integer, number_data, IsDecided}
 use Rattle.fast_units.proofs.Deciding.{base_fault, decided_as, keep_decided, base_stepped}
 use Rattle.std.proofs.lemmas.Result.{err_from_is_err_and}
-use Rattle.fast_units.proofs.LastUnits.{again}
 use Rattle.fast_units.proofs.numbers.change_integer.Goals as goal
 
 pub returns-in_err-sum-clause-decided : goal.returns-in_err-sum-clause-decided
