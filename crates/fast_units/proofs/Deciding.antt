@@ -4,13 +4,13 @@ use Rattle.std.specs.Prelude.{◌≡◌, ◌≢◌, ℕ, zero, suc, Bool, true, 
 use Rattle.fast_value.specs.declared.kinds.Kind.{Kind}
 use Rattle.fast_value.specs.declared.kinds.Kind.TheVariants.{UInt32, Int32, UInt64, Int64, Decimal, Ascii, Unicode, Bytes}
 use Rattle.fast_value.specs.declared.codes.Code.{Code}
-use Rattle.fast_value.specs.declared.codes.Code.TheVariants.{D2, D4}
-use Rattle.fast_value.specs.meaning.Kinds.{ScalarData, Family, integers, decimals, texts, family, integer_of, value_of_integer, same_kind}
+use Rattle.fast_value.specs.declared.codes.Code.TheVariants.{D2, D4, R1}
+use Rattle.fast_value.specs.meaning.Kinds.{ScalarData, Family, integers, decimals, texts, family, integer_of, value_of_integer, same_kind, signed_range, mantissa_of, Dec}
 use Rattle.fast_tree.specs.declared.operators.Operator.{Operator}
 use Rattle.fast_tree.specs.declared.operators.Operator.TheVariants as Op
 use Rattle.fast_tree.specs.meaning.Tree.{FieldData}
 use Rattle.fast_dict.specs.meaning.Dictionary.{Dictionary, PreviousData, undefined, empty, assigned, previous_at, value_in, write_at}
-use Rattle.fast_dict.specs.meaning.Operators.{Outcome, delta_base, integer_step, ranged, range_of, checked, checked_in, null, value, gives, gives_none, decide, decide_by, nothing, fixed, ◌>>=◌, keeps, from_initial, unsent, next_value}
+use Rattle.fast_dict.specs.meaning.Operators.{Outcome, delta_base, integer_step, mantissa_step, ranged, range_of, checked, checked_in, null, value, gives, gives_none, decide, decide_by, nothing, fixed, ◌>>=◌, keeps, from_initial, unsent, next_value}
 use Rattle.fast_units.specs.declared.source.ValueSource.{ValueSource}
 use Rattle.fast_units.specs.declared.source.ValueSource.TheVariants as From
 use Rattle.fast_tree.specs.meaning.Entries.{keeps_value}
@@ -280,3 +280,13 @@ base_stepped f p k = by (delta_base f p)
         ≡ ((r >>= (λ v. Ok (integer_of v))) >>= (λ x. ranged (range_of f.kind) D2 (x +ℤ k) >>= (λ y. keeps f.kind (value_of_integer f.kind y))))
     by (Ok v) = refl
     by (Err c) = refl
+
+-- A base that is a fault is the step's, and so is a sum.
+pub base_fault : (f : FieldData) (p : PreviousData) (k : ℤ) (c : Code) → base_integer f p ≡ Err c → integer_step f p k ≡ Err c
+base_fault f p k c e = base_stepped f p k ∙ ap (λ b. b >>= (λ x. ranged (range_of f.kind) D2 (x +ℤ k) >>= (λ y. keeps f.kind (value_of_integer f.kind y)))) e
+
+pub mantissa_fault : (f : FieldData) (p : PreviousData) (e k : ℤ) (c : Code) → delta_base f p ≡ Err c → mantissa_step f p e k ≡ Err c
+mantissa_fault f p e k c h = ap (λ b. b >>= (λ base. ranged (signed_range 63) R1 (mantissa_of base +ℤ k) >>= (λ m. keeps f.kind (Dec e m)))) h
+
+pub mantissa_out : (f : FieldData) (p : PreviousData) (e k : ℤ) (c : Code) (v : ScalarData) → delta_base f p ≡ Ok v → ranged (signed_range 63) R1 (mantissa_of v +ℤ k) ≡ Err c → mantissa_step f p e k ≡ Err c
+mantissa_out f p e k c v h out = ap (λ b. b >>= (λ base. ranged (signed_range 63) R1 (mantissa_of base +ℤ k) >>= (λ m. keeps f.kind (Dec e m)))) h ∙ ap (λ r. r >>= (λ m. keeps f.kind (Dec e m))) out

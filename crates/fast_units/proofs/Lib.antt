@@ -9,3 +9,4 @@ pub mod TextUnits
 pub mod TextSizes
 pub mod OpenUnits
 pub mod ScalarTakes
+pub mod Gathered

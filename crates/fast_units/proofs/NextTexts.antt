@@ -1,6 +1,7 @@
 -- What comes next of an ASCII text.
+use Rattle.std.proofs.Math.Nat.{min-le_left, min-le_right}
 use Rattle.std.proofs.Common.{refl, sym, ap, ◌∙◌, subst, arith, inl, inr, append_assoc, length-append, get_or}
-use Rattle.std.specs.Prelude.{not, slice_get, ◌==◌, ◌≡◌, ◌≢◌, ℕ, ◌+◌, ◌-◌, ◌<◌, ◌≤◌, Bool, true, false, List, [], ◌∷◌, ◌++◌, length, take, drop, Some, None}
+use Rattle.std.specs.Prelude.{min, not, slice_get, ◌==◌, ◌≡◌, ◌≢◌, ℕ, ◌+◌, ◌-◌, ◌<◌, ◌≤◌, Bool, true, false, List, [], ◌∷◌, ◌++◌, length, take, drop, Some, None}
 use Rattle.std.proofs.lemmas.Bool.Decides.{nat_tests}
 use Rattle.std.proofs.lemmas.List.{length-take-le, take-append-drop, take_more, take-take, take_all, get_or-take}
 use Rattle.std.proofs.lemmas.List.Elements.{All-nil, All-append, All-push, All-from_get_or}
@@ -151,3 +152,14 @@ pub text_again : (nullable : Bool) (room : ℕ) (front rest after : List ℕ) (p
 text_again nullable room front rest after p h e =
     let k : IsNextText nullable room front rest after Cut = subst (IsNextText nullable room front rest after) e h in
     (k.1, subst (λ (w : List ℕ). ascii_text nullable room w [] cut) (sym k.1) k.0)
+
+-- What stands in front of a stop bit has room, and the last character behind it.
+pub room_found : (text rest : List ℕ) (room held m last capacity : ℕ) → held ≡ length text → length text ≤ room → m ≡ min (length rest) (room - held) → last < length (take m rest) → room ≤ capacity
+    → (length text + length (take last (take m rest)) ≤ capacity) × (length (text ++ take last (take m rest)) < capacity)
+room_found text rest room held m last capacity is short least here fits =
+    let left = min-le_left (length rest) (room - held) in
+    let right = min-le_right (length rest) (room - held) in
+    let long : length (take m rest) ≡ m = length-take-le m rest (omega (arith, least, left)) in
+    let some : length (take last (take m rest)) ≡ last = length-take-le last (take m rest) (omega (arith, here)) in
+    let sum = length-append text (take last (take m rest)) in
+    (omega (arith, is, short, least, right, here, long, some, fits), omega (arith, is, short, least, right, here, long, some, fits, sum))

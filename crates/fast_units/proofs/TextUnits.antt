@@ -1,6 +1,6 @@
 -- The units of text fields: the terms that they stand in front of, and what they make of the field.
 use Rattle.std.proofs.Common.{refl, sym, ap, ◌∙◌, subst, arith, inl, inr}
-use Rattle.std.specs.Prelude.{◌≡◌, ◌≢◌, ◌⊎◌, ℕ, ◌-◌, ◌<◌, ◌≤◌, Bool, true, false, nat_le, if◌then◌else◌, List, [], ◌++◌, length, take, ℤ, pos, Option, Some, Result, Ok, Err}
+use Rattle.std.specs.Prelude.{◌≡◌, ◌≢◌, ◌⊎◌, ℕ, ◌-◌, ◌<◌, ◌≤◌, Bool, true, false, nat_le, if◌then◌else◌, List, [], ◌++◌, length, take, ℤ, pos, Option, Some, Result, Ok, Err, IfOk}
 use Rattle.std.proofs.lemmas.Bool.Decides.{leb_tells}
 use Rattle.fast_wire.specs.meaning.Integers.{unsigned_range, signed_range}
 use Rattle.fast_value.specs.declared.codes.Code.{Code}
@@ -25,7 +25,7 @@ use Rattle.fast_units.specs.device.Settling.{IsSettled, GivesField, IsLastUnit}
 use Rattle.fast_units.specs.device.Stages.{term_behind, IsFieldUnit}
 use Rattle.fast_units.specs.device.TextDecisions.{IsTextDecided, IsStepped, behind_size, behind_part_size, answered, settled}
 use Rattle.fast_units.specs.declared.progress.Progress.{Progress}
-use Rattle.fast_units.specs.declared.progress.Progress.TheVariants.{Whole}
+use Rattle.fast_units.specs.declared.progress.Progress.TheVariants.{Whole, Cut}
 use Rattle.fast_units.specs.declared.source.ValueSource.{ValueSource}
 use Rattle.fast_units.specs.declared.stages.Stage.TheVariants.{Vector, Part, PartVector}
 use Rattle.fast_units.specs.declared.stages.FieldStep.{FieldStep}
@@ -216,3 +216,12 @@ module _ (f : FieldData) (old new : Dictionary) (scratch piece : List ℕ) (sour
     turns = turns_as here (sym (ap (reader_of s) e ∙ ap (λ q. reader_of s (of_result q)) i)) (term_turns s g k t);
     settled = h;
   }
+
+-- An answer behind a unit is none of a unit that is cut, and what it is is the unit's.
+pub answered_whole : {T : Type 0} (r : Result T Code) (n : ℕ) → answered r n ≡ Cut → ⊥
+answered_whole (Ok x) n e = cc e
+answered_whole (Err c) n e = cc e
+
+pub answered_more : {T : Type 0} (P : T → Type 0) (r : Result T Code) (m : ℕ) → IfOk r P → (x : T) (n : ℕ) → answered r m ≡ Whole x n → P x
+answered_more P (Ok y) m h x n e = let same : y ≡ x = cc e in subst P same h
+answered_more P (Err c) m h x n e = absurd (cc e)

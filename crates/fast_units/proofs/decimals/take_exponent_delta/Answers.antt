@@ -1,5 +1,5 @@
 -- The mantissa's delta comes next, or a fault; or the decimal is absent, whatever the previous value is.
-use Rattle.std.proofs.Common.{◌≡◌, refl, ◌++◌, rules, sym, ap, ◌∙◌, to_z, of_z, FitsSigned, take}
+use Rattle.std.proofs.Common.{◌≡◌, refl, ◌++◌, rules, sym, ap, ◌∙◌, to_z, of_z, FitsSigned, take, []}
 use Rattle.std.specs.Int.{w32, w128}
 use Rattle.std.specs.Prelude.{true, Ok, Err}
 use Rattle.fast_wire.specs.meaning.Integers.{delta_range}
@@ -18,6 +18,8 @@ use Rattle.fast_units.proofs.Turning.{turns_as}
 use Rattle.fast_stream.proofs.streams.Stepping.{exponent-delta-turn}
 use Rattle.fast_units.proofs.Deciding.{none_decided}
 use Rattle.fast_units.proofs.LastUnits.{exponent_delta_field, last_unit, unit_goes, unit_stops, unit_stays, again}
+use Rattle.fast_units.proofs.TextUnits.{answered_whole, answered_more}
+use Rattle.fast_units.specs.declared.stages.FieldStep.{FieldStep}
 use Rattle.fast_units.proofs.decimals.take_exponent_delta.Goals as goal
 
 pub returns-in-Ok-clause-unit : goal.returns-in-Ok-clause-unit
@@ -83,3 +85,42 @@ returns-in-Cut-clause-unit c scratch =
     let old = slots_dictionary c.args.slots.now in
     let p = previous_at f.entry old in
     (unit_stays c.args.limits.strict (integer delta_range f.optional D2 give) (decimal_change f p) (reader_of c.args.limits.strict (field_term (bounds c.args.limits) f p true)) (ap (reader_of c.args.limits.strict) (exponent_delta_field (bounds c.args.limits) f p c.requires.decimals c.requires.delta)) (c.args.pending.now.bytes ++ c.args.rest.now) c.in-Cut.ensures.unit, refl)
+
+pub returns-in-Wrong-clause-whole : goal.returns-in-Wrong-clause-whole
+returns-in-Wrong-clause-whole c step n e = answered_more {T = FieldStep} (λ s. c.next_integer.new.pending.bytes ≡ []) (Err c.in-Wrong.code) c.in-Wrong.bytes tt step n e
+
+pub returns-in-Wrong-clause-cut : goal.returns-in-Wrong-clause-cut
+returns-in-Wrong-clause-cut c e = absurd (answered_whole {T = FieldStep} (Err c.in-Wrong.code) c.in-Wrong.bytes e)
+
+pub returns-in-Wrong-clause-terms : goal.returns-in-Wrong-clause-terms
+returns-in-Wrong-clause-terms c = refl
+
+pub returns-in-Cut-clause-whole : goal.returns-in-Cut-clause-whole
+returns-in-Cut-clause-whole c step n e = absurd (answered_whole (Ok step) n (sym e))
+
+pub returns-in-Cut-clause-cut : goal.returns-in-Cut-clause-cut
+returns-in-Cut-clause-cut c e = c.in-Cut.ensures.cut refl
+
+pub returns-in-Cut-clause-terms : goal.returns-in-Cut-clause-terms
+returns-in-Cut-clause-terms c = refl
+
+pub returns-in-Whole-None-default-clause-cut : goal.returns-in-Whole-None-default-clause-cut
+returns-in-Whole-None-default-clause-cut c e = absurd (answered_whole (Ok _) c.in-Whole-None-default.bytes e)
+
+pub returns-in-Whole-None-default-clause-whole : goal.returns-in-Whole-None-default-clause-whole
+returns-in-Whole-None-default-clause-whole c step n e = c.in-Whole-None-default.ensures.whole c.in-Whole-None-default.field-0 c.in-Whole-None-default.bytes refl
+
+pub returns-in-Ok-clause-whole : goal.returns-in-Ok-clause-whole
+returns-in-Ok-clause-whole c step n e = c.in-Whole-Some-default.ensures.whole c.in-Whole-Some-default.field-0 c.in-Whole-Some-default.bytes refl
+
+pub returns-in-Ok-clause-cut : goal.returns-in-Ok-clause-cut
+returns-in-Ok-clause-cut c e = absurd (answered_whole (Ok _) c.in-Whole-Some-default.bytes e)
+
+pub returns-in-Ok-clause-terms : goal.returns-in-Ok-clause-terms
+returns-in-Ok-clause-terms c = refl
+
+pub returns-in-Err-clause-terms : goal.returns-in-Err-clause-terms
+returns-in-Err-clause-terms c = refl
+
+pub returns-in-Whole-None-default-clause-terms : goal.returns-in-Whole-None-default-clause-terms
+returns-in-Whole-None-default-clause-terms c = refl

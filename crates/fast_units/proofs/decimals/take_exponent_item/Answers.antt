@@ -1,7 +1,7 @@
 -- The mantissa comes next, or the decimal is absent.
-use Rattle.std.proofs.Common.{refl, ◌++◌, ◌≤ℤ◌, rules, sym, ap, ◌∙◌, subst, FitsSigned, neg_ℤ, pos, take}
+use Rattle.std.proofs.Common.{refl, ◌++◌, ◌≤ℤ◌, rules, sym, ap, ◌∙◌, subst, FitsSigned, neg_ℤ, pos, take, ◌≡◌, []}
 use Rattle.std.specs.Int.{w32, w128}
-use Rattle.std.specs.Prelude.{true, Some, Ok}
+use Rattle.std.specs.Prelude.{true, Some, Ok, Err}
 use Rattle.fast_wire.specs.meaning.Integers.{IsWithin, exponent_range}
 use Rattle.fast_value.specs.declared.codes.Code.TheVariants.{R1}
 use Rattle.fast_value.specs.meaning.Limits.{bounds}
@@ -17,6 +17,8 @@ use Rattle.fast_stream.specs.device.Machine.{behind_exponent, stage_term}
 use Rattle.fast_units.proofs.Turning.{turns_as}
 use Rattle.fast_stream.proofs.streams.Stepping.{exponent-turn}
 use Rattle.fast_units.proofs.LastUnits.{mantissa_next, exponent_here, last_unit, unit_goes, unit_stops, unit_stays, number_within, again}
+use Rattle.fast_units.proofs.TextUnits.{answered_whole, answered_more}
+use Rattle.fast_units.specs.declared.stages.FieldStep.{FieldStep}
 use Rattle.fast_units.proofs.decimals.take_exponent_item.Goals as goal
 
 pub exponent-requires-clause-low : goal.exponent-requires-clause-low
@@ -79,3 +81,48 @@ returns-in-Cut-clause-unit c scratch =
     let old = slots_dictionary c.args.slots.now in
     let p = previous_at f.entry old in
     (unit_stays c.args.limits.strict (integer (range_data c.range_on_wire-range.result) f.optional R1 give) (mantissa_next (bounds c.args.limits) f p) (reader_of c.args.limits.strict (field_term (bounds c.args.limits) f p true)) (exponent_here c.args.limits.strict (bounds c.args.limits) f p (range_data c.range_on_wire-range.result) c.range_on_wire-range.ensures c.requires.decimals c.requires.no_delta c.requires.no_constant) (c.args.pending.now.bytes ++ c.args.rest.now) c.in-Cut.ensures.unit, refl)
+
+pub returns-in-Wrong-clause-whole : goal.returns-in-Wrong-clause-whole
+returns-in-Wrong-clause-whole c step n e = answered_more {T = FieldStep} (λ s. c.next_integer.new.pending.bytes ≡ []) (Err c.in-Wrong.code) c.in-Wrong.bytes tt step n e
+
+pub returns-in-Wrong-clause-cut : goal.returns-in-Wrong-clause-cut
+returns-in-Wrong-clause-cut c e = absurd (answered_whole {T = FieldStep} (Err c.in-Wrong.code) c.in-Wrong.bytes e)
+
+pub returns-in-Wrong-clause-terms : goal.returns-in-Wrong-clause-terms
+returns-in-Wrong-clause-terms c = refl
+
+pub returns-in-Cut-clause-whole : goal.returns-in-Cut-clause-whole
+returns-in-Cut-clause-whole c step n e = absurd (answered_whole (Ok step) n (sym e))
+
+pub returns-in-Cut-clause-cut : goal.returns-in-Cut-clause-cut
+returns-in-Cut-clause-cut c e = c.in-Cut.ensures.cut refl
+
+pub returns-in-Cut-clause-terms : goal.returns-in-Cut-clause-terms
+returns-in-Cut-clause-terms c = refl
+
+pub returns-in-Whole-None-default-clause-cut : goal.returns-in-Whole-None-default-clause-cut
+returns-in-Whole-None-default-clause-cut c e = absurd (answered_whole (Ok _) c.in-Whole-None-default.bytes e)
+
+pub returns-in-Whole-None-default-clause-whole : goal.returns-in-Whole-None-default-clause-whole
+returns-in-Whole-None-default-clause-whole c step n e = c.in-Whole-None-default.ensures.whole c.in-Whole-None-default.field-0 c.in-Whole-None-default.bytes refl
+
+pub returns-in-Whole-Some-default-clause-whole : goal.returns-in-Whole-Some-default-clause-whole
+returns-in-Whole-Some-default-clause-whole c step n e = c.in-Whole-Some-default.ensures.whole c.in-Whole-Some-default.field-0 c.in-Whole-Some-default.bytes refl
+
+pub returns-in-Whole-Some-default-clause-cut : goal.returns-in-Whole-Some-default-clause-cut
+returns-in-Whole-Some-default-clause-cut c e = absurd (answered_whole (Ok _) c.in-Whole-Some-default.bytes e)
+
+pub received-requires-clause-serves : goal.received-requires-clause-serves
+received-requires-clause-serves c = c.requires.serves
+
+pub received-requires-clause-no_delta : goal.received-requires-clause-no_delta
+received-requires-clause-no_delta c = c.requires.no_delta
+
+pub received-requires-clause-no_constant : goal.received-requires-clause-no_constant
+received-requires-clause-no_constant c = c.requires.no_constant
+
+pub returns-in-Whole-Some-default-clause-terms : goal.returns-in-Whole-Some-default-clause-terms
+returns-in-Whole-Some-default-clause-terms c = refl
+
+pub returns-in-Whole-None-default-clause-terms : goal.returns-in-Whole-None-default-clause-terms
+returns-in-Whole-None-default-clause-terms c = c.received.ensures.terms

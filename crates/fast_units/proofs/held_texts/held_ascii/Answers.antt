@@ -17,10 +17,11 @@ use Rattle.fast_units.specs.device.NextUnits.{IsNextText}
 use Rattle.fast_units.specs.device.TextDecisions.{first_reader}
 use Rattle.fast_units.specs.declared.progress.Progress.TheVariants.{Whole}
 use Rattle.fast_units.specs.declared.source.ValueSource.TheVariants as From
-use Rattle.fast_units.proofs.NextTexts.{goes_on, text_whole}
+use Rattle.fast_units.proofs.NextTexts.{goes_on, text_whole, room_found}
 use Rattle.fast_units.proofs.NextUnits.{text_unit}
 use Rattle.fast_units.proofs.TextOutcomes.{decided_as, decided_plain, text_given}
 use Rattle.fast_units.proofs.TextUnits.{text_field, behind_text, gives_unit}
+use Rattle.std.proofs.lemmas.List.{length-take-le}
 use Rattle.fast_units.proofs.held_texts.held_ascii.Goals as goal
 
 -- Neither operator keeps a value.
@@ -53,3 +54,36 @@ returns-clause-unit c limits slots is_room =
           (ap (reader_of limits.strict) (text_field l f p kind no_delta varies)) turns refl
           (decided_as f d d text (take n rest) (Ok From.Scratch) (decided_plain f p text (ap family kind) varies no_delta left) (text_given f d d text (take n rest) From.Scratch text (value_of_text f.kind text) checked refl refl refl)),
     )
+
+pub returns-in_err-last-clause-unit : goal.returns-in_err-last-clause-unit
+returns-in_err-last-clause-unit c = rw c.from_residual.ensures tt
+
+pub returns-in_err-last-clause-none : goal.returns-in_err-last-clause-none
+returns-in_err-last-clause-none c = rw c.from_residual.ensures refl
+
+pub overflow_sub-left : goal.overflow_sub-left
+overflow_sub-left c = rw c.len.ensures.len ((goes_on c.args.field.now.optional c.args.room c.args.scratch.now.text c.as_slice.result.now c.args.rest.now c.requires.«open» c.if-is_empty.ensures c.as_slice.ensures c.if-as_slice-eq0.false).2)
+
+pub slice_bounds-here-end : goal.slice_bounds-here-end
+slice_bounds-here-end c = sym (length-take-le c.min.result c.args.rest.now (omega (arith, c.min.ensures)))
+
+pub bounds-here-last : goal.bounds-here-last
+bounds-here-last c = c.in_ok-last.ensures.within
+
+pub overflow_sub-here : goal.overflow_sub-here
+overflow_sub-here c = c.in_ok-last.ensures.found
+
+pub slice_bounds-append-end : goal.slice_bounds-append-end
+slice_bounds-append-end c =
+    let within = c.in_ok-last.ensures.within in
+    sym (length-take-le c.in_ok-last.last (take c.min.result c.args.rest.now) (omega (arith, within)))
+
+pub append-requires : goal.append-requires
+append-requires c =
+    let short = (goes_on c.args.field.now.optional c.args.room c.args.scratch.now.text c.as_slice.result.now c.args.rest.now c.requires.«open» c.if-is_empty.ensures c.as_slice.ensures c.if-as_slice-eq0.false).2 in
+    (room_found c.args.scratch.now.text c.args.rest.now c.args.room c.len.result c.min.result c.in_ok-last.last c.args.scratch.now.capacity c.len.ensures.len short c.min.ensures c.in_ok-last.ensures.within c.requires.fits).0
+
+pub push-requires : goal.push-requires
+push-requires c =
+    let short = (goes_on c.args.field.now.optional c.args.room c.args.scratch.now.text c.as_slice.result.now c.args.rest.now c.requires.«open» c.if-is_empty.ensures c.as_slice.ensures c.if-as_slice-eq0.false).2 in
+    rw (c.append.ensures.text, c.append.ensures.capacity) ((room_found c.args.scratch.now.text c.args.rest.now c.args.room c.len.result c.min.result c.in_ok-last.last c.args.scratch.now.capacity c.len.ensures.len short c.min.ensures c.in_ok-last.ensures.within c.requires.fits).1)

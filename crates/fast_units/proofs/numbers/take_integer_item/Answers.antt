@@ -1,7 +1,7 @@
 -- What is decided of the integer, or of NULL, behind its unit.
-use Rattle.std.proofs.Common.{refl, None, ◌++◌, ◌≤ℤ◌, rules, sym, ap, ◌∙◌, subst, FitsSigned, neg_ℤ, pos, ◌^◌, take}
+use Rattle.std.proofs.Common.{refl, None, ◌++◌, ◌≤ℤ◌, rules, sym, ap, ◌∙◌, subst, FitsSigned, neg_ℤ, pos, ◌^◌, take, ◌≡◌, []}
 use Rattle.std.specs.Int.{w128}
-use Rattle.std.specs.Prelude.{true, Some, Ok}
+use Rattle.std.specs.Prelude.{true, Some, Ok, Err}
 use Rattle.fast_wire.specs.meaning.Integers.{IsWithin}
 use Rattle.fast_value.specs.declared.codes.Code.TheVariants.{D2}
 use Rattle.fast_value.specs.meaning.Kinds.{value_of_integer}
@@ -15,6 +15,8 @@ use Rattle.fast_stream.specs.meaning.Fields.{field_term}
 use Rattle.fast_units.specs.device.NextUnits.{range_data}
 use Rattle.fast_units.specs.device.Deciding.{sent_number}
 use Rattle.fast_units.proofs.LastUnits.{behind_integer, integer_here, last_unit, unit_stops, unit_stays, number_within, again, kind_low}
+use Rattle.fast_units.specs.declared.source.ValueSource.{ValueSource}
+use Rattle.fast_units.proofs.TextUnits.{answered_whole, answered_more}
 use Rattle.fast_units.proofs.numbers.take_integer_item.Goals as goal
 
 pub of_integer-number-requires-clause-low : goal.of_integer-number-requires-clause-low
@@ -87,3 +89,57 @@ returns-in-Cut-clause-unit c l scratch =
           (c.args.pending.now.bytes ++ c.args.rest.now) c.in-Cut.ensures.unit,
       refl,
     )
+
+pub received-requires-clause-serves : goal.received-requires-clause-serves
+received-requires-clause-serves c = c.requires.serves
+
+pub received-requires-clause-no_delta : goal.received-requires-clause-no_delta
+received-requires-clause-no_delta c = c.requires.no_delta
+
+pub received-requires-clause-no_constant : goal.received-requires-clause-no_constant
+received-requires-clause-no_constant c = c.requires.no_constant
+
+pub received-requires-in-Whole-None-default-clause-serves : goal.received-requires-in-Whole-None-default-clause-serves
+received-requires-in-Whole-None-default-clause-serves c = c.requires.serves
+
+pub received-requires-in-Whole-None-default-clause-no_delta : goal.received-requires-in-Whole-None-default-clause-no_delta
+received-requires-in-Whole-None-default-clause-no_delta c = c.requires.no_delta
+
+pub received-requires-in-Whole-None-default-clause-no_constant : goal.received-requires-in-Whole-None-default-clause-no_constant
+received-requires-in-Whole-None-default-clause-no_constant c = c.requires.no_constant
+
+pub returns-in-Whole-Some-default-clause-cut : goal.returns-in-Whole-Some-default-clause-cut
+returns-in-Whole-Some-default-clause-cut c e = absurd (answered_whole (Ok c.received.result) c.in-Whole-Some-default.bytes e)
+
+pub returns-in-Whole-None-default-clause-cut : goal.returns-in-Whole-None-default-clause-cut
+returns-in-Whole-None-default-clause-cut c e = absurd (answered_whole (Ok c.received-in-Whole-None-default.result) c.in-Whole-None-default.bytes e)
+
+pub returns-in-Wrong-clause-cut : goal.returns-in-Wrong-clause-cut
+returns-in-Wrong-clause-cut c e = absurd (answered_whole {T = ValueSource} (Err c.in-Wrong.code) c.in-Wrong.bytes e)
+
+pub returns-in-Wrong-clause-whole : goal.returns-in-Wrong-clause-whole
+returns-in-Wrong-clause-whole c source n e = answered_more {T = ValueSource} (λ s. c.next_integer.new.pending.bytes ≡ []) (Err c.in-Wrong.code) c.in-Wrong.bytes tt source n e
+
+pub returns-in-Cut-clause-whole : goal.returns-in-Cut-clause-whole
+returns-in-Cut-clause-whole c source n e = absurd (answered_whole (Ok source) n (sym e))
+
+pub returns-in-Cut-clause-cut : goal.returns-in-Cut-clause-cut
+returns-in-Cut-clause-cut c e = c.in-Cut.ensures.cut refl
+
+pub returns-in-Whole-Some-default-clause-terms : goal.returns-in-Whole-Some-default-clause-terms
+returns-in-Whole-Some-default-clause-terms c = c.received.ensures.terms
+
+pub returns-in-Whole-None-default-clause-terms : goal.returns-in-Whole-None-default-clause-terms
+returns-in-Whole-None-default-clause-terms c = c.received-in-Whole-None-default.ensures.terms
+
+pub returns-in-Wrong-clause-terms : goal.returns-in-Wrong-clause-terms
+returns-in-Wrong-clause-terms c = refl
+
+pub returns-in-Cut-clause-terms : goal.returns-in-Cut-clause-terms
+returns-in-Cut-clause-terms c = refl
+
+pub returns-in-Whole-Some-default-clause-whole : goal.returns-in-Whole-Some-default-clause-whole
+returns-in-Whole-Some-default-clause-whole c source n e = c.in-Whole-Some-default.ensures.whole c.in-Whole-Some-default.field-0 c.in-Whole-Some-default.bytes refl
+
+pub returns-in-Whole-None-default-clause-whole : goal.returns-in-Whole-None-default-clause-whole
+returns-in-Whole-None-default-clause-whole c source n e = c.in-Whole-None-default.ensures.whole c.in-Whole-None-default.field-0 c.in-Whole-None-default.bytes refl

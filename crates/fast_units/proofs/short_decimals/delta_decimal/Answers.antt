@@ -1,5 +1,5 @@
 -- Both units together are the field's.
-use Rattle.std.proofs.Common.{◌≡◌, rules, sym, ap, ◌∙◌, subst, arith, List, ℕ, FitsSigned}
+use Rattle.std.proofs.Common.{◌≡◌, rules, sym, ap, ◌∙◌, subst, arith, List, ℕ, FitsSigned, refl}
 use Rattle.std.specs.Int.{w32}
 use Rattle.std.specs.Prelude.{Some, ◌+◌, ◌-◌, ◌++◌, length, take, drop}
 use Rattle.std.proofs.lemmas.List.{take_rest, length-drop}
@@ -42,3 +42,27 @@ returns-clause-unit c l scratch =
         settled = record { value = gives.settled.value ∙ item_value item f new scratch (take b left) ∙ sym (item_value item f new scratch (take (a + b) rest)); dictionary = gives.settled.dictionary };
       },
     )
+
+pub returns-in_err-first-clause-none : goal.returns-in_err-first-clause-none
+returns-in_err-first-clause-none c = rw c.from_residual.ensures refl
+
+pub returns-in_err-first-clause-unit : goal.returns-in_err-first-clause-unit
+returns-in_err-first-clause-unit c = rw c.from_residual.ensures tt
+
+pub returns-in_err-exponent-clause-none : goal.returns-in_err-exponent-clause-none
+returns-in_err-exponent-clause-none c = rw c.from_residual-in_err-exponent.ensures refl
+
+pub returns-in_err-exponent-clause-unit : goal.returns-in_err-exponent-clause-unit
+returns-in_err-exponent-clause-unit c = rw c.from_residual-in_err-exponent.ensures tt
+
+pub returns-in_err-second-clause-none : goal.returns-in_err-second-clause-none
+returns-in_err-second-clause-none c = rw c.from_residual-in_err-second.ensures refl
+
+pub returns-in_err-second-clause-unit : goal.returns-in_err-second-clause-unit
+returns-in_err-second-clause-unit c = rw c.from_residual-in_err-second.ensures tt
+
+pub returns-in_err-number-clause-none : goal.returns-in_err-number-clause-none
+returns-in_err-number-clause-none c = rw c.from_residual-in_err-number.ensures c.in_err-number.ensures.none
+
+pub returns-in_err-number-clause-unit : goal.returns-in_err-number-clause-unit
+returns-in_err-number-clause-unit c = rw c.from_residual-in_err-number.ensures tt

@@ -1,5 +1,5 @@
 -- The sum is kept.
-use Rattle.std.proofs.Common.{◌≡◌, ◌∙◌, ◌+ℤ◌, rules, sym, ap, Some, Ok}
+use Rattle.std.proofs.Common.{refl, ◌≡◌, ◌∙◌, ◌+ℤ◌, rules, sym, ap, Some, Ok}
 use Rattle.fast_value.specs.meaning.Kinds.{value_of_integer, integer_of}
 use Rattle.fast_value.specs.declared.codes.Code.TheVariants.{D2}
 use Rattle.fast_tree.specs.device.Nodes.{field_data}
@@ -28,3 +28,24 @@ returns-in-Ok-clause-decided c =
     ∙ ap (keeps c.args.kind) kept
     ∙ ap (λ k. keeps k (number_data c.of_integer-number.result)) c.requires.kind in
     decided_as f old (slots_dictionary c.keep_integer.new.slots) (Ok (source_of (Some c.of_integer-number.result))) step (keep_decided f old (slots_dictionary c.keep_integer.new.slots) (number_data c.of_integer-number.result) (source_of (Some c.of_integer-number.result)) c.keep_integer.ensures.entry (item_value (Some c.of_integer-number.result) f))
+
+pub returns-in_err-entry-clause-decided : goal.returns-in_err-entry-clause-decided
+returns-in_err-entry-clause-decided c = rw c.from_residual.ensures tt
+
+pub returns-in_err-entry-clause-none : goal.returns-in_err-entry-clause-none
+returns-in_err-entry-clause-none c = rw c.from_residual.ensures refl
+
+pub returns-in_err-number-clause-decided : goal.returns-in_err-number-clause-decided
+returns-in_err-number-clause-decided c = rw c.from_residual-in_err-number.ensures tt
+
+pub returns-in_err-number-clause-none : goal.returns-in_err-number-clause-none
+returns-in_err-number-clause-none c = rw c.from_residual-in_err-number.ensures refl
+
+pub keep_integer-requires-clause-kind : goal.keep_integer-requires-clause-kind
+keep_integer-requires-clause-kind c = c.requires.kind
+
+pub keep_integer-requires-clause-within : goal.keep_integer-requires-clause-within
+keep_integer-requires-clause-within c = c.requires.serves.within
+
+pub held-requires : goal.held-requires
+held-requires c = c.requires.serves.within c.in_ok-entry.entry c.in_ok-entry.was

@@ -12,7 +12,8 @@ use Rattle.fast_stream.specs.device.GrammarReaders.{reader_of}
 use Rattle.fast_units.specs.device.Stages.{term_behind}
 use Rattle.fast_units.specs.device.TextDecisions.{IsStepped, behind_part_size}
 use Rattle.fast_units.specs.declared.stages.Stage.TheVariants.{PartVector}
-use Rattle.fast_units.proofs.TextUnits.{part_size_fits, part_size_none, part_vector_here, stepped}
+use Rattle.fast_units.proofs.TextUnits.{part_size_fits, part_size_none, part_vector_here, stepped, part_size_wrong}
+use Rattle.std.proofs.lemmas.Result.{err_from_is_err_and}
 use Rattle.fast_units.proofs.text_deltas.part_vector_next.Goals as goal
 
 pub returns-then-size-gt0-clause-step : goal.returns-then-size-gt0-clause-step
@@ -45,3 +46,53 @@ returns-clause-step c kept e scratch piece =
     let none = part_size_none l.strict (bounds l) f p kept c.args.size c.in_ok-size.size sized c.if-size-gt0.false in
     subst (λ r. IsStepped l (reader_of l.strict (behind_part_size (bounds l) f p kept (Some (pos c.args.size)))) f old (slots_dictionary c.finish_part.new.slots) scratch piece r) (sym c.settled.ensures)
     (stepped l _ f old (slots_dictionary c.finish_part.new.slots) scratch piece _ c.finish_part.result none (c.finish_part.ensures.field kept (wrapped ∙ e) scratch piece))
+
+pub returns-in_err-size-clause-more : goal.returns-in_err-size-clause-more
+returns-in_err-size-clause-more c = rw ((err_from_is_err_and c.from_residual.result c.from_residual.ensures.1).1) tt
+
+pub part_room-room-requires : goal.part_room-room-requires
+part_room-room-requires c = c.requires.serves
+
+pub finish_part-requires-clause-serves : goal.finish_part-requires-clause-serves
+finish_part-requires-clause-serves c = c.requires.serves
+
+pub finish_part-requires-clause-text : goal.finish_part-requires-clause-text
+finish_part-requires-clause-text c = c.requires.stage.0
+
+pub finish_part-requires-clause-delta : goal.finish_part-requires-clause-delta
+finish_part-requires-clause-delta c = c.requires.stage.1
+
+pub finish_part-requires-clause-room : goal.finish_part-requires-clause-room
+finish_part-requires-clause-room c = c.requires.joined
+
+pub returns-in_err-size-clause-step : goal.returns-in_err-size-clause-step
+returns-in_err-size-clause-step c kept e scratch piece =
+    let l = c.args.limits in
+    let f = field_data c.args.field.now in
+    let p = previous_at f.entry (slots_dictionary c.args.slots.now) in
+    let r = err_from_is_err_and c.from_residual.result c.from_residual.ensures.1 in
+    let wrapped = ap (λ (x : ℤ). subtraction_step f p x) (to_z-of_z w32 c.args.subtraction c.ranges.subtraction) in
+    let room : c.part_room-room.result ≡ l.max_text - kept_length kept = c.part_room-room.ensures.room kept (wrapped ∙ e) in
+    let sized = subst (λ (most : ℕ). (if nat_le c.args.size most then Ok c.args.size else Err L1) ≡ Err c.in_err-size.field-0.0) room (sym c.in_err-size.ensures) in
+    rw (r.1, r.2) (ap (reader_of l.strict) (part_size_wrong (bounds l) f p kept c.args.size c.in_err-size.field-0.0 sized))
+
+pub returns-in_err-size-clause-terms : goal.returns-in_err-size-clause-terms
+returns-in_err-size-clause-terms c = refl
+
+pub returns-in_err-size-clause-joined : goal.returns-in_err-size-clause-joined
+returns-in_err-size-clause-joined c = refl
+
+pub returns-then-size-gt0-clause-more : goal.returns-then-size-gt0-clause-more
+returns-then-size-gt0-clause-more c = c.if-size-gt0.true
+
+pub returns-then-size-gt0-clause-terms : goal.returns-then-size-gt0-clause-terms
+returns-then-size-gt0-clause-terms c = refl
+
+pub returns-then-size-gt0-clause-joined : goal.returns-then-size-gt0-clause-joined
+returns-then-size-gt0-clause-joined c = refl
+
+pub returns-clause-terms : goal.returns-clause-terms
+returns-clause-terms c = c.finish_part.ensures.terms
+
+pub returns-clause-joined : goal.returns-clause-joined
+returns-clause-joined c = c.finish_part.ensures.capacity

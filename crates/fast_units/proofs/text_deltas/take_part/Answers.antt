@@ -1,5 +1,5 @@
-use Rattle.std.proofs.Common.{◌≡◌, ◌∙◌, sym, ap, refl, subst, List, [], ℕ, ℤ, take, ◌++◌, ◌-◌}
-use Rattle.std.specs.Prelude.{Ok, Some, None, Option, true, false}
+use Rattle.std.proofs.Common.{arith, ◌≡◌, ◌∙◌, sym, ap, refl, subst, List, [], ℕ, ℤ, take, ◌++◌, ◌-◌}
+use Rattle.std.specs.Prelude.{Ok, Some, None, Option, true, false, Err}
 use mir.Syntax.{w32}
 use Rattle.std.proofs.lemmas.Int.{to_z-of_z}
 use Rattle.fast_value.specs.meaning.Limits.{bounds}
@@ -16,7 +16,9 @@ use Rattle.fast_units.specs.device.NextUnits.{text_or_null}
 use Rattle.fast_units.specs.device.TextDecisions.{reader_behind}
 use Rattle.fast_units.specs.declared.stages.Stage.TheVariants.{Part}
 use Rattle.fast_units.proofs.LastUnits.{unit_stops, unit_stays}
-use Rattle.fast_units.proofs.TextUnits.{part_field, text_last, delta_null}
+use Rattle.fast_units.proofs.TextUnits.{answered_whole, part_field, text_last, delta_null}
+use Rattle.fast_units.specs.declared.progress.Progress.TheVariants.{Whole}
+use Rattle.fast_units.specs.declared.source.ValueSource.{ValueSource}
 use Rattle.fast_units.proofs.text_deltas.take_part.Goals as goal
 
 pub next_ascii-requires-clause-open : goal.next_ascii-requires-clause-open
@@ -108,3 +110,86 @@ returns-in-Cut-clause-unit c =
     = ap (reader_of l.strict) (part_field (bounds l) f p k kept step c.requires.kind) ∙ ap (λ (most : ℕ). reader_of l.strict (ascii_text false most give >>= part_change f p kept)) (sym room) in
     let text = c.next_ascii.new.scratch.text in
     (unit_stays l.strict g (part_change f p kept) (reader_behind l f old (Part k)) here (front ++ c.args.rest.now) (c.in-Cut.ensures.unit l.strict), refl)
+
+pub returns-in-Whole-true-default-clause-cut : goal.returns-in-Whole-true-default-clause-cut
+returns-in-Whole-true-default-clause-cut c e = absurd (answered_whole c.finish_part.result c.in-Whole-true-default.bytes (sym c.answered.ensures ∙ e))
+
+pub next_ascii-requires-clause-fits : goal.next_ascii-requires-clause-fits
+next_ascii-requires-clause-fits c =
+    let room = c.requires.scratch in
+    let most = c.requires.limit.0 in
+    let fits = c.part_room-room.ensures.most in
+    omega (arith, room, most, fits)
+
+pub next_ascii-requires-clause-some : goal.next_ascii-requires-clause-some
+next_ascii-requires-clause-some c =
+    let room = c.requires.scratch in
+    let (most, least) = c.requires.limit in
+    omega (arith, room, most, least)
+
+pub finish_part-requires-clause-fits : goal.finish_part-requires-clause-fits
+finish_part-requires-clause-fits c kept step =
+    let whole = c.in-Whole-true-default.ensures.text c.in-Whole-true-default.bytes (ap (λ t. Whole t c.in-Whole-true-default.bytes) c.in-Whole-true-default.field-0-test) in
+    let room = c.part_room-room.ensures.room kept step in
+    let most = c.requires.limit.0 in
+    rw c.as_slice-part.ensures (omega (arith, whole, room, most))
+
+pub returns-in-Whole-false-default-clause-cut : goal.returns-in-Whole-false-default-clause-cut
+returns-in-Whole-false-default-clause-cut c e = absurd (answered_whole (Ok c.finish_absent.result) c.in-Whole-false-default.bytes e)
+
+pub returns-in-Wrong-clause-cut : goal.returns-in-Wrong-clause-cut
+returns-in-Wrong-clause-cut c e = absurd (answered_whole {T = ValueSource} (Err c.in-Wrong.code) c.in-Wrong.bytes e)
+
+pub part_room-room-requires : goal.part_room-room-requires
+part_room-room-requires c = c.requires.serves
+
+pub finish_part-requires-clause-serves : goal.finish_part-requires-clause-serves
+finish_part-requires-clause-serves c = c.requires.serves
+
+pub finish_part-requires-clause-text : goal.finish_part-requires-clause-text
+finish_part-requires-clause-text c = c.requires.stage.0
+
+pub finish_part-requires-clause-delta : goal.finish_part-requires-clause-delta
+finish_part-requires-clause-delta c = c.requires.stage.1
+
+pub finish_part-requires-clause-room : goal.finish_part-requires-clause-room
+finish_part-requires-clause-room c = c.requires.joined
+
+pub finish_absent-requires-clause-serves : goal.finish_absent-requires-clause-serves
+finish_absent-requires-clause-serves c = c.requires.serves
+
+pub returns-in-Whole-true-default-clause-terms : goal.returns-in-Whole-true-default-clause-terms
+returns-in-Whole-true-default-clause-terms c = c.finish_part.ensures.terms
+
+pub returns-in-Whole-true-default-clause-scratch : goal.returns-in-Whole-true-default-clause-scratch
+returns-in-Whole-true-default-clause-scratch c = c.in-Whole-true-default.ensures.capacity
+
+pub returns-in-Whole-true-default-clause-joined : goal.returns-in-Whole-true-default-clause-joined
+returns-in-Whole-true-default-clause-joined c = c.finish_part.ensures.capacity
+
+pub returns-in-Whole-false-default-clause-terms : goal.returns-in-Whole-false-default-clause-terms
+returns-in-Whole-false-default-clause-terms c = c.finish_absent.ensures.terms
+
+pub returns-in-Whole-false-default-clause-scratch : goal.returns-in-Whole-false-default-clause-scratch
+returns-in-Whole-false-default-clause-scratch c = c.in-Whole-false-default.ensures.capacity
+
+pub returns-in-Whole-false-default-clause-joined : goal.returns-in-Whole-false-default-clause-joined
+returns-in-Whole-false-default-clause-joined c = refl
+
+pub returns-in-Wrong-clause-terms : goal.returns-in-Wrong-clause-terms
+returns-in-Wrong-clause-terms c = refl
+
+pub returns-in-Wrong-clause-scratch : goal.returns-in-Wrong-clause-scratch
+returns-in-Wrong-clause-scratch c = c.in-Wrong.ensures.capacity
+
+pub returns-in-Wrong-clause-joined : goal.returns-in-Wrong-clause-joined
+returns-in-Wrong-clause-joined c = refl
+
+pub returns-in-Cut-clause-terms : goal.returns-in-Cut-clause-terms
+returns-in-Cut-clause-terms c = refl
+
+pub returns-in-Cut-clause-scratch : goal.returns-in-Cut-clause-scratch
+returns-in-Cut-clause-scratch c = c.in-Cut.ensures.capacity
+
+pub returns-in-Cut-clause-joined : goal.returns-in-Cut-clause-joined
+returns-in-Cut-clause-joined c = refl

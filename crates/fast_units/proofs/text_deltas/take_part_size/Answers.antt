@@ -1,5 +1,5 @@
-use Rattle.std.proofs.Common.{◌≡◌, ◌∙◌, sym, ap, refl, subst, ℤ, take, ◌++◌}
-use Rattle.std.specs.Prelude.{Some, Option, false, pos}
+use Rattle.std.proofs.Common.{◌≡◌, ◌∙◌, sym, ap, refl, subst, ℤ, take, ◌++◌, []}
+use Rattle.std.specs.Prelude.{Some, Option, false, pos, Ok, Err}
 use Rattle.fast_value.specs.declared.codes.Code.TheVariants.{D2}
 use Rattle.fast_wire.specs.meaning.Integers.{unsigned_range}
 use mir.Syntax.{w32, w128}
@@ -12,12 +12,13 @@ use Rattle.fast_dict.specs.meaning.Operators.{subtraction_step}
 use Rattle.fast_dict.specs.meaning.Slots.{slots_dictionary}
 use Rattle.fast_stream.specs.meaning.Grammar.{Grammar, give, integer}
 use Rattle.fast_stream.specs.device.GrammarReaders.{reader_of}
-use Rattle.fast_units.specs.device.TextDecisions.{reader_behind, IsStepped, behind_part_size}
+use Rattle.fast_units.specs.device.TextDecisions.{reader_behind, IsStepped, behind_part_size, HasBytes}
 use Rattle.fast_units.specs.declared.stages.Stage.TheVariants.{Part}
 use Rattle.fast_units.proofs.LastUnits.{unit_stops, unit_stays, number_within}
 use Rattle.fast_wire.specs.meaning.Integers.{IsWithin}
 use Rattle.fast_units.proofs.TextSizes.{size_again}
-use Rattle.fast_units.proofs.TextUnits.{part_size_field, text_next}
+use Rattle.fast_units.proofs.TextUnits.{part_size_field, text_next, answered_whole, answered_more}
+use Rattle.fast_units.specs.declared.stages.FieldStep.{FieldStep}
 use Rattle.fast_units.proofs.text_deltas.take_part_size.Goals as goal
 
 pub size_of-size-requires : goal.size_of-size-requires
@@ -81,3 +82,60 @@ returns-in-Cut-clause-unit c scratch =
     let g = integer (unsigned_range 32) false D2 give in
     let next : Option ℤ → Grammar _ = behind_part_size (bounds l) f p kept in
     (unit_stays l.strict g next (reader_behind l f old (Part k)) here (front ++ c.args.rest.now) c.in-Cut.ensures.unit, refl)
+
+pub returns-in-Whole-clause-more : goal.returns-in-Whole-clause-more
+returns-in-Whole-clause-more c step n e = answered_more HasBytes c.part_vector_next.result c.in-Whole.bytes c.part_vector_next.ensures.more step n (sym c.answered.ensures ∙ e)
+
+pub returns-in-Whole-clause-cut : goal.returns-in-Whole-clause-cut
+returns-in-Whole-clause-cut c e = absurd (answered_whole c.part_vector_next.result c.in-Whole.bytes (sym c.answered.ensures ∙ e))
+
+pub returns-in-Wrong-clause-more : goal.returns-in-Wrong-clause-more
+returns-in-Wrong-clause-more c step n e = answered_more HasBytes (Err c.in-Wrong.code) c.in-Wrong.bytes tt step n e
+
+pub returns-in-Wrong-clause-cut : goal.returns-in-Wrong-clause-cut
+returns-in-Wrong-clause-cut c e = absurd (answered_whole {T = FieldStep} (Err c.in-Wrong.code) c.in-Wrong.bytes e)
+
+pub returns-in-Cut-clause-more : goal.returns-in-Cut-clause-more
+returns-in-Cut-clause-more c step n e = absurd (answered_whole (Ok step) n (sym e))
+
+pub returns-in-Cut-clause-whole : goal.returns-in-Cut-clause-whole
+returns-in-Cut-clause-whole c step n e = absurd (answered_whole (Ok step) n (sym e))
+
+pub returns-in-Cut-clause-cut : goal.returns-in-Cut-clause-cut
+returns-in-Cut-clause-cut c e = c.in-Cut.ensures.cut refl
+
+pub part_vector_next-requires-clause-serves : goal.part_vector_next-requires-clause-serves
+part_vector_next-requires-clause-serves c = c.requires.serves
+
+pub part_vector_next-requires-clause-limit : goal.part_vector_next-requires-clause-limit
+part_vector_next-requires-clause-limit c = c.requires.limit
+
+pub part_vector_next-requires-clause-kind : goal.part_vector_next-requires-clause-kind
+part_vector_next-requires-clause-kind c = c.requires.kind
+
+pub part_vector_next-requires-clause-joined : goal.part_vector_next-requires-clause-joined
+part_vector_next-requires-clause-joined c = c.requires.joined
+
+pub returns-in-Wrong-clause-whole : goal.returns-in-Wrong-clause-whole
+returns-in-Wrong-clause-whole c step n e = answered_more {T = FieldStep} (λ s. c.next_unsigned.new.pending.bytes ≡ []) (Err c.in-Wrong.code) c.in-Wrong.bytes tt step n e
+
+pub returns-in-Whole-clause-terms : goal.returns-in-Whole-clause-terms
+returns-in-Whole-clause-terms c = c.part_vector_next.ensures.terms
+
+pub returns-in-Whole-clause-joined : goal.returns-in-Whole-clause-joined
+returns-in-Whole-clause-joined c = c.part_vector_next.ensures.joined
+
+pub returns-in-Wrong-clause-terms : goal.returns-in-Wrong-clause-terms
+returns-in-Wrong-clause-terms c = refl
+
+pub returns-in-Wrong-clause-joined : goal.returns-in-Wrong-clause-joined
+returns-in-Wrong-clause-joined c = refl
+
+pub returns-in-Cut-clause-terms : goal.returns-in-Cut-clause-terms
+returns-in-Cut-clause-terms c = refl
+
+pub returns-in-Cut-clause-joined : goal.returns-in-Cut-clause-joined
+returns-in-Cut-clause-joined c = refl
+
+pub returns-in-Whole-clause-whole : goal.returns-in-Whole-clause-whole
+returns-in-Whole-clause-whole c step n e = c.in-Whole.ensures.whole c.in-Whole.size c.in-Whole.bytes refl

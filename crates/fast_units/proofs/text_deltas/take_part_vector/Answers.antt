@@ -1,5 +1,5 @@
 use Rattle.std.proofs.Common.{◌≡◌, ◌∙◌, sym, ap, refl, arith, List, ℕ, ℤ, take, ◌++◌, length}
-use Rattle.std.specs.Prelude.{Some}
+use Rattle.std.specs.Prelude.{Some, Err}
 use mir.Syntax.{w32}
 use Rattle.std.proofs.lemmas.List.{length-take-le}
 use Rattle.std.proofs.lemmas.Int.{to_z-of_z}
@@ -17,7 +17,8 @@ use Rattle.fast_units.specs.declared.stages.Stage.TheVariants.{PartVector}
 use Rattle.fast_units.specs.declared.units.Run.{Run}
 use Rattle.fast_units.specs.declared.units.Run.TheVariants.{Piece, Scratch}
 use Rattle.fast_units.proofs.LastUnits.{unit_stays}
-use Rattle.fast_units.proofs.TextUnits.{part_vector_field, text_last, one_kept}
+use Rattle.fast_units.proofs.TextUnits.{part_vector_field, text_last, one_kept, answered_whole}
+use Rattle.fast_units.specs.declared.source.ValueSource.{ValueSource}
 use Rattle.fast_units.proofs.text_deltas.take_part_vector.Goals as goal
 
 pub slice_bounds-part-end : goal.slice_bounds-part-end
@@ -128,3 +129,83 @@ pub returns-in-Cut-clause-cut : goal.returns-in-Cut-clause-cut
 returns-in-Cut-clause-cut c e =
     let (stays, bytes, short) = c.in-Cut.ensures.unit c.args.limits.strict in
     (bytes, short)
+
+pub returns-in-Whole-Piece-default-clause-cut : goal.returns-in-Whole-Piece-default-clause-cut
+returns-in-Whole-Piece-default-clause-cut c e = absurd (answered_whole c.finish_part.result c.in-Whole-Piece-default.bytes (sym c.answered.ensures ∙ e))
+
+pub returns-in-Whole-Scratch-default-clause-cut : goal.returns-in-Whole-Scratch-default-clause-cut
+returns-in-Whole-Scratch-default-clause-cut c e = absurd (answered_whole c.finish_part-in-Whole-Scratch-default.result c.in-Whole-Scratch-default.bytes (sym c.answered-in-Whole-Scratch-default.ensures ∙ e))
+
+pub returns-in-Wrong-clause-cut : goal.returns-in-Wrong-clause-cut
+returns-in-Wrong-clause-cut c e = absurd (answered_whole {T = ValueSource} (Err c.in-Wrong.code) c.in-Wrong.bytes e)
+
+pub next_raw-requires-clause-more : goal.next_raw-requires-clause-more
+next_raw-requires-clause-more c = c.requires.more
+
+pub next_raw-requires-clause-fits : goal.next_raw-requires-clause-fits
+next_raw-requires-clause-fits c =
+    let room = c.requires.scratch in
+    let most = c.requires.limit.0 in
+    let (is_text, not_ascii, delta, found) = c.requires.stage in
+    let (kept, step, fits) = found in
+    omega (arith, room, most, fits)
+
+pub finish_part-requires-clause-serves : goal.finish_part-requires-clause-serves
+finish_part-requires-clause-serves c = c.requires.serves
+
+pub finish_part-requires-in-Whole-Scratch-default-clause-serves : goal.finish_part-requires-in-Whole-Scratch-default-clause-serves
+finish_part-requires-in-Whole-Scratch-default-clause-serves c = c.requires.serves
+
+pub finish_part-requires-clause-text : goal.finish_part-requires-clause-text
+finish_part-requires-clause-text c = c.requires.stage.0
+
+pub finish_part-requires-in-Whole-Scratch-default-clause-text : goal.finish_part-requires-in-Whole-Scratch-default-clause-text
+finish_part-requires-in-Whole-Scratch-default-clause-text c = c.requires.stage.0
+
+pub finish_part-requires-clause-delta : goal.finish_part-requires-clause-delta
+finish_part-requires-clause-delta c = c.requires.stage.2
+
+pub finish_part-requires-in-Whole-Scratch-default-clause-delta : goal.finish_part-requires-in-Whole-Scratch-default-clause-delta
+finish_part-requires-in-Whole-Scratch-default-clause-delta c = c.requires.stage.2
+
+pub finish_part-requires-clause-room : goal.finish_part-requires-clause-room
+finish_part-requires-clause-room c = c.requires.joined
+
+pub finish_part-requires-in-Whole-Scratch-default-clause-room : goal.finish_part-requires-in-Whole-Scratch-default-clause-room
+finish_part-requires-in-Whole-Scratch-default-clause-room c = c.requires.joined
+
+pub returns-in-Whole-Piece-default-clause-terms : goal.returns-in-Whole-Piece-default-clause-terms
+returns-in-Whole-Piece-default-clause-terms c = c.finish_part.ensures.terms
+
+pub returns-in-Whole-Piece-default-clause-scratch : goal.returns-in-Whole-Piece-default-clause-scratch
+returns-in-Whole-Piece-default-clause-scratch c = c.in-Whole-Piece-default.ensures.capacity
+
+pub returns-in-Whole-Piece-default-clause-joined : goal.returns-in-Whole-Piece-default-clause-joined
+returns-in-Whole-Piece-default-clause-joined c = c.finish_part.ensures.capacity
+
+pub returns-in-Whole-Scratch-default-clause-terms : goal.returns-in-Whole-Scratch-default-clause-terms
+returns-in-Whole-Scratch-default-clause-terms c = c.finish_part-in-Whole-Scratch-default.ensures.terms
+
+pub returns-in-Whole-Scratch-default-clause-scratch : goal.returns-in-Whole-Scratch-default-clause-scratch
+returns-in-Whole-Scratch-default-clause-scratch c = c.in-Whole-Scratch-default.ensures.capacity
+
+pub returns-in-Whole-Scratch-default-clause-joined : goal.returns-in-Whole-Scratch-default-clause-joined
+returns-in-Whole-Scratch-default-clause-joined c = c.finish_part-in-Whole-Scratch-default.ensures.capacity
+
+pub returns-in-Wrong-clause-terms : goal.returns-in-Wrong-clause-terms
+returns-in-Wrong-clause-terms c = refl
+
+pub returns-in-Wrong-clause-scratch : goal.returns-in-Wrong-clause-scratch
+returns-in-Wrong-clause-scratch c = c.in-Wrong.ensures.capacity
+
+pub returns-in-Wrong-clause-joined : goal.returns-in-Wrong-clause-joined
+returns-in-Wrong-clause-joined c = refl
+
+pub returns-in-Cut-clause-terms : goal.returns-in-Cut-clause-terms
+returns-in-Cut-clause-terms c = refl
+
+pub returns-in-Cut-clause-scratch : goal.returns-in-Cut-clause-scratch
+returns-in-Cut-clause-scratch c = c.in-Cut.ensures.capacity
+
+pub returns-in-Cut-clause-joined : goal.returns-in-Cut-clause-joined
+returns-in-Cut-clause-joined c = refl

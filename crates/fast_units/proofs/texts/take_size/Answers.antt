@@ -1,5 +1,5 @@
 use Rattle.std.proofs.Common.{◌≡◌, ◌∙◌, sym, ap, refl, subst, [], ℤ, take, ◌++◌}
-use Rattle.std.specs.Prelude.{Some, Option, true, pos}
+use Rattle.std.specs.Prelude.{Some, Option, true, pos, Ok, Err}
 use Rattle.fast_value.specs.declared.codes.Code.TheVariants.{D2}
 use Rattle.fast_wire.specs.meaning.Integers.{unsigned_range}
 use Rattle.fast_value.specs.meaning.Limits.{bounds}
@@ -9,11 +9,13 @@ use Rattle.fast_dict.specs.meaning.Operators.{null, decide}
 use Rattle.fast_dict.specs.meaning.Slots.{slots_dictionary}
 use Rattle.fast_stream.specs.meaning.Grammar.{Grammar, give, integer}
 use Rattle.fast_stream.specs.device.GrammarReaders.{reader_of}
-use Rattle.fast_units.specs.device.TextDecisions.{first_reader, IsStepped, behind_size}
+use Rattle.fast_units.specs.device.TextDecisions.{HasBytes, first_reader, IsStepped, behind_size}
 use Rattle.fast_units.proofs.LastUnits.{unit_stops, unit_stays, number_within}
 use Rattle.fast_wire.specs.meaning.Integers.{IsWithin}
 use Rattle.fast_units.proofs.TextSizes.{size_again}
-use Rattle.fast_units.proofs.TextUnits.{size_field, text_next, text_settled}
+use Rattle.fast_units.proofs.TextUnits.{answered_whole, answered_more, size_field, text_next, text_settled}
+use Rattle.fast_units.specs.declared.stages.FieldStep.{FieldStep}
+use Rattle.fast_units.specs.declared.stages.FieldStep.TheVariants.{Settled}
 use Rattle.fast_units.proofs.texts.take_size.Goals as goal
 
 pub size_of-requires : goal.size_of-requires
@@ -81,3 +83,90 @@ returns-in-Cut-clause-unit c =
     let g = integer (unsigned_range 32) f.optional D2 give in
     let next : Option ℤ → Grammar _ = behind_size (bounds l) f p in
     (unit_stays l.strict g next (first_reader l f old) here (front ++ c.args.rest.now) c.in-Cut.ensures.unit, refl)
+
+pub returns-in-Whole-Some-default-clause-more : goal.returns-in-Whole-Some-default-clause-more
+returns-in-Whole-Some-default-clause-more c step n e = answered_more HasBytes c.vector_next.result c.in-Whole-Some-default.bytes c.vector_next.ensures.more step n (sym c.answered.ensures ∙ e)
+
+pub returns-in-Whole-Some-default-clause-cut : goal.returns-in-Whole-Some-default-clause-cut
+returns-in-Whole-Some-default-clause-cut c e = absurd (answered_whole c.vector_next.result c.in-Whole-Some-default.bytes (sym c.answered.ensures ∙ e))
+
+pub returns-in-Whole-None-default-clause-more : goal.returns-in-Whole-None-default-clause-more
+returns-in-Whole-None-default-clause-more c step n e = answered_more HasBytes (Ok (Settled c.finish_absent.result)) c.in-Whole-None-default.bytes tt step n e
+
+pub returns-in-Whole-None-default-clause-cut : goal.returns-in-Whole-None-default-clause-cut
+returns-in-Whole-None-default-clause-cut c e = absurd (answered_whole (Ok (Settled c.finish_absent.result)) c.in-Whole-None-default.bytes e)
+
+pub returns-in-Wrong-clause-more : goal.returns-in-Wrong-clause-more
+returns-in-Wrong-clause-more c step n e = answered_more HasBytes (Err c.in-Wrong.code) c.in-Wrong.bytes tt step n e
+
+pub returns-in-Wrong-clause-cut : goal.returns-in-Wrong-clause-cut
+returns-in-Wrong-clause-cut c e = absurd (answered_whole {T = FieldStep} (Err c.in-Wrong.code) c.in-Wrong.bytes e)
+
+pub returns-in-Cut-clause-more : goal.returns-in-Cut-clause-more
+returns-in-Cut-clause-more c step n e = absurd (answered_whole (Ok step) n (sym e))
+
+pub returns-in-Cut-clause-whole : goal.returns-in-Cut-clause-whole
+returns-in-Cut-clause-whole c step n e = absurd (answered_whole (Ok step) n (sym e))
+
+pub returns-in-Cut-clause-cut : goal.returns-in-Cut-clause-cut
+returns-in-Cut-clause-cut c e = c.in-Cut.ensures.cut refl
+
+pub vector_next-requires-clause-serves : goal.vector_next-requires-clause-serves
+vector_next-requires-clause-serves c = c.requires.serves
+
+pub vector_next-requires-clause-limit : goal.vector_next-requires-clause-limit
+vector_next-requires-clause-limit c = c.requires.limit
+
+pub vector_next-requires-clause-text : goal.vector_next-requires-clause-text
+vector_next-requires-clause-text c = c.requires.text
+
+pub vector_next-requires-clause-kind : goal.vector_next-requires-clause-kind
+vector_next-requires-clause-kind c = c.requires.kind
+
+pub vector_next-requires-clause-sent : goal.vector_next-requires-clause-sent
+vector_next-requires-clause-sent c = c.requires.sent
+
+pub vector_next-requires-clause-whole : goal.vector_next-requires-clause-whole
+vector_next-requires-clause-whole c = c.requires.whole
+
+pub vector_next-requires-clause-joined : goal.vector_next-requires-clause-joined
+vector_next-requires-clause-joined c = c.requires.joined
+
+pub finish_absent-requires-clause-serves : goal.finish_absent-requires-clause-serves
+finish_absent-requires-clause-serves c = c.requires.serves
+
+pub finish_absent-requires-clause-sent : goal.finish_absent-requires-clause-sent
+finish_absent-requires-clause-sent c = c.requires.sent
+
+pub returns-in-Whole-Some-default-clause-whole : goal.returns-in-Whole-Some-default-clause-whole
+returns-in-Whole-Some-default-clause-whole c step n e = c.in-Whole-Some-default.ensures.whole c.in-Whole-Some-default.field-0 c.in-Whole-Some-default.bytes refl
+
+pub returns-in-Whole-Some-default-clause-terms : goal.returns-in-Whole-Some-default-clause-terms
+returns-in-Whole-Some-default-clause-terms c = c.vector_next.ensures.terms
+
+pub returns-in-Whole-Some-default-clause-joined : goal.returns-in-Whole-Some-default-clause-joined
+returns-in-Whole-Some-default-clause-joined c = c.vector_next.ensures.joined
+
+pub returns-in-Whole-None-default-clause-whole : goal.returns-in-Whole-None-default-clause-whole
+returns-in-Whole-None-default-clause-whole c step n e = c.in-Whole-None-default.ensures.whole c.in-Whole-None-default.field-0 c.in-Whole-None-default.bytes refl
+
+pub returns-in-Whole-None-default-clause-terms : goal.returns-in-Whole-None-default-clause-terms
+returns-in-Whole-None-default-clause-terms c = c.finish_absent.ensures.terms
+
+pub returns-in-Whole-None-default-clause-joined : goal.returns-in-Whole-None-default-clause-joined
+returns-in-Whole-None-default-clause-joined c = refl
+
+pub returns-in-Wrong-clause-whole : goal.returns-in-Wrong-clause-whole
+returns-in-Wrong-clause-whole c step n e = answered_more {T = FieldStep} (λ s. c.next_integer.new.pending.bytes ≡ []) (Err c.in-Wrong.code) c.in-Wrong.bytes tt step n e
+
+pub returns-in-Wrong-clause-terms : goal.returns-in-Wrong-clause-terms
+returns-in-Wrong-clause-terms c = refl
+
+pub returns-in-Wrong-clause-joined : goal.returns-in-Wrong-clause-joined
+returns-in-Wrong-clause-joined c = refl
+
+pub returns-in-Cut-clause-terms : goal.returns-in-Cut-clause-terms
+returns-in-Cut-clause-terms c = refl
+
+pub returns-in-Cut-clause-joined : goal.returns-in-Cut-clause-joined
+returns-in-Cut-clause-joined c = refl

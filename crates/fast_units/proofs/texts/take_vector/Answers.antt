@@ -1,5 +1,5 @@
 use Rattle.std.proofs.Common.{◌≡◌, ◌∙◌, sym, ap, refl, arith, List, ℕ, take, ◌++◌, length}
-use Rattle.std.specs.Prelude.{Some, true}
+use Rattle.std.specs.Prelude.{Some, true, Err}
 use Rattle.std.proofs.lemmas.List.{length-take-le}
 use Rattle.fast_value.specs.meaning.Limits.{bounds}
 use Rattle.fast_value.specs.meaning.Kinds.{value_of_text}
@@ -16,7 +16,8 @@ use Rattle.fast_units.specs.declared.stages.Stage.TheVariants.{Vector}
 use Rattle.fast_units.specs.declared.units.Run.{Run}
 use Rattle.fast_units.specs.declared.units.Run.TheVariants.{Piece, Scratch}
 use Rattle.fast_units.proofs.LastUnits.{unit_stays}
-use Rattle.fast_units.proofs.TextUnits.{vector_field, text_last, behind_text}
+use Rattle.fast_units.proofs.TextUnits.{vector_field, text_last, behind_text, answered_whole}
+use Rattle.fast_units.specs.declared.source.ValueSource.{ValueSource}
 use Rattle.fast_units.proofs.texts.take_vector.Goals as goal
 
 pub slice_bounds-text-end : goal.slice_bounds-text-end
@@ -102,3 +103,88 @@ pub returns-in-Cut-clause-cut : goal.returns-in-Cut-clause-cut
 returns-in-Cut-clause-cut c e =
     let (stays, bytes, short) = c.in-Cut.ensures.unit c.args.limits.strict in
     (bytes, short)
+
+pub returns-in-Whole-Piece-default-clause-cut : goal.returns-in-Whole-Piece-default-clause-cut
+returns-in-Whole-Piece-default-clause-cut c e = absurd (answered_whole c.finish_text.result c.in-Whole-Piece-default.bytes (sym c.answered.ensures ∙ e))
+
+pub returns-in-Whole-Scratch-default-clause-cut : goal.returns-in-Whole-Scratch-default-clause-cut
+returns-in-Whole-Scratch-default-clause-cut c e = absurd (answered_whole c.finish_text-in-Whole-Scratch-default.result c.in-Whole-Scratch-default.bytes (sym c.answered-in-Whole-Scratch-default.ensures ∙ e))
+
+pub returns-in-Wrong-clause-cut : goal.returns-in-Wrong-clause-cut
+returns-in-Wrong-clause-cut c e = absurd (answered_whole {T = ValueSource} (Err c.in-Wrong.code) c.in-Wrong.bytes e)
+
+pub next_raw-requires-clause-more : goal.next_raw-requires-clause-more
+next_raw-requires-clause-more c = c.requires.more
+
+pub next_raw-requires-clause-fits : goal.next_raw-requires-clause-fits
+next_raw-requires-clause-fits c =
+    let room = c.requires.scratch in
+    let most = c.requires.limit.0 in
+    let fits = c.requires.stage.4 in
+    omega (arith, room, most, fits)
+
+pub finish_text-requires-clause-serves : goal.finish_text-requires-clause-serves
+finish_text-requires-clause-serves c = c.requires.serves
+
+pub finish_text-requires-in-Whole-Scratch-default-clause-serves : goal.finish_text-requires-in-Whole-Scratch-default-clause-serves
+finish_text-requires-in-Whole-Scratch-default-clause-serves c = c.requires.serves
+
+pub finish_text-requires-clause-text : goal.finish_text-requires-clause-text
+finish_text-requires-clause-text c = c.requires.stage.0
+
+pub finish_text-requires-in-Whole-Scratch-default-clause-text : goal.finish_text-requires-in-Whole-Scratch-default-clause-text
+finish_text-requires-in-Whole-Scratch-default-clause-text c = c.requires.stage.0
+
+pub finish_text-requires-clause-sent : goal.finish_text-requires-clause-sent
+finish_text-requires-clause-sent c = c.requires.stage.3
+
+pub finish_text-requires-in-Whole-Scratch-default-clause-sent : goal.finish_text-requires-in-Whole-Scratch-default-clause-sent
+finish_text-requires-in-Whole-Scratch-default-clause-sent c = c.requires.stage.3
+
+pub finish_text-requires-clause-whole : goal.finish_text-requires-clause-whole
+finish_text-requires-clause-whole c = c.requires.stage.2
+
+pub finish_text-requires-in-Whole-Scratch-default-clause-whole : goal.finish_text-requires-in-Whole-Scratch-default-clause-whole
+finish_text-requires-in-Whole-Scratch-default-clause-whole c = c.requires.stage.2
+
+pub finish_text-requires-clause-room : goal.finish_text-requires-clause-room
+finish_text-requires-clause-room c = c.requires.joined
+
+pub finish_text-requires-in-Whole-Scratch-default-clause-room : goal.finish_text-requires-in-Whole-Scratch-default-clause-room
+finish_text-requires-in-Whole-Scratch-default-clause-room c = c.requires.joined
+
+pub returns-in-Whole-Piece-default-clause-terms : goal.returns-in-Whole-Piece-default-clause-terms
+returns-in-Whole-Piece-default-clause-terms c = c.finish_text.ensures.terms
+
+pub returns-in-Whole-Piece-default-clause-scratch : goal.returns-in-Whole-Piece-default-clause-scratch
+returns-in-Whole-Piece-default-clause-scratch c = c.in-Whole-Piece-default.ensures.capacity
+
+pub returns-in-Whole-Piece-default-clause-joined : goal.returns-in-Whole-Piece-default-clause-joined
+returns-in-Whole-Piece-default-clause-joined c = c.finish_text.ensures.capacity
+
+pub returns-in-Whole-Scratch-default-clause-terms : goal.returns-in-Whole-Scratch-default-clause-terms
+returns-in-Whole-Scratch-default-clause-terms c = c.finish_text-in-Whole-Scratch-default.ensures.terms
+
+pub returns-in-Whole-Scratch-default-clause-scratch : goal.returns-in-Whole-Scratch-default-clause-scratch
+returns-in-Whole-Scratch-default-clause-scratch c = c.in-Whole-Scratch-default.ensures.capacity
+
+pub returns-in-Whole-Scratch-default-clause-joined : goal.returns-in-Whole-Scratch-default-clause-joined
+returns-in-Whole-Scratch-default-clause-joined c = c.finish_text-in-Whole-Scratch-default.ensures.capacity
+
+pub returns-in-Wrong-clause-terms : goal.returns-in-Wrong-clause-terms
+returns-in-Wrong-clause-terms c = refl
+
+pub returns-in-Wrong-clause-scratch : goal.returns-in-Wrong-clause-scratch
+returns-in-Wrong-clause-scratch c = c.in-Wrong.ensures.capacity
+
+pub returns-in-Wrong-clause-joined : goal.returns-in-Wrong-clause-joined
+returns-in-Wrong-clause-joined c = refl
+
+pub returns-in-Cut-clause-terms : goal.returns-in-Cut-clause-terms
+returns-in-Cut-clause-terms c = refl
+
+pub returns-in-Cut-clause-scratch : goal.returns-in-Cut-clause-scratch
+returns-in-Cut-clause-scratch c = c.in-Cut.ensures.capacity
+
+pub returns-in-Cut-clause-joined : goal.returns-in-Cut-clause-joined
+returns-in-Cut-clause-joined c = refl

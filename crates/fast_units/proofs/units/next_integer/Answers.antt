@@ -1,6 +1,9 @@
-use Rattle.std.specs.Prelude.{◌≡◌, []}
+use Rattle.std.specs.Prelude.{◌≡◌, [], Ok, Err, Option, ℤ}
 use Rattle.fast_units.specs.device.NextUnits.{range_data}
 use Rattle.fast_units.proofs.NextUnits.{none_in_hand, integer_unit, first_whole, first_wrong, wrong_some}
+use Rattle.fast_units.proofs.TextUnits.{answered_whole}
+use Rattle.std.proofs.lemmas.List.{length-take-le}
+use Rattle.std.proofs.Common.{sym}
 use Rattle.fast_units.proofs.units.next_integer.Goals as goal
 
 pub returns-in-Whole-clause-unit : goal.returns-in-Whole-clause-unit
@@ -17,3 +20,18 @@ returns-in-Wrong-clause-unit c =
 
 pub returns-clause-unit : goal.returns-clause-unit
 returns-clause-unit c = integer_unit (λ x. x) c.args.strict (range_data c.args.range) c.args.nullable c.args.outside c.args.pending.now.bytes c.args.rest.now c.complete_integer.new.self.bytes c.complete_integer.result c.complete_integer.ensures
+
+pub slice_bounds-stream_fault-end : goal.slice_bounds-stream_fault-end
+slice_bounds-stream_fault-end c = sym (length-take-le c.in-Wrong.len c.args.rest.now c.in-Wrong.ensures.0)
+
+pub returns-in-Whole-clause-whole : goal.returns-in-Whole-clause-whole
+returns-in-Whole-clause-whole c x n e = none_in_hand c.args.pending.now.bytes c.if-is_empty.ensures
+
+pub returns-in-Whole-clause-cut : goal.returns-in-Whole-clause-cut
+returns-in-Whole-clause-cut c e = absurd (answered_whole (Ok c.in-Whole.x) c.in-Whole.len e)
+
+pub returns-in-Wrong-clause-cut : goal.returns-in-Wrong-clause-cut
+returns-in-Wrong-clause-cut c e = absurd (answered_whole {T = Option ℤ} (Err c.stream_fault.result) c.in-Wrong.len e)
+
+pub returns-in-Wrong-clause-whole : goal.returns-in-Wrong-clause-whole
+returns-in-Wrong-clause-whole c x n e = none_in_hand c.args.pending.now.bytes c.if-is_empty.ensures
