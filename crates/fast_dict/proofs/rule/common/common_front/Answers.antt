@@ -7,9 +7,9 @@ use Rattle.fast_dict.proofs.rule.common.common_front.Goals as goal
 
 pub loop-size-init : goal.loop-size-init
 loop-size-init c = record {
-    size = c.common_eights-size.ensures.size;
-    in_a = c.common_eights-size.ensures.in_a;
-    in_b = c.common_eights-size.ensures.in_b;
+  size = c.common_eights-size.ensures.size;
+  in_a = c.common_eights-size.ensures.in_a;
+  in_b = c.common_eights-size.ensures.in_b;
 }
 
 pub loop-size-smaller : goal.loop-size-smaller
