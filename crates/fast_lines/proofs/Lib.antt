@@ -7,3 +7,4 @@ pub mod Words
 pub mod OneLine
 pub mod OneValue
 pub mod Digits
+pub mod Arms

@@ -10,7 +10,7 @@ use Rattle.fast_lines.proofs.Escapes.{quoted_is_one, same_byte}
 use Rattle.fast_lines.proofs.Splits.{first_split, signed_lacks}
 
 -- what stands behind the letter and the space
-behind_letter : (a b : ℕ) (s t : List ℕ) → a ∷ 0x20 ∷ s ≡ b ∷ 0x20 ∷ t → (a ≡ b) × (s ≡ t)
+pub behind_letter : (a b : ℕ) (s t : List ℕ) → a ∷ 0x20 ∷ s ≡ b ∷ 0x20 ∷ t → (a ≡ b) × (s ≡ t)
 behind_letter a b s t h = (cc, cc)
 
 -- bytes are as their digits
@@ -25,7 +25,7 @@ same_bytes (c ∷ v) (d ∷ w) h =
     cc (same_byte c d high low, same_bytes v w rest)
 
 -- the letter of a value
-abbrev letter : ScalarData → ℕ
+abbrev pub letter : ScalarData → ℕ
 letter (U n) = 0x75
 letter (I x) = 0x69
 letter (Dec e m) = 0x64
@@ -34,7 +34,7 @@ letter (UnicodeText v) = 0x73
 letter (ByteVector v) = 0x62
 
 -- what stands behind the letter and its space
-abbrev spelled : ScalarData → List ℕ
+abbrev pub spelled : ScalarData → List ℕ
 spelled (U n) = decimal n
 spelled (I x) = signed_decimal x
 spelled (Dec e m) = signed_decimal m ++ 0x65 ∷ signed_decimal e
@@ -42,7 +42,7 @@ spelled (AsciiText v) = quoted v
 spelled (UnicodeText v) = quoted v
 spelled (ByteVector v) = flat_map hex_byte v
 
-as_spelled : (v : ScalarData) → written v ≡ letter v ∷ 0x20 ∷ spelled v
+pub as_spelled : (v : ScalarData) → written v ≡ letter v ∷ 0x20 ∷ spelled v
 as_spelled (U n) = refl
 as_spelled (I x) = refl
 as_spelled (Dec e m) = ap (λ s. 0x64 ∷ 0x20 ∷ s) (append_assoc (signed_decimal m) (codes "e") (signed_decimal e))

@@ -1,12 +1,12 @@
 -- The words of lines.
 use Rattle.std.proofs.Common.{◌≡◌, ◌≢◌, ℕ, ◌<◌, ◌^◌, Bool, true, not, ◌&&◌, List, [], ◌∷◌, ◌++◌, codes, refl, sym, ◌∙◌, inl, append_assoc, arith}
-use Rattle.std.specs.Prelude.{decimal, nat_eq, Option, Some, None, IfNone}
+use Rattle.std.specs.Prelude.{decimal, nat_eq, Option, Some, None, IfSome, IfNone}
 use Rattle.std.proofs.lemmas.Bool.Decides.{nat_tests}
 use Rattle.std.proofs.lemmas.List.Elements.{All-nil, All-cons}
 use Rattle.fast_lines.specs.meaning.Values.{Lacks}
 use Rattle.fast_lines.specs.declared.forms.Keyword.TheVariants as Key
 use Rattle.fast_lines.specs.declared.forms.Line.{Line}
-use Rattle.fast_lines.specs.meaning.Forms.{LineData, message, field, group, group_end, sequence, element, element_end, sequence_end, message_end, text_of_line, IsWord, IsForm, keyword_of, IsNoForm}
+use Rattle.fast_lines.specs.meaning.Forms.{LineData, message, field, group, group_end, sequence, element, element_end, sequence_end, message_end, text_of_line, IsWord, IsForm, keyword_of, IsNoForm, Gives, line_data}
 use Rattle.fast_lines.proofs.Splits.{first_split, no_split, decimal_lacks}
 
 -- a node's number and name, and what stands behind them
@@ -40,7 +40,7 @@ same_behind m n name other xs ys small little first second h =
     (first_split 0x20 name other xs ys first.whole second.whole words.1).1
 
 -- a text is tested for spaces
-abbrev lacks_space : List ℕ → Bool
+abbrev pub lacks_space : List ℕ → Bool
 lacks_space [] = true
 lacks_space (c ∷ cs) = not (nat_eq c 0x20) && lacks_space cs
 
@@ -85,3 +85,20 @@ no_such_line word rest lacks none message_end form h = (behind (codes "end") wor
 pub no_message : (o : Option Line) (text rest : List ℕ) → text ≡ codes "message " ++ rest → IfNone o (IsNoForm Key.Message rest) → IfNone o ((d : LineData) → IsForm d → text ≢ text_of_line d)
 no_message (Some line) text rest is none = tt
 no_message None text rest is none = λ d form h. no_such_line (codes "message") rest (tested (codes "message") refl) none d form (sym is ∙ h)
+
+-- the line that is read behind a keyword
+pub given_line : (o : Option Line) (words text rest : List ℕ) → text ≡ words ++ rest → IfSome o (Gives words rest) → IfSome o (λ l. text ≡ text_of_line (line_data l))
+given_line None words text rest is h = tt
+given_line (Some line) words text rest is h = is ∙ h.0
+
+pub given_form : (o : Option Line) (words rest : List ℕ) → IfSome o (Gives words rest) → IfSome o (λ l. IsForm (line_data l))
+given_form None words rest h = tt
+given_form (Some line) words rest h = h.1
+
+-- Where none is read behind a keyword, the text is no line.
+pub no_line : (o : Option Line) (word text rest : List ℕ) → text ≡ word ++ 0x20 ∷ rest → Lacks 0x20 word → IfNone o (IsNoForm (keyword_of word) rest) → IfNone o ((d : LineData) → IsForm d → text ≢ text_of_line d)
+no_line (Some line) word text rest is lacks none = tt
+no_line None word text rest is lacks none = λ d form h. no_such_line word rest lacks none d form (sym is ∙ h)
+
+pub no_key : (o : Option Line) (key text rest : List ℕ) → lacks_space key ≡ true → text ≡ key ++ 0x20 ∷ rest → IfNone o (IsNoForm (keyword_of key) rest) → IfNone o ((d : LineData) → IsForm d → text ≢ text_of_line d)
+no_key o key text rest test is none = no_line o key text rest is (tested key test) none

@@ -19,3 +19,19 @@ returns-in_default-parse_number-clause-none c n name rest small word h =
       | in_default-parse_number-via-in-Some-parse_number+else-not-is_empty w ↦ let empty : c.in-Some-split_at_byte.name.now ≡ [] = grind (arith, common_steps, w.is_empty.ensures, w.if-not-is_empty) in word.some (sym others.0 ∙ empty)
       | in_default-parse_number-via-in_default-parse_number w ↦ w.in_default-parse_number.ensures.none n small words.0
     ]
+
+pub returns-in_default-clause-node : goal.returns-in_default-clause-node
+returns-in_default-clause-node c = grind (arith, common_steps)
+
+pub returns-in_default-split_at_byte-clause-node :
+    goal.returns-in_default-split_at_byte-clause-node
+returns-in_default-split_at_byte-clause-node c = grind (arith, common_steps)
+
+pub returns-in-Some-parse_number-clause-node : goal.returns-in-Some-parse_number-clause-node
+returns-in-Some-parse_number-clause-node c = grind (arith, common_steps)
+
+pub returns-in-Some-parse_number-clause-none : goal.returns-in-Some-parse_number-clause-none
+returns-in-Some-parse_number-clause-none c = grind (arith, common_steps)
+
+pub returns-in_default-parse_number-clause-node : goal.returns-in_default-parse_number-clause-node
+returns-in_default-parse_number-clause-node c = grind (arith, common_steps)

@@ -1,4 +1,4 @@
-use Rattle.std.proofs.Common.{◌≡◌, ℕ, ◌+◌, ◌-◌, ◌*◌, List, [], ◌∷◌, ◌++◌, refl, ap, sym, ◌∙◌, append_assoc, arith, rules}
+use Rattle.std.proofs.Common.{◌≡◌, ℕ, ◌+◌, ◌*◌, List, [], ◌∷◌, ◌++◌, refl, ap, sym, ◌∙◌, append_assoc, arith, rules}
 use Rattle.std.specs.Prelude.{decimal}
 use Rattle.fast_lines.proofs.Digits.{first_digit, next_digit}
 use Rattle.fast_lines.proofs.numbers.more_digits.Goals as goal

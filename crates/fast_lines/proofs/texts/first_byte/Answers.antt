@@ -1,0 +1,12 @@
+use Rattle.std.proofs.lemmas.Grind.{common_steps}
+use Rattle.std.proofs.Common.{arith}
+use Rattle.fast_lines.proofs.texts.first_byte.Goals as goal
+
+pub returns-then-is_plain-clause-first : goal.returns-then-is_plain-clause-first
+returns-then-is_plain-clause-first c = grind (arith, common_steps)
+
+pub returns-then-first-eq92-clause-first : goal.returns-then-first-eq92-clause-first
+returns-then-first-eq92-clause-first c = grind (arith, common_steps)
+
+pub returns-then-first-eq92-clause-none : goal.returns-then-first-eq92-clause-none
+returns-then-first-eq92-clause-none c = grind (arith, common_steps)
