@@ -1,5 +1,6 @@
 -- A last flush that fails, behind a run that had a decoder.
 use Rattle.std.proofs.Common.{◌≡◌, ℕ, List, [], ◌++◌, Bool, true, Option, Some, None, Result, Ok, Err, ap, sym, subst, ◌∙◌, append-nil}
+use Rattle.std.proofs.lemmas.Bool.{false≢true}
 use Rattle.fast_value.specs.declared.settings.Limits.{Limits}
 use Rattle.fast_tree.specs.meaning.Tree.{Tree}
 use Rattle.fast_stream.specs.declared.faults.FaultCode.{FaultCode}
@@ -37,3 +38,7 @@ unflushed t l hex R AtEnd ReadsNoMore Failed HasFailed text out (Err (Text line 
 unflushed t l hex R AtEnd ReadsNoMore Failed HasFailed text out (Err (Encode message fault)) begun failed h = absurd h
 unflushed t l hex R AtEnd ReadsNoMore Failed HasFailed text out (Err (Make cause)) begun failed h = absurd (cc)
 unflushed t l hex R AtEnd ReadsNoMore Failed HasFailed text out (Err Memory) begun failed h = absurd (cc)
+
+-- A run that had a decoder does not say that there is none.
+pub had_begun : (r : Result ShowEnd RunFault) (cause : MakeError) → has_begun r ≡ true → r ≡ Err (Make cause) → ⊥
+had_begun r cause begun is = false≢true (sym (ap has_begun is) ∙ begun)

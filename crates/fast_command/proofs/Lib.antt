@@ -5,5 +5,6 @@ pub mod Lined
 pub mod Progressing
 pub mod Showing
 pub mod Flushed
+pub mod Outcomes
 pub mod Refused
 pub mod SetLines

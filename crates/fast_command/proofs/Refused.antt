@@ -8,9 +8,11 @@ use Rattle.fast_notation.specs.declared.codes.StaticFault.{StaticFault}
 use Rattle.fast_notation.specs.meaning.FivePasses.{IsAtFault}
 use Rattle.fast_notation.specs.meaning.Firsts.{IsFirstFault}
 use Rattle.fast_text.specs.meaning.Streams.{Reads}
+use Rattle.fast_command.specs.declared.faults.RunFault.{RunFault}
+use Rattle.fast_command.specs.declared.faults.RunFault.TheVariants.{Read, Write, BadHex, Templates as Refused, Make, Text, Encode, Memory}
 use Rattle.fast_command.specs.meaning.Report.{refused_by}
 use Rattle.fast_command.specs.device.Sets.{IsSetRefused}
-use Rattle.fast_command.specs.meaning.Texts.{text_limit}
+use Rattle.fast_command.specs.meaning.Texts.{text_limit, IsUnread}
 
 -- all of a text was read, and it is refused with a code
 pub refused_set : (left_old left_new : Option (List ℕ)) (HasFailed : Type 0) (text : List ℕ) (f : StaticFault) → Reads left_old left_new text → IsAtEnd left_new → length text ≤ text_limit
@@ -52,3 +54,14 @@ refused_set left_old left_new HasFailed text f read end short fault first C5 is 
 refused_set left_old left_new HasFailed text f read end short fault first C6 is =
     let other : f.code ≢ NoMemory = λ none. let clash : C6 ≡ NoMemory = sym is ∙ none in absurd (cc) in
     (text, read, end, short, inr (other, fault, first))
+
+-- The text was not read.
+pub refused_unread : (left_old left_new : Option (List ℕ)) (HasFailed : Type 0) (e : RunFault) → IsUnread text_limit left_old left_new HasFailed e → IsSetRefused left_old left_new HasFailed e
+refused_unread left_old left_new HasFailed Read h = h
+refused_unread left_old left_new HasFailed Write h = h
+refused_unread left_old left_new HasFailed (BadHex place) h = h
+refused_unread left_old left_new HasFailed (Refused f) h = absurd h
+refused_unread left_old left_new HasFailed (Make cause) h = h
+refused_unread left_old left_new HasFailed (Text line kind) h = h
+refused_unread left_old left_new HasFailed (Encode message fault) h = h
+refused_unread left_old left_new HasFailed Memory h = h

@@ -1,6 +1,6 @@
 -- What is kept behind what a target has.
 use borrow.Rule.Slice.PartMut.{put_mid}
-use Rattle.std.proofs.Common.{◌≡◌, ℕ, ◌+◌, ◌≤◌, List, [], ◌++◌, Option, Some, None, refl, ap, sym, ◌∙◌, append-nil, length, take, drop, arith}
+use Rattle.std.proofs.Common.{◌≡◌, ℕ, ◌+◌, ◌≤◌, List, [], ◌++◌, Option, Some, None, refl, ap, sym, ◌∙◌, append-nil, append_assoc, length, take, drop, arith}
 use Rattle.std.specs.Io.KnownBytes.{append_known}
 use Rattle.std.proofs.KnownBytes.{append_known-moved}
 use Rattle.std.proofs.lemmas.List.{take-append-drop, drop-drop, drop-append-le, length-take-le}
@@ -27,7 +27,21 @@ split_kept start count xs rest e = rw e (sym (take-append-drop count (drop start
 pub stored : (start a k count : ℕ) (xs ys : List ℕ) → start ≤ a → a ≤ length xs → count ≤ length ys → drop start (take (a + count) (put_mid a k xs ys)) ≡ drop start (take a xs) ++ take count ys
 stored start a k count xs ys order h few = ap (drop start) (kept_front a k count xs ys h few) ∙ drop-append-le start (take a xs) (take count ys) (omega (arith, order, length-take-le a xs h))
 
+-- a text behind what the target has and what is kept
+behind_kept : (a : Option (List ℕ)) (kept text : List ℕ) → Appends (append_known a kept) (append_known a (kept ++ text)) text
+behind_kept None kept text = record { after = tt }
+behind_kept (Some xs) kept text = record { after = sym (append_assoc xs kept text) }
+
+-- A text is kept behind what was kept.
+pub kept_more : {T : Type 0} (written : T → Option (List ℕ)) (old new : BlockWriter T) (text : List ℕ) → kept_of new ≡ kept_of old ++ text → target_of new ≡ target_of old → Appends (with_kept written old) (with_kept written new) text
+kept_more written old new text kept target = rw (kept, target) (behind_kept (written (target_of old)) (kept_of old) text)
+
 -- All was handed on, and the target took a text.
 pub passed_on : {T : Type 0} (written : T → Option (List ℕ)) (old mid new : BlockWriter T) (text : List ℕ) → Appends (with_kept written old) (with_kept written mid) [] → kept_of mid ≡ [] → kept_of new ≡ []
     → Appends (written (target_of mid)) (written (target_of new)) text → Appends (with_kept written old) (with_kept written new) text
 passed_on written old mid new text first none still second = appends_both (with_kept written old) (with_kept written mid) (with_kept written new) [] text first (rw (none, still, nothing_kept (written (target_of mid)), nothing_kept (written (target_of new))) second)
+
+-- All was handed on, the target took a text, and as much is kept as before: nothing.
+pub passed_through : {T : Type 0} (written : T → Option (List ℕ)) (old mid : BlockWriter T) (target : T) (text : List ℕ) → Appends (with_kept written old) (with_kept written mid) [] → kept_of mid ≡ []
+    → Appends (written (target_of mid)) (written target) text → Appends (with_kept written old) (append_known (written target) (kept_of mid)) text
+passed_through written old mid target text first none second = appends_both (with_kept written old) (with_kept written mid) (append_known (written target) (kept_of mid)) [] text first (rw (none, nothing_kept (written (target_of mid)), nothing_kept (written target)) second)

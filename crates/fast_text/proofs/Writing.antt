@@ -96,6 +96,38 @@ puts_failing p q text whole was_writing writing whole_is added failed begun had_
       ];
 }
 
+-- A front of a text is a front of the text with more behind it.
+front_of_more : (old new : Option (List ℕ)) (a b : List ℕ) → AppendsFront old new a → AppendsFront old new (a ++ b)
+front_of_more old new a b h = record { front = h.front; rest = h.rest ++ b; is = ap (λ (xs : List ℕ). xs ++ b) h.is ∙ append_assoc h.front h.rest b; added = h.added }
+
+-- The target has failed, and nothing more is written.
+puts_held_back : (p q : Point) (text : List ℕ) → p.is_writing ≡ false → q.is_writing ≡ false → q.written ≡ p.written → q.failed ≡ p.failed → Puts p text q
+puts_held_back p q text was_writing writing written failed begun had_failed before h = record {
+  how =
+      elim h.how [
+        | inl f ↦ absurd (apart (sym f.0 ∙ was_writing))
+        | inr f ↦ inr (writing, rw written (front_of_more begun p.written before text f.1), rw failed f.2)
+      ];
+}
+
+-- The text is kept behind what was kept, and nothing is written.
+puts_kept : (p q : Point) (text : List ℕ) → q.is_writing ≡ p.is_writing → q.written ≡ p.written → q.failed ≡ p.failed → q.kept ≡ p.kept ++ text → Puts p text q
+puts_kept p q text writing written failed kept begun had_failed before h = record {
+  how =
+      elim h.how [
+        | inl f ↦ inl (
+          writing ∙ f.0,
+          (
+            f.1.0,
+            ap (λ (xs : List ℕ). xs ++ text) f.1.1 ∙ append_assoc f.1.0 p.kept text ∙ ap (λ (xs : List ℕ). f.1.0 ++ xs) (sym kept),
+            rw written f.1.2,
+          ),
+          failed ∙ f.2,
+        )
+        | inr f ↦ inr (writing ∙ f.0, rw written (front_of_more begun p.written before text f.1), rw failed f.2)
+      ];
+}
+
 -- one text and then another
 pub writes_both : {T : Type 0} {written : T → Option (List ℕ)} {failed : T → Bool} {s t u : LineWriter T} {a b : List ℕ} → Writes written failed s a t → Writes written failed t b u → Writes written failed s (a ++ b) u
 writes_both {T} {written} {failed} {s} {t} {u} {a} {b} first second = record {
@@ -142,6 +174,40 @@ written_directly written failed s t text (Err x) empty emptied same_target same_
   same_target = same_target;
   same_room = same_room;
   puts = puts_failing (point_of written failed s) (point_of written failed t) text text writing (ap is_ok outcome) (ap (λ (xs : List ℕ). xs ++ text) (sym empty)) part fails;
+}
+
+-- What is kept is written, and no more is put.
+pub written_on : {T : Type 0} (written : T → Option (List ℕ)) (failed : T → Bool) (s t : LineWriter T) (target : T) (text : List ℕ) (r : Result (Unit {0}) Failed)
+    → text ≡ kept_in s.kept.now → kept_in t.kept.now ≡ [] → t.target.ghost_name ≡ s.target.ghost_name → t.kept.ghost_name ≡ s.kept.ghost_name → is_ok s.outcome ≡ true → t.target.now ≡ target → t.outcome ≡ r
+    → OnOk r (Appends (written s.target.now) (written target) text) → OnErr r (AppendsFront (written s.target.now) (written target) text)
+    → OnErr r (IsTrue (failed target)) → OnOk r (failed target ≡ failed s.target.now) → Writes written failed s [] t
+written_on written failed s t target text (Ok x) all emptied same_target same_room writing moved outcome added part fails stays = record {
+  same_target = same_target;
+  same_room = same_room;
+  puts = puts_written (point_of written failed s) (point_of written failed t) [] text writing (ap is_ok outcome) emptied (all ∙ sym (append-nil (kept_in s.kept.now))) (rw moved added) (ap failed moved ∙ stays);
+}
+written_on written failed s t target text (Err x) all emptied same_target same_room writing moved outcome added part fails stays = record {
+  same_target = same_target;
+  same_room = same_room;
+  puts = puts_failing (point_of written failed s) (point_of written failed t) [] text writing (ap is_ok outcome) (all ∙ sym (append-nil (kept_in s.kept.now))) (rw moved part) (rw moved fails);
+}
+
+-- The target has failed before, and a text is not written.
+pub held_back : {T : Type 0} (written : T → Option (List ℕ)) (failed : T → Bool) (s t : LineWriter T) (text : List ℕ)
+    → t.target.ghost_name ≡ s.target.ghost_name → t.kept.ghost_name ≡ s.kept.ghost_name → is_ok s.outcome ≡ false → t.target.now ≡ s.target.now → t.outcome ≡ s.outcome → Writes written failed s text t
+held_back written failed s t text same_target same_room stopped target outcome = record {
+  same_target = same_target;
+  same_room = same_room;
+  puts = puts_held_back (point_of written failed s) (point_of written failed t) text stopped (ap is_ok outcome ∙ stopped) (ap written target) (ap failed target);
+}
+
+-- A text is kept, and nothing is written.
+pub put_kept : {T : Type 0} (written : T → Option (List ℕ)) (failed : T → Bool) (s t : LineWriter T) (text : List ℕ)
+    → t.target.ghost_name ≡ s.target.ghost_name → t.kept.ghost_name ≡ s.kept.ghost_name → kept_in t.kept.now ≡ kept_in s.kept.now ++ text → t.target.now ≡ s.target.now → t.outcome ≡ s.outcome → Writes written failed s text t
+put_kept written failed s t text same_target same_room kept target outcome = record {
+  same_target = same_target;
+  same_room = same_room;
+  puts = puts_kept (point_of written failed s) (point_of written failed t) text (ap is_ok outcome) (ap written target) (ap failed target) kept;
 }
 
 -- What was kept is written, and nothing more is put.

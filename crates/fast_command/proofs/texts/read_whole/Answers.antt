@@ -1,5 +1,7 @@
 use Rattle.std.proofs.Common.{◌≡◌, ◌<◌, ◌++◌, ◌∙◌, refl, ap, inl, inr, length, take, rules, [], List, ℕ}
 use Rattle.fast_text.proofs.Writing.{reads_none, reads_both, reads_no_more}
+use Rattle.std.proofs.Common.{arith}
+use Rattle.std.proofs.lemmas.Grind.{common_steps}
 use Rattle.fast_command.proofs.texts.read_whole.Goals as goal
 
 pub loop-read-init : goal.loop-read-init
@@ -37,3 +39,18 @@ returns-then-len-limit-clause-told g c = inl refl
 
 pub returns-clause-told : goal.returns-clause-told
 returns-clause-told g c = inl refl
+
+pub returns-in_default-clause-unread : goal.returns-in_default-clause-unread
+returns-in_default-clause-unread g c = inl c.in_default.ensures.fails
+
+pub returns-then-count-eq0-clause-end : goal.returns-then-count-eq0-clause-end
+returns-then-count-eq0-clause-end g c = let room : 0 < length c.read.new.buf = omega (arith, c.read.auto.buf) in c.in-Ok.ensures.end c.if-count-eq0.true room
+
+pub returns-clause-unread : goal.returns-clause-unread
+returns-clause-unread g c = grind (arith, common_steps) steps 2000000
+
+pub overflow_step-read : goal.overflow_step-read
+overflow_step-read g c = omega arith
+
+pub loop-read-smaller : goal.loop-read-smaller
+loop-read-smaller g c = omega arith

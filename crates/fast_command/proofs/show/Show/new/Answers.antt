@@ -5,6 +5,7 @@ use Rattle.fast_template.specs.declared.sets.Templates.{Templates}
 use Rattle.fast_stream.specs.declared.faults.MakeError.{MakeError}
 use Rattle.fast_stream.specs.declared.faults.MakeError.TheVariants as Why
 use Rattle.fast_command.specs.meaning.Showing.{IsRefusal}
+use Rattle.fast_command.proofs.Outcomes.{no_err, same_err, of_tree}
 use Rattle.fast_command.proofs.show.Show.new.Goals as goal
 
 pub of-requires-clause-new : goal.of-requires-clause-new
@@ -17,16 +18,16 @@ pub returns-in-Ok-clause-made : goal.returns-in-Ok-clause-made
 returns-in-Ok-clause-made c = rw c.in-Ok.ensures.made.1 at (rw c.in-Ok.ensures.made.2 at (rw c.unhexer_of.ensures.there at c.of.ensures.made))
 
 pub returns-in-Ok-clause-bad_limits : goal.returns-in-Ok-clause-bad_limits
-returns-in-Ok-clause-bad_limits c = λ bad. let e = c.in-Ok.ensures.bad_limits.1 bad in absurd (cc)
+returns-in-Ok-clause-bad_limits c = λ bad. absurd (no_err (c.in-Ok.ensures.bad_limits.1 bad))
 
 pub returns-in-Ok-clause-long_initial : goal.returns-in-Ok-clause-long_initial
-returns-in-Ok-clause-long_initial c = λ bad. let e = c.in-Ok.ensures.long_initial.1 bad in absurd (cc)
+returns-in-Ok-clause-long_initial c = λ bad. absurd (no_err (c.in-Ok.ensures.long_initial.1 bad))
 
 pub returns-in-Err-clause-bad_limits : goal.returns-in-Err-clause-bad_limits
-returns-in-Err-clause-bad_limits c = λ bad. let e = c.in-Err.ensures.bad_limits.1 bad in cc
+returns-in-Err-clause-bad_limits c = λ bad. ap (λ (e : MakeError). Err e) (same_err (c.in-Err.ensures.bad_limits.1 bad))
 
 pub returns-in-Err-clause-long_initial : goal.returns-in-Err-clause-long_initial
-returns-in-Err-clause-long_initial c = λ bad. let e = c.in-Err.ensures.long_initial.1 bad in cc
+returns-in-Err-clause-long_initial c = λ bad. ap (λ (e : MakeError). Err e) (same_err (c.in-Err.ensures.long_initial.1 bad))
 
 -- no memory is a cause
 only_memory : {A : Type 0} (P : MakeError → Type 0) (r : Result A MakeError) → IfErr r (λ (e : MakeError). e ≡ Why.Memory) → IfErr r (λ (e : MakeError). (e ≡ Why.Memory) ⊎ P e)
@@ -44,3 +45,6 @@ returns-in-Ok-clause-refused c = only_memory (IsRefusal c.args.templates.now c.a
 
 pub returns-in-Err-clause-refused : goal.returns-in-Err-clause-refused
 returns-in-Err-clause-refused c = refused_for c.args.templates.now c.args.limits c.in-Err.error (λ is. c.in-Err.ensures.bad_limits.0 (ap (λ (e : MakeError). Err e) is)) (λ is. c.in-Err.ensures.long_initial.0 (ap (λ (e : MakeError). Err e) is))
+
+pub of-requires-clause-set : goal.of-requires-clause-set
+of-requires-clause-set c = of_tree c.new-in-Ok.result c.args.templates.now _ c.new-in-Ok.ensures c.in-Ok.ensures.made.1
