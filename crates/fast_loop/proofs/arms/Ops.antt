@@ -1,12 +1,40 @@
 -- The op at a place.
-use Rattle.std.proofs.Common.{refl, sym, ◌∙◌, inl, inr}
-use Rattle.std.specs.Prelude.{◌≡◌, ◌≢◌, ◌⊎◌, ℕ, zero, suc, ◌<◌, ◌≤◌, false, List, [], ◌∷◌, length, drop, slice_get, get_or, Some, None}
+use Rattle.std.proofs.Common.{refl, sym, ap, ◌∙◌, inl, inr}
+use Rattle.std.specs.Prelude.{◌≡◌, ◌≢◌, ◌⊎◌, ℕ, zero, suc, ◌<◌, ◌≤◌, Bool, true, false, List, [], ◌∷◌, length, drop, slice_get, get_or, Some, None}
 use Rattle.std.proofs.lemmas.Option.{slice_get_cases}
 use Rattle.fast_tree.specs.declared.instructions.Node.{Node}
 use Rattle.fast_program.specs.declared.codes.Code.{Code}
 use Rattle.fast_program.specs.declared.ops.Op.{Op}
 use Rattle.fast_program.specs.declared.codes.Code.TheVariants.{General, End, UInt32Plain, UInt32NullablePlain, UInt32Default, UInt32NullableDefault, UInt32Copy, UInt32NullableCopy, UInt32Increment, UInt32NullableIncrement, UInt32Delta, UInt32NullableDelta, Int32Plain, Int32NullablePlain, Int32Default, Int32NullableDefault, Int32Copy, Int32NullableCopy, Int32Increment, Int32NullableIncrement, Int32Delta, Int32NullableDelta, UInt64Plain, UInt64NullablePlain, UInt64Default, UInt64NullableDefault, UInt64Copy, UInt64NullableCopy, UInt64Increment, UInt64NullableIncrement, UInt64Delta, UInt64NullableDelta, Int64Plain, Int64NullablePlain, Int64Default, Int64NullableDefault, Int64Copy, Int64NullableCopy, Int64Increment, Int64NullableIncrement, Int64Delta, Int64NullableDelta, Constant, DecimalPlain, DecimalNullablePlain, DecimalCopy, DecimalNullableCopy, DecimalDelta, DecimalNullableDelta, AsciiPlain, AsciiNullablePlain, AsciiDefault, AsciiNullableDefault, AsciiCopy, AsciiNullableCopy, AsciiTail, AsciiNullableTail, AsciiDelta, AsciiNullableDelta, UnicodePlain, UnicodeNullablePlain, UnicodeDelta, UnicodeNullableDelta, BytesPlain, BytesNullablePlain, BytesTail, BytesNullableTail, Parts, PartsDefault, PartsNullableDefault, PartsCopy, PartsNullableCopy, Group, OptionalGroup, Sequence, OptionalSequence}
+use Rattle.fast_tree.specs.declared.instructions.Shape.{Shape}
+use Rattle.fast_tree.specs.declared.operators.Operator.{Operator}
 use Rattle.fast_program.specs.device.Runs.{is_end}
+use Rattle.fast_program.specs.device.Ops.{IsOpOf}
+use Rattle.fast_program.specs.device.Codes.{says, IsClaimed}
+use Rattle.fast_program.proofs.Claims.{claimed}
+
+apart : true ≡ false → ⊥
+apart e = absurd (cc e)
+
+-- What an op at hand tells that is no end, under the code that the loop has of it.
+pub at_code : {A : Type 0} {code : Code} (op : Op) (k : Code) → is_end k ≡ false → code ≡ op.code → code ≡ k → (op.code ≢ End → A) → A
+at_code op k goes_on here is told = told (λ e. apart (sym (ap is_end e) ∙ ap is_end (sym here ∙ is) ∙ goes_on))
+
+-- What the code says of the node's shape.
+pub shape_at : {code : Code} (op : Op) (shape : Shape) (k : Code) → is_end k ≡ false → code ≡ op.code → code ≡ k → (op.code ≢ End → IsOpOf op op.node shape) → IsClaimed (says k) op.entry shape
+shape_at op shape k goes_on here is told = claimed op op.node shape k (at_code op k goes_on here is told) (sym here ∙ is)
+
+-- The operators of fields under no delta that are no constants.
+abbrev takes_field : Operator → Bool
+takes_field Operator.Constant = false
+takes_field Operator.Delta = false
+takes_field operator = true
+
+pub no_delta : (operator : Operator) → takes_field operator ≡ true → operator ≢ Operator.Delta
+no_delta operator takes e = apart (sym takes ∙ ap takes_field e)
+
+pub no_constant : (operator : Operator) → takes_field operator ≡ true → operator ≢ Operator.Constant
+no_constant operator takes e = apart (sym takes ∙ ap takes_field e)
 
 -- A code that is not the end's.
 pub not_end : (code : Code) → code ≢ End → is_end code ≡ false
