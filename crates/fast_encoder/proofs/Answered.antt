@@ -1,6 +1,7 @@
 -- What is told of a message is what stands, and nothing else.
 use Rattle.std.proofs.Common.{◌≡◌, ◌⊎◌, inl, inr, ap, sym, subst, ℕ}
-use Rattle.std.specs.Prelude.{slice_get, Some, Result, Err}
+use Rattle.std.specs.Prelude.{slice_get, Some, Result, Err, true, false, IsTrue}
+use Rattle.std.specs.Bool.{IsFalse}
 use Rattle.fast_value.specs.declared.settings.Limits.{Limits}
 use Rattle.fast_value.specs.meaning.Messages.{MessageData}
 use Rattle.fast_tree.specs.declared.instructions.Template.{Template}
@@ -42,3 +43,10 @@ unsuited t l d m id v found known never = (known_so (tree_of t) m id known, λ s
 -- They do, and are too long or too many.
 pub unfit : (t : Templates) (l : Limits) (d : Dictionary) (m : MessageData) (id : ℕ) (v : Template) → slice_get (templates_of t) m.template ≡ Some v → IsKnownAs (tree_of t) m id → SuitsBody (body_among (nodes_of t) v.body.items) m.slots → ¬ (FitsLimits l m.slots) → IsRefused (tree_of t) l d m E4
 unfit t l d m id v found known suits never = (known_so (tree_of t) m id known, template_suits t m v found suits, never)
+
+-- An answer is not both.
+pub never_true : {A : Type 0} → IsTrue false → A
+never_true e = absurd (cc e)
+
+pub never_false : {A : Type 0} → IsFalse true → A
+never_false e = absurd (cc e)

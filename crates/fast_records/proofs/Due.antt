@@ -197,6 +197,15 @@ absent_slot i b m rest from never (present x vs) is =
 pub pass_none : (nodes : List Node) (n : ℕ) (from : List EventData) → Never (instruction_in nodes n) from → Passes nodes n from from
 pass_none nodes n from never ns stop rest below due = absent_slot (instruction_in nodes n) (body_among nodes ns) (mark_event stop) rest from never due.0 due.1
 
+-- Where no event is, there is none.
+no_event : (e : EventData) (tail : List EventData) → [] ≡ e ∷ tail → ⊥
+no_event e tail is = cc is
+
+pub never_at_end : (i : Instruction) (from : List EventData) → from ≡ [] → Never i from
+never_at_end i from none x more h is =
+    let (e, tail, events_are, names) = first_of_item i x h in
+    no_event e (tail ++ more) (sym none ∙ is ∙ ap (λ (z : List EventData). z ++ more) events_are)
+
 -- Where one is, the others are behind it.
 pub pass_some : (nodes : List Node) (n : ℕ) (x : ItemData) (from to : List EventData) → n < length nodes → IsThere (instruction_in nodes n) x → from ≡ item_events (instruction_in nodes n) x ++ to → Passes nodes n from to
 pass_some nodes n x from to inside h is ns stop rest below due =

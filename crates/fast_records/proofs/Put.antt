@@ -1,9 +1,9 @@
 -- One slot more, one element more, and a whole message, by the events that say them.
-use Rattle.std.proofs.Common.{◌≡◌, ℕ, ◌+◌, ◌<◌, ◌≤◌, List, [], ◌∷◌, ◌++◌, length, drop, refl, ap, sym, subst, ◌∙◌, append_assoc, append-nil, arith}
+use Rattle.std.proofs.Common.{◌≡◌, ℕ, ◌+◌, ◌<◌, ◌≤◌, List, [], ◌∷◌, ◌++◌, length, map, drop, refl, ap, sym, subst, ◌∙◌, append_assoc, append-nil, arith}
 use Rattle.std.specs.Prelude.{Bool, Option, Some, None, option_map, slice_get, slice_index}
 use Rattle.std.specs.declared.vec.Vec.{Vec}
 use Rattle.std.specs.declared.alloc.Global.{Global}
-use Rattle.std.proofs.lemmas.List.{length-append}
+use Rattle.std.proofs.lemmas.List.{length-append, length-map}
 use Rattle.fast_value.specs.declared.messages.Item.{Item}
 use Rattle.fast_value.specs.meaning.Kinds.{ScalarData}
 use Rattle.fast_value.specs.meaning.Messages.{ItemData, one as one_item, group as group_item, sequence as sequence_item, Slots, no_slots, absent, present, Elements, count, MessageData}
@@ -13,6 +13,8 @@ use Rattle.fast_tree.specs.declared.instructions.Node.{Node}
 use Rattle.fast_tree.specs.device.Bodies.{body_among}
 use Rattle.fast_tree.specs.meaning.Tree.{Label, FieldData, Instruction, field, parts, group, sequence, Body, end, step, TemplateData, Tree}
 use Rattle.fast_stream.specs.meaning.Events.{EventData, MessageStart, FieldValue, GroupStart, GroupEnd, SequenceStart, ElementStart, ElementEnd, SequenceEnd, MessageEnd, element_events, item_events, body_events, template_events, events}
+use Rattle.fast_stream.specs.declared.events.Event.{Event}
+use Rattle.fast_stream.specs.meaning.Handed.{event_data}
 use Rattle.fast_stream.specs.meaning.Messages.{with_slot}
 use Rattle.fast_spelling.specs.device.Nodes.{instruction_in}
 use Rattle.fast_spelling.proofs.encodings.Progress.{body_next, body_last}
@@ -59,8 +61,31 @@ module _ (nodes : List Node) (body : List ℕ) (i n : ℕ) (inside : i < length 
 pub shorter : (taken a b : List EventData) → a ≡ taken ++ b → length b ≤ length a
 shorter taken a b is = let long = ap length is ∙ length-append taken b in omega (arith, long)
 
-pub rows_left : (body : Body) (n : ℕ) (rs : List (Vec (Option Item) Global)) (c a : List EventData) → ArePutTo body n rs c a → length a ≤ length c
-rows_left body n rs c a r = shorter (element_events (body_events body) (elements_data rs)) c a r.said
+-- Where no slot is put yet.
+pub slots_start : (whole : Body) (c : List EventData) → IsPutTo whole [] whole c c
+slots_start whole c = record { taken = []; said = refl; says = λ vs. refl }
+
+-- So of the events as they are handed.
+pub put_shorter : (whole rest : Body) (xs : List (Option Item)) (from to : List Event) → IsPutTo whole xs rest (map event_data from) (map event_data to) → length to ≤ length from
+put_shorter whole rest xs from to r =
+    let less = shorter r.taken (map event_data from) (map event_data to) r.said in
+    let a = length-map from event_data in
+    let b = length-map to event_data in
+    omega (arith, less, a, b)
+
+pub next_shorter : (e : EventData) (from to : List Event) → map event_data from ≡ e ∷ map event_data to → length from ≡ 1 + length to
+next_shorter e from to is =
+    let long = ap length is in
+    let a = length-map from event_data in
+    let b = length-map to event_data in
+    omega (arith, long, a, b)
+
+pub rows_shorter : (body : Body) (n : ℕ) (rs : List (Vec (Option Item) Global)) (from to : List Event) → ArePutTo body n rs (map event_data from) (map event_data to) → length to ≤ length from
+rows_shorter body n rs from to r =
+    let less = shorter (element_events (body_events body) (elements_data rs)) (map event_data from) (map event_data to) r.said in
+    let a = length-map from event_data in
+    let b = length-map to event_data in
+    omega (arith, less, a, b)
 
 body_done : (whole : Body) (xs : List (Option Item)) (mark : Mark) (c a b : List EventData) → IsPutTo whole xs end c a → a ≡ mark_event mark ∷ b → IsBodyPut whole mark (slots_data xs) c b
 unfolding body_events

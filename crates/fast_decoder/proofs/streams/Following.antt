@@ -1,6 +1,6 @@
 -- From what leads to a decoder to what the stream says of the bytes that were fed.
 use Rattle.std.proofs.Common.{◌≡◌, ℕ, ◌+◌, ◌*◌, ◌≤◌, ◌<◌, List, [], ◌∷◌, ◌++◌, length, take, drop, get_or, refl, sym, ap, ◌∙◌, subst, arith, append_assoc, append-nil, length-append}
-use Rattle.std.specs.Prelude.{Option, Some, None, Result, Ok, Err}
+use Rattle.std.specs.Prelude.{Option, Some, None, IsSome, IfSome, Result, Ok, Err}
 use Rattle.std.specs.Borrow.{Bor}
 use Rattle.std.proofs.lemmas.List.{length-take-le, take_more, drop_more}
 use Rattle.std.proofs.lemmas.Grind.{flat_map-append}
@@ -16,7 +16,7 @@ use Rattle.fast_stream.specs.meaning.Sinks.{Takes}
 use Rattle.fast_stream.specs.meaning.Streams.{End, between, inside, faulted, Stream}
 use Rattle.fast_stream.specs.meaning.Account.{Account, account_at, TellsStream, held}
 use Rattle.fast_decoder.specs.meaning.Decoding.{DecoderData, tree, IsFaultAt, IsAt, HasRead, account, stored, answer, Carries, SinkEnds, IsRefused, CarriesAt}
-use Rattle.fast_decoder.specs.meaning.Feeding.{ConsumesAtMost, all_bytes, Follows, StopsShort, Overflows, FollowedAt, Followed}
+use Rattle.fast_decoder.specs.meaning.Feeding.{ConsumesAtMost, IsAtPlace, all_bytes, Follows, StopsShort, Overflows, FollowedAt, Followed}
 use Rattle.fast_stream.proofs.streams.Bound.{stream-bound}
 use Rattle.fast_stream.proofs.streams.Reading.{faults-stay}
 use Rattle.fast_decoder.proofs.streams.Bounds.{read-events}
@@ -219,6 +219,21 @@ told_fault (Some g) f e = let same : f ≡ g = cc e in ap (λ (h : Fault). Some 
 told_none : (o : Option Fault) (u : Unit {0}) → Ok u ≡ answer o → o ≡ None
 told_none None u e = refl
 told_none (Some g) u e = absurd (cc e)
+
+-- So where there is no fault.
+pub no_fault : {A : Type 0} (o : Option Fault) → o ≡ None → IsSome o → A
+no_fault None e some = absurd (cc some)
+no_fault (Some f) e some = absurd (cc e)
+
+pub no_fault_and_one : {A : Type 0} (o : Option Fault) (f : Fault) → o ≡ None → o ≡ Some f → A
+no_fault_and_one None f e some = absurd (cc some)
+no_fault_and_one (Some g) f e some = absurd (cc e)
+
+pub none_at_place : (d : DecoderData) → d.fault ≡ None → IsAtPlace d
+none_at_place d e = subst (λ (o : Option Fault). IfSome o (λ f. d.consumed ≡ f.place)) (sym e) tt
+
+pub consumed_none : (old new : DecoderData) (n : ℕ) → ConsumesAtMost 0 old new → ConsumesAtMost n old new
+consumed_none old new n h = let low = h.0 in let high = h.1 in (low, omega (arith, high))
 
 -- What calls consumed, one after the other.
 pub consumed_both : (old d new : DecoderData) (front piece : List ℕ) → ConsumesAtMost (length front) old d → ConsumesAtMost (length piece) d new → ConsumesAtMost (length (front ++ piece)) old new

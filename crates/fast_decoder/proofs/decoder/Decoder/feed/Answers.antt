@@ -1,5 +1,5 @@
-use Rattle.std.proofs.Common.{rules, ◌≡◌, ℕ, ◌+◌, ap, ◌∙◌, sym, subst, refl, arith}
-use Rattle.std.specs.Prelude.{List, Ok, Err, Some, Result, IsOk, OnOk, take, length, None, Option, IsSome}
+use Rattle.std.proofs.Common.{rules, ◌≡◌, ℕ, ◌+◌, ap, ◌∙◌, sym, subst, refl, arith, ◌≤◌}
+use Rattle.std.specs.Prelude.{List, Ok, Err, Some, Result, IsOk, OnOk, take, length, None}
 use Rattle.std.proofs.lemmas.List.{take_all}
 use Rattle.fast_stream.specs.declared.faults.FaultCode.{FaultCode}
 use Rattle.fast_stream.specs.declared.faults.FaultCode.TheVariants as Why
@@ -7,13 +7,12 @@ use Rattle.fast_machine.specs.declared.machine.Machine.{Machine}
 use Rattle.fast_machine.specs.device.Handing.{TookEvents, Fed, waiting_at}
 use Rattle.fast_machine.specs.device.Positions.{set_of, tree_in, meaning, IsSupplied, IsReady}
 use Rattle.fast_machine.specs.device.TurnsLeft.{IsWithinMessage}
-use Rattle.fast_decoder.specs.meaning.Decoding.{DecoderData, tree, HasRead, IsRefused, CarriesAt}
+use Rattle.fast_decoder.specs.meaning.Decoding.{answer, DecoderData, tree, HasRead, IsRefused, CarriesAt}
 use Rattle.fast_decoder.proofs.streams.Carrying.{bytes_of, fed_data, carry_ok, carry_stopped, carry_failed}
 use Rattle.fast_machine.proofs.steps.Recounted.{meaning-turns, supplied-turns}
-use Rattle.fast_decoder.proofs.streams.Following.{carries_follow, fault_follows, failed_follows}
-use Rattle.fast_decoder.proofs.streams.Paying.{feed_paid, all_within, feed_turns, sound_on}
+use Rattle.fast_decoder.proofs.streams.Following.{no_fault, no_fault_and_one, carries_follow, fault_follows, failed_follows}
+use Rattle.fast_decoder.proofs.streams.Paying.{ready_begun, placed, none_placed, same_stopped, past_count, within_count, no_l4, feed_paid, all_within, feed_turns, sound_on}
 use Rattle.fast_decoder.proofs.streams.Bounds.{stored-bound}
-use Rattle.fast_stream.specs.declared.faults.Fault.{Fault}
 use Rattle.fast_decoder.proofs.decoder.Decoder.feed.Goals as goal
 
 pub returns-in-Some-clause-carried : goal.returns-in-Some-clause-carried
@@ -88,7 +87,7 @@ returns-in-Some-clause-followed g c = λ w es so.
 pub returns-then-piece-self-clause-followed : goal.returns-then-piece-self-clause-followed
 returns-then-piece-self-clause-followed g c = λ w es so.
     let inside : DecoderData = record { set = set_of c.self.inside.templates.now; limits = c.self.inside.limits; machine = c.self.inside.machine; consumed = c.self.inside.consumed; fault = c.self.inside.fault } in
-    let refused : IsRefused inside c.args.piece.now c.args.sink.now c.self.inside.consumed c.args.sink.now = search rules in
+    let refused : IsRefused inside c.args.piece.now c.args.sink.now c.self.inside.consumed c.args.sink.now = record { many = past_count c.self.inside.consumed c.self.inside.consumed (length c.args.piece.now) refl c.if-piece-self.true; place_is = refl; same = refl } in
     fault_follows g.S.Sink.takes g.S.Sink.stops c.args.self.now (record inside { machine = c.begin_turns.new.self; fault = Some (record { code = Why.L4; place = c.self.inside.consumed }) }) Why.L4 w es c.args.piece.now c.args.sink.now c.self.inside.consumed c.args.sink.now so
     (ap (λ (d : DecoderData). d.fault) (sym c.self.view_is) ∙ c.in_default.is) refl (ap (λ (d : DecoderData). tree d) c.self.view_is) (ap (λ (d : DecoderData). d.limits) c.self.view_is)
     (subst (λ (d : DecoderData). IsRefused d c.args.piece.now c.args.sink.now c.self.inside.consumed c.args.sink.now) c.self.view_is refused)
@@ -158,20 +157,73 @@ returns-in-Err-clause-same_set g c = (ap (λ (d : DecoderData). tree d) c.self.v
 pub returns-then-piece-self-clause-stopped : goal.returns-then-piece-self-clause-stopped
 returns-then-piece-self-clause-stopped g c some =
     let none : c.args.self.now.fault ≡ None = ap (λ (d : DecoderData). d.fault) (sym c.self.view_is) ∙ c.in_default.is in
-    absurd (let k = subst (λ (f : Option Fault). IsSome f) none some in cc k)
+    no_fault c.args.self.now.fault none some
 
 pub returns-in-Ok-clause-stopped : goal.returns-in-Ok-clause-stopped
 returns-in-Ok-clause-stopped g c some =
     let none : c.args.self.now.fault ≡ None = ap (λ (d : DecoderData). d.fault) (sym c.self.view_is) ∙ c.in_default.is in
-    absurd (let k = subst (λ (f : Option Fault). IsSome f) none some in cc k)
+    no_fault c.args.self.now.fault none some
 
 pub returns-in-Err-clause-stopped : goal.returns-in-Err-clause-stopped
 returns-in-Err-clause-stopped g c some =
     let none : c.args.self.now.fault ≡ None = ap (λ (d : DecoderData). d.fault) (sym c.self.view_is) ∙ c.in_default.is in
-    absurd (let k = subst (λ (f : Option Fault). IsSome f) none some in cc k)
+    no_fault c.args.self.now.fault none some
 
 pub returns-then-piece-self-clause-answer : goal.returns-then-piece-self-clause-answer
 returns-then-piece-self-clause-answer g c = refl
 
 pub returns-in-Err-clause-answer : goal.returns-in-Err-clause-answer
 returns-in-Err-clause-answer g c = refl
+
+pub begin_turns-requires : goal.begin_turns-requires
+begin_turns-requires g c = tt
+
+pub returns-in-Some-clause-answer : goal.returns-in-Some-clause-answer
+returns-in-Some-clause-answer g c = ap answer (sym c.in-Some.is)
+
+pub returns-then-piece-self-clause-at_place : goal.returns-then-piece-self-clause-at_place
+returns-then-piece-self-clause-at_place g c = refl
+
+pub returns-in-Err-clause-at_place : goal.returns-in-Err-clause-at_place
+returns-in-Err-clause-at_place g c = refl
+
+pub returns-in-Ok-clause-answer : goal.returns-in-Ok-clause-answer
+returns-in-Ok-clause-answer g c = ap answer (sym c.in_default.is)
+
+pub returns-in-Some-clause-counted : goal.returns-in-Some-clause-counted
+returns-in-Some-clause-counted g c none = no_fault_and_one c.args.self.now.fault c.in-Some.fault none (ap (λ (d : DecoderData). d.fault) (sym c.self.view_is) ∙ c.in-Some.is)
+
+pub returns-then-piece-self-clause-carried : goal.returns-then-piece-self-clause-carried
+returns-then-piece-self-clause-carried g c w es so =
+    let same = ap (λ (d : DecoderData). d.consumed) c.self.view_is in
+    record { many = past_count c.self.inside.consumed c.args.self.now.consumed (length c.args.piece.now) same c.if-piece-self.true; place_is = same; same = refl }
+
+pub returns-then-piece-self-clause-counted : goal.returns-then-piece-self-clause-counted
+returns-then-piece-self-clause-counted g c none = (λ e. past_count c.self.inside.consumed c.args.self.now.consumed (length c.args.piece.now) (ap (λ (d : DecoderData). d.consumed) c.self.view_is) c.if-piece-self.true, λ h. refl)
+
+pub returns-in-Some-clause-stopped : goal.returns-in-Some-clause-stopped
+returns-in-Some-clause-stopped g c some =
+    let inside : DecoderData = record { set = set_of c.self.inside.templates.now; limits = c.self.inside.limits; machine = c.self.inside.machine; consumed = c.self.inside.consumed; fault = c.self.inside.fault } in
+    (same_stopped inside c.args.self.now c.begin_turns.new.self c.in-Some.fault c.in-Some.is c.self.view_is, refl)
+
+pub returns-in-Some-clause-at_place : goal.returns-in-Some-clause-at_place
+returns-in-Some-clause-at_place g c = placed c.self.inside.fault (set_of c.self.inside.templates.now) c.self.inside.limits c.self.inside.machine c.self.inside.consumed c.self.invariant.at
+
+pub returns-in-Ok-clause-at_place : goal.returns-in-Ok-clause-at_place
+returns-in-Ok-clause-at_place g c = none_placed c.self.inside.fault (c.self.inside.consumed + c.take_all-taken.result.bytes) c.in_default.is
+
+pub returns-in-Err-clause-counted : goal.returns-in-Err-clause-counted
+returns-in-Err-clause-counted g c none =
+    let inside : DecoderData = record { set = set_of c.self.inside.templates.now; limits = c.self.inside.limits; machine = c.self.inside.machine; consumed = c.self.inside.consumed; fault = c.self.inside.fault } in
+    let small : c.self.inside.consumed ≤ 18446744073709551615 = search rules in (
+      λ e. no_l4 g.S.Sink.takes g.S.Sink.stops (tree_in inside.set) inside.limits (waiting_at (meaning inside.set inside.limits c.begin_turns.new.self)) (waiting_at (meaning inside.set inside.limits c.take_all-taken.new.machine)) (take c.take_all-taken.result.bytes c.args.piece.now) c.args.sink.now c.take_all-taken.new.sink c.take_all-taken.result.outcome c.in-Err.code c.in-Err.is c.take_all-taken.ensures.fed e,
+      λ many. within_count c.self.inside.consumed c.args.self.now.consumed (length c.args.piece.now) (ap (λ (d : DecoderData). d.consumed) c.self.view_is) small c.if-piece-self.false many,
+    )
+
+pub take_all-taken-requires : goal.take_all-taken-requires
+take_all-taken-requires g c = record { ready = ready_begun c.self.inside.fault (set_of c.self.inside.templates.now) c.self.inside.limits c.self.inside.machine c.begin_turns.new.self c.self.inside.consumed c.in_default.is c.begin_turns.ensures.same c.self.invariant.at }
+
+pub returns-in-Ok-clause-counted : goal.returns-in-Ok-clause-counted
+returns-in-Ok-clause-counted g c none =
+    let small : c.self.inside.consumed ≤ 18446744073709551615 = search rules in
+    (λ e. absurd e, λ many. within_count c.self.inside.consumed c.args.self.now.consumed (length c.args.piece.now) (ap (λ (d : DecoderData). d.consumed) c.self.view_is) small c.if-piece-self.false many)

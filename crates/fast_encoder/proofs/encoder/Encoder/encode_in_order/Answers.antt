@@ -1,5 +1,5 @@
 -- A message is refused as the rules say, or its bytes are appended.
-use Rattle.std.proofs.Common.{◌≡◌, inr, ℕ, List, ◌++◌, ap, sym, subst, ◌∙◌, refl}
+use Rattle.std.proofs.Common.{◌≡◌, inl, inr, ℕ, List, ◌++◌, ap, sym, subst, ◌∙◌, refl}
 use Rattle.std.specs.Prelude.{Bool, true, false, if◌then◌else◌, Option}
 use Rattle.fast_value.specs.declared.messages.Item.{Item}
 use Rattle.fast_value.specs.declared.settings.Limits.{Limits}
@@ -9,7 +9,7 @@ use Rattle.fast_template.specs.declared.sets.Templates.{Templates}
 use Rattle.fast_template.specs.meaning.Flat.{nodes_of, tree_of}
 use Rattle.fast_template.proofs.SetTrees.{distinct_ids}
 use Rattle.fast_machine.specs.device.Positions.{set_of}
-use Rattle.fast_spelling.specs.declared.faults.EncodeFault.TheVariants.{E2, E4}
+use Rattle.fast_spelling.specs.declared.faults.EncodeFault.TheVariants.{E1, E2, E4}
 use Rattle.fast_spelling.specs.meaning.Encoding.{EncodesMessage}
 use Rattle.fast_spelling.specs.meaning.Ledgers.{LedgerData}
 use Rattle.fast_spelling.specs.meaning.Refusals.{IsRefused}
@@ -19,6 +19,7 @@ use Rattle.fast_spelling.proofs.encodings.Excluded.{refused_is_not_encoded}
 use Rattle.fast_spelling.proofs.encodings.Whole.{template_suits}
 use Rattle.fast_encoder.specs.meaning.Encoders.{EncoderData, IsEncoded, IsToldOf, tree}
 use Rattle.fast_encoder.proofs.Answered.{known_so, told_alone, late_refused, unsuited, unfit}
+use mathlib.Core.List.{not-mem-nil}
 use Rattle.fast_encoder.proofs.encoder.Encoder.encode_in_order.Goals as goal
 
 -- The encoder as it was, by what is in it.
@@ -105,3 +106,106 @@ returns-clause-told c = λ f h.
     let refused : IsRefused (tree_of c.self.inside.plan.templates.now) c.self.inside.plan.limits c.self.inside.work.ledger.now (message_data c.args.message.now) f
     = subst (λ (e : EncoderData). IsRefused (tree e) e.limits e.dictionary (message_data c.args.message.now) f) (sym c.self.view_is) h in
     absurd (refused_is_not_encoded (tree_of c.self.inside.plan.templates.now) c.self.inside.plan.limits c.self.inside.work.ledger.now c.commit.new.self.now (message_data c.args.message.now) c.write_message-written.new.draft.bytes.items f (all_suit c) (all_fit c) (ruled c) refused)
+
+pub known-requires : goal.known-requires
+known-requires c = tt
+
+pub returns-in_default-clause-ok : goal.returns-in_default-clause-ok
+returns-in_default-clause-ok c = tt
+
+pub deref-requires : goal.deref-requires
+deref-requires c κs = (λ a m. absurd (not-mem-nil m), λ a m. absurd (not-mem-nil m))
+
+pub deref-requires-2 : goal.deref-requires-2
+deref-requires-2 c κs = (λ a m. absurd (not-mem-nil m), λ a m. absurd (not-mem-nil m))
+
+pub returns-then-not-suits_body-clause-ok : goal.returns-then-not-suits_body-clause-ok
+returns-then-not-suits_body-clause-ok c = tt
+
+pub deref-requires-3 : goal.deref-requires-3
+deref-requires-3 c κs = (λ a m. absurd (not-mem-nil m), λ a m. absurd (not-mem-nil m))
+
+pub fits_limits-requires : goal.fits_limits-requires
+fits_limits-requires c = tt
+
+pub returns-then-not-fits_limits-clause-ok : goal.returns-then-not-fits_limits-clause-ok
+returns-then-not-fits_limits-clause-ok c = tt
+
+pub take_back-requires : goal.take_back-requires
+take_back-requires c = tt
+
+pub returns-in-Err-clause-ok : goal.returns-in-Err-clause-ok
+returns-in-Err-clause-ok c = tt
+
+pub deref-requires-4 : goal.deref-requires-4
+deref-requires-4 c κs = (λ a m. absurd (not-mem-nil m), λ a m. absurd (not-mem-nil m))
+
+pub extend_from_slice-requires : goal.extend_from_slice-requires
+extend_from_slice-requires c κs = (λ a m. absurd (not-mem-nil m), λ a m. absurd (not-mem-nil m))
+
+pub is_err-requires : goal.is_err-requires
+is_err-requires c κs = (λ a m. absurd (not-mem-nil m), λ a m. absurd (not-mem-nil m))
+
+pub take_back-requires-then-is_err : goal.take_back-requires-then-is_err
+take_back-requires-then-is_err c = tt
+
+pub returns-then-is_err-clause-ok : goal.returns-then-is_err-clause-ok
+returns-then-is_err-clause-ok c = tt
+
+pub commit-requires : goal.commit-requires
+commit-requires c = tt
+
+pub returns-clause-err : goal.returns-clause-err
+returns-clause-err c = tt
+
+pub returns-clause-unchanged : goal.returns-clause-unchanged
+returns-clause-unchanged c = tt
+
+pub returns-in_default-clause-err : goal.returns-in_default-clause-err
+returns-in_default-clause-err c = subst (λ (e : EncoderData). IsToldOf e (message_data c.args.message.now) E1) c.self.view_is (inr c.in_default.ensures.unknown)
+
+pub returns-in_default-clause-told : goal.returns-in_default-clause-told
+returns-in_default-clause-told c = λ f h.
+    told_alone (tree c.args.self.now) c.args.self.now.limits c.args.self.now.dictionary (message_data c.args.message.now) E1 f (returns-in_default-clause-err c) h
+
+pub returns-in_default-clause-unchanged : goal.returns-in_default-clause-unchanged
+returns-in_default-clause-unchanged c = (refl, refl)
+
+pub returns-in_default-clause-same_set : goal.returns-in_default-clause-same_set
+returns-in_default-clause-same_set c = (refl, refl)
+
+pub returns-then-not-suits_body-clause-unchanged : goal.returns-then-not-suits_body-clause-unchanged
+returns-then-not-suits_body-clause-unchanged c = (refl, refl)
+
+pub returns-then-not-suits_body-clause-same_set : goal.returns-then-not-suits_body-clause-same_set
+returns-then-not-suits_body-clause-same_set c = (refl, refl)
+
+pub returns-then-not-fits_limits-clause-unchanged : goal.returns-then-not-fits_limits-clause-unchanged
+returns-then-not-fits_limits-clause-unchanged c = (refl, refl)
+
+pub returns-then-not-fits_limits-clause-same_set : goal.returns-then-not-fits_limits-clause-same_set
+returns-then-not-fits_limits-clause-same_set c = (refl, refl)
+
+pub returns-in-Err-clause-same_set : goal.returns-in-Err-clause-same_set
+returns-in-Err-clause-same_set c = (ap (λ (e : EncoderData). e.set) c.self.view_is, ap (λ (e : EncoderData). e.limits) c.self.view_is)
+
+pub returns-then-is_err-clause-same_set : goal.returns-then-is_err-clause-same_set
+returns-then-is_err-clause-same_set c = (ap (λ (e : EncoderData). e.set) c.self.view_is, ap (λ (e : EncoderData). e.limits) c.self.view_is)
+
+pub returns-clause-same_set : goal.returns-clause-same_set
+returns-clause-same_set c = (ap (λ (e : EncoderData). e.set) c.self.view_is, ap (λ (e : EncoderData). e.limits) c.self.view_is)
+
+pub returns-then-is_err-clause-err : goal.returns-then-is_err-clause-err
+returns-then-is_err-clause-err c = inl refl
+
+pub returns-then-is_err-clause-told : goal.returns-then-is_err-clause-told
+returns-then-is_err-clause-told c = λ f h. inr refl
+
+pub write_message-written-requires-clause-known : goal.write_message-written-requires-clause-known
+write_message-written-requires-clause-known c = c.in-Some.ensures.known
+
+pub write_message-written-requires-clause-ready : goal.write_message-written-requires-clause-ready
+write_message-written-requires-clause-ready c = c.self.invariant.ready
+
+pub write_message-written-requires-clause-fits : goal.write_message-written-requires-clause-fits
+write_message-written-requires-clause-fits c = let fits = c.if-not-fits_limits.ensures.0 refl in rw c.deref-3.ensures.value at fits
