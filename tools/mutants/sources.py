@@ -3,21 +3,44 @@ the bodies of some."""
 
 import os
 import re
-from dataclasses import dataclass
+from dataclasses import dataclass, replace
 
 TYPE = re.compile(r"(?m)^(?:pub(?:\(.*?\))? )?(?:struct|enum) (\w+)")
 # What a function with a body of its own has in its folder of proofs/, beside files of lemmas.
 PROOF_FILES = ("Answers.antt", "Invariants.antt", "Proof.antt")
 HOLE = """use Rattle.{crate}.proofs.{folder}.Statement.{{statement}}
+use Rattle.{crate}.proofs.Unshown.{{unshown}}
 
 pub {name}_spec : {{M : Type 1}} → statement M
-{name}_spec = ?
+{name}_spec = unshown
+"""
+# The one hole that stands for all proofs: a check prints what a hole is to show, which takes it some 0.3 s for each statement.
+UNSHOWN = """pub unshown : {A : Type 2} → A
+unshown = ?
 """
 NO_OFFER = "nothing-is-offered"
 UNOFFERED = """
 pub {name} : {name}-goal
 {name} = ?
 """
+# What a declaration in a file of answers begins with.
+DECLARED = re.compile(r"(?:pub |abbrev )*(\S+) : ")
+# What a check tries for a goal without an answer, one after the other.
+TRIED = """
+pub {goal} : {goals}.{goal}
+{goal} c = first_of (
+  search ({ints}.ints, {rules}.rules),
+  grind ({ints}.ints, {omega}.arith, {grind}.common_steps) steps 2000000,
+  grind ({ints}.ints, {omega}.arith, {grind}.elements) steps 2000000,
+  grind ({ints}.ints, {omega}.arith, {grind}.common_steps) steps 4000000,
+)
+"""
+TRIED_BY = {
+    "rules": "borrow.Author.Rules",
+    "ints": "borrow.Author.Differences",
+    "grind": "Rattle.std.proofs.lemmas.Grind",
+    "omega": "native.Mathlib.Omega",
+}
 
 
 def rows_of(file):
@@ -43,6 +66,11 @@ def pairs_of(text):
         elif line.startswith("new:") and file and old:
             yield file, old, line[len("new:") :].removeprefix(" ")
             old = None
+
+
+def goal_of(text):
+    """Returns the goal of its function that an edit names as one that it leaves open, or an empty text."""
+    return next((line[len("goal: ") :].strip() for line in text.split("\n") if line.startswith("goal: ")), "")
 
 
 @dataclass(frozen=True)
@@ -186,6 +214,8 @@ class Copy:
     pairs: tuple
     # The constants that it names by other names, since a mutant changes them.
     constants: tuple = ()
+    # The only goals that are tried; where there are none, all are.
+    goals: tuple = ()
 
     @property
     def path(self):
@@ -228,6 +258,10 @@ def with_copies(crate, texts, copies):
             for place, old, _ in it.constants:
                 name = constant_in(next(line for line in texts[place].split("\n") if old in line))
                 body = re.sub(rf"\b{name}\b", f"{name}{it.suffix.upper()}", body)
+            if it.goals:
+                own = body.split("\n")
+                own.insert(head_of(own, replace(fn, first=1, last=len(own))), "#[tactic(none)]")
+                body = "\n".join(own)
             name = fn.path.split("::")[-1]
             added.setdefault(fn.last, {})[re.sub(rf"\bfn {name}\b", f"fn {name}{it.suffix}", body, count=1)] = None
         for at in sorted(added, reverse=True):
@@ -238,18 +272,59 @@ def with_copies(crate, texts, copies):
 
 
 def copy_proofs(room, crate, copies, modules_of_types):
-    """Gives each copy of a function the proof of that function, which speaks of the copy by its name."""
+    """Gives each copy of a function the proof of that function, which speaks of the copy by its name; where only some goals are tried, the
+    answers to these."""
     for it in copies:
         folder = proof_folder(it.fn, modules_of_types)
-        for name in os.listdir(f"{room}/proofs/{folder}") if os.path.isdir(f"{room}/proofs/{folder}") else []:
-            with open(f"{room}/proofs/{folder}/{name}", encoding="utf-8") as own:
-                said = own.read()
+        found = os.listdir(f"{room}/proofs/{folder}") if os.path.isdir(f"{room}/proofs/{folder}") else []
+        for name in dict.fromkeys([*found, *(["Answers.antt"] if it.goals else [])]):
+            said = ""
+            if name in found:
+                with open(f"{room}/proofs/{folder}/{name}", encoding="utf-8") as own:
+                    said = own.read()
             dotted = folder.replace("/", ".")
             for part in ("proofs", "specs.contracts"):
                 said = said.replace(f"Rattle.{crate}.{part}.{dotted}.", f"Rattle.{crate}.{part}.{dotted}{it.suffix}.")
+            if it.goals and name == "Answers.antt":
+                said = answers_to(said, it.goals, f"Rattle.{crate}.proofs.{dotted}{it.suffix}.Goals")
             os.makedirs(f"{room}/proofs/{folder}{it.suffix}", exist_ok=True)
             with open(f"{room}/proofs/{folder}{it.suffix}/{name}", "w", encoding="utf-8") as copy:
                 copy.write(said)
+
+
+def answers_to(said, goals, module):
+    """Returns the answers to these goals alone, with what they name. A goal without one has what a check would try by itself."""
+    blocks = blocks_of(said)
+    kept = {k for k, (name, _) in enumerate(blocks) if name is None or name in goals}
+    while more := {k for k, (name, _) in enumerate(blocks) if k not in kept and is_named(name, (blocks[it][1] for it in kept if blocks[it][0]))}:
+        kept |= more
+    text = "\n".join(blocks[k][1] for k in sorted(kept))
+    wanting = [it for it in goals if not any(it == name for name, _ in blocks)]
+    if wanting:
+        names = {}
+        for short, whole in [("goals", module), *TRIED_BY.items()]:
+            own = re.search(rf"(?m)^use {re.escape(whole)} as (\S+)$", text)
+            names[short] = own[1] if own else f"the-{short}"
+            text = text if own else f"use {whole} as the-{short}\n{text}"
+        text += "".join(TRIED.format(goal=it, **names) for it in wanting)
+    return text
+
+
+def is_named(name, texts):
+    return any(re.search(rf"(?<![\w-]){re.escape(name)}(?![\w-])", it) for it in texts)
+
+
+def blocks_of(said):
+    """Returns the declarations of a file of answers, each with its name; what stands between them has None."""
+    blocks, name = [], None
+    for line in said.split("\n"):
+        if line.strip() and not line[0].isspace() and not (name and line.startswith(f"{name} ")):
+            declared = DECLARED.match(line)
+            name = declared and declared[1]
+            blocks.append((name, [line]))
+        elif blocks:
+            blocks[-1][1].append(line)
+    return [(name, "\n".join(lines)) for name, lines in blocks]
 
 
 def constant_in(line):
@@ -288,6 +363,12 @@ def leave_holes(room, crate, folders):
             folder = os.path.dirname(os.path.relpath(f"{at}/{name}/x", f"{room}/proofs"))
             if cycle_is_gone(room, folder):
                 remove_proof(f"{at}/{name}")
+    if folders:
+        os.makedirs(f"{room}/proofs", exist_ok=True)
+        with open(f"{room}/proofs/Unshown.antt", "w", encoding="utf-8") as it:
+            it.write(UNSHOWN)
+        with open(f"{room}/proofs/Lib.antt", "a", encoding="utf-8") as it:
+            it.write("\nmod Unshown\n")
     for folder, name in folders.items():
         remove_proof(f"{room}/proofs/{folder}")
         os.makedirs(f"{room}/proofs/{folder}", exist_ok=True)

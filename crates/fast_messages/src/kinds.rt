@@ -1,16 +1,18 @@
 //! What is wrong with a line that is not the one that had to stand there.
 
-ghost use Rattle.std.specs.Prelude.{◌↔◌, ◌<◌, length, IsTrue};
+ghost use Rattle.std.specs.Prelude.{◌↔◌, ◌<◌, length, slice_index, IsTrue, None};
 ghost use Rattle.fast_tree.specs.meaning.AsWritten.{IsNameByte};
 ghost use Rattle.fast_tree.specs.device.Numbers.{AreBelow};
 ghost use Rattle.fast_template.specs.meaning.Flat.{nodes_of};
+ghost use Rattle.fast_spelling.specs.device.Nodes.{instruction_in};
+ghost use Rattle.fast_spelling.specs.meaning.Suiting.{Suits};
 
 use crate::cursors::Cursor;
 use crate::endings::{Ending, is_ending};
 use crate::faults::LineFault;
 use crate::naming::{names, number_of};
 use fast_lines::forms::Line;
-use fast_spelling::suiting::suits_item;
+use fast_spelling::suiting::{may_be_absent, suits_item};
 use fast_template::Templates;
 use fast_value::Item;
 
@@ -47,6 +49,15 @@ fn is_name_byte(byte: u8) -> bool
     ensures { IsTrue result ↔ IsNameByte byte }
 {
     byte.is_ascii_alphanumeric() || byte == b'_' || byte == b'-' || byte == b'.'
+}
+
+/// Whether the node at this place of a body may be passed over: its field may be absent.
+pub fn may_be_passed(templates: &Templates, body: &[u32], i: usize) -> bool
+    requires nodes { AreBelow (length (nodes_of templates.now)) body.now }
+    requires place { i < length body.now }
+    ensures { IsTrue result ↔ Suits (instruction_in (nodes_of templates.now) (slice_index body.now i)) None }
+{
+    may_be_absent(templates, body[i])
 }
 
 /// What is wrong with the line ahead, where the first of these nodes is mandatory and the line is not its.

@@ -21,10 +21,10 @@ ghost use Rattle.fast_messages.specs.meaning.Unsaid.{HasNoBody, HasNoItem, HasNo
 use crate::cursors::Cursor;
 use crate::endings::{Ending, is_element, is_ending, is_sequence_end};
 use crate::faults::{LineFault, TextFault};
-use crate::kinds::{misplaced, passed_over};
+use crate::kinds::{may_be_passed, misplaced, passed_over};
 use crate::naming::{names, number_of};
 use fast_lines::forms::Line;
-use fast_spelling::suiting::{may_be_absent, suits_item};
+use fast_spelling::suiting::suits_item;
 use fast_template::{Shape, Templates};
 use fast_value::{Item, Message, Value};
 use std::alloc::Global;
@@ -75,7 +75,7 @@ fn read_body<'a>(
             let (item, next) = read_item(alloc, templates, *node, place)?;
             push(&mut slots, Some(item))?;
             place = next;
-        } else if may_be_absent(templates, *node) {
+        } else if may_be_passed(templates, body, i) {
             push(&mut slots, None)?;
         } else {
             return Err(TextFault::BadLine {

@@ -24,6 +24,7 @@ use crate::fields::write_field;
 use crate::forms::Form;
 use crate::messages::{reset_if, write_identifier};
 use crate::plan::{Plan, Work};
+use crate::suiting::has_slot_for_each;
 use absences::try_none;
 use fast_template::{Operator, Shape};
 use fast_value::{Item, Kind, Message, Scalar};
@@ -87,7 +88,7 @@ pub fn try_body(plan: &Plan<'_>, body: &[u32], slots: &[Option<Item>], work: &mu
         work.old.ledger.now (slots_data slots.now)) work.old.draft work.new.draft work.new.ledger.now) }
     ensures keeps { Keeps work.old.ledger work.new.ledger }
 {
-    if body.len() != slots.len() {
+    if !has_slot_for_each(body, slots) {
         return false;
     }
     for (i, slot) in slots.iter().enumerate() {

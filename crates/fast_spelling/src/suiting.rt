@@ -1,6 +1,6 @@
 //! Whether a message suits its template.
 
-ghost use Rattle.std.specs.Prelude.{◌↔◌, ◌<◌, ◌^◌, All, length, IsTrue, IsUtf8, Some, None, option_map};
+ghost use Rattle.std.specs.Prelude.{◌≡◌, ◌↔◌, ◌<◌, ◌^◌, All, length, IsTrue, IsUtf8, Some, None, option_map};
 ghost use Rattle.fast_value.specs.meaning.Kinds.{U, I, Dec};
 ghost use Rattle.fast_value.specs.meaning.Messages.{count};
 ghost use Rattle.fast_value.specs.meaning.Values.{value_data};
@@ -14,13 +14,21 @@ ghost use Rattle.fast_spelling.specs.meaning.Suiting.{IsRight, AreRight, Suits, 
 use fast_template::{Shape, Templates};
 use fast_value::{Item, Kind, Value};
 
+/// Whether there is one slot for each of these nodes, and no other.
+#[inline(always)]
+pub(crate) fn has_slot_for_each(body: &[u32], slots: &[Option<Item>]) -> bool
+    ensures { IsTrue result ↔ length body.now ≡ length slots.now }
+{
+    body.len() == slots.len()
+}
+
 /// Whether the slots suit the instructions of these nodes.
 #[cycle(suits)]
 pub fn suits_body(templates: &Templates, body: &[u32], slots: &[Option<Item>]) -> bool
     requires { AreBelow (length (nodes_of templates.now)) body.now }
     ensures { IsTrue result ↔ SuitsBody (body_among (nodes_of templates.now) body.now) (slots_data slots.now) }
 {
-    if body.len() != slots.len() {
+    if !has_slot_for_each(body, slots) {
         return false;
     }
     for (i, slot) in slots.iter().enumerate() {

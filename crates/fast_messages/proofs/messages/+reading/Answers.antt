@@ -31,7 +31,7 @@ use Rattle.fast_tree.specs.device.Numbers.{numbers_of, AreBetween}
 use Rattle.fast_messages.specs.device.Cursors.{ahead}
 use Rattle.fast_messages.proofs.readings.Shorter.{said_shorter, advance_shorter}
 use Rattle.fast_messages.proofs.messages.+reading.Goals as goal
-use Rattle.fast_messages.proofs.messages.+reading.Goals.{read_body-then-names+in_ok-item+in_ok-push, read_body-else-names+then-may_be_absent+in_ok-push-2}
+use Rattle.fast_messages.proofs.messages.+reading.Goals.{read_body-then-names+in_ok-item+in_ok-push, read_body-else-names+then-may_be_passed+in_ok-push-2}
 
 -- of what a `?` hands on, nothing is said of Ok
 on_handed_on : {R E : Type 0} (P : R → Type 0) (Q : E → Type 0) (r : Result R E) → IsErrAnd r Q → IfOk r P
@@ -53,10 +53,10 @@ read_body-loop-i-preserved t c =
           subst (λ (z : List (Option Item)). IsReadTo set (body_among nodes body) z (body_among nodes (drop (i + 1) body)) c.args.at w.in_ok-item.next) (sym {A = List (Option Item)} w.in_ok-push.ensures.ok)
           (present_at set nodes body i (slice_index body i) inside refl own xs c.args.at c.loop-i.place c.loop-i.invariant w.in_ok-item.item w.in_ok-item.next (c.names.ensures.0 w.if-names.true) w.in_ok-item.ensures.ok)
           )
-      | read_body-else-names+then-may_be_absent+in_ok-push-2 w ↦
+      | read_body-else-names+then-may_be_passed+in_ok-push-2 w ↦
           rw (w.place-is, w.slots-is) (
           subst (λ (z : List (Option Item)). IsReadTo set (body_among nodes body) z (body_among nodes (drop (i + 1) body)) c.args.at c.loop-i.place) (sym {A = List (Option Item)} w.in_ok-push-2.ensures.ok)
-          (absent_at set nodes body i (slice_index body i) inside refl own xs c.args.at c.loop-i.place c.loop-i.invariant (λ h. absurd (cc (w.if-names.false, c.names.ensures.1 h))) (w.may_be_absent.ensures.0 w.if-may_be_absent.true))
+          (absent_at set nodes body i (slice_index body i) inside refl own xs c.args.at c.loop-i.place c.loop-i.invariant (λ h. absurd (cc (w.if-names.false, c.names.ensures.1 h))) (w.may_be_passed.ensures.0 w.if-may_be_passed.true))
           )
     ]
 
@@ -138,8 +138,8 @@ read_body-returns-in_err-item-clause-refused t c =
     (λ none. item_at set nodes body i (slice_index body i) inside refl own c.loop-i.slots.items c.args.at c.loop-i.place c.loop-i.invariant c.args.ending (c.names.ensures.0 c.if-names.true) none)
     c.in_err-item.field-0.0 (c.in_err-item.ensures.refused)))
 
-pub read_body-returns-else-may_be_absent-clause-refused : goal.read_body-returns-else-may_be_absent-clause-refused
-read_body-returns-else-may_be_absent-clause-refused t c =
+pub read_body-returns-else-may_be_passed-clause-refused : goal.read_body-returns-else-may_be_passed-clause-refused
+read_body-returns-else-may_be_passed-clause-refused t c =
     let set = tree_of c.args.templates.now in
     let nodes = nodes_of c.args.templates.now in
     let body = c.args.body.now in
@@ -147,7 +147,7 @@ read_body-returns-else-may_be_absent-clause-refused t c =
     let i = c.loop-i.i in
     let inside : i < length body = omega arith in
     let own = numbered c.args.templates.now (slice_index body i) (c.requires i inside) in
-    mandatory_at set nodes body i (slice_index body i) inside refl own c.loop-i.slots.items c.args.at c.loop-i.place c.loop-i.invariant c.args.ending (λ h. absurd (cc (c.if-names.false, c.names.ensures.1 h))) (λ h. absurd (cc (c.if-may_be_absent.false, c.may_be_absent.ensures.1 h)))
+    mandatory_at set nodes body i (slice_index body i) inside refl own c.loop-i.slots.items c.args.at c.loop-i.place c.loop-i.invariant c.args.ending (λ h. absurd (cc (c.if-names.false, c.names.ensures.1 h))) (λ h. absurd (cc (c.if-may_be_passed.false, c.may_be_passed.ensures.1 h)))
 
 pub read_body-returns-then-not-is_ending-clause-refused : goal.read_body-returns-then-not-is_ending-clause-refused
 read_body-returns-then-not-is_ending-clause-refused t c =
@@ -324,8 +324,8 @@ read_item-returns-in-Field-clause-line t c = c.read_value.ensures.line
 pub read_item-returns-in-Field-clause-refused : goal.read_item-returns-in-Field-clause-refused
 read_item-returns-in-Field-clause-refused t c = c.read_value.ensures.refused
 
-pub read_body-returns-else-may_be_absent-clause-ok : goal.read_body-returns-else-may_be_absent-clause-ok
-read_body-returns-else-may_be_absent-clause-ok t c = tt
+pub read_body-returns-else-may_be_passed-clause-ok : goal.read_body-returns-else-may_be_passed-clause-ok
+read_body-returns-else-may_be_passed-clause-ok t c = tt
 
 pub read_body-returns-then-not-is_ending-clause-ok : goal.read_body-returns-then-not-is_ending-clause-ok
 read_body-returns-then-not-is_ending-clause-ok t c = tt

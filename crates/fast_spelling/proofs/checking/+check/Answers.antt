@@ -54,7 +54,7 @@ pub try_body-try_item-requires : goal.try_body-try_item-requires
 try_body-try_item-requires t c =
     let i = c.loop-i.i in
     let x = c.index-slots-i.result in
-    let inside : i < length c.args.body.now = omega (arith, c.if-body-slots.false, c.loop-i-test.true) in
+    let inside : i < length c.args.body.now = omega (arith, c.if-not-has_slot_for_each.ensures.0 refl, c.loop-i-test.true) in
     let d : 4 * slots_depth (slots_data c.args.slots.now) + 2 ≡ t = c.decreases in
     let deep : item_depth (item_data c.in-Some.item) ≤ slots_depth (slots_data c.args.slots.now) = subst (λ (z : Option Item). option_depth (option_map item_data z) ≤ slots_depth (slots_data c.args.slots.now)) c.in-Some.is (option_depth_at c.args.slots.now i x c.loop-i-test.true c.index-slots-i.is) in
     let smaller : 4 * item_depth (item_data c.in-Some.item) < t = omega (arith, d, deep) in
@@ -89,7 +89,7 @@ try_body-loop-i-preserved-in_default t c =
     let new = c.try_none.new.work in
     let x = c.index-slots-i.result in
     let inv = c.loop-i.invariant in
-    let inside : i < length c.args.body.now = omega (arith, c.if-body-slots.false, c.loop-i-test.true) in
+    let inside : i < length c.args.body.now = omega (arith, c.if-not-has_slot_for_each.ensures.0 refl, c.loop-i-test.true) in
     let good : is_ok c.try_none.result ≡ true = c.if-is_err.ensures.negation in
     let keeps : Keeps old.ledger new.ledger = c.try_none.ensures.keeps in
     let item : option_map item_data x ≡ None = ap (option_map item_data) c.in_default.is in
@@ -117,7 +117,7 @@ try_body-loop-i-preserved-in_default-item t c =
     let new = c.try_item.new.work in
     let x = c.index-slots-i.result in
     let inv = c.loop-i.invariant in
-    let inside : i < length c.args.body.now = omega (arith, c.if-body-slots.false, c.loop-i-test.true) in
+    let inside : i < length c.args.body.now = omega (arith, c.if-not-has_slot_for_each.ensures.0 refl, c.loop-i-test.true) in
     let k = c.if-not-try_item.ensures in
     let keeps : Keeps old.ledger new.ledger = c.try_item.ensures.keeps in
     let item : option_map item_data x ≡ Some (item_data c.in-Some.item) = ap (option_map item_data) c.in-Some.is in
@@ -137,7 +137,7 @@ try_body-loop-i-preserved-in_default-item t c =
 
 -- Each arm is asked what the invariant, and the form that it is, say.
 pub try_body-try_plain_unsigned-done-requires-clause-node : goal.try_body-try_plain_unsigned-done-requires-clause-node
-try_body-try_plain_unsigned-done-requires-clause-node t c = c.requires.nodes c.loop-i.i (omega (arith, c.if-body-slots.false, c.loop-i-test.true))
+try_body-try_plain_unsigned-done-requires-clause-node t c = c.requires.nodes c.loop-i.i (omega (arith, c.if-not-has_slot_for_each.ensures.0 refl, c.loop-i-test.true))
 
 pub try_body-try_plain_unsigned-done-requires-clause-form : goal.try_body-try_plain_unsigned-done-requires-clause-form
 try_body-try_plain_unsigned-done-requires-clause-form t c = c.in-PlainUInt32.ensures
@@ -146,7 +146,7 @@ pub try_body-try_plain_unsigned-done-requires-clause-ready : goal.try_body-try_p
 try_body-try_plain_unsigned-done-requires-clause-ready t c = c.loop-i.invariant.ready
 
 pub try_body-try_plain-done-requires-clause-node : goal.try_body-try_plain-done-requires-clause-node
-try_body-try_plain-done-requires-clause-node t c = c.requires.nodes c.loop-i.i (omega (arith, c.if-body-slots.false, c.loop-i-test.true))
+try_body-try_plain-done-requires-clause-node t c = c.requires.nodes c.loop-i.i (omega (arith, c.if-not-has_slot_for_each.ensures.0 refl, c.loop-i-test.true))
 
 pub try_body-try_plain-done-requires-clause-form : goal.try_body-try_plain-done-requires-clause-form
 try_body-try_plain-done-requires-clause-form t c = c.in-PlainInt32.ensures
@@ -155,7 +155,7 @@ pub try_body-try_plain-done-requires-clause-ready : goal.try_body-try_plain-done
 try_body-try_plain-done-requires-clause-ready t c = c.loop-i.invariant.ready
 
 pub try_body-try_plain_unsigned-done-requires-in-PlainUInt64-clause-node : goal.try_body-try_plain_unsigned-done-requires-in-PlainUInt64-clause-node
-try_body-try_plain_unsigned-done-requires-in-PlainUInt64-clause-node t c = c.requires.nodes c.loop-i.i (omega (arith, c.if-body-slots.false, c.loop-i-test.true))
+try_body-try_plain_unsigned-done-requires-in-PlainUInt64-clause-node t c = c.requires.nodes c.loop-i.i (omega (arith, c.if-not-has_slot_for_each.ensures.0 refl, c.loop-i-test.true))
 
 pub try_body-try_plain_unsigned-done-requires-in-PlainUInt64-clause-form : goal.try_body-try_plain_unsigned-done-requires-in-PlainUInt64-clause-form
 try_body-try_plain_unsigned-done-requires-in-PlainUInt64-clause-form t c = c.in-PlainUInt64.ensures
@@ -164,7 +164,7 @@ pub try_body-try_plain_unsigned-done-requires-in-PlainUInt64-clause-ready : goal
 try_body-try_plain_unsigned-done-requires-in-PlainUInt64-clause-ready t c = c.loop-i.invariant.ready
 
 pub try_body-try_plain-done-requires-in-PlainInt64-clause-node : goal.try_body-try_plain-done-requires-in-PlainInt64-clause-node
-try_body-try_plain-done-requires-in-PlainInt64-clause-node t c = c.requires.nodes c.loop-i.i (omega (arith, c.if-body-slots.false, c.loop-i-test.true))
+try_body-try_plain-done-requires-in-PlainInt64-clause-node t c = c.requires.nodes c.loop-i.i (omega (arith, c.if-not-has_slot_for_each.ensures.0 refl, c.loop-i-test.true))
 
 pub try_body-try_plain-done-requires-in-PlainInt64-clause-form : goal.try_body-try_plain-done-requires-in-PlainInt64-clause-form
 try_body-try_plain-done-requires-in-PlainInt64-clause-form t c = c.in-PlainInt64.ensures
@@ -173,7 +173,7 @@ pub try_body-try_plain-done-requires-in-PlainInt64-clause-ready : goal.try_body-
 try_body-try_plain-done-requires-in-PlainInt64-clause-ready t c = c.loop-i.invariant.ready
 
 pub try_body-try_constant-done-requires-clause-node : goal.try_body-try_constant-done-requires-clause-node
-try_body-try_constant-done-requires-clause-node t c = c.requires.nodes c.loop-i.i (omega (arith, c.if-body-slots.false, c.loop-i-test.true))
+try_body-try_constant-done-requires-clause-node t c = c.requires.nodes c.loop-i.i (omega (arith, c.if-not-has_slot_for_each.ensures.0 refl, c.loop-i-test.true))
 
 pub try_body-try_constant-done-requires-clause-form : goal.try_body-try_constant-done-requires-clause-form
 try_body-try_constant-done-requires-clause-form t c = c.in-ConstantUInt32.ensures
@@ -182,7 +182,7 @@ pub try_body-try_constant-done-requires-clause-ready : goal.try_body-try_constan
 try_body-try_constant-done-requires-clause-ready t c = c.loop-i.invariant.ready
 
 pub try_body-try_constant-done-requires-in-ConstantInt32-clause-node : goal.try_body-try_constant-done-requires-in-ConstantInt32-clause-node
-try_body-try_constant-done-requires-in-ConstantInt32-clause-node t c = c.requires.nodes c.loop-i.i (omega (arith, c.if-body-slots.false, c.loop-i-test.true))
+try_body-try_constant-done-requires-in-ConstantInt32-clause-node t c = c.requires.nodes c.loop-i.i (omega (arith, c.if-not-has_slot_for_each.ensures.0 refl, c.loop-i-test.true))
 
 pub try_body-try_constant-done-requires-in-ConstantInt32-clause-form : goal.try_body-try_constant-done-requires-in-ConstantInt32-clause-form
 try_body-try_constant-done-requires-in-ConstantInt32-clause-form t c = c.in-ConstantInt32.ensures
@@ -191,7 +191,7 @@ pub try_body-try_constant-done-requires-in-ConstantInt32-clause-ready : goal.try
 try_body-try_constant-done-requires-in-ConstantInt32-clause-ready t c = c.loop-i.invariant.ready
 
 pub try_body-try_constant-done-requires-in-ConstantUInt64-clause-node : goal.try_body-try_constant-done-requires-in-ConstantUInt64-clause-node
-try_body-try_constant-done-requires-in-ConstantUInt64-clause-node t c = c.requires.nodes c.loop-i.i (omega (arith, c.if-body-slots.false, c.loop-i-test.true))
+try_body-try_constant-done-requires-in-ConstantUInt64-clause-node t c = c.requires.nodes c.loop-i.i (omega (arith, c.if-not-has_slot_for_each.ensures.0 refl, c.loop-i-test.true))
 
 pub try_body-try_constant-done-requires-in-ConstantUInt64-clause-form : goal.try_body-try_constant-done-requires-in-ConstantUInt64-clause-form
 try_body-try_constant-done-requires-in-ConstantUInt64-clause-form t c = c.in-ConstantUInt64.ensures
@@ -200,7 +200,7 @@ pub try_body-try_constant-done-requires-in-ConstantUInt64-clause-ready : goal.tr
 try_body-try_constant-done-requires-in-ConstantUInt64-clause-ready t c = c.loop-i.invariant.ready
 
 pub try_body-try_constant-done-requires-in-ConstantInt64-clause-node : goal.try_body-try_constant-done-requires-in-ConstantInt64-clause-node
-try_body-try_constant-done-requires-in-ConstantInt64-clause-node t c = c.requires.nodes c.loop-i.i (omega (arith, c.if-body-slots.false, c.loop-i-test.true))
+try_body-try_constant-done-requires-in-ConstantInt64-clause-node t c = c.requires.nodes c.loop-i.i (omega (arith, c.if-not-has_slot_for_each.ensures.0 refl, c.loop-i-test.true))
 
 pub try_body-try_constant-done-requires-in-ConstantInt64-clause-form : goal.try_body-try_constant-done-requires-in-ConstantInt64-clause-form
 try_body-try_constant-done-requires-in-ConstantInt64-clause-form t c = c.in-ConstantInt64.ensures
@@ -209,7 +209,7 @@ pub try_body-try_constant-done-requires-in-ConstantInt64-clause-ready : goal.try
 try_body-try_constant-done-requires-in-ConstantInt64-clause-ready t c = c.loop-i.invariant.ready
 
 pub try_body-try_default-done-requires-clause-node : goal.try_body-try_default-done-requires-clause-node
-try_body-try_default-done-requires-clause-node t c = c.requires.nodes c.loop-i.i (omega (arith, c.if-body-slots.false, c.loop-i-test.true))
+try_body-try_default-done-requires-clause-node t c = c.requires.nodes c.loop-i.i (omega (arith, c.if-not-has_slot_for_each.ensures.0 refl, c.loop-i-test.true))
 
 pub try_body-try_default-done-requires-clause-form : goal.try_body-try_default-done-requires-clause-form
 try_body-try_default-done-requires-clause-form t c = c.in-DefaultUInt32.ensures
@@ -218,7 +218,7 @@ pub try_body-try_default-done-requires-clause-ready : goal.try_body-try_default-
 try_body-try_default-done-requires-clause-ready t c = c.loop-i.invariant.ready
 
 pub try_body-try_default-done-requires-in-DefaultInt32-clause-node : goal.try_body-try_default-done-requires-in-DefaultInt32-clause-node
-try_body-try_default-done-requires-in-DefaultInt32-clause-node t c = c.requires.nodes c.loop-i.i (omega (arith, c.if-body-slots.false, c.loop-i-test.true))
+try_body-try_default-done-requires-in-DefaultInt32-clause-node t c = c.requires.nodes c.loop-i.i (omega (arith, c.if-not-has_slot_for_each.ensures.0 refl, c.loop-i-test.true))
 
 pub try_body-try_default-done-requires-in-DefaultInt32-clause-form : goal.try_body-try_default-done-requires-in-DefaultInt32-clause-form
 try_body-try_default-done-requires-in-DefaultInt32-clause-form t c = c.in-DefaultInt32.ensures
@@ -227,7 +227,7 @@ pub try_body-try_default-done-requires-in-DefaultInt32-clause-ready : goal.try_b
 try_body-try_default-done-requires-in-DefaultInt32-clause-ready t c = c.loop-i.invariant.ready
 
 pub try_body-try_default-done-requires-in-DefaultUInt64-clause-node : goal.try_body-try_default-done-requires-in-DefaultUInt64-clause-node
-try_body-try_default-done-requires-in-DefaultUInt64-clause-node t c = c.requires.nodes c.loop-i.i (omega (arith, c.if-body-slots.false, c.loop-i-test.true))
+try_body-try_default-done-requires-in-DefaultUInt64-clause-node t c = c.requires.nodes c.loop-i.i (omega (arith, c.if-not-has_slot_for_each.ensures.0 refl, c.loop-i-test.true))
 
 pub try_body-try_default-done-requires-in-DefaultUInt64-clause-form : goal.try_body-try_default-done-requires-in-DefaultUInt64-clause-form
 try_body-try_default-done-requires-in-DefaultUInt64-clause-form t c = c.in-DefaultUInt64.ensures
@@ -236,7 +236,7 @@ pub try_body-try_default-done-requires-in-DefaultUInt64-clause-ready : goal.try_
 try_body-try_default-done-requires-in-DefaultUInt64-clause-ready t c = c.loop-i.invariant.ready
 
 pub try_body-try_default-done-requires-in-DefaultInt64-clause-node : goal.try_body-try_default-done-requires-in-DefaultInt64-clause-node
-try_body-try_default-done-requires-in-DefaultInt64-clause-node t c = c.requires.nodes c.loop-i.i (omega (arith, c.if-body-slots.false, c.loop-i-test.true))
+try_body-try_default-done-requires-in-DefaultInt64-clause-node t c = c.requires.nodes c.loop-i.i (omega (arith, c.if-not-has_slot_for_each.ensures.0 refl, c.loop-i-test.true))
 
 pub try_body-try_default-done-requires-in-DefaultInt64-clause-form : goal.try_body-try_default-done-requires-in-DefaultInt64-clause-form
 try_body-try_default-done-requires-in-DefaultInt64-clause-form t c = c.in-DefaultInt64.ensures
@@ -245,7 +245,7 @@ pub try_body-try_default-done-requires-in-DefaultInt64-clause-ready : goal.try_b
 try_body-try_default-done-requires-in-DefaultInt64-clause-ready t c = c.loop-i.invariant.ready
 
 pub try_body-try_copied-done-requires-clause-node : goal.try_body-try_copied-done-requires-clause-node
-try_body-try_copied-done-requires-clause-node t c = c.requires.nodes c.loop-i.i (omega (arith, c.if-body-slots.false, c.loop-i-test.true))
+try_body-try_copied-done-requires-clause-node t c = c.requires.nodes c.loop-i.i (omega (arith, c.if-not-has_slot_for_each.ensures.0 refl, c.loop-i-test.true))
 
 pub try_body-try_copied-done-requires-clause-form : goal.try_body-try_copied-done-requires-clause-form
 try_body-try_copied-done-requires-clause-form t c = c.in-CopyUInt32.ensures
@@ -257,7 +257,7 @@ pub try_body-try_copied-done-requires-clause-numbers : goal.try_body-try_copied-
 try_body-try_copied-done-requires-clause-numbers t c = tt
 
 pub try_body-try_copied-done-requires-in-CopyInt32-clause-node : goal.try_body-try_copied-done-requires-in-CopyInt32-clause-node
-try_body-try_copied-done-requires-in-CopyInt32-clause-node t c = c.requires.nodes c.loop-i.i (omega (arith, c.if-body-slots.false, c.loop-i-test.true))
+try_body-try_copied-done-requires-in-CopyInt32-clause-node t c = c.requires.nodes c.loop-i.i (omega (arith, c.if-not-has_slot_for_each.ensures.0 refl, c.loop-i-test.true))
 
 pub try_body-try_copied-done-requires-in-CopyInt32-clause-form : goal.try_body-try_copied-done-requires-in-CopyInt32-clause-form
 try_body-try_copied-done-requires-in-CopyInt32-clause-form t c = c.in-CopyInt32.ensures
@@ -269,7 +269,7 @@ pub try_body-try_copied-done-requires-in-CopyInt32-clause-numbers : goal.try_bod
 try_body-try_copied-done-requires-in-CopyInt32-clause-numbers t c = tt
 
 pub try_body-try_copied-done-requires-in-CopyUInt64-clause-node : goal.try_body-try_copied-done-requires-in-CopyUInt64-clause-node
-try_body-try_copied-done-requires-in-CopyUInt64-clause-node t c = c.requires.nodes c.loop-i.i (omega (arith, c.if-body-slots.false, c.loop-i-test.true))
+try_body-try_copied-done-requires-in-CopyUInt64-clause-node t c = c.requires.nodes c.loop-i.i (omega (arith, c.if-not-has_slot_for_each.ensures.0 refl, c.loop-i-test.true))
 
 pub try_body-try_copied-done-requires-in-CopyUInt64-clause-form : goal.try_body-try_copied-done-requires-in-CopyUInt64-clause-form
 try_body-try_copied-done-requires-in-CopyUInt64-clause-form t c = c.in-CopyUInt64.ensures
@@ -281,7 +281,7 @@ pub try_body-try_copied-done-requires-in-CopyUInt64-clause-numbers : goal.try_bo
 try_body-try_copied-done-requires-in-CopyUInt64-clause-numbers t c = tt
 
 pub try_body-try_copied-done-requires-in-CopyInt64-clause-node : goal.try_body-try_copied-done-requires-in-CopyInt64-clause-node
-try_body-try_copied-done-requires-in-CopyInt64-clause-node t c = c.requires.nodes c.loop-i.i (omega (arith, c.if-body-slots.false, c.loop-i-test.true))
+try_body-try_copied-done-requires-in-CopyInt64-clause-node t c = c.requires.nodes c.loop-i.i (omega (arith, c.if-not-has_slot_for_each.ensures.0 refl, c.loop-i-test.true))
 
 pub try_body-try_copied-done-requires-in-CopyInt64-clause-form : goal.try_body-try_copied-done-requires-in-CopyInt64-clause-form
 try_body-try_copied-done-requires-in-CopyInt64-clause-form t c = c.in-CopyInt64.ensures
@@ -293,7 +293,7 @@ pub try_body-try_copied-done-requires-in-CopyInt64-clause-numbers : goal.try_bod
 try_body-try_copied-done-requires-in-CopyInt64-clause-numbers t c = tt
 
 pub try_body-try_next-done-requires-clause-node : goal.try_body-try_next-done-requires-clause-node
-try_body-try_next-done-requires-clause-node t c = c.requires.nodes c.loop-i.i (omega (arith, c.if-body-slots.false, c.loop-i-test.true))
+try_body-try_next-done-requires-clause-node t c = c.requires.nodes c.loop-i.i (omega (arith, c.if-not-has_slot_for_each.ensures.0 refl, c.loop-i-test.true))
 
 pub try_body-try_next-done-requires-clause-form : goal.try_body-try_next-done-requires-clause-form
 try_body-try_next-done-requires-clause-form t c = c.in-IncrementUInt32.ensures
@@ -305,7 +305,7 @@ pub try_body-try_next-done-requires-clause-numbers : goal.try_body-try_next-done
 try_body-try_next-done-requires-clause-numbers t c = tt
 
 pub try_body-try_next-done-requires-in-IncrementInt32-clause-node : goal.try_body-try_next-done-requires-in-IncrementInt32-clause-node
-try_body-try_next-done-requires-in-IncrementInt32-clause-node t c = c.requires.nodes c.loop-i.i (omega (arith, c.if-body-slots.false, c.loop-i-test.true))
+try_body-try_next-done-requires-in-IncrementInt32-clause-node t c = c.requires.nodes c.loop-i.i (omega (arith, c.if-not-has_slot_for_each.ensures.0 refl, c.loop-i-test.true))
 
 pub try_body-try_next-done-requires-in-IncrementInt32-clause-form : goal.try_body-try_next-done-requires-in-IncrementInt32-clause-form
 try_body-try_next-done-requires-in-IncrementInt32-clause-form t c = c.in-IncrementInt32.ensures
@@ -317,7 +317,7 @@ pub try_body-try_next-done-requires-in-IncrementInt32-clause-numbers : goal.try_
 try_body-try_next-done-requires-in-IncrementInt32-clause-numbers t c = tt
 
 pub try_body-try_next-done-requires-in-IncrementUInt64-clause-node : goal.try_body-try_next-done-requires-in-IncrementUInt64-clause-node
-try_body-try_next-done-requires-in-IncrementUInt64-clause-node t c = c.requires.nodes c.loop-i.i (omega (arith, c.if-body-slots.false, c.loop-i-test.true))
+try_body-try_next-done-requires-in-IncrementUInt64-clause-node t c = c.requires.nodes c.loop-i.i (omega (arith, c.if-not-has_slot_for_each.ensures.0 refl, c.loop-i-test.true))
 
 pub try_body-try_next-done-requires-in-IncrementUInt64-clause-form : goal.try_body-try_next-done-requires-in-IncrementUInt64-clause-form
 try_body-try_next-done-requires-in-IncrementUInt64-clause-form t c = c.in-IncrementUInt64.ensures
@@ -329,7 +329,7 @@ pub try_body-try_next-done-requires-in-IncrementUInt64-clause-numbers : goal.try
 try_body-try_next-done-requires-in-IncrementUInt64-clause-numbers t c = tt
 
 pub try_body-try_next-done-requires-in-IncrementInt64-clause-node : goal.try_body-try_next-done-requires-in-IncrementInt64-clause-node
-try_body-try_next-done-requires-in-IncrementInt64-clause-node t c = c.requires.nodes c.loop-i.i (omega (arith, c.if-body-slots.false, c.loop-i-test.true))
+try_body-try_next-done-requires-in-IncrementInt64-clause-node t c = c.requires.nodes c.loop-i.i (omega (arith, c.if-not-has_slot_for_each.ensures.0 refl, c.loop-i-test.true))
 
 pub try_body-try_next-done-requires-in-IncrementInt64-clause-form : goal.try_body-try_next-done-requires-in-IncrementInt64-clause-form
 try_body-try_next-done-requires-in-IncrementInt64-clause-form t c = c.in-IncrementInt64.ensures
@@ -341,7 +341,7 @@ pub try_body-try_next-done-requires-in-IncrementInt64-clause-numbers : goal.try_
 try_body-try_next-done-requires-in-IncrementInt64-clause-numbers t c = tt
 
 pub try_body-try_difference-done-requires-clause-node : goal.try_body-try_difference-done-requires-clause-node
-try_body-try_difference-done-requires-clause-node t c = c.requires.nodes c.loop-i.i (omega (arith, c.if-body-slots.false, c.loop-i-test.true))
+try_body-try_difference-done-requires-clause-node t c = c.requires.nodes c.loop-i.i (omega (arith, c.if-not-has_slot_for_each.ensures.0 refl, c.loop-i-test.true))
 
 pub try_body-try_difference-done-requires-clause-form : goal.try_body-try_difference-done-requires-clause-form
 try_body-try_difference-done-requires-clause-form t c = c.in-DeltaUInt32.ensures
@@ -353,7 +353,7 @@ pub try_body-try_difference-done-requires-clause-numbers : goal.try_body-try_dif
 try_body-try_difference-done-requires-clause-numbers t c = tt
 
 pub try_body-try_difference-done-requires-in-DeltaInt32-clause-node : goal.try_body-try_difference-done-requires-in-DeltaInt32-clause-node
-try_body-try_difference-done-requires-in-DeltaInt32-clause-node t c = c.requires.nodes c.loop-i.i (omega (arith, c.if-body-slots.false, c.loop-i-test.true))
+try_body-try_difference-done-requires-in-DeltaInt32-clause-node t c = c.requires.nodes c.loop-i.i (omega (arith, c.if-not-has_slot_for_each.ensures.0 refl, c.loop-i-test.true))
 
 pub try_body-try_difference-done-requires-in-DeltaInt32-clause-form : goal.try_body-try_difference-done-requires-in-DeltaInt32-clause-form
 try_body-try_difference-done-requires-in-DeltaInt32-clause-form t c = c.in-DeltaInt32.ensures
@@ -365,7 +365,7 @@ pub try_body-try_difference-done-requires-in-DeltaInt32-clause-numbers : goal.tr
 try_body-try_difference-done-requires-in-DeltaInt32-clause-numbers t c = tt
 
 pub try_body-try_difference-done-requires-in-DeltaUInt64-clause-node : goal.try_body-try_difference-done-requires-in-DeltaUInt64-clause-node
-try_body-try_difference-done-requires-in-DeltaUInt64-clause-node t c = c.requires.nodes c.loop-i.i (omega (arith, c.if-body-slots.false, c.loop-i-test.true))
+try_body-try_difference-done-requires-in-DeltaUInt64-clause-node t c = c.requires.nodes c.loop-i.i (omega (arith, c.if-not-has_slot_for_each.ensures.0 refl, c.loop-i-test.true))
 
 pub try_body-try_difference-done-requires-in-DeltaUInt64-clause-form : goal.try_body-try_difference-done-requires-in-DeltaUInt64-clause-form
 try_body-try_difference-done-requires-in-DeltaUInt64-clause-form t c = c.in-DeltaUInt64.ensures
@@ -377,7 +377,7 @@ pub try_body-try_difference-done-requires-in-DeltaUInt64-clause-numbers : goal.t
 try_body-try_difference-done-requires-in-DeltaUInt64-clause-numbers t c = tt
 
 pub try_body-try_difference-done-requires-in-DeltaInt64-clause-node : goal.try_body-try_difference-done-requires-in-DeltaInt64-clause-node
-try_body-try_difference-done-requires-in-DeltaInt64-clause-node t c = c.requires.nodes c.loop-i.i (omega (arith, c.if-body-slots.false, c.loop-i-test.true))
+try_body-try_difference-done-requires-in-DeltaInt64-clause-node t c = c.requires.nodes c.loop-i.i (omega (arith, c.if-not-has_slot_for_each.ensures.0 refl, c.loop-i-test.true))
 
 pub try_body-try_difference-done-requires-in-DeltaInt64-clause-form : goal.try_body-try_difference-done-requires-in-DeltaInt64-clause-form
 try_body-try_difference-done-requires-in-DeltaInt64-clause-form t c = c.in-DeltaInt64.ensures
@@ -389,7 +389,7 @@ pub try_body-try_difference-done-requires-in-DeltaInt64-clause-numbers : goal.tr
 try_body-try_difference-done-requires-in-DeltaInt64-clause-numbers t c = tt
 
 pub try_body-try_plain-done-requires-in-PlainAscii-clause-node : goal.try_body-try_plain-done-requires-in-PlainAscii-clause-node
-try_body-try_plain-done-requires-in-PlainAscii-clause-node t c = c.requires.nodes c.loop-i.i (omega (arith, c.if-body-slots.false, c.loop-i-test.true))
+try_body-try_plain-done-requires-in-PlainAscii-clause-node t c = c.requires.nodes c.loop-i.i (omega (arith, c.if-not-has_slot_for_each.ensures.0 refl, c.loop-i-test.true))
 
 pub try_body-try_plain-done-requires-in-PlainAscii-clause-form : goal.try_body-try_plain-done-requires-in-PlainAscii-clause-form
 try_body-try_plain-done-requires-in-PlainAscii-clause-form t c = c.in-PlainAscii.ensures
@@ -398,7 +398,7 @@ pub try_body-try_plain-done-requires-in-PlainAscii-clause-ready : goal.try_body-
 try_body-try_plain-done-requires-in-PlainAscii-clause-ready t c = c.loop-i.invariant.ready
 
 pub try_body-try_constant-done-requires-in-ConstantAscii-clause-node : goal.try_body-try_constant-done-requires-in-ConstantAscii-clause-node
-try_body-try_constant-done-requires-in-ConstantAscii-clause-node t c = c.requires.nodes c.loop-i.i (omega (arith, c.if-body-slots.false, c.loop-i-test.true))
+try_body-try_constant-done-requires-in-ConstantAscii-clause-node t c = c.requires.nodes c.loop-i.i (omega (arith, c.if-not-has_slot_for_each.ensures.0 refl, c.loop-i-test.true))
 
 pub try_body-try_constant-done-requires-in-ConstantAscii-clause-form : goal.try_body-try_constant-done-requires-in-ConstantAscii-clause-form
 try_body-try_constant-done-requires-in-ConstantAscii-clause-form t c = c.in-ConstantAscii.ensures
@@ -407,7 +407,7 @@ pub try_body-try_constant-done-requires-in-ConstantAscii-clause-ready : goal.try
 try_body-try_constant-done-requires-in-ConstantAscii-clause-ready t c = c.loop-i.invariant.ready
 
 pub try_body-try_default-done-requires-in-DefaultAscii-clause-node : goal.try_body-try_default-done-requires-in-DefaultAscii-clause-node
-try_body-try_default-done-requires-in-DefaultAscii-clause-node t c = c.requires.nodes c.loop-i.i (omega (arith, c.if-body-slots.false, c.loop-i-test.true))
+try_body-try_default-done-requires-in-DefaultAscii-clause-node t c = c.requires.nodes c.loop-i.i (omega (arith, c.if-not-has_slot_for_each.ensures.0 refl, c.loop-i-test.true))
 
 pub try_body-try_default-done-requires-in-DefaultAscii-clause-form : goal.try_body-try_default-done-requires-in-DefaultAscii-clause-form
 try_body-try_default-done-requires-in-DefaultAscii-clause-form t c = c.in-DefaultAscii.ensures
@@ -416,7 +416,7 @@ pub try_body-try_default-done-requires-in-DefaultAscii-clause-ready : goal.try_b
 try_body-try_default-done-requires-in-DefaultAscii-clause-ready t c = c.loop-i.invariant.ready
 
 pub try_body-try_copied_other-done-requires-clause-node : goal.try_body-try_copied_other-done-requires-clause-node
-try_body-try_copied_other-done-requires-clause-node t c = c.requires.nodes c.loop-i.i (omega (arith, c.if-body-slots.false, c.loop-i-test.true))
+try_body-try_copied_other-done-requires-clause-node t c = c.requires.nodes c.loop-i.i (omega (arith, c.if-not-has_slot_for_each.ensures.0 refl, c.loop-i-test.true))
 
 pub try_body-try_copied_other-done-requires-clause-form : goal.try_body-try_copied_other-done-requires-clause-form
 try_body-try_copied_other-done-requires-clause-form t c = c.in-CopyAscii.ensures
@@ -425,7 +425,7 @@ pub try_body-try_copied_other-done-requires-clause-ready : goal.try_body-try_cop
 try_body-try_copied_other-done-requires-clause-ready t c = c.loop-i.invariant.ready
 
 pub try_body-try_chosen-done-requires-clause-node : goal.try_body-try_chosen-done-requires-clause-node
-try_body-try_chosen-done-requires-clause-node t c = c.requires.nodes c.loop-i.i (omega (arith, c.if-body-slots.false, c.loop-i-test.true))
+try_body-try_chosen-done-requires-clause-node t c = c.requires.nodes c.loop-i.i (omega (arith, c.if-not-has_slot_for_each.ensures.0 refl, c.loop-i-test.true))
 
 pub try_body-try_chosen-done-requires-clause-form : goal.try_body-try_chosen-done-requires-clause-form
 try_body-try_chosen-done-requires-clause-form t c = c.in-TailAscii.ensures
@@ -434,7 +434,7 @@ pub try_body-try_chosen-done-requires-clause-ready : goal.try_body-try_chosen-do
 try_body-try_chosen-done-requires-clause-ready t c = c.loop-i.invariant.ready
 
 pub try_body-try_chosen-done-requires-in-DeltaAscii-clause-node : goal.try_body-try_chosen-done-requires-in-DeltaAscii-clause-node
-try_body-try_chosen-done-requires-in-DeltaAscii-clause-node t c = c.requires.nodes c.loop-i.i (omega (arith, c.if-body-slots.false, c.loop-i-test.true))
+try_body-try_chosen-done-requires-in-DeltaAscii-clause-node t c = c.requires.nodes c.loop-i.i (omega (arith, c.if-not-has_slot_for_each.ensures.0 refl, c.loop-i-test.true))
 
 pub try_body-try_chosen-done-requires-in-DeltaAscii-clause-form : goal.try_body-try_chosen-done-requires-in-DeltaAscii-clause-form
 try_body-try_chosen-done-requires-in-DeltaAscii-clause-form t c = c.in-DeltaAscii.ensures
@@ -443,7 +443,7 @@ pub try_body-try_chosen-done-requires-in-DeltaAscii-clause-ready : goal.try_body
 try_body-try_chosen-done-requires-in-DeltaAscii-clause-ready t c = c.loop-i.invariant.ready
 
 pub try_body-try_plain-done-requires-in-PlainUnicode-clause-node : goal.try_body-try_plain-done-requires-in-PlainUnicode-clause-node
-try_body-try_plain-done-requires-in-PlainUnicode-clause-node t c = c.requires.nodes c.loop-i.i (omega (arith, c.if-body-slots.false, c.loop-i-test.true))
+try_body-try_plain-done-requires-in-PlainUnicode-clause-node t c = c.requires.nodes c.loop-i.i (omega (arith, c.if-not-has_slot_for_each.ensures.0 refl, c.loop-i-test.true))
 
 pub try_body-try_plain-done-requires-in-PlainUnicode-clause-form : goal.try_body-try_plain-done-requires-in-PlainUnicode-clause-form
 try_body-try_plain-done-requires-in-PlainUnicode-clause-form t c = c.in-PlainUnicode.ensures
@@ -452,7 +452,7 @@ pub try_body-try_plain-done-requires-in-PlainUnicode-clause-ready : goal.try_bod
 try_body-try_plain-done-requires-in-PlainUnicode-clause-ready t c = c.loop-i.invariant.ready
 
 pub try_body-try_chosen-done-requires-in-DeltaUnicode-clause-node : goal.try_body-try_chosen-done-requires-in-DeltaUnicode-clause-node
-try_body-try_chosen-done-requires-in-DeltaUnicode-clause-node t c = c.requires.nodes c.loop-i.i (omega (arith, c.if-body-slots.false, c.loop-i-test.true))
+try_body-try_chosen-done-requires-in-DeltaUnicode-clause-node t c = c.requires.nodes c.loop-i.i (omega (arith, c.if-not-has_slot_for_each.ensures.0 refl, c.loop-i-test.true))
 
 pub try_body-try_chosen-done-requires-in-DeltaUnicode-clause-form : goal.try_body-try_chosen-done-requires-in-DeltaUnicode-clause-form
 try_body-try_chosen-done-requires-in-DeltaUnicode-clause-form t c = c.in-DeltaUnicode.ensures
@@ -461,7 +461,7 @@ pub try_body-try_chosen-done-requires-in-DeltaUnicode-clause-ready : goal.try_bo
 try_body-try_chosen-done-requires-in-DeltaUnicode-clause-ready t c = c.loop-i.invariant.ready
 
 pub try_body-try_plain-done-requires-in-PlainBytes-clause-node : goal.try_body-try_plain-done-requires-in-PlainBytes-clause-node
-try_body-try_plain-done-requires-in-PlainBytes-clause-node t c = c.requires.nodes c.loop-i.i (omega (arith, c.if-body-slots.false, c.loop-i-test.true))
+try_body-try_plain-done-requires-in-PlainBytes-clause-node t c = c.requires.nodes c.loop-i.i (omega (arith, c.if-not-has_slot_for_each.ensures.0 refl, c.loop-i-test.true))
 
 pub try_body-try_plain-done-requires-in-PlainBytes-clause-form : goal.try_body-try_plain-done-requires-in-PlainBytes-clause-form
 try_body-try_plain-done-requires-in-PlainBytes-clause-form t c = c.in-PlainBytes.ensures
@@ -470,7 +470,7 @@ pub try_body-try_plain-done-requires-in-PlainBytes-clause-ready : goal.try_body-
 try_body-try_plain-done-requires-in-PlainBytes-clause-ready t c = c.loop-i.invariant.ready
 
 pub try_body-try_chosen-done-requires-in-TailBytes-clause-node : goal.try_body-try_chosen-done-requires-in-TailBytes-clause-node
-try_body-try_chosen-done-requires-in-TailBytes-clause-node t c = c.requires.nodes c.loop-i.i (omega (arith, c.if-body-slots.false, c.loop-i-test.true))
+try_body-try_chosen-done-requires-in-TailBytes-clause-node t c = c.requires.nodes c.loop-i.i (omega (arith, c.if-not-has_slot_for_each.ensures.0 refl, c.loop-i-test.true))
 
 pub try_body-try_chosen-done-requires-in-TailBytes-clause-form : goal.try_body-try_chosen-done-requires-in-TailBytes-clause-form
 try_body-try_chosen-done-requires-in-TailBytes-clause-form t c = c.in-TailBytes.ensures
@@ -479,7 +479,7 @@ pub try_body-try_chosen-done-requires-in-TailBytes-clause-ready : goal.try_body-
 try_body-try_chosen-done-requires-in-TailBytes-clause-ready t c = c.loop-i.invariant.ready
 
 pub try_body-try_plain-done-requires-in-PlainDecimal-clause-node : goal.try_body-try_plain-done-requires-in-PlainDecimal-clause-node
-try_body-try_plain-done-requires-in-PlainDecimal-clause-node t c = c.requires.nodes c.loop-i.i (omega (arith, c.if-body-slots.false, c.loop-i-test.true))
+try_body-try_plain-done-requires-in-PlainDecimal-clause-node t c = c.requires.nodes c.loop-i.i (omega (arith, c.if-not-has_slot_for_each.ensures.0 refl, c.loop-i-test.true))
 
 pub try_body-try_plain-done-requires-in-PlainDecimal-clause-form : goal.try_body-try_plain-done-requires-in-PlainDecimal-clause-form
 try_body-try_plain-done-requires-in-PlainDecimal-clause-form t c = c.in-PlainDecimal.ensures
@@ -488,7 +488,7 @@ pub try_body-try_plain-done-requires-in-PlainDecimal-clause-ready : goal.try_bod
 try_body-try_plain-done-requires-in-PlainDecimal-clause-ready t c = c.loop-i.invariant.ready
 
 pub try_body-try_copied_other-done-requires-in-CopyDecimal-clause-node : goal.try_body-try_copied_other-done-requires-in-CopyDecimal-clause-node
-try_body-try_copied_other-done-requires-in-CopyDecimal-clause-node t c = c.requires.nodes c.loop-i.i (omega (arith, c.if-body-slots.false, c.loop-i-test.true))
+try_body-try_copied_other-done-requires-in-CopyDecimal-clause-node t c = c.requires.nodes c.loop-i.i (omega (arith, c.if-not-has_slot_for_each.ensures.0 refl, c.loop-i-test.true))
 
 pub try_body-try_copied_other-done-requires-in-CopyDecimal-clause-form : goal.try_body-try_copied_other-done-requires-in-CopyDecimal-clause-form
 try_body-try_copied_other-done-requires-in-CopyDecimal-clause-form t c = c.in-CopyDecimal.ensures
@@ -497,7 +497,7 @@ pub try_body-try_copied_other-done-requires-in-CopyDecimal-clause-ready : goal.t
 try_body-try_copied_other-done-requires-in-CopyDecimal-clause-ready t c = c.loop-i.invariant.ready
 
 pub try_body-try_chosen-done-requires-in-DeltaDecimal-clause-node : goal.try_body-try_chosen-done-requires-in-DeltaDecimal-clause-node
-try_body-try_chosen-done-requires-in-DeltaDecimal-clause-node t c = c.requires.nodes c.loop-i.i (omega (arith, c.if-body-slots.false, c.loop-i-test.true))
+try_body-try_chosen-done-requires-in-DeltaDecimal-clause-node t c = c.requires.nodes c.loop-i.i (omega (arith, c.if-not-has_slot_for_each.ensures.0 refl, c.loop-i-test.true))
 
 pub try_body-try_chosen-done-requires-in-DeltaDecimal-clause-form : goal.try_body-try_chosen-done-requires-in-DeltaDecimal-clause-form
 try_body-try_chosen-done-requires-in-DeltaDecimal-clause-form t c = c.in-DeltaDecimal.ensures
@@ -506,7 +506,7 @@ pub try_body-try_chosen-done-requires-in-DeltaDecimal-clause-ready : goal.try_bo
 try_body-try_chosen-done-requires-in-DeltaDecimal-clause-ready t c = c.loop-i.invariant.ready
 
 pub try_body-try_other-done-requires-clause-node : goal.try_body-try_other-done-requires-clause-node
-try_body-try_other-done-requires-clause-node t c = c.requires.nodes c.loop-i.i (omega (arith, c.if-body-slots.false, c.loop-i-test.true))
+try_body-try_other-done-requires-clause-node t c = c.requires.nodes c.loop-i.i (omega (arith, c.if-not-has_slot_for_each.ensures.0 refl, c.loop-i-test.true))
 
 pub try_body-try_other-done-requires-clause-ready : goal.try_body-try_other-done-requires-clause-ready
 try_body-try_other-done-requires-clause-ready t c = c.loop-i.invariant.ready
@@ -572,7 +572,7 @@ try_body-loop-i-preserved t c =
     let new = c.match-form_at.work in
     let x = c.index-slots-i.result in
     let inv = c.loop-i.invariant in
-    let inside : i < length c.args.body.now = omega (arith, c.if-body-slots.false, c.loop-i-test.true) in
+    let inside : i < length c.args.body.now = omega (arith, c.if-not-has_slot_for_each.ensures.0 refl, c.loop-i-test.true) in
     let done = c.match-form_at.done in
     let v = value_data c.in-One.value in
     let tried : Tried l here old v new done = elim c.match-form_at.branch [
@@ -634,7 +634,7 @@ try_body-loop-i-preserved t c =
 
 pub try_body-returns-clause-ok : goal.try_body-returns-clause-ok
 try_body-returns-clause-ok t c = λ _.
-    let past : length c.args.body.now ≤ c.loop-i.i = omega (arith, c.if-body-slots.false, c.loop-i-test.false) in
+    let past : length c.args.body.now ≤ c.loop-i.i = omega (arith, c.if-not-has_slot_for_each.ensures.0 refl, c.loop-i-test.false) in
     all_written c.args.plan.now.limits (nodes_of c.args.plan.now.templates.now) c.args.body.now c.args.slots.now c.loop-i.i c.args.work.now.ledger.now c.args.work.now.draft c.loop-i.work.ledger.now c.loop-i.work.draft c.loop-i-test.false
     (no_slot_suits (nodes_of c.args.plan.now.templates.now) c.args.body.now c.args.slots.now c.loop-i.i past c.loop-i-test.false) c.loop-i.invariant.written
 
@@ -838,17 +838,17 @@ try_segment-returns-in_err-mark-clause-fits t c = on_handed_on _ _ c.from_residu
 pub try_segment-returns-in_err-mark-clause-ok : goal.try_segment-returns-in_err-mark-clause-ok
 try_segment-returns-in_err-mark-clause-ok t c = on_handed_on _ _ c.from_residual.result c.from_residual.ensures.1
 
-pub try_body-returns-then-body-slots-clause-ok : goal.try_body-returns-then-body-slots-clause-ok
-try_body-returns-then-body-slots-clause-ok t c = λ h. absurd (cc h)
+pub try_body-returns-then-not-has_slot_for_each-clause-ok : goal.try_body-returns-then-not-has_slot_for_each-clause-ok
+try_body-returns-then-not-has_slot_for_each-clause-ok t c = λ h. absurd (cc h)
 
 pub try_body-bounds-slots-i : goal.try_body-bounds-slots-i
 try_body-bounds-slots-i t c = c.loop-i-test.true
 
 pub try_body-bounds-body-i : goal.try_body-bounds-body-i
-try_body-bounds-body-i t c = omega (arith, c.if-body-slots.false, c.loop-i-test.true)
+try_body-bounds-body-i t c = omega (arith, c.if-not-has_slot_for_each.ensures.0 refl, c.loop-i-test.true)
 
 pub try_body-try_none-requires-clause-node : goal.try_body-try_none-requires-clause-node
-try_body-try_none-requires-clause-node t c = c.requires.nodes c.loop-i.i (omega (arith, c.if-body-slots.false, c.loop-i-test.true))
+try_body-try_none-requires-clause-node t c = c.requires.nodes c.loop-i.i (omega (arith, c.if-not-has_slot_for_each.ensures.0 refl, c.loop-i-test.true))
 
 pub try_body-try_none-requires-clause-ready : goal.try_body-try_none-requires-clause-ready
 try_body-try_none-requires-clause-ready t c = c.loop-i.invariant.ready
@@ -875,7 +875,7 @@ try_body-returns-then-not-try_item t c =
     }
 
 pub try_body-form_at-requires : goal.try_body-form_at-requires
-try_body-form_at-requires t c = c.requires.nodes c.loop-i.i (omega (arith, c.if-body-slots.false, c.loop-i-test.true))
+try_body-form_at-requires t c = c.requires.nodes c.loop-i.i (omega (arith, c.if-not-has_slot_for_each.ensures.0 refl, c.loop-i-test.true))
 
 pub try_body-returns-then-is_err-2-clause-suits : goal.try_body-returns-then-is_err-2-clause-suits
 try_body-returns-then-is_err-2-clause-suits t c = λ h. absurd (cc h)
@@ -888,7 +888,7 @@ try_body-returns-then-is_err-2-clause-ok t c = λ h. absurd (cc h)
 
 pub try_body-returns-clause-suits : goal.try_body-returns-clause-suits
 try_body-returns-clause-suits t c = λ _.
-    let past : length c.args.body.now ≤ c.loop-i.i = omega (arith, c.if-body-slots.false, c.loop-i-test.false) in
+    let past : length c.args.body.now ≤ c.loop-i.i = omega (arith, c.if-not-has_slot_for_each.ensures.0 refl, c.loop-i-test.false) in
     c.loop-i.invariant.suits (no_slot_suits (nodes_of c.args.plan.now.templates.now) c.args.body.now c.args.slots.now c.loop-i.i past c.loop-i-test.false)
 
 pub try_body-returns-clause-fits : goal.try_body-returns-clause-fits
@@ -1006,14 +1006,14 @@ try_segment-returns-clause-fits t c = on_any c.seal.result (c.if-not-try_body.en
 pub try_segment-returns-clause-keeps : goal.try_segment-returns-clause-keeps
 try_segment-returns-clause-keeps t c = c.try_body.ensures.keeps
 
-pub try_body-returns-then-body-slots-clause-suits : goal.try_body-returns-then-body-slots-clause-suits
-try_body-returns-then-body-slots-clause-suits t c = λ h. absurd (cc h)
+pub try_body-returns-then-not-has_slot_for_each-clause-suits : goal.try_body-returns-then-not-has_slot_for_each-clause-suits
+try_body-returns-then-not-has_slot_for_each-clause-suits t c = λ h. absurd (cc h)
 
-pub try_body-returns-then-body-slots-clause-fits : goal.try_body-returns-then-body-slots-clause-fits
-try_body-returns-then-body-slots-clause-fits t c = λ h. absurd (cc h)
+pub try_body-returns-then-not-has_slot_for_each-clause-fits : goal.try_body-returns-then-not-has_slot_for_each-clause-fits
+try_body-returns-then-not-has_slot_for_each-clause-fits t c = λ h. absurd (cc h)
 
-pub try_body-returns-then-body-slots-clause-keeps : goal.try_body-returns-then-body-slots-clause-keeps
-try_body-returns-then-body-slots-clause-keeps t c = keeps_all c.args.work.now.ledger
+pub try_body-returns-then-not-has_slot_for_each-clause-keeps : goal.try_body-returns-then-not-has_slot_for_each-clause-keeps
+try_body-returns-then-not-has_slot_for_each-clause-keeps t c = keeps_all c.args.work.now.ledger
 
 pub try_item-returns-then-is_err-clause-accepted : goal.try_item-returns-then-is_err-clause-accepted
 try_item-returns-then-is_err-clause-accepted t c = λ h. absurd (cc h)

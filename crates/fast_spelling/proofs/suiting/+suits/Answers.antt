@@ -18,15 +18,15 @@ use Rattle.fast_spelling.proofs.limits.Depths.{item_depth, option_depth, slots_d
 use Rattle.fast_spelling.proofs.limits.Suited.{suits_length, slot_suits, slot_fails, no_slot_suits, row_suits, row_fails, no_row_suits, suits_at, fails, decimal_right}
 use Rattle.fast_spelling.proofs.suiting.+suits.Goals as goal
 
-pub suits_body-returns-then-body-slots : goal.suits_body-returns-then-body-slots
-suits_body-returns-then-body-slots t c =
-    fails (SuitsBody (body_among (nodes_of c.args.templates.now) c.args.body.now) (slots_data c.args.slots.now)) (λ h. c.if-body-slots.true (suits_length (nodes_of c.args.templates.now) c.args.body.now c.args.slots.now h))
+pub suits_body-returns-then-not-has_slot_for_each : goal.suits_body-returns-then-not-has_slot_for_each
+suits_body-returns-then-not-has_slot_for_each t c =
+    fails (SuitsBody (body_among (nodes_of c.args.templates.now) c.args.body.now) (slots_data c.args.slots.now)) (λ h. false≢true (c.if-not-has_slot_for_each.ensures.1 (suits_length (nodes_of c.args.templates.now) c.args.body.now c.args.slots.now h)))
 
 pub suits_body-suits_slot-requires : goal.suits_body-suits_slot-requires
 suits_body-suits_slot-requires t c =
     let i = c.loop-i.i in
     let x = c.index-slots-i.result in
-    let inside : i < length c.args.body.now = omega (arith, c.if-body-slots.false, c.loop-i-test.true) in
+    let inside : i < length c.args.body.now = omega (arith, c.if-not-has_slot_for_each.ensures.0 refl, c.loop-i-test.true) in
     let d : 4 * slots_depth (slots_data c.args.slots.now) + 2 ≡ t = c.decreases in
     let deep : option_depth (option_map item_data x) ≤ slots_depth (slots_data c.args.slots.now) = option_depth_at c.args.slots.now i x c.loop-i-test.true c.index-slots-i.is in
     let smaller : 4 * option_depth (option_map item_data x) + 1 < t = omega (arith, d, deep) in
@@ -35,19 +35,19 @@ suits_body-suits_slot-requires t c =
 pub suits_body-loop-i-preserved : goal.suits_body-loop-i-preserved
 suits_body-loop-i-preserved t c =
     let i = c.loop-i.i in
-    let inside : i < length c.args.body.now = omega (arith, c.if-body-slots.false, c.loop-i-test.true) in
+    let inside : i < length c.args.body.now = omega (arith, c.if-not-has_slot_for_each.ensures.0 refl, c.loop-i-test.true) in
     slot_suits (nodes_of c.args.templates.now) c.args.body.now c.args.slots.now i c.index-slots-i.result inside c.loop-i-test.true c.index-slots-i.is
     (SuitsBody (body_among (nodes_of c.args.templates.now) c.args.body.now) (slots_data c.args.slots.now)) c.loop-i.invariant (c.if-not-suits_slot.ensures.0 refl)
 
 pub suits_body-returns : goal.suits_body-returns
 suits_body-returns t c =
-    let past : length c.args.body.now ≤ c.loop-i.i = omega (arith, c.if-body-slots.false, c.loop-i-test.false) in
+    let past : length c.args.body.now ≤ c.loop-i.i = omega (arith, c.if-not-has_slot_for_each.ensures.0 refl, c.loop-i-test.false) in
     (λ _. c.loop-i.invariant.0 (no_slot_suits (nodes_of c.args.templates.now) c.args.body.now c.args.slots.now c.loop-i.i past c.loop-i-test.false), λ _. refl)
 
 pub suits_body-returns-then-not-suits_slot : goal.suits_body-returns-then-not-suits_slot
 suits_body-returns-then-not-suits_slot t c =
     let i = c.loop-i.i in
-    let inside : i < length c.args.body.now = omega (arith, c.if-body-slots.false, c.loop-i-test.true) in
+    let inside : i < length c.args.body.now = omega (arith, c.if-not-has_slot_for_each.ensures.0 refl, c.loop-i-test.true) in
     let P = SuitsBody (body_among (nodes_of c.args.templates.now) c.args.body.now) (slots_data c.args.slots.now) in
     fails P (slot_fails (nodes_of c.args.templates.now) c.args.body.now c.args.slots.now i c.index-slots-i.result inside c.loop-i-test.true c.index-slots-i.is P c.loop-i.invariant (λ h. false≢true (c.if-not-suits_slot.ensures.1 h)))
 
