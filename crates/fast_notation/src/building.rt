@@ -346,7 +346,7 @@ impl Builder<'_> {
         };
         let template = &self.set.templates[number as usize];
         let at = at.behind_reference(number, template);
-        self.build_fields(nodes, body, at, &template.fields)
+        self.build_fields(nodes, body, at, template.instructions())
     }
 }
 

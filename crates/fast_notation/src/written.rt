@@ -1,5 +1,7 @@
 //! Template sets as they are written, before references are put in place.
 
+ghost use Rattle.std.specs.Prelude.{◌≡◌};
+
 use fast_tree::Operator;
 use fast_value::Kind;
 
@@ -56,4 +58,13 @@ pub(crate) struct WrittenTemplate {
     /// The dictionary of the instructions that name none.
     pub(crate) dictionary: String,
     pub(crate) fields: Vec<WrittenInstruction>,
+}
+
+impl WrittenTemplate {
+    /// What a reference to the template stands for.
+    pub(crate) fn instructions(&self) -> &[WrittenInstruction]
+        ensures { result.now ≡ self.now.fields.items }
+    {
+        &self.fields
+    }
 }

@@ -166,7 +166,7 @@ build_reference-build_fields-requires t c =
     (subst (λ chain. CanBuild ts es chain (scope_data c.args.at.scope) (more (reference c.args.name.now) no_more) n) (sym at.ensures.chain) can) in
     let d : measure ts (suc at.result.chain) 2 ≡ t = rw at.ensures.chain c.requires.1.0 in
     let smaller = next_smaller ts k at.result.chain (written_data w) here in
-    rw (at.ensures.scope, c.deref.ensures.value) (omega (arith, d, smaller), (set, next))
+    rw (at.ensures.scope, c.instructions.ensures) (omega (arith, d, smaller), (set, next))
 
 pub build_reference-returns : goal.build_reference-returns
 build_reference-returns t c =
@@ -190,7 +190,7 @@ build_reference-returns t c =
     let after = c.build_fields.new.body.items in
     on_ok_weaker c.build_fields.result
     (λ h. subst (λ chain. IsBuilt ts es chain (scope_data c.args.at.scope) (more (reference c.args.name.now) no_more) old new before after) at.ensures.chain
-    (built_reference c.args.name.now k (written_data w) old new before after here same (rw (at.ensures.scope, c.deref.ensures.value) at h)))
+    (built_reference c.args.name.now k (written_data w) old new before after here same (rw (at.ensures.scope, c.instructions.ensures) at h)))
     c.build_fields.ensures
 
 pub build_group-add_node-requires : goal.build_group-add_node-requires
