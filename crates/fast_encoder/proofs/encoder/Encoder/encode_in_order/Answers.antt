@@ -1,10 +1,12 @@
 -- A message is refused as the rules say, or its bytes are appended.
 use Rattle.std.proofs.Common.{◌≡◌, inl, inr, ℕ, List, ◌++◌, ap, sym, subst, ◌∙◌, refl}
-use Rattle.std.specs.Prelude.{Bool, true, false, if◌then◌else◌, Option}
+use Rattle.std.specs.Prelude.{Bool, true, false, if◌then◌else◌, length, Option}
 use Rattle.fast_value.specs.declared.messages.Item.{Item}
 use Rattle.fast_value.specs.declared.settings.Limits.{Limits}
 use Rattle.fast_value.specs.meaning.Views.{message_data, slots_data}
 use Rattle.fast_tree.specs.device.Bodies.{body_among}
+use Rattle.fast_tree.specs.device.Numbers.{AreBelow}
+use Rattle.fast_dict.specs.meaning.Dictionary.{Dictionary}
 use Rattle.fast_template.specs.declared.sets.Templates.{Templates}
 use Rattle.fast_template.specs.meaning.Flat.{nodes_of, tree_of}
 use Rattle.fast_template.proofs.SetTrees.{distinct_ids}
@@ -12,12 +14,13 @@ use Rattle.fast_machine.specs.device.Positions.{set_of}
 use Rattle.fast_spelling.specs.declared.faults.EncodeFault.TheVariants.{E1, E2, E4}
 use Rattle.fast_spelling.specs.meaning.Encoding.{EncodesMessage}
 use Rattle.fast_spelling.specs.meaning.Ledgers.{LedgerData}
+use Rattle.fast_spelling.specs.device.Nodes.{IsReady, Keeps}
 use Rattle.fast_spelling.specs.meaning.Refusals.{IsRefused}
 use Rattle.fast_spelling.specs.meaning.Suiting.{SuitsBody, SuitsTemplate, FitsLimits}
 use Rattle.fast_spelling.proofs.encodings.Encoded.{encoded_is_spelled}
 use Rattle.fast_spelling.proofs.encodings.Excluded.{refused_is_not_encoded}
 use Rattle.fast_spelling.proofs.encodings.Whole.{template_suits}
-use Rattle.fast_encoder.specs.meaning.Encoders.{EncoderData, IsEncoded, IsToldOf, tree}
+use Rattle.fast_encoder.specs.meaning.Encoders.{EncoderData, IsEncoded, IsSound, IsToldOf, tree}
 use Rattle.fast_encoder.proofs.Answered.{known_so, told_alone, late_refused, unsuited, unfit}
 use mathlib.Core.List.{not-mem-nil}
 use Rattle.fast_encoder.proofs.encoder.Encoder.encode_in_order.Goals as goal
@@ -209,3 +212,39 @@ write_message-written-requires-clause-ready c = c.self.invariant.ready
 
 pub write_message-written-requires-clause-fits : goal.write_message-written-requires-clause-fits
 write_message-written-requires-clause-fits c = let fits = c.if-not-fits_limits.ensures.0 refl in rw c.deref-3.ensures.value at fits
+
+pub suits_body-requires : goal.suits_body-requires
+suits_body-requires c = subst (λ (ns : List ℕ). AreBelow (length (nodes_of c.self.inside.plan.templates.now)) ns) (sym c.deref.ensures.value) (c.self.inside.plan.templates.now.templates_name_nodes c.args.message.now.template c.in-Some.template.now c.in-Some.ensures.template)
+
+-- A ledger that was taken back is as it was, and one that was committed is sound too.
+taken_back : (old w new : LedgerData) → old.before ≡ old.now → w.before ≡ old.before → new.now ≡ w.before → new.now ≡ old.now
+taken_back old w new committed kept back = back ∙ kept ∙ committed
+
+sound_by : (t : Templates) (l : Limits) (old new : LedgerData) → IsReady t l old → length new.now ≡ length old.now → new.max_text ≡ old.max_text → new.before ≡ new.now → IsSound t l new
+sound_by t l old new h count room committed = record { ready = record { entries = count ∙ h.entries; room = h.room ∙ sym room; small = h.small; initial = h.initial }; committed = committed }
+
+sound_back : (t : Templates) (l : Limits) (old w new : LedgerData) → IsSound t l old → Keeps old w → new.now ≡ w.before → new.before ≡ w.before → new.max_text ≡ w.max_text → IsSound t l new
+sound_back t l old w new h kept now back room = sound_by t l old new h.ready (ap length (taken_back old w new h.committed kept.before now)) (room ∙ kept.room) (back ∙ sym now)
+
+as_before : (t : Templates) (l : Limits) (old w new : LedgerData) → IsSound t l old → Keeps old w → new.now ≡ w.before → before t l new ≡ before t l old
+as_before t l old w new h kept now = ap (λ (d : Dictionary). record { set = set_of t; limits = l; dictionary = d }) (taken_back old w new h.committed kept.before now)
+
+pub invariant_of-self : goal.invariant_of-self
+invariant_of-self c = sound_back c.self.inside.plan.templates.now c.self.inside.plan.limits c.self.inside.work.ledger c.write_message-written.new.ledger c.take_back.new.self c.self.invariant c.write_message-written.ensures.keeps c.take_back.ensures.now c.take_back.ensures.before c.take_back.ensures.max_text
+
+pub invariant_of-self-then-is_err : goal.invariant_of-self-then-is_err
+invariant_of-self-then-is_err c = sound_back c.self.inside.plan.templates.now c.self.inside.plan.limits c.self.inside.work.ledger c.write_message-written.new.ledger c.take_back-then-is_err.new.self c.self.invariant c.write_message-written.ensures.keeps c.take_back-then-is_err.ensures.now c.take_back-then-is_err.ensures.before c.take_back-then-is_err.ensures.max_text
+
+pub invariant_of-self-2 : goal.invariant_of-self-2
+invariant_of-self-2 c =
+    let kept = c.write_message-written.ensures.keeps in
+    sound_by c.self.inside.plan.templates.now c.self.inside.plan.limits c.self.inside.work.ledger c.commit.new.self c.self.invariant.ready (ap length c.commit.ensures.now ∙ kept.count) (c.commit.ensures.max_text ∙ kept.room) (c.commit.ensures.before ∙ sym c.commit.ensures.now)
+
+pub returns-in-Err-clause-unchanged : goal.returns-in-Err-clause-unchanged
+returns-in-Err-clause-unchanged c = (as_before c.self.inside.plan.templates.now c.self.inside.plan.limits c.self.inside.work.ledger c.write_message-written.new.ledger c.take_back.new.self c.self.invariant c.write_message-written.ensures.keeps c.take_back.ensures.now ∙ c.self.view_is, refl)
+
+pub returns-then-is_err-clause-unchanged : goal.returns-then-is_err-clause-unchanged
+returns-then-is_err-clause-unchanged c = (
+  as_before c.self.inside.plan.templates.now c.self.inside.plan.limits c.self.inside.work.ledger c.write_message-written.new.ledger c.take_back-then-is_err.new.self c.self.invariant c.write_message-written.ensures.keeps c.take_back-then-is_err.ensures.now ∙ c.self.view_is,
+  c.extend_from_slice.ensures.items ∙ ap (λ (b : Bool). if b then c.args.out.now.items ++ c.deref-4.result.now else c.args.out.now.items) c.if-is_err.ensures.negation,
+)
