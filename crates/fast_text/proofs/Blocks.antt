@@ -36,11 +36,6 @@ behind_kept (Some xs) kept text = record { after = sym (append_assoc xs kept tex
 pub kept_more : {T : Type 0} (written : T → Option (List ℕ)) (old new : BlockWriter T) (text : List ℕ) → kept_of new ≡ kept_of old ++ text → target_of new ≡ target_of old → Appends (with_kept written old) (with_kept written new) text
 kept_more written old new text kept target = rw (kept, target) (behind_kept (written (target_of old)) (kept_of old) text)
 
--- All was handed on, and the target took a text.
-pub passed_on : {T : Type 0} (written : T → Option (List ℕ)) (old mid new : BlockWriter T) (text : List ℕ) → Appends (with_kept written old) (with_kept written mid) [] → kept_of mid ≡ [] → kept_of new ≡ []
-    → Appends (written (target_of mid)) (written (target_of new)) text → Appends (with_kept written old) (with_kept written new) text
-passed_on written old mid new text first none still second = appends_both (with_kept written old) (with_kept written mid) (with_kept written new) [] text first (rw (none, still, nothing_kept (written (target_of mid)), nothing_kept (written (target_of new))) second)
-
 -- All was handed on, the target took a text, and as much is kept as before: nothing.
 pub passed_through : {T : Type 0} (written : T → Option (List ℕ)) (old mid : BlockWriter T) (target : T) (text : List ℕ) → Appends (with_kept written old) (with_kept written mid) [] → kept_of mid ≡ []
     → Appends (written (target_of mid)) (written target) text → Appends (with_kept written old) (append_known (written target) (kept_of mid)) text
