@@ -318,7 +318,8 @@ def blocks_of(said):
     """Returns the declarations of a file of answers, each with its name; what stands between them has None."""
     blocks, name = [], None
     for line in said.split("\n"):
-        if line.strip() and not line[0].isspace() and not (name and line.startswith(f"{name} ")):
+        goes_on = not line.strip() or line[0].isspace() or line[0] in ")]}" or (name and line.startswith(f"{name} "))
+        if not goes_on:
             declared = DECLARED.match(line)
             name = declared and declared[1]
             blocks.append((name, [line]))
