@@ -3,7 +3,7 @@
 ghost use Rattle.std.specs.Prelude.{ℕ, List};
 ghost use Rattle.fast_stream.specs.meaning.Events.{EventData};
 ghost use Rattle.fast_decoder.specs.meaning.Decoding.{HasRead, tree};
-ghost use Rattle.fast_records.specs.device.Waiting.{pending};
+ghost use Rattle.fast_records.specs.meaning.Waiting.{pending};
 ghost use Rattle.fast_c.specs.declared.decoding.Decoding.{Decoding};
 ghost use Rattle.fast_c.specs.meaning.Called.{IsFed};
 

@@ -17,7 +17,7 @@ use Rattle.fast_lines.specs.meaning.Lines.{line_of, lines}
 use Rattle.fast_lines.specs.meaning.Values.{HoldsBytes}
 use Rattle.fast_text.specs.meaning.Streams.{Appends}
 use Rattle.fast_text.specs.declared.line_sink.LineSink.{LineSink}
-use Rattle.fast_text.specs.device.LineSink.{TakesLine, StopsInLine}
+use Rattle.fast_text.specs.meaning.LineSink.{TakesLine, StopsInLine}
 use Rattle.fast_text.proofs.Writing.{appends_none, appends_both}
 use Rattle.fast_command.specs.device.Progress.{changed, Fed, CutShort, IsFed, IsFedAt}
 

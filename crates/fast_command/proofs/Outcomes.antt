@@ -5,7 +5,7 @@ use Rattle.fast_template.specs.declared.sets.Templates.{Templates}
 use Rattle.fast_template.specs.meaning.Flat.{tree_of}
 use Rattle.fast_tree.specs.meaning.Tree.{Tree}
 use Rattle.fast_text.specs.declared.fronts.Fronts.{Fronts}
-use Rattle.fast_text.specs.device.Fronts.{set_of}
+use Rattle.fast_text.specs.meaning.Fronts.{set_of}
 
 -- a good outcome is no failure
 pub no_err : {A E : Type 0} {x : A} {e : E} → ◌≡◌ {A = Result A E} (Ok x) (Err e) → ⊥

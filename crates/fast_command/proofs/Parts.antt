@@ -4,7 +4,7 @@ use Rattle.std.specs.Prelude.{OnErr, OnOk}
 use Rattle.fast_text.specs.declared.streams.Failed.{Failed}
 use Rattle.fast_text.specs.declared.line_writer.LineWriter.{LineWriter}
 use Rattle.fast_text.specs.meaning.Streams.{Appends, AppendsFront}
-use Rattle.fast_text.specs.device.LineWriter.{Writes, IsFresh, Finishes}
+use Rattle.fast_text.specs.meaning.LineWriter.{Writes, IsFresh, Finishes}
 use Rattle.fast_text.proofs.Writing.{ended_short, ended_whole}
 
 -- What became of a text: it was written, or a front of it was and the target failed.

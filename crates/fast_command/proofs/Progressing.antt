@@ -17,7 +17,7 @@ use Rattle.fast_stream.specs.meaning.Account.{Account, account_at}
 use Rattle.fast_decoder.specs.meaning.Decoding.{DecoderData, IsFaultAt, IsAt, HasRead, tree, account, answer}
 use Rattle.fast_decoder.proofs.streams.Ends.{read-stream}
 use Rattle.fast_template.specs.meaning.Flat.{tree_of}
-use Rattle.fast_text.specs.device.Fronts.{set_of}
+use Rattle.fast_text.specs.meaning.Fronts.{set_of}
 use Rattle.fast_lines.specs.meaning.Lines.{lines}
 use Rattle.fast_lines.specs.meaning.Hex.{Unhexed, digits_in, ArePairs}
 use Rattle.fast_lines.specs.meaning.Values.{HoldsBytes}
@@ -32,7 +32,7 @@ use Rattle.fast_command.specs.declared.faults.ShowEnd.TheVariants.{Good, Faulted
 use Rattle.fast_command.specs.declared.faults.RunFault.{RunFault}
 use Rattle.fast_command.specs.declared.faults.RunFault.TheVariants.{Write, BadHex}
 use Rattle.fast_command.specs.meaning.Closing.{fault_line, truncated_line, closing}
-use Rattle.fast_command.specs.device.Unhexing.{StandsAt}
+use Rattle.fast_command.specs.meaning.Unhexing.{StandsAt}
 use Rattle.fast_command.specs.meaning.Showing.{StandsFor, IsGoodEnd}
 use Rattle.fast_command.specs.device.Progress.{IsTaken, Progress, Change, Fed, CutShort, IsFedAt, IsFed, GoesOn, Ended, IsBadPlace, IsClosedAt, changed}
 use Rattle.fast_command.proofs.Characters.{is_shown}

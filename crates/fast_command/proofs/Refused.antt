@@ -11,7 +11,7 @@ use Rattle.fast_text.specs.meaning.Streams.{Reads}
 use Rattle.fast_command.specs.declared.faults.RunFault.{RunFault}
 use Rattle.fast_command.specs.declared.faults.RunFault.TheVariants.{Read, Write, BadHex, Templates as Refused, Make, Text, Encode, Memory}
 use Rattle.fast_command.specs.meaning.Report.{refused_by}
-use Rattle.fast_command.specs.device.Sets.{IsSetRefused}
+use Rattle.fast_command.specs.meaning.Sets.{IsSetRefused}
 use Rattle.fast_command.specs.meaning.Texts.{text_limit, IsUnread}
 
 -- all of a text was read, and it is refused with a code

@@ -6,7 +6,7 @@ use Rattle.fast_value.specs.meaning.Initial.{IsHex, IsHexDigit}
 use Rattle.fast_lines.specs.meaning.Hex.{IsBlank, IsHexOrBlank, digits_in}
 use Rattle.fast_command.specs.declared.unhexer.Place.{Place}
 use Rattle.fast_command.specs.declared.unhexer.Place.TheVariants.{Between, InPair, Bad}
-use Rattle.fast_command.specs.device.Unhexing.{StandsAt}
+use Rattle.fast_command.specs.meaning.Unhexing.{StandsAt}
 use Rattle.fast_command.proofs.Characters.{is_shown, blank_dropped, digit_shown}
 
 -- one of the two more

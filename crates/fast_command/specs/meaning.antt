@@ -4,3 +4,5 @@ pub mod Showing
 pub mod Report
 pub mod Checking
 pub mod Texts
+pub mod Sets
+pub mod Unhexing

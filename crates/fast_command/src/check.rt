@@ -2,7 +2,7 @@
 
 ghost use Rattle.std.specs.Prelude.{◌≡◌, IsTrue, IfErr, OnOk, OnErr};
 ghost use Rattle.fast_template.specs.meaning.Flat.{tree_of};
-ghost use Rattle.fast_text.specs.device.LineWriter.{Writes};
+ghost use Rattle.fast_text.specs.meaning.LineWriter.{Writes};
 ghost use Rattle.fast_text.specs.meaning.Streams.{Appends, AppendsFront};
 ghost use Rattle.fast_command.specs.meaning.Checking.{number_line, set_lines};
 

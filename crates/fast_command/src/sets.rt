@@ -1,7 +1,7 @@
 //! The template set of a call.
 
 ghost use Rattle.std.specs.Prelude.{IfOk, IfErr, IsTrue};
-ghost use Rattle.fast_command.specs.device.Sets.{IsSetRead, IsSetRefused};
+ghost use Rattle.fast_command.specs.meaning.Sets.{IsSetRead, IsSetRefused};
 
 use crate::faults::RunFault;
 use crate::texts::read_whole;

@@ -7,7 +7,7 @@ ghost use Rattle.fast_value.specs.declared.settings.Limits.{Limits};
 ghost use Rattle.fast_stream.specs.meaning.Events.{EventData};
 ghost use Rattle.fast_decoder.specs.meaning.Decoding.{HasRead, account, tree, answer, AreBadLimits};
 ghost use Rattle.std.specs.Io.KnownBytes.{IsAtEnd};
-ghost use Rattle.fast_text.specs.device.Fronts.{set_of};
+ghost use Rattle.fast_text.specs.meaning.Fronts.{set_of};
 ghost use Rattle.fast_text.specs.meaning.Streams.{Reads, Appends};
 ghost use Rattle.fast_lines.specs.meaning.Hex.{IsHexOrBlank};
 ghost use Rattle.fast_command.specs.meaning.Showing.{IsShown, IsRefusal, StandsFor, refusal_of, has_begun};

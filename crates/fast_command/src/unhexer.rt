@@ -4,7 +4,7 @@ ghost use Rattle.std.specs.Prelude.{◌≡◌, ℕ, ◌+◌, ◌*◌, ◌<◌, �
 ghost use Rattle.std.specs.Option.{option_to_list};
 ghost use Rattle.fast_value.specs.meaning.Initial.{IsHexDigit};
 ghost use Rattle.fast_lines.specs.meaning.Hex.{IsHexOrBlank, Unhexed};
-ghost use Rattle.fast_command.specs.device.Unhexing.{IsOfClass, StandsAt, Unhexes, pending};
+ghost use Rattle.fast_command.specs.meaning.Unhexing.{IsOfClass, StandsAt, Unhexes, pending};
 
 /// What a character of a hexadecimal text is.
 #[derive(Clone, Copy, Debug, PartialEq, Eq)]

@@ -8,7 +8,7 @@ use Rattle.fast_value.specs.declared.settings.Limits.{Limits}
 use Rattle.fast_notation.specs.meaning.Checked.{IsTree}
 use Rattle.fast_template.specs.declared.sets.Templates.{Templates}
 use Rattle.fast_template.specs.meaning.Flat.{nodes_of, tree_of}
-use Rattle.fast_dict.specs.device.EntryTexts.{HasLongInitial}
+use Rattle.fast_dict.specs.meaning.EntryTexts.{HasLongInitial}
 use Rattle.fast_decoder.specs.meaning.Decoding.{AreBadLimits}
 use Rattle.fast_laws.proofs.nodes.Granting.{set_is_granted}
 use Rattle.fast_messages.specs.declared.faults.TextFault.{TextFault}

@@ -3,7 +3,7 @@
 ghost use Rattle.std.specs.Prelude.{◌≡◌, ◌↔◌, ℕ, ◌+◌, ◌-◌, ◌*◌, ◌<◌, ◌≤◌, ◌^◌, List, [], ◌∷◌, length, IfOk, IsSome, None, Some, Err};
 ghost use Rattle.fast_template.specs.meaning.Flat.{tree_of, nodes_of};
 ghost use Rattle.fast_tree.specs.meaning.Sizes.{message_cap, turn_cap, stored_cap};
-ghost use Rattle.fast_dict.specs.device.EntryTexts.{HasLongInitial};
+ghost use Rattle.fast_dict.specs.meaning.EntryTexts.{HasLongInitial};
 ghost use Rattle.fast_stream.specs.meaning.Events.{EventData};
 ghost use Rattle.fast_stream.specs.meaning.Streams.{End};
 ghost use Rattle.fast_stream.specs.meaning.Begins.{Begins};

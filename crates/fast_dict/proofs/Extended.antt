@@ -7,7 +7,7 @@ use Rattle.std.proofs.lemmas.List.{drop-take, drop-append-le, take-take}
 use Rattle.fast_value.specs.declared.kinds.Kind.{Kind}
 use Rattle.fast_value.specs.declared.kinds.Kind.TheVariants as K
 use Rattle.fast_value.specs.meaning.Kinds.{text_of, value_of_text}
-use Rattle.fast_dict.specs.device.Entry.{text_length, with_text}
+use Rattle.fast_dict.specs.meaning.Entry.{text_length, with_text}
 use Rattle.fast_dict.specs.meaning.Dictionary.{PreviousData, assigned}
 use Rattle.fast_dict.specs.meaning.Slots.{text_in, length-text_in}
 use Rattle.fast_dict.specs.declared.entry.Entry.{Entry}

@@ -5,7 +5,7 @@ use Rattle.std.proofs.lemmas.List.{length-map}
 use Rattle.std.proofs.Math.ListN.{get_or-map}
 use Rattle.std.proofs.Math.Numerals.{sub-one}
 use Rattle.fast_dict.specs.meaning.Dictionary.{undefined, fresh, reset}
-use Rattle.fast_dict.specs.device.Held.{held_data, text_size}
+use Rattle.fast_dict.specs.meaning.Held.{held_data, text_size}
 use Rattle.fast_dict.specs.declared.held.Held.{Held}
 use Rattle.fast_dict.specs.declared.held.Held.TheVariants.{Undefined}
 

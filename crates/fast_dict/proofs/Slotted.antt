@@ -9,7 +9,7 @@ use Rattle.fast_dict.specs.meaning.Stores.{Terms, IsStorable}
 use Rattle.fast_dict.specs.meaning.Dictionary.{PreviousData, undefined, assigned, fresh, reset}
 use Rattle.fast_dict.specs.declared.entry.Entry.{Entry}
 use Rattle.fast_dict.specs.declared.entry.Entry.TheVariants.{Undefined, Ascii}
-use Rattle.fast_dict.specs.device.Entry.{text_length, with_text}
+use Rattle.fast_dict.specs.meaning.Entry.{text_length, with_text}
 use Rattle.fast_dict.specs.meaning.Slots.{text_in, entry_data, entries_data, length-entries, get-entries, slots_dictionary, slots_terms, HoldsAscii}
 use Rattle.fast_dict.specs.declared.slots.Slots.{Slots}
 

@@ -1,5 +1,2 @@
 -- Devices of contracts within the crates and of proofs: invariants, models of state, relations in between.
-pub mod Entry
 pub mod Places
-pub mod Held
-pub mod EntryTexts

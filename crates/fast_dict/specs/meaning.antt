@@ -9,3 +9,6 @@ pub mod Lists
 pub mod Answers
 pub mod Sending
 pub mod Rule
+pub mod Entry
+pub mod Held
+pub mod EntryTexts

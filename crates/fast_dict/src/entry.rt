@@ -4,7 +4,7 @@ ghost use Rattle.std.specs.Prelude.{◌≡◌, [], length};
 ghost use Rattle.fast_value.specs.meaning.Kinds.{text_of, U, I, Dec};
 ghost use Rattle.fast_value.specs.meaning.Values.{scalar_data};
 ghost use Rattle.fast_dict.specs.meaning.Dictionary.{assigned};
-ghost use Rattle.fast_dict.specs.device.Entry.{text_length, with_text};
+ghost use Rattle.fast_dict.specs.meaning.Entry.{text_length, with_text};
 
 use fast_value::{Kind, Scalar};
 

@@ -2,7 +2,7 @@
 
 ghost use Rattle.std.specs.Prelude.{◌≡◌, IfOk, OnErr};
 ghost use Rattle.fast_value.specs.meaning.Values.{scalar_data, value_data};
-ghost use Rattle.fast_dict.specs.device.Held.{held_data};
+ghost use Rattle.fast_dict.specs.meaning.Held.{held_data};
 ghost use Rattle.fast_dict.specs.meaning.Previous.{previous_data};
 ghost use Rattle.fast_dict.specs.meaning.Stores.{IsText};
 

@@ -1,7 +1,7 @@
 //! A dictionary that grows.
 
 ghost use Rattle.std.specs.Prelude.{◌≡◌, ℕ, ◌-◌, ◌<◌, ◌≤◌, ◌++◌, map, take, replicate, length, slice_index_or, vec_len, IfOk};
-ghost use Rattle.fast_dict.specs.device.Held.{held_data, text_size};
+ghost use Rattle.fast_dict.specs.meaning.Held.{held_data, text_size};
 ghost use Rattle.fast_dict.specs.declared.held.Held.TheVariants.{Undefined};
 
 use crate::held::{Held, owned};

@@ -15,7 +15,7 @@ ghost use Rattle.fast_value.specs.meaning.Values.{scalar_data};
 ghost use Rattle.fast_dict.specs.meaning.Operators.{keeps, gives, gives_none, delta_base, start_value, zero_in, of_kind};
 ghost use Rattle.fast_dict.specs.meaning.Answers.{outcome_data, scalar_answer};
 ghost use Rattle.fast_dict.specs.meaning.Previous.{previous_data};
-ghost use Rattle.fast_tree.specs.device.Nodes.{field_data};
+ghost use Rattle.fast_tree.specs.meaning.Nodes.{field_data};
 
 use crate::previous::Previous;
 pub use decimals::{exponent_delta, mantissa_delta};

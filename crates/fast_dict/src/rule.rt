@@ -5,7 +5,7 @@ pub mod items;
 
 ghost use Rattle.std.specs.Prelude.{◌↔◌, Bool, true, IsTrue, IfSome, IfNone, option_map};
 ghost use Rattle.fast_value.specs.meaning.Values.{scalar_data};
-ghost use Rattle.fast_tree.specs.device.Nodes.{field_data};
+ghost use Rattle.fast_tree.specs.meaning.Nodes.{field_data};
 ghost use Rattle.fast_dict.specs.meaning.Operators.{Sent as SentData};
 ghost use Rattle.fast_dict.specs.meaning.Previous.{previous_data};
 ghost use Rattle.fast_dict.specs.meaning.Rule.{Rule, GoesUnsent};

@@ -6,7 +6,7 @@ mod texts;
 ghost use Rattle.std.specs.Prelude.{◌≡◌, ℕ, ◌+◌, ◌*◌, ◌<◌, ◌≤◌, ◌^◌, ◌-◌, ◌++◌, length, take, drop, count_by, replicate, slice_index_or, vec_len, Some, None, IfOk};
 ghost use Rattle.fast_value.specs.meaning.Kinds.{text_of};
 ghost use Rattle.fast_value.specs.meaning.Values.{scalar_data};
-ghost use Rattle.fast_dict.specs.device.Entry.{text_length};
+ghost use Rattle.fast_dict.specs.meaning.Entry.{text_length};
 ghost use Rattle.fast_dict.specs.device.Places.{places_from};
 ghost use Rattle.fast_dict.specs.declared.entry.Entry.TheVariants.{Undefined};
 
@@ -36,7 +36,7 @@ pub struct Slots {
 impl Slots {
     ghost use Rattle.std.specs.Prelude.{◌≡◌, ◌≢◌, ℕ, List, [], ◌<◌, ◌≤◌, length, false, slice_index_or, slice_set, vec_len, None, IsTrue, IfOk};
     ghost use Rattle.fast_dict.specs.meaning.Dictionary.{fresh, previous_at, write_at};
-    ghost use Rattle.fast_dict.specs.device.Entry.{text_length, with_text};
+    ghost use Rattle.fast_dict.specs.meaning.Entry.{text_length, with_text};
     ghost use Rattle.fast_dict.specs.meaning.Previous.{previous_data};
     ghost use Rattle.fast_dict.specs.meaning.Slots.{slots_dictionary, slots_terms, text_in, entry_data};
     ghost use Rattle.fast_dict.specs.declared.entry.Entry.TheVariants.{Undefined};

@@ -6,7 +6,7 @@ ghost use Rattle.fast_value.specs.meaning.Views.{message_data};
 ghost use Rattle.fast_tree.specs.declared.instructions.Template.{Template};
 ghost use Rattle.fast_template.specs.meaning.Flat.{tree_of, nodes_of, templates_of};
 ghost use Rattle.fast_dict.specs.meaning.Dictionary.{fresh};
-ghost use Rattle.fast_dict.specs.device.EntryTexts.{HasLongInitial};
+ghost use Rattle.fast_dict.specs.meaning.EntryTexts.{HasLongInitial};
 ghost use Rattle.fast_decoder.specs.meaning.Decoding.{AreBadLimits};
 ghost use Rattle.fast_spelling.specs.meaning.Refusals.{IsRefused};
 ghost use Rattle.fast_spelling.specs.meaning.Suiting.{IsKnown, IsKnownAs};

@@ -8,8 +8,7 @@ use Rattle.std.proofs.lemmas.List.Elements.{All-cons, All-nil}
 use Rattle.fast_value.specs.declared.settings.Limits.{Limits}
 use Rattle.fast_tree.specs.meaning.Tree.{Tree}
 use Rattle.fast_stream.specs.meaning.Events.{EventData}
-use Rattle.fast_stream.specs.meaning.Streams.{End, Stream}
-use Rattle.fast_stream.specs.device.Readers.{AreBytes}
+use Rattle.fast_stream.specs.meaning.Streams.{End, Stream, AreBytes}
 use Rattle.fast_stream.specs.device.Running.{reading, end_of, message_begun}
 use Rattle.fast_stream.specs.meaning.Fields.{field_term}
 use Rattle.fast_stream.specs.device.Continuations.{message_then, message_of_then, body_then}

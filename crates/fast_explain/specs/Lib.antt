@@ -1,1 +1,1 @@
-pub mod device
+pub mod meaning

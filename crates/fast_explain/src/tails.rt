@@ -117,7 +117,7 @@ fn tell_digit(note: &mut Note, number: u64, place: u64, is_last: bool, digit: u8
 }
 
 impl<'t, S> Kept<'t, S> {
-    ghost use Rattle.fast_explain.specs.device.Listening.{reader_of};
+    ghost use Rattle.fast_explain.specs.meaning.Listening.{reader_of};
 
     /// The reader, of which nothing was read, of a stream of these templates, or of its hexadecimal digits.
     pub fn new(
@@ -167,7 +167,7 @@ impl<'t, S> Kept<'t, S> {
 }
 
 impl<S: Source> Source for Kept<'_, S> {
-    ghost use Rattle.fast_explain.specs.device.Listening.{reader_of};
+    ghost use Rattle.fast_explain.specs.meaning.Listening.{reader_of};
 
     ghost left = { λ s. S.left (reader_of s) };
 

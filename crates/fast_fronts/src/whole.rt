@@ -7,7 +7,7 @@
 ghost use Rattle.std.specs.Prelude.{◌≡◌, ◌≤◌, ◌≤ℤ◌, ◌↔◌, ◌∷◌, [], ℕ, Bool, List, length, true, false, IsTrue, if◌then◌else◌, pos, neg_ℤ, option_map, IfSome};
 ghost use Rattle.fast_wire.specs.meaning.Entities.{number, has_sign, signed};
 ghost use Rattle.fast_wire.specs.meaning.Integers.{Means, IsWithin, unsigned_up_to, signed_between, delta_range};
-ghost use Rattle.fast_wire.specs.device.Faulty.{NoneIsOverlong};
+ghost use Rattle.fast_wire.specs.meaning.Faulty.{NoneIsOverlong};
 ghost use Rattle.fast_fronts.specs.device.Fronts.{IsFirstInt};
 ghost use Rattle.fast_wire.specs.device.Words.{IsFrontWord};
 ghost use Rattle.fast_fronts.specs.declared.fronts.First.TheVariants.{Whole};

@@ -13,7 +13,7 @@ use Rattle.fast_tree.specs.meaning.Entries.{keeps_value}
 use Rattle.fast_tree.specs.meaning.Tree.{FieldData}
 use Rattle.fast_dict.specs.declared.entry.Entry.{Entry}
 use Rattle.fast_dict.specs.declared.slots.Slots.{Slots}
-use Rattle.fast_dict.specs.device.Entry.{with_text}
+use Rattle.fast_dict.specs.meaning.Entry.{with_text}
 use Rattle.fast_dict.specs.meaning.Dictionary.{Dictionary, PreviousData, empty, assigned, previous_at, write_at}
 use Rattle.fast_dict.specs.meaning.Operators.{decide, range_of, unsent, nothing, gives_none, integer_step, incremented, next_value}
 use Rattle.fast_dict.specs.meaning.Slots.{slots_dictionary}

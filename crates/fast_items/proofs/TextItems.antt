@@ -15,7 +15,7 @@ use Rattle.fast_dict.specs.declared.slots.Slots.{Slots}
 use Rattle.fast_dict.specs.meaning.Answers.{kept_text}
 use Rattle.fast_dict.specs.meaning.Dictionary.{Dictionary, PreviousData, undefined, empty, assigned, previous_at, write_at}
 use Rattle.fast_dict.specs.meaning.Operators.{decide, decide_by, nothing, unsent, start_value, zero_in, tail_base, of_kind, with_tail, null_empties}
-use Rattle.fast_dict.specs.device.Held.{text_size}
+use Rattle.fast_dict.specs.meaning.Held.{text_size}
 use Rattle.fast_dict.specs.meaning.Slots.{slots_dictionary, slots_texts_fit, HoldsAscii}
 use Rattle.fast_stream.specs.meaning.Fields.{sent_text}
 use Rattle.fast_stream.specs.meaning.Grammar.{give, ascii_text}

@@ -6,9 +6,9 @@
 ghost use Rattle.std.specs.Prelude.{◌≡◌, ◌≢◌, ◌<◌, Bool, true, false, [], length, Some, IfSome, option_map};
 ghost use Rattle.fast_value.specs.meaning.Kinds.{I, IsWithin, exponent_range};
 ghost use Rattle.fast_tree.specs.declared.instructions.FieldInstruction.{FieldInstruction};
-ghost use Rattle.fast_tree.specs.device.Nodes.{field_data};
+ghost use Rattle.fast_tree.specs.meaning.Nodes.{field_data};
 ghost use Rattle.fast_dict.specs.meaning.Dictionary.{Dictionary, PreviousData, previous_at, write_at};
-ghost use Rattle.fast_dict.specs.device.Entry.{text_length, with_text};
+ghost use Rattle.fast_dict.specs.meaning.Entry.{text_length, with_text};
 ghost use Rattle.fast_dict.specs.meaning.Slots.{slots_dictionary, slots_terms};
 ghost use Rattle.fast_units.specs.device.Deciding.{needs_bytes, number_data};
 ghost use Rattle.fast_items.specs.device.DecimalParts.{part_item, KeepsPart, IsPart, IsPartBy, IsPartKnown, IsUsualExponent, IsDeltaMantissa};

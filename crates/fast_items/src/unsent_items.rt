@@ -6,10 +6,10 @@
 
 ghost use Rattle.std.specs.Prelude.{◌≡◌, ◌⊎◌, ◌<◌, true, ℕ, List, length, Some, None, IfSome, IfNone};
 ghost use Rattle.fast_value.specs.meaning.Kinds.{integer_of, value_of_integer};
-ghost use Rattle.fast_dict.specs.device.Entry.{with_text};
+ghost use Rattle.fast_dict.specs.meaning.Entry.{with_text};
 ghost use Rattle.fast_dict.specs.meaning.Operators.{incremented, range_of};
 ghost use Rattle.fast_dict.specs.meaning.Slots.{slots_dictionary, slots_terms};
-ghost use Rattle.fast_tree.specs.device.Nodes.{field_data};
+ghost use Rattle.fast_tree.specs.meaning.Nodes.{field_data};
 ghost use Rattle.fast_units.specs.device.Deciding.{number_data};
 ghost use Rattle.fast_items.specs.device.FieldsAs.{IsEntryFor, IsUnsentItem};
 ghost use Rattle.fast_items.specs.device.IntegerItems.{item_held, IsDefaultItem};

@@ -12,7 +12,7 @@ ghost use Rattle.fast_notation.specs.meaning.Checked.{IsTree};
 ghost use Rattle.fast_template.specs.declared.sets.Templates.{Templates};
 ghost use Rattle.fast_template.specs.meaning.Flat.{nodes_of, tree_of};
 ghost use Rattle.fast_dict.specs.meaning.Dictionary.{PreviousData};
-ghost use Rattle.fast_dict.specs.device.EntryTexts.{HasLongInitial};
+ghost use Rattle.fast_dict.specs.meaning.EntryTexts.{HasLongInitial};
 ghost use Rattle.fast_stream.specs.meaning.Events.{EventData, SequenceStart, events};
 ghost use Rattle.fast_stream.specs.meaning.Fields.{field_phrase};
 ghost use Rattle.fast_stream.specs.meaning.Grammar.{phrase_of};

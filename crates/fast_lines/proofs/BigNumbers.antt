@@ -3,7 +3,7 @@ use Rattle.std.proofs.Common.{◌≡◌, ◌≢◌, ℕ, List, ◌∷◌, ◌++�
 use Rattle.std.specs.Prelude.{Bool, true, false, IsTrue, ◌&&◌}
 use Rattle.std.specs.Char.{IsAsciiDigit}
 use Rattle.std.proofs.lemmas.List.Elements.{All-cons, All-weaker}
-use Rattle.fast_lines.specs.device.Numbers.{IsDigits, IsSignedDigits, IsDecimalDigits, IsNumberOf, IsNumberText}
+use Rattle.fast_lines.specs.meaning.Numbers.{IsDigits, IsSignedDigits, IsDecimalDigits, IsNumberOf, IsNumberText}
 use Rattle.fast_lines.specs.meaning.Values.{Lacks}
 use Rattle.fast_lines.proofs.Splits.{first_split}
 

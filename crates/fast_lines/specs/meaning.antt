@@ -4,3 +4,4 @@ pub mod Hex
 pub mod Texts
 pub mod Values
 pub mod Forms
+pub mod Numbers

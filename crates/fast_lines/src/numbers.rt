@@ -3,7 +3,7 @@
 ghost use Rattle.std.specs.Prelude.{◌≡◌, ◌≢◌, ◌↔◌, ℕ, ◌<◌, ◌^◌, ℤ, ◌∷◌, decimal, IsTrue, IfSome, IfNone};
 ghost use Rattle.std.specs.Fmt.{signed_decimal};
 ghost use Rattle.fast_value.specs.meaning.Kinds.{IsWithin, signed_range};
-ghost use Rattle.fast_lines.specs.device.Numbers.{IsDigits, IsSignedDigits};
+ghost use Rattle.fast_lines.specs.meaning.Numbers.{IsDigits, IsSignedDigits};
 
 use itoa::Buffer;
 use std::str;

@@ -5,7 +5,7 @@ ghost use Rattle.std.specs.Fmt.{signed_decimal};
 ghost use Rattle.fast_value.specs.meaning.Kinds.{ScalarData, IsWithin, signed_range};
 ghost use Rattle.fast_value.specs.meaning.Values.{value_data};
 ghost use Rattle.fast_lines.specs.meaning.Lines.{written};
-ghost use Rattle.fast_lines.specs.device.Numbers.{IsDecimalDigits, IsNumberOf, IsNumberText};
+ghost use Rattle.fast_lines.specs.meaning.Numbers.{IsDecimalDigits, IsNumberOf, IsNumberText};
 ghost use Rattle.fast_lines.specs.meaning.Values.{IsHeld, Lacks};
 
 use crate::bytes::parse_bytes;

@@ -5,7 +5,7 @@ ghost use Rattle.fast_wire.specs.meaning.Integers.{IsWithin, exponent_range};
 ghost use Rattle.fast_value.specs.declared.settings.Limits.{Limits};
 ghost use Rattle.fast_value.specs.meaning.Values.{scalar_data};
 ghost use Rattle.fast_tree.specs.meaning.Tree.{FieldData, uses_bit};
-ghost use Rattle.fast_tree.specs.device.Nodes.{field_data};
+ghost use Rattle.fast_tree.specs.meaning.Nodes.{field_data};
 ghost use Rattle.fast_cursor.specs.device.Places.{place_left, HasBits};
 ghost use Rattle.fast_items.specs.device.DecimalParts.{IsPart, IsUsualExponent};
 ghost use Rattle.fast_machine.specs.declared.machine.Machine.{Machine};

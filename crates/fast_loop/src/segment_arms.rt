@@ -4,7 +4,7 @@ ghost use Rattle.std.specs.Prelude.{◌≡◌, ◌+◌, ◌<◌, ◌≤◌, ℕ,
 ghost use Rattle.fast_value.specs.meaning.Kinds.{U};
 ghost use Rattle.fast_value.specs.meaning.Limits.{bounds};
 ghost use Rattle.fast_tree.specs.declared.instructions.Node.{Node};
-ghost use Rattle.fast_tree.specs.device.Numbers.{AreBelow};
+ghost use Rattle.fast_tree.specs.meaning.Numbers.{AreBelow};
 ghost use Rattle.fast_tree.specs.meaning.Tree.{FieldData};
 ghost use Rattle.fast_program.specs.device.Codes.{IsGroupCoded, IsSequenceCoded};
 ghost use Rattle.fast_stream.specs.meaning.Messages.{within_limits};

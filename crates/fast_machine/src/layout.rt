@@ -4,12 +4,12 @@ ghost use Rattle.std.specs.Prelude.{◌≡◌, ◌⊎◌, ◌↔◌, ℕ, ◌<�
 ghost use Rattle.fast_value.specs.meaning.Kinds.{family, texts, text_of};
 ghost use Rattle.fast_value.specs.meaning.Values.{value_data};
 ghost use Rattle.fast_template.specs.meaning.Flat.{tree_of, nodes_of, field_data};
-ghost use Rattle.fast_tree.specs.device.NodeData.{shape_data};
-ghost use Rattle.fast_tree.specs.device.Usable.{IsUsableShape};
+ghost use Rattle.fast_tree.specs.meaning.NodeData.{shape_data};
+ghost use Rattle.fast_tree.specs.meaning.Usable.{IsUsableShape};
 ghost use Rattle.fast_dict.specs.meaning.Dictionary.{fresh};
 ghost use Rattle.fast_dict.specs.meaning.Slots.{slots_dictionary, slots_terms};
 ghost use Rattle.fast_dict.specs.meaning.Stores.{IsText};
-ghost use Rattle.fast_dict.specs.device.EntryTexts.{AnyField, IsLongText, HasLongInitial, MayHoldText, HoldsTextAt, NeedsText};
+ghost use Rattle.fast_dict.specs.meaning.EntryTexts.{AnyField, IsLongText, HasLongInitial, MayHoldText, HoldsTextAt, NeedsText};
 ghost use Rattle.fast_machine.specs.device.Serving.{ServesNodes};
 
 use fast_dict::Slots;

@@ -4,7 +4,7 @@ ghost use Rattle.std.specs.Prelude.{◌≡◌, ◌<◌, ◌≤◌, false, IfOk, 
 ghost use Rattle.fast_template.specs.meaning.Flat.{nodes_of};
 ghost use Rattle.fast_value.specs.declared.settings.Limits.{Limits};
 ghost use Rattle.fast_tree.specs.meaning.Tree.{identifier};
-ghost use Rattle.fast_dict.specs.device.EntryTexts.{HasLongInitial};
+ghost use Rattle.fast_dict.specs.meaning.EntryTexts.{HasLongInitial};
 ghost use Rattle.fast_machine.specs.declared.machine.Machine.{Machine};
 ghost use Rattle.fast_dict.specs.meaning.Dictionary.{reset};
 ghost use Rattle.fast_machine.specs.device.Positions.{Set, set_of, IsSupplied, IsFresh, is_idle};

@@ -4,7 +4,7 @@ ghost use Rattle.std.specs.Prelude.{◌≡◌, ◌≢◌, ◌<◌, ℕ, [], Bool
 ghost use Rattle.fast_value.specs.meaning.Kinds.{exponent_range};
 ghost use Rattle.fast_value.specs.meaning.Values.{scalar_data};
 ghost use Rattle.fast_value.specs.meaning.Limits.{Bounds, bounds};
-ghost use Rattle.fast_tree.specs.device.Nodes.{field_data};
+ghost use Rattle.fast_tree.specs.meaning.Nodes.{field_data};
 ghost use Rattle.fast_tree.specs.meaning.Tree.{FieldData};
 ghost use Rattle.fast_dict.specs.meaning.Dictionary.{Dictionary};
 ghost use Rattle.fast_dict.specs.meaning.Operators.{ranged};

@@ -3,7 +3,7 @@
 ghost use Rattle.std.specs.Prelude.{◌≡◌, ◌≢◌, ◌+◌, ℕ, true, List, [], length, Ok, IfSome, IfNone};
 ghost use Rattle.fast_wire.specs.device.Words.{IsShortEntity};
 ghost use Rattle.fast_value.specs.meaning.Limits.{Bounds};
-ghost use Rattle.fast_tree.specs.device.Nodes.{field_data};
+ghost use Rattle.fast_tree.specs.meaning.Nodes.{field_data};
 ghost use Rattle.fast_dict.specs.meaning.Dictionary.{previous_at};
 ghost use Rattle.fast_dict.specs.meaning.Slots.{slots_dictionary, slots_terms};
 ghost use Rattle.fast_stream.specs.meaning.Fields.{field_term};

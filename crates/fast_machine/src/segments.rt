@@ -5,7 +5,7 @@ ghost use Rattle.std.specs.Prelude.{◌≡◌, ◌⊎◌, ◌+◌, ◌<◌, ◌�
 ghost use Rattle.std.specs.Prelude.{IfErr, MatchResult};
 ghost use Rattle.fast_stream.specs.meaning.Events.{ElementStart, ElementEnd};
 ghost use Rattle.fast_value.specs.meaning.Limits.{bounds};
-ghost use Rattle.fast_tree.specs.device.Numbers.{AreBelow};
+ghost use Rattle.fast_tree.specs.meaning.Numbers.{AreBelow};
 ghost use Rattle.fast_tree.specs.meaning.Sizes.{body_depth};
 ghost use Rattle.fast_tree.specs.meaning.Tree.{bits_of};
 ghost use Rattle.fast_dict.specs.meaning.Slots.{slots_dictionary};

@@ -2,8 +2,8 @@
 
 ghost use Rattle.std.specs.Prelude.{◌≡◌, ◌≢◌, ◌+◌, ◌<◌, ◌≤◌, ℕ, suc, [], Ok, drop, length, length as list_length, IfOk, Some};
 ghost use Rattle.fast_value.specs.meaning.Limits.{bounds};
-ghost use Rattle.fast_tree.specs.device.Nodes.{field_data};
-ghost use Rattle.fast_tree.specs.device.Numbers.{AreBelow};
+ghost use Rattle.fast_tree.specs.meaning.Nodes.{field_data};
+ghost use Rattle.fast_tree.specs.meaning.Numbers.{AreBelow};
 ghost use Rattle.fast_tree.specs.meaning.Sizes.{body_depth};
 ghost use Rattle.fast_tree.specs.meaning.Tree.{bits_of};
 ghost use Rattle.fast_dict.specs.meaning.Slots.{slots_dictionary, slots_terms};

@@ -5,7 +5,7 @@ ghost use Rattle.fast_wire.specs.meaning.Maps.{later_bits};
 ghost use Rattle.fast_value.specs.meaning.Kinds.{integer_of};
 ghost use Rattle.fast_value.specs.meaning.Values.{scalar_data};
 ghost use Rattle.fast_value.specs.meaning.Limits.{Bounds};
-ghost use Rattle.fast_tree.specs.device.Nodes.{field_data};
+ghost use Rattle.fast_tree.specs.meaning.Nodes.{field_data};
 ghost use Rattle.fast_tree.specs.meaning.Tree.{FieldData, uses_bit};
 ghost use Rattle.fast_dict.specs.meaning.Dictionary.{Dictionary};
 ghost use Rattle.fast_dict.specs.meaning.Slots.{slots_dictionary};

@@ -1,8 +1,8 @@
 //! What a machine does without a byte: fields that are not sent, starts and ends of segments.
 
 ghost use Rattle.std.specs.Prelude.{◌≡◌, ◌≢◌, ◌<◌, ℕ, [], Ok, drop, length, Some};
-ghost use Rattle.fast_tree.specs.device.Nodes.{field_data};
-ghost use Rattle.fast_tree.specs.device.Numbers.{AreBelow};
+ghost use Rattle.fast_tree.specs.meaning.Nodes.{field_data};
+ghost use Rattle.fast_tree.specs.meaning.Numbers.{AreBelow};
 ghost use Rattle.fast_dict.specs.meaning.Slots.{slots_terms};
 ghost use Rattle.fast_cursor.specs.device.Runs.{IsRun};
 ghost use Rattle.fast_units.specs.device.Settling.{Serves};

@@ -5,4 +5,3 @@ pub mod Naming
 pub mod Progress
 pub mod Refusing
 pub mod Runs
-pub mod Codes

@@ -4,3 +4,4 @@ pub mod Distinct
 pub mod Lined
 pub mod Reading
 pub mod Unsaid
+pub mod Codes

@@ -3,8 +3,8 @@
 ghost use Rattle.std.specs.Prelude.{◌≡◌, ◌≢◌, ◌≤◌, ◌∷◌, ◌++◌, length, IsUtf8, IsTrue, IsSome, IfSome, IfNone, IfOk, IfErr};
 ghost use Rattle.fast_lines.specs.meaning.Forms.{LineData, IsForm, line_data, text_of_line};
 ghost use Rattle.fast_lines.specs.meaning.Values.{Lacks};
-ghost use Rattle.fast_messages.specs.device.Ahead.{IsValueOf, TellsValue, TellsNone, IsAt, IsAtText, IsNextNumber, IsNextText, IsOneLine, OnBadLine, HasNoValue, HasNoLines};
-ghost use Rattle.fast_messages.specs.meaning.Reading.{closed};
+ghost use Rattle.fast_messages.specs.device.Ahead.{IsValueOf, TellsValue, TellsNone, IsAt, IsAtText, IsNextNumber, IsNextText, IsOneLine, HasNoValue, HasNoLines};
+ghost use Rattle.fast_messages.specs.meaning.Reading.{closed, OnBadLine};
 
 use crate::faults::{LineFault, TextFault};
 use fast_lines::forms::{Line, parse_line};

@@ -39,7 +39,7 @@ pub enum LineFault {
 
 impl LineFault {
     ghost use Rattle.std.specs.Prelude.{◌≡◌};
-    ghost use Rattle.fast_messages.specs.device.Codes.{line_number};
+    ghost use Rattle.fast_messages.specs.meaning.Codes.{line_number};
 
     /// The number of the kind, for a caller that cannot be handed an enum. It is never given to another kind; of two kinds that
     /// apply to a line the one with the lesser number is told.

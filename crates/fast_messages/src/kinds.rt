@@ -2,7 +2,7 @@
 
 ghost use Rattle.std.specs.Prelude.{◌↔◌, ◌<◌, length, slice_index, IsTrue, None};
 ghost use Rattle.fast_tree.specs.meaning.AsWritten.{IsNameByte};
-ghost use Rattle.fast_tree.specs.device.Numbers.{AreBelow};
+ghost use Rattle.fast_tree.specs.meaning.Numbers.{AreBelow};
 ghost use Rattle.fast_template.specs.meaning.Flat.{nodes_of};
 ghost use Rattle.fast_spelling.specs.device.Nodes.{instruction_in};
 ghost use Rattle.fast_spelling.specs.meaning.Suiting.{Suits};

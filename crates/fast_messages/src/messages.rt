@@ -4,12 +4,12 @@ ghost use Rattle.std.specs.Prelude.{◌≡◌, ◌<◌, ◌↔◌, ◌+◌, ℕ,
 ghost use Rattle.fast_value.specs.meaning.Kinds.{U, I, Dec};
 ghost use Rattle.fast_value.specs.meaning.Values.{value_data};
 ghost use Rattle.fast_value.specs.meaning.Views.{item_data, slots_data, elements_data, message_data};
-ghost use Rattle.fast_tree.specs.device.Numbers.{AreBelow};
-ghost use Rattle.fast_tree.specs.device.Bodies.{body_among};
+ghost use Rattle.fast_tree.specs.meaning.Numbers.{AreBelow};
+ghost use Rattle.fast_tree.specs.meaning.Nodes.{body_among};
 ghost use Rattle.fast_template.specs.meaning.Flat.{nodes_of, tree_of};
 ghost use Rattle.fast_lines.specs.meaning.Forms.{line_data, sequence as sequence_line};
 ghost use Rattle.fast_spelling.specs.device.Nodes.{instruction_in};
-ghost use Rattle.fast_messages.specs.device.Ahead.{OnBadLine};
+ghost use Rattle.fast_messages.specs.meaning.Reading.{OnBadLine};
 ghost use Rattle.fast_messages.specs.device.Cursors.{IsNear};
 ghost use Rattle.fast_messages.specs.declared.faults.LineFault.TheVariants as LineFault;
 ghost use Rattle.fast_messages.specs.declared.faults.TextFault.TheVariants.{BadLine};

@@ -2,7 +2,6 @@
 pub mod Segments
 pub mod Reading
 pub mod WrittenSets
-pub mod Unwritten
 pub mod WrittenReading
 pub mod Sound
 pub mod References
@@ -13,4 +12,3 @@ pub mod Builders
 pub mod ReadSets
 pub mod Extents
 pub mod Cycles
-pub mod Codes

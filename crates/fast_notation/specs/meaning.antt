@@ -9,3 +9,5 @@ pub mod Faults
 pub mod Firsts
 pub mod FivePasses
 pub mod SetTrees
+pub mod Codes
+pub mod Unwritten

@@ -37,7 +37,7 @@ pub enum StaticCode {
 
 impl StaticCode {
     ghost use Rattle.std.specs.Prelude.{◌≡◌};
-    ghost use Rattle.fast_notation.specs.device.Codes.{static_code_text};
+    ghost use Rattle.fast_notation.specs.meaning.Codes.{static_code_text};
 
     /// The name of the code: `S1`, where `Display` says in words what is wrong.
     pub fn name(self) -> &'static str

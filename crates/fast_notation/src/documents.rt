@@ -7,7 +7,7 @@ ghost use Rattle.toml.specs.View.{view, items_view, array_view, table_view};
 ghost use Rattle.fast_notation.specs.meaning.Firsts.{IsFirstUnwritten};
 ghost use Rattle.fast_notation.specs.meaning.Notation.{WritesSet};
 ghost use Rattle.fast_notation.specs.device.Reading.{id_of, dictionary_of, template_of, template_in, all_templates, tables_of, are_tables, are_templates};
-ghost use Rattle.fast_notation.specs.device.Unwritten.{IsUnwritten};
+ghost use Rattle.fast_notation.specs.meaning.Unwritten.{IsUnwritten};
 ghost use Rattle.fast_notation.specs.device.WrittenReading.{IsUnread};
 ghost use Rattle.fast_notation.specs.device.WrittenSets.{written_data, templates_data};
 

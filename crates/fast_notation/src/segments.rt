@@ -2,8 +2,8 @@
 
 ghost use Rattle.std.specs.Prelude.{◌≡◌, ◌↔◌, ◌<◌, ◌^◌, length, map, take, slice_get, slice_index_or, All, Some, IsTrue, OnOk, IfErr};
 ghost use Rattle.fast_notation.specs.meaning.Checked.{IsNarrowInside};
-ghost use Rattle.fast_tree.specs.device.Nodes.{body_of, instructions_from, no_instruction, template_data};
-ghost use Rattle.fast_tree.specs.device.Numbers.{AreBelow, NameNodes, NameLaterNodes};
+ghost use Rattle.fast_tree.specs.meaning.Nodes.{body_of, instructions_from, no_instruction, template_data};
+ghost use Rattle.fast_tree.specs.meaning.Numbers.{AreBelow, NameNodes, NameLaterNodes};
 ghost use Rattle.fast_notation.specs.device.Segments.{IsNarrowSegment, IsNarrow, IsWide};
 ghost use Rattle.fast_tree.specs.meaning.Tree.{bits_of, TemplateData};
 

@@ -3,7 +3,8 @@
 ghost use Rattle.std.specs.Prelude.{◌≡◌, ℕ, List, ◌≤◌, ◌<◌, ◌^◌, length, nat_eq};
 ghost use Rattle.std.specs.HashMap.{get, get_by_text};
 ghost use Rattle.fast_notation.specs.meaning.Labels.{AreInPreorder};
-ghost use Rattle.fast_tree.specs.device.Numbers.{NameNodes, NameLaterNodes, HaveDistinctIds, number_of_name, number_of_id};
+ghost use Rattle.fast_tree.specs.device.Numbers.{HaveDistinctIds, number_of_name, number_of_id};
+ghost use Rattle.fast_tree.specs.meaning.Numbers.{NameNodes, NameLaterNodes};
 ghost use Rattle.fast_tree.specs.device.Usable.{AreUsable};
 
 use fast_tree::{Node, Template};

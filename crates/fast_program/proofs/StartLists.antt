@@ -3,7 +3,7 @@ use Rattle.std.proofs.Common.{refl, sym, ap, subst, inl, inr, ◌∙◌, take}
 use Rattle.std.specs.Prelude.{◌≡◌, ℕ, zero, suc, List, [], ◌∷◌, ◌++◌, length, slice_get, Some}
 use Rattle.fast_tree.specs.declared.instructions.Node.{Node}
 use Rattle.fast_tree.specs.declared.instructions.Template.{Template}
-use Rattle.fast_tree.specs.device.Numbers.{numbers_of}
+use Rattle.fast_tree.specs.meaning.Numbers.{numbers_of}
 use Rattle.fast_program.specs.declared.ops.Op.{Op}
 use Rattle.fast_program.specs.declared.starts.Start.{Start}
 use Rattle.fast_program.specs.device.Starts.{IsStartOf, AreInOrder}

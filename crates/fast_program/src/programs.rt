@@ -1,7 +1,7 @@
 //! A template set as one row of ops.
 
 ghost use Rattle.std.specs.Prelude.{◌≡◌, ◌<◌, ◌≤◌, ◌^◌, [], IfOk, OnOk, length};
-ghost use Rattle.fast_tree.specs.device.Numbers.{numbers_of, AreBelow, NameNodes, NameLaterNodes};
+ghost use Rattle.fast_tree.specs.meaning.Numbers.{numbers_of, AreBelow, NameNodes, NameLaterNodes};
 ghost use Rattle.fast_program.specs.device.Runs.{Begins};
 ghost use Rattle.fast_program.specs.device.Starts.{IsStartOf, AreInOrder};
 ghost use Rattle.fast_program.specs.device.Programs.{Extends, AreStarts, BeginsNode, IsProgramOf};

@@ -3,9 +3,7 @@
 ghost use Rattle.std.specs.Prelude.{map, IfOk, IfErr};
 ghost use Rattle.fast_value.specs.meaning.Views.{message_data};
 ghost use Rattle.fast_template.specs.meaning.Flat.{tree_of};
-ghost use Rattle.fast_messages.specs.device.Ahead.{OnBadLine};
-ghost use Rattle.fast_messages.specs.device.Runs.{IsLineOf};
-ghost use Rattle.fast_messages.specs.meaning.Reading.{Says};
+ghost use Rattle.fast_messages.specs.meaning.Reading.{Says, OnBadLine, IsLineOf};
 ghost use Rattle.fast_messages.specs.meaning.Unsaid.{SaysNothing};
 
 use fast_messages::cursors::Cursor;

@@ -13,8 +13,8 @@ use Rattle.fast_records.specs.declared.records.Record.{Record}
 use Rattle.fast_records.specs.declared.feeding.Outcome.{Outcome}
 use Rattle.fast_records.specs.declared.waiting.Waiting.{Waiting}
 use Rattle.fast_records.specs.declared.sink.RecordSink.{RecordSink}
-use Rattle.fast_records.specs.device.Waiting.{pending}
-use Rattle.fast_records.specs.device.Sink.{Shows, IsSameSink, TakesRecord, RefusesRecord}
+use Rattle.fast_records.specs.meaning.Waiting.{pending}
+use Rattle.fast_records.specs.meaning.Sink.{Shows, IsSameSink, TakesRecord, RefusesRecord}
 use Rattle.fast_records.specs.meaning.Feeding.{Appends, Stays, Delivers, outcome_of}
 
 -- a list takes events

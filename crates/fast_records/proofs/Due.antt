@@ -8,9 +8,8 @@ use Rattle.fast_tree.specs.declared.instructions.Node.{Node}
 use Rattle.fast_tree.specs.declared.instructions.Shape.{Shape}
 use Rattle.fast_tree.specs.declared.instructions.Shape.TheVariants.{Field, Decimal, Group, Sequence}
 use Rattle.fast_tree.specs.meaning.Tree.{Label, FieldData, Instruction, field, parts, group, sequence, Body, end, step, TemplateData, Tree}
-use Rattle.fast_tree.specs.device.Bodies.{body_among}
-use Rattle.fast_tree.specs.device.Nodes.{label_of, no_instruction, instruction_of, instructions_from}
-use Rattle.fast_tree.specs.device.Numbers.{AreBelow}
+use Rattle.fast_tree.specs.meaning.Nodes.{label_of, no_instruction, instruction_of, instructions_from, body_among}
+use Rattle.fast_tree.specs.meaning.Numbers.{AreBelow}
 use Rattle.fast_stream.specs.meaning.Events.{EventData, MessageStart, FieldValue, GroupStart, GroupEnd, SequenceStart, ElementStart, ElementEnd, SequenceEnd, MessageEnd, element_events, item_events, body_events, template_events, events}
 use Rattle.fast_stream.specs.declared.events.Event.{Event}
 use Rattle.fast_stream.specs.meaning.Handed.{event_data}
@@ -20,9 +19,9 @@ use Rattle.fast_records.specs.declared.putting.Mark.{Mark}
 use Rattle.fast_records.specs.declared.putting.Mark.TheVariants as Is
 use Rattle.fast_records.specs.declared.putting.PutFault.{PutFault}
 use Rattle.fast_records.specs.declared.putting.PutFault.TheVariants as Put
-use Rattle.fast_records.specs.meaning.Putting.{OnMisplaced}
+use Rattle.fast_records.specs.meaning.Putting.{OnMisplaced, HasNoMessage}
 use Rattle.fast_records.specs.device.Putting.{mark_event, IsBodyPut}
-use Rattle.fast_records.specs.device.Due.{IsDue, HasNoBody, IsLeft, Passes, IsStuck, HasNoRows, AreLeft, HasNoFront, HasNoMessage}
+use Rattle.fast_records.specs.device.Due.{IsDue, HasNoBody, IsLeft, Passes, IsStuck, HasNoRows, AreLeft, HasNoFront}
 use Rattle.fast_records.proofs.Within.{IsThere, item_rest, element_rest, message_rest}
 
 -- what is so of records that are called misplaced

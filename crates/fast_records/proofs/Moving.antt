@@ -10,7 +10,8 @@ use Rattle.fast_records.specs.declared.room.Room.{Room}
 use Rattle.fast_records.specs.declared.waiting.Waiting.{Waiting}
 use Rattle.fast_records.specs.meaning.Records.{record_of, event_text, records_of, texts_of}
 use Rattle.fast_records.specs.device.Room.{texts_in, Adds, IsAsFilled}
-use Rattle.fast_records.specs.device.Waiting.{pending, Holds, Moves}
+use Rattle.fast_records.specs.device.Waiting.{Holds, Moves}
+use Rattle.fast_records.specs.meaning.Waiting.{pending}
 
 -- the records of one event more
 pub records_of-append : (p : ℕ) (es : List EventData) (e : EventData) → records_of p (es ++ e ∷ []) ≡ records_of p es ++ record_of (p + length (texts_of es)) e ∷ []

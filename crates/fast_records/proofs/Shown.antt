@@ -7,8 +7,9 @@ use Rattle.fast_records.specs.declared.room.Room.{Room}
 use Rattle.fast_records.specs.declared.sink.RecordSink.{RecordSink}
 use Rattle.fast_records.specs.meaning.Records.{record_of, event_text}
 use Rattle.fast_records.specs.device.Room.{records_in, texts_in, Adds, IsUnchanged}
-use Rattle.fast_records.specs.device.Waiting.{pending, Moves}
-use Rattle.fast_records.specs.device.Sink.{room_of, Shows, IsSameSink, TakesRecord, RefusesRecord}
+use Rattle.fast_records.specs.device.Waiting.{Moves}
+use Rattle.fast_records.specs.meaning.Waiting.{pending}
+use Rattle.fast_records.specs.meaning.Sink.{room_of, Shows, IsSameSink, TakesRecord, RefusesRecord}
 use Rattle.fast_records.specs.declared.waiting.Waiting.{Waiting}
 use Rattle.fast_records.proofs.Moving.{holds_more, holds_same}
 

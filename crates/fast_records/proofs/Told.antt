@@ -11,8 +11,7 @@ use Rattle.fast_stream.specs.meaning.Handed.{event_data}
 use Rattle.fast_records.specs.declared.putting.PutFault.{PutFault}
 use Rattle.fast_records.specs.declared.putting.PutFault.TheVariants as Put
 use Rattle.fast_records.specs.meaning.Lent.{Tells, AreTold}
-use Rattle.fast_records.specs.meaning.Putting.{OnMisplacedAt, IsPlaced}
-use Rattle.fast_records.specs.device.Due.{IsWithin}
+use Rattle.fast_records.specs.meaning.Putting.{OnMisplacedAt, IsPlaced, IsWithin}
 
 told_more : (texts : List ℕ) (rs : List Record) (r : Record) (es : List EventData) (e : EventData) → AreTold texts rs es → Tells texts r e → AreTold texts (rs ++ r ∷ []) (es ++ e ∷ [])
 told_more texts [] r [] e told one = (one, tt)

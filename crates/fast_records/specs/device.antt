@@ -3,5 +3,4 @@ pub mod Due
 pub mod Lent
 pub mod Putting
 pub mod Room
-pub mod Sink
 pub mod Waiting

@@ -4,3 +4,5 @@ pub mod Lent
 pub mod Putting
 pub mod Records
 pub mod Status
+pub mod Waiting
+pub mod Sink

@@ -3,7 +3,7 @@
 ghost use Rattle.std.specs.Prelude.{◌≡◌, ℕ, ◌+◌, ◌≤◌, ◌==◌, ◌&&◌, nat_lt, List, length, take, IsSome, Err, Ok};
 ghost use Rattle.fast_stream.specs.meaning.Events.{EventData};
 ghost use Rattle.fast_decoder.specs.meaning.Decoding.{HasRead, tree, account, answer};
-ghost use Rattle.fast_records.specs.device.Waiting.{pending};
+ghost use Rattle.fast_records.specs.meaning.Waiting.{pending};
 ghost use Rattle.fast_records.specs.meaning.Feeding.{Delivers, unfinished, outcome_of};
 
 use crate::records::Record;

@@ -38,9 +38,9 @@ impl<'a> RecordSink<'a> {
     ghost use Rattle.fast_records.specs.meaning.Records.{text_record, field_record, record_of, event_text};
     ghost use Rattle.std.specs.Bool.{OnTrue, OnFalse};
     ghost use Rattle.fast_stream.specs.meaning.Handed.{event_data};
-    ghost use Rattle.fast_records.specs.device.Waiting.{pending};
+    ghost use Rattle.fast_records.specs.meaning.Waiting.{pending};
     ghost use Rattle.fast_records.specs.device.Room.{Adds, IsUnchanged};
-    ghost use Rattle.fast_records.specs.device.Sink.{room_of, Shows, IsSameSink, TakesRecord, RefusesRecord};
+    ghost use Rattle.fast_records.specs.meaning.Sink.{room_of, Shows, IsSameSink, TakesRecord, RefusesRecord};
 
     /// A sink over empty buffers, into which what waits was handed over as far as it has room.
     pub(crate) fn new(
@@ -197,7 +197,7 @@ impl<'a> RecordSink<'a> {
 }
 
 impl Sink for RecordSink<'_> {
-    ghost use Rattle.fast_records.specs.device.Sink.{TakesRecord, RefusesRecord};
+    ghost use Rattle.fast_records.specs.meaning.Sink.{TakesRecord, RefusesRecord};
 
     ghost takes = { TakesRecord };
 

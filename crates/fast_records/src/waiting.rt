@@ -4,7 +4,8 @@ ghost use Rattle.std.specs.Prelude.{◌≡◌, [], ◌∷◌, ◌++◌, ◌==◌
 ghost use Rattle.fast_stream.specs.meaning.Handed.{event_data};
 ghost use Rattle.fast_decoder.specs.meaning.Recorded.{recorded_data};
 ghost use Rattle.fast_records.specs.device.Room.{SameBuffers};
-ghost use Rattle.fast_records.specs.device.Waiting.{pending, Moves};
+ghost use Rattle.fast_records.specs.device.Waiting.{Moves};
+ghost use Rattle.fast_records.specs.meaning.Waiting.{pending};
 
 use crate::records::{record_of, text_of};
 use crate::room::Room;

@@ -5,6 +5,5 @@ pub mod Nodes
 pub mod Progress
 pub mod Groups
 pub mod Usual
-pub mod Codes
 pub mod Checked
 pub mod Forms

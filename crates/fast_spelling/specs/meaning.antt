@@ -6,3 +6,4 @@ pub mod Entries
 pub mod Ledgers
 pub mod Again
 pub mod Refused
+pub mod Codes

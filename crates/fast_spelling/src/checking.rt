@@ -10,8 +10,8 @@ ghost use Rattle.std.specs.Prelude.{◌≡◌, ◌+◌, ◌<◌, length, Some, O
 ghost use Rattle.fast_value.specs.meaning.Messages.{total};
 ghost use Rattle.fast_value.specs.meaning.Views.{item_data, message_data, slots_data};
 ghost use Rattle.fast_template.specs.meaning.Flat.{nodes_of, tree_of};
-ghost use Rattle.fast_tree.specs.device.Numbers.{AreBelow};
-ghost use Rattle.fast_tree.specs.device.Bodies.{body_among};
+ghost use Rattle.fast_tree.specs.meaning.Numbers.{AreBelow};
+ghost use Rattle.fast_tree.specs.meaning.Nodes.{body_among};
 ghost use Rattle.fast_spelling.specs.device.Checked.{IsAccepted};
 ghost use Rattle.fast_spelling.specs.meaning.Encoding.{Encodes, EncodesBody, EncodesMessage};
 ghost use Rattle.fast_spelling.specs.device.Fields.{Wrote, WroteSegment};

@@ -27,7 +27,7 @@ pub enum EncodeFault {
 
 impl EncodeFault {
     ghost use Rattle.std.specs.Prelude.{◌≡◌};
-    ghost use Rattle.fast_spelling.specs.device.Codes.{encode_number, encode_text};
+    ghost use Rattle.fast_spelling.specs.meaning.Codes.{encode_number, encode_text};
 
     /// The number of the fault, for a caller that cannot be handed an enum. It is never given to another fault.
     pub fn number(self) -> u8

@@ -2,7 +2,7 @@
 
 ghost use Rattle.std.specs.Prelude.{◌++◌, ◌∷◌, [], ◌≡◌, ◌<◌, ◌≤◌, ◌+◌, ◌-◌, ◌*◌, ◌^◌, ◌<ℤ◌, ◌≤ℤ◌, ◌-ℤ◌, neg_ℤ, Some, pos, negsuc, true, false, OnOk};
 ghost use Rattle.fast_wire.specs.meaning.Integers.{signed_range, IsWithin, Means};
-ghost use Rattle.fast_wire.specs.device.Shortest.{IsShortest};
+ghost use Rattle.fast_wire.specs.meaning.Shortest.{IsShortest};
 ghost use Rattle.fast_spelling.specs.device.Drafts.{Adds};
 ghost use Rattle.fast_spelling.specs.device.Groups.{IsGroups, IsLeast};
 

@@ -1,7 +1,7 @@
 //! A field with what is asked of it most often at hand, so that its node is not looked at.
 
 ghost use Rattle.std.specs.Prelude.{◌≡◌};
-ghost use Rattle.fast_tree.specs.device.Nodes.{field_data};
+ghost use Rattle.fast_tree.specs.meaning.Nodes.{field_data};
 
 use fast_template::FieldInstruction;
 use fast_value::Kind;

@@ -4,7 +4,7 @@ ghost use Rattle.std.specs.Prelude.{◌≡◌, ◌<◌, ◌≤◌, ◌-◌, ◌+
 ghost use Rattle.fast_value.specs.meaning.Kinds.{text_of};
 ghost use Rattle.fast_value.specs.meaning.Values.{scalar_data};
 ghost use Rattle.fast_dict.specs.meaning.Dictionary.{assigned, empty, fresh, reset, previous_at, write_at};
-ghost use Rattle.fast_dict.specs.device.Held.{text_size};
+ghost use Rattle.fast_dict.specs.meaning.Held.{text_size};
 ghost use Rattle.fast_dict.specs.meaning.Previous.{previous_data};
 ghost use Rattle.fast_spelling.specs.meaning.Entries.{IsShort};
 ghost use Rattle.fast_spelling.specs.meaning.Ledgers.{all_now, all_before, AreKept};

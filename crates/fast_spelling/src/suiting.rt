@@ -6,8 +6,8 @@ ghost use Rattle.fast_value.specs.meaning.Messages.{count};
 ghost use Rattle.fast_value.specs.meaning.Values.{value_data};
 ghost use Rattle.fast_value.specs.meaning.Views.{item_data, slots_data, elements_data};
 ghost use Rattle.fast_template.specs.meaning.Flat.{nodes_of};
-ghost use Rattle.fast_tree.specs.device.Numbers.{AreBelow};
-ghost use Rattle.fast_tree.specs.device.Bodies.{body_among};
+ghost use Rattle.fast_tree.specs.meaning.Numbers.{AreBelow};
+ghost use Rattle.fast_tree.specs.meaning.Nodes.{body_among};
 ghost use Rattle.fast_spelling.specs.device.Nodes.{instruction_in};
 ghost use Rattle.fast_spelling.specs.meaning.Suiting.{IsRight, AreRight, Suits, SuitsBody};
 

@@ -3,8 +3,8 @@
 ghost use Rattle.std.specs.Prelude.{◌<◌, length, Some, OnOk, IfErr};
 ghost use Rattle.fast_value.specs.meaning.Views.{item_data, slots_data};
 ghost use Rattle.fast_template.specs.meaning.Flat.{nodes_of};
-ghost use Rattle.fast_tree.specs.device.Numbers.{AreBelow};
-ghost use Rattle.fast_tree.specs.device.Bodies.{body_among};
+ghost use Rattle.fast_tree.specs.meaning.Numbers.{AreBelow};
+ghost use Rattle.fast_tree.specs.meaning.Nodes.{body_among};
 ghost use Rattle.fast_spelling.specs.device.Drafts.{IsTold};
 ghost use Rattle.fast_spelling.specs.meaning.Encoding.{Encodes, EncodesBody};
 ghost use Rattle.fast_spelling.specs.device.Fields.{Wrote};

@@ -1,6 +1,4 @@
 -- Devices of contracts within the crates and of proofs: invariants, models of state, relations in between.
-pub mod Codes
-pub mod FaultCodes
 pub mod Readers
 pub mod GrammarReaders
 pub mod Continuations

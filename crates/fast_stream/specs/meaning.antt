@@ -10,3 +10,4 @@ pub mod Streams
 pub mod Sinks
 pub mod Account
 pub mod Begins
+pub mod FaultCodes

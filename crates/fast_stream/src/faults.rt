@@ -18,7 +18,7 @@ pub enum FaultCode {
 
 impl FaultCode {
     ghost use Rattle.std.specs.Prelude.{◌≡◌};
-    ghost use Rattle.fast_stream.specs.device.FaultCodes.{code_number, code_text};
+    ghost use Rattle.fast_stream.specs.meaning.FaultCodes.{code_number, code_text};
 
     /// The number of the code, for a caller that cannot be handed an enum. It is never given to another code.
     pub fn number(self) -> u8
@@ -86,7 +86,7 @@ pub enum MakeError {
 
 impl MakeError {
     ghost use Rattle.std.specs.Prelude.{◌≡◌};
-    ghost use Rattle.fast_stream.specs.device.FaultCodes.{cause_number};
+    ghost use Rattle.fast_stream.specs.meaning.FaultCodes.{cause_number};
 
     /// The number of the cause, for a caller that cannot be handed an enum. It is never given to another cause.
     pub fn number(self) -> u8

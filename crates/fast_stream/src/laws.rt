@@ -12,9 +12,8 @@ ghost use Rattle.fast_dict.specs.meaning.Dictionary.{Dictionary};
 ghost use Rattle.fast_stream.specs.meaning.Events.{EventData, events};
 ghost use Rattle.fast_stream.specs.meaning.Phrases.{Reached, whole};
 ghost use Rattle.fast_stream.specs.meaning.Messages.{message, SpellsMessage};
-ghost use Rattle.fast_stream.specs.meaning.Streams.{Stream, Chain, End, between, faulted};
+ghost use Rattle.fast_stream.specs.meaning.Streams.{Stream, Chain, End, between, faulted, AreBytes};
 ghost use Rattle.fast_stream.specs.meaning.Begins.{Begins, joined};
-ghost use Rattle.fast_stream.specs.device.Readers.{AreBytes};
 ghost use Rattle.fast_stream.specs.device.Running.{reading, run, message_begun, end_of};
 
 /// A stream has at most one answer: the same events, and the same end.

@@ -4,8 +4,7 @@ use Rattle.std.specs.Prelude.{◌≡◌, ℕ, suc, ◌+◌, ◌-◌, ◌<◌, Li
 use Rattle.std.proofs.lemmas.List.{at_drop_more}
 use Rattle.fast_tree.specs.declared.instructions.Node.{Node}
 use Rattle.fast_tree.specs.meaning.Tree.{Label, Instruction, bits_used, bits_of}
-use Rattle.fast_tree.specs.device.Nodes.{label_of, no_instruction, instruction_of, instructions_from}
-use Rattle.fast_tree.specs.device.Bodies.{body_among}
+use Rattle.fast_tree.specs.meaning.Nodes.{label_of, no_instruction, instruction_of, instructions_from, body_among}
 use Rattle.fast_tree.proofs.BodyNodes.{instruction_by}
 
 -- The bits that the instruction of a node uses are those of its shape, whatever the nodes behind it are.

@@ -8,7 +8,7 @@ use Rattle.fast_value.specs.declared.settings.Limits.{Limits}
 use Rattle.fast_tree.specs.declared.instructions.Node.{Node}
 use Rattle.fast_tree.specs.declared.instructions.Template.{Template}
 use Rattle.fast_tree.specs.meaning.Tree.{TemplateData}
-use Rattle.fast_tree.specs.device.Nodes.{template_data, instructions_from}
+use Rattle.fast_tree.specs.meaning.Nodes.{template_data, instructions_from}
 use Rattle.fast_tree.specs.meaning.Sizes.{greatest, body_depth, event_weights, body_size, body_outer, body_widest}
 use Rattle.fast_template.proofs.Saturation.{stopped_max, max_assoc}
 

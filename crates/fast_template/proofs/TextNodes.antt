@@ -10,8 +10,8 @@ use Rattle.fast_template.specs.declared.sets.Templates.{Templates}
 use Rattle.fast_tree.specs.meaning.Tree.{Label, Instruction, TemplateData}
 use Rattle.fast_template.specs.meaning.Flat.{tree_of, nodes_of, templates_of, label_of, instruction_of, instructions_from, body_of, no_instruction, template_data}
 use Rattle.fast_notation.specs.meaning.Labels.{labels, body_labels, template_labels, labels_from}
-use Rattle.fast_tree.specs.device.Numbers.{numbers_of, NameNodes}
-use Rattle.fast_template.specs.device.TextFields.{HoldsText, BodyHoldsText, SetHoldsText, IsTextShape, IsTextNode}
+use Rattle.fast_tree.specs.meaning.Numbers.{numbers_of, NameNodes}
+use Rattle.fast_template.specs.meaning.TextFields.{HoldsText, BodyHoldsText, SetHoldsText, IsTextShape, IsTextNode}
 use Rattle.fast_template.proofs.SetTrees.{template_behind, instruction_at}
 
 -- an element by its place

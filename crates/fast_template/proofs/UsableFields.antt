@@ -9,8 +9,9 @@ use Rattle.fast_tree.specs.declared.operators.Operator.{Operator}
 use Rattle.fast_tree.specs.declared.operators.Operator.TheVariants.{Tail}
 use Rattle.fast_tree.specs.meaning.Tree.{FieldData}
 use Rattle.fast_tree.specs.meaning.Entries.{keeps_value}
-use Rattle.fast_tree.specs.device.NodeData.{ShapeData, a_field, a_decimal, a_group, a_sequence}
-use Rattle.fast_tree.specs.device.Usable.{is_texts, suits_tail, has_place, is_usable, is_uint32, is_int32, is_int64, is_usable_shape, IsUsable, IsUsableShape}
+use Rattle.fast_tree.specs.meaning.NodeData.{ShapeData, a_field, a_decimal, a_group, a_sequence}
+use Rattle.fast_tree.specs.device.Usable.{is_texts, suits_tail, has_place, is_usable, is_uint32, is_int32, is_int64, is_usable_shape}
+use Rattle.fast_tree.specs.meaning.Usable.{IsUsable, IsUsableShape}
 
 -- both of two tests
 pub both : (a b : Bool) → (a && b) ≡ true → (a ≡ true) × (b ≡ true)

@@ -1,6 +1,4 @@
 -- Devices of contracts within the crates and of proofs: invariants, models of state, relations in between.
 pub mod Saturation
 pub mod Counts
-pub mod TextFields
-pub mod Presence
 pub mod Programs

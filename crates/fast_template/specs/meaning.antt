@@ -1,2 +1,4 @@
 -- What is meant: the contracts of public functions rest on these definitions.
 pub mod Flat
+pub mod Presence
+pub mod TextFields

@@ -2,7 +2,7 @@
 
 ghost use Rattle.std.specs.Prelude.{◌≡◌, ℕ, ◌+◌, ◌*◌, ◌^◌, max, ◌<◌, ◌≤◌, length, slice_index_or};
 ghost use Rattle.fast_template.specs.meaning.Flat.{tree_of, body_of, instructions_from, no_instruction};
-ghost use Rattle.fast_tree.specs.device.Numbers.{AreBelow, NameLaterNodes};
+ghost use Rattle.fast_tree.specs.meaning.Numbers.{AreBelow, NameLaterNodes};
 ghost use Rattle.fast_template.specs.device.Saturation.{in_32_bits, in_64_bits};
 ghost use Rattle.fast_template.specs.device.Counts.{AreCounts, AreCountsOf, AreCountsOfBody};
 ghost use Rattle.fast_tree.specs.meaning.Sizes.{depth, body_depth, set_depth, message_cap};

@@ -3,7 +3,7 @@
 ghost use Rattle.std.specs.Prelude.{◌≡◌, ◌<◌, [], Some, length, slice_get};
 ghost use Rattle.fast_tree.specs.declared.instructions.Node.{Node};
 ghost use Rattle.fast_tree.specs.declared.instructions.Template.{Template};
-ghost use Rattle.fast_tree.specs.device.Numbers.{numbers_of};
+ghost use Rattle.fast_tree.specs.meaning.Numbers.{numbers_of};
 ghost use Rattle.fast_program.specs.device.Runs.{AreNumbered, Begins};
 ghost use Rattle.fast_program.specs.device.Programs.{SuitNodes};
 ghost use Rattle.fast_program.specs.device.Starts.{IsStartOf};

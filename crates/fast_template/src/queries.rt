@@ -6,9 +6,9 @@ ghost use Rattle.fast_tree.specs.declared.instructions.Node.{Node};
 ghost use Rattle.fast_template.specs.meaning.Flat.{templates_of, nodes_of, tree_of};
 ghost use Rattle.fast_notation.specs.meaning.Labels.{template_labels, labels_from};
 ghost use Rattle.fast_tree.specs.meaning.Tree.{HasDistinctIds};
-ghost use Rattle.fast_tree.specs.device.NodeData.{shape_data};
-ghost use Rattle.fast_tree.specs.device.Usable.{IsUsableShape};
-ghost use Rattle.fast_tree.specs.device.Numbers.{numbers_of, AreBelow, AreBetween};
+ghost use Rattle.fast_tree.specs.meaning.NodeData.{shape_data};
+ghost use Rattle.fast_tree.specs.meaning.Usable.{IsUsableShape};
+ghost use Rattle.fast_tree.specs.meaning.Numbers.{numbers_of, AreBelow, AreBetween};
 
 use crate::sets::Templates;
 use fast_tree::{Node, Template};

@@ -2,8 +2,8 @@
 
 ghost use Rattle.std.specs.Prelude.{◌↔◌, Any, IsTrue};
 ghost use Rattle.fast_template.specs.meaning.Flat.{nodes_of, tree_of};
-ghost use Rattle.fast_template.specs.device.TextFields.{IsTextUnder, IsTextNode, SetHoldsText};
-ghost use Rattle.fast_tree.specs.device.Nodes.{field_data};
+ghost use Rattle.fast_template.specs.meaning.TextFields.{IsTextUnder, IsTextNode, SetHoldsText};
+ghost use Rattle.fast_tree.specs.meaning.Nodes.{field_data};
 
 use crate::sets::Templates;
 use fast_tree::{FieldInstruction, Node, Shape};

@@ -4,10 +4,11 @@ ghost use Rattle.std.specs.Prelude.{◌≡◌, ◌<◌, ◌^◌, ◌-◌, length
 ghost use Rattle.fast_tree.specs.meaning.Tree.{bits_of, message_bits};
 ghost use Rattle.fast_tree.specs.declared.instructions.Node.{Node};
 ghost use Rattle.fast_tree.specs.declared.instructions.Template.{Template};
-ghost use Rattle.fast_tree.specs.device.Bodies.{body_among, AreNodeWidths, AreTemplateWidths};
-ghost use Rattle.fast_tree.specs.device.Numbers.{AreBelow, NameNodes, NameLaterNodes, numbers_of};
+ghost use Rattle.fast_tree.specs.device.Bodies.{AreNodeWidths, AreTemplateWidths};
+ghost use Rattle.fast_tree.specs.meaning.Nodes.{body_among};
+ghost use Rattle.fast_tree.specs.meaning.Numbers.{AreBelow, NameNodes, NameLaterNodes, numbers_of};
 ghost use Rattle.fast_template.specs.meaning.Flat.{nodes_of, templates_of, instructions_from, template_data};
-ghost use Rattle.fast_template.specs.device.Presence.{may_be_absent};
+ghost use Rattle.fast_template.specs.meaning.Presence.{may_be_absent};
 
 use crate::sets::Templates;
 use fast_tree::{Node, Shape, Template};

@@ -5,7 +5,7 @@ use Rattle.std.specs.Io.KnownBytes.{append_known}
 use Rattle.std.proofs.KnownBytes.{append_known-moved}
 use Rattle.std.proofs.lemmas.List.{take-append-drop, drop-drop, drop-append-le, length-take-le}
 use Rattle.fast_text.specs.declared.block_writer.BlockWriter.{BlockWriter}
-use Rattle.fast_text.specs.device.BlockWriter.{kept_of, target_of, with_kept}
+use Rattle.fast_text.specs.meaning.BlockWriter.{kept_of, target_of, with_kept}
 use Rattle.fast_text.specs.meaning.Streams.{Appends}
 use Rattle.fast_text.proofs.Kept.{kept_front}
 use Rattle.fast_text.proofs.Writing.{appends_both, appends_kept}

@@ -7,7 +7,7 @@ use Rattle.fast_tree.specs.declared.instructions.Node.{Node}
 use Rattle.fast_tree.specs.declared.instructions.Template.{Template}
 use Rattle.fast_template.specs.declared.sets.Templates.{Templates}
 use Rattle.fast_tree.specs.meaning.Tree.{Label}
-use Rattle.fast_tree.specs.device.Nodes.{label_of, instructions_from, template_data}
+use Rattle.fast_tree.specs.meaning.Nodes.{label_of, instructions_from, template_data}
 use Rattle.fast_notation.specs.meaning.Labels.{labels_from, template_labels}
 use Rattle.fast_template.specs.meaning.Flat.{tree_of, nodes_of, templates_of}
 use Rattle.fast_lines.specs.meaning.Lines.{name_among, node_name, name_if, template_name}

@@ -10,10 +10,10 @@ use Rattle.fast_text.specs.meaning.Streams.{Reads, Appends, AppendsFront}
 use Rattle.fast_stream.specs.meaning.Events.{EventData}
 use Rattle.fast_lines.specs.meaning.Values.{HoldsBytes}
 use Rattle.fast_text.specs.declared.line_sink.LineSink.{LineSink}
-use Rattle.fast_text.specs.device.LineSink.{whole_line, TakesLine, StopsInLine}
+use Rattle.fast_text.specs.meaning.LineSink.{whole_line, TakesLine, StopsInLine}
 use Rattle.fast_text.specs.declared.streams.Failed.{Failed}
-use Rattle.fast_text.specs.device.Room.{kept_in}
-use Rattle.fast_text.specs.device.LineWriter.{Point, Puts, HasPut, Writes, IsFresh, Finishes, point_of}
+use Rattle.fast_text.specs.meaning.Room.{kept_in}
+use Rattle.fast_text.specs.meaning.LineWriter.{Point, Puts, HasPut, Writes, IsFresh, Finishes, point_of}
 
 -- no text
 pub appends_none : (old : Option (List ℕ)) → Appends old old []

@@ -22,7 +22,7 @@ pub struct BlockWriter<T> {
 }
 
 impl<T: Target> BlockWriter<T> {
-    ghost use Rattle.fast_text.specs.device.BlockWriter.{kept_of, target_of, with_kept};
+    ghost use Rattle.fast_text.specs.meaning.BlockWriter.{kept_of, target_of, with_kept};
 
     /// A writer over a target, which keeps nothing yet.
     pub fn new(inner: T) -> BlockWriter<T>
@@ -70,7 +70,7 @@ impl<T: Target> BlockWriter<T> {
 }
 
 impl<T: Target> Target for BlockWriter<T> {
-    ghost use Rattle.fast_text.specs.device.BlockWriter.{target_of, with_kept};
+    ghost use Rattle.fast_text.specs.meaning.BlockWriter.{target_of, with_kept};
 
     ghost written = { with_kept T.written };
 

@@ -41,7 +41,7 @@ fn all_messages(alloc: Global, templates: &Templates) -> Result<Vec<Front>, Allo
 }
 
 impl<'a> Fronts<'a> {
-    ghost use Rattle.fast_text.specs.device.Fronts.{set_of};
+    ghost use Rattle.fast_text.specs.meaning.Fronts.{set_of};
 
     /// The fronts of the nodes and templates of a set.
     ///

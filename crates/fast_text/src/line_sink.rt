@@ -6,7 +6,7 @@ ghost use Rattle.fast_stream.specs.meaning.Events.{GroupStart, SequenceStart};
 ghost use Rattle.fast_stream.specs.meaning.Handed.{event_data};
 ghost use Rattle.fast_lines.specs.meaning.Lines.{line_of, node as node_words};
 ghost use Rattle.fast_text.specs.device.Front.{AreFronts, field_front, message_front};
-ghost use Rattle.fast_text.specs.device.LineWriter.{Writes};
+ghost use Rattle.fast_text.specs.meaning.LineWriter.{Writes};
 
 use crate::front::Front;
 use crate::fronts::Fronts;
@@ -155,8 +155,8 @@ fn stop_where_failed(outcome: Result<(), Failed>) -> Result<(), Stop>
 }
 
 impl<'a, T: Target> LineSink<'a, T> {
-    ghost use Rattle.fast_text.specs.device.Fronts.{set_of};
-    ghost use Rattle.fast_text.specs.device.LineSink.{IsOver};
+    ghost use Rattle.fast_text.specs.meaning.Fronts.{set_of};
+    ghost use Rattle.fast_text.specs.meaning.LineSink.{IsOver};
 
     /// A sink that writes to a target.
     pub fn new(templates: &'a Templates, target: &'a mut T) -> LineSink<'a, T>
@@ -186,7 +186,7 @@ impl<'a, T: Target> LineSink<'a, T> {
 }
 
 impl<T: Target> Sink for LineSink<'_, T> {
-    ghost use Rattle.fast_text.specs.device.LineSink.{TakesLine, StopsInLine};
+    ghost use Rattle.fast_text.specs.meaning.LineSink.{TakesLine, StopsInLine};
 
     ghost takes = { TakesLine T.written T.has_failed };
 

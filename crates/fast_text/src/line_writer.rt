@@ -4,7 +4,7 @@ ghost use Rattle.std.specs.Prelude.{◌≡◌, ◌≤◌, [], ◌∷◌, ◌++�
 ghost use Rattle.std.specs.Fmt.{signed_decimal};
 ghost use Rattle.fast_value.specs.meaning.Values.{scalar_data};
 ghost use Rattle.fast_lines.specs.meaning.Lines.{escaped, quoted, hex_byte, written as value_text};
-ghost use Rattle.fast_text.specs.device.Room.{kept_in};
+ghost use Rattle.fast_text.specs.meaning.Room.{kept_in};
 
 use crate::room::Room;
 use crate::streams::{Failed, Target};
@@ -26,7 +26,7 @@ pub struct LineWriter<'a, T> {
 }
 
 impl<T: Target> fmt::Write for LineWriter<'_, T> {
-    ghost use Rattle.fast_text.specs.device.LineWriter.{Writes};
+    ghost use Rattle.fast_text.specs.meaning.LineWriter.{Writes};
 
     ghost write_str_gives = { Writes T.written T.has_failed };
 
@@ -66,7 +66,7 @@ fn plain_len(text: &[u8]) -> usize
 }
 
 impl<'a, T: Target> LineWriter<'a, T> {
-    ghost use Rattle.fast_text.specs.device.LineWriter.{Begins, Finishes, Writes};
+    ghost use Rattle.fast_text.specs.meaning.LineWriter.{Begins, Finishes, Writes};
 
     /// A writer that has written nothing. What the room holds is dropped.
     pub fn new(target: &'a mut T, kept: &'a mut Room) -> LineWriter<'a, T>

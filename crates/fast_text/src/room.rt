@@ -14,7 +14,7 @@ pub struct Room {
 }
 
 impl Room {
-    ghost use Rattle.fast_text.specs.device.Room.{kept_in};
+    ghost use Rattle.fast_text.specs.meaning.Room.{kept_in};
 
     /// Room in which nothing is kept.
     pub fn new() -> Room

@@ -144,7 +144,7 @@ pub struct ToBytes<'a> {
 }
 
 impl<'a> ToBytes<'a> {
-    ghost use Rattle.fast_text.specs.device.ToBytes.{room_of};
+    ghost use Rattle.fast_text.specs.meaning.ToBytes.{room_of};
 
     /// A writer that has written nothing.
     pub fn new(cells: &'a mut [u8]) -> ToBytes<'a>
@@ -209,7 +209,7 @@ pub struct Watched<T> {
 }
 
 impl<T> Watched<T> {
-    ghost use Rattle.fast_text.specs.device.Watched.{inner_of, has_call_failed};
+    ghost use Rattle.fast_text.specs.meaning.Watched.{inner_of, has_call_failed};
 
     /// The reader or writer, with no call yet.
     pub fn new(inner: T) -> Watched<T>
@@ -249,7 +249,7 @@ impl<T> Watched<T> {
 }
 
 impl<R: Read> Source for Watched<R> {
-    ghost use Rattle.fast_text.specs.device.Watched.{inner_of};
+    ghost use Rattle.fast_text.specs.meaning.Watched.{inner_of};
 
     ghost left = { λ s. R.remaining (inner_of s) };
 
@@ -266,7 +266,7 @@ impl<R: Read> Source for Watched<R> {
 }
 
 impl<W: Write> Target for Watched<W> {
-    ghost use Rattle.fast_text.specs.device.Watched.{inner_of};
+    ghost use Rattle.fast_text.specs.meaning.Watched.{inner_of};
 
     ghost written = { λ s. W.contents (inner_of s) };
 

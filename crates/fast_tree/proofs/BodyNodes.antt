@@ -5,10 +5,10 @@ use Rattle.std.proofs.lemmas.List.{get_or-drop}
 use Rattle.fast_tree.specs.declared.instructions.Shape.{Shape}
 use Rattle.fast_tree.specs.declared.instructions.Shape.TheVariants.{Field, Decimal, Group, Sequence}
 use Rattle.fast_tree.specs.declared.instructions.Node.{Node}
-use Rattle.fast_tree.specs.device.Numbers.{numbers_of, AreBetween, NameLaterNodes}
+use Rattle.fast_tree.specs.meaning.Numbers.{numbers_of, AreBetween, NameLaterNodes}
 use Rattle.fast_tree.specs.meaning.Tree.{Label, group, sequence, step}
-use Rattle.fast_tree.specs.device.Nodes.{field_data, label_of, no_instruction, body_of, instruction_of, instructions_from}
-use Rattle.fast_tree.specs.device.Bodies.{body_among, instruction_among}
+use Rattle.fast_tree.specs.meaning.Nodes.{field_data, label_of, no_instruction, body_of, instruction_of, instructions_from, body_among}
+use Rattle.fast_tree.specs.device.Bodies.{instruction_among}
 
 -- the instructions behind a number
 pub dropped_instructions : (own k : ℕ) (ns : List Node) → drop k (instructions_from own ns) ≡ instructions_from (k + own) (drop k ns)

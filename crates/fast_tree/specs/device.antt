@@ -1,7 +1,5 @@
 -- Devices of contracts within the crates and of proofs: invariants, models of state, relations in between.
 pub mod Places
-pub mod Nodes
-pub mod NodeData
 pub mod Numbers
 pub mod Usable
 pub mod Bodies

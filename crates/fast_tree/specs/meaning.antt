@@ -3,3 +3,7 @@ pub mod Tree
 pub mod Sizes
 pub mod AsWritten
 pub mod Entries
+pub mod Nodes
+pub mod NodeData
+pub mod Numbers
+pub mod Usable

@@ -1,7 +1,7 @@
 //! Templates and their instructions, as they are kept.
 
 ghost use Rattle.std.specs.Prelude.{◌≡◌, ◌≤◌, ℕ, List};
-ghost use Rattle.fast_tree.specs.device.Nodes.{field_data, instruction_of};
+ghost use Rattle.fast_tree.specs.meaning.Nodes.{field_data, instruction_of};
 ghost use Rattle.fast_tree.specs.meaning.Tree.{Label, Instruction, uses_bit, bits_used};
 
 use crate::operators::Operator;

@@ -5,7 +5,7 @@ use Rattle.std.proofs.lemmas.Bool.Decides.{nat_tests}
 use Rattle.std.proofs.lemmas.Int.{ints}
 use Rattle.fast_wire.specs.meaning.Entities.{IsEntity, IsOverlong, number}
 use Rattle.fast_wire.specs.meaning.Integers.{Range, SpellsInt, IsInteger, IsOutside, unsigned_up_to, signed_between, value}
-use Rattle.fast_wire.specs.device.Faulty.{IsWrongInt}
+use Rattle.fast_wire.specs.meaning.Faulty.{IsWrongInt}
 use Rattle.fast_fronts.specs.device.Fronts.{IsFirstInt}
 use Rattle.fast_fronts.specs.declared.fronts.First.TheVariants as First
 use Rattle.fast_wire.specs.declared.reads.WireFault.{WireFault}

@@ -15,7 +15,7 @@ use Rattle.fast_tree.specs.meaning.Tree.{FieldData}
 use Rattle.fast_tree.specs.meaning.Entries.{keeps_value}
 use Rattle.fast_dict.specs.meaning.Answers.{kept_text}
 use Rattle.fast_dict.specs.meaning.Dictionary.{Dictionary, PreviousData, undefined, empty, assigned, previous_at, value_in, write_at}
-use Rattle.fast_dict.specs.device.Held.{text_size}
+use Rattle.fast_dict.specs.meaning.Held.{text_size}
 use Rattle.fast_dict.specs.meaning.Operators.{◌>>=◌, Outcome, gives, keeps, gives_none, checked_in, checked, checked_text, null, decide, decide_by, start_value, zero_in, delta_base, tail_base, with_tail, Kept, append_to, prepend_to, kept_of, kept_length, subtraction_step, null_empties}
 use Rattle.fast_dict.specs.meaning.Stores.{Terms, IsStorable}
 use Rattle.fast_dict.specs.meaning.Slots.{slots_dictionary, slots_terms, slots_texts_fit}

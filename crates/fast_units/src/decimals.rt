@@ -3,7 +3,7 @@
 ghost use Rattle.std.specs.Prelude.{false, Some, ◌≡◌, ◌≢◌, ℕ, ◌<◌, ◌≤◌, List, [], ℤ, pos, neg_ℤ, ◌≤ℤ◌, Ok};
 ghost use Rattle.fast_value.specs.meaning.Kinds.{Dec, decimals, family, signed_range};
 ghost use Rattle.fast_value.specs.meaning.Limits.{bounds};
-ghost use Rattle.fast_tree.specs.device.Nodes.{field_data};
+ghost use Rattle.fast_tree.specs.meaning.Nodes.{field_data};
 ghost use Rattle.fast_dict.specs.meaning.Operators.{mantissa_step, range_of};
 ghost use Rattle.fast_dict.specs.meaning.Slots.{slots_terms};
 ghost use Rattle.fast_stream.specs.device.GrammarReaders.{reader_of};

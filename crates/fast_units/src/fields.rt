@@ -4,9 +4,9 @@ ghost use Rattle.std.specs.Prelude.{◌≡◌, ◌≢◌, IfSome, [], ℕ, ◌^�
 ghost use Rattle.fast_value.specs.meaning.Kinds.{integer_of, value_of_integer, value_of_text};
 ghost use Rattle.fast_value.specs.meaning.Values.{scalar_data};
 ghost use Rattle.fast_value.specs.meaning.Limits.{Bounds};
-ghost use Rattle.fast_tree.specs.device.Nodes.{field_data};
+ghost use Rattle.fast_tree.specs.meaning.Nodes.{field_data};
 ghost use Rattle.fast_tree.specs.meaning.Tree.{FieldData};
-ghost use Rattle.fast_dict.specs.device.Entry.{text_length, with_text};
+ghost use Rattle.fast_dict.specs.meaning.Entry.{text_length, with_text};
 ghost use Rattle.fast_dict.specs.meaning.Answers.{left_data, started};
 ghost use Rattle.fast_dict.specs.meaning.Dictionary.{Dictionary, PreviousData, assigned, empty, write_at};
 ghost use Rattle.fast_dict.specs.meaning.Operators.{incremented, decide, nothing, range_of};

@@ -5,7 +5,7 @@
 ghost use Rattle.std.specs.Prelude.{◌≡◌, ◌<◌, ◌≤◌, [], length, IfSome, IfNone};
 ghost use Rattle.fast_value.specs.declared.settings.Limits.{Limits};
 ghost use Rattle.fast_value.specs.meaning.Kinds.{family, texts};
-ghost use Rattle.fast_tree.specs.device.Nodes.{field_data};
+ghost use Rattle.fast_tree.specs.meaning.Nodes.{field_data};
 ghost use Rattle.fast_dict.specs.declared.slots.Slots.{Slots};
 ghost use Rattle.fast_dict.specs.meaning.Slots.{slots_dictionary};
 ghost use Rattle.fast_stream.specs.meaning.Phrases.{cut};

@@ -3,7 +3,7 @@
 ghost use Rattle.std.specs.Prelude.{◌≡◌, ◌≢◌, ◌<◌, ℕ, List, [], ◌++◌};
 ghost use Rattle.fast_value.specs.meaning.Kinds.{family, integers};
 ghost use Rattle.fast_value.specs.meaning.Limits.{bounds};
-ghost use Rattle.fast_tree.specs.device.Nodes.{field_data};
+ghost use Rattle.fast_tree.specs.meaning.Nodes.{field_data};
 ghost use Rattle.fast_dict.specs.meaning.Operators.{range_of};
 ghost use Rattle.fast_dict.specs.meaning.Slots.{slots_terms};
 ghost use Rattle.fast_stream.specs.device.GrammarReaders.{reader_of};

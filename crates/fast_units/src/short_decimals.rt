@@ -6,7 +6,7 @@ ghost use Rattle.std.specs.Prelude.{◌≡◌, ℕ, List, [], take, Some, Ok, If
 ghost use Rattle.fast_wire.specs.device.Words.{IsShortEntity};
 ghost use Rattle.fast_value.specs.meaning.Kinds.{family, decimals};
 ghost use Rattle.fast_value.specs.meaning.Limits.{Bounds};
-ghost use Rattle.fast_tree.specs.device.Nodes.{field_data};
+ghost use Rattle.fast_tree.specs.meaning.Nodes.{field_data};
 ghost use Rattle.fast_dict.specs.meaning.Operators.{mantissa_step};
 ghost use Rattle.fast_dict.specs.meaning.Slots.{slots_terms};
 ghost use Rattle.fast_stream.specs.device.GrammarReaders.{reader_of};

@@ -10,7 +10,7 @@ ghost use Rattle.fast_wire.specs.device.Words.{IsShortEntity};
 ghost use Rattle.fast_fronts.specs.declared.fronts.First.TheVariants.{Whole};
 ghost use Rattle.fast_value.specs.meaning.Kinds.{U, I, family, integers, value_of_integer};
 ghost use Rattle.fast_value.specs.meaning.Limits.{Bounds};
-ghost use Rattle.fast_tree.specs.device.Nodes.{field_data};
+ghost use Rattle.fast_tree.specs.meaning.Nodes.{field_data};
 ghost use Rattle.fast_dict.specs.meaning.Dictionary.{assigned, write_at};
 ghost use Rattle.fast_dict.specs.meaning.Operators.{decide, integer_step, range_of};
 ghost use Rattle.fast_dict.specs.meaning.Slots.{slots_dictionary, slots_terms};

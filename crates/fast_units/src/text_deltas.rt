@@ -4,7 +4,7 @@ ghost use Rattle.std.specs.Prelude.{◌≡◌, ◌≢◌, ◌-◌, ◌<◌, ◌+
 ghost use Rattle.fast_wire.specs.meaning.Integers.{IsWithin, signed_range};
 ghost use Rattle.fast_value.specs.meaning.Kinds.{texts, family};
 ghost use Rattle.fast_value.specs.meaning.Limits.{bounds};
-ghost use Rattle.fast_tree.specs.device.Nodes.{field_data};
+ghost use Rattle.fast_tree.specs.meaning.Nodes.{field_data};
 ghost use Rattle.fast_dict.specs.meaning.Operators.{Kept as KeptData, subtraction_step, kept_length};
 ghost use Rattle.fast_dict.specs.meaning.Slots.{slots_dictionary, slots_terms};
 ghost use Rattle.fast_stream.specs.meaning.Phrases.{cut};

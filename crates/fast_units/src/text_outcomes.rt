@@ -6,7 +6,7 @@
 ghost use Rattle.std.specs.Prelude.{◌≡◌, ◌≢◌, ◌+◌, ◌-◌, ◌<◌, ◌≤◌, ◌++◌, ℕ, List, length, true, Ok, Err, Some, MatchResult};
 ghost use Rattle.fast_value.specs.meaning.Kinds.{ScalarData, texts, family, text_of, value_of_text};
 ghost use Rattle.fast_value.specs.declared.kinds.Kind.{Kind};
-ghost use Rattle.fast_tree.specs.device.Nodes.{field_data};
+ghost use Rattle.fast_tree.specs.meaning.Nodes.{field_data};
 ghost use Rattle.fast_tree.specs.meaning.Entries.{keeps_value};
 ghost use Rattle.fast_dict.specs.meaning.Answers.{kept_answer, kept_data, kept_text};
 ghost use Rattle.fast_dict.specs.meaning.Operators.{Kept as KeptData, null, decide, tail_base, with_tail, subtraction_step, kept_length, joined as joined_text, text_step};

@@ -4,7 +4,7 @@
 ghost use Rattle.std.specs.Prelude.{◌≡◌, ℕ, ◌<◌, ◌≤◌, Bool, true, false, [], ◌∷◌, ◌++◌, length, ℤ, Option, Some, pos, option_map, IfSome, IfNone};
 ghost use Rattle.fast_wire.specs.meaning.Entities.{HaveNoStop};
 ghost use Rattle.fast_wire.specs.meaning.Integers.{Range, unsigned_up_to};
-ghost use Rattle.fast_wire.specs.device.Faulty.{IsWrongInt};
+ghost use Rattle.fast_wire.specs.meaning.Faulty.{IsWrongInt};
 ghost use Rattle.fast_fronts.specs.device.Fronts.{IsFirstInt};
 ghost use Rattle.fast_stream.specs.meaning.Phrases.{cut};
 ghost use Rattle.fast_stream.specs.meaning.Units.{WrongInt, BeginsWithZero, ascii_text as ascii_phrase};

@@ -5,3 +5,4 @@ pub mod Messages
 pub mod Initial
 pub mod Values
 pub mod Views
+pub mod Codes

@@ -43,7 +43,7 @@ pub enum Code {
 
 impl Code {
     ghost use Rattle.std.specs.Prelude.{◌≡◌};
-    ghost use Rattle.fast_value.specs.device.Codes.{stream_code_number, stream_code_text};
+    ghost use Rattle.fast_value.specs.meaning.Codes.{stream_code_number, stream_code_text};
 
     /// The number of the code, for a caller that cannot be handed an enum. It is never given to another code.
     pub fn number(self) -> u8

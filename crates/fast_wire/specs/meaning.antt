@@ -3,3 +3,6 @@ pub mod Entities
 pub mod Integers
 pub mod Texts
 pub mod Maps
+pub mod Shortest
+pub mod Faulty
+pub mod Laws

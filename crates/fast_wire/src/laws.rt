@@ -1,6 +1,6 @@
 //! Laws over the definitions, for the layers above: each function's contract is one, and it does nothing.
 
-ghost use Rattle.fast_wire.specs.device.Laws.{NoProperFront, NoStopNoEntity, OneReading, OneOutcome, StrictIsLenient, StrictIsShortest, ShortestIsStrict, OneSpelling, ReadBack, MapIsShortest, MapIsNarrow};
+ghost use Rattle.fast_wire.specs.meaning.Laws.{NoProperFront, NoStopNoEntity, OneReading, OneOutcome, StrictIsLenient, StrictIsShortest, ShortestIsStrict, OneSpelling, ReadBack, MapIsShortest, MapIsNarrow};
 
 /// An entity is no proper front of an entity.
 pub fn no_proper_front()

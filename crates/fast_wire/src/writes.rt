@@ -4,7 +4,7 @@ ghost use Rattle.std.specs.Prelude.{◌≡◌, ◌<◌, ◌≤◌, ◌+◌, ◌-
 ghost use Rattle.std.specs.Int.RustNames.{unsigned_abs};
 ghost use Rattle.fast_wire.specs.meaning.Entities.{IsEntity, number, signed, IsOverlong};
 ghost use Rattle.fast_wire.specs.meaning.Integers.{Means};
-ghost use Rattle.fast_wire.specs.device.Shortest.{IsShortest};
+ghost use Rattle.fast_wire.specs.meaning.Shortest.{IsShortest};
 
 use crate::entities::Entity;
 

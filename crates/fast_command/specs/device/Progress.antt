@@ -11,7 +11,7 @@ use Rattle.fast_stream.specs.meaning.Streams.{End, Stream}
 use Rattle.fast_decoder.specs.meaning.Decoding.{DecoderData, HasRead, tree}
 use Rattle.fast_lines.specs.meaning.Lines.{lines}
 use Rattle.fast_lines.specs.meaning.Values.{HoldsBytes}
-use Rattle.fast_text.specs.device.Fronts.{set_of}
+use Rattle.fast_text.specs.meaning.Fronts.{set_of}
 use Rattle.fast_text.specs.meaning.Streams.{Appends, AppendsFront}
 use Rattle.fast_lines.specs.meaning.Hex.{Unhexed}
 use Rattle.fast_command.specs.declared.unhexer.Unhexer.{Unhexer}
@@ -22,7 +22,7 @@ use Rattle.fast_command.specs.declared.faults.RunFault.{RunFault}
 use Rattle.fast_command.specs.declared.faults.RunFault.TheVariants.{Write}
 use Rattle.fast_command.specs.meaning.Closing.{fault_line}
 use Rattle.fast_command.specs.meaning.Showing.{IsShown}
-use Rattle.fast_command.specs.device.Unhexing.{Unhexes}
+use Rattle.fast_command.specs.meaning.Unhexing.{Unhexes}
 
 -- The text was taken, and stands for the bytes.
 abbrev pub IsTaken : Option Unhexer → List ℕ → List ℕ → Type 0

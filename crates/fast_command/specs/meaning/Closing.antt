@@ -2,7 +2,7 @@
 use Rattle.std.specs.Prelude.{ℕ, List, [], ◌∷◌, ◌++◌, length, codes, decimal}
 use Rattle.fast_stream.specs.declared.faults.FaultCode.{FaultCode}
 use Rattle.fast_stream.specs.declared.faults.FaultCode.TheVariants.{Stream}
-use Rattle.fast_stream.specs.device.FaultCodes.{code_text}
+use Rattle.fast_stream.specs.meaning.FaultCodes.{code_text}
 use Rattle.fast_stream.specs.meaning.Streams.{End, between, inside, faulted}
 
 -- the line of a fault

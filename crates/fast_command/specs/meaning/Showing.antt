@@ -5,7 +5,7 @@ use Rattle.fast_value.specs.declared.codes.Code.{Code}
 use Rattle.fast_tree.specs.meaning.Tree.{Tree}
 use Rattle.fast_template.specs.declared.sets.Templates.{Templates}
 use Rattle.fast_template.specs.meaning.Flat.{nodes_of}
-use Rattle.fast_dict.specs.device.EntryTexts.{HasLongInitial}
+use Rattle.fast_dict.specs.meaning.EntryTexts.{HasLongInitial}
 use Rattle.fast_decoder.specs.meaning.Decoding.{AreBadLimits}
 use Rattle.fast_stream.specs.declared.faults.FaultCode.TheVariants.{Stream as FaultOfStream}
 use Rattle.fast_stream.specs.declared.faults.MakeError.{MakeError}

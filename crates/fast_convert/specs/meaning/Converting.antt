@@ -14,8 +14,7 @@ use Rattle.fast_spelling.specs.meaning.Encoding.{EncodesMessage}
 use Rattle.fast_spelling.specs.meaning.Refusals.{IsRefused}
 use Rattle.fast_spelling.specs.meaning.Suiting.{SuitsTemplate, FitsLimits}
 use Rattle.fast_messages.specs.declared.faults.TextFault.TheVariants.{BadLine}
-use Rattle.fast_messages.specs.meaning.Reading.{Says}
-use Rattle.fast_messages.specs.device.Runs.{IsLineOf}
+use Rattle.fast_messages.specs.meaning.Reading.{Says, IsLineOf}
 use Rattle.fast_messages.specs.meaning.Unsaid.{SaysNothing}
 use Rattle.fast_text.specs.meaning.Streams.{Reads, Appends, AppendsFront}
 use Rattle.fast_command.specs.declared.faults.RunFault.{RunFault}

@@ -13,8 +13,7 @@ use Rattle.fast_stream.specs.declared.faults.FaultCode.{FaultCode}
 use Rattle.fast_stream.specs.declared.faults.FaultCode.TheVariants as Why
 use Rattle.fast_machine.specs.declared.machine.Machine.{Machine}
 use Rattle.fast_stream.specs.meaning.Events.{EventData}
-use Rattle.fast_stream.specs.meaning.Streams.{Stream}
-use Rattle.fast_stream.specs.device.Readers.{AreBytes}
+use Rattle.fast_stream.specs.meaning.Streams.{Stream, AreBytes}
 use Rattle.fast_stream.specs.device.Running.{Position, at_fault, run, message_begun, reading, end_of}
 use Rattle.fast_machine.specs.device.Positions.{meaning, IsSupplied, IsReady}
 use Rattle.fast_machine.specs.device.Handing.{waiting_at, TookEvents, Failed, Stopped, Fed}

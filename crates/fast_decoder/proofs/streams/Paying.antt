@@ -17,7 +17,7 @@ use Rattle.fast_tree.specs.meaning.Sizes.{turn_cap}
 use Rattle.fast_stream.specs.declared.faults.Fault.{Fault}
 use Rattle.fast_stream.specs.declared.faults.FaultCode.{FaultCode}
 use Rattle.fast_machine.specs.declared.machine.Machine.{Machine}
-use Rattle.fast_tree.specs.device.Numbers.{NameLaterNodes}
+use Rattle.fast_tree.specs.meaning.Numbers.{NameLaterNodes}
 use Rattle.fast_machine.specs.device.Positions.{Set, tree_in, IsSupplied, IsReady, is_idle, CanTake}
 use Rattle.fast_machine.specs.device.TurnsLeft.{Way, most_by, HasTurnsWaiting, IsWithinMessage}
 use Rattle.fast_decoder.specs.meaning.Decoding.{DecoderData, tree, IsSoundAt, IsPaidAt, IsSound, account}

@@ -5,7 +5,7 @@ use Rattle.std.proofs.lemmas.List.Elements.{All-nil}
 use Rattle.fast_wire.specs.meaning.Entities.{HaveNoStop}
 use Rattle.fast_wire.specs.meaning.Maps.{map_limit}
 use Rattle.fast_value.specs.declared.settings.Limits.{Limits}
-use Rattle.fast_tree.specs.device.Numbers.{NameLaterNodes}
+use Rattle.fast_tree.specs.meaning.Numbers.{NameLaterNodes}
 use Rattle.fast_dict.specs.meaning.Dictionary.{fresh}
 use Rattle.fast_dict.specs.meaning.Slots.{slots_dictionary}
 use Rattle.fast_machine.specs.declared.machine.Machine.{Machine}

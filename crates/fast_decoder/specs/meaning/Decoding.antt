@@ -3,7 +3,7 @@ use Rattle.std.specs.Prelude.{◌≡◌, ◌⊎◌, ℕ, ◌+◌, ◌*◌, ◌<�
 use Rattle.fast_wire.specs.meaning.Maps.{map_limit}
 use Rattle.fast_value.specs.declared.settings.Limits.{Limits}
 use Rattle.fast_tree.specs.meaning.Tree.{Tree}
-use Rattle.fast_tree.specs.device.Numbers.{NameLaterNodes}
+use Rattle.fast_tree.specs.meaning.Numbers.{NameLaterNodes}
 use Rattle.fast_dict.specs.meaning.Dictionary.{Dictionary}
 use Rattle.fast_stream.specs.declared.faults.Fault.{Fault}
 use Rattle.fast_stream.specs.declared.faults.FaultCode.{FaultCode}
@@ -11,9 +11,8 @@ use Rattle.fast_stream.specs.declared.faults.FaultCode.TheVariants as Why
 use Rattle.fast_machine.specs.declared.machine.Machine.{Machine}
 use Rattle.fast_stream.specs.meaning.Events.{EventData}
 use Rattle.fast_stream.specs.meaning.Sinks.{Takes, TakesUpTo}
-use Rattle.fast_stream.specs.meaning.Streams.{End, Stream}
+use Rattle.fast_stream.specs.meaning.Streams.{End, Stream, AreBytes}
 use Rattle.fast_stream.specs.meaning.Account.{Stored, Account}
-use Rattle.fast_stream.specs.device.Readers.{AreBytes}
 use Rattle.fast_stream.specs.device.Running.{Position, at_fault, reading}
 use Rattle.fast_machine.specs.device.Positions.{Set, tree_in, meaning, IsSupplied, IsReady, is_idle}
 use Rattle.fast_machine.specs.device.Handing.{waiting_at}

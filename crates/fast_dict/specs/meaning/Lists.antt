@@ -5,7 +5,7 @@ use Rattle.std.proofs.lemmas.List.{get_or-map, length-map}
 use Rattle.std.proofs.lemmas.List.Sums.{sum_by-le}
 use Rattle.fast_dict.specs.meaning.Dictionary.{Dictionary}
 use Rattle.fast_dict.specs.meaning.Stores.{Terms}
-use Rattle.fast_dict.specs.device.Held.{held_data, text_size}
+use Rattle.fast_dict.specs.meaning.Held.{held_data, text_size}
 use Rattle.fast_dict.specs.declared.held.Held.TheVariants.{Undefined}
 use Rattle.fast_dict.specs.declared.lists.Lists.{Lists}
 

@@ -4,8 +4,8 @@ use Rattle.std.proofs.Common.{ap, arith}
 use Rattle.std.proofs.lemmas.List.{length-take}
 use Rattle.fast_dict.specs.meaning.Dictionary.{Dictionary, PreviousData, undefined}
 use Rattle.fast_dict.specs.meaning.Stores.{Terms}
-use Rattle.fast_dict.specs.device.Entry.{with_text, text_length}
-use Rattle.fast_dict.specs.device.Held.{text_size}
+use Rattle.fast_dict.specs.meaning.Entry.{with_text, text_length}
+use Rattle.fast_dict.specs.meaning.Held.{text_size}
 use Rattle.fast_dict.specs.declared.entry.Entry.{Entry}
 use Rattle.fast_dict.specs.declared.entry.Entry.TheVariants.{Undefined, Empty, UInt32, Int32, UInt64, Int64, Decimal, Ascii, Unicode, Bytes, OtherUnsigned, OtherSigned, OtherDecimal, OtherAscii, OtherUnicode, OtherBytes}
 use Rattle.fast_dict.specs.declared.slots.Slots.{Slots}

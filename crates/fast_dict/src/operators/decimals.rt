@@ -3,7 +3,7 @@
 ghost use Rattle.std.specs.Prelude.{◌≡◌, ◌^◌, pos, neg_ℤ, ◌≤ℤ◌, ◌<ℤ◌};
 ghost use Rattle.fast_value.specs.meaning.Kinds.{Dec, exponent_of, mantissa_of, signed_range};
 ghost use Rattle.fast_value.specs.meaning.Values.{scalar_data};
-ghost use Rattle.fast_tree.specs.device.Nodes.{field_data};
+ghost use Rattle.fast_tree.specs.meaning.Nodes.{field_data};
 ghost use Rattle.fast_dict.specs.meaning.Answers.{outcome_answer};
 ghost use Rattle.fast_dict.specs.meaning.Operators.{exponent_step, mantissa_step};
 ghost use Rattle.fast_dict.specs.meaning.Previous.{previous_data};

@@ -3,7 +3,7 @@
 ghost use Rattle.std.specs.Prelude.{◌≡◌, ◌^◌, ◌<◌, pos, neg_ℤ, true, ◌+ℤ◌, ◌≤ℤ◌, ◌<ℤ◌, IfOk};
 ghost use Rattle.fast_value.specs.meaning.Kinds.{value_of_integer, integer_of};
 ghost use Rattle.fast_value.specs.meaning.Values.{scalar_data};
-ghost use Rattle.fast_tree.specs.device.Nodes.{field_data};
+ghost use Rattle.fast_tree.specs.meaning.Nodes.{field_data};
 ghost use Rattle.fast_dict.specs.meaning.Answers.{outcome_answer};
 ghost use Rattle.fast_dict.specs.meaning.Operators.{integer_step, range_of, ranged};
 ghost use Rattle.fast_dict.specs.meaning.Previous.{previous_data};

@@ -3,7 +3,7 @@
 ghost use Rattle.std.specs.Prelude.{◌≡◌, ◌↔◌, true, false};
 ghost use Rattle.fast_value.specs.meaning.Kinds.{family};
 ghost use Rattle.fast_value.specs.meaning.Values.{scalar_data};
-ghost use Rattle.fast_tree.specs.device.Nodes.{field_data};
+ghost use Rattle.fast_tree.specs.meaning.Nodes.{field_data};
 ghost use Rattle.fast_dict.specs.meaning.Answers.{outcome_answer, scalar_answer};
 ghost use Rattle.fast_dict.specs.meaning.Operators.{decide, sent_plain, sent_kept, sent_delta, checked_in};
 ghost use Rattle.fast_dict.specs.meaning.Previous.{previous_data};

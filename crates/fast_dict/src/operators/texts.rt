@@ -7,7 +7,7 @@ ghost use Rattle.std.specs.Prelude.{◌≡◌, ◌-◌, ◌++◌, ℕ, List, len
 ghost use Rattle.std.specs.Str.{is_utf8};
 ghost use Rattle.fast_value.specs.meaning.Kinds.{text_of};
 ghost use Rattle.fast_value.specs.meaning.Values.{scalar_data};
-ghost use Rattle.fast_tree.specs.device.Nodes.{field_data};
+ghost use Rattle.fast_tree.specs.meaning.Nodes.{field_data};
 ghost use Rattle.fast_dict.specs.meaning.Answers.{outcome_answer, kept_text, scalar_answer, kept_data, kept_answer};
 ghost use Rattle.fast_dict.specs.meaning.Operators.{checked_text, kept_of, kept_length, subtraction_step, tail_base, with_tail};
 ghost use Rattle.fast_dict.specs.meaning.Previous.{previous_data};

@@ -3,7 +3,7 @@
 ghost use Rattle.std.specs.Prelude.{◌≡◌};
 ghost use Rattle.fast_value.specs.meaning.Kinds.{value_of_integer, integer_of};
 ghost use Rattle.fast_value.specs.meaning.Values.{scalar_data};
-ghost use Rattle.fast_tree.specs.device.Nodes.{field_data};
+ghost use Rattle.fast_tree.specs.meaning.Nodes.{field_data};
 ghost use Rattle.fast_dict.specs.meaning.Answers.{outcome_data, left_data, left_answer};
 ghost use Rattle.fast_dict.specs.meaning.Dictionary.{PreviousData};
 ghost use Rattle.fast_dict.specs.meaning.Operators.{decide, nothing, null, null_empties, unsent, from_initial, incremented, range_of};

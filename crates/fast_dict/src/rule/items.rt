@@ -3,7 +3,7 @@
 ghost use Rattle.std.specs.Prelude.{◌≡◌, ◌^◌, ℕ, pos, neg_ℤ, ◌-ℤ◌, ◌≤ℤ◌, ◌<ℤ◌, List, Ok, IfSome, IfNone, option_map};
 ghost use Rattle.fast_value.specs.meaning.Kinds.{ScalarData, family, text_of, value_of_text};
 ghost use Rattle.fast_value.specs.meaning.Values.{scalar_data};
-ghost use Rattle.fast_tree.specs.device.Nodes.{field_data};
+ghost use Rattle.fast_tree.specs.meaning.Nodes.{field_data};
 ghost use Rattle.fast_dict.specs.meaning.Operators.{Sent as SentData, delta_base, tail_base};
 ghost use Rattle.fast_dict.specs.meaning.Previous.{previous_data};
 ghost use Rattle.fast_dict.specs.meaning.Rule.{SentFor, IsDelta, IsTail, IsTextDelta};

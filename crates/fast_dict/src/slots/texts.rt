@@ -2,7 +2,7 @@
 
 ghost use Rattle.std.specs.Prelude.{◌≡◌, ◌≢◌, ◌+◌, ◌<◌, ◌≤◌, ◌++◌, ℕ, List, length, take, slice_index_or, vec_len, IsTrue, None, IfSome};
 ghost use Rattle.fast_value.specs.meaning.Kinds.{family, texts, value_of_text};
-ghost use Rattle.fast_dict.specs.device.Entry.{text_length, with_text};
+ghost use Rattle.fast_dict.specs.meaning.Entry.{text_length, with_text};
 ghost use Rattle.fast_dict.specs.meaning.Dictionary.{assigned, previous_at, write_at};
 ghost use Rattle.fast_dict.specs.meaning.Slots.{slots_dictionary, slots_terms, text_in};
 

@@ -10,7 +10,7 @@ use lib.Signed.{mag}
 use Rattle.fast_wire.specs.meaning.Entities.{number, has_sign, signed, IsOverlong}
 use Rattle.fast_wire.specs.meaning.Integers.{Range, value, Means, IsWithin, unsigned_up_to, signed_between}
 use Rattle.fast_wire.specs.device.Words.{IsShortEntity}
-use Rattle.fast_wire.specs.device.Faulty.{NoneIsOverlong}
+use Rattle.fast_wire.specs.meaning.Faulty.{NoneIsOverlong}
 use Rattle.fast_fronts.specs.device.Fronts.{IsFirstInt}
 use Rattle.fast_fronts.specs.declared.fronts.First.TheVariants.{Whole}
 use Rattle.fast_wire.proofs.numbers.Numbers.{number-short}

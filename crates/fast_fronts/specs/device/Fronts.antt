@@ -3,7 +3,7 @@ use Rattle.std.specs.Prelude.{ℕ, ◌<◌, ◌≤◌, Bool, List, length, take,
 use Rattle.fast_wire.specs.meaning.Entities.{HaveNoStop}
 use Rattle.fast_wire.specs.meaning.Integers.{Range, SpellsInt}
 use Rattle.fast_wire.specs.declared.reads.WireFault.{WireFault}
-use Rattle.fast_wire.specs.device.Faulty.{IsWrongInt}
+use Rattle.fast_wire.specs.meaning.Faulty.{IsWrongInt}
 use Rattle.fast_fronts.specs.declared.fronts.First.{First}
 use Rattle.fast_fronts.specs.declared.fronts.First.TheVariants.{Whole, Wrong, Cut}
 

@@ -4,7 +4,7 @@ use Rattle.fast_value.specs.declared.kinds.Kind.TheVariants.{Int64}
 use Rattle.fast_value.specs.meaning.Limits.{Bounds}
 use Rattle.fast_tree.specs.declared.instructions.FieldInstruction.{FieldInstruction}
 use Rattle.fast_tree.specs.declared.operators.Operator.TheVariants.{Default, Copy, Delta}
-use Rattle.fast_tree.specs.device.Nodes.{field_data}
+use Rattle.fast_tree.specs.meaning.Nodes.{field_data}
 use Rattle.fast_dict.specs.declared.slots.Slots.{Slots}
 use Rattle.fast_dict.specs.meaning.Dictionary.{write_at}
 use Rattle.fast_dict.specs.meaning.Operators.{decide, nothing}

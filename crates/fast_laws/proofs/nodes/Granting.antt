@@ -6,12 +6,12 @@ use Rattle.toml.specs.Data.{Members}
 use Rattle.fast_value.specs.declared.settings.Limits.{Limits}
 use Rattle.fast_value.specs.meaning.Kinds.{ScalarData, text_of}
 use Rattle.fast_tree.specs.declared.instructions.Node.{Node}
-use Rattle.fast_tree.specs.device.NodeData.{ShapeData, a_field, a_decimal, a_sequence}
+use Rattle.fast_tree.specs.meaning.NodeData.{ShapeData, a_field, a_decimal, a_sequence}
 use Rattle.fast_tree.specs.meaning.Tree.{FieldData, Instruction, field, parts, group, sequence, Body, end, step, TemplateData}
 use Rattle.fast_template.specs.declared.sets.Templates.{Templates}
 use Rattle.fast_template.specs.meaning.Flat.{nodes_of, templates_of, tree_of}
 use Rattle.fast_notation.specs.meaning.Checked.{IsTree}
-use Rattle.fast_dict.specs.device.EntryTexts.{AnyField, IsLongText, HasLongInitial}
+use Rattle.fast_dict.specs.meaning.EntryTexts.{AnyField, IsLongText, HasLongInitial}
 use Rattle.fast_spelling.specs.meaning.Again.{IsGrantedTree, HasShortInitial, HaveShortInitials, HaveShortInitialsIn, IsShortTree}
 use Rattle.fast_spelling.proofs.again.GrantedSets.{read_is_granted}
 use Rattle.fast_laws.proofs.nodes.Nodes.{IsAt, IsOfNodes, AreOfNodes, template_at}

@@ -10,7 +10,7 @@ use Rattle.fast_value.specs.meaning.Messages.{ItemData, one, group as group_item
 use Rattle.fast_tree.specs.declared.instructions.Node.{Node}
 use Rattle.fast_tree.specs.declared.instructions.Shape.{Shape}
 use Rattle.fast_tree.specs.declared.instructions.Shape.TheVariants.{Field, Decimal, Group, Sequence}
-use Rattle.fast_tree.specs.device.NodeData.{a_field, a_decimal, a_group, a_sequence, shape_data}
+use Rattle.fast_tree.specs.meaning.NodeData.{a_field, a_decimal, a_group, a_sequence, shape_data}
 use Rattle.fast_tree.specs.meaning.Tree.{FieldData, Instruction, field, parts, group, sequence, Body, end, step, TemplateData}
 use Rattle.fast_template.specs.declared.sets.Templates.{Templates}
 use Rattle.fast_template.specs.meaning.Flat.{nodes_of, templates_of, tree_of}

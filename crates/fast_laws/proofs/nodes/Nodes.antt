@@ -5,9 +5,9 @@ use Rattle.fast_tree.specs.declared.instructions.Node.{Node}
 use Rattle.fast_tree.specs.declared.instructions.Shape.{Shape}
 use Rattle.fast_tree.specs.declared.instructions.Shape.TheVariants.{Field, Decimal, Group, Sequence}
 use Rattle.fast_tree.specs.declared.instructions.Template.{Template}
-use Rattle.fast_tree.specs.device.NodeData.{ShapeData, a_field, a_decimal, a_group, a_sequence, shape_data}
-use Rattle.fast_tree.specs.device.Nodes.{label_of, no_instruction, body_of, instruction_of, instructions_from, template_data}
-use Rattle.fast_tree.specs.device.Numbers.{numbers_of, AreBetween, NameNodes, NameLaterNodes}
+use Rattle.fast_tree.specs.meaning.NodeData.{ShapeData, a_field, a_decimal, a_group, a_sequence, shape_data}
+use Rattle.fast_tree.specs.meaning.Nodes.{label_of, no_instruction, body_of, instruction_of, instructions_from, template_data}
+use Rattle.fast_tree.specs.meaning.Numbers.{numbers_of, AreBetween, NameNodes, NameLaterNodes}
 use Rattle.fast_tree.specs.meaning.Tree.{Instruction, field, parts, group, sequence, Body, end, step, TemplateData}
 
 -- a node has the number, and holds this

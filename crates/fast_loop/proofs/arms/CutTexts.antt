@@ -4,7 +4,7 @@ use Rattle.std.specs.Prelude.{◌≡◌, ℕ, ◌+◌, ◌<◌, Bool, true, fals
 use Rattle.std.proofs.lemmas.List.{take_all, take-append-drop}
 use Rattle.fast_value.specs.declared.settings.Limits.{Limits}
 use Rattle.fast_value.specs.meaning.Limits.{bounds}
-use Rattle.fast_tree.specs.device.Numbers.{NameLaterNodes}
+use Rattle.fast_tree.specs.meaning.Numbers.{NameLaterNodes}
 use Rattle.fast_tree.specs.meaning.Tree.{FieldData, Body}
 use Rattle.fast_dict.specs.meaning.Dictionary.{Dictionary, previous_at}
 use Rattle.fast_dict.specs.meaning.Slots.{slots_dictionary}

@@ -14,7 +14,7 @@ use Rattle.fast_tree.specs.declared.operators.Operator.TheVariants.{None as no_o
 use Rattle.fast_tree.specs.declared.instructions.FieldInstruction.{FieldInstruction}
 use Rattle.fast_tree.specs.declared.instructions.Node.{Node}
 use Rattle.fast_tree.specs.declared.instructions.Shape.TheVariants.{Sequence}
-use Rattle.fast_tree.specs.device.Nodes.{field_data}
+use Rattle.fast_tree.specs.meaning.Nodes.{field_data}
 use Rattle.fast_tree.specs.meaning.Entries.{keeps_value}
 use Rattle.fast_tree.specs.meaning.Tree.{FieldData, sequence, uses_bit, operator_uses_bit}
 use Rattle.fast_program.specs.declared.ops.Op.{Op}

@@ -12,7 +12,7 @@ use Rattle.fast_value.specs.meaning.Limits.{Bounds, bounds}
 use Rattle.fast_tree.specs.declared.instructions.FieldInstruction.{FieldInstruction}
 use Rattle.fast_tree.specs.declared.instructions.Node.{Node}
 use Rattle.fast_tree.specs.declared.instructions.Shape.TheVariants.{Decimal}
-use Rattle.fast_tree.specs.device.Nodes.{field_data}
+use Rattle.fast_tree.specs.meaning.Nodes.{field_data}
 use Rattle.fast_template.specs.declared.sets.Templates.{Templates}
 use Rattle.fast_program.specs.declared.ops.Op.{Op}
 use Rattle.fast_tree.specs.declared.instructions.Shape.{Shape}

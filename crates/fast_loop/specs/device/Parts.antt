@@ -7,7 +7,7 @@ use Rattle.fast_value.specs.meaning.Kinds.{ScalarData}
 use Rattle.fast_value.specs.meaning.Limits.{bounds}
 use Rattle.fast_tree.specs.declared.instructions.FieldInstruction.{FieldInstruction}
 use Rattle.fast_tree.specs.declared.instructions.Node.{Node}
-use Rattle.fast_tree.specs.device.Nodes.{field_data}
+use Rattle.fast_tree.specs.meaning.Nodes.{field_data}
 use Rattle.fast_tree.specs.meaning.Tree.{FieldData, uses_bit, Instruction, step}
 use Rattle.fast_program.specs.declared.ops.Op.{Op}
 use Rattle.fast_tree.specs.declared.operators.Operator.{Operator}

@@ -7,13 +7,14 @@ use Rattle.std.proofs.lemmas.Option.{slice_get_within}
 use Rattle.fast_value.specs.meaning.Kinds.{ScalarData, U, I, Dec, AsciiText, UnicodeText, ByteVector}
 use Rattle.fast_tree.specs.declared.instructions.Node.{Node}
 use Rattle.fast_tree.specs.meaning.Tree.{FieldData}
-use Rattle.fast_tree.specs.device.NodeData.{ShapeData, a_field, a_decimal, a_group, a_sequence, shape_data}
-use Rattle.fast_tree.specs.device.Usable.{AreUsable, IsUsable, IsUsableShape}
+use Rattle.fast_tree.specs.meaning.NodeData.{ShapeData, a_field, a_decimal, a_group, a_sequence, shape_data}
+use Rattle.fast_tree.specs.device.Usable.{AreUsable}
+use Rattle.fast_tree.specs.meaning.Usable.{IsUsable, IsUsableShape}
 use Rattle.fast_template.proofs.UsableFields.{usable_shape}
 use Rattle.fast_dict.specs.meaning.Stores.{Terms, HasRoom}
 use Rattle.fast_dict.specs.meaning.Slots.{slots_terms}
 use Rattle.fast_dict.specs.declared.slots.Slots.{Slots}
-use Rattle.fast_dict.specs.device.EntryTexts.{AnyField, SomeField, IsLongText, HasLongInitial, IsInitialText, HoldsTextAt, NeedsText}
+use Rattle.fast_dict.specs.meaning.EntryTexts.{AnyField, SomeField, IsLongText, HasLongInitial, IsInitialText, HoldsTextAt, NeedsText}
 use Rattle.fast_units.specs.device.Settling.{HasRoomFor, Serves}
 use Rattle.fast_machine.specs.device.Serving.{ServesShape, ServesNodes}
 

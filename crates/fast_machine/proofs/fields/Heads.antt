@@ -7,12 +7,12 @@ use Rattle.fast_tree.specs.declared.instructions.Node.{Node}
 use Rattle.fast_tree.specs.declared.instructions.Shape.{Shape}
 use Rattle.fast_tree.specs.declared.instructions.Shape.TheVariants.{Field, Decimal, Group, Sequence}
 use Rattle.fast_template.specs.declared.sets.Templates.{Templates}
-use Rattle.fast_tree.specs.device.Numbers.{NameLaterNodes}
+use Rattle.fast_tree.specs.meaning.Numbers.{NameLaterNodes}
 use Rattle.fast_tree.specs.meaning.Tree.{step}
-use Rattle.fast_tree.specs.device.Nodes.{field_data, label_of}
+use Rattle.fast_tree.specs.meaning.Nodes.{field_data, label_of, body_among}
 use Rattle.fast_cursor.specs.device.Cursors.{CursorData}
 use Rattle.fast_cursor.specs.device.Segments.{first_node}
-use Rattle.fast_tree.specs.device.Bodies.{body_among, instruction_among}
+use Rattle.fast_tree.specs.device.Bodies.{instruction_among}
 use Rattle.fast_machine.specs.device.Positions.{set_of, IsAtField, IsAtParts, IsAtGroup, IsAtSequence}
 use Rattle.fast_tree.proofs.BodyNodes.{body_step}
 

@@ -10,7 +10,7 @@ use Rattle.fast_value.specs.declared.codes.Code.TheVariants.{D9, R7, R8}
 use Rattle.fast_value.specs.declared.settings.Limits.{Limits}
 use Rattle.fast_tree.specs.meaning.Tree.{Instruction, identifier, message_bits}
 use Rattle.fast_tree.specs.declared.instructions.Template.{Template}
-use Rattle.fast_tree.specs.device.Nodes.{field_data, template_data, instructions_from}
+use Rattle.fast_tree.specs.meaning.Nodes.{field_data, template_data, instructions_from}
 use Rattle.fast_dict.specs.meaning.Dictionary.{PreviousData, Dictionary, previous_at, write_at}
 use Rattle.fast_dict.specs.meaning.Operators.{Outcome, nothing, decide}
 use Rattle.fast_dict.specs.meaning.Slots.{slots_dictionary, slots_terms, slots_sized}

@@ -8,16 +8,16 @@ use Rattle.fast_tree.specs.declared.instructions.FieldInstruction.{FieldInstruct
 use Rattle.fast_tree.specs.declared.instructions.Node.{Node}
 use Rattle.fast_tree.specs.declared.instructions.Shape.{Shape}
 use Rattle.fast_tree.specs.declared.instructions.Shape.TheVariants as Of
-use Rattle.fast_tree.specs.device.Nodes.{field_data, label_of}
-use Rattle.fast_tree.specs.device.NodeData.{shape_data}
+use Rattle.fast_tree.specs.meaning.Nodes.{field_data, label_of, body_among}
+use Rattle.fast_tree.specs.meaning.NodeData.{shape_data}
 use Rattle.fast_dict.specs.meaning.Slots.{slots_dictionary, slots_terms}
-use Rattle.fast_tree.specs.device.Numbers.{AreBelow, NameLaterNodes}
+use Rattle.fast_tree.specs.meaning.Numbers.{AreBelow, NameLaterNodes}
 use Rattle.fast_tree.specs.meaning.Tree.{Label, FieldData, Body, step}
 use Rattle.fast_cursor.specs.device.Cursors.{CursorData}
 use Rattle.fast_cursor.specs.device.Segments.{first_node}
 use Rattle.fast_stream.specs.meaning.Messages.{State}
 use Rattle.fast_machine.specs.device.Serving.{ServesShape}
-use Rattle.fast_tree.specs.device.Bodies.{body_among, instruction_among}
+use Rattle.fast_tree.specs.device.Bodies.{instruction_among}
 use Rattle.fast_units.specs.device.UnitFronts.{IsSent, IsAsciiFirst}
 use Rattle.fast_machine.specs.device.Scalars.{IsOfField, IsOfFieldLater}
 use Rattle.fast_machine.specs.device.Positions.{Set, body_in, state_in, IsSupplied, IsReady, bit_of, IsAtField, IsAtParts, IsAtSequence, BeginsWithInteger, BeginsWithText, GoesOnWithMantissa, GoesOnWithNumber, GoesOnWithBytes, CanTake}

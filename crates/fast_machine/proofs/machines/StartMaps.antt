@@ -15,7 +15,7 @@ use Rattle.fast_value.specs.declared.kinds.Kind.TheVariants.{UInt32}
 use Rattle.fast_value.specs.meaning.Kinds.{ScalarData}
 use Rattle.fast_tree.specs.meaning.Tree.{identifier, message_bits}
 use Rattle.fast_tree.specs.declared.instructions.Template.{Template}
-use Rattle.fast_tree.specs.device.Nodes.{template_data, instructions_from}
+use Rattle.fast_tree.specs.meaning.Nodes.{template_data, instructions_from}
 use Rattle.fast_dict.specs.meaning.Dictionary.{Dictionary, PreviousData, assigned, previous_at, write_at}
 use Rattle.fast_dict.specs.meaning.Operators.{Outcome, decide, nothing, value}
 use Rattle.fast_dict.specs.meaning.Slots.{slots_dictionary}

@@ -7,10 +7,10 @@ use Rattle.fast_wire.specs.meaning.Maps.{later_bits}
 use Rattle.fast_value.specs.declared.settings.Limits.{Limits}
 use Rattle.fast_value.specs.meaning.Limits.{Bounds}
 use Rattle.fast_tree.specs.meaning.Tree.{Instruction, identifier}
-use Rattle.fast_tree.specs.device.Numbers.{AreBelow}
+use Rattle.fast_tree.specs.meaning.Numbers.{AreBelow}
 use Rattle.fast_tree.specs.meaning.Sizes.{greatest, body_depth}
 use Rattle.fast_tree.specs.declared.instructions.Template.{Template}
-use Rattle.fast_tree.specs.device.Nodes.{template_data, instructions_from}
+use Rattle.fast_tree.specs.meaning.Nodes.{template_data, instructions_from}
 use Rattle.fast_dict.specs.meaning.Dictionary.{Dictionary, reset}
 use Rattle.fast_dict.specs.meaning.Slots.{slots_terms}
 use Rattle.fast_dict.specs.declared.slots.Slots.{Slots}

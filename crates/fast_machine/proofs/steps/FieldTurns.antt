@@ -12,7 +12,7 @@ use Rattle.fast_value.specs.meaning.Kinds.{ScalarData, integer_of, exponent_rang
 use Rattle.fast_value.specs.meaning.Limits.{Bounds, bounds}
 use Rattle.fast_tree.specs.declared.operators.Operator.{Operator}
 use Rattle.fast_tree.specs.declared.operators.Operator.TheVariants.{None as no_operator, Constant, Default, Copy, Increment, Delta, Tail}
-use Rattle.fast_tree.specs.device.Numbers.{AreBelow}
+use Rattle.fast_tree.specs.meaning.Numbers.{AreBelow}
 use Rattle.fast_tree.specs.meaning.Sizes.{body_depth}
 use Rattle.fast_tree.specs.meaning.Tree.{FieldData, Body, uses_bit}
 use Rattle.fast_dict.specs.meaning.Dictionary.{Dictionary, PreviousData, previous_at}

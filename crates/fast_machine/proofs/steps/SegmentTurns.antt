@@ -10,7 +10,7 @@ use Rattle.fast_value.specs.declared.codes.Code.{Code}
 use Rattle.fast_value.specs.meaning.Kinds.{ScalarData, integer_of}
 use Rattle.fast_value.specs.meaning.Limits.{Bounds, bounds}
 use Rattle.fast_tree.specs.declared.instructions.Node.{Node}
-use Rattle.fast_tree.specs.device.Numbers.{AreBelow, numbers_of}
+use Rattle.fast_tree.specs.meaning.Numbers.{AreBelow, numbers_of}
 use Rattle.fast_tree.specs.meaning.Sizes.{depth, body_depth}
 use Rattle.fast_tree.specs.meaning.Tree.{FieldData, Instruction, group, Body, step, bits_of}
 use Rattle.fast_dict.specs.meaning.Dictionary.{Dictionary, previous_at}

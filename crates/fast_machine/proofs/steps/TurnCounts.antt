@@ -10,7 +10,7 @@ use Rattle.fast_value.specs.declared.codes.Code.TheVariants.{L2, L5}
 use Rattle.fast_tree.specs.meaning.Tree.{Tree, Label, FieldData, Instruction, field, parts, group, sequence, Body, step, TemplateData}
 use Rattle.fast_tree.specs.meaning.Sizes.{turn_weights, size, body_size, outer, body_outer, widest, body_widest, greatest, product_cap, sum_cap, turn_cap}
 use Rattle.fast_tree.specs.declared.instructions.Template.{Template}
-use Rattle.fast_tree.specs.device.Nodes.{template_data, instructions_from}
+use Rattle.fast_tree.specs.meaning.Nodes.{template_data, instructions_from}
 use Rattle.fast_stream.specs.declared.faults.FaultCode.{FaultCode}
 use Rattle.fast_machine.specs.declared.machine.Machine.{Machine}
 use Rattle.fast_machine.specs.declared.machine.Turn.{Turn}

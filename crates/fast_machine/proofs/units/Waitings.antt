@@ -10,10 +10,10 @@ use Rattle.fast_value.specs.meaning.Limits.{Bounds, bounds}
 use Rattle.fast_tree.specs.declared.instructions.Node.{Node}
 use Rattle.fast_tree.specs.declared.instructions.Shape.{Shape}
 use Rattle.fast_tree.specs.declared.instructions.Shape.TheVariants.{Field as FieldShape, Decimal, Group, Sequence}
-use Rattle.fast_tree.specs.device.Numbers.{AreBelow, NameLaterNodes}
-use Rattle.fast_tree.specs.device.NodeData.{shape_data}
+use Rattle.fast_tree.specs.meaning.Numbers.{AreBelow, NameLaterNodes}
+use Rattle.fast_tree.specs.meaning.NodeData.{shape_data}
 use Rattle.fast_tree.specs.meaning.Tree.{Label, FieldData, identifier, Body, step}
-use Rattle.fast_tree.specs.device.Nodes.{field_data, label_of}
+use Rattle.fast_tree.specs.meaning.Nodes.{field_data, label_of, body_among}
 use Rattle.fast_dict.specs.meaning.Dictionary.{Dictionary}
 use Rattle.fast_dict.specs.meaning.Slots.{slots_dictionary, slots_terms}
 use Rattle.fast_dict.specs.meaning.Stores.{Terms}
@@ -26,7 +26,7 @@ use Rattle.fast_stream.specs.device.Continuations.{handed_then, message_behind_t
 use Rattle.fast_stream.specs.device.Frames.{Frame, resume}
 use Rattle.fast_units.specs.device.Taking.{Waits, Stays}
 use Rattle.fast_machine.specs.device.Serving.{ServesShape}
-use Rattle.fast_tree.specs.device.Bodies.{body_among, instruction_among}
+use Rattle.fast_tree.specs.device.Bodies.{instruction_among}
 use Rattle.fast_units.specs.device.Stages.{term_behind}
 use Rattle.fast_units.specs.device.UnitFronts.{IsSent, IsAsciiFirst}
 use Rattle.fast_machine.specs.device.Positions.{Set, tree_in, body_in, frames_in, state_in, bit_of, unit_then, mantissa_then, term_at, front_at, unit_reader, meaning, meaning_at, BeginsWithInteger, BeginsWithText, GoesOnWithMantissa, GoesOnWithNumber, GoesOnWithBytes, CanTake, IsReady}

@@ -7,7 +7,7 @@ use Rattle.fast_value.specs.meaning.Limits.{Bounds, bounds}
 use Rattle.fast_tree.specs.declared.instructions.Shape.TheVariants as Shape
 use Rattle.fast_tree.specs.declared.instructions.Node.{Node}
 use Rattle.fast_tree.specs.declared.instructions.Template.{Template}
-use Rattle.fast_tree.specs.device.Numbers.{AreBelow, numbers_of}
+use Rattle.fast_tree.specs.meaning.Numbers.{AreBelow, numbers_of}
 use Rattle.fast_tree.specs.meaning.Sizes.{body_depth, set_depth}
 use Rattle.fast_tree.specs.meaning.Tree.{Label, FieldData, identifier, uses_bit, field, parts, group, sequence, Body, step, bits_of, Tree}
 use Rattle.fast_template.specs.declared.sets.Templates.{Templates}
@@ -34,7 +34,7 @@ use Rattle.fast_cursor.specs.device.Cursors.{ElementsData, FrameData, CursorData
 use Rattle.fast_cursor.specs.declared.place.Place.{Place}
 use Rattle.fast_cursor.specs.device.Places.{at_place}
 use Rattle.fast_machine.specs.device.Serving.{ServesNodes}
-use Rattle.fast_tree.specs.device.Bodies.{body_among}
+use Rattle.fast_tree.specs.meaning.Nodes.{body_among}
 use Rattle.fast_units.specs.device.Stages.{term_behind, IsStageOf}
 use Rattle.fast_units.specs.device.UnitFronts.{IsSent, IsAsciiFirst, IsNumberStage, IsBytesStage}
 use Rattle.fast_units.specs.declared.stages.Stage.{Stage}

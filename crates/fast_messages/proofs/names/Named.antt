@@ -7,8 +7,8 @@ use Rattle.fast_tree.specs.declared.instructions.Node.{Node}
 use Rattle.fast_tree.specs.declared.instructions.Shape.{Shape}
 use Rattle.fast_tree.specs.declared.instructions.Shape.TheVariants.{Field, Decimal, Group, Sequence}
 use Rattle.fast_tree.specs.device.Bodies.{instruction_among}
-use Rattle.fast_tree.specs.device.Nodes.{label_of}
-use Rattle.fast_tree.specs.device.Numbers.{numbers_of, AreBetween}
+use Rattle.fast_tree.specs.meaning.Nodes.{label_of}
+use Rattle.fast_tree.specs.meaning.Numbers.{numbers_of, AreBetween}
 use Rattle.fast_tree.specs.meaning.Tree.{Label, Instruction, field, parts, group, sequence, Tree}
 use Rattle.fast_notation.specs.meaning.Labels.{labels_from}
 use Rattle.fast_template.specs.declared.sets.Templates.{Templates}

@@ -12,10 +12,9 @@ use Rattle.fast_lines.specs.meaning.Lines.{line_of, lines}
 use Rattle.fast_spelling.specs.meaning.Suiting.{SuitsTemplate}
 use Rattle.fast_messages.specs.declared.faults.TextFault.{TextFault}
 use Rattle.fast_messages.specs.declared.faults.TextFault.TheVariants.{BadLine, Memory}
-use Rattle.fast_messages.specs.device.Ahead.{IsShown}
 use Rattle.fast_messages.specs.meaning.Back.{IsRead, IsReadAs}
 use Rattle.fast_messages.specs.meaning.Distinct.{HasDistinctBodies}
-use Rattle.fast_messages.specs.meaning.Lined.{HasNames, HasDistinctNames}
+use Rattle.fast_messages.specs.meaning.Lined.{HasNames, HasDistinctNames, IsShown}
 use Rattle.fast_messages.specs.meaning.Reading.{closed}
 use Rattle.fast_messages.proofs.texts.Closed.{closed_first}
 use Rattle.fast_messages.proofs.refusals.Due.{lines_are}

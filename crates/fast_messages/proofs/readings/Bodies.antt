@@ -11,7 +11,7 @@ use Rattle.fast_value.specs.meaning.Messages.{Slots, no_slots, absent, present, 
 use Rattle.fast_value.specs.meaning.Views.{item_data, slots_data, elements_data}
 use Rattle.fast_value.proofs.ItemViews.{count-elements_data}
 use Rattle.fast_tree.specs.declared.instructions.Node.{Node}
-use Rattle.fast_tree.specs.device.Bodies.{body_among}
+use Rattle.fast_tree.specs.meaning.Nodes.{body_among}
 use Rattle.fast_tree.specs.meaning.Tree.{Instruction, Body, end, step, TemplateData, Tree}
 use Rattle.fast_stream.specs.meaning.Events.{EventData, MessageStart, MessageEnd, ElementStart, ElementEnd, SequenceEnd, element_events, item_events, body_events, template_events, events}
 use Rattle.fast_stream.specs.meaning.Messages.{with_slot}

@@ -11,9 +11,9 @@ use Rattle.fast_lines.specs.meaning.Lines.{line_of, lines}
 use Rattle.fast_messages.specs.declared.cursors.Cursor.{Cursor}
 use Rattle.fast_messages.specs.declared.faults.TextFault.{TextFault}
 use Rattle.fast_messages.specs.declared.faults.TextFault.TheVariants.{BadLine, Memory}
-use Rattle.fast_messages.specs.device.Ahead.{text_from, feeds, IsAt, IsAtText, IsNextNumber, IsNextText}
+use Rattle.fast_messages.specs.device.Ahead.{text_from, IsAt, IsAtText, IsNextNumber, IsNextText}
 use Rattle.fast_messages.specs.device.Cursors.{ahead, Advances, IsSaid, IsNear}
-use Rattle.fast_messages.specs.meaning.Reading.{closed}
+use Rattle.fast_messages.specs.meaning.Reading.{closed, feeds}
 use Rattle.fast_messages.proofs.texts.Feeds.{feeds_line}
 use Rattle.fast_messages.proofs.unique.OneEvent.{line_is}
 

@@ -13,12 +13,12 @@ use Rattle.fast_spelling.specs.meaning.Suiting.{Suits}
 use Rattle.fast_lines.specs.meaning.Lines.{line_of, lines}
 use Rattle.fast_lines.proofs.Splits.{first_split}
 use Rattle.fast_messages.specs.declared.cursors.Cursor.{Cursor}
-use Rattle.fast_messages.specs.device.Ahead.{IsShown, IsOneLine, text_from}
+use Rattle.fast_messages.specs.device.Ahead.{IsOneLine, text_from}
 use Rattle.fast_messages.specs.meaning.Distinct.{number}
 use Rattle.fast_messages.specs.device.Naming.{Names}
 use Rattle.fast_messages.specs.meaning.Reading.{closed}
 use Rattle.fast_messages.specs.device.Cursors.{ahead, IsSaid}
-use Rattle.fast_messages.specs.meaning.Lined.{IsLined, HasDistinctNames}
+use Rattle.fast_messages.specs.meaning.Lined.{IsLined, HasDistinctNames, IsShown}
 use Rattle.fast_messages.specs.device.Refusing.{IsDue}
 use Rattle.fast_messages.proofs.texts.NoFeeds.{line_lacks}
 use Rattle.fast_messages.proofs.refusals.NoLines.{first_is, lacks_none}

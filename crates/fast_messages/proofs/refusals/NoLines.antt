@@ -15,9 +15,9 @@ use Rattle.fast_lines.proofs.Splits.{first_split}
 use Rattle.fast_messages.specs.declared.cursors.Cursor.{Cursor}
 use Rattle.fast_messages.specs.declared.faults.TextFault.{TextFault}
 use Rattle.fast_messages.specs.declared.faults.TextFault.TheVariants.{BadLine, Memory}
-use Rattle.fast_messages.specs.device.Ahead.{feeds, text_from, IsOneLine, IsShown, OnBadLine, HasNoValue, HasNoLines}
-use Rattle.fast_messages.specs.meaning.Lined.{IsLined}
-use Rattle.fast_messages.specs.meaning.Reading.{closed}
+use Rattle.fast_messages.specs.device.Ahead.{text_from, IsOneLine, HasNoValue, HasNoLines}
+use Rattle.fast_messages.specs.meaning.Lined.{IsLined, IsShown}
+use Rattle.fast_messages.specs.meaning.Reading.{closed, feeds, OnBadLine}
 use Rattle.fast_messages.specs.device.Refusing.{HasNoNext}
 use Rattle.fast_messages.proofs.texts.LineTexts.{line_utf8}
 use Rattle.fast_messages.proofs.texts.NoFeeds.{line_lacks}

@@ -18,10 +18,10 @@ use Rattle.fast_messages.specs.declared.endings.Ending.{Ending}
 use Rattle.fast_messages.specs.declared.endings.Ending.TheVariants as Ends
 use Rattle.fast_messages.specs.declared.faults.TextFault.{TextFault}
 use Rattle.fast_messages.specs.declared.faults.TextFault.TheVariants.{BadLine, Memory}
-use Rattle.fast_messages.specs.device.Ahead.{IsShown, OnBadLine}
+use Rattle.fast_messages.specs.meaning.Reading.{OnBadLine}
 use Rattle.fast_messages.specs.device.Cursors.{ahead, Advances}
 use Rattle.fast_messages.specs.meaning.Distinct.{number}
-use Rattle.fast_messages.specs.meaning.Lined.{IsNamed, IsTold, IsLined}
+use Rattle.fast_messages.specs.meaning.Lined.{IsNamed, IsTold, IsLined, IsShown}
 use Rattle.fast_messages.specs.device.Naming.{IsValue, end_event}
 use Rattle.fast_messages.specs.device.Refusing.{IsDue, HasNoNext}
 use Rattle.fast_messages.specs.meaning.Unsaid.{IsPlainBody, HasNoItem, HasNoBody, HasNoRows}

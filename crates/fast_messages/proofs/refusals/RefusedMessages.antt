@@ -4,7 +4,7 @@ use Rattle.std.specs.Prelude.{All, flat_map, slice_get, IsUtf8, IsSome, Option, 
 use Rattle.std.proofs.lemmas.List.Elements.{All-head, All-tail}
 use Rattle.fast_value.specs.meaning.Messages.{MessageData}
 use Rattle.fast_tree.specs.declared.instructions.Template.{Template}
-use Rattle.fast_tree.specs.device.Nodes.{instructions_from, template_data}
+use Rattle.fast_tree.specs.meaning.Nodes.{instructions_from, template_data}
 use Rattle.fast_tree.specs.meaning.Tree.{TemplateData, Tree}
 use Rattle.fast_notation.proofs.lists.Lists.{map_get_back}
 use Rattle.fast_template.specs.declared.sets.Templates.{Templates}
@@ -16,10 +16,10 @@ use Rattle.fast_lines.specs.meaning.Lines.{lines, template_name}
 use Rattle.fast_spelling.specs.meaning.Suiting.{SuitsTemplate}
 use Rattle.fast_messages.specs.declared.cursors.Cursor.{Cursor}
 use Rattle.fast_messages.specs.declared.endings.Ending.TheVariants as Ends
-use Rattle.fast_messages.specs.device.Ahead.{IsShown, HasNoLines, text_from}
+use Rattle.fast_messages.specs.device.Ahead.{HasNoLines, text_from}
 use Rattle.fast_messages.specs.device.Cursors.{ahead, Advances}
 use Rattle.fast_messages.specs.meaning.Distinct.{HasDistinctBodies}
-use Rattle.fast_messages.specs.meaning.Lined.{IsLined}
+use Rattle.fast_messages.specs.meaning.Lined.{IsLined, IsShown}
 use Rattle.fast_messages.specs.device.Progress.{AreMessagesRead}
 use Rattle.fast_messages.specs.meaning.Reading.{closed}
 use Rattle.fast_messages.specs.device.Refusing.{IsDue, HasNoNext}

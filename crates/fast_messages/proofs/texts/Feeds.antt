@@ -1,6 +1,6 @@
 -- How many lines end in a text.
 use Rattle.std.proofs.Common.{◌≡◌, ℕ, ◌+◌, ◌≤◌, List, [], ◌∷◌, ◌++◌, arith}
-use Rattle.fast_messages.specs.device.Ahead.{feeds}
+use Rattle.fast_messages.specs.meaning.Reading.{feeds}
 
 pub feeds-append : (xs ys : List ℕ) → feeds (xs ++ ys) ≡ feeds xs + feeds ys
 feeds-append [] ys = let none : feeds ys ≡ 0 + feeds ys = omega arith in none

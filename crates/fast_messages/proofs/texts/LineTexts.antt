@@ -11,8 +11,7 @@ use Rattle.fast_tree.specs.meaning.Tree.{Tree}
 use Rattle.fast_stream.specs.meaning.Events.{EventData, MessageStart, FieldValue, GroupStart, GroupEnd, SequenceStart, ElementStart, ElementEnd, SequenceEnd, MessageEnd}
 use Rattle.fast_lines.specs.meaning.Forms.{text_of_line, line_of_event}
 use Rattle.fast_lines.specs.meaning.Lines.{node_name, written}
-use Rattle.fast_messages.specs.device.Ahead.{IsShown}
-use Rattle.fast_messages.specs.meaning.Lined.{IsNamed, IsLined}
+use Rattle.fast_messages.specs.meaning.Lined.{IsNamed, IsLined, IsShown}
 use Rattle.fast_messages.proofs.texts.NoFeeds.{name_is}
 
 -- a text is tested for ASCII

@@ -11,7 +11,7 @@ use Rattle.fast_tree.specs.meaning.Tree.{Instruction, field, parts, group, seque
 use Rattle.fast_stream.specs.meaning.Events.{EventData, MessageStart, FieldValue, GroupStart, GroupEnd, SequenceStart, ElementStart, ElementEnd, SequenceEnd, MessageEnd, element_events, item_events, body_events, events}
 use Rattle.fast_spelling.specs.meaning.Suiting.{IsRight, AreRight, Suits, SuitsBody, SuitsTemplate}
 use Rattle.fast_lines.specs.meaning.Values.{HoldsBytes}
-use Rattle.fast_messages.specs.device.Ahead.{IsShown}
+use Rattle.fast_messages.specs.meaning.Lined.{IsShown}
 use Rattle.fast_messages.proofs.values.Shown.{values_are_shown}
 
 -- the event can be read back, if the elements of its vector are bytes

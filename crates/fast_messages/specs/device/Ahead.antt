@@ -1,10 +1,10 @@
 -- What is ahead in a text.
-use Rattle.std.specs.Prelude.{All, IsUtf8, ◌≡◌, ◌≢◌, ℕ, ◌+◌, ◌≤◌, List, [], ◌∷◌, ◌++◌, nat_eq, if◌then◌else◌, Option, Some, None, option_map}
+use Rattle.std.specs.Prelude.{All, ◌≡◌, ◌≢◌, ℕ, ◌+◌, ◌≤◌, List, [], ◌∷◌, ◌++◌, Option, Some, None, option_map}
 use Rattle.fast_value.specs.declared.values.Value.{Value}
 use Rattle.fast_value.specs.meaning.Kinds.{ScalarData}
 use Rattle.fast_value.specs.meaning.Values.{value_data}
 use Rattle.fast_tree.specs.meaning.Tree.{Tree}
-use Rattle.fast_stream.specs.meaning.Events.{EventData, FieldValue}
+use Rattle.fast_stream.specs.meaning.Events.{EventData}
 use Rattle.fast_lines.specs.declared.forms.Line.{Line}
 use Rattle.fast_lines.specs.declared.forms.Line.TheVariants as Lent
 use Rattle.fast_lines.specs.meaning.Forms.{LineData, field, line_data, text_of_line}
@@ -12,8 +12,8 @@ use Rattle.fast_lines.specs.meaning.Lines.{written, lines}
 use Rattle.fast_lines.specs.meaning.Values.{IsHeld}
 use Rattle.fast_messages.specs.declared.faults.TextFault.{TextFault}
 use Rattle.fast_messages.specs.declared.faults.TextFault.TheVariants.{BadLine, Memory}
-use Rattle.fast_messages.specs.meaning.Lined.{IsLined}
-use Rattle.fast_messages.specs.meaning.Reading.{closed}
+use Rattle.fast_messages.specs.meaning.Lined.{IsLined, IsShown}
+use Rattle.fast_messages.specs.meaning.Reading.{closed, feeds}
 
 -- the value of a line, which is a field's, and which the types of values hold
 abbrev pub IsValueOf : Line → Option Value → Type 0
@@ -34,11 +34,6 @@ abbrev pub text_from : Option Line → List ℕ → List ℕ
 text_from None rest = []
 text_from (Some l) rest = text_of_line (line_data l) ++ 0x0A ∷ closed rest
 
--- how many lines end in a text
-abbrev pub feeds : List ℕ → ℕ
-feeds [] = 0
-feeds (c ∷ cs) = (if nat_eq c 0x0A then 1 else 0) + feeds cs
-
 -- the fault is that of the line of this number, if it is one of a line
 abbrev pub IsAt : ℕ → TextFault → Type 0
 IsAt n (BadLine line kind) = line ≡ n
@@ -58,20 +53,10 @@ abbrev pub IsNextText : ℕ → List ℕ → TextFault → Type 0
 IsNextText n text (BadLine line kind) = IsNextNumber n line × (1 ≤ feeds text)
 IsNextText n text Memory = Unit {0}
 
--- what is so of a fault that is one of a line
-abbrev pub OnBadLine : Type 0 → TextFault → Type 0
-OnBadLine A (BadLine line kind) = A
-OnBadLine A Memory = Unit {0}
-
 -- the line is that of a field whose text is no value that the types of values hold
 abbrev pub HasNoValue : Line → Type 0
 HasNoValue (Lent.Field n name text) = (v : ScalarData) → IsHeld v → text.now ≢ written v
 HasNoValue line = ⊥
-
--- the value can be read back: the types of values hold it, and its text is UTF-8
-abbrev pub IsShown : EventData → Type 0
-IsShown (FieldValue n v) = IsHeld v × IsUtf8 (written v)
-IsShown e = Unit {0}
 
 -- The text is not the lines of events whose values can be read back.
 abbrev pub HasNoLines : List ℕ → Type 0

@@ -7,7 +7,8 @@ use Rattle.fast_lines.specs.meaning.Lines.{lines}
 use Rattle.fast_messages.specs.declared.cursors.Cursor.{Cursor}
 use Rattle.fast_messages.specs.declared.faults.TextFault.{TextFault}
 use Rattle.fast_messages.specs.declared.faults.TextFault.TheVariants.{BadLine, Memory}
-use Rattle.fast_messages.specs.device.Ahead.{text_from, feeds}
+use Rattle.fast_messages.specs.device.Ahead.{text_from}
+use Rattle.fast_messages.specs.meaning.Reading.{feeds}
 
 -- the text from the line ahead on, with an LF behind its last line
 abbrev pub ahead : Cursor → List ℕ

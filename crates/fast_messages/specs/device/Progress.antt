@@ -10,9 +10,8 @@ use Rattle.fast_stream.specs.meaning.Events.{EventData, element_events, body_eve
 use Rattle.fast_lines.specs.meaning.Lines.{lines}
 use Rattle.fast_spelling.specs.meaning.Suiting.{AreRight, SuitsBody, SuitsTemplate}
 use Rattle.fast_messages.specs.declared.cursors.Cursor.{Cursor}
-use Rattle.fast_messages.specs.device.Ahead.{feeds}
 use Rattle.fast_messages.specs.device.Cursors.{ahead, end_number, IsSaid}
-use Rattle.fast_messages.specs.meaning.Reading.{closed}
+use Rattle.fast_messages.specs.meaning.Reading.{closed, feeds}
 use Rattle.fast_messages.specs.meaning.Unsaid.{IsPlainBody, IsLeft}
 
 -- slots, and others behind them

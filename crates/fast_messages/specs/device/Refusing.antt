@@ -4,9 +4,8 @@ use Rattle.fast_tree.specs.meaning.Tree.{Tree}
 use Rattle.fast_stream.specs.meaning.Events.{EventData}
 use Rattle.fast_lines.specs.meaning.Lines.{lines}
 use Rattle.fast_messages.specs.declared.cursors.Cursor.{Cursor}
-use Rattle.fast_messages.specs.device.Ahead.{IsShown}
 use Rattle.fast_messages.specs.device.Cursors.{ahead}
-use Rattle.fast_messages.specs.meaning.Lined.{IsLined}
+use Rattle.fast_messages.specs.meaning.Lined.{IsLined, IsShown}
 
 -- The text ahead is the lines of these events, whose values can be read back.
 pub record IsDue (t : Tree) (es : List EventData) (c : Cursor) : Type 0 where

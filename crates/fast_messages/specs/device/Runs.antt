@@ -1,17 +1,13 @@
 -- What was read of a text: messages and their parts, by the lines of their events.
-use Rattle.std.specs.Prelude.{◌≡◌, ℕ, ◌+◌, ◌≤◌, List, [], ◌∷◌, ◌++◌, Some}
+use Rattle.std.specs.Prelude.{◌≡◌, ℕ, ◌+◌, [], ◌∷◌, ◌++◌, Some}
 use Rattle.fast_value.specs.meaning.Messages.{ItemData, Slots, Elements, count, MessageData}
 use Rattle.fast_tree.specs.meaning.Tree.{Instruction, Body, Tree}
 use Rattle.fast_stream.specs.meaning.Events.{SequenceEnd, element_events, item_events, body_events, events}
 use Rattle.fast_spelling.specs.meaning.Suiting.{AreRight, Suits, SuitsBody, SuitsTemplate}
 use Rattle.fast_messages.specs.declared.cursors.Cursor.{Cursor}
 use Rattle.fast_messages.specs.declared.endings.Ending.{Ending}
-use Rattle.fast_messages.specs.declared.faults.TextFault.{TextFault}
-use Rattle.fast_messages.specs.declared.faults.TextFault.TheVariants.{BadLine, Memory}
-use Rattle.fast_messages.specs.device.Ahead.{feeds}
 use Rattle.fast_messages.specs.device.Cursors.{IsSaid}
 use Rattle.fast_messages.specs.device.Naming.{end_event}
-use Rattle.fast_messages.specs.meaning.Reading.{closed}
 
 -- slots that suit a body, and the line that ends them
 pub record IsBodyRead (t : Tree) (body : Body) (ending : Ending) (vs : Slots) (c next : Cursor) : Type 0 where
@@ -33,8 +29,3 @@ pub record AreRowsRead (t : Tree) (body : Body) (n : ℕ) (rows : Elements) (c n
 pub record IsMessageRead (t : Tree) (m : MessageData) (c next : Cursor) : Type 0 where
   pub suits : SuitsTemplate t m
   pub said : IsSaid t (events t m) c next
-
--- A line at fault is one of the text, or the one behind its last.
-abbrev pub IsLineOf : List ℕ → TextFault → Type 0
-IsLineOf text (BadLine line kind) = (1 ≤ line) × (line ≤ feeds (closed text) + 1)
-IsLineOf text Memory = Unit {0}

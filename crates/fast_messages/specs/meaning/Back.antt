@@ -13,8 +13,7 @@ use Rattle.fast_stream.specs.meaning.Streams.{SpellsAll}
 use Rattle.fast_spelling.specs.meaning.Again.{HaveNoZero, EncodesAll}
 use Rattle.fast_messages.specs.declared.faults.TextFault.{TextFault}
 use Rattle.fast_messages.specs.declared.faults.TextFault.TheVariants.{Memory}
-use Rattle.fast_messages.specs.device.Ahead.{OnBadLine}
-use Rattle.fast_messages.specs.meaning.Reading.{Says}
+use Rattle.fast_messages.specs.meaning.Reading.{Says, OnBadLine}
 use Rattle.fast_messages.specs.meaning.Unsaid.{SaysNothing}
 
 -- the clauses `ok` and `err`

@@ -1,11 +1,11 @@
 -- Events that lines can tell from others: their numbers have names in the set, and their values are held.
-use Rattle.std.specs.Prelude.{◌≡◌, ℕ, ◌<◌, ◌^◌, All, slice_get, Some}
+use Rattle.std.specs.Prelude.{◌≡◌, ℕ, ◌<◌, ◌^◌, All, slice_get, Some, IsUtf8}
 use Rattle.fast_value.specs.meaning.Kinds.{ScalarData, ByteVector}
 use Rattle.fast_tree.specs.meaning.AsWritten.{IsName}
 use Rattle.fast_tree.specs.meaning.Tree.{TemplateData, Tree}
 use Rattle.fast_notation.specs.meaning.Labels.{template_labels}
 use Rattle.fast_stream.specs.meaning.Events.{EventData, MessageStart, FieldValue, GroupStart, SequenceStart}
-use Rattle.fast_lines.specs.meaning.Lines.{node_name}
+use Rattle.fast_lines.specs.meaning.Lines.{node_name, written}
 use Rattle.fast_lines.specs.meaning.Values.{IsHeld}
 
 -- the node's number and name can stand in a line
@@ -33,3 +33,8 @@ HasDistinctNames t = (j k : ℕ) (u w : TemplateData) → slice_get t.templates 
 pub record HasNames (t : Tree) : Type 0 where
   pub nodes : All (λ l. IsNamed t l.node) (template_labels t.templates)
   pub templates : (n : ℕ) (u : TemplateData) → slice_get t.templates n ≡ Some u → IsName u.name
+
+-- the value can be read back: the types of values hold it, and its text is UTF-8
+abbrev pub IsShown : EventData → Type 0
+IsShown (FieldValue n v) = IsHeld v × IsUtf8 (written v)
+IsShown e = Unit {0}

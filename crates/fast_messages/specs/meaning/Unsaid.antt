@@ -7,9 +7,8 @@ use Rattle.fast_stream.specs.meaning.Events.{EventData, SequenceEnd, element_eve
 use Rattle.fast_spelling.specs.meaning.Suiting.{AreRight, Suits, SuitsBody, SuitsTemplate}
 use Rattle.fast_messages.specs.declared.cursors.Cursor.{Cursor}
 use Rattle.fast_messages.specs.declared.endings.Ending.{Ending}
-use Rattle.fast_messages.specs.device.Ahead.{IsShown}
 use Rattle.fast_messages.specs.meaning.Distinct.{IsDistinct, AreDistinct}
-use Rattle.fast_messages.specs.meaning.Lined.{IsNamed, HasDistinctNames, HasNames}
+use Rattle.fast_messages.specs.meaning.Lined.{IsNamed, HasDistinctNames, HasNames, IsShown}
 use Rattle.fast_messages.specs.device.Naming.{end_event}
 use Rattle.fast_messages.specs.meaning.Reading.{Says}
 use Rattle.fast_messages.specs.device.Refusing.{IsDue}

@@ -5,9 +5,9 @@ use Rattle.fast_tree.specs.declared.instructions.Shape.TheVariants.{Field, Decim
 use Rattle.fast_tree.specs.declared.instructions.Node.{Node}
 use Rattle.fast_tree.specs.declared.instructions.Template.{Template}
 use Rattle.fast_tree.specs.meaning.Tree.{Label, Instruction}
-use Rattle.fast_tree.specs.device.Nodes.{instructions_from, instruction_of, template_data, label_of}
+use Rattle.fast_tree.specs.meaning.Nodes.{instructions_from, instruction_of, template_data, label_of}
 use Rattle.fast_notation.specs.meaning.Labels.{labels_from}
-use Rattle.fast_tree.specs.device.NodeData.{NodeData, instructions_of, instruction_from, shape_data, node_data, outline, template_from}
+use Rattle.fast_tree.specs.meaning.NodeData.{NodeData, instructions_of, instruction_from, shape_data, node_data, outline, template_from}
 
 -- one instruction
 pub same_instruction : (at : Label) (first : ℕ) (is : List Instruction) (s : Shape) → instruction_of at first is s ≡ instruction_from at first is (shape_data s)

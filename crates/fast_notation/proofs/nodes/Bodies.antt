@@ -6,8 +6,8 @@ use Rattle.std.proofs.lemmas.Option.{slice_get_read}
 use Rattle.fast_tree.specs.declared.instructions.Shape.{Shape}
 use Rattle.fast_tree.specs.declared.instructions.Node.{Node}
 use Rattle.fast_tree.specs.meaning.Tree.{Instruction, step}
-use Rattle.fast_tree.specs.device.Nodes.{label_of, instruction_of, instructions_from, body_of, no_instruction}
-use Rattle.fast_tree.specs.device.Numbers.{numbers_of, AreBetween, NameLaterNodes}
+use Rattle.fast_tree.specs.meaning.Nodes.{label_of, instruction_of, instructions_from, body_of, no_instruction}
+use Rattle.fast_tree.specs.meaning.Numbers.{numbers_of, AreBetween, NameLaterNodes}
 use Rattle.fast_notation.proofs.nodes.Walks.{body_at, instruction_of_node, instruction_of_later}
 
 -- a node's instruction, by its shape and all instructions

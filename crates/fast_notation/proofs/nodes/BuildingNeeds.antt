@@ -12,7 +12,7 @@ use Rattle.fast_notation.specs.device.Built.{IsReady, IsIndexed, CanBuild, IsBui
 use Rattle.fast_notation.specs.device.Chains.{Fits, nodes_by, nodes_in}
 use Rattle.fast_tree.specs.meaning.Entries.{Entry, Scope, scope_of, in_scope, uses_from}
 use Rattle.fast_notation.specs.device.EntryKeys.{HasEntry}
-use Rattle.fast_tree.specs.device.NodeData.{NodeData}
+use Rattle.fast_tree.specs.meaning.NodeData.{NodeData}
 use Rattle.fast_tree.specs.device.Places.{place_of_name}
 use Rattle.fast_tree.specs.meaning.Sizes.{node_limit}
 use Rattle.fast_notation.specs.device.Sound.{IsSound}

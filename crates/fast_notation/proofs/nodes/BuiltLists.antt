@@ -11,7 +11,7 @@ use Rattle.fast_value.specs.declared.kinds.Kind.{Kind}
 use Rattle.fast_notation.specs.device.Built.{own_number, top_numbers, spread, spread_all, with_shape, data_of, IsBuilt}
 use Rattle.fast_tree.specs.meaning.Entries.{Entry, Scope, scope_of}
 use Rattle.fast_notation.specs.meaning.InPlace.{label, ◌then◌, InPlace, nothing, a_field, some_parts, a_group, a_sequence, a_reference}
-use Rattle.fast_tree.specs.device.NodeData.{ShapeData, a_field as a_field_data, a_decimal, a_group as a_group_data, a_sequence as a_sequence_data, NodeData, node_data, shape_data}
+use Rattle.fast_tree.specs.meaning.NodeData.{ShapeData, a_field as a_field_data, a_decimal, a_group as a_group_data, a_sequence as a_sequence_data, NodeData, node_data, shape_data}
 use Rattle.fast_tree.specs.meaning.Tree.{FieldData, field, parts, group, sequence, Body, end, step}
 use Rattle.fast_notation.specs.meaning.Uses.{IsField}
 use Rattle.fast_notation.specs.device.WrittenSets.{list_of, instruction_data, fields_data}

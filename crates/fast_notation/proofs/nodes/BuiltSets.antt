@@ -15,9 +15,10 @@ use Rattle.fast_notation.specs.device.Chains.{instruction_nodes, nodes_by, nodes
 use Rattle.fast_tree.specs.meaning.Entries.{Entry, scope_of, in_scope, uses_from}
 use Rattle.fast_notation.specs.meaning.InPlace.{◌then◌, InPlace, AreInPlace}
 use Rattle.fast_notation.specs.meaning.Labels.{labels, body_labels, template_labels, AreInPreorder}
-use Rattle.fast_tree.specs.device.NodeData.{NodeData, node_data, shape_data, TemplateOutline, outline, instructions_of, template_from}
-use Rattle.fast_tree.specs.device.Nodes.{body_of, instructions_from, template_data}
-use Rattle.fast_tree.specs.device.Numbers.{numbers_of, NameNodes, NameLaterNodes, HaveDistinctIds}
+use Rattle.fast_tree.specs.meaning.NodeData.{NodeData, node_data, shape_data, TemplateOutline, outline, instructions_of, template_from}
+use Rattle.fast_tree.specs.meaning.Nodes.{body_of, instructions_from, template_data}
+use Rattle.fast_tree.specs.device.Numbers.{HaveDistinctIds}
+use Rattle.fast_tree.specs.meaning.Numbers.{numbers_of, NameNodes, NameLaterNodes}
 use Rattle.fast_tree.specs.meaning.Sizes.{nesting_limit, node_limit}
 use Rattle.fast_tree.specs.meaning.Tree.{Instruction, Body, end, step, TemplateData}
 use Rattle.fast_notation.proofs.nodes.BuiltLists.{spread-then}

@@ -7,8 +7,8 @@ use Rattle.fast_notation.specs.device.Built.{own_number, top_numbers, spread, sp
 use Rattle.fast_tree.specs.meaning.Entries.{Entry, Scope}
 use Rattle.fast_notation.specs.meaning.InPlace.{◌then◌, InPlace, nothing, a_field, some_parts, a_group, a_sequence, a_reference}
 use Rattle.fast_notation.specs.meaning.Labels.{labels, body_labels}
-use Rattle.fast_tree.specs.device.NodeData.{ShapeData, a_field as a_field_data, a_decimal, a_group as a_group_data, a_sequence as a_sequence_data, NodeData, instructions_of}
-use Rattle.fast_tree.specs.device.Nodes.{body_of, no_instruction}
+use Rattle.fast_tree.specs.meaning.NodeData.{ShapeData, a_field as a_field_data, a_decimal, a_group as a_group_data, a_sequence as a_sequence_data, NodeData, instructions_of}
+use Rattle.fast_tree.specs.meaning.Nodes.{body_of, no_instruction}
 use Rattle.fast_tree.specs.meaning.Tree.{Label, Instruction, field, parts, group, sequence, Body, end, step}
 use Rattle.fast_notation.proofs.lists.NodeLists.{data_labels}
 

@@ -16,7 +16,7 @@ use Rattle.fast_tree.specs.meaning.AsWritten.{Written, DeclaredList, DeclaredTem
 use Rattle.fast_notation.specs.device.Built.{top_numbers, spread_all, AreBuilt}
 use Rattle.fast_tree.specs.meaning.Entries.{Entry, Scope, keeps_value, EntryNumber}
 use Rattle.fast_notation.specs.meaning.InPlace.{InPlace, nothing, a_field, some_parts, a_group, a_sequence, a_reference, AreInPlace}
-use Rattle.fast_tree.specs.device.NodeData.{a_field as a_field_data, a_decimal, a_group as a_group_data, a_sequence as a_sequence_data, NodeData, node_data, outline}
+use Rattle.fast_tree.specs.meaning.NodeData.{a_field as a_field_data, a_decimal, a_group as a_group_data, a_sequence as a_sequence_data, NodeData, node_data, outline}
 use Rattle.fast_notation.specs.device.Sound.{IsSound}
 use Rattle.fast_tree.specs.meaning.Tree.{FieldData, Body, TemplateData}
 use Rattle.fast_notation.specs.meaning.Uses.{suits, IsField}

@@ -3,7 +3,7 @@ use Rattle.std.proofs.Common.{◌≡◌, ℕ, ◌<◌, ◌≤◌, ◌+◌, ◌-�
 use Rattle.std.specs.Prelude.{slice_index}
 use Rattle.std.proofs.Math.Nat.{min-le_left, min-le_right, min-eq_left, min-eq_right, le_trans}
 use Rattle.std.proofs.lemmas.Bool.{cases_lt}
-use Rattle.fast_tree.specs.device.Numbers.{AreBelow, AreBetween}
+use Rattle.fast_tree.specs.meaning.Numbers.{AreBelow, AreBetween}
 
 -- the least of some numbers, and the limit if there is none
 abbrev pub least : ℕ → List ℕ → ℕ

@@ -8,8 +8,8 @@ use Rattle.fast_tree.specs.declared.instructions.Shape.{Shape}
 use Rattle.fast_tree.specs.declared.instructions.Shape.TheVariants.{Field, Decimal, Group, Sequence}
 use Rattle.fast_tree.specs.declared.instructions.Node.{Node}
 use Rattle.fast_tree.specs.meaning.Tree.{Label, Instruction, group, sequence, end, step}
-use Rattle.fast_tree.specs.device.Nodes.{label_of, instruction_of, instructions_from, body_of, no_instruction, field_data}
-use Rattle.fast_tree.specs.device.Numbers.{numbers_of, AreBetween}
+use Rattle.fast_tree.specs.meaning.Nodes.{label_of, instruction_of, instructions_from, body_of, no_instruction, field_data}
+use Rattle.fast_tree.specs.meaning.Numbers.{numbers_of, AreBetween}
 
 -- the instructions of the nodes that are left are those that are left
 pub instructions-drop : (own k : ℕ) (ns : List Node) → drop k (instructions_from own ns) ≡ instructions_from (own + k) (drop k ns)

@@ -16,8 +16,8 @@ use Rattle.fast_tree.specs.meaning.Entries.{Entry, scope_of}
 use Rattle.fast_notation.specs.meaning.Faults.{IsFaultAt}
 use Rattle.fast_notation.specs.meaning.Firsts.{pass_of, ComesBefore, IsFirst, IsFirstUnwritten, IsFirstFault, AreChained, IsFirstInChains}
 use Rattle.fast_notation.specs.meaning.InPlace.{InPlace}
-use Rattle.fast_tree.specs.device.NodeData.{node_data}
-use Rattle.fast_tree.specs.device.Nodes.{instructions_from, template_data}
+use Rattle.fast_tree.specs.meaning.NodeData.{node_data}
+use Rattle.fast_tree.specs.meaning.Nodes.{instructions_from, template_data}
 use Rattle.fast_notation.specs.meaning.Notation.{WritesSet}
 use Rattle.fast_tree.specs.device.Places.{place_of_name}
 use Rattle.fast_notation.specs.device.ReadSets.{IsSetBuilt}

@@ -20,7 +20,7 @@ use Rattle.fast_notation.specs.device.Reading.{all_templates, items_count}
 use Rattle.fast_notation.specs.meaning.Refused.{Reaches, IsBodyOf, StandsAt}
 use Rattle.fast_tree.specs.meaning.Sizes.{body_depth, segment_limit, nesting_limit, node_limit}
 use Rattle.fast_tree.specs.meaning.Tree.{FieldData, Body, end, step, uses_bit, operator_uses_bit, one_if, bits_of, message_bits, TemplateData, Tree}
-use Rattle.fast_notation.specs.device.Unwritten.{AreTables, IsUnwritten}
+use Rattle.fast_notation.specs.meaning.Unwritten.{AreTables, IsUnwritten}
 use Rattle.fast_notation.specs.meaning.Uses.{IsS2, IsS3, IsS4, IsS5, IsField}
 use Rattle.fast_notation.proofs.nodes.BuildingNeeds.{some_is, uses_of_template}
 use Rattle.fast_notation.proofs.nodes.BuiltSets.{set_nodes}

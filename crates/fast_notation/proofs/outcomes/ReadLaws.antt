@@ -14,8 +14,8 @@ use Rattle.fast_notation.specs.meaning.Checked.{IsTree, AreNarrowInside}
 use Rattle.fast_notation.specs.meaning.Notation.{WritesSet}
 use Rattle.fast_tree.specs.meaning.Entries.{Entry, Scope, Collects, scope_of, in_scope, uses_from}
 use Rattle.fast_notation.specs.meaning.InPlace.{InPlace, AreInPlace}
-use Rattle.fast_tree.specs.device.NodeData.{node_data}
-use Rattle.fast_tree.specs.device.Nodes.{instructions_from, template_data}
+use Rattle.fast_tree.specs.meaning.NodeData.{node_data}
+use Rattle.fast_tree.specs.meaning.Nodes.{instructions_from, template_data}
 use Rattle.fast_notation.specs.device.ReadSets.{IsChecked, IsSetBuilt}
 use Rattle.fast_notation.specs.meaning.Refused.{StandsAt}
 use Rattle.fast_notation.specs.device.Segments.{IsNarrow, IsWide}

@@ -9,7 +9,7 @@ use Rattle.fast_tree.specs.meaning.AsWritten.{DeclaredTemplate}
 use Rattle.fast_notation.specs.device.Built.{outline_of, AreBuilt}
 use Rattle.fast_tree.specs.meaning.Entries.{Entry}
 use Rattle.fast_notation.specs.meaning.InPlace.{AreInPlace}
-use Rattle.fast_tree.specs.device.NodeData.{NodeData, TemplateOutline, outline}
+use Rattle.fast_tree.specs.meaning.NodeData.{NodeData, TemplateOutline, outline}
 use Rattle.fast_tree.specs.device.Numbers.{number_of_name, number_of_id}
 use Rattle.fast_tree.specs.device.Places.{place, is_id, place_of_name, place_of_id}
 use Rattle.fast_tree.specs.meaning.Tree.{TemplateData}

@@ -13,7 +13,7 @@ use Rattle.fast_notation.specs.meaning.Firsts.{IsFirstUnwritten}
 use Rattle.fast_notation.specs.meaning.Notation.{TextAt, IsDictionary, IdAt, WritesTemplate, WritesTemplates, WritesSet}
 use Rattle.fast_notation.specs.device.Reading.{◌>>=◌, has_only, text_of, flag_of, name_of, id_of, is_dictionary, dictionary_named, dictionary_of, fields_of, template_of, template_in, all_templates, are_tables, are_templates, items_count, members_count, tables_of}
 use Rattle.fast_notation.specs.declared.codes.StaticCode.TheVariants.{S1, S2, S3, S4, S5, D8, C1, C2, C3, C4, C5, C6, Memory}
-use Rattle.fast_notation.specs.device.Unwritten.{AreTables, HasTables, IsUnwritten}
+use Rattle.fast_notation.specs.meaning.Unwritten.{AreTables, HasTables, IsUnwritten}
 use Rattle.fast_notation.specs.device.WrittenReading.{IsUnread}
 use Rattle.fast_notation.proofs.lists.FieldLists.{fields_of_items}
 use Rattle.fast_notation.proofs.texts.ReadingPieces.{some_after, some_if, some_is, same_text, keys_only, only_keys, text_there, there_text, name_there, there_name, flag_there, there_flag, there_items, dictionary_passes, passed_dictionary}

@@ -7,7 +7,7 @@ use Rattle.fast_notation.specs.device.Chains.{Fits, nodes_in}
 use Rattle.fast_tree.specs.meaning.Entries.{Entry, Scope, Collects, uses_from}
 use Rattle.fast_notation.specs.device.EntryKeys.{HasEntry}
 use Rattle.fast_notation.specs.meaning.InPlace.{InPlace, AreInPlace}
-use Rattle.fast_tree.specs.device.NodeData.{ShapeData, a_field, a_decimal, a_group, a_sequence, NodeData, node_data, TemplateOutline}
+use Rattle.fast_tree.specs.meaning.NodeData.{ShapeData, a_field, a_decimal, a_group, a_sequence, NodeData, node_data, TemplateOutline}
 use Rattle.fast_tree.specs.device.Places.{place_of_name}
 use Rattle.fast_notation.specs.device.References.{KnowsReferences}
 use Rattle.fast_tree.specs.meaning.Sizes.{node_limit}

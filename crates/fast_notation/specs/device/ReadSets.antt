@@ -5,7 +5,7 @@ use Rattle.fast_tree.specs.meaning.AsWritten.{DeclaredTemplate, all_uses}
 use Rattle.fast_notation.specs.device.Built.{AreBuilt}
 use Rattle.fast_notation.specs.device.Chains.{Fits, nodes_in}
 use Rattle.fast_tree.specs.meaning.Entries.{Entry, Collects, uses_from}
-use Rattle.fast_tree.specs.device.NodeData.{node_data, outline}
+use Rattle.fast_tree.specs.meaning.NodeData.{node_data, outline}
 use Rattle.fast_tree.specs.device.Places.{place_of_name}
 use Rattle.fast_notation.specs.device.References.{KnowsReferences}
 use Rattle.fast_tree.specs.meaning.Sizes.{nesting_limit, node_limit}

@@ -8,7 +8,7 @@ use Rattle.fast_notation.specs.device.Chains.{Fits, nodes_in, depth_in}
 use Rattle.fast_notation.specs.meaning.Notation.{WritesTemplate, WritesSet}
 use Rattle.fast_notation.specs.meaning.Refused.{StandsAt}
 use Rattle.fast_tree.specs.meaning.Sizes.{nesting_limit, node_limit}
-use Rattle.fast_notation.specs.device.Unwritten.{HasTables}
+use Rattle.fast_notation.specs.meaning.Unwritten.{HasTables}
 
 -- the number of the pass that looks for a code's condition
 abbrev pub pass_of : StaticCode → ℕ

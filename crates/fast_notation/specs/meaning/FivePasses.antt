@@ -6,7 +6,7 @@ use Rattle.fast_tree.specs.meaning.AsWritten.{DeclaredTemplate, all_uses}
 use Rattle.fast_notation.specs.meaning.Notation.{WritesSet}
 use Rattle.fast_notation.specs.device.References.{KnowsReferences}
 use Rattle.fast_notation.specs.device.Sound.{IsSound}
-use Rattle.fast_notation.specs.device.Unwritten.{IsUnwritten}
+use Rattle.fast_notation.specs.meaning.Unwritten.{IsUnwritten}
 use Rattle.fast_notation.specs.meaning.Faults.{IsFaultAt}
 
 -- The document writes the templates, whose names and identifiers are apart, whose operators are sound, and whose

@@ -3,7 +3,7 @@ use Rattle.std.specs.Prelude.{◌≡◌, ℕ, suc, List, [], ◌∷◌, ◌++◌
 use Rattle.fast_tree.specs.declared.instructions.Node.{Node}
 use Rattle.fast_tree.specs.declared.instructions.Template.{Template}
 use Rattle.fast_tree.specs.meaning.Tree.{Label, Instruction, field, parts, group, sequence, Body, end, step, TemplateData}
-use Rattle.fast_tree.specs.device.Nodes.{label_of, instructions_from, template_data}
+use Rattle.fast_tree.specs.meaning.Nodes.{label_of, instructions_from, template_data}
 
 -- the labels of an instruction and of all that it holds, in preorder
 abbrev mutual

@@ -1,7 +1,7 @@
 -- The tree of a set that was read.
 use Rattle.std.specs.Prelude.{map}
 use Rattle.fast_notation.specs.declared.sets.CheckedSet.{CheckedSet}
-use Rattle.fast_tree.specs.device.Nodes.{instructions_from, template_data}
+use Rattle.fast_tree.specs.meaning.Nodes.{instructions_from, template_data}
 use Rattle.fast_tree.specs.meaning.Tree.{Tree}
 
 -- the tree that its nodes and templates stand for

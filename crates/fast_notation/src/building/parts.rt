@@ -6,7 +6,7 @@ ghost use Rattle.fast_value.specs.declared.kinds.Kind.{Kind};
 ghost use Rattle.fast_notation.specs.declared.uses.OperatorPart.{OperatorPart};
 ghost use Rattle.fast_notation.specs.device.Built.{with_shape, data_of};
 ghost use Rattle.fast_notation.specs.device.EntryKeys.{use_data};
-ghost use Rattle.fast_tree.specs.device.NodeData.{a_group, node_data, shape_data, outline};
+ghost use Rattle.fast_tree.specs.meaning.NodeData.{a_group, node_data, shape_data, outline};
 ghost use Rattle.fast_tree.specs.meaning.Sizes.{node_limit};
 ghost use Rattle.fast_notation.specs.meaning.Uses.{IsInitialOf};
 ghost use Rattle.fast_notation.specs.device.Sound.{IsSound};

@@ -2,7 +2,7 @@
 use Rattle.std.specs.Prelude.{◌≡◌, ℕ, false, List, [], ◌∷◌, slice_get, Some}
 use Rattle.fast_tree.specs.declared.instructions.Node.{Node}
 use Rattle.fast_tree.specs.declared.instructions.Template.{Template}
-use Rattle.fast_tree.specs.device.Numbers.{numbers_of}
+use Rattle.fast_tree.specs.meaning.Numbers.{numbers_of}
 use Rattle.fast_program.specs.declared.ops.Op.{Op}
 use Rattle.fast_program.specs.declared.programs.Program.{Program}
 use Rattle.fast_program.specs.device.Ops.{IsOpOf}

@@ -1,15 +1,13 @@
 -- What events can be of a body, of elements and of a message, and what they can't be.
-use Rattle.std.specs.Prelude.{◌≡◌, ◌≢◌, ℕ, ◌+◌, ◌<◌, ◌≤◌, List, ◌∷◌, ◌++◌, length}
+use Rattle.std.specs.Prelude.{◌≡◌, ◌≢◌, ℕ, ◌+◌, ◌<◌, List, ◌∷◌, ◌++◌, length}
 use Rattle.fast_value.specs.meaning.Messages.{Slots, Elements, count, MessageData}
 use Rattle.fast_tree.specs.declared.instructions.Node.{Node}
 use Rattle.fast_tree.specs.meaning.Tree.{Body, step, Tree}
-use Rattle.fast_tree.specs.device.Bodies.{body_among}
-use Rattle.fast_tree.specs.device.Numbers.{AreBelow}
+use Rattle.fast_tree.specs.meaning.Nodes.{body_among}
+use Rattle.fast_tree.specs.meaning.Numbers.{AreBelow}
 use Rattle.fast_stream.specs.meaning.Events.{EventData, SequenceEnd, element_events, body_events, events}
 use Rattle.fast_spelling.specs.device.Nodes.{instruction_in}
 use Rattle.fast_records.specs.declared.putting.Mark.{Mark}
-use Rattle.fast_records.specs.declared.putting.PutFault.{PutFault}
-use Rattle.fast_records.specs.meaning.Putting.{OnMisplacedAt}
 use Rattle.fast_records.specs.device.Putting.{mark_event}
 
 -- The events are those of slots of the body, then the mark, then the rest.
@@ -48,11 +46,3 @@ AreLeft b n i from to =
 -- no message of the set at the front
 abbrev pub HasNoFront : Tree → List EventData → Type 0
 HasNoFront t from = (m : MessageData) (rest : List EventData) → m.template < length t.templates → from ≢ events t m ++ rest
-
--- no message of the set
-abbrev pub HasNoMessage : Tree → List EventData → Type 0
-HasNoMessage t from = (m : MessageData) → m.template < length t.templates → from ≢ events t m
-
--- a record that is called misplaced is one of so many, or the one that is missing behind them
-abbrev pub IsWithin : ℕ → PutFault → Type 0
-IsWithin limit f = OnMisplacedAt (λ n. n ≤ limit) f

@@ -1,15 +1,11 @@
 -- What waits for room.
-use Rattle.std.specs.Prelude.{◌≡◌, List, ◌++◌, map}
+use Rattle.std.specs.Prelude.{◌≡◌, List, ◌++◌}
 use Rattle.fast_stream.specs.meaning.Events.{EventData}
-use Rattle.fast_decoder.specs.meaning.Recorded.{recorded_data}
 use Rattle.fast_records.specs.declared.waiting.Waiting.{Waiting}
 use Rattle.fast_records.specs.declared.room.Room.{Room}
 use Rattle.fast_records.specs.meaning.Records.{AreRecordsOf}
 use Rattle.fast_records.specs.device.Room.{records_in, texts_in}
-
--- the events that wait
-abbrev pub pending : Waiting → List EventData
-pending w = map recorded_data w.events.items
+use Rattle.fast_records.specs.meaning.Waiting.{pending}
 
 -- what is filled of the buffers stands for these events
 abbrev pub Holds : Room → List EventData → Type 0

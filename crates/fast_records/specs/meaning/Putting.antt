@@ -1,5 +1,5 @@
 -- What becomes of records that are put to an encoder.
-use Rattle.std.specs.Prelude.{ℕ, ◌<◌, ◌≤◌, List, length, take}
+use Rattle.std.specs.Prelude.{ℕ, ◌<◌, ◌≤◌, List, length, take, ◌≢◌}
 use Rattle.fast_value.specs.meaning.Messages.{MessageData}
 use Rattle.fast_tree.specs.meaning.Tree.{Tree}
 use Rattle.fast_stream.specs.meaning.Events.{EventData, events}
@@ -54,3 +54,11 @@ IsToldOfPut t old records texts (Why.Message f) = IsRefusedPut t old records tex
 abbrev pub IsPlacedPut : List Record → List ℕ → PutRefusal → Type 0
 IsPlacedPut records texts (Why.Records f) = OnMisplacedAt (IsPlaced records texts) f
 IsPlacedPut records texts (Why.Message f) = Unit {0}
+
+-- no message of the set
+abbrev pub HasNoMessage : Tree → List EventData → Type 0
+HasNoMessage t from = (m : MessageData) → m.template < length t.templates → from ≢ events t m
+
+-- a record that is called misplaced is one of so many, or the one that is missing behind them
+abbrev pub IsWithin : ℕ → PutFault → Type 0
+IsWithin limit f = OnMisplacedAt (λ n. n ≤ limit) f

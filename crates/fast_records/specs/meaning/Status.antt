@@ -1,9 +1,9 @@
 -- The numbers of all that a call can come to.
 use Rattle.std.specs.Prelude.{ℕ, ◌+◌}
-use Rattle.fast_stream.specs.device.FaultCodes.{code_number, cause_number}
+use Rattle.fast_stream.specs.meaning.FaultCodes.{code_number, cause_number}
 use Rattle.fast_notation.specs.declared.codes.StaticCode.{StaticCode}
 use Rattle.fast_notation.specs.declared.codes.StaticCode.TheVariants as Static
-use Rattle.fast_spelling.specs.device.Codes.{encode_number}
+use Rattle.fast_spelling.specs.meaning.Codes.{encode_number}
 use Rattle.fast_spelling.specs.declared.faults.EncodeFault.TheVariants as Encode
 use Rattle.fast_records.specs.declared.encoding.PutRefusal.{PutRefusal}
 use Rattle.fast_records.specs.declared.encoding.PutRefusal.TheVariants as Why

@@ -8,7 +8,7 @@ use Rattle.fast_value.specs.declared.kinds.Kind.TheVariants.{Ascii}
 use Rattle.fast_tree.specs.declared.operators.Operator.TheVariants.{Delta, Tail}
 use Rattle.fast_dict.specs.meaning.Dictionary.{PreviousData, assigned}
 use Rattle.fast_dict.specs.meaning.Operators.{Outcome, text_delta, value}
-use Rattle.fast_stream.specs.meaning.Streams.{Stream, between}
+use Rattle.fast_stream.specs.meaning.Streams.{Stream, between, AreBytes}
 use Rattle.fast_stream.specs.device.Running.{message_begun}
 use Rattle.fast_stream.specs.meaning.Fields.{field_term}
 use Rattle.fast_stream.specs.device.Continuations.{message_then, message_of_then, body_then}
@@ -18,7 +18,6 @@ use Rattle.fast_spelling.specs.meaning.Refused.{ascii_field, set_of, wide, text_
 use Rattle.fast_spelling.specs.meaning.Refusals.{RefusesField}
 use Rattle.fast_spelling.specs.declared.faults.EncodeFault.TheVariants.{R9}
 use Rattle.std.proofs.lemmas.List.Elements.{All-cons, All-nil}
-use Rattle.fast_stream.specs.device.Readers.{AreBytes}
 use Rattle.fast_spelling.proofs.again.Sound.{same_ok}
 use Rattle.std.proofs.lemmas.Bool.{leb-true}
 

@@ -3,7 +3,7 @@ use Rattle.std.proofs.Common.{◌≡◌, ℕ, zero, suc, ◌+◌, ◌*◌, ◌-�
 use Rattle.std.specs.Prelude.{Bool, true, false, if◌then◌else◌, ℤ, pos, negsuc, Some, Result, Ok, Err, OnOk, is_ok}
 use Rattle.fast_wire.specs.meaning.Entities.{HaveNoStop, number, signed, IsOverlong}
 use Rattle.fast_wire.specs.meaning.Integers.{Means}
-use Rattle.fast_wire.specs.device.Shortest.{IsShortest}
+use Rattle.fast_wire.specs.meaning.Shortest.{IsShortest}
 use Rattle.fast_wire.proofs.numbers.Writing.{full_unsigned, full_at, natural_at, signed_negative}
 use Rattle.fast_spelling.specs.device.Drafts.{Adds}
 use Rattle.fast_spelling.specs.device.Groups.{IsGroups, IsLeast}

@@ -10,13 +10,13 @@ use Rattle.fast_tree.specs.declared.instructions.Shape.{Shape}
 use Rattle.fast_tree.specs.declared.instructions.Node.{Node}
 use Rattle.fast_template.specs.declared.sets.Templates.{Templates}
 use Rattle.fast_tree.specs.meaning.Tree.{Label, FieldData, Instruction, field, parts, group, sequence, Body}
-use Rattle.fast_tree.specs.device.Nodes.{label_of, instructions_from, no_instruction}
-use Rattle.fast_tree.specs.device.NodeData.{shape_data}
+use Rattle.fast_tree.specs.meaning.Nodes.{label_of, instructions_from, no_instruction}
+use Rattle.fast_tree.specs.meaning.NodeData.{shape_data}
 use Rattle.fast_template.specs.meaning.Flat.{nodes_of, tree_of}
-use Rattle.fast_tree.specs.device.Numbers.{numbers_of, AreBetween}
-use Rattle.fast_tree.specs.device.Usable.{IsUsable, IsUsableShape}
+use Rattle.fast_tree.specs.meaning.Numbers.{numbers_of, AreBetween}
+use Rattle.fast_tree.specs.meaning.Usable.{IsUsable, IsUsableShape}
 use Rattle.fast_dict.specs.meaning.Dictionary.{Dictionary}
-use Rattle.fast_dict.specs.device.EntryTexts.{AnyField, IsLongText, HasLongInitial}
+use Rattle.fast_dict.specs.meaning.EntryTexts.{AnyField, IsLongText, HasLongInitial}
 use Rattle.fast_tree.specs.device.Bodies.{instruction_among}
 use Rattle.fast_tree.proofs.BodyNodes.{node_instruction}
 use Rattle.fast_spelling.specs.declared.faults.EncodeFault.{EncodeFault}

@@ -9,7 +9,7 @@ use Rattle.fast_tree.specs.meaning.Tree.{FieldData, identifier, uses_bit, Instru
 use Rattle.fast_dict.specs.meaning.Dictionary.{Dictionary, PreviousData, previous_at, write_at, reset}
 use Rattle.fast_dict.specs.meaning.Operators.{Sent, Op}
 use Rattle.fast_stream.specs.meaning.Messages.{with_slot}
-use Rattle.fast_stream.specs.device.Readers.{AreBytes}
+use Rattle.fast_stream.specs.meaning.Streams.{AreBytes}
 use Rattle.fast_spelling.specs.meaning.Encoding.{Encoder, EncodesField, ShortestMap, SpellsSent, EncodesSegment, EncodesElements, EncodesScalar, EncodesDecimal, EncodesGroup, EncodesSequence, Encodes, EncodesBody, EncodesMessage}
 use Rattle.fast_spelling.proofs.rules.OneItem.{one_rule, one_next, one_spelled, one_map, two_parts, bytes_left, bytes_right}
 

@@ -11,13 +11,12 @@ use Rattle.fast_value.specs.meaning.Messages.{ItemData, Slots, no_slots, Element
 use Rattle.fast_value.specs.meaning.Views.{item_data, slots_data, elements_data}
 use Rattle.fast_tree.specs.declared.instructions.Node.{Node}
 use Rattle.fast_tree.specs.declared.instructions.Shape.{Shape}
-use Rattle.fast_tree.specs.device.Numbers.{numbers_of}
+use Rattle.fast_tree.specs.meaning.Numbers.{numbers_of}
 use Rattle.fast_tree.specs.meaning.Tree.{Instruction, Body, end, step, bits_of, has_map}
-use Rattle.fast_tree.specs.device.Nodes.{instructions_from}
+use Rattle.fast_tree.specs.meaning.Nodes.{instructions_from, body_among}
 use Rattle.fast_notation.proofs.nodes.Bodies.{next_instruction}
 use Rattle.fast_dict.specs.meaning.Dictionary.{Dictionary}
 use Rattle.fast_stream.specs.meaning.Messages.{with_slot}
-use Rattle.fast_tree.specs.device.Bodies.{body_among}
 use Rattle.fast_spelling.specs.declared.draft.Draft.{Draft}
 use Rattle.fast_spelling.specs.declared.faults.EncodeFault.{EncodeFault}
 use Rattle.fast_spelling.specs.declared.faults.EncodeFault.TheVariants.{E3}

@@ -8,8 +8,7 @@ use Rattle.fast_value.specs.meaning.Kinds.{U}
 use Rattle.fast_value.specs.meaning.Messages.{MessageData}
 use Rattle.fast_tree.specs.declared.instructions.Template.{Template}
 use Rattle.fast_tree.specs.meaning.Tree.{identifier, TemplateData}
-use Rattle.fast_tree.specs.device.Nodes.{instructions_from, template_data}
-use Rattle.fast_tree.specs.device.Bodies.{body_among}
+use Rattle.fast_tree.specs.meaning.Nodes.{instructions_from, template_data, body_among}
 use Rattle.fast_template.specs.declared.sets.Templates.{Templates}
 use Rattle.fast_template.specs.meaning.Flat.{nodes_of, templates_of, tree_of}
 use Rattle.fast_dict.specs.meaning.Dictionary.{Dictionary, reset}

@@ -12,9 +12,9 @@ use Rattle.fast_value.specs.meaning.Views.{item_data, slots_data, elements_data}
 use Rattle.fast_tree.specs.declared.instructions.Node.{Node}
 use Rattle.fast_tree.specs.declared.instructions.Shape.{Shape}
 use Rattle.fast_tree.specs.meaning.Tree.{FieldData, Instruction, Body, step}
-use Rattle.fast_tree.specs.device.Nodes.{label_of}
-use Rattle.fast_tree.specs.device.Numbers.{numbers_of, AreBetween}
-use Rattle.fast_tree.specs.device.Bodies.{body_among, instruction_among}
+use Rattle.fast_tree.specs.meaning.Nodes.{label_of, body_among}
+use Rattle.fast_tree.specs.meaning.Numbers.{numbers_of, AreBetween}
+use Rattle.fast_tree.specs.device.Bodies.{instruction_among}
 use Rattle.fast_stream.specs.meaning.Messages.{with_slot}
 use Rattle.fast_spelling.specs.device.Nodes.{instruction_in}
 use Rattle.fast_spelling.specs.meaning.Suiting.{IsRight, IsRightDecimal, AreRight, Suits, SuitsBody}

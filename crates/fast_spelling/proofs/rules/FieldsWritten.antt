@@ -9,7 +9,7 @@ use Rattle.fast_value.specs.meaning.Kinds.{ScalarData, texts, family, text_of, s
 use Rattle.fast_tree.specs.declared.operators.Operator.TheVariants.{Tail}
 use Rattle.fast_tree.specs.meaning.Tree.{FieldData, uses_bit}
 use Rattle.fast_dict.specs.meaning.Dictionary.{Dictionary, PreviousData, undefined, empty, assigned, previous_at, write_at}
-use Rattle.fast_dict.specs.device.Held.{text_size}
+use Rattle.fast_dict.specs.meaning.Held.{text_size}
 use Rattle.fast_dict.specs.meaning.Operators.{Sent, delta_base, start_value, zero_in}
 use Rattle.fast_dict.specs.meaning.Rule.{Rule}
 use Rattle.fast_spelling.specs.device.Drafts.{IsSendable, SpellsItem}

@@ -18,7 +18,7 @@ use Rattle.fast_tree.specs.meaning.Tree.{FieldData}
 use Rattle.fast_dict.specs.meaning.Dictionary.{PreviousData}
 use Rattle.fast_dict.specs.meaning.Operators.{Outcome, Sent, nothing, null, value, integer_delta, decimal_delta, text_delta, kept_length, Op, delta_base, tail_base}
 use Rattle.fast_dict.specs.meaning.Rule.{IsDelta, IsTextDelta, IsTail, SentBy, Rule}
-use Rattle.fast_stream.specs.device.Readers.{AreBytes}
+use Rattle.fast_stream.specs.meaning.Streams.{AreBytes}
 use Rattle.fast_spelling.specs.meaning.Encoding.{ShortestMap, Shortest, ShortestText, ShortestNull, ShortestNoDelta, ShortestValue, ShortestNullOf, SpellsSentBy}
 
 abbrev ok_value : {A : Type 0} → A → Result A Code → A

@@ -1,6 +1,6 @@
 -- What is appended to a message in the making.
 use Rattle.std.specs.Prelude.{◌≡◌, ◌⊎◌, ℕ, ◌≤◌, ◌<◌, ◌^◌, Bool, true, List, [], ◌∷◌, ◌++◌, length, All, pos, Some, ℤ, false}
-use Rattle.fast_wire.specs.device.Shortest.{IsShortest}
+use Rattle.fast_wire.specs.meaning.Shortest.{IsShortest}
 use Rattle.fast_value.specs.declared.kinds.Kind.{Kind}
 use Rattle.fast_value.specs.declared.kinds.Kind.TheVariants.{UInt32, Int32, UInt64, Int64, Decimal, Ascii, Unicode, Bytes}
 use Rattle.fast_value.specs.meaning.Kinds.{ScalarData, U, I, Dec, AsciiText, UnicodeText, ByteVector, exponent_range, signed_range, IsWithin}

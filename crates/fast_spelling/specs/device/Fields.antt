@@ -5,7 +5,7 @@ use Rattle.fast_value.specs.meaning.Kinds.{ScalarData, U, I, Dec, IsWithin, sign
 use Rattle.fast_tree.specs.declared.operators.Operator.{Operator}
 use Rattle.fast_tree.specs.declared.operators.Operator.TheVariants.{None as no_operator, Constant, Default, Delta}
 use Rattle.fast_tree.specs.meaning.Tree.{FieldData}
-use Rattle.fast_tree.specs.device.Usable.{IsUsable}
+use Rattle.fast_tree.specs.meaning.Usable.{IsUsable}
 use Rattle.fast_dict.specs.meaning.Dictionary.{Dictionary, PreviousData, empty, assigned}
 use Rattle.fast_spelling.specs.declared.draft.Draft.{Draft}
 use Rattle.fast_value.specs.declared.settings.Limits.{Limits}

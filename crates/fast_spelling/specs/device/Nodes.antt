@@ -8,10 +8,10 @@ use Rattle.fast_tree.specs.declared.instructions.Shape.TheVariants.{Field}
 use Rattle.fast_tree.specs.declared.operators.Operator.{Operator}
 use Rattle.fast_template.specs.declared.sets.Templates.{Templates}
 use Rattle.fast_tree.specs.meaning.Tree.{FieldData, Instruction, Label, field, parts, group, sequence}
-use Rattle.fast_tree.specs.device.Nodes.{field_data, instructions_from, no_instruction}
-use Rattle.fast_tree.specs.device.Usable.{IsUsable}
+use Rattle.fast_tree.specs.meaning.Nodes.{field_data, instructions_from, no_instruction}
+use Rattle.fast_tree.specs.meaning.Usable.{IsUsable}
 use Rattle.fast_template.specs.meaning.Flat.{nodes_of, tree_of}
-use Rattle.fast_dict.specs.device.EntryTexts.{HasLongInitial, IsLongText}
+use Rattle.fast_dict.specs.meaning.EntryTexts.{HasLongInitial, IsLongText}
 use Rattle.fast_spelling.specs.meaning.Ledgers.{LedgerData}
 
 -- the instruction of a node

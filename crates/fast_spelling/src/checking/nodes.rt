@@ -7,9 +7,9 @@ ghost use Rattle.fast_spelling.specs.device.Nodes.{instruction_in, IsThatField};
 ghost use Rattle.fast_tree.specs.declared.instructions.FieldInstruction.{FieldInstruction};
 ghost use Rattle.fast_tree.specs.declared.instructions.Node.{Node};
 ghost use Rattle.fast_tree.specs.declared.instructions.Shape.TheVariants.{Field};
-ghost use Rattle.fast_tree.specs.device.Usable.{IsUsable};
+ghost use Rattle.fast_tree.specs.meaning.Usable.{IsUsable};
 ghost use Rattle.fast_tree.specs.meaning.Tree.{Label, field};
-ghost use Rattle.fast_dict.specs.device.EntryTexts.{HasLongInitial, IsLongText};
+ghost use Rattle.fast_dict.specs.meaning.EntryTexts.{HasLongInitial, IsLongText};
 
 use crate::fields::keeps;
 use crate::forms::Form;

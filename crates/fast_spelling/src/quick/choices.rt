@@ -4,7 +4,7 @@ ghost use Rattle.std.specs.Prelude.{◌≡◌, Some, OnOk, IfErr};
 ghost use Rattle.fast_value.specs.declared.settings.Limits.{Limits};
 ghost use Rattle.fast_value.specs.meaning.Kinds.{U, I, Dec, AsciiText, UnicodeText, ByteVector};
 ghost use Rattle.fast_value.specs.meaning.Values.{scalar_data};
-ghost use Rattle.fast_tree.specs.device.Nodes.{field_data};
+ghost use Rattle.fast_tree.specs.meaning.Nodes.{field_data};
 ghost use Rattle.fast_spelling.specs.meaning.Encoding.{EncodesField};
 ghost use Rattle.fast_spelling.specs.device.Drafts.{IsTold};
 ghost use Rattle.fast_spelling.specs.device.Fields.{IsServed, IsSuited, Wrote};

@@ -5,7 +5,7 @@ ghost use Rattle.fast_value.specs.declared.settings.Limits.{Limits};
 ghost use Rattle.fast_value.specs.meaning.Kinds.{exponent_of, mantissa_of};
 ghost use Rattle.fast_value.specs.meaning.Values.{scalar_data};
 ghost use Rattle.fast_tree.specs.declared.operators.Operator.TheVariants.{Delta, Tail};
-ghost use Rattle.fast_tree.specs.device.Nodes.{field_data};
+ghost use Rattle.fast_tree.specs.meaning.Nodes.{field_data};
 ghost use Rattle.fast_dict.specs.meaning.Operators.{decimal_delta};
 ghost use Rattle.fast_dict.specs.meaning.Sending.{sent_data};
 ghost use Rattle.fast_spelling.specs.meaning.Encoding.{EncodesField};

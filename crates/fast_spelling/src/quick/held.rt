@@ -3,7 +3,7 @@
 ghost use Rattle.std.specs.Prelude.{◌≡◌, ◌≤◌, ◌-ℤ◌, ◌↔◌, Some, length, IsTrue, IfSome};
 ghost use Rattle.fast_value.specs.meaning.Kinds.{IsWithin, signed_range, integer_of, exponent_of, mantissa_of, text_of, value_of_integer};
 ghost use Rattle.fast_value.specs.meaning.Values.{scalar_data};
-ghost use Rattle.fast_tree.specs.device.Nodes.{field_data};
+ghost use Rattle.fast_tree.specs.meaning.Nodes.{field_data};
 ghost use Rattle.fast_dict.specs.meaning.Dictionary.{assigned, empty, previous_at};
 ghost use Rattle.fast_dict.specs.meaning.Operators.{incremented, range_of};
 ghost use Rattle.fast_spelling.specs.device.Fields.{IsServed};

@@ -5,7 +5,8 @@ use Rattle.std.proofs.lemmas.List.Elements.{All-cons, All-nil, All-head, All-tai
 use Rattle.fast_value.specs.declared.codes.Code.{Code}
 use Rattle.fast_stream.specs.meaning.Events.{EventData}
 use Rattle.fast_stream.specs.meaning.Phrases.{Reached, whole, cut, wrong, Phrase, ◌followed_by◌, GoesOn}
-use Rattle.fast_stream.specs.device.Readers.{Reader, Done, Emit, Stop, Byte, bind, Runs, AreBytes, Reads}
+use Rattle.fast_stream.specs.device.Readers.{Reader, Done, Emit, Stop, Byte, bind, Runs, Reads}
+use Rattle.fast_stream.specs.meaning.Streams.{AreBytes}
 
 -- Two phrases in a row, whatever the second comes to.
 pub goes : {A B : Type 0} (p : Phrase A) (k : A → Phrase B) (w : List ℕ) (es : List EventData) (x : Reached B) → GoesOn p k w es x → ◌followed_by◌ p k w es x

@@ -9,7 +9,8 @@ use Rattle.fast_value.specs.declared.codes.Code.TheVariants.{L1, R9}
 use Rattle.fast_stream.specs.meaning.Events.{EventData}
 use Rattle.fast_stream.specs.meaning.Phrases.{Reached, whole, cut, wrong}
 use Rattle.fast_stream.specs.meaning.Units.{raw, ascii_text, HasLeadingZero}
-use Rattle.fast_stream.specs.device.Readers.{Reader, Done, Stop, Byte, Runs, AreBytes, Reads}
+use Rattle.fast_stream.specs.device.Readers.{Reader, Done, Stop, Byte, Runs, Reads}
+use Rattle.fast_stream.specs.meaning.Streams.{AreBytes}
 use Rattle.fast_stream.specs.device.GrammarReaders.{raw_reader, characters_reader, after_zero_reader, bare_stop, first_character_reader, ascii_text_reader}
 use Rattle.fast_stream.proofs.readers.UnitReaders.{empty-length, below-head, below-rest, below-cons, below-nil}
 use Rattle.fast_stream.proofs.readers.Fronts.{head_of, rest_of}

@@ -7,7 +7,8 @@ use Rattle.fast_wire.specs.meaning.Entities.{HaveNoStop, IsEntity}
 use Rattle.fast_value.specs.declared.codes.Code.{Code}
 use Rattle.fast_stream.specs.meaning.Events.{EventData}
 use Rattle.fast_stream.specs.meaning.Phrases.{Reached, whole, cut, wrong, Phrase, gives, hands, settles, ◌followed_by◌}
-use Rattle.fast_stream.specs.device.Readers.{Reader, Done, bind, Ends, Runs, AreBytes, Reads}
+use Rattle.fast_stream.specs.device.Readers.{Reader, Done, bind, Ends, Runs, Reads}
+use Rattle.fast_stream.specs.meaning.Streams.{AreBytes}
 use Rattle.fast_stream.specs.device.GrammarReaders.{hands_reader, settles_reader, entity_reader, entity_phrase}
 use Rattle.fast_stream.proofs.readers.Binds.{reads-bind}
 use Rattle.fast_stream.proofs.readers.Fronts.{head_of, rest_of}

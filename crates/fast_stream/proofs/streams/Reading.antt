@@ -11,8 +11,8 @@ use Rattle.fast_dict.specs.meaning.Dictionary.{Dictionary, fresh}
 use Rattle.fast_stream.specs.meaning.Events.{EventData, events}
 use Rattle.fast_stream.specs.meaning.Phrases.{whole}
 use Rattle.fast_stream.specs.meaning.Messages.{message_term, message, SpellsMessage}
-use Rattle.fast_stream.specs.meaning.Streams.{End, between, faulted, Chain, Stream}
-use Rattle.fast_stream.specs.device.Readers.{Reader, Byte, AreBytes, Reads}
+use Rattle.fast_stream.specs.meaning.Streams.{End, between, faulted, Chain, Stream, AreBytes}
+use Rattle.fast_stream.specs.device.Readers.{Reader, Byte, Reads}
 use Rattle.fast_stream.specs.meaning.Grammar.{give}
 use Rattle.fast_stream.specs.device.GrammarReaders.{presence_map_reader, reader_of}
 use Rattle.fast_stream.specs.device.Running.{at_start, run, end_of, after_byte, message_begun, reading}

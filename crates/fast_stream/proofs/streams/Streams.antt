@@ -10,8 +10,8 @@ use Rattle.fast_dict.specs.meaning.Dictionary.{Dictionary, fresh}
 use Rattle.fast_stream.specs.meaning.Events.{EventData, events}
 use Rattle.fast_stream.specs.meaning.Phrases.{Reached, whole, cut, wrong}
 use Rattle.fast_stream.specs.meaning.Messages.{message, SpellsMessage}
-use Rattle.fast_stream.specs.meaning.Streams.{End, between, inside, faulted, SpellsAll, Chain, Stream}
-use Rattle.fast_stream.specs.device.Readers.{Reader, Done, Emit, Stop, Byte, bind, Runs, AreBytes, Reads}
+use Rattle.fast_stream.specs.meaning.Streams.{End, between, inside, faulted, SpellsAll, Chain, Stream, AreBytes}
+use Rattle.fast_stream.specs.device.Readers.{Reader, Done, Emit, Stop, Byte, bind, Runs, Reads}
 use Rattle.fast_stream.specs.device.Running.{Position, at_start, at_fault, settle, step, run, end_of}
 use Rattle.fast_stream.proofs.readers.Binds.{All-front}
 use Rattle.fast_stream.proofs.readers.Fronts.{front, Front}

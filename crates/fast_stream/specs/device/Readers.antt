@@ -1,8 +1,9 @@
 -- Readers: phrases as they are read, byte after byte.
-use Rattle.std.specs.Prelude.{◌≡◌, ℕ, List, [], ◌∷◌, ◌<◌, All}
+use Rattle.std.specs.Prelude.{◌≡◌, ℕ, List, [], ◌∷◌}
 use Rattle.fast_value.specs.declared.codes.Code.{Code}
 use Rattle.fast_stream.specs.meaning.Events.{EventData}
 use Rattle.fast_stream.specs.meaning.Phrases.{Reached, whole, cut, wrong, Phrase}
+use Rattle.fast_stream.specs.meaning.Streams.{AreBytes}
 
 -- What is still to be done: give a result, hand an event over and go on, stop at a fault, wait for a byte.
 pub data Reader (A : Type 0) : Type 0 where
@@ -43,10 +44,6 @@ Runs (Emit e r) w es x = (gs : List EventData) × (es ≡ e ∷ gs) × Runs r w 
 Runs (Stop c) w es x = Stops c w es x
 Runs (Byte f) [] es x = Waits es x
 Runs (Byte f) (b ∷ w) es x = Runs (f b) w es x
-
--- all are below 256
-abbrev pub AreBytes : List ℕ → Type 0
-AreBytes w = All (λ b. b < 256) w
 
 -- The reader answers exactly as the phrase does.
 pub record Reads {A : Type 0} (r : Reader A) (p : Phrase A) : Type 0 where

@@ -1,5 +1,5 @@
 -- Streams of messages.
-use Rattle.std.specs.Prelude.{◌≡◌, ℕ, ◌<◌, List, [], ◌∷◌, ◌++◌, length, flat_map}
+use Rattle.std.specs.Prelude.{◌≡◌, ℕ, ◌<◌, List, [], ◌∷◌, ◌++◌, length, flat_map, All}
 use Rattle.fast_value.specs.declared.settings.Limits.{Limits}
 use Rattle.fast_value.specs.meaning.Messages.{MessageData}
 use Rattle.fast_value.specs.declared.codes.Code.{Code}
@@ -33,3 +33,7 @@ unfoldable pub Stream : Tree → Limits → List ℕ → List EventData → End 
 Stream t l w es between = (d : Dictionary) × Chain t l w es d
 Stream t l w es inside = (u v : List ℕ) × (fs gs : List EventData) × (d : Dictionary) × Chain t l u fs d × message t l d v gs cut × (0 < length v) × (w ≡ u ++ v) × (es ≡ fs ++ gs)
 Stream t l w es (faulted c place) = (u v rest : List ℕ) × (fs gs : List EventData) × (d : Dictionary) × Chain t l u fs d × message t l d v gs (wrong c) × (place ≡ length (u ++ v)) × (w ≡ (u ++ v) ++ rest) × (es ≡ fs ++ gs)
+
+-- all are below 256
+abbrev pub AreBytes : List ℕ → Type 0
+AreBytes w = All (λ b. b < 256) w

@@ -4,7 +4,7 @@ use Rattle.fast_tree.specs.declared.instructions.Node.{Node}
 use Rattle.fast_tree.specs.declared.instructions.Template.{Template}
 use Rattle.fast_template.specs.declared.sets.Templates.{Templates}
 use Rattle.fast_tree.specs.meaning.Tree.{Tree}
-pub use Rattle.fast_tree.specs.device.Nodes.{field_data, label_of, no_instruction, body_of, instruction_of, instructions_from, template_data}
+pub use Rattle.fast_tree.specs.meaning.Nodes.{field_data, label_of, no_instruction, body_of, instruction_of, instructions_from, template_data}
 
 -- the nodes of a set, by number
 abbrev pub nodes_of : Templates → List Node

@@ -4,13 +4,9 @@ use Rattle.fast_tree.specs.declared.instructions.Node.{Node}
 use Rattle.fast_tree.specs.declared.instructions.Template.{Template}
 use Rattle.fast_tree.specs.declared.instructions.Shape.{Shape}
 use Rattle.fast_tree.specs.declared.instructions.Shape.TheVariants.{Field, Decimal, Group, Sequence}
-use Rattle.fast_tree.specs.meaning.Tree.{Label, Instruction, field, parts, group, sequence, Body, bits_of, message_bits}
-use Rattle.fast_tree.specs.device.Nodes.{field_data, body_of, instructions_from, template_data}
-use Rattle.fast_tree.specs.device.Numbers.{numbers_of}
-
--- the body of nodes of a set
-abbrev pub body_among : List Node → List ℕ → Body
-body_among nodes ns = body_of 0 (instructions_from 0 nodes) ns
+use Rattle.fast_tree.specs.meaning.Tree.{Label, Instruction, field, parts, group, sequence, bits_of, message_bits}
+use Rattle.fast_tree.specs.meaning.Nodes.{field_data, instructions_from, template_data, body_among}
+use Rattle.fast_tree.specs.meaning.Numbers.{numbers_of}
 
 -- the instruction of a shape that names nodes of a set
 abbrev pub instruction_among : List Node → Label → Shape → Instruction

@@ -1,5 +1,5 @@
 -- What those who run a template may rely on in the instructions of its fields.
-use Rattle.std.specs.Prelude.{◌≡◌, ℕ, ◌<◌, Bool, true, false, ◌&&◌, not, nat_lt, List, is_some, slice_get, Option, Some, None}
+use Rattle.std.specs.Prelude.{◌≡◌, ℕ, Bool, true, false, ◌&&◌, not, nat_lt, List, slice_get, Option, Some, None}
 use Rattle.fast_value.specs.declared.kinds.Kind.{Kind}
 use Rattle.fast_value.specs.declared.kinds.Kind.TheVariants.{UInt32, Int32, Int64}
 use Rattle.fast_value.specs.meaning.Kinds.{Family, integers, decimals, texts, family}
@@ -7,7 +7,7 @@ use Rattle.fast_tree.specs.declared.operators.Operator.{Operator}
 use Rattle.fast_tree.specs.declared.operators.Operator.TheVariants.{Tail}
 use Rattle.fast_tree.specs.declared.instructions.Node.{Node}
 use Rattle.fast_tree.specs.meaning.Tree.{FieldData}
-use Rattle.fast_tree.specs.device.NodeData.{ShapeData, a_field, a_decimal, a_group, a_sequence, shape_data}
+use Rattle.fast_tree.specs.meaning.NodeData.{ShapeData, a_field, a_decimal, a_group, a_sequence, shape_data}
 use Rattle.fast_tree.specs.meaning.Entries.{keeps_value}
 
 -- the family is that of texts
@@ -53,15 +53,3 @@ is_usable_shape entries (a_sequence length body) = is_usable entries length && i
 -- so are all nodes
 abbrev pub AreUsable : ℕ → List Node → Type 0
 AreUsable entries ns = (n : ℕ) (v : Node) → slice_get ns n ≡ Some v → is_usable_shape entries (shape_data v.shape) ≡ true
-
--- the same as facts
-pub record IsUsable (entries : ℕ) (f : FieldData) : Type 0 where
-  pub kept : keeps_value f.operator ≡ is_some f.entry
-  pub within : (e : ℕ) → f.entry ≡ Some e → e < entries
-  pub tail : f.operator ≡ Tail → family f.kind ≡ texts
-
-abbrev pub IsUsableShape : ℕ → ShapeData → Type 0
-IsUsableShape entries (a_field f) = IsUsable entries f
-IsUsableShape entries (a_decimal e m) = IsUsable entries e × IsUsable entries m × (e.kind ≡ Int32) × (m.kind ≡ Int64)
-IsUsableShape entries (a_group optional body) = Unit {0}
-IsUsableShape entries (a_sequence length body) = IsUsable entries length × (length.kind ≡ UInt32)

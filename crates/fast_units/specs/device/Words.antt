@@ -4,7 +4,7 @@ use Rattle.fast_value.specs.declared.codes.Code.{Code}
 use Rattle.fast_value.specs.meaning.Limits.{Bounds}
 use Rattle.fast_value.specs.declared.settings.Limits.{Limits}
 use Rattle.fast_tree.specs.declared.instructions.FieldInstruction.{FieldInstruction}
-use Rattle.fast_tree.specs.device.Nodes.{field_data}
+use Rattle.fast_tree.specs.meaning.Nodes.{field_data}
 use Rattle.fast_dict.specs.meaning.Dictionary.{PreviousData, previous_at}
 use Rattle.fast_dict.specs.meaning.Operators.{Outcome}
 use Rattle.fast_dict.specs.declared.slots.Slots.{Slots}

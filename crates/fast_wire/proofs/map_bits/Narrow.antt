@@ -3,7 +3,7 @@ use Rattle.std.proofs.Common.{◌≡◌, ◌≢◌, ℕ, suc, ◌+◌, ◌*◌, 
 use Rattle.std.proofs.lemmas.Bool.{cases_lt, cases_eq}
 use Rattle.std.proofs.lemmas.Bool.Decides.{Decides-eqb}
 use Rattle.fast_wire.specs.meaning.Maps.{bits, IsMap, bytes_for}
-use Rattle.fast_wire.specs.device.Laws.{MapIsShortest, MapIsNarrow}
+use Rattle.fast_wire.specs.meaning.Laws.{MapIsShortest, MapIsNarrow}
 use Rattle.fast_wire.proofs.map_bits.Bits.{bit_of, bit-at, bit-past}
 use Rattle.fast_wire.proofs.map_bits.Spare.{last_split}
 use Rattle.fast_wire.proofs.stop_bits.FirstStop.{entity_is_long}

@@ -8,7 +8,7 @@ use Rattle.std.proofs.lemmas.Bool.{cases_Bool}
 use Rattle.std.proofs.lemmas.Bool.Decides.{Decides-eqb, not_from_Decides}
 use Rattle.std.proofs.lemmas.List.{length-take, get_or-take}
 use Rattle.fast_wire.specs.meaning.Entities.{IsEntity, number, has_sign, signed, IsOverlong}
-use Rattle.fast_wire.specs.device.Faulty.{NoneIsOverlong}
+use Rattle.fast_wire.specs.meaning.Faulty.{NoneIsOverlong}
 use Rattle.fast_wire.proofs.numbers.Signs.{sign_clear, sign_set, signed_clear, signed_set}
 
 no_factor : (a p : ℕ) → 1 ≤ p → a * p ≡ 0 → a ≡ 0

@@ -9,7 +9,7 @@ use Rattle.std.proofs.lemmas.Nat.{same_from_place}
 use lib.Signed.{mag}
 use Rattle.fast_wire.specs.meaning.Entities.{IsEntity, number, has_sign, signed, IsOverlong}
 use Rattle.fast_wire.specs.meaning.Integers.{value, Means}
-use Rattle.fast_wire.specs.device.Laws.{StrictIsShortest, ShortestIsStrict, OneSpelling}
+use Rattle.fast_wire.specs.meaning.Laws.{StrictIsShortest, ShortestIsStrict, OneSpelling}
 use Rattle.fast_wire.proofs.numbers.Numbers.{number-lt}
 use Rattle.fast_wire.proofs.numbers.Signs.{sign_low, sign_high, signed_clear, signed_set}
 use Rattle.fast_wire.proofs.numbers.Overlong.{sign_repeats}

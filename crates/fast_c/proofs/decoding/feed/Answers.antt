@@ -1,6 +1,6 @@
 use Rattle.std.proofs.Common.{ap, ◌∙◌}
 use Rattle.std.specs.Int.{from_bool}
-use Rattle.fast_records.specs.device.Waiting.{pending}
+use Rattle.fast_records.specs.meaning.Waiting.{pending}
 use Rattle.fast_records.specs.meaning.Status.{status_number, ended}
 use Rattle.fast_c.proofs.decoding.feed.Goals as goal
 

@@ -2,7 +2,7 @@
 use Rattle.std.proofs.Common.{◌≡◌, ℕ, List, IsTrue, length, ◌≤◌, refl, rules, sym, subst}
 use Rattle.std.proofs.lemmas.Result.{err_from_is_err_and}
 use Rattle.fast_text.specs.meaning.Streams.{Reads}
-use Rattle.fast_command.specs.device.Sets.{IsSetRefused}
+use Rattle.fast_command.specs.meaning.Sets.{IsSetRefused}
 use Rattle.fast_command.specs.meaning.Texts.{text_limit}
 use Rattle.fast_command.proofs.Refused.{refused_set, refused_unread}
 use Rattle.fast_command.proofs.sets.read_templates.Goals as goal

@@ -1,6 +1,6 @@
 use Rattle.std.proofs.Common.{◌≡◌, ◌∙◌, ap, refl, rules}
 use Rattle.fast_template.specs.meaning.Flat.{tree_of}
-use Rattle.fast_text.specs.device.Fronts.{set_of}
+use Rattle.fast_text.specs.meaning.Fronts.{set_of}
 use Rattle.fast_command.proofs.Lined.{fed_by, fed_same_target}
 use Rattle.fast_command.proofs.show.feed.Goals as goal
 

@@ -5,7 +5,7 @@ use Rattle.fast_template.specs.meaning.Flat.{tree_of}
 use Rattle.fast_messages.specs.declared.faults.LineFault.{LineFault}
 use Rattle.fast_messages.specs.declared.faults.TextFault.{TextFault}
 use Rattle.fast_messages.specs.declared.faults.TextFault.TheVariants.{BadLine}
-use Rattle.fast_messages.specs.device.Ahead.{OnBadLine}
+use Rattle.fast_messages.specs.meaning.Reading.{OnBadLine}
 use Rattle.fast_messages.specs.meaning.Unsaid.{SaysNothing}
 use Rattle.fast_text.proofs.Writing.{appends_none}
 use Rattle.fast_convert.proofs.Turned.{from_new, all_handed_on, all_not_handed_on}

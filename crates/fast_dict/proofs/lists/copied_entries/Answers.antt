@@ -1,6 +1,6 @@
 use Rattle.std.proofs.Common.{rules, ◌∙◌, ap, map, arith}
 use Rattle.std.proofs.lemmas.List.{take_all}
-use Rattle.fast_dict.specs.device.Held.{held_data}
+use Rattle.fast_dict.specs.meaning.Held.{held_data}
 use Rattle.fast_dict.proofs.lists.copied_entries.Goals as goal
 
 pub returns-in_err-copies : goal.returns-in_err-copies

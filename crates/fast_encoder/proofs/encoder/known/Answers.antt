@@ -2,7 +2,7 @@
 use Rattle.std.proofs.Common.{◌≡◌, sym, ◌∙◌}
 use Rattle.std.specs.Prelude.{Some, None}
 use Rattle.fast_value.specs.meaning.Views.{message_data}
-use Rattle.fast_tree.specs.device.Nodes.{instructions_from, template_data}
+use Rattle.fast_tree.specs.meaning.Nodes.{instructions_from, template_data}
 use Rattle.fast_template.specs.meaning.Flat.{nodes_of}
 use Rattle.fast_spelling.proofs.encodings.Whole.{template_there, identified}
 use Rattle.fast_encoder.proofs.encoder.known.Goals as goal

@@ -2,7 +2,7 @@
 use Rattle.std.proofs.Common.{sym, ap, ◌∙◌, refl}
 use Rattle.fast_value.specs.declared.kinds.Kind.TheVariants.{Ascii}
 use Rattle.fast_value.specs.meaning.Kinds.{AsciiText}
-use Rattle.fast_dict.specs.device.Entry.{with_text}
+use Rattle.fast_dict.specs.meaning.Entry.{with_text}
 use Rattle.fast_dict.specs.meaning.Slots.{slots_dictionary}
 use Rattle.fast_items.proofs.TextItems.{unsent_held, unsent_empty}
 use Rattle.fast_items.proofs.ascii_items.unsent_ascii.Goals as goal

@@ -1,7 +1,7 @@
 -- What the entry holds is the value.
 use Rattle.std.proofs.Common.{sym, ap, ◌∙◌}
 use Rattle.fast_value.specs.meaning.Kinds.{value_of_text}
-use Rattle.fast_dict.specs.device.Entry.{with_text}
+use Rattle.fast_dict.specs.meaning.Entry.{with_text}
 use Rattle.fast_dict.specs.meaning.Slots.{slots_dictionary}
 use Rattle.fast_items.proofs.TextItems.{unsent_held, unsent_empty}
 use Rattle.fast_items.proofs.lent_texts.unsent_text.Goals as goal

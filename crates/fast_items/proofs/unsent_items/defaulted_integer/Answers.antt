@@ -2,7 +2,7 @@
 use Rattle.std.proofs.Common.{rules, to_z, of_z}
 use Rattle.std.specs.Int.{w64}
 use Rattle.std.specs.Prelude.{Some, None}
-use Rattle.fast_tree.specs.device.Nodes.{field_data}
+use Rattle.fast_tree.specs.meaning.Nodes.{field_data}
 use Rattle.fast_units.specs.declared.fields.Number.TheVariants.{Unsigned, Signed}
 use Rattle.fast_items.proofs.IntegerItems.{default_item}
 use Rattle.fast_items.proofs.unsent_items.defaulted_integer.Goals as goal

@@ -4,7 +4,7 @@ use Rattle.std.specs.Prelude.{false, List, ℕ, Option, Some, IfSome}
 use Rattle.fast_tree.specs.declared.operators.Operator.{Operator}
 use Rattle.fast_tree.specs.declared.operators.Operator.TheVariants.{Copy}
 use Rattle.fast_tree.specs.meaning.Entries.{keeps_value}
-use Rattle.fast_dict.specs.device.Entry.{with_text}
+use Rattle.fast_dict.specs.meaning.Entry.{with_text}
 use Rattle.fast_dict.specs.meaning.Dictionary.{empty, assigned, previous_at}
 use Rattle.fast_dict.specs.meaning.Slots.{slots_dictionary}
 use Rattle.fast_units.specs.declared.fields.Number.{Number}

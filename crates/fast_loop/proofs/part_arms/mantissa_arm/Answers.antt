@@ -5,7 +5,7 @@ use Rattle.std.specs.Prelude.{ℕ, ◌+◌, ◌<◌, ◌≤◌, Bool, true, if�
 use Rattle.std.proofs.lemmas.List.{take_rest}
 use Rattle.fast_wire.specs.meaning.Maps.{first_bit, later_bits}
 use Rattle.fast_value.specs.meaning.Kinds.{ScalarData, Dec}
-use Rattle.fast_tree.specs.device.Nodes.{field_data}
+use Rattle.fast_tree.specs.meaning.Nodes.{field_data}
 use Rattle.fast_cursor.specs.device.Cursors.{bits_left}
 use Rattle.fast_cursor.specs.device.Places.{at_place}
 use Rattle.fast_units.proofs.LastUnits.{again}

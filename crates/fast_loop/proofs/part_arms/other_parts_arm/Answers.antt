@@ -2,7 +2,7 @@
 use Rattle.std.proofs.Common.{refl, sym, ap, ◌∙◌, subst, rules, FitsSigned, Option, ℤ}
 use Rattle.std.specs.Int.{w32}
 use Rattle.std.specs.Prelude.{Bool, true, Some, if◌then◌else◌}
-use Rattle.fast_tree.specs.device.Nodes.{field_data}
+use Rattle.fast_tree.specs.meaning.Nodes.{field_data}
 use Rattle.fast_wire.specs.meaning.Maps.{first_bit}
 use Rattle.fast_cursor.specs.device.Cursors.{bits_left}
 use Rattle.fast_cursor.specs.device.Places.{at_place}

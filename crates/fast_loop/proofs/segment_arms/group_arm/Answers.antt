@@ -1,7 +1,7 @@
 -- The group's bit, if it has one.
 use Rattle.std.proofs.Common.{refl, sym, subst, ap, ◌∙◌}
 use Rattle.std.specs.Prelude.{ℕ, List, length}
-use Rattle.fast_tree.specs.device.Numbers.{numbers_of, AreBelow}
+use Rattle.fast_tree.specs.meaning.Numbers.{numbers_of, AreBelow}
 use Rattle.fast_cursor.specs.device.Places.{at_place}
 use Rattle.fast_machine.specs.device.Positions.{set_of, run_in, IsAtGroup}
 use Rattle.fast_loop.proofs.arms.Groups.{group_here, group_always, group_by_bit, absent_group}

@@ -5,11 +5,11 @@ use Rattle.std.proofs.lemmas.List.{take_rest}
 use Rattle.fast_value.specs.meaning.Kinds.{U}
 use Rattle.fast_value.specs.meaning.Limits.{bounds}
 use Rattle.fast_stream.specs.meaning.Messages.{within_limits}
-use Rattle.fast_tree.specs.device.Nodes.{field_data}
+use Rattle.fast_tree.specs.meaning.Nodes.{field_data}
 use Rattle.fast_cursor.specs.device.Places.{at_place, place_left}
 use Rattle.fast_machine.specs.device.Positions.{placed, set_of, run_in}
 use Rattle.fast_loop.specs.device.Arms.{IsLengthTaken}
-use Rattle.fast_tree.specs.device.Numbers.{numbers_of, AreBelow}
+use Rattle.fast_tree.specs.meaning.Numbers.{numbers_of, AreBelow}
 use Rattle.fast_machine.specs.declared.machine.Turn.TheVariants.{Silent}
 use Rattle.fast_loop.proofs.arms.Lengths.{sequence_taken, absent_step}
 use Rattle.fast_loop.proofs.arms.Before.{first_some}

@@ -2,7 +2,7 @@
 use Rattle.std.proofs.Common.{refl, sym, ap, ◌∙◌}
 use Rattle.std.specs.Prelude.{◌≡◌, true}
 use Rattle.fast_tree.specs.declared.instructions.FieldInstruction.{FieldInstruction}
-use Rattle.fast_tree.specs.device.Nodes.{field_data}
+use Rattle.fast_tree.specs.meaning.Nodes.{field_data}
 use Rattle.fast_machine.specs.device.Positions.{set_of}
 use Rattle.fast_loop.proofs.arms.Fields.{op_node, same_field}
 use Rattle.fast_loop.proofs.arms.Texts.{constant_bit, constant_unsent}

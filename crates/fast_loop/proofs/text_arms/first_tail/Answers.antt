@@ -2,7 +2,7 @@
 use Rattle.std.proofs.Common.{◌≡◌, ◌∙◌, sym, ap}
 use Rattle.std.specs.Prelude.{None, option_map}
 use Rattle.fast_value.specs.meaning.Values.{value_data}
-use Rattle.fast_tree.specs.device.Nodes.{field_data}
+use Rattle.fast_tree.specs.meaning.Nodes.{field_data}
 use Rattle.fast_loop.proofs.arms.Fields.{same_field}
 use Rattle.fast_loop.proofs.text_arms.first_tail.Goals as goal
 

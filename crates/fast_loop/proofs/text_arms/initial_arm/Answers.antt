@@ -3,7 +3,7 @@ use Rattle.std.proofs.Common.{refl, sym, ap, ◌∙◌}
 use Rattle.std.specs.Prelude.{◌≡◌, false}
 use Rattle.fast_tree.specs.declared.instructions.FieldInstruction.{FieldInstruction}
 use Rattle.fast_tree.specs.declared.operators.Operator.TheVariants.{Default}
-use Rattle.fast_tree.specs.device.Nodes.{field_data}
+use Rattle.fast_tree.specs.meaning.Nodes.{field_data}
 use Rattle.fast_machine.specs.device.Positions.{set_of}
 use Rattle.fast_loop.proofs.arms.Fields.{op_node, same_field, field_of, instruction, shape_is, uses_as}
 use Rattle.fast_loop.proofs.arms.Texts.{initial_unsent}

@@ -1,7 +1,7 @@
 -- A text of the field as of each that is so, or a first tail.
 use Rattle.std.proofs.Common.{◌∙◌, sym, subst}
 use Rattle.fast_tree.specs.declared.operators.Operator.TheVariants.{Tail}
-use Rattle.fast_tree.specs.device.Nodes.{field_data}
+use Rattle.fast_tree.specs.meaning.Nodes.{field_data}
 use Rattle.fast_dict.specs.declared.slots.Slots.{Slots}
 use Rattle.fast_dict.specs.meaning.Slots.{slots_terms}
 use Rattle.fast_items.specs.device.TextItems.{text_taken}

@@ -1,7 +1,7 @@
 use Rattle.std.proofs.Common.{◌≡◌, ◌∙◌, ◌++◌, ap, arith, length, take, drop}
 use Rattle.std.specs.Prelude.{slice_index_or, false}
 use Rattle.fast_template.specs.meaning.Flat.{nodes_of}
-use Rattle.fast_dict.specs.device.EntryTexts.{HoldsTextAt}
+use Rattle.fast_dict.specs.meaning.EntryTexts.{HoldsTextAt}
 use Rattle.fast_machine.proofs.fields.EntryTexts.{field_more, field_of_all, marked_more, written_back}
 use Rattle.fast_machine.proofs.layout.text_marks.Goals as goal
 

@@ -10,8 +10,7 @@ use Rattle.fast_value.specs.declared.messages.Item.TheVariants as V
 use Rattle.fast_value.specs.meaning.Views.{item_data, slots_data, elements_data}
 use Rattle.fast_value.proofs.ItemViews.{item_data-Group, item_data-Sequence}
 use Rattle.fast_tree.specs.declared.instructions.Shape.TheVariants.{Field, Decimal, Group, Sequence}
-use Rattle.fast_tree.specs.device.Bodies.{body_among}
-use Rattle.fast_tree.specs.device.Nodes.{field_data, label_of}
+use Rattle.fast_tree.specs.meaning.Nodes.{field_data, label_of, body_among}
 use Rattle.fast_template.specs.meaning.Flat.{nodes_of, tree_of}
 use Rattle.fast_spelling.specs.device.Nodes.{instruction_in}
 use Rattle.fast_spelling.proofs.encodings.Instructions.{at_shape}
@@ -21,13 +20,13 @@ use Rattle.fast_messages.proofs.readings.Bodies.{read_start, item_at, mandatory_
 use Rattle.fast_messages.proofs.names.Named.{holds, numbered}
 use Rattle.fast_messages.proofs.readings.Parts.{group_read, sequence_read}
 use Rattle.fast_messages.specs.declared.endings.Ending.TheVariants as Ends
-use Rattle.fast_messages.specs.device.Ahead.{OnBadLine}
+use Rattle.fast_messages.specs.meaning.Reading.{OnBadLine}
 use Rattle.fast_messages.specs.device.Refusing.{HasNoNext}
 use Rattle.fast_messages.specs.meaning.Unsaid.{HasNoBody, HasNoItem, HasNoRows}
 use Rattle.fast_messages.proofs.refusals.Refused.{on_bad, always, item_next, group_refused, sequence_refused}
 use Rattle.fast_messages.proofs.refusals.RefusedBodies.{place_refused, rows_next, rows_surplus, rows_element, rows_misplaced, rows_missing}
 use Rattle.fast_tree.specs.declared.instructions.Shape.{Shape}
-use Rattle.fast_tree.specs.device.Numbers.{numbers_of, AreBetween}
+use Rattle.fast_tree.specs.meaning.Numbers.{numbers_of, AreBetween}
 use Rattle.fast_messages.specs.device.Cursors.{ahead}
 use Rattle.fast_messages.proofs.readings.Shorter.{said_shorter, advance_shorter}
 use Rattle.fast_messages.proofs.messages.+reading.Goals as goal

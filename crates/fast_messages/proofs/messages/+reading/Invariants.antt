@@ -1,6 +1,6 @@
 -- What is read of the slots, and of the elements, so far.
 use Rattle.std.proofs.Common.{◌+◌, ◌*◌, ◌≤◌, drop, length}
-use Rattle.fast_tree.specs.device.Bodies.{body_among}
+use Rattle.fast_tree.specs.meaning.Nodes.{body_among}
 use Rattle.fast_template.specs.meaning.Flat.{nodes_of, tree_of}
 use Rattle.fast_messages.specs.device.Cursors.{ahead}
 use Rattle.fast_messages.specs.device.Progress.{IsReadTo, AreReadTo}

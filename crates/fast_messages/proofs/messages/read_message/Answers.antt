@@ -4,12 +4,12 @@ use Rattle.std.proofs.lemmas.Option.{slice_get-map, slice_get_within}
 use Rattle.std.proofs.lemmas.Result.{err_from_is_err_and}
 use Rattle.fast_value.specs.meaning.Views.{slots_data, message_data}
 use Rattle.fast_tree.specs.declared.instructions.Template.{Template}
-use Rattle.fast_tree.specs.device.Nodes.{instructions_from, template_data}
+use Rattle.fast_tree.specs.meaning.Nodes.{instructions_from, template_data}
 use Rattle.fast_template.specs.meaning.Flat.{nodes_of, templates_of, tree_of}
 use Rattle.fast_lines.specs.meaning.Forms.{message, line_data}
 use Rattle.fast_messages.proofs.readings.Bodies.{message_read}
 use Rattle.fast_messages.specs.declared.endings.Ending.TheVariants as Ends
-use Rattle.fast_messages.specs.device.Ahead.{OnBadLine}
+use Rattle.fast_messages.specs.meaning.Reading.{OnBadLine}
 use Rattle.fast_messages.specs.device.Refusing.{HasNoNext}
 use Rattle.fast_messages.specs.meaning.Unsaid.{HasNoBody, HasNoMessage}
 use Rattle.fast_messages.proofs.names.Preorder.{distinct_bodies}

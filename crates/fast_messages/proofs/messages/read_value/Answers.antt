@@ -13,8 +13,8 @@ use Rattle.fast_messages.proofs.readings.Parts.{value_read}
 use Rattle.fast_messages.proofs.readings.Said.{next_near, one_on}
 use Rattle.fast_value.specs.meaning.Messages.{ItemData}
 use Rattle.fast_spelling.specs.meaning.Suiting.{Suits}
-use Rattle.fast_messages.specs.device.Ahead.{OnBadLine, HasNoLines}
-use Rattle.fast_messages.specs.meaning.Reading.{closed}
+use Rattle.fast_messages.specs.device.Ahead.{HasNoLines}
+use Rattle.fast_messages.specs.meaning.Reading.{closed, OnBadLine}
 use Rattle.fast_messages.specs.meaning.Unsaid.{HasNoItem}
 use Rattle.fast_messages.proofs.refusals.NoLines.{next_refused}
 use Rattle.fast_messages.proofs.refusals.Refused.{on_bad, always, item_next, unread_value, wrong_value}

@@ -3,8 +3,8 @@ use Rattle.std.specs.Prelude.{slice_index, IsTrue, ◌↔◌, true}
 use Rattle.fast_notation.specs.meaning.Checked.{IsNarrowInside}
 use Rattle.fast_notation.specs.device.Segments.{IsNarrowSegment}
 use Rattle.fast_tree.specs.meaning.Sizes.{segment_limit}
-use Rattle.fast_tree.specs.device.Nodes.{body_of, instructions_from}
-use Rattle.fast_tree.specs.device.Numbers.{AreBetween}
+use Rattle.fast_tree.specs.meaning.Nodes.{body_of, instructions_from}
+use Rattle.fast_tree.specs.meaning.Numbers.{AreBetween}
 use Rattle.fast_notation.proofs.nodes.Bodies.{instruction_here, names_later}
 use Rattle.fast_notation.proofs.nodes.Measures.{left_at_node, left_at_body, smaller_at_node, smaller_at_body, all_below}
 use Rattle.fast_notation.proofs.segments.+segments.Goals as goal

@@ -1,7 +1,7 @@
 use Rattle.std.proofs.Common.{drop, length}
 use Rattle.std.specs.Prelude.{◌↔◌}
 use Rattle.fast_notation.specs.meaning.Checked.{AreNarrowInside}
-use Rattle.fast_tree.specs.device.Nodes.{body_of, instructions_from}
+use Rattle.fast_tree.specs.meaning.Nodes.{body_of, instructions_from}
 use Rattle.fast_notation.proofs.nodes.Measures.{left_at_node, left_at_body}
 use Rattle.fast_notation.proofs.segments.+segments.Given as goal
 

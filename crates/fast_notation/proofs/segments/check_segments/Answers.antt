@@ -4,7 +4,7 @@ use Rattle.std.proofs.lemmas.Bool.{cases_lt, false≢true}
 use Rattle.std.proofs.lemmas.List.{take-map}
 use Rattle.std.proofs.lemmas.List.Elements.{All-more, All-map}
 use Rattle.std.proofs.lemmas.Option.{slice_get_read}
-use Rattle.fast_tree.specs.device.Nodes.{template_data, instructions_from}
+use Rattle.fast_tree.specs.meaning.Nodes.{template_data, instructions_from}
 use Rattle.fast_notation.specs.device.Segments.{IsNarrow, IsWide}
 use Rattle.fast_tree.specs.meaning.Sizes.{segment_limit}
 use Rattle.fast_tree.specs.meaning.Tree.{message_bits}

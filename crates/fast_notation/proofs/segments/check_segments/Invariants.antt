@@ -1,6 +1,6 @@
 use Rattle.std.proofs.Common.{take}
 use Rattle.std.specs.Prelude.{All}
-use Rattle.fast_tree.specs.device.Nodes.{template_data, instructions_from}
+use Rattle.fast_tree.specs.meaning.Nodes.{template_data, instructions_from}
 use Rattle.fast_notation.specs.device.Segments.{IsNarrow}
 use Rattle.fast_notation.proofs.segments.check_segments.Given as goal
 

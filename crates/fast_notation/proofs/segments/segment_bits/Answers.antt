@@ -1,7 +1,7 @@
 use Rattle.std.proofs.Common.{◌≡◌, ◌∙◌, ◌+◌, ap, sym, refl, drop, arith}
 use Rattle.std.specs.Prelude.{slice_index, slice_index_or}
 use Rattle.std.proofs.Math.Nat.{add_assoc}
-use Rattle.fast_tree.specs.device.Nodes.{body_of, instructions_from, label_of, no_instruction}
+use Rattle.fast_tree.specs.meaning.Nodes.{body_of, instructions_from, label_of, no_instruction}
 use Rattle.fast_tree.specs.meaning.Tree.{bits_used, bits_of}
 use Rattle.fast_notation.proofs.nodes.Bodies.{instruction_here, next_instruction}
 use Rattle.fast_notation.proofs.segments.segment_bits.Goals as goal

@@ -1,5 +1,5 @@
 use Rattle.std.proofs.Common.{◌≡◌, ◌≤◌, ◌+◌, ◌*◌, drop}
-use Rattle.fast_tree.specs.device.Nodes.{body_of, instructions_from}
+use Rattle.fast_tree.specs.meaning.Nodes.{body_of, instructions_from}
 use Rattle.fast_tree.specs.meaning.Tree.{bits_of}
 use Rattle.fast_notation.proofs.segments.segment_bits.Given as goal
 

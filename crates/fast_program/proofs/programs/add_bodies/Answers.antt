@@ -2,7 +2,7 @@ use Rattle.std.proofs.Common.{refl, sym, subst, arith, List, ◌≡◌, length, 
 use Rattle.std.proofs.lemmas.List.{take_all}
 use Rattle.std.proofs.lemmas.Option.{slice_get_read}
 use Rattle.fast_tree.specs.declared.instructions.Node.{Node}
-use Rattle.fast_tree.specs.device.Numbers.{AreBelow}
+use Rattle.fast_tree.specs.meaning.Numbers.{AreBelow}
 use Rattle.fast_program.specs.declared.ops.Op.{Op}
 use Rattle.fast_program.specs.device.Runs.{Begins}
 use Rattle.fast_program.specs.device.Programs.{AreStarts, BeginsNode}

@@ -7,8 +7,8 @@ use Rattle.fast_value.specs.meaning.Views.{message_data}
 use Rattle.fast_template.specs.meaning.Flat.{nodes_of, tree_of}
 use Rattle.fast_messages.specs.device.Progress.{AreMessagesRead}
 use Rattle.fast_messages.proofs.readings.Bodies.{messages_more}
-use Rattle.fast_messages.specs.device.Ahead.{OnBadLine, HasNoLines}
-use Rattle.fast_messages.specs.meaning.Reading.{closed}
+use Rattle.fast_messages.specs.device.Ahead.{HasNoLines}
+use Rattle.fast_messages.specs.meaning.Reading.{closed, OnBadLine}
 use Rattle.fast_messages.specs.meaning.Unsaid.{HasNoMessage, SaysNothing}
 use Rattle.fast_messages.proofs.names.Preorder.{distinct_bodies}
 use Rattle.fast_messages.proofs.refusals.Refused.{on_bad}

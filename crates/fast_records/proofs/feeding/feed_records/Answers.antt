@@ -3,7 +3,7 @@ use Rattle.std.proofs.lemmas.Grind.{common_steps}
 use Rattle.fast_decoder.specs.meaning.Decoding.{tree}
 use Rattle.fast_records.specs.declared.records.Record.{Record}
 use Rattle.fast_records.specs.declared.waiting.Waiting.{Waiting}
-use Rattle.fast_records.specs.device.Waiting.{pending}
+use Rattle.fast_records.specs.meaning.Waiting.{pending}
 use Rattle.fast_records.proofs.Delivering.{delivers_by, same_by, room_by, outcome_by}
 use Rattle.fast_records.proofs.feeding.feed_records.Goals as goal
 

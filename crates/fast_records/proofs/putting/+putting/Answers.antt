@@ -11,10 +11,9 @@ use Rattle.fast_value.specs.meaning.Values.{scalar_data}
 use Rattle.fast_value.specs.meaning.Views.{item_data, slots_data, elements_data}
 use Rattle.fast_value.proofs.ItemViews.{item_data-One, item_data-Group, item_data-Sequence}
 use Rattle.fast_tree.specs.declared.instructions.Shape.{Shape}
-use Rattle.fast_tree.specs.device.Numbers.{AreBetween, numbers_of}
+use Rattle.fast_tree.specs.meaning.Numbers.{AreBetween, numbers_of}
 use Rattle.fast_tree.specs.declared.instructions.Shape.TheVariants.{Field, Decimal, Group, Sequence}
-use Rattle.fast_tree.specs.device.Bodies.{body_among}
-use Rattle.fast_tree.specs.device.Nodes.{field_data, label_of}
+use Rattle.fast_tree.specs.meaning.Nodes.{field_data, label_of, body_among}
 use Rattle.fast_template.specs.meaning.Flat.{nodes_of}
 use Rattle.fast_stream.specs.meaning.Events.{EventData, GroupStart, SequenceStart, ElementStart}
 use Rattle.fast_stream.specs.meaning.Handed.{event_data}
@@ -22,8 +21,8 @@ use Rattle.fast_spelling.specs.device.Nodes.{instruction_in}
 use Rattle.fast_spelling.proofs.encodings.Instructions.{at_shape}
 use Rattle.fast_records.specs.device.Putting.{IsPutTo, ArePutTo}
 use Rattle.fast_records.proofs.Put.{slots_start, put_shorter, next_shorter, rows_shorter, rows_start, slot_at, body_ended, rows_more, rows_done, field_put, parts_put, group_put, sequence_put}
-use Rattle.fast_records.specs.device.Due.{HasNoBody, IsStuck, IsWithin, HasNoRows}
-use Rattle.fast_records.specs.meaning.Putting.{OnMisplaced}
+use Rattle.fast_records.specs.device.Due.{HasNoBody, IsStuck, HasNoRows}
+use Rattle.fast_records.specs.meaning.Putting.{OnMisplaced, IsWithin}
 use Rattle.fast_records.specs.declared.putting.Mark.TheVariants as Is
 use Rattle.fast_records.proofs.Due.{on_misplaced, always, left_start, rows_left, never_at_end, pass_none, pass_some, stuck_at, never_field, never_parts, never_group, never_sequence, never_slots, never_rows, there_one, there_parts, there_group, there_sequence, left_next, left_stuck, left_end, rows_next, rows_unstarted, rows_stuck, rows_unended}
 use mathlib.Core.List.{not-mem-nil}

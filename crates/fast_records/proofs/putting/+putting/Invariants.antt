@@ -1,7 +1,7 @@
 -- What is put of the slots, and of the elements, so far.
 use Rattle.std.proofs.Common.{◌+◌, ◌≤◌, ◌*◌, drop, length, map}
 use Rattle.fast_stream.specs.meaning.Handed.{event_data}
-use Rattle.fast_tree.specs.device.Bodies.{body_among}
+use Rattle.fast_tree.specs.meaning.Nodes.{body_among}
 use Rattle.fast_template.specs.meaning.Flat.{nodes_of}
 use Rattle.fast_records.specs.device.Putting.{IsPutTo, ArePutTo}
 use Rattle.fast_records.specs.device.Due.{IsLeft, AreLeft}

@@ -2,8 +2,7 @@ use Rattle.std.proofs.Common.{map}
 use Rattle.fast_template.specs.meaning.Flat.{tree_of}
 use Rattle.fast_stream.specs.meaning.Events.{events}
 use Rattle.fast_stream.specs.meaning.Handed.{event_data}
-use Rattle.fast_records.specs.device.Due.{HasNoMessage}
-use Rattle.fast_records.specs.meaning.Putting.{AreNoMessage}
+use Rattle.fast_records.specs.meaning.Putting.{AreNoMessage, HasNoMessage}
 use Rattle.fast_records.proofs.Back.{one_list}
 use Rattle.fast_records.proofs.Due.{if_misplaced}
 use Rattle.fast_records.proofs.Told.{if_placed}

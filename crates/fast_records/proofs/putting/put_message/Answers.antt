@@ -3,7 +3,7 @@ use Rattle.std.specs.Prelude.{option_map}
 use Rattle.std.proofs.lemmas.Option.{slice_get-map}
 use Rattle.std.proofs.lemmas.Result.{err_from_is_err_and}
 use Rattle.fast_value.specs.meaning.Views.{slots_data, message_data}
-use Rattle.fast_tree.specs.device.Nodes.{instructions_from, template_data}
+use Rattle.fast_tree.specs.meaning.Nodes.{instructions_from, template_data}
 use Rattle.fast_template.specs.meaning.Flat.{nodes_of, templates_of, tree_of}
 use Rattle.fast_stream.specs.declared.events.Event.{Event}
 use Rattle.fast_stream.specs.meaning.Events.{MessageStart}

@@ -11,11 +11,11 @@ use Rattle.fast_value.specs.meaning.Views.{item_data, slots_data, elements_data}
 use Rattle.fast_value.proofs.ItemViews.{item_data-One, item_data-Group, item_data-Sequence, count-elements_data}
 use Rattle.fast_tree.specs.declared.instructions.Shape.TheVariants.{Group, Sequence}
 use Rattle.fast_tree.specs.declared.instructions.Shape.{Shape}
-use Rattle.fast_tree.specs.device.Nodes.{label_of}
+use Rattle.fast_tree.specs.meaning.Nodes.{label_of, body_among}
 use Rattle.fast_tree.specs.meaning.Tree.{FieldData}
-use Rattle.fast_tree.specs.device.Numbers.{numbers_of, AreBetween}
+use Rattle.fast_tree.specs.meaning.Numbers.{numbers_of, AreBetween}
 use Rattle.fast_template.specs.meaning.Flat.{nodes_of, tree_of, field_data}
-use Rattle.fast_tree.specs.device.Bodies.{body_among, instruction_among}
+use Rattle.fast_tree.specs.device.Bodies.{instruction_among}
 use Rattle.std.specs.declared.vec.Vec.{Vec}
 use Rattle.std.specs.declared.alloc.Global.{Global}
 use Rattle.fast_spelling.specs.device.Nodes.{instruction_in, Keeps}

@@ -3,7 +3,7 @@ use Rattle.std.proofs.Common.{ℕ, List, refl, ap, subst, ◌≤◌, arith}
 use mathlib.Core.List.{not-mem-nil}
 use Rattle.fast_value.specs.meaning.Messages.{Slots, total}
 use Rattle.fast_value.specs.meaning.Views.{message_data, slots_data}
-use Rattle.fast_tree.specs.device.Bodies.{body_among}
+use Rattle.fast_tree.specs.meaning.Nodes.{body_among}
 use Rattle.fast_template.specs.meaning.Flat.{nodes_of, tree_of}
 use Rattle.fast_spelling.specs.meaning.Encoding.{EncodesBody}
 use Rattle.fast_spelling.specs.device.Fields.{Wrote}

@@ -3,7 +3,7 @@ use Rattle.std.proofs.Common.{◌≡◌, ◌∙◌, ap, sym, refl}
 use Rattle.std.specs.Prelude.{option_map}
 use Rattle.fast_value.specs.meaning.Values.{scalar_data}
 use Rattle.fast_tree.specs.declared.operators.Operator.{Operator}
-use Rattle.fast_tree.specs.device.Nodes.{field_data}
+use Rattle.fast_tree.specs.meaning.Nodes.{field_data}
 use Rattle.fast_dict.specs.meaning.Dictionary.{PreviousData, previous_at, write_at}
 use Rattle.fast_spelling.specs.device.Fields.{next_by}
 use Rattle.fast_spelling.proofs.rules.Usual.{write_back}

@@ -4,7 +4,7 @@ use Rattle.std.specs.Prelude.{Bool, false, if◌then◌else◌, Some}
 use Rattle.std.proofs.lemmas.List.{append-nil}
 use Rattle.fast_value.specs.meaning.Values.{scalar_data}
 use Rattle.fast_tree.specs.meaning.Tree.{FieldData}
-use Rattle.fast_tree.specs.device.Nodes.{field_data}
+use Rattle.fast_tree.specs.meaning.Nodes.{field_data}
 use Rattle.fast_dict.specs.meaning.Dictionary.{previous_at}
 use Rattle.fast_dict.specs.meaning.Operators.{nothing}
 use Rattle.fast_spelling.specs.device.Fields.{IsSuited}

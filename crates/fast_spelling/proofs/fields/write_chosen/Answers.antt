@@ -4,7 +4,7 @@ use Rattle.std.specs.Prelude.{option_map}
 use Rattle.fast_value.specs.meaning.Values.{scalar_data}
 use Rattle.fast_tree.specs.declared.instructions.FieldInstruction.{FieldInstruction}
 use Rattle.fast_tree.specs.meaning.Tree.{FieldData}
-use Rattle.fast_tree.specs.device.Nodes.{field_data}
+use Rattle.fast_tree.specs.meaning.Nodes.{field_data}
 use Rattle.fast_dict.specs.meaning.Dictionary.{PreviousData}
 use Rattle.fast_dict.specs.meaning.Previous.{previous_data}
 use Rattle.fast_dict.specs.meaning.Rule.{Rule}

@@ -3,7 +3,7 @@ use Rattle.std.proofs.Common.{◌≡◌, ◌∙◌, subst, rules, sym}
 use Rattle.std.specs.Prelude.{ℤ, true, Some}
 use Rattle.std.specs.Int.{w64, w128}
 use Rattle.std.proofs.lemmas.Int.{to_z-of_z}
-use Rattle.fast_wire.specs.device.Shortest.{IsShortest}
+use Rattle.fast_wire.specs.meaning.Shortest.{IsShortest}
 use Rattle.fast_spelling.proofs.bytes.Spelling.{on_ok, handed}
 use Rattle.fast_value.specs.meaning.Kinds.{signed_range, IsWithin}
 use Rattle.fast_spelling.proofs.integers.write_delta_as.Goals as goal

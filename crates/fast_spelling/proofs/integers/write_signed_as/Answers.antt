@@ -3,7 +3,7 @@ use Rattle.std.proofs.Common.{◌≡◌, ℤ, sym, subst, ◌∙◌, rules}
 use Rattle.std.specs.Prelude.{true, pos, negsuc, Some}
 use Rattle.std.specs.Int.{w128}
 use Rattle.std.proofs.lemmas.Int.{to_z-of_z}
-use Rattle.fast_wire.specs.device.Shortest.{IsShortest}
+use Rattle.fast_wire.specs.meaning.Shortest.{IsShortest}
 use Rattle.fast_spelling.proofs.bytes.Groups.{signed_means, negative_means}
 use Rattle.fast_spelling.proofs.bytes.Spelling.{on_ok, handed}
 use Rattle.fast_spelling.proofs.integers.write_signed_as.Goals as goal

@@ -1,7 +1,7 @@
 -- By groups, or by an array.
 use Rattle.std.proofs.Common.{rules, subst}
 use Rattle.std.specs.Prelude.{ℤ, true, pos, Some}
-use Rattle.fast_wire.specs.device.Shortest.{IsShortest}
+use Rattle.fast_wire.specs.meaning.Shortest.{IsShortest}
 use Rattle.fast_spelling.proofs.bytes.Groups.{signed_means}
 use Rattle.fast_spelling.proofs.bytes.Spelling.{on_ok, handed}
 use Rattle.fast_spelling.proofs.integers.write_wide_natural.Goals as goal

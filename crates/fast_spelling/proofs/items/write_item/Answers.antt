@@ -3,8 +3,8 @@ use Rattle.std.proofs.Common.{◌++◌, List, ℕ, refl, ◌∙◌, ap, sym, sub
 use Rattle.std.specs.Prelude.{Some}
 use mathlib.Core.List.{not-mem-nil}
 use Rattle.fast_value.specs.declared.kinds.Kind.{Kind}
-use Rattle.fast_wire.specs.device.Shortest.{IsShortest}
-use Rattle.fast_tree.specs.device.Nodes.{field_data}
+use Rattle.fast_wire.specs.meaning.Shortest.{IsShortest}
+use Rattle.fast_tree.specs.meaning.Nodes.{field_data}
 use Rattle.fast_dict.specs.meaning.Sending.{sent_data}
 use Rattle.fast_dict.specs.declared.operators.table.Sent.{Sent}
 use Rattle.fast_spelling.specs.device.Drafts.{SpellsItem, SpellsPart, IsSendable, IsSendableValue, IsSendablePart}

@@ -4,7 +4,7 @@ use Rattle.std.specs.Prelude.{true, false, Some}
 use Rattle.std.specs.Int.{w32, w64}
 use Rattle.std.proofs.lemmas.Int.{to_z-of_z}
 use mathlib.Core.List.{not-mem-nil}
-use Rattle.fast_wire.specs.device.Shortest.{IsShortest}
+use Rattle.fast_wire.specs.meaning.Shortest.{IsShortest}
 use Rattle.fast_value.specs.meaning.Values.{scalar_data}
 use Rattle.fast_value.specs.declared.values.Scalar.{Scalar}
 use Rattle.fast_spelling.specs.device.Drafts.{SpellsValue}

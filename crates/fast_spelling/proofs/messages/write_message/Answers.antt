@@ -5,7 +5,7 @@ use Rattle.std.proofs.lemmas.Result.{err_from_is_err_and}
 use mathlib.Core.List.{not-mem-nil}
 use Rattle.fast_value.specs.meaning.Messages.{Slots}
 use Rattle.fast_value.specs.meaning.Views.{message_data, slots_data}
-use Rattle.fast_tree.specs.device.Bodies.{body_among}
+use Rattle.fast_tree.specs.meaning.Nodes.{body_among}
 use Rattle.fast_template.specs.meaning.Flat.{nodes_of, tree_of}
 use Rattle.fast_spelling.specs.device.Drafts.{IsTold}
 use Rattle.fast_spelling.specs.meaning.Encoding.{EncodesBody}

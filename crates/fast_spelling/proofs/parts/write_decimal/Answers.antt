@@ -11,7 +11,7 @@ use Rattle.fast_value.specs.meaning.Kinds.{I}
 use Rattle.fast_value.specs.meaning.Values.{value_data}
 use Rattle.fast_value.specs.meaning.Messages.{one}
 use Rattle.fast_tree.specs.meaning.Tree.{FieldData}
-use Rattle.fast_tree.specs.device.Nodes.{field_data}
+use Rattle.fast_tree.specs.meaning.Nodes.{field_data}
 use Rattle.fast_spelling.specs.declared.faults.EncodeFault.{EncodeFault}
 use Rattle.fast_spelling.specs.device.Drafts.{IsTold}
 use Rattle.fast_spelling.specs.meaning.Encoding.{EncodesField, EncodesDecimal}

@@ -3,7 +3,7 @@ use Rattle.std.proofs.Common.{subst, ◌≡◌, sym}
 use Rattle.std.specs.Prelude.{Some, IfErr}
 use Rattle.fast_value.specs.meaning.Kinds.{U}
 use Rattle.fast_tree.specs.declared.instructions.FieldInstruction.{FieldInstruction}
-use Rattle.fast_tree.specs.device.Nodes.{field_data}
+use Rattle.fast_tree.specs.meaning.Nodes.{field_data}
 use Rattle.fast_spelling.specs.meaning.Encoding.{EncodesField}
 use Rattle.fast_spelling.specs.device.Fields.{Wrote, IsSuited, IsServed}
 use Rattle.fast_spelling.proofs.bytes.Spelling.{on_ok}

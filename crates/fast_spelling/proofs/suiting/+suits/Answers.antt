@@ -9,9 +9,8 @@ use Rattle.fast_value.specs.meaning.Views.{item_data, slots_data, elements_data}
 use Rattle.fast_value.proofs.ItemViews.{item_data-One, item_data-Group, item_data-Sequence, count-elements_data}
 use Rattle.fast_tree.specs.declared.instructions.Shape.{Shape}
 use Rattle.fast_tree.specs.declared.instructions.Shape.TheVariants.{Field, Decimal, Group, Sequence}
-use Rattle.fast_tree.specs.device.Nodes.{field_data}
-use Rattle.fast_tree.specs.device.Numbers.{numbers_of, AreBetween}
-use Rattle.fast_tree.specs.device.Bodies.{body_among}
+use Rattle.fast_tree.specs.meaning.Nodes.{field_data, body_among}
+use Rattle.fast_tree.specs.meaning.Numbers.{numbers_of, AreBetween}
 use Rattle.fast_template.specs.meaning.Flat.{nodes_of}
 use Rattle.fast_spelling.specs.meaning.Suiting.{AreRight, SuitsBody}
 use Rattle.fast_spelling.proofs.limits.Depths.{item_depth, option_depth, slots_depth, rows_depth, option_depth_at, row_depth}

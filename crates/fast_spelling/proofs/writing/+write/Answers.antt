@@ -10,9 +10,9 @@ use Rattle.fast_value.specs.meaning.Values.{value_data}
 use Rattle.fast_value.specs.meaning.Views.{item_data, slots_data, elements_data}
 use Rattle.fast_value.proofs.ItemViews.{item_data-One, item_data-Group, item_data-Sequence, count-elements_data}
 use Rattle.fast_tree.specs.declared.instructions.Shape.TheVariants.{Field, Decimal, Group, Sequence}
-use Rattle.fast_tree.specs.device.Nodes.{label_of}
+use Rattle.fast_tree.specs.meaning.Nodes.{label_of, body_among}
 use Rattle.fast_template.specs.meaning.Flat.{nodes_of, tree_of, field_data}
-use Rattle.fast_tree.specs.device.Bodies.{body_among, instruction_among}
+use Rattle.fast_tree.specs.device.Bodies.{instruction_among}
 use Rattle.fast_spelling.specs.device.Drafts.{IsTold}
 use Rattle.fast_tree.specs.meaning.Tree.{FieldData}
 use Rattle.fast_spelling.specs.device.Nodes.{instruction_in, Keeps}
@@ -27,7 +27,7 @@ use Rattle.fast_spelling.specs.declared.faults.EncodeFault.TheVariants.{E3}
 use Rattle.fast_spelling.specs.meaning.Encoding.{EncodesField, EncodesBody, EncodesSegment, EncodesElements}
 use Rattle.fast_spelling.specs.device.Fields.{Wrote}
 use Rattle.fast_tree.specs.declared.instructions.Shape.{Shape}
-use Rattle.fast_tree.specs.device.Numbers.{numbers_of, AreBetween}
+use Rattle.fast_tree.specs.meaning.Numbers.{numbers_of, AreBetween}
 use Rattle.fast_spelling.proofs.encodings.Progress.{written_start, more_at, refused_at, suits_more, fits_more, all_written, ready_kept, keeps_on, keeps_all, on_both, suits_here, fits_here, closed, unclosed, row_more, row_refused, row_right, row_fits, rows_start, rows_done, has_bits, on_handed_on}
 use Rattle.fast_spelling.proofs.writing.+write.Goals as goal
 use Rattle.fast_spelling.proofs.writing.+write.Goals.{write_body-in-None+in_ok-write_absent-in-None, write_body-in-Some+in_ok-write_item-in-Some}

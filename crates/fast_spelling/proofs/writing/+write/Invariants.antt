@@ -2,7 +2,7 @@
 use Rattle.std.proofs.Common.{◌+◌, ◌*◌, drop}
 use Rattle.fast_value.specs.meaning.Views.{item_data, slots_data, elements_data}
 use Rattle.fast_template.specs.meaning.Flat.{nodes_of}
-use Rattle.fast_tree.specs.device.Bodies.{body_among}
+use Rattle.fast_tree.specs.meaning.Nodes.{body_among}
 use Rattle.fast_spelling.specs.device.Nodes.{IsReady, Keeps}
 use Rattle.fast_spelling.specs.device.Progress.{IsWritten, AreWritten}
 use Rattle.fast_spelling.specs.meaning.Suiting.{SuitsBody, AreRight, AreWithinLimits, RowsWithinLimits}

@@ -4,7 +4,7 @@ use Rattle.std.proofs.Math.Nat.{add_assoc, add-zero, max-zero}
 use Rattle.fast_tree.specs.meaning.Sizes.{event_weights, size, body_size, outer, body_outer, widest, body_widest}
 use Rattle.fast_template.specs.device.Counts.{AreCountsOf, AreCountsOfBody}
 use Rattle.fast_template.specs.meaning.Flat.{no_instruction, body_of, instructions_from}
-use Rattle.fast_tree.specs.device.Numbers.{AreBetween}
+use Rattle.fast_tree.specs.meaning.Numbers.{AreBetween}
 use Rattle.fast_template.specs.device.Saturation.{in_64_bits}
 use Rattle.fast_notation.proofs.nodes.Walks.{body_at_end}
 use Rattle.fast_notation.proofs.nodes.Bodies.{instruction_here, next_instruction, names_later}

@@ -3,7 +3,7 @@ use Rattle.std.specs.Prelude.{slice_index}
 use Rattle.fast_template.specs.device.Saturation.{in_32_bits}
 use Rattle.fast_tree.specs.meaning.Sizes.{depth, body_depth}
 use Rattle.fast_template.specs.meaning.Flat.{body_of, instructions_from}
-use Rattle.fast_tree.specs.device.Numbers.{AreBetween}
+use Rattle.fast_tree.specs.meaning.Numbers.{AreBetween}
 use Rattle.fast_notation.proofs.nodes.Bodies.{instruction_here, names_later}
 use Rattle.fast_notation.proofs.nodes.Measures.{left_at_node, left_at_body, smaller_at_node, smaller_at_body, all_below}
 use Rattle.fast_template.proofs.Saturation.{stopped_suc}

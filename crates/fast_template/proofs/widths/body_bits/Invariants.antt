@@ -1,7 +1,7 @@
 use Rattle.std.proofs.Common.{◌≡◌, ◌≤◌, ◌+◌, ◌*◌}
 use Rattle.std.specs.Prelude.{drop}
 use Rattle.fast_tree.specs.meaning.Tree.{bits_of}
-use Rattle.fast_tree.specs.device.Bodies.{body_among}
+use Rattle.fast_tree.specs.meaning.Nodes.{body_among}
 use Rattle.fast_template.proofs.widths.body_bits.Given as goal
 
 -- the bits so far, and those of the nodes that are left

@@ -7,9 +7,8 @@ use Rattle.std.proofs.lemmas.Result.{err_from_is_err_and}
 use Rattle.fast_tree.specs.declared.instructions.Node.{Node}
 use Rattle.fast_tree.specs.declared.instructions.Template.{Template}
 use Rattle.fast_tree.specs.meaning.Tree.{bits_of, message_bits}
-use Rattle.fast_tree.specs.device.Bodies.{body_among}
-use Rattle.fast_tree.specs.device.Nodes.{instructions_from, template_data}
-use Rattle.fast_tree.specs.device.Numbers.{AreBelow}
+use Rattle.fast_tree.specs.meaning.Nodes.{instructions_from, template_data, body_among}
+use Rattle.fast_tree.specs.meaning.Numbers.{AreBelow}
 use Rattle.fast_template.proofs.Growing.{none_yet, one_more, all_there}
 use Rattle.fast_template.proofs.widths.message_widths_of.Goals as goal
 

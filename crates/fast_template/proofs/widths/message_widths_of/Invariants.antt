@@ -2,7 +2,7 @@ use Rattle.std.proofs.Common.{◌≡◌, ℕ, ◌<◌, Some, length}
 use Rattle.std.specs.Prelude.{slice_get, slice_index}
 use Rattle.fast_tree.specs.declared.instructions.Template.{Template}
 use Rattle.fast_tree.specs.meaning.Tree.{message_bits}
-use Rattle.fast_tree.specs.device.Nodes.{instructions_from, template_data}
+use Rattle.fast_tree.specs.meaning.Nodes.{instructions_from, template_data}
 use Rattle.fast_template.proofs.widths.message_widths_of.Given as goal
 
 -- the widths of the templates so far

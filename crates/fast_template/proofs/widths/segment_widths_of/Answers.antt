@@ -6,8 +6,8 @@ use Rattle.std.proofs.lemmas.Option.{slice_get_read}
 use Rattle.std.proofs.lemmas.Result.{err_from_is_err_and}
 use Rattle.fast_tree.specs.declared.instructions.Node.{Node}
 use Rattle.fast_tree.specs.meaning.Tree.{bits_of}
-use Rattle.fast_tree.specs.device.Numbers.{AreBelow, numbers_of}
-use Rattle.fast_tree.specs.device.Bodies.{body_among}
+use Rattle.fast_tree.specs.meaning.Numbers.{AreBelow, numbers_of}
+use Rattle.fast_tree.specs.meaning.Nodes.{body_among}
 use Rattle.fast_template.proofs.Growing.{none_yet, one_more, all_there}
 use Rattle.fast_template.proofs.widths.segment_widths_of.Goals as goal
 

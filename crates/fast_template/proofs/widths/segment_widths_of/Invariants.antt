@@ -2,8 +2,8 @@ use Rattle.std.proofs.Common.{◌≡◌, ℕ, ◌<◌, Some, length}
 use Rattle.std.specs.Prelude.{slice_get, slice_index}
 use Rattle.fast_tree.specs.declared.instructions.Node.{Node}
 use Rattle.fast_tree.specs.meaning.Tree.{bits_of}
-use Rattle.fast_tree.specs.device.Numbers.{numbers_of}
-use Rattle.fast_tree.specs.device.Bodies.{body_among}
+use Rattle.fast_tree.specs.meaning.Numbers.{numbers_of}
+use Rattle.fast_tree.specs.meaning.Nodes.{body_among}
 use Rattle.fast_template.proofs.widths.segment_widths_of.Given as goal
 
 -- the widths of the nodes so far

@@ -6,7 +6,7 @@ use Rattle.fast_wire.specs.meaning.Integers.{IsWithin, signed_range}
 use Rattle.fast_value.specs.declared.codes.Code.TheVariants.{R1}
 use Rattle.fast_value.specs.meaning.Kinds.{Dec}
 use Rattle.fast_value.specs.meaning.Limits.{bounds}
-use Rattle.fast_tree.specs.device.Nodes.{field_data}
+use Rattle.fast_tree.specs.meaning.Nodes.{field_data}
 use Rattle.fast_dict.specs.meaning.Dictionary.{previous_at}
 use Rattle.fast_dict.specs.meaning.Operators.{decide, value, null}
 use Rattle.fast_dict.specs.meaning.Slots.{slots_dictionary}

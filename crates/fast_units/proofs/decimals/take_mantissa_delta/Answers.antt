@@ -5,7 +5,7 @@ use Rattle.std.specs.Prelude.{false, Ok, Err}
 use Rattle.fast_wire.specs.meaning.Integers.{delta_range}
 use Rattle.fast_value.specs.declared.codes.Code.TheVariants.{D2}
 use Rattle.fast_value.specs.meaning.Limits.{bounds}
-use Rattle.fast_tree.specs.device.Nodes.{field_data}
+use Rattle.fast_tree.specs.meaning.Nodes.{field_data}
 use Rattle.fast_dict.specs.meaning.Dictionary.{previous_at}
 use Rattle.fast_dict.specs.meaning.Operators.{gives_none, mantissa_step}
 use Rattle.fast_dict.specs.meaning.Slots.{slots_dictionary}

@@ -1,6 +1,6 @@
 -- Both follow from which operators and bits need bytes.
 use Rattle.std.proofs.Common.{sym, ◌∙◌}
-use Rattle.fast_tree.specs.device.Nodes.{field_data}
+use Rattle.fast_tree.specs.meaning.Nodes.{field_data}
 use Rattle.fast_units.proofs.Deciding.{needs_some, stands_sent, stands_unsent}
 use Rattle.fast_units.proofs.fields.needs_bytes.Goals as goal
 

@@ -1,6 +1,6 @@
 -- One more than the previous value, where that is decided.
 use Rattle.std.proofs.Common.{◌≡◌, Ok, sym, ap, ◌∙◌, subst, refl}
-use Rattle.fast_tree.specs.device.Nodes.{field_data}
+use Rattle.fast_tree.specs.meaning.Nodes.{field_data}
 use Rattle.fast_dict.specs.declared.operators.unsent.Left.TheVariants.{Increased, Absent, Emptied, Initial, Started, Copied}
 use Rattle.fast_dict.specs.meaning.Answers.{left_data, left_answer}
 use Rattle.fast_dict.specs.meaning.Dictionary.{PreviousData}

@@ -6,7 +6,7 @@ use Rattle.fast_value.specs.meaning.Kinds.{family, value_of_text}
 use Rattle.fast_value.specs.meaning.Limits.{bounds}
 use Rattle.fast_tree.specs.declared.operators.Operator.{Operator}
 use Rattle.fast_tree.specs.declared.operators.Operator.TheVariants as Op
-use Rattle.fast_tree.specs.device.Nodes.{field_data}
+use Rattle.fast_tree.specs.meaning.Nodes.{field_data}
 use Rattle.fast_dict.specs.meaning.Dictionary.{previous_at}
 use Rattle.fast_dict.specs.meaning.Operators.{decide, checked_text, null_empties}
 use Rattle.fast_dict.specs.meaning.Slots.{slots_dictionary}

@@ -2,7 +2,7 @@
 use Rattle.std.proofs.Common.{sym, ◌≡◌, ◌∙◌, ◌+ℤ◌, rules, Ok}
 use Rattle.fast_value.specs.meaning.Kinds.{value_of_integer}
 use Rattle.fast_value.specs.declared.codes.Code.TheVariants.{D2}
-use Rattle.fast_tree.specs.device.Nodes.{field_data}
+use Rattle.fast_tree.specs.meaning.Nodes.{field_data}
 use Rattle.fast_dict.specs.meaning.Dictionary.{previous_at}
 use Rattle.fast_dict.specs.meaning.Operators.{◌>>=◌, keeps, ranged, range_of, integer_step}
 use Rattle.fast_dict.specs.meaning.Slots.{slots_dictionary}

@@ -2,7 +2,7 @@
 use Rattle.std.proofs.Common.{ap}
 use Rattle.std.specs.Prelude.{true, Ok}
 use Rattle.fast_units.specs.declared.source.ValueSource.TheVariants as From
-use Rattle.fast_tree.specs.device.Nodes.{field_data}
+use Rattle.fast_tree.specs.meaning.Nodes.{field_data}
 use Rattle.fast_dict.specs.meaning.Dictionary.{previous_at}
 use Rattle.fast_dict.specs.meaning.Operators.{decide}
 use Rattle.fast_dict.specs.meaning.Slots.{slots_dictionary}

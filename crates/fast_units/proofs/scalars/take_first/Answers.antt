@@ -1,7 +1,7 @@
 use Rattle.std.proofs.Common.{rules, sym, ap, subst, true, List, ℕ}
 use Rattle.fast_value.specs.meaning.Kinds.{family}
 use Rattle.fast_value.specs.meaning.Limits.{bounds}
-use Rattle.fast_tree.specs.device.Nodes.{field_data}
+use Rattle.fast_tree.specs.meaning.Nodes.{field_data}
 use Rattle.fast_dict.specs.meaning.Dictionary.{previous_at}
 use Rattle.fast_dict.specs.meaning.Slots.{slots_dictionary}
 use Rattle.fast_stream.specs.meaning.Fields.{field_term}

@@ -1,6 +1,6 @@
 -- The sum is kept.
 use Rattle.std.proofs.Common.{◌≡◌, rules, Some, Ok}
-use Rattle.fast_tree.specs.device.Nodes.{field_data}
+use Rattle.fast_tree.specs.meaning.Nodes.{field_data}
 use Rattle.fast_dict.specs.meaning.Dictionary.{previous_at}
 use Rattle.fast_dict.specs.meaning.Operators.{keeps, mantissa_step}
 use Rattle.fast_dict.specs.meaning.Slots.{slots_dictionary}

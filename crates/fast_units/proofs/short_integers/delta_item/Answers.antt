@@ -1,7 +1,7 @@
 use Rattle.std.proofs.Common.{ap, rules, subst, FitsSigned}
 use Rattle.std.specs.Int.{w64}
 use Rattle.std.specs.Prelude.{Some, Ok}
-use Rattle.fast_tree.specs.device.Nodes.{field_data}
+use Rattle.fast_tree.specs.meaning.Nodes.{field_data}
 use Rattle.fast_dict.specs.meaning.Dictionary.{previous_at}
 use Rattle.fast_dict.specs.meaning.Operators.{gives_none, integer_step}
 use Rattle.fast_dict.specs.meaning.Slots.{slots_dictionary}

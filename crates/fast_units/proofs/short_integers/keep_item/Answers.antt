@@ -1,7 +1,7 @@
 -- Both by the operator: those that keep no value have no entry.
 use Rattle.std.proofs.Common.{sym, ap, subst}
 use Rattle.std.specs.Prelude.{true, Some, Ok}
-use Rattle.fast_tree.specs.device.Nodes.{field_data}
+use Rattle.fast_tree.specs.meaning.Nodes.{field_data}
 use Rattle.fast_dict.specs.meaning.Dictionary.{previous_at, write_at}
 use Rattle.fast_dict.specs.meaning.Operators.{decide}
 use Rattle.fast_dict.specs.meaning.Slots.{slots_dictionary}

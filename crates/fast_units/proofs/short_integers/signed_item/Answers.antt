@@ -1,4 +1,4 @@
-use Rattle.fast_tree.specs.device.Nodes.{field_data}
+use Rattle.fast_tree.specs.meaning.Nodes.{field_data}
 use Rattle.fast_dict.specs.meaning.Slots.{slots_dictionary}
 use Rattle.fast_units.specs.device.Deciding.{sent_number, source_of}
 use Rattle.fast_units.proofs.ShortIntegers.{item_unit}

@@ -2,7 +2,7 @@ use Rattle.std.proofs.Common.{◌∙◌, sym, ap, refl, ℤ}
 use mir.Syntax.{w32}
 use Rattle.std.proofs.lemmas.Int.{to_z-of_z}
 use Rattle.fast_value.specs.meaning.Limits.{bounds}
-use Rattle.fast_tree.specs.device.Nodes.{field_data}
+use Rattle.fast_tree.specs.meaning.Nodes.{field_data}
 use Rattle.fast_dict.specs.meaning.Dictionary.{previous_at}
 use Rattle.fast_dict.specs.meaning.Slots.{slots_dictionary}
 use Rattle.fast_stream.specs.device.GrammarReaders.{reader_of}

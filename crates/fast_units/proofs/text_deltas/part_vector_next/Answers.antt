@@ -4,7 +4,7 @@ use Rattle.fast_value.specs.declared.codes.Code.TheVariants.{L1}
 use mir.Syntax.{w32}
 use Rattle.std.proofs.lemmas.Int.{to_z-of_z}
 use Rattle.fast_value.specs.meaning.Limits.{bounds}
-use Rattle.fast_tree.specs.device.Nodes.{field_data}
+use Rattle.fast_tree.specs.meaning.Nodes.{field_data}
 use Rattle.fast_dict.specs.meaning.Dictionary.{previous_at}
 use Rattle.fast_dict.specs.meaning.Operators.{kept_length, subtraction_step}
 use Rattle.fast_dict.specs.meaning.Slots.{slots_dictionary}

@@ -5,7 +5,7 @@ use Rattle.fast_wire.specs.meaning.Integers.{signed_range}
 use mir.Syntax.{w32}
 use mir.Val.{to_z, of_z}
 use Rattle.fast_value.specs.meaning.Limits.{bounds}
-use Rattle.fast_tree.specs.device.Nodes.{field_data}
+use Rattle.fast_tree.specs.meaning.Nodes.{field_data}
 use Rattle.fast_dict.specs.meaning.Dictionary.{previous_at}
 use Rattle.fast_dict.specs.meaning.Operators.{null, decide}
 use Rattle.fast_dict.specs.meaning.Slots.{slots_dictionary}

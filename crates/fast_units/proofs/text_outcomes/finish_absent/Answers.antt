@@ -1,5 +1,5 @@
 use Rattle.std.proofs.Common.{sym, refl}
-use Rattle.fast_tree.specs.device.Nodes.{field_data}
+use Rattle.fast_tree.specs.meaning.Nodes.{field_data}
 use Rattle.fast_dict.specs.meaning.Slots.{slots_dictionary}
 use Rattle.fast_units.proofs.TextOutcomes.{absent_emptied, absent_left}
 use Rattle.fast_units.proofs.text_outcomes.finish_absent.Goals as goal

@@ -1,6 +1,6 @@
 use Rattle.std.proofs.Common.{◌∙◌, ap, refl, inl, inr, Ok, Some}
 use Rattle.fast_value.specs.meaning.Kinds.{AsciiText}
-use Rattle.fast_tree.specs.device.Nodes.{field_data}
+use Rattle.fast_tree.specs.meaning.Nodes.{field_data}
 use Rattle.fast_dict.specs.meaning.Dictionary.{previous_at}
 use Rattle.fast_dict.specs.meaning.Slots.{slots_dictionary}
 use Rattle.fast_units.proofs.TextOutcomes.{ascii_is_text, checked_ascii, value_of_ascii, checked_is, decided_as, decided_copy, decided_increment, decided_plain, not_emptied, text_given, text_kept_too}

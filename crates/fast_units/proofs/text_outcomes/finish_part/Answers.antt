@@ -2,7 +2,7 @@ use Rattle.std.proofs.Common.{◌∙◌, sym, ap, List, ℕ}
 use Rattle.std.specs.Prelude.{ℤ}
 use mir.Syntax.{w32}
 use Rattle.std.proofs.lemmas.Int.{to_z-of_z}
-use Rattle.fast_tree.specs.device.Nodes.{field_data}
+use Rattle.fast_tree.specs.meaning.Nodes.{field_data}
 use Rattle.fast_dict.specs.meaning.Answers.{kept_text}
 use Rattle.fast_dict.specs.meaning.Dictionary.{previous_at}
 use Rattle.fast_dict.specs.meaning.Operators.{Kept, subtraction_step, joined}

@@ -1,6 +1,6 @@
 use Rattle.std.proofs.Common.{sym, refl, inl, inr, Ok}
 use Rattle.fast_value.specs.meaning.Values.{scalar_data}
-use Rattle.fast_tree.specs.device.Nodes.{field_data}
+use Rattle.fast_tree.specs.meaning.Nodes.{field_data}
 use Rattle.fast_dict.specs.meaning.Dictionary.{previous_at}
 use Rattle.fast_dict.specs.meaning.Slots.{slots_dictionary}
 use Rattle.fast_units.proofs.TextOutcomes.{decided_as, decided_copy, decided_increment, decided_plain, not_emptied, text_given, checked_is}

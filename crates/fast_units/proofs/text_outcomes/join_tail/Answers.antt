@@ -1,6 +1,6 @@
 use Rattle.std.proofs.Common.{◌∙◌, sym, ap, refl, List, ℕ, arith, length-append}
 use Rattle.fast_value.specs.meaning.Values.{scalar_data}
-use Rattle.fast_tree.specs.device.Nodes.{field_data}
+use Rattle.fast_tree.specs.meaning.Nodes.{field_data}
 use Rattle.fast_dict.specs.meaning.Operators.{tail_base, with_tail}
 use Rattle.fast_units.proofs.TextOutcomes.{tail_together}
 use Rattle.fast_units.proofs.text_outcomes.join_tail.Goals as goal

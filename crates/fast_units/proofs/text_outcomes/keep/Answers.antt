@@ -2,7 +2,7 @@ use Rattle.std.proofs.Common.{◌∙◌, sym, subst}
 use Rattle.fast_value.specs.meaning.Kinds.{ScalarData}
 use Rattle.fast_dict.specs.meaning.Stores.{IsStorable}
 use Rattle.fast_value.specs.meaning.Values.{scalar_data}
-use Rattle.fast_tree.specs.device.Nodes.{field_data}
+use Rattle.fast_tree.specs.meaning.Nodes.{field_data}
 use Rattle.fast_dict.specs.meaning.Slots.{slots_dictionary, slots_terms}
 use Rattle.fast_units.proofs.TextOutcomes.{text_kept, text_storable, checked_is}
 use Rattle.fast_units.proofs.text_outcomes.keep.Goals as goal

@@ -1,5 +1,5 @@
 use Rattle.std.proofs.Common.{◌≡◌, ℕ, ◌+◌, ◌*◌, ◌≤◌, List, ◌++◌, take}
-use Rattle.fast_command.specs.device.Unhexing.{Unhexes, pending}
+use Rattle.fast_command.specs.meaning.Unhexing.{Unhexes, pending}
 use Rattle.fast_command.proofs.unhexer.Unhexer.take.Given as goal
 
 abbrev pub invariant-loop-character : goal.invariant-loop-character

@@ -2,7 +2,7 @@
 use Rattle.std.proofs.Common.{rules, ◌∙◌, ℕ, ap, sym, map, length, true}
 use Rattle.std.proofs.lemmas.List.{length-map}
 use Rattle.fast_dict.specs.meaning.Stores.{Terms}
-use Rattle.fast_dict.specs.device.Held.{held_data}
+use Rattle.fast_dict.specs.meaning.Held.{held_data}
 use Rattle.fast_dict.proofs.Listed.{same_fit}
 use Rattle.fast_dict.proofs.lists.Lists.copy.Goals as goal
 

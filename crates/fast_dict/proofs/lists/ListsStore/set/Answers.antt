@@ -6,7 +6,7 @@ use Rattle.fast_value.specs.meaning.Kinds.{text_of}
 use Rattle.fast_value.specs.meaning.Values.{scalar_data, value_data}
 use Rattle.fast_dict.specs.meaning.Dictionary.{assigned}
 use Rattle.fast_dict.specs.meaning.Stores.{Terms}
-use Rattle.fast_dict.specs.device.Held.{held_data}
+use Rattle.fast_dict.specs.meaning.Held.{held_data}
 use Rattle.fast_dict.specs.declared.held.Held.TheVariants.{Assigned}
 use Rattle.fast_dict.specs.meaning.Lists.{lists_dictionary, lists_terms}
 use Rattle.fast_dict.proofs.Listed.{set_fits}

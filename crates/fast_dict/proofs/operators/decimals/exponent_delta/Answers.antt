@@ -9,7 +9,7 @@ use Rattle.fast_value.specs.declared.codes.Code.TheVariants.{R1}
 use Rattle.fast_value.specs.meaning.Kinds.{ScalarData, exponent_of, exponent_range}
 use Rattle.fast_value.specs.meaning.Values.{scalar_data}
 use Rattle.fast_tree.specs.meaning.Tree.{FieldData}
-use Rattle.fast_tree.specs.device.Nodes.{field_data}
+use Rattle.fast_tree.specs.meaning.Nodes.{field_data}
 use Rattle.fast_dict.specs.meaning.Dictionary.{PreviousData}
 use Rattle.fast_dict.specs.meaning.Operators.{◌>>=◌, delta_base, exponent_step, ranged}
 use Rattle.fast_dict.specs.meaning.Previous.{previous_data}

@@ -11,7 +11,7 @@ use Rattle.fast_value.specs.declared.kinds.Kind.TheVariants.{UInt32, Int32, UInt
 use Rattle.fast_value.specs.meaning.Kinds.{ScalarData, integer_of, value_of_integer}
 use Rattle.fast_value.specs.meaning.Values.{scalar_data}
 use Rattle.fast_tree.specs.meaning.Tree.{FieldData}
-use Rattle.fast_tree.specs.device.Nodes.{field_data}
+use Rattle.fast_tree.specs.meaning.Nodes.{field_data}
 use Rattle.fast_dict.specs.meaning.Dictionary.{PreviousData}
 use Rattle.fast_dict.specs.meaning.Operators.{Outcome, ◌>>=◌, delta_base, integer_step, keeps, range_of, ranged}
 use Rattle.fast_dict.specs.meaning.Previous.{previous_data}

@@ -2,7 +2,7 @@
 use Rattle.std.proofs.Common.{ap}
 use Rattle.std.specs.Prelude.{option_map}
 use Rattle.fast_value.specs.meaning.Values.{scalar_data}
-use Rattle.fast_tree.specs.device.Nodes.{field_data}
+use Rattle.fast_tree.specs.meaning.Nodes.{field_data}
 use Rattle.fast_dict.specs.meaning.Previous.{previous_data}
 use Rattle.fast_dict.proofs.Items.{no_tail, at_none}
 use Rattle.fast_dict.proofs.rule.items.item_for.Goals as goal

@@ -1,7 +1,7 @@
 -- The base has no tail to the value.
 use Rattle.fast_value.specs.meaning.Kinds.{text_of}
 use Rattle.fast_value.specs.meaning.Values.{scalar_data}
-use Rattle.fast_tree.specs.device.Nodes.{field_data}
+use Rattle.fast_tree.specs.meaning.Nodes.{field_data}
 use Rattle.fast_dict.specs.meaning.Operators.{tail_base}
 use Rattle.fast_dict.specs.meaning.Previous.{previous_data}
 use Rattle.fast_dict.proofs.Items.{no_part}

@@ -1,7 +1,7 @@
 -- The entry of that number changes alone.
 use Rattle.std.proofs.Common.{refl, ap, ◌∙◌, []}
 use Rattle.std.specs.Prelude.{slice_index_or, slice_set, None}
-use Rattle.fast_dict.specs.device.Entry.{with_text}
+use Rattle.fast_dict.specs.meaning.Entry.{with_text}
 use Rattle.fast_dict.specs.meaning.Slots.{entries_data}
 use Rattle.fast_dict.proofs.Slotted.{place_of_entry, put-entries, number-entry}
 use Rattle.fast_dict.proofs.slots.Slots.change_number.Goals as goal

@@ -2,7 +2,7 @@
 use Rattle.std.proofs.Common.{◌≡◌, ◌+◌, ◌++◌, ◌∙◌, ap, sym, List, ℕ, length, take}
 use Rattle.fast_value.specs.meaning.Kinds.{value_of_text}
 use Rattle.std.specs.Prelude.{slice_index_or, None}
-use Rattle.fast_dict.specs.device.Entry.{with_text}
+use Rattle.fast_dict.specs.meaning.Entry.{with_text}
 use Rattle.fast_dict.specs.meaning.Dictionary.{assigned}
 use Rattle.fast_dict.specs.meaning.Slots.{entry_data, text_in, get-entries}
 use Rattle.fast_dict.specs.declared.entry.Entry.TheVariants.{Undefined}

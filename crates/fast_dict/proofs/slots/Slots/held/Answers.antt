@@ -1,7 +1,7 @@
 -- The entry of that number, with the text of its slot.
 use Rattle.std.proofs.Common.{◌∙◌, ap, sym}
 use Rattle.std.specs.Prelude.{slice_index_or, None}
-use Rattle.fast_dict.specs.device.Entry.{with_text, text_length}
+use Rattle.fast_dict.specs.meaning.Entry.{with_text, text_length}
 use Rattle.fast_dict.specs.meaning.Slots.{text_in, get-entries}
 use Rattle.fast_dict.specs.declared.entry.Entry.TheVariants.{Undefined}
 use Rattle.fast_dict.proofs.Slotted.{place_of_entry}

@@ -2,7 +2,7 @@
 use Rattle.std.proofs.Common.{rules, arith, ◌≡◌, ◌+◌, ◌-◌, ◌<◌, ◌≤◌, ◌∙◌, ap, sym, vec_len, List, ℕ, refl, take, drop}
 use Rattle.std.specs.Prelude.{Some, None, slice_index_or}
 use Rattle.std.proofs.lemmas.List.{get_or_read_under}
-use Rattle.fast_dict.specs.device.Entry.{with_text, text_length}
+use Rattle.fast_dict.specs.meaning.Entry.{with_text, text_length}
 use Rattle.fast_dict.specs.meaning.Slots.{entry_data, get-entries}
 use Rattle.fast_dict.specs.declared.entry.Entry.TheVariants.{Undefined}
 use Rattle.fast_dict.proofs.Slotted.{place_of_entry}

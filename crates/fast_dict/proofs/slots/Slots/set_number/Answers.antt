@@ -1,7 +1,7 @@
 -- The entry of that number changes alone.
 use Rattle.std.proofs.Common.{refl, []}
 use Rattle.std.specs.Prelude.{slice_index_or, None}
-use Rattle.fast_dict.specs.device.Entry.{with_text}
+use Rattle.fast_dict.specs.meaning.Entry.{with_text}
 use Rattle.fast_dict.proofs.Slotted.{place_of_entry, put-entries, number-entry}
 use Rattle.fast_dict.proofs.slots.Slots.set_number.Goals as goal
 

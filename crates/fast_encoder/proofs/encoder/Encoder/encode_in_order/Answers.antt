@@ -4,8 +4,8 @@ use Rattle.std.specs.Prelude.{Bool, true, false, if◌then◌else◌, length, Op
 use Rattle.fast_value.specs.declared.messages.Item.{Item}
 use Rattle.fast_value.specs.declared.settings.Limits.{Limits}
 use Rattle.fast_value.specs.meaning.Views.{message_data, slots_data}
-use Rattle.fast_tree.specs.device.Bodies.{body_among}
-use Rattle.fast_tree.specs.device.Numbers.{AreBelow}
+use Rattle.fast_tree.specs.meaning.Nodes.{body_among}
+use Rattle.fast_tree.specs.meaning.Numbers.{AreBelow}
 use Rattle.fast_dict.specs.meaning.Dictionary.{Dictionary}
 use Rattle.fast_template.specs.declared.sets.Templates.{Templates}
 use Rattle.fast_template.specs.meaning.Flat.{nodes_of, tree_of}

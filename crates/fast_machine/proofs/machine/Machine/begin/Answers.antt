@@ -3,7 +3,7 @@ use Rattle.fast_machine.proofs.fields.Heads.{node_within, field_head, parts_head
 use Rattle.std.proofs.Common.{◌≡◌, ℕ, ◌<◌, List, [], ◌∷◌, length, refl, sym, ap, ◌∙◌, subst, arith}
 use Rattle.std.specs.Prelude.{Some, None}
 use Rattle.fast_tree.specs.declared.instructions.Shape.TheVariants.{Field, Decimal, Sequence}
-use Rattle.fast_tree.specs.device.Numbers.{numbers_of, AreBelow, AreBetween}
+use Rattle.fast_tree.specs.meaning.Numbers.{numbers_of, AreBelow, AreBetween}
 use Rattle.fast_cursor.specs.device.Segments.{first_node}
 use Rattle.fast_machine.specs.device.Positions.{set_of}
 use Rattle.fast_machine.proofs.fields.ScalarNodes.{first_below, served_node}

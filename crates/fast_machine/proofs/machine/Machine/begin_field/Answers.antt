@@ -1,7 +1,7 @@
 -- The field waits for its first unit, or what is decided for it leads past it.
 use Rattle.std.proofs.Common.{◌∙◌}
 use Rattle.fast_value.specs.meaning.Limits.{bounds}
-use Rattle.fast_tree.specs.device.Nodes.{field_data}
+use Rattle.fast_tree.specs.meaning.Nodes.{field_data}
 use Rattle.fast_dict.specs.meaning.Dictionary.{previous_at}
 use Rattle.fast_dict.specs.meaning.Slots.{slots_dictionary}
 use Rattle.std.specs.Prelude.{[]}

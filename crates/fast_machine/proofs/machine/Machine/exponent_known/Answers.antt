@@ -4,7 +4,7 @@ use Rattle.std.specs.Int.{w32, w128}
 use Rattle.std.specs.Prelude.{[], drop, Err}
 use Rattle.fast_value.specs.declared.codes.Code.TheVariants.{R1}
 use Rattle.fast_value.specs.meaning.Kinds.{exponent_range}
-use Rattle.fast_tree.specs.device.Nodes.{field_data}
+use Rattle.fast_tree.specs.meaning.Nodes.{field_data}
 use Rattle.fast_tree.specs.meaning.Tree.{parts}
 use Rattle.fast_cursor.specs.device.Cursors.{CursorData}
 use Rattle.fast_stream.specs.declared.faults.FaultCode.TheVariants as Why

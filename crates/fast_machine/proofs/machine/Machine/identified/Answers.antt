@@ -6,7 +6,7 @@ use Rattle.fast_value.specs.meaning.Kinds.{ScalarData}
 use Rattle.fast_value.specs.meaning.Limits.{bounds}
 use Rattle.fast_value.specs.declared.codes.Code.TheVariants.{D9, R8}
 use Rattle.fast_tree.specs.meaning.Tree.{identifier, message_bits}
-use Rattle.fast_tree.specs.device.Nodes.{template_data, instructions_from}
+use Rattle.fast_tree.specs.meaning.Nodes.{template_data, instructions_from}
 use Rattle.fast_dict.specs.meaning.Slots.{slots_dictionary}
 use Rattle.fast_units.specs.device.Settling.{value_at}
 use Rattle.fast_machine.specs.device.Passing.{state_past}

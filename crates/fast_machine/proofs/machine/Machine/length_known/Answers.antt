@@ -3,7 +3,7 @@ use Rattle.std.specs.Int.{w128}
 use Rattle.std.specs.Prelude.{nat_abs, Err}
 use Rattle.std.proofs.lemmas.Result.{err_from_is_err_and}
 use Rattle.fast_value.specs.meaning.Limits.{bounds}
-use Rattle.fast_tree.specs.device.Nodes.{field_data}
+use Rattle.fast_tree.specs.meaning.Nodes.{field_data}
 use Rattle.fast_dict.specs.meaning.Slots.{slots_dictionary}
 use Rattle.fast_machine.specs.declared.machine.Machine.{Machine}
 use Rattle.fast_cursor.specs.device.Cursors.{CursorData}

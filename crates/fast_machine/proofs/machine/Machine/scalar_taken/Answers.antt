@@ -1,5 +1,5 @@
 use Rattle.std.proofs.Common.{subst}
-use Rattle.fast_tree.specs.device.Nodes.{field_data}
+use Rattle.fast_tree.specs.meaning.Nodes.{field_data}
 use Rattle.fast_machine.specs.device.Scalars.{IsScalarUnit, CanProgress}
 use Rattle.fast_machine.specs.device.Positions.{set_of, meaning}
 use Rattle.fast_stream.specs.declared.faults.FaultCode.TheVariants as Why

@@ -1,10 +1,9 @@
 use Rattle.std.proofs.Common.{sym, ap, ◌∙◌, subst, arith}
 use Rattle.std.specs.Prelude.{◌≡◌, ℕ, List, [], ◌∷◌, None, length}
-use Rattle.fast_tree.specs.device.Numbers.{numbers_of, AreBelow}
-use Rattle.fast_tree.specs.device.Nodes.{field_data}
-use Rattle.fast_tree.specs.device.NodeData.{shape_data}
-use Rattle.fast_tree.specs.device.Usable.{IsUsableShape}
-use Rattle.fast_tree.specs.device.Bodies.{body_among}
+use Rattle.fast_tree.specs.meaning.Numbers.{numbers_of, AreBelow}
+use Rattle.fast_tree.specs.meaning.Nodes.{field_data, body_among}
+use Rattle.fast_tree.specs.meaning.NodeData.{shape_data}
+use Rattle.fast_tree.specs.meaning.Usable.{IsUsableShape}
 use Rattle.fast_tree.specs.declared.instructions.Node.{Node}
 use Rattle.fast_tree.specs.declared.instructions.Shape.{Shape}
 use Rattle.fast_tree.specs.declared.instructions.Shape.TheVariants.{Field, Decimal, Sequence}

@@ -2,7 +2,7 @@
 use Rattle.std.proofs.Common.{refl, sym, ap, ◌∙◌, subst, arith}
 use Rattle.std.specs.Prelude.{ℕ, ◌+◌, ◌-◌, ◌<◌, ◌≤◌, length}
 use Rattle.fast_value.specs.meaning.Limits.{bounds}
-use Rattle.fast_tree.specs.device.Nodes.{field_data}
+use Rattle.fast_tree.specs.meaning.Nodes.{field_data}
 use Rattle.fast_tree.specs.declared.instructions.Shape.TheVariants.{Field}
 use Rattle.fast_dict.specs.declared.slots.Slots.{Slots}
 use Rattle.fast_machine.specs.device.Positions.{set_of}

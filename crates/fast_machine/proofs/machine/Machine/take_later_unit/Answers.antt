@@ -1,5 +1,5 @@
 use Rattle.std.proofs.Common.{sym, ◌∙◌, subst}
-use Rattle.fast_tree.specs.device.Nodes.{field_data}
+use Rattle.fast_tree.specs.meaning.Nodes.{field_data}
 use Rattle.fast_machine.specs.device.Positions.{set_of}
 use Rattle.fast_machine.specs.device.Scalars.{IsOfField}
 use Rattle.fast_machine.specs.device.TurnsLeft.{HasTurns}

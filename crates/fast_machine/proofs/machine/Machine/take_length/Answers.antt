@@ -1,6 +1,6 @@
 use Rattle.std.proofs.Common.{refl, sym, [], subst}
 use Rattle.fast_value.specs.meaning.Limits.{bounds}
-use Rattle.fast_tree.specs.device.Nodes.{field_data}
+use Rattle.fast_tree.specs.meaning.Nodes.{field_data}
 use Rattle.fast_dict.specs.meaning.Slots.{slots_dictionary}
 use Rattle.fast_stream.specs.device.Continuations.{sequence_from_then, segment_then, body_then}
 use Rattle.fast_machine.specs.device.Positions.{set_of, run_in, body_in, turning, meaning}

@@ -1,5 +1,5 @@
 use Rattle.std.proofs.Common.{refl, []}
-use Rattle.fast_tree.specs.device.Nodes.{field_data}
+use Rattle.fast_tree.specs.meaning.Nodes.{field_data}
 use Rattle.fast_machine.specs.device.Positions.{set_of}
 use Rattle.fast_machine.proofs.steps.FieldTurns.{serves_here}
 use Rattle.fast_machine.proofs.machines.ScalarMachines.{still_supplied, unit_within, text_taken, number_taken, bytes_taken}

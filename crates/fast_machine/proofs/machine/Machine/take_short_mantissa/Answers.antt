@@ -4,11 +4,11 @@ use mir.Syntax.{w32}
 use mir.Val.{to_z, of_z}
 use Rattle.std.proofs.lemmas.Int.{to_z-of_z}
 use Rattle.fast_value.specs.meaning.Limits.{bounds}
-use Rattle.fast_tree.specs.device.Nodes.{field_data}
+use Rattle.fast_tree.specs.meaning.Nodes.{field_data}
 use Rattle.fast_tree.specs.declared.instructions.Shape.TheVariants.{Decimal}
 use Rattle.fast_tree.specs.declared.instructions.Shape.{Shape}
-use Rattle.fast_tree.specs.device.NodeData.{shape_data}
-use Rattle.fast_tree.specs.device.Usable.{IsUsableShape}
+use Rattle.fast_tree.specs.meaning.NodeData.{shape_data}
+use Rattle.fast_tree.specs.meaning.Usable.{IsUsableShape}
 use Rattle.fast_template.specs.meaning.Flat.{tree_of}
 use Rattle.fast_dict.specs.declared.slots.Slots.{Slots}
 use Rattle.fast_dict.specs.meaning.Dictionary.{Dictionary}

@@ -1,6 +1,6 @@
 -- The machine waits for the field.
 use Rattle.std.proofs.Common.{sym, ◌∙◌}
-use Rattle.fast_tree.specs.device.Nodes.{field_data}
+use Rattle.fast_tree.specs.meaning.Nodes.{field_data}
 use Rattle.fast_dict.specs.meaning.Slots.{slots_dictionary}
 use Rattle.fast_machine.specs.device.Positions.{set_of}
 use Rattle.fast_machine.proofs.fields.Heads.{field_head}

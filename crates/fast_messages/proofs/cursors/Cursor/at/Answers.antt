@@ -1,7 +1,7 @@
 use Rattle.std.proofs.Common.{◌≡◌, ◌≤◌, ◌∷◌, ◌++◌, refl, ap, arith, subst, sym}
 use Rattle.std.proofs.lemmas.Result.{err_from_is_err_and}
-use Rattle.fast_messages.specs.device.Ahead.{feeds, IsAtText, OnBadLine, HasNoLines}
-use Rattle.fast_messages.specs.meaning.Reading.{closed}
+use Rattle.fast_messages.specs.device.Ahead.{IsAtText, HasNoLines}
+use Rattle.fast_messages.specs.meaning.Reading.{closed, feeds, OnBadLine}
 use Rattle.fast_messages.proofs.texts.Feeds.{feeds_line}
 use Rattle.fast_messages.proofs.refusals.NoLines.{no_form, bad_value, one_line}
 use Rattle.fast_messages.proofs.readings.Said.{at_text}

@@ -7,8 +7,8 @@ use Rattle.fast_notation.proofs.lists.Lists.{mapped_get}
 use Rattle.fast_tree.specs.meaning.AsWritten.{DeclaredTemplate, reference, no_more, more, length_use}
 use Rattle.fast_notation.specs.device.Built.{data_of, CanBuild, IsBuilt}
 use Rattle.fast_notation.specs.device.EntryKeys.{scope_data, entries_of}
-use Rattle.fast_tree.specs.device.NodeData.{a_group as a_group_data, node_data}
-use Rattle.fast_tree.specs.device.Nodes.{field_data}
+use Rattle.fast_tree.specs.meaning.NodeData.{a_group as a_group_data, node_data}
+use Rattle.fast_tree.specs.meaning.Nodes.{field_data}
 use Rattle.fast_notation.specs.meaning.Uses.{IsField}
 use Rattle.fast_notation.specs.device.WrittenSets.{operator_data, instruction_data, fields_data, written_data}
 use Rattle.fast_notation.proofs.nodes.BuiltLists.{same_items, one_longer, built_none, built_more, built_group, built_sequence, built_reference}

@@ -7,7 +7,7 @@ use Rattle.fast_notation.specs.device.Built.{AreBuilt, IsBuilt, data_of}
 use Rattle.fast_notation.specs.device.Chains.{Fits}
 use Rattle.fast_tree.specs.meaning.Entries.{scope_of}
 use Rattle.fast_notation.specs.device.EntryKeys.{entries_of}
-use Rattle.fast_tree.specs.device.NodeData.{node_data, outline}
+use Rattle.fast_tree.specs.meaning.NodeData.{node_data, outline}
 use Rattle.fast_tree.specs.meaning.Sizes.{nesting_limit}
 use Rattle.fast_notation.specs.device.WrittenSets.{written_data}
 use Rattle.fast_notation.proofs.nodes.BuildingNeeds.{can_build_template}

@@ -1,7 +1,7 @@
 use Rattle.std.proofs.Common.{map, take}
 use Rattle.fast_notation.specs.device.Built.{AreBuilt}
 use Rattle.fast_notation.specs.device.EntryKeys.{entries_of}
-use Rattle.fast_tree.specs.device.NodeData.{node_data, outline}
+use Rattle.fast_tree.specs.meaning.NodeData.{node_data, outline}
 use Rattle.fast_notation.specs.device.WrittenSets.{written_data}
 use Rattle.fast_notation.proofs.building.Builder.build.Given as goal
 

@@ -1,5 +1,5 @@
 use Rattle.std.proofs.Common.{subst, sym, length, map, arith}
-use Rattle.fast_tree.specs.device.Nodes.{field_data}
+use Rattle.fast_tree.specs.meaning.Nodes.{field_data}
 use Rattle.fast_tree.specs.meaning.AsWritten.{scalar}
 use Rattle.fast_notation.specs.meaning.Uses.{IsField}
 use Rattle.fast_notation.specs.device.Built.{data_of, IsReady}

@@ -1,9 +1,9 @@
 use Rattle.std.proofs.Common.{◌<◌, ◌^◌, map, subst, sym, ◌∙◌, arith, inl, inr, Some}
-use Rattle.fast_tree.specs.device.Numbers.{NameLaterNodes}
+use Rattle.fast_tree.specs.meaning.Numbers.{NameLaterNodes}
 use Rattle.fast_notation.specs.device.WrittenSets.{written_data}
 use Rattle.fast_notation.proofs.nodes.BuiltSets.{built_in_preorder, built_names_nodes, built_names_later_nodes, built_distinct_ids, built_few_nodes, built_count}
 use Rattle.fast_notation.proofs.nodes.BuiltUsable.{built_usable}
-use Rattle.fast_tree.specs.device.NodeData.{node_data}
+use Rattle.fast_tree.specs.meaning.NodeData.{node_data}
 use Rattle.fast_tree.specs.device.Usable.{AreUsable}
 use Rattle.fast_notation.proofs.references.Headings.{same_names, same_ids, built_headings}
 use Rattle.std.proofs.lemmas.List.{length-map}

@@ -6,7 +6,7 @@ use Rattle.fast_value.specs.meaning.Kinds.{ScalarData}
 use Rattle.fast_value.specs.meaning.Messages.{ItemData, one}
 use Rattle.fast_value.specs.meaning.Values.{value_data}
 use Rattle.fast_tree.specs.declared.instructions.Shape.TheVariants.{Field, Decimal}
-use Rattle.fast_tree.specs.device.Nodes.{label_of}
+use Rattle.fast_tree.specs.meaning.Nodes.{label_of}
 use Rattle.fast_tree.specs.meaning.Tree.{Instruction}
 use Rattle.fast_template.specs.meaning.Flat.{nodes_of, tree_of, field_data}
 use Rattle.fast_tree.specs.device.Bodies.{instruction_among}

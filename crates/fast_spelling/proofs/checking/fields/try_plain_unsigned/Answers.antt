@@ -4,7 +4,7 @@ use Rattle.std.specs.Prelude.{Bool, true, false, pos, Option, Some, slice_get, i
 use Rattle.std.proofs.lemmas.Option.{slice_get_read}
 use Rattle.std.proofs.lemmas.List.{append-nil, length-map}
 use mathlib.Core.List.{not-mem-nil}
-use Rattle.fast_wire.specs.device.Shortest.{IsShortest}
+use Rattle.fast_wire.specs.meaning.Shortest.{IsShortest}
 use Rattle.fast_value.specs.declared.kinds.Kind.{Kind}
 use Rattle.fast_value.specs.meaning.Kinds.{ScalarData, U, text_of}
 use Rattle.fast_value.specs.meaning.Messages.{ItemData, one}

@@ -3,7 +3,7 @@ use Rattle.std.proofs.Common.{◌≡◌, ◌∙◌, ap, sym, subst}
 use Rattle.std.specs.Prelude.{Some}
 use Rattle.fast_tree.specs.declared.instructions.Node.{Node}
 use Rattle.fast_tree.specs.declared.instructions.Shape.TheVariants.{Field}
-use Rattle.fast_tree.specs.device.Nodes.{label_of}
+use Rattle.fast_tree.specs.meaning.Nodes.{label_of}
 use Rattle.fast_template.specs.meaning.Flat.{nodes_of, tree_of}
 use Rattle.fast_spelling.specs.device.Forms.{IsFieldOf}
 use Rattle.fast_spelling.proofs.encodings.Instructions.{at_shape, short_at, usable_at}

@@ -7,10 +7,10 @@ use Rattle.fast_tree.specs.declared.instructions.Node.{Node}
 use Rattle.fast_tree.specs.declared.instructions.Shape.{Shape}
 use Rattle.fast_tree.specs.declared.instructions.Shape.TheVariants.{Field, Decimal, Group, Sequence}
 use Rattle.fast_tree.specs.declared.operators.Operator.{Operator}
-use Rattle.fast_tree.specs.device.Nodes.{label_of}
-use Rattle.fast_tree.specs.device.NodeData.{shape_data}
-use Rattle.fast_tree.specs.device.Numbers.{numbers_of, AreBetween}
-use Rattle.fast_tree.specs.device.Usable.{IsUsableShape}
+use Rattle.fast_tree.specs.meaning.Nodes.{label_of}
+use Rattle.fast_tree.specs.meaning.NodeData.{shape_data}
+use Rattle.fast_tree.specs.meaning.Numbers.{numbers_of, AreBetween}
+use Rattle.fast_tree.specs.meaning.Usable.{IsUsableShape}
 use Rattle.fast_template.specs.declared.sets.Templates.{Templates}
 use Rattle.fast_template.specs.meaning.Flat.{nodes_of, tree_of}
 use Rattle.fast_spelling.specs.device.Forms.{IsFieldOf}

@@ -3,7 +3,7 @@ use Rattle.std.proofs.Common.{[], ◌∷◌, ap, sym, ◌∙◌}
 use Rattle.std.specs.Prelude.{false, option_map}
 use Rattle.std.proofs.lemmas.List.{append-nil}
 use Rattle.fast_value.specs.meaning.Values.{value_data}
-use Rattle.fast_tree.specs.device.Nodes.{field_data}
+use Rattle.fast_tree.specs.meaning.Nodes.{field_data}
 use Rattle.fast_spelling.proofs.rules.Usual.{default_absent}
 use Rattle.fast_spelling.proofs.quick.absences.write_no_default.Goals as goal
 

@@ -5,7 +5,7 @@ use Rattle.std.specs.Int.{w32, w64}
 use Rattle.std.proofs.lemmas.Int.{to_z-of_z}
 use Rattle.fast_value.specs.meaning.Kinds.{ScalarData, I, Dec}
 use Rattle.fast_value.specs.meaning.Values.{scalar_data}
-use Rattle.fast_tree.specs.device.Nodes.{field_data}
+use Rattle.fast_tree.specs.meaning.Nodes.{field_data}
 use Rattle.fast_spelling.specs.meaning.Encoding.{EncodesField}
 use Rattle.fast_spelling.specs.device.Fields.{Wrote, IsSuited}
 use Rattle.fast_spelling.specs.meaning.Refusals.{RefusesField}

@@ -5,7 +5,7 @@ use Rattle.std.proofs.lemmas.List.{append-nil}
 use Rattle.fast_value.specs.declared.kinds.Kind.{Kind}
 use Rattle.fast_value.specs.meaning.Kinds.{ScalarData, text_of, value_of_text}
 use Rattle.fast_value.specs.meaning.Values.{scalar_data}
-use Rattle.fast_tree.specs.device.Nodes.{field_data}
+use Rattle.fast_tree.specs.meaning.Nodes.{field_data}
 use Rattle.fast_dict.specs.meaning.Dictionary.{assigned, previous_at}
 use Rattle.fast_dict.specs.meaning.Operators.{value}
 use Rattle.fast_dict.specs.meaning.Rule.{Rule, IsTail}

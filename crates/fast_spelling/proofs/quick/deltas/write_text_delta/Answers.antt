@@ -3,7 +3,7 @@ use Rattle.std.proofs.Common.{List, ℕ, subst}
 use Rattle.std.specs.Prelude.{true}
 use Rattle.fast_value.specs.meaning.Kinds.{text_of}
 use Rattle.fast_value.specs.meaning.Values.{scalar_data}
-use Rattle.fast_tree.specs.device.Nodes.{field_data}
+use Rattle.fast_tree.specs.meaning.Nodes.{field_data}
 use Rattle.fast_dict.specs.meaning.Dictionary.{previous_at}
 use Rattle.fast_dict.specs.meaning.Rule.{IsTextDelta}
 use Rattle.fast_dict.specs.meaning.Sending.{sent_data}

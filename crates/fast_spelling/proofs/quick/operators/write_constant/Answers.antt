@@ -1,7 +1,7 @@
 -- Nothing but the initial value can be written.
 use Rattle.std.proofs.Common.{refl}
 use Rattle.fast_value.specs.meaning.Values.{scalar_data}
-use Rattle.fast_tree.specs.device.Nodes.{field_data}
+use Rattle.fast_tree.specs.meaning.Nodes.{field_data}
 use Rattle.fast_dict.specs.meaning.Dictionary.{previous_at}
 use Rattle.fast_spelling.proofs.rules.Usual.{constant_ruled}
 use Rattle.fast_spelling.proofs.quick.operators.write_constant.Goals as goal

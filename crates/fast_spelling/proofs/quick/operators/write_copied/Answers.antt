@@ -4,7 +4,7 @@ use Rattle.std.specs.Prelude.{false, Some}
 use Rattle.std.proofs.lemmas.List.{append-nil}
 use mathlib.Core.List.{not-mem-nil}
 use Rattle.fast_value.specs.meaning.Values.{scalar_data}
-use Rattle.fast_tree.specs.device.Nodes.{field_data}
+use Rattle.fast_tree.specs.meaning.Nodes.{field_data}
 use Rattle.fast_dict.specs.meaning.Dictionary.{assigned}
 use Rattle.fast_spelling.specs.device.Fields.{IsSuited}
 use Rattle.fast_spelling.proofs.rules.Usual.{copy_passed}

@@ -3,7 +3,7 @@ use Rattle.std.proofs.Common.{refl, ap, ◌∙◌, sym}
 use Rattle.fast_value.specs.declared.kinds.Kind.{Kind}
 use Rattle.fast_value.specs.meaning.Kinds.{integer_of, value_of_integer}
 use Rattle.fast_value.specs.meaning.Values.{scalar_data}
-use Rattle.fast_tree.specs.device.Nodes.{field_data}
+use Rattle.fast_tree.specs.meaning.Nodes.{field_data}
 use Rattle.fast_dict.specs.meaning.Dictionary.{previous_at}
 use Rattle.fast_dict.specs.meaning.Operators.{incremented, range_of}
 use Rattle.fast_spelling.proofs.rules.Usual.{step_same, step_other, value_sendable}

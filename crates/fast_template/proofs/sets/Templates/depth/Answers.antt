@@ -2,7 +2,7 @@ use Rattle.std.proofs.Common.{◌≡◌, ◌≤◌, ap, sym, ◌∙◌, refl, su
 use Rattle.std.proofs.Math.Nat.{min-eq_left, le_trans}
 use Rattle.std.proofs.lemmas.Option.{slice_get_read}
 use Rattle.fast_template.specs.meaning.Flat.{tree_of, body_of, instructions_from}
-use Rattle.fast_tree.specs.device.Numbers.{AreBelow}
+use Rattle.fast_tree.specs.meaning.Numbers.{AreBelow}
 use Rattle.fast_template.specs.device.Saturation.{in_32_bits}
 use Rattle.fast_tree.specs.meaning.Sizes.{body_depth, set_depth}
 use Rattle.fast_template.proofs.CapBounds.{few_levels}

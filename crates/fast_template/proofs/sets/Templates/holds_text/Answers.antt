@@ -1,7 +1,7 @@
 use Rattle.std.proofs.Common.{sym, refl, subst}
 use Rattle.std.proofs.lemmas.Bool.{false≢true}
 use Rattle.std.proofs.lemmas.List.Elements.{All-more}
-use Rattle.fast_template.specs.device.TextFields.{IsTextNode}
+use Rattle.fast_template.specs.meaning.TextFields.{IsTextNode}
 use Rattle.fast_notation.proofs.lists.Lists.{all_taken}
 use Rattle.fast_template.proofs.TextNodes.{holds_as_nodes, nodes_as_holds}
 use Rattle.fast_template.proofs.sets.Templates.holds_text.Goals as goal

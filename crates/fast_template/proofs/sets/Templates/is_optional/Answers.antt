@@ -3,7 +3,7 @@ use Rattle.std.proofs.Common.{◌≡◌, ℕ, List, Some, refl, length, subst}
 use Rattle.std.specs.Prelude.{Bool, slice_get}
 use Rattle.std.proofs.lemmas.Option.{slice_get_read}
 use Rattle.fast_tree.specs.declared.instructions.Node.{Node}
-use Rattle.fast_template.specs.device.Presence.{may_be_absent}
+use Rattle.fast_template.specs.meaning.Presence.{may_be_absent}
 use Rattle.fast_template.proofs.sets.Templates.is_optional.Goals as goal
 
 -- what is known of the node that is looked at is known of the one that stands there

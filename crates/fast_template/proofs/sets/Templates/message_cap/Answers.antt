@@ -2,7 +2,7 @@ use Rattle.std.proofs.Common.{◌≡◌, ◌<◌, ℕ, min, ap, sym, ◌∙◌, 
 use Rattle.std.proofs.Math.Nat.{min-eq_left}
 use Rattle.std.proofs.lemmas.Option.{slice_get_read}
 use Rattle.fast_template.specs.meaning.Flat.{tree_of, body_of, instructions_from}
-use Rattle.fast_tree.specs.device.Numbers.{AreBelow}
+use Rattle.fast_tree.specs.meaning.Numbers.{AreBelow}
 use Rattle.fast_template.specs.device.Counts.{AreCountsOfBody}
 use Rattle.fast_tree.specs.meaning.Sizes.{event_weights, product_cap, sum_cap}
 use Rattle.fast_template.proofs.CapBounds.{sum_cap_fits}

@@ -1,7 +1,7 @@
 use Rattle.std.proofs.Common.{◌≡◌, ◌<◌, List, refl, sym, subst, length, slice_get, Some}
 use Rattle.std.proofs.lemmas.Option.{slice_get_read}
 use Rattle.fast_tree.specs.declared.instructions.Node.{Node}
-use Rattle.fast_tree.specs.device.NodeData.{shape_data}
+use Rattle.fast_tree.specs.meaning.NodeData.{shape_data}
 use Rattle.fast_template.proofs.UsableFields.{usable_shape}
 use Rattle.fast_template.proofs.sets.Templates.node.Goals as goal
 

@@ -4,7 +4,7 @@ use Rattle.toml.specs.Parse.{parse_document}
 use Rattle.fast_tree.specs.declared.instructions.Node.{Node}
 use Rattle.fast_tree.specs.declared.instructions.Template.{Template}
 use Rattle.fast_tree.specs.device.Bodies.{AreNodeWidths, AreTemplateWidths}
-use Rattle.fast_tree.specs.device.Numbers.{NameNodes, NameLaterNodes}
+use Rattle.fast_tree.specs.meaning.Numbers.{NameNodes, NameLaterNodes}
 use Rattle.fast_program.specs.declared.programs.Program.{Program}
 use Rattle.fast_program.specs.device.Programs.{IsProgramOf}
 use Rattle.fast_template.proofs.NoMemory.{memory_fault, memory_first}

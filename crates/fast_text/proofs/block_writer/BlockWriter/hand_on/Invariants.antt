@@ -1,6 +1,6 @@
 use Rattle.std.proofs.Common.{◌-◌, ◌≡◌, []}
 use Rattle.fast_text.specs.meaning.Streams.{Appends}
-use Rattle.fast_text.specs.device.BlockWriter.{target_of, with_kept}
+use Rattle.fast_text.specs.meaning.BlockWriter.{target_of, with_kept}
 use Rattle.fast_text.proofs.block_writer.BlockWriter.hand_on.Given as goal
 
 abbrev pub invariant-loop-self : goal.invariant-loop-self

@@ -1,6 +1,6 @@
 use Rattle.std.proofs.Common.{◌≡◌, ℕ, List, ◌∷◌, ◌++◌, length, flat_map}
 use Rattle.fast_lines.specs.meaning.Lines.{escaped}
-use Rattle.fast_text.specs.device.LineWriter.{Writes}
+use Rattle.fast_text.specs.meaning.LineWriter.{Writes}
 use Rattle.fast_text.proofs.line_writer.LineWriter.put_quoted.Given as goal
 
 abbrev pub invariant-loop-rest : goal.invariant-loop-rest

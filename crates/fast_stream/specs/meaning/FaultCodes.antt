@@ -1,6 +1,6 @@
 -- The numbers and the names of why a decoder stops, and the numbers of why none is made.
 use Rattle.std.specs.Prelude.{ℕ, List, codes}
-use Rattle.fast_value.specs.device.Codes.{stream_code_number, stream_code_text}
+use Rattle.fast_value.specs.meaning.Codes.{stream_code_number, stream_code_text}
 use Rattle.fast_stream.specs.declared.faults.FaultCode.{FaultCode}
 use Rattle.fast_stream.specs.declared.faults.FaultCode.TheVariants.{Stream, L4, SinkStopped}
 use Rattle.fast_stream.specs.declared.faults.MakeError.{MakeError}

@@ -3,7 +3,7 @@ use Rattle.std.specs.Prelude.{◌≡◌, ◌⊎◌, ℕ, ◌<◌, List, length, 
 use Rattle.fast_value.specs.meaning.Kinds.{ScalarData, family, texts, text_of}
 use Rattle.fast_tree.specs.declared.instructions.Node.{Node}
 use Rattle.fast_tree.specs.meaning.Tree.{FieldData}
-use Rattle.fast_tree.specs.device.NodeData.{ShapeData, a_field, a_decimal, a_group, a_sequence, shape_data}
+use Rattle.fast_tree.specs.meaning.NodeData.{ShapeData, a_field, a_decimal, a_group, a_sequence, shape_data}
 use Rattle.fast_dict.specs.meaning.Stores.{IsText}
 
 -- one of the fields of a shape is so

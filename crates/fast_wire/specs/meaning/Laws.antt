@@ -2,8 +2,8 @@
 use Rattle.std.specs.Prelude.{◌≡◌, ℕ, ◌≤◌, ◌<◌, Bool, true, false, List, [], ◌++◌, length, slice_index_or, All, ℤ, Option, IfSome}
 use Rattle.fast_wire.specs.meaning.Entities.{HaveNoStop, IsEntity}
 use Rattle.fast_wire.specs.meaning.Integers.{Range, IsWithin, SpellsInt}
-use Rattle.fast_wire.specs.device.Shortest.{IsShortest}
-use Rattle.fast_wire.specs.device.Faulty.{IsWrongInt}
+use Rattle.fast_wire.specs.meaning.Shortest.{IsShortest}
+use Rattle.fast_wire.specs.meaning.Faulty.{IsWrongInt}
 use Rattle.fast_wire.specs.meaning.Maps.{bits, IsMap, bytes_for}
 use Rattle.fast_wire.specs.declared.reads.WireFault.{WireFault}
 

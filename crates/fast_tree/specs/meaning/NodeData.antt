@@ -5,7 +5,7 @@ use Rattle.fast_tree.specs.declared.instructions.Shape.TheVariants.{Field, Decim
 use Rattle.fast_tree.specs.declared.instructions.Node.{Node}
 use Rattle.fast_tree.specs.declared.instructions.Template.{Template}
 use Rattle.fast_tree.specs.meaning.Tree.{FieldData, Label, Instruction, field, parts, group, sequence, TemplateData}
-use Rattle.fast_tree.specs.device.Nodes.{field_data, body_of}
+use Rattle.fast_tree.specs.meaning.Nodes.{field_data, body_of}
 use Rattle.std.specs.Prelude.{Option}
 
 -- what a shape holds: bodies are lists of node numbers

@@ -42,3 +42,7 @@ instructions_from own (n ∷ ns) = instruction_of (label_of own n) (suc own) (in
 -- a template with its instructions
 abbrev pub template_data : List Instruction → Template → TemplateData
 template_data is t = record { name = string_bytes t.name; id = t.id; reset = t.reset; body = body_of 0 is t.body.items }
+
+-- the body of nodes of a set
+abbrev pub body_among : List Node → List ℕ → Body
+body_among nodes ns = body_of 0 (instructions_from 0 nodes) ns

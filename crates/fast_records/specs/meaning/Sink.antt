@@ -3,7 +3,8 @@ use Rattle.std.specs.Prelude.{◌≡◌, ◌<◌, List, [], ◌∷◌, ◌++◌}
 use Rattle.fast_stream.specs.meaning.Events.{EventData}
 use Rattle.fast_records.specs.declared.room.Room.{Room}
 use Rattle.fast_records.specs.declared.sink.RecordSink.{RecordSink}
-use Rattle.fast_records.specs.device.Waiting.{pending, Holds}
+use Rattle.fast_records.specs.device.Waiting.{Holds}
+use Rattle.fast_records.specs.meaning.Waiting.{pending}
 
 -- the buffers of a sink, and how much of them is filled
 abbrev pub room_of : RecordSink → Room

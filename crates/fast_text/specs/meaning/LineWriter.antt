@@ -3,7 +3,7 @@ use Rattle.std.specs.Prelude.{◌≡◌, ◌⊎◌, ℕ, Bool, true, false, IsTr
 use Rattle.std.specs.Borrow.{MutBor}
 use Rattle.fast_text.specs.declared.streams.Failed.{Failed}
 use Rattle.fast_text.specs.declared.line_writer.LineWriter.{LineWriter}
-use Rattle.fast_text.specs.device.Room.{kept_in}
+use Rattle.fast_text.specs.meaning.Room.{kept_in}
 use Rattle.fast_text.specs.meaning.Streams.{Appends, AppendsFront}
 
 -- Where a writer is: what its target holds, whether the target has failed, what is kept, and whether the writer still writes.

@@ -1,2 +1,0 @@
--- Devices of contracts within the crates and of proofs: invariants, models of state, relations in between.
-pub mod Listening
