@@ -20,6 +20,7 @@ use fast_stream::{Fault, FaultCode, MakeError, Sink};
 use fast_template::Templates;
 use fast_value::{Limits, MAX_TEXT, MIN_TEXT};
 use std::alloc::Global;
+use std::fmt;
 use std::marker::Model;
 
 /// Decodes a stream of FAST messages that comes in pieces, cut anywhere. All its memory is taken when it is made.
@@ -53,6 +54,17 @@ impl<'t> Model for Decoder<'t> {
       consumed = d.consumed;
       fault = d.fault;
     }) };
+}
+
+/// Its limits, how many bytes it has consumed, and the fault at which it stopped.
+impl<'t> fmt::Debug for Decoder<'t> {
+    fn fmt<W: fmt::Write>(&self, f: &mut fmt::Formatter<W>) -> fmt::Result {
+        f.debug_struct("Decoder")
+            .field("limits", &self.limits)
+            .field("consumed", &self.consumed)
+            .field("fault", &self.fault)
+            .finish_non_exhaustive()
+    }
 }
 
 impl<'t> Decoder<'t> {

@@ -2,6 +2,7 @@
 #![tactic(auto)]
 
 pub mod decoder;
+pub mod laws;
 pub mod recorder;
 
 pub use decoder::Decoder;

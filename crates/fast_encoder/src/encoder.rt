@@ -26,6 +26,7 @@ use fast_spelling::suiting::suits_body;
 use fast_template::{Template, Templates};
 use fast_value::{Limits, MAX_TEXT, MIN_TEXT, Message};
 use std::alloc::Global;
+use std::fmt;
 use std::marker::Model;
 
 /// Encodes messages, one after the other, each from the dictionary that the one before has left.
@@ -48,6 +49,15 @@ impl<'t> Model for Encoder<'t> {
     } };
 
     ghost invariant = { λ e. IsSound e.plan.templates.now e.plan.limits e.work.ledger };
+}
+
+/// Its limits. Its dictionary is left out.
+impl<'t> fmt::Debug for Encoder<'t> {
+    fn fmt<W: fmt::Write>(&self, f: &mut fmt::Formatter<W>) -> fmt::Result {
+        f.debug_struct("Encoder")
+            .field("limits", &self.plan.limits)
+            .finish_non_exhaustive()
+    }
 }
 
 impl<'t> Encoder<'t> {

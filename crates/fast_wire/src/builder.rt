@@ -5,6 +5,7 @@ ghost use Rattle.fast_wire.specs.meaning.Maps.{bits, IsMap};
 
 use crate::maps::MAP_LIMIT;
 use arrayvec::ArrayVec;
+use std::fmt;
 use std::marker::Model;
 
 /// The bits of a presence map, none of which is set at first: a contract sees them as a list of 1,022.
@@ -25,6 +26,15 @@ impl Model for MapBuilder {
     ghost view = { λ b. bits b.cells };
 
     ghost invariant = { λ b. IsBuilt b.cells b.len };
+}
+
+/// The bytes of the map so far, without the stop bit.
+impl fmt::Debug for MapBuilder {
+    fn fmt<W: fmt::Write>(&self, f: &mut fmt::Formatter<W>) -> fmt::Result {
+        f.debug_struct("MapBuilder")
+            .field("bytes", &&self.cells[..self.len])
+            .finish()
+    }
 }
 
 impl MapBuilder {

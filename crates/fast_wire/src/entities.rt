@@ -18,7 +18,7 @@ pub enum Step {
 }
 
 /// The bytes of one stop-bit entity as they come, at most ten: a contract sees them as a list.
-#[derive(Drop)]
+#[derive(Debug, Drop)]
 pub struct Entity {
     bytes: ArrayVec<u8, 10>,
 }

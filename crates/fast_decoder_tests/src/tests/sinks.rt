@@ -10,7 +10,7 @@ use super::{
 use fast_decoder::{Decoder, Event, Fault, FaultCode, Recorded, Sink};
 use fast_template::{Templates, VECTORS};
 use fast_value::Code;
-use std::alloc::Global;
+use std::alloc::{AllocError, Global};
 use std::process::Abort;
 use std::test::Fail;
 
@@ -143,10 +143,20 @@ fn is_stopped_by_a_claim(decoder: &mut Decoder<'_>) -> bool {
 const A_FIRST_MESSAGE: &str =
     "a message as of a new decoder | lenient | C0 81 39 45 A3 | m0 u0=942755 /m | between";
 
+/// A decoder that has stopped, as `Debug` writes it.
+const STOPPED: &str = "Decoder { limits: Limits { strict: false, max_text: 1024, max_elements: 1000, max_total: 1000 }, consumed: 7, fault: Some(Fault { code: Stream(L2), place: 7 }), .. }";
+
+/// What `Debug` writes.
+fn debug_of(alloc: Global, decoder: &Decoder<'_>) -> Result<String, AllocError> {
+    format!(in alloc; "{decoder:?}")
+}
+
 /// A claim of too many elements stops the decoder, until it is reset.
 pub fn expect_stays(rt: &impl Abort, alloc: Global, decoder: &mut Decoder<'_>) -> Result<(), Fail> {
     let is_stopped = is_stopped_by_a_claim(decoder);
     expect(rt, is_stopped, "a claim", 0);
+    let text = debug_of(alloc, decoder)?;
+    expect(rt, text.as_str() == STOPPED, "as Debug writes it", text.len());
     expect_line(rt, alloc, decoder, A_FIRST_MESSAGE)
 }
 

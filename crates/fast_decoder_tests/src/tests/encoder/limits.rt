@@ -3,7 +3,7 @@
 use super::super::set_of;
 use super::{LENIENT, encoder_of, expect, expect_rows};
 use fast_decoder::MakeError;
-use fast_encoder::EncodeFault;
+use fast_encoder::{EncodeFault, Encoder};
 use fast_template::VECTORS;
 use fast_value::Limits;
 use std::alloc::{AllocError, Global};
@@ -58,6 +58,23 @@ fn the_length_of_texts_has_bounds(rt: HostRuntime) -> Result<(), Fail> {
     for row in MADE {
         expect_made(&rt, rt.alloc(), row)?;
     }
+    Ok(())
+}
+
+/// An encoder as `Debug` writes it.
+const ENCODER: &str = "Encoder { limits: Limits { strict: false, max_text: 1024, max_elements: 1000, max_total: 1000 }, .. }";
+
+/// What `Debug` writes.
+fn debug_of(alloc: Global, encoder: &Encoder<'_>) -> Result<String, AllocError> {
+    format!(in alloc; "{encoder:?}")
+}
+
+#[test]
+fn debug_writes_the_limits(rt: HostRuntime) -> Result<(), Fail> {
+    let set = set_of(rt.alloc(), VECTORS)?;
+    let encoder = encoder_of(rt.alloc(), &set, LENIENT)?;
+    let text = debug_of(rt.alloc(), &encoder)?;
+    expect(&rt, text.as_str() == ENCODER, "an encoder", text.as_str());
     Ok(())
 }
 

@@ -1,8 +1,13 @@
 //! Stop bits and presence maps.
 
 use super::{entity, expect, expect_each};
-use fast_wire::{MAP_LIMIT, MapBuilder, MapStep, find_stop, map_bit, map_overlong, map_push};
+use fast_wire::{
+    Entity, MAP_LIMIT, MapBuilder, MapStep, find_stop, map_bit, map_overlong, map_push,
+    write_unsigned,
+};
+use std::alloc::{AllocError, Global};
 use std::process::Abort;
+use std::test::Fail;
 
 /// The first stop bit of the bytes is in this one.
 fn expect_stop(rt: &impl Abort, bytes: &[u8], want: Option<usize>) {
@@ -65,4 +70,24 @@ fn maps(rt: HostRuntime) {
         overlong(&[0x00, 0xc0]) == Some(false),
     ];
     expect_each(&rt, &are_right, map);
+}
+
+/// An entity and a map in the making as `Debug` writes them.
+fn debug_of(
+    alloc: Global,
+    entity: &Entity,
+    builder: &MapBuilder,
+) -> Result<String, AllocError> {
+    format!(in alloc; "{entity:?}, {builder:?}")
+}
+
+#[test]
+fn debug_writes_the_bytes(rt: HostRuntime) -> Result<(), Fail> {
+    let mut builder = MapBuilder::new();
+    builder.set(0);
+    builder.set(8);
+    let text = debug_of(rt.alloc(), &write_unsigned(942_755), &builder)?;
+    let want = "Entity { bytes: [57, 69, 163] }, MapBuilder { bytes: [64, 32] }";
+    expect(&rt, text.as_str() == want, "as Debug writes it", text.as_bytes());
+    Ok(())
 }
