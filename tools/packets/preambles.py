@@ -1,0 +1,139 @@
+"""What exchanges put in front of messages: lengths, sequence numbers, chunks."""
+
+from __future__ import annotations
+
+import re
+from dataclasses import dataclass, field
+
+# The most that is gathered of one packet.
+MOST = 1 << 20
+# How many flows have chunks that wait.
+FLOWS = 1024
+# In front of B3's messages: the number, how many chunks it has, which one this is, from 1, and how many bytes are behind it.
+B3_HEAD = 10
+
+
+@dataclass
+class Packet:
+    """Bytes of messages, and what is said of them: what was missing in front, the sequence number, and what is wrong."""
+
+    time: int | None
+    flow: tuple
+    data: bytes = b""
+    sequence: int | None = None
+    gap: int = 0
+    wrong: str = ""
+    is_stream: bool = False
+    ends: bool = False
+
+
+def number_in(text):
+    """How a number is written, such as be4: the order of its bytes and how many there are."""
+    found = re.fullmatch(r"(be|le)([1-8])", text)
+    if not found:
+        raise ValueError
+    return "big" if found[1] == "be" else "little", int(found[2])
+
+
+@dataclass
+class Preamble:
+    """What stands in front of messages: a length, bytes of which the first are a sequence number, or the head of B3."""
+
+    length: tuple | None = None
+    skip: int = 0
+    sequence: tuple | None = None
+    is_b3: bool = False
+    kept: dict = field(default_factory=dict)
+
+    def packets(self, piece):
+        """The packets that are whole with a piece."""
+        if not self.length:
+            yield from self.bare(piece)
+            return
+        if piece.gap:
+            yield from self.unfinished(piece)
+        kept = self.kept.setdefault(piece.flow, bytearray()) if piece.is_stream else bytearray()
+        kept += piece.data
+        yield from self.framed(piece, kept)
+        if kept and (piece.ends or not piece.is_stream or len(piece.data) < piece.sent):
+            yield self.cut(piece, kept)
+        if piece.ends:
+            self.kept.pop(piece.flow, None)
+
+    def unfinished(self, piece):
+        """A gap comes: what has begun is not ended any more."""
+        kept = self.kept.pop(piece.flow, b"")
+        wrong = f"damaged length {self.due(kept)} of {len(kept)}" if kept else ""
+        yield Packet(piece.time, piece.flow, gap=piece.gap, wrong=wrong)
+
+    def due(self, kept):
+        """How many bytes a packet has with its length, or the length has."""
+        order, size = self.length
+        return size if len(kept) < size else size + int.from_bytes(kept[:size], order)
+
+    def framed(self, piece, kept):
+        """Takes the packets that are whole from what is kept."""
+        order, size = self.length
+        while len(kept) >= size and self.due(kept) <= min(len(kept), MOST):
+            due = self.due(kept)
+            yield self.headed(piece, bytes(kept[size:due]))
+            del kept[:due]
+        if len(kept) >= size and self.due(kept) > MOST:
+            yield Packet(piece.time, piece.flow, wrong=f"damaged length {self.due(kept)} of {len(kept)}")
+            kept.clear()
+
+    def cut(self, piece, kept):
+        wrong = f"damaged length {self.due(kept)} of {len(kept)}"
+        kept.clear()
+        return Packet(piece.time, piece.flow, wrong=wrong)
+
+    def bare(self, piece):
+        """The packet of a piece without a length."""
+        is_cut = f"cut {len(piece.data)} of {piece.sent}" if len(piece.data) < piece.sent else ""
+        if self.is_b3:
+            yield from self.chunks(piece, is_cut)
+            return
+        it = self.headed(piece, piece.data)
+        it.wrong, it.gap, it.is_stream, it.ends = it.wrong or is_cut, piece.gap, piece.is_stream, piece.ends
+        yield it
+
+    def headed(self, piece, data):
+        """A packet without its preamble, whose first bytes may be a sequence number."""
+        if len(data) < self.skip:
+            return Packet(piece.time, piece.flow, wrong=f"damaged preamble {len(data)} of {self.skip}")
+        number = int.from_bytes(data[: self.sequence[1]], self.sequence[0]) if self.sequence else None
+        return Packet(piece.time, piece.flow, data[self.skip :], number)
+
+    def chunks(self, piece, is_cut):
+        """The message of which this is the last chunk; a message whose chunks are not all there is named."""
+        head, data = piece.data[:B3_HEAD], piece.data[B3_HEAD:]
+        if len(head) < B3_HEAD:
+            yield Packet(piece.time, piece.flow, wrong=is_cut or f"damaged preamble {len(head)} of {B3_HEAD}")
+            return
+        number, many, which, length = (int.from_bytes(head[a:b], "big") for a, b in ((0, 4), (4, 6), (6, 8), (8, 10)))
+        kept = self.kept.get(piece.flow)
+        if kept and kept[:2] != (number, many):
+            yield self.without_chunks(piece, piece.flow)
+        wrong = is_cut or (f"damaged length {length} of {len(data)}" if length != len(data) else "")
+        if wrong or many <= 1:
+            yield Packet(piece.time, piece.flow, data, number, wrong=wrong)
+            return
+        if len(self.kept) >= FLOWS and piece.flow not in self.kept:
+            yield self.without_chunks(piece, next(iter(self.kept)))
+        _, _, found = self.kept.setdefault(piece.flow, (number, many, {}))
+        found[which] = data
+        if all(it in found for it in range(1, many + 1)):
+            del self.kept[piece.flow]
+            yield Packet(piece.time, piece.flow, b"".join(found[it] for it in range(1, many + 1)), number)
+        elif sum(map(len, found.values())) > MOST:
+            yield self.without_chunks(piece, piece.flow)
+
+    def without_chunks(self, piece, flow):
+        """A message of a flow that will not be whole."""
+        number, many, found = self.kept.pop(flow)
+        return Packet(piece and piece.time, flow, sequence=number, wrong=f"damaged chunks {len(found)} of {many}")
+
+    def last(self):
+        """What was not whole when there are no more pieces."""
+        for flow in list(self.kept) if self.is_b3 else ():
+            yield self.without_chunks(None, flow)

@@ -1,0 +1,127 @@
+"""Packets as lines, through the library."""
+
+from __future__ import annotations
+
+import datetime
+import os
+import sys
+
+from captures import Failed
+from layers import named
+
+TOP = os.path.dirname(os.path.dirname(os.path.dirname(os.path.realpath(__file__))))
+sys.path.insert(0, f"{TOP}/bindings/python")
+import fast
+from lines import Lines
+
+LIBRARY = f"{TOP}/crates/fast_c/out/libfast_c.so"
+SECOND = 10**9
+# How many streams have a decoder at a time, and how many records are asked for at once.
+DECODERS, RECORDS = 256, 4096
+
+
+def library(path):
+    """The shared library of a path; where there is none, how to make it."""
+    path = path or os.environ.get("FAST_LIBRARY") or LIBRARY
+    if not os.path.exists(path):
+        archive, heap = (os.path.relpath(f"{TOP}/{it}") for it in ("crates/fast_c/out/libfast_c.a", "include/heap.c"))
+        link = f"cc -shared -fPIC -o {os.path.relpath(path)} -Wl,--whole-archive {archive} -Wl,--no-whole-archive {heap}"
+        raise Failed(3, f"{os.path.relpath(path)} is not there: make it by {os.path.relpath(f'{TOP}/tools/library')} fast_c && {link}")
+    try:
+        return fast.Library(os.path.abspath(path))
+    except (OSError, AttributeError, ImportError) as error:
+        raise Failed(3, f"{path}: {error}") from error
+
+
+def template_set(of, path):
+    """The template set of a file."""
+    try:
+        with open(path, "rb") as it:
+            text = it.read(16 * 1024 * 1024 + 1)
+    except OSError as error:
+        raise Failed(3, f"{path}: {error.strerror}") from error
+    if text.lstrip(b"\xef\xbb\xbf \t\r\n").startswith(b"<"):
+        raise Failed(2, f"{path}: XML, of which tools/from_xml/run makes a template text")
+    try:
+        return of.set(text.decode())
+    except UnicodeDecodeError as error:
+        raise Failed(2, f"{path}: byte {error.start} is no UTF-8: give a template text, as tools/from_xml/run makes it") from error
+    except fast.Error as error:
+        raise Failed(2, f"{path}: {error.words} (fastcat check --explain {path} says where)") from error
+
+
+def when(time):
+    """A time in words, in nanoseconds; of packets without one a dash."""
+    if time is None:
+        return "-"
+    seconds, parts = divmod(time, SECOND)
+    try:
+        day = datetime.datetime.fromtimestamp(seconds, datetime.timezone.utc).strftime("%Y-%m-%dT%H:%M:%S")
+    except (ValueError, OverflowError, OSError):
+        day = str(seconds)
+    return f"{day}.{parts:09}Z"
+
+
+class Shown:
+    """Shows packets: a line for each, what its messages come to, and what is wrong with it."""
+
+    def __init__(self, words):
+        self.names = template_set(library(words.library), words.files[0])
+        self.limits = {"strict": words.strict, "max_text": words.max_text, "max_elements": words.max_elements, "max_total": words.max_total}
+        self.is_afresh, self.is_wrong, self.lines, self.decoders = words.reset == "always", False, Lines(self.names), {}
+        self.decoder(None)
+
+    def decoder(self, flow):
+        """The decoder of a flow, or of all where each packet begins anew; of too many the oldest is closed."""
+        flow = None if self.is_afresh else flow
+        if flow not in self.decoders:
+            if len(self.decoders) >= DECODERS:
+                self.decoders.pop(next(iter(self.decoders))).close()
+            try:
+                self.decoders[flow] = self.names.decoder(records=RECORDS, **self.limits)
+            except fast.Error as error:
+                raise Failed(2, f"limits: {error.words}") from error
+        return self.decoders[flow]
+
+    def wrong(self, words):
+        self.is_wrong = True
+        return f"{words}\n".encode()
+
+    def texts(self, number, packet):
+        """What is written of a packet, line by line."""
+        sequence = "-" if packet.sequence is None else packet.sequence
+        yield f"packet {number} {when(packet.time)} {named(packet.flow)} {sequence}\n".encode()
+        decoder = self.decoder(packet.flow)
+        if packet.gap:
+            yield self.wrong(f"gap {packet.gap}")
+            decoder.reset()
+        yield from self.messages(decoder, packet)
+        if packet.wrong:
+            yield self.wrong(packet.wrong)
+
+    def messages(self, decoder, packet):
+        """The lines of a packet's messages, and behind them that of a fault or of a cut. A packet of a stream may end anywhere."""
+        if self.is_afresh:
+            decoder.reset()
+        begun, fault = 0 if packet.is_stream else decoder.consumed, None
+        try:
+            for event in decoder.feed(packet.data):
+                yield self.lines.line(*event)
+        except fast.Error as error:
+            if not error.code:
+                raise Failed(3, error.words) from error
+            fault = f"fault {error.code} at {error.place - begun}"
+        if not fault and not decoder.between and (self.is_afresh or not packet.is_stream):
+            fault = f"truncated at {decoder.consumed - begun}"
+        if fault:
+            decoder.reset()
+            yield self.wrong(fault)
+
+    def end(self, packet):
+        """What is written where a stream ends: nothing, but where that is inside a message."""
+        decoder = None if self.is_afresh else self.decoders.pop(packet.flow, None)
+        if not decoder:
+            return b""
+        said = b"" if decoder.between else self.wrong(f"truncated at {decoder.consumed}")
+        decoder.close()
+        return said and f"packet - {when(packet.time)} {named(packet.flow)} -\n".encode() + said
