@@ -7,3 +7,10 @@ pub mod Faults
 pub mod Limits
 pub mod Lines
 pub mod Spelled
+pub mod Texts
+pub mod Asked
+pub mod Refusals
+pub mod Encodings
+pub mod Wide
+pub mod Initials
+pub mod Conversions

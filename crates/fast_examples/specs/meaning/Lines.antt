@@ -1,18 +1,21 @@
--- The lines of a message, as a statement.
+-- The lines of messages, as statements.
 use Rattle.std.specs.Prelude.{◌≡◌, ℕ, List, [], ◌∷◌, ◌++◌, codes, flat_map}
+use Rattle.fast_value.specs.meaning.Kinds.{U}
 use Rattle.fast_lines.specs.meaning.Lines.{lines}
+use Rattle.fast_messages.specs.meaning.Reading.{Says}
 use Rattle.fast_examples.specs.meaning.Vectors.{vectors}
 use Rattle.fast_examples.specs.meaning.Messages.{nested_events}
+use Rattle.fast_examples.specs.meaning.Asked.{message, only}
+use Rattle.fast_examples.specs.meaning.Encodings.{nested}
 
 -- a line with its line feed
 abbrev pub with_lf : List ℕ → List ℕ
 with_lf text = text ++ 0x0A ∷ []
 
--- the lines of the nested message
-abbrev pub NestedLines : Type 0
-NestedLines =
-    lines vectors nested_events
-    ≡ flat_map with_lf
+-- the text of the nested message
+abbrev pub nested_text : List ℕ
+nested_text =
+    flat_map with_lf
     (codes "message T15"
     ∷ codes "field 15 x u 5"
     ∷ codes "group 16 g"
@@ -30,3 +33,13 @@ NestedLines =
     ∷ codes "end sequence"
     ∷ codes "end message"
     ∷ [])
+
+-- these are the lines of its events
+abbrev pub NestedLines : Type 0
+NestedLines = lines vectors nested_events ≡ nested_text
+
+-- They say the message. So do lines of which the last has no line feed.
+abbrev pub LinesSaid : Type 0
+LinesSaid =
+    Says vectors nested_text (nested ∷ [])
+    × Says vectors (codes "message T1\nfield 0 x u 942755\nend message") (message 0 (only (U 942755)) ∷ [])
