@@ -1,2 +1,3 @@
+pub mod Able
 pub mod Answered
 pub mod ReadBack

@@ -2,3 +2,4 @@ mod terms
 mod messages
 pub mod nodes
 mod fields
+pub mod settling

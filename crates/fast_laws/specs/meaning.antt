@@ -5,3 +5,4 @@ pub mod Nesting
 pub mod Counting
 pub mod Raising
 pub mod Items
+pub mod Settling

@@ -1,17 +1,18 @@
 //! The laws. They speak of the definitions alone, over all sets, limits and bytes.
 
-ghost use Rattle.std.specs.Prelude.{◌≡◌, ◌≤◌, ◌<◌, ◌+◌, ◌⊎◌, ◌↔◌, [], Bool, Option, ◌++◌, ◌∷◌, true, List, ℕ, All};
+ghost use Rattle.std.specs.Prelude.{◌≡◌, ◌≢◌, ◌≤◌, ◌<◌, ◌+◌, ◌⊎◌, ◌↔◌, [], Bool, Option, None, ◌++◌, ◌∷◌, true, false, length, List, ℕ, All};
 ghost use Rattle.toml.specs.Data.{Members};
 ghost use Rattle.fast_value.specs.declared.codes.Code.{Code};
 ghost use Rattle.fast_value.specs.declared.settings.Limits.{Limits};
 ghost use Rattle.fast_value.specs.meaning.Kinds.{ScalarData};
 ghost use Rattle.fast_value.specs.meaning.Limits.{bounds};
 ghost use Rattle.fast_value.specs.meaning.Messages.{MessageData, total};
+ghost use Rattle.fast_tree.specs.declared.operators.Operator.TheVariants.{Copy};
 ghost use Rattle.fast_tree.specs.meaning.Tree.{FieldData, Tree};
 ghost use Rattle.fast_notation.specs.meaning.Checked.{IsTree};
 ghost use Rattle.fast_template.specs.declared.sets.Templates.{Templates};
 ghost use Rattle.fast_template.specs.meaning.Flat.{nodes_of, tree_of};
-ghost use Rattle.fast_dict.specs.meaning.Dictionary.{PreviousData};
+ghost use Rattle.fast_dict.specs.meaning.Dictionary.{Dictionary, PreviousData, fresh};
 ghost use Rattle.fast_dict.specs.meaning.EntryTexts.{HasLongInitial};
 ghost use Rattle.fast_stream.specs.meaning.Events.{EventData, SequenceStart, events};
 ghost use Rattle.fast_stream.specs.meaning.Fields.{field_phrase};
@@ -19,14 +20,20 @@ ghost use Rattle.fast_stream.specs.meaning.Grammar.{phrase_of};
 ghost use Rattle.fast_stream.specs.meaning.Messages.{State, Found, field_in};
 ghost use Rattle.fast_stream.specs.meaning.Phrases.{whole};
 ghost use Rattle.fast_stream.specs.meaning.Streams.{End, faulted, Stream};
+ghost use Rattle.fast_spelling.specs.declared.faults.EncodeFault.{EncodeFault};
+ghost use Rattle.fast_spelling.specs.declared.faults.EncodeFault.TheVariants.{E3, R9};
 ghost use Rattle.fast_spelling.specs.meaning.Again.{IsGrantedTree};
-ghost use Rattle.fast_spelling.specs.meaning.Suiting.{SuitsTemplate};
+ghost use Rattle.fast_spelling.specs.meaning.Encoding.{EncodesMessage};
+ghost use Rattle.fast_spelling.specs.meaning.Refusals.{IsRefused};
+ghost use Rattle.fast_spelling.specs.meaning.Refused.{ascii_field, set_of, wide};
+ghost use Rattle.fast_spelling.specs.meaning.Suiting.{IsKnown, SuitsTemplate, FitsLimits};
 ghost use Rattle.fast_laws.specs.meaning.Counting.{counted, AreFew, HasFew};
 ghost use Rattle.fast_laws.specs.meaning.Items.{IsByItem, SpellsFound};
 ghost use Rattle.fast_laws.specs.meaning.Naming.{IsNamed};
 ghost use Rattle.fast_laws.specs.meaning.Nesting.{AreNested};
 ghost use Rattle.fast_laws.specs.meaning.Proper.{AreOfMessages};
 ghost use Rattle.fast_laws.specs.meaning.Raising.{IsOtherEnd, IsPassed, is_count_code, with_room};
+ghost use Rattle.fast_laws.specs.meaning.Settling.{CanEncode, HasEncoding, text_message};
 
 /// A set that was read, under limits that no initial text passes, grants what the next law asks of its tree.
 pub fn set_is_granted()
@@ -93,4 +100,33 @@ pub fn field_is_an_item()
     // A message reads its fields so.
     ensures found { (l : Limits) (f : FieldData) (s : State) (w : List ℕ) (es : List EventData) (r : Found)
         → phrase_of l.strict (field_in (bounds l) f s) w es (whole r) ↔ ((es ≡ []) × SpellsFound l f s w r) }
+{}
+
+/// Messages can be encoded from an empty dictionary, under a set that was read and limits that an encoder takes, and from the dictionary
+/// after each message that was.
+pub fn can_encode()
+    // IsTree is what `Templates::read` ensures of the set, and `Encoder::new` gives the other premises.
+    ensures new { (document : Members) (t : Templates) (l : Limits) → IsTree document (tree_of t) → l.max_text ≤ 1048576
+        → ¬ (HasLongInitial l.max_text (nodes_of t)) → CanEncode (tree_of t) l (fresh (tree_of t).entries) }
+    // The premises are given by `Encoder::encode` (`ok`).
+    ensures next { (t : Tree) (l : Limits) (d : Dictionary) (m : MessageData) (w : List ℕ) (d' : Dictionary)
+        → CanEncode t l d → SuitsTemplate t m → FitsLimits l m.slots → EncodesMessage t l d m w d' → CanEncode t l d' }
+{}
+
+/// A message that suits its template and keeps to the limits is encoded, or refused with E3 or R9. So every message is encoded or refused;
+/// never both, by `refused_is_not_encoded`.
+pub fn some_encoding()
+    // CanEncode is given by `can_encode`.
+    ensures suited { (t : Tree) (l : Limits) (d : Dictionary) (m : MessageData) → CanEncode t l d → IsKnown t m
+        → SuitsTemplate t m → FitsLimits l m.slots
+        → HasEncoding t l d m ⊎ (IsRefused t l d m E3 ⊎ IsRefused t l d m R9) }
+    ensures any { (t : Tree) (l : Limits) (d : Dictionary) (m : MessageData) → CanEncode t l d
+        → (SuitsTemplate t m × FitsLimits l m.slots × HasEncoding t l d m)
+        ⊎ ((c : EncodeFault) × IsRefused t l d m c) }
+{}
+
+/// A worked set: under a mandatory ASCII field with the operator copy, each text without U+0000 is encoded as the first message.
+pub fn text_is_encoded()
+    ensures { (v : List ℕ) → length v ≤ 64 → All (λ c. c < 128) v → All (λ c. c ≢ 0) v
+        → HasEncoding (set_of (ascii_field Copy false None)) wide (fresh 2) (text_message v) }
 {}

@@ -15,6 +15,7 @@ use Rattle.fast_spelling.specs.meaning.Ledgers.{LedgerData}
 use Rattle.fast_spelling.specs.device.Nodes.{IsReady}
 use Rattle.fast_spelling.specs.meaning.Refusals.{IsRefused}
 use Rattle.fast_spelling.specs.meaning.Suiting.{SuitsTemplate, FitsLimits}
+use Rattle.fast_laws.specs.meaning.Settling.{CanEncode}
 
 -- An encoder: its template set and limits, and its dictionary.
 pub record EncoderData : Type 0 where
@@ -40,6 +41,14 @@ pub record IsEncoded (old : EncoderData) (m : MessageData) (out : List ℕ) (new
   pub fits : FitsLimits old.limits m.slots
   pub ruled : EncodesMessage (tree old) old.limits old.dictionary m bytes new.dictionary
   pub spelled : SpellsMessage (tree old) (in_mode true old.limits) old.dictionary m bytes new.dictionary
+
+-- Some bytes encode the message, and `encode` can append them to any that there were.
+abbrev pub CanBeEncoded : EncoderData → MessageData → List ℕ → Type 0
+CanBeEncoded e m out = (f : EncoderData) × (longer : List ℕ) × IsEncoded e m out f longer × (f.set ≡ e.set) × (f.limits ≡ e.limits)
+
+-- the encoder's set, limits and dictionary are ones from which every message is encoded or refused
+abbrev pub IsAble : EncoderData → Type 0
+IsAble e = CanEncode (tree e) e.limits e.dictionary
 
 -- memory was refused, or the encoder refuses the message with this fault
 abbrev pub IsToldOf : EncoderData → MessageData → EncodeFault → Type 0

@@ -59,7 +59,7 @@ clear_nothing Increment f x u h = h
 clear_nothing Tail f x u h = h
 
 -- Nothing sent will do, or it won't.
-goes_unsent : (f : FieldData) (p : PreviousData) (v : Option ScalarData) → GoesUnsent f p v ⊎ (GoesUnsent f p v → ⊥)
+pub goes_unsent : (f : FieldData) (p : PreviousData) (v : Option ScalarData) → GoesUnsent f p v ⊎ (GoesUnsent f p v → ⊥)
 goes_unsent f p v = by (uses_bit f) refl (decide f p false nothing) refl
   where
     one_way : (o n : Outcome) → o ≡ n → n.value ≡ v → o.value ≡ v
@@ -96,11 +96,11 @@ module _ (l : Limits) where
   clear_right Increment f p out q u h g e = unsent_right l f p out g.suited h g.initial e
   clear_right Tail f p out q u h g e = unsent_right l f p out g.suited h g.initial e
 
-  fit_of : (f : FieldData) (v : Option ScalarData) → IsSoundValue l f v → IsFit f v
+  pub fit_of : (f : FieldData) (v : Option ScalarData) → IsSoundValue l f v → IsFit f v
   fit_of f None h = h
   fit_of f (Some v) h = right_fits f.kind v (right_of l f.kind v h)
 
-  tail_texts : (f : FieldData) → suits f.operator (family f.kind) ≡ true → f.operator ≡ Tail → family f.kind ≡ texts
+  pub tail_texts : (f : FieldData) → suits f.operator (family f.kind) ≡ true → f.operator ≡ Tail → family f.kind ≡ texts
   tail_texts f s o = by (family f.kind) (subst (λ (z : Operator). suits z (family f.kind) ≡ true) o s)
     where
       by : (k : Family) → suits Tail k ≡ true → k ≡ texts

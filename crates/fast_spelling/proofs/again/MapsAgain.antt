@@ -82,7 +82,7 @@ module _ (b : List Bool) (few : (i : ℕ) → slice_index_or b i false ≡ true 
   holds (suc n) = holds_more n (holds n) (cases_Bool (slice_index_or b n false))
 
   -- the map of these bits
-  mapped : (m : List ℕ) × IsMap true m × SameBits (bits m) b
+  pub mapped : (m : List ℕ) × IsMap true m × SameBits (bits m) b
   mapped =
       let h = holds (length b) in
       (finished h.cells h.len h.built, finished_map h.cells h.len h.built, λ i. finished_bits h.cells h.len h.built i ∙ by h i (cases_lt i (length b)))

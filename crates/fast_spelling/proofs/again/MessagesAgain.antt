@@ -43,7 +43,7 @@ named t v u e =
     let same : u.0 ≡ m = omega (arith, i) in
     (rw same k, j)
 
-granted_at : (l : Limits) (ts : List TemplateData) (n : ℕ) (u : TemplateData) → All (λ u. GrantsBody l u.body) ts → slice_get ts n ≡ Some u → GrantsBody l u.body
+pub granted_at : (l : Limits) (ts : List TemplateData) (n : ℕ) (u : TemplateData) → All (λ u. GrantsBody l u.body) ts → slice_get ts n ≡ Some u → GrantsBody l u.body
 granted_at l [] n u h e = absurd (cc e)
 granted_at l (t ∷ ts) zero u h e = let k : t ≡ u = cc e in subst (λ (z : TemplateData). GrantsBody l z.body) k (h 0 t (omega arith))
 granted_at l (t ∷ ts) (suc n) u h e = granted_at l ts n u (λ k d i. h (suc k) d (omega (arith, i))) e
@@ -69,7 +69,7 @@ module _ (l : Limits) where
   pub sound_fresh : (n : ℕ) → IsSound l (fresh n)
   sound_fresh n i = rw (fresh_at n i) tt
 
-  sound_reset : (d : Dictionary) → IsSound l d → IsSound l (reset d)
+  pub sound_reset : (d : Dictionary) → IsSound l d → IsSound l (reset d)
   sound_reset [] h i = h i
   sound_reset (p ∷ d) h zero = h 0
   sound_reset (p ∷ d) h (suc i) = sound_fresh (length d) i
@@ -78,7 +78,7 @@ module _ (l : Limits) where
   sound_if true st h = sound_reset st.context.dictionary h
   sound_if false st h = h
 
-  identifier_granted : IsGranted l identifier
+  pub identifier_granted : IsGranted l identifier
   identifier_granted = record { suited = refl; initial = tt; constant = λ e. absurd (cc e); default = λ e. absurd (cc e) }
 
   -- What is told of a message.

@@ -170,16 +170,16 @@ shorter_signed strict low high nullable x y w p fits h =
     let (v, i, j) = respelled false (record { is_signed = true; low = low; high = high }) nullable (Some x) made.bytes made.spelled in
     (v, i, omega (arith, j, made.long, long))
 
--- any of five bytes
-pub some_signed : (low high : ℤ) (nullable : Bool) (x : ℤ) → IsWithin (record { is_signed = true; low = low; high = high }) x → mag (sent_for nullable x) < 64 * 128 ^ 4
+-- in strict mode no more bytes
+pub some_signed : (k : ℕ) (low high : ℤ) (nullable : Bool) (x : ℤ) → k < 10 → IsWithin (record { is_signed = true; low = low; high = high }) x → mag (sent_for nullable x) < 64 * 128 ^ k
     → (v : List ℕ) × SpellsInt true (record { is_signed = true; low = low; high = high }) nullable (Some x) v
-some_signed low high nullable x fits h =
-    let made = long_signed 4 low high nullable x (omega arith) fits h in
+some_signed k low high nullable x few fits h =
+    let made = long_signed k low high nullable x few fits h in
     let (v, i, j) = respelled false (record { is_signed = true; low = low; high = high }) nullable (Some x) made.bytes made.spelled in
     (v, i)
 
 -- the same of numbers
-abbrev raised_by : Bool → ℕ → ℕ
+abbrev pub raised_by : Bool → ℕ → ℕ
 raised_by false n = n
 raised_by true n = suc n
 
@@ -195,6 +195,27 @@ raised_less : (b : Bool) (i j : ℕ) → i ≤ j → raised_by b i ≤ raised_by
 raised_less false i j h = h
 raised_less true i j h = omega (arith, h)
 
+long_unsigned : (k : ℕ) (top : ℤ) (nullable : Bool) (n : ℕ) → k < 10 → pos n ≤ℤ top → raised_by nullable n < 128 ^ suc k → IsLong false (record { is_signed = false; low = pos 0; high = top }) nullable (pos n) k
+long_unsigned k top nullable n few below small =
+    let sent = raised_by nullable n in
+    let is = digits_number k sent small in
+    let long = digits_length k sent in
+    record {
+      bytes = digits k sent;
+      spelled = record {
+        form = record { entity = digits_entity k sent small; short = omega (arith, long, few); shortest = λ t. absurd (cc t) };
+        meaning = meant nullable (pos (number (digits k sent))) (pos n) (ap pos is ∙ raised_is nullable n);
+        fits = (omega (arith, ints), below);
+      };
+      long = long;
+    }
+
+pub some_unsigned : (k : ℕ) (top : ℤ) (nullable : Bool) (n : ℕ) → k < 10 → pos n ≤ℤ top → raised_by nullable n < 128 ^ suc k → (v : List ℕ) × SpellsInt true (record { is_signed = false; low = pos 0; high = top }) nullable (Some (pos n)) v
+some_unsigned k top nullable n few below small =
+    let made = long_unsigned k top nullable n few below small in
+    let (v, i, j) = respelled false (record { is_signed = false; low = pos 0; high = top }) nullable (Some (pos n)) made.bytes made.spelled in
+    (v, i)
+
 -- A number that is no greater than one that is spelled.
 pub shorter_unsigned : (strict : Bool) (top : ℤ) (nullable : Bool) (n m : ℕ) (w : List ℕ) → SpellsInt strict (record { is_signed = false; low = pos 0; high = top }) nullable (Some (pos m)) w → n ≤ m
     → (v : List ℕ) × SpellsInt true (record { is_signed = false; low = pos 0; high = top }) nullable (Some (pos n)) v × (length v ≤ length w)
@@ -207,14 +228,9 @@ shorter_unsigned strict top nullable n m w p h =
     let same : number w ≡ sent m = natural_is nullable (number w) m (sent_is nullable (pos (number w)) (pos m) p.meaning) in
     let less : sent n ≤ sent m = raised_less nullable n m h in
     let small : sent n < 128 ^ suc k = omega (arith, bound, same, less) in
-    let is = digits_number k (sent n) small in
-    let length_is = digits_length k (sent n) in
-    let (v, i, j) = respelled false (record { is_signed = false; low = pos 0; high = top }) nullable (Some (pos n)) (digits k (sent n)) (record {
-      form = record { entity = digits_entity k (sent n) small; short = omega (arith, length_is, long, p.form.short); shortest = λ t. absurd (cc t) };
-      meaning = meant nullable (pos (number (digits k (sent n)))) (pos n) (ap pos is ∙ raised_is nullable n);
-      fits = (omega (arith, ints), upper p.fits.1);
-    }) in
-    (v, i, omega (arith, j, length_is, long))
+    let made = long_unsigned k top nullable n (omega (arith, long, p.form.short)) (upper p.fits.1) small in
+    let (v, i, j) = respelled false (record { is_signed = false; low = pos 0; high = top }) nullable (Some (pos n)) made.bytes made.spelled in
+    (v, i, omega (arith, j, made.long, long))
   where
     upper : pos m ≤ℤ top → pos n ≤ℤ top
     upper u = omega (arith, ints, u, h)

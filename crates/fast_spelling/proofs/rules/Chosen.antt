@@ -234,5 +234,5 @@ length_shorter nullable x k w s h = by nullable s
     less (negsuc i) (negsuc j) b = b
 
     by : (b : Bool) → Shortest (signed_range 31) b (Some k) w → (v : List ℕ) × Shortest (signed_range 31) b (Some x) v × (b ≡ false → length v ≤ length w)
-    by true p = let (v, i) = some_signed _ _ true x (within x k p.fits h) (small x (within x k p.fits h)) in (v, i, λ e. absurd (cc e))
+    by true p = let (v, i) = some_signed 4 _ _ true x (omega arith) (within x k p.fits h) (small x (within x k p.fits h)) in (v, i, λ e. absurd (cc e))
     by false p = let (v, i, j) = shorter_signed true _ _ false x k w p (within x k p.fits h) (less x k h) in (v, i, λ e. j)

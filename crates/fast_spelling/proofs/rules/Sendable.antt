@@ -92,7 +92,7 @@ narrow_mantissa (AsciiText t) h = (omega (arith, ints), omega (arith, ints))
 narrow_mantissa (UnicodeText t) h = (omega (arith, ints), omega (arith, ints))
 narrow_mantissa (ByteVector t) h = (omega (arith, ints), omega (arith, ints))
 
-right_narrow : (kind : Kind) (v : ScalarData) → IsRight kind v → IsNarrow v
+pub right_narrow : (kind : Kind) (v : ScalarData) → IsRight kind v → IsNarrow v
 right_narrow UInt32 (U n) (room, h) = omega (arith, h)
 right_narrow UInt64 (U n) (room, h) = h
 right_narrow Int32 (I x) (room, h) = (omega (arith, ints, h), omega (arith, ints, h))
