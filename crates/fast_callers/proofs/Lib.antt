@@ -1,2 +1,4 @@
+pub mod Ending
+pub mod Made
 pub mod Counted
 pub mod Priced

@@ -1,9 +1,10 @@
 //! How many messages a stream has.
 
-ghost use Rattle.std.specs.Prelude.{IfOk};
+ghost use Rattle.std.specs.Prelude.{◌≡◌, ◌↔◌, Err, IfOk, IfErr};
 ghost use Rattle.fast_template.specs.meaning.Flat.{tree_of};
+ghost use Rattle.fast_decoder.specs.meaning.Decoding.{AreBadLimits};
 ghost use Rattle.fast_decoder.specs.meaning.Feeding.{all_bytes};
-ghost use Rattle.fast_callers.specs.meaning.Callers.{HasMessages};
+ghost use Rattle.fast_callers.specs.meaning.Callers.{HasLongValue, HasMessages, IsRefused};
 
 use fast_decoder::{Decoder, Event, Fault, MakeError, Sink, Stop};
 use fast_template::Templates;
@@ -16,10 +17,32 @@ use thiserror::Error;
 pub enum Refusal {
     /// No decoder is made.
     #[error("decoder: {0}")]
-    Make(#[from] MakeError),
+    Make(MakeError),
     /// The stream is at fault.
     #[error("stream: {0}")]
-    Stream(#[from] Fault),
+    Stream(Fault),
+}
+
+impl From<MakeError> for Refusal {
+    ghost use Rattle.std.specs.Prelude.{◌≡◌};
+    ghost use Rattle.fast_callers.specs.declared.counting.Refusal.TheVariants.{Make};
+
+    ghost from_gives = { λ cause refusal. refusal ≡ Make cause };
+
+    fn from(cause: MakeError) -> Refusal {
+        Refusal::Make(cause)
+    }
+}
+
+impl From<Fault> for Refusal {
+    ghost use Rattle.std.specs.Prelude.{◌≡◌};
+    ghost use Rattle.fast_callers.specs.declared.counting.Refusal.TheVariants.{Stream};
+
+    ghost from_gives = { λ fault refusal. refusal ≡ Stream fault };
+
+    fn from(fault: Fault) -> Refusal {
+        Refusal::Stream(fault)
+    }
 }
 
 /// A sink that counts the messages that are whole.
@@ -29,11 +52,11 @@ pub(crate) struct Counter {
 }
 
 impl Sink for Counter {
-    ghost use Rattle.fast_callers.specs.meaning.Callers.{Counts};
+    ghost use Rattle.fast_callers.specs.meaning.Callers.{Counts, CountsNoMore};
 
     ghost takes = { Counts };
 
-    ghost stops = { λ _ _ _. Unit {0} };
+    ghost stops = { CountsNoMore };
 
     fn take(&mut self, event: Event<'_>) -> Result<(), Stop> {
         if let Event::MessageEnd = event {
@@ -47,14 +70,17 @@ impl Sink for Counter {
 ///
 /// # Errors
 ///
-/// No decoder is made, or the stream is at fault.
+/// `Make` where no decoder is made; else `Stream` with the stream's first fault, or with `L4` where there are 2^64 bytes or more.
 pub fn messages_in(
     alloc: Global,
     templates: &Templates,
     limits: Limits,
     pieces: &[&[u8]],
 ) -> Result<u64, Refusal>
-    ensures { IfOk result (HasMessages (tree_of templates.now) limits (all_bytes pieces.now)) }
+    ensures counted { IfOk result (HasMessages (tree_of templates.now) limits (all_bytes pieces.now)) }
+    ensures refused { IfErr result (IsRefused (tree_of templates.now) limits (all_bytes pieces.now)) }
+    ensures bad_limits { (result ≡ Err (Refusal.Make MakeError.BadLimits)) ↔ (AreBadLimits limits) }
+    ensures long_value { (result ≡ Err (Refusal.Make MakeError.InitialTooLong)) ↔ (HasLongValue templates.now limits) }
 {
     let mut decoder = Decoder::new(alloc, templates, limits)?;
     let mut counter = Counter { messages: 0 };

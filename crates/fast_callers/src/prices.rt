@@ -1,11 +1,12 @@
 //! The last price of a symbol.
 
-ghost use Rattle.std.specs.Prelude.{IfOk};
+ghost use Rattle.std.specs.Prelude.{◌≡◌, ◌↔◌, Err, IfOk, IfErr};
 ghost use Rattle.fast_template.specs.meaning.Flat.{tree_of};
-ghost use Rattle.fast_callers.specs.meaning.Callers.{HasLastPrice};
+ghost use Rattle.fast_decoder.specs.meaning.Decoding.{AreBadLimits};
+ghost use Rattle.fast_callers.specs.meaning.Callers.{HasLastPrice, HasLongValue, IsRefused};
 
 use crate::counting::Refusal;
-use fast_decoder::{Decoder, Event, Sink, Stop};
+use fast_decoder::{Decoder, Event, MakeError, Sink, Stop};
 use fast_template::Templates;
 use fast_value::{Limits, Scalar};
 use std::alloc::Global;
@@ -63,7 +64,7 @@ impl Sink for LastPrice<'_> {
 ///
 /// # Errors
 ///
-/// No decoder is made, or the stream is at fault.
+/// `Make` where no decoder is made; else `Stream` with the stream's first fault, or with `L4` where there are 2^64 bytes or more.
 pub fn last_price(
     alloc: Global,
     templates: &Templates,
@@ -72,7 +73,10 @@ pub fn last_price(
     symbol: &[u8],
     stream: &[u8],
 ) -> Result<Option<Price>, Refusal>
-    ensures { IfOk result (HasLastPrice (tree_of templates.now) limits columns symbol.now stream.now) }
+    ensures found { IfOk result (HasLastPrice (tree_of templates.now) limits columns symbol.now stream.now) }
+    ensures refused { IfErr result (IsRefused (tree_of templates.now) limits stream.now) }
+    ensures bad_limits { (result ≡ Err (Refusal.Make MakeError.BadLimits)) ↔ (AreBadLimits limits) }
+    ensures long_value { (result ≡ Err (Refusal.Make MakeError.InitialTooLong)) ↔ (HasLongValue templates.now limits) }
 {
     let mut decoder = Decoder::new(alloc, templates, limits)?;
     let mut sink = LastPrice {

@@ -1,8 +1,9 @@
 //! A stream that is read up to its first fault.
 
-ghost use Rattle.std.specs.Prelude.{IfOk};
+ghost use Rattle.std.specs.Prelude.{◌≡◌, ◌↔◌, Err, IfOk};
 ghost use Rattle.fast_template.specs.meaning.Flat.{tree_of};
-ghost use Rattle.fast_callers.specs.meaning.Callers.{HasStopped};
+ghost use Rattle.fast_decoder.specs.meaning.Decoding.{AreBadLimits};
+ghost use Rattle.fast_callers.specs.meaning.Callers.{HasLongValue, HasStopped};
 
 use crate::counting::Counter;
 use fast_decoder::{Decoder, Fault, MakeError};
@@ -35,7 +36,9 @@ pub fn up_to_fault(
     limits: Limits,
     stream: &[u8],
 ) -> Result<Stopped, MakeError>
-    ensures { IfOk result (HasStopped (tree_of templates.now) limits stream.now) }
+    ensures stopped { IfOk result (HasStopped (tree_of templates.now) limits stream.now) }
+    ensures bad_limits { (result ≡ Err MakeError.BadLimits) ↔ (AreBadLimits limits) }
+    ensures long_value { (result ≡ Err MakeError.InitialTooLong) ↔ (HasLongValue templates.now limits) }
 {
     let mut decoder = Decoder::new(alloc, templates, limits)?;
     let mut counter = Counter { messages: 0 };

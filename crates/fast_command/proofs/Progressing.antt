@@ -31,9 +31,9 @@ use Rattle.fast_command.specs.declared.faults.ShowEnd.{ShowEnd}
 use Rattle.fast_command.specs.declared.faults.ShowEnd.TheVariants.{Good, Faulted, Truncated}
 use Rattle.fast_command.specs.declared.faults.RunFault.{RunFault}
 use Rattle.fast_command.specs.declared.faults.RunFault.TheVariants.{Write, BadHex}
-use Rattle.fast_command.specs.meaning.Closing.{fault_line, truncated_line, closing}
+use Rattle.fast_command.specs.meaning.Closing.{fault_line, truncated_line}
 use Rattle.fast_command.specs.meaning.Unhexing.{StandsAt}
-use Rattle.fast_command.specs.meaning.Showing.{StandsFor, IsGoodEnd}
+use Rattle.fast_command.specs.meaning.Showing.{StandsFor, IsGoodEnd, IsClosing}
 use Rattle.fast_command.specs.device.Progress.{IsTaken, Progress, Change, Fed, CutShort, IsFedAt, IsFed, GoesOn, Ended, IsBadPlace, IsClosedAt, changed}
 use Rattle.fast_command.proofs.Characters.{is_shown}
 use Rattle.fast_command.proofs.Lined.{lines-append}
@@ -115,6 +115,12 @@ no_fault_yet d h = by d.fault h.at
     by : (o : Option Fault) → IsAt o d 0 h.position → o ≡ None
     by None at = refl
     by (Some f) at = at_code f f.code at
+
+-- a line that can be begun, wherever the input ends
+pub some_closing : (AtEnd : Type 0) (place : Option ℕ) (b : List ℕ) (e : End) → (line : List ℕ) × IsClosing AtEnd place b e line
+some_closing AtEnd place b between = ([], refl)
+some_closing AtEnd place b inside = ([], inl refl)
+some_closing AtEnd place b (faulted c n) = (fault_line (Why.Stream c) n, refl)
 
 -- ---- the bytes that a text stands for
 
@@ -243,12 +249,12 @@ pub truncated_fails : (t : Tree) (l : Limits) (hex : Bool) (s : Show) (text b : 
     → AppendsFront w.held w.holds (truncated_line n) → IsTrue w.has_failed → Ended t l hex (Unit {0}) text es w (Err Write)
 truncated_fails t l hex s text b es w n p bytes told count line failed =
     let e = stream_of t l hex s text b es p in
-    let at : StandsFor hex text (b ++ []) None = rw (append-nil b, ← p.hex_is) bytes in
+    let at : StandsFor hex text b None = rw (← p.hex_is) bytes in
     let all : n ≡ length b = count ∙ counts_all t l s.decoder b es e in
     record {
       out = line.front;
       written = line.added;
-      shown = (None, b, [], es, inside, line.rest, at, ends_inside t l s.decoder b es e told, ap (λ (m : ℕ). lines t es ++ truncated_line m) (sym all) ∙ ap (λ (xs : List ℕ). lines t es ++ xs) line.is ∙ sym (append_assoc (lines t es) line.front line.rest), failed);
+      shown = (None, b, es, inside, truncated_line (length b), line.rest, at, ends_inside t l s.decoder b es e told, inr (refl, refl, tt), ap (λ (m : ℕ). lines t es ++ truncated_line m) (sym all) ∙ ap (λ (xs : List ℕ). lines t es ++ xs) line.is ∙ sym (append_assoc (lines t es) line.front line.rest), failed);
       told = inl refl;
     }
 
@@ -277,7 +283,7 @@ fault_shown t l hex text b bytes es d w v f c r set limits fault code holds fed 
     let ended : Ended t l hex ⊥ text es (both w v) (Err Write) = record {
       out = lines t fed.more ++ line.front;
       written = appends_both w.held w.holds v.holds (lines t fed.more) line.front fed.written (rw (← on) line.added);
-      shown = (at.0, b ++ bytes, [], es ++ fed.more, faulted c f.place, line.rest, rw append-nil at.1, stream, regroup (lines t (es ++ fed.more)) (lines t es) (lines t fed.more) (fault_line (Why.Stream c) f.place) line.front line.rest (lines-append t es fed.more) text_of, h.2);
+      shown = (at.0, b ++ bytes, es ++ fed.more, faulted c f.place, fault_line (Why.Stream c) f.place, line.rest, at.1, stream, refl, regroup (lines t (es ++ fed.more)) (lines t es) (lines t fed.more) (fault_line (Why.Stream c) f.place) line.front line.rest (lines-append t es fed.more) text_of, h.2);
       told = inl refl;
     } in
     rw h.0 ended
@@ -289,11 +295,11 @@ fault_shown t l hex text b bytes es d w v f c r set limits fault code holds fed 
 cut_shown : (t : Tree) (l : Limits) (hex : Bool) (text b bytes : List ℕ) (es : List EventData) (w v : Change) (r : Result ShowEnd RunFault) → CutShort t l b es bytes w → (place : Option ℕ) × StandsFor hex text (b ++ bytes) place
     → (r ≡ Err Write) × (v.holds ≡ v.held) × (v.has_failed ≡ v.had_failed) → v.held ≡ w.holds → v.had_failed ≡ w.has_failed → Ended t l hex ⊥ text es (both w v) r
 cut_shown t l hex text b bytes es w v r cut at h on failed =
-    let pieces : b ++ bytes ≡ (b ++ cut.front) ++ cut.later = ap (λ (xs : List ℕ). b ++ xs) cut.bytes_are ∙ sym (append_assoc b cut.front cut.later) in
+    let line = some_closing ⊥ at.0 (b ++ bytes) cut.end in
     let ended : Ended t l hex ⊥ text es (both w v) (Err Write) = record {
       out = cut.out;
       written = rw (h.1 ∙ on) cut.written;
-      shown = (at.0, b ++ cut.front, cut.later, cut.all, cut.end, cut.rest ++ closing (b ++ cut.front) cut.end, rw (← pieces) at.1, cut.stream, regroup (lines t cut.all) (lines t es) cut.out cut.rest (closing (b ++ cut.front) cut.end) cut.lines_are, rw (h.2 ∙ failed) cut.failed);
+      shown = (at.0, b ++ bytes, cut.all, cut.end, line.0, cut.rest ++ line.0, at.1, cut.stream, line.1, regroup (lines t cut.all) (lines t es) cut.out cut.rest line.0 cut.lines_are, rw (h.2 ∙ failed) cut.failed);
       told = inl refl;
     } in
     rw h.0 ended

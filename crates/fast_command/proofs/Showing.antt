@@ -6,6 +6,7 @@ use Rattle.fast_tree.specs.meaning.Tree.{Tree}
 use Rattle.fast_stream.specs.declared.faults.MakeError.{MakeError}
 use Rattle.fast_stream.specs.declared.faults.MakeError.TheVariants as Why
 use Rattle.fast_stream.specs.meaning.Events.{EventData}
+use Rattle.fast_stream.specs.meaning.Streams.{End, between, inside, faulted}
 use Rattle.fast_decoder.specs.meaning.Decoding.{account}
 use Rattle.fast_lines.specs.meaning.Lines.{lines}
 use Rattle.fast_text.specs.meaning.Streams.{Reads, Appends}
@@ -16,11 +17,17 @@ use Rattle.fast_command.specs.declared.faults.ShowEnd.{ShowEnd}
 use Rattle.fast_command.specs.declared.faults.ShowEnd.TheVariants.{Good, Faulted, Truncated}
 use Rattle.fast_command.specs.declared.faults.RunFault.{RunFault}
 use Rattle.fast_command.specs.declared.faults.RunFault.TheVariants.{Read, Write, BadHex, Templates as Refused, Make, Text, Encode, Memory}
-use Rattle.fast_command.specs.meaning.Showing.{IsShown, StandsFor, refusal_of}
-use Rattle.fast_command.specs.meaning.Closing.{closing}
+use Rattle.fast_command.specs.meaning.Showing.{IsShown, IsClosing, StandsFor, refusal_of}
 use Rattle.fast_command.specs.device.Progress.{HasRoom, IsTaken, Progress, Change, GoesOn, Ended}
 use Rattle.fast_command.proofs.Lined.{lines-append}
-use Rattle.fast_command.proofs.Progressing.{ends_well, counts_all, stands_for, bytes_fewer}
+use Rattle.fast_command.proofs.Progressing.{some_closing, ends_well, counts_all, stands_for, bytes_fewer}
+
+-- the line that can be begun, where more is known of the world
+closing_more : (A A' : Type 0) → (A → A') → (place : Option ℕ) (b : List ℕ) (e : End) (line : List ℕ) → IsClosing A place b e line → IsClosing A' place b e line
+closing_more A A' a place b between line h = h
+closing_more A A' a place b inside line (inl h) = inl h
+closing_more A A' a place b inside line (inr h) = inr (h.0, h.1, a h.2)
+closing_more A A' a place b (faulted c n) line h = h
 
 -- what was shown, where more is known of the world
 shown_more : (t : Tree) (l : Limits) (hex : Bool) (R R' : MakeError → Type 0) (A B H A' B' H' : Type 0) (text out : List ℕ) (r : Result ShowEnd RunFault) → ((e : MakeError) → R e → R' e) → (A → A') → (B → B') → (H → H') → IsShown t l hex R A B H text out r → IsShown t l hex R' A' B' H' text out r
@@ -29,7 +36,7 @@ shown_more t l hex R R' A B H A' B' H' text out (Ok (Faulted f)) m a b h s = s
 shown_more t l hex R R' A B H A' B' H' text out (Ok (Truncated n)) m a b h s = (s.0, s.1, s.2, s.3, s.4, a s.5)
 shown_more t l hex R R' A B H A' B' H' text out (Err (BadHex n)) m a b h s = (s.0, s.1, s.2, s.3, s.4, s.5, elim s.6 [ inl within ↦ inl within | inr over ↦ inr (a over) ])
 shown_more t l hex R R' A B H A' B' H' text out (Err Read) m a b h s = (s.0, s.1, s.2, s.3, s.4, s.5, s.6, b s.7)
-shown_more t l hex R R' A B H A' B' H' text out (Err Write) m a b h s = (s.0, s.1, s.2, s.3, s.4, s.5, s.6, s.7, s.8, h s.9)
+shown_more t l hex R R' A B H A' B' H' text out (Err Write) m a b h s = (s.0, s.1, s.2, s.3, s.4, s.5, s.6, s.7, closing_more A A' a s.0 s.1 s.3 s.4 s.8, s.9, h s.10)
 shown_more t l hex R R' A B H A' B' H' text out (Err (Make cause)) m a b h s = (s.0, s.1, m cause s.2)
 shown_more t l hex R R' A B H A' B' H' text out (Err (Refused fault)) m a b h s = elim s [ ]
 shown_more t l hex R R' A B H A' B' H' text out (Err (Text line kind)) m a b h s = elim s [ ]
@@ -80,12 +87,13 @@ not_flushed t l hex R s reads AtEnd HasFailed ReadsNoMore left_first left_now he
     let p = h.progress in
     let e = ends_well t l s.decoder h.bytes h.events p.set p.limits p.so p.good in
     let at = stands_for s.unhexer h.text h.bytes p.taken in
-    let stands : StandsFor hex h.text (h.bytes ++ []) at.0 = rw (append-nil, ← p.hex_is) at.1 in (
+    let line = some_closing AtEnd at.0 h.bytes e.end in
+    let stands : StandsFor hex h.text h.bytes at.0 = rw (← p.hex_is) at.1 in (
       h.text,
       lines t h.events,
       h.read,
       appends_no_more held holds_old holds (lines t h.events) h.written kept,
-      (at.0, h.bytes, [], h.events, e.end, closing h.bytes e.end, stands, e.stream, refl, failed),
+      (at.0, h.bytes, h.events, e.end, line.0, line.0, stands, e.stream, line.1, refl, failed),
     )
 
 -- a round, where the writer was flushed

@@ -43,7 +43,7 @@ lower_bytes (b ∷ rest) h =
 lower_digit : (c n : ℕ) → IsHexDigit c n → IsNotUpper c → c ≡ hex_digit n
 lower_digit c n h low = grind (arith, nat_tests)
 
-digit_is_hex : (n : ℕ) → n < 16 → IsHexDigit (hex_digit n) n × IsNotUpper (hex_digit n)
+pub digit_is_hex : (n : ℕ) → n < 16 → IsHexDigit (hex_digit n) n × IsNotUpper (hex_digit n)
 digit_is_hex n h = elim (cases_lt n 10) [
   | inl small ↦ let e : hex_digit n ≡ 0x30 + n = grind (arith, nat_tests) in (inl (small, e), inl (omega (arith, e)))
   | inr big ↦ let e : hex_digit n ≡ 0x57 + n = grind (arith, nat_tests) in (inr (inl (big, h, e)), inr (omega (arith, e)))

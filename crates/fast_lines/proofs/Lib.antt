@@ -6,5 +6,6 @@ pub mod BigNumbers
 pub mod Words
 pub mod OneLine
 pub mod OneValue
+pub mod OneHex
 pub mod Digits
 pub mod Arms

@@ -1,11 +1,12 @@
 //! Laws of lines. They speak of the definitions alone, over all sets, events and texts.
 
-ghost use Rattle.std.specs.Prelude.{◌≡◌, ℕ, List};
+ghost use Rattle.std.specs.Prelude.{◌≡◌, ℕ, List, Option};
 ghost use Rattle.fast_value.specs.meaning.Kinds.{ScalarData};
 ghost use Rattle.fast_tree.specs.meaning.AsWritten.{IsName};
 ghost use Rattle.fast_tree.specs.meaning.Tree.{Tree};
 ghost use Rattle.fast_stream.specs.meaning.Events.{EventData};
 ghost use Rattle.fast_lines.specs.meaning.Forms.{LineData, IsWord, IsForm, text_of_line, line_of_event};
+ghost use Rattle.fast_lines.specs.meaning.Hex.{Unhexed};
 ghost use Rattle.fast_lines.specs.meaning.Lines.{line_of, quoted, written};
 ghost use Rattle.fast_lines.specs.meaning.Values.{IsHeld};
 
@@ -27,6 +28,11 @@ pub fn one_quoted()
 /// A text is one value.
 pub fn one_value()
     ensures { (v w : ScalarData) → IsHeld v → IsHeld w → written v ≡ written w → v ≡ w }
+{}
+
+/// Hexadecimal digits with blanks between them stand for one list of bytes, and have one first bad place or none.
+pub fn one_unhexed()
+    ensures { (t v w : List ℕ) (p q : Option ℕ) → Unhexed t v p → Unhexed t w q → (v ≡ w) × (p ≡ q) }
 {}
 
 /// The names of template sets are words.

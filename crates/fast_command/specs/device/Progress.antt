@@ -64,16 +64,13 @@ pub record Fed (t : Tree) (b : List ℕ) (es : List EventData) (bytes : List ℕ
   pub written : Appends w.held w.holds (lines t more)
   pub as_before : w.has_failed ≡ w.had_failed
 
--- A front of the bytes gives a stream. Of the lines of its events a front was written, and the target has failed.
+-- The bytes give a stream. Of the lines of its events a front was written, and the target has failed.
 pub record CutShort (t : Tree) (l : Limits) (b : List ℕ) (es : List EventData) (bytes : List ℕ) (w : Change) : Type 0 where
-  pub front : List ℕ
-  pub later : List ℕ
   pub all : List EventData
   pub end : End
   pub out : List ℕ
   pub rest : List ℕ
-  pub bytes_are : bytes ≡ front ++ later
-  pub stream : Stream t l (b ++ front) all end
+  pub stream : Stream t l (b ++ bytes) all end
   pub lines_are : lines t all ≡ lines t es ++ out ++ rest
   pub written : Appends w.held w.holds out
   pub failed : IsTrue w.has_failed

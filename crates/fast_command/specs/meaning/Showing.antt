@@ -63,6 +63,12 @@ has_begun (Err (Encode message fault)) = true
 has_begun (Err (Make cause)) = false
 has_begun (Err Memory) = false
 
+-- The line that can be begun behind the events of a stream: that of its fault; and where all of the input was read and has no bad place,
+-- that of its end inside a message.
+abbrev pub IsClosing : (AtEnd : Type 0) → Option ℕ → List ℕ → End → List ℕ → Type 0
+IsClosing AtEnd place b inside line = (line ≡ []) ⊎ (line ≡ closing b inside) × (place ≡ None) × AtEnd
+IsClosing AtEnd place b e line = line ≡ closing b e
+
 -- What was shown of a text that was read, and what the end of the run says of it. The run can say for which cause
 -- no decoder is made, that the input is at its end, that it reads no more, and that the writer has failed.
 abbrev pub IsShown : Tree → Limits → Bool → (Refuses : MakeError → Type 0) → (AtEnd ReadsNoMore HasFailed : Type 0) → List ℕ → List ℕ → Result ShowEnd RunFault → Type 0
@@ -77,7 +83,7 @@ IsShown t l hex Refuses AtEnd ReadsNoMore HasFailed text out (Err (BadHex n)) =
 IsShown t l hex Refuses AtEnd ReadsNoMore HasFailed text out (Err Read) =
     (place : Option ℕ) × (b : List ℕ) × (es : List EventData) × (e : End) × IsStreamOf t l hex text place b es e × IsGoodEnd e × (out ≡ lines t es) × ReadsNoMore
 IsShown t l hex Refuses AtEnd ReadsNoMore HasFailed text out (Err Write) =
-    (place : Option ℕ) × (b later : List ℕ) × (es : List EventData) × (e : End) × (rest : List ℕ) × StandsFor hex text (b ++ later) place × Stream t l b es e × (lines t es ++ closing b e ≡ out ++ rest) × HasFailed
+    (place : Option ℕ) × (b : List ℕ) × (es : List EventData) × (e : End) × (line rest : List ℕ) × StandsFor hex text b place × Stream t l b es e × IsClosing AtEnd place b e line × (lines t es ++ line ≡ out ++ rest) × HasFailed
 IsShown t l hex Refuses AtEnd ReadsNoMore HasFailed text out (Err (Refused fault)) = ⊥
 IsShown t l hex Refuses AtEnd ReadsNoMore HasFailed text out (Err (Text line kind)) = ⊥
 IsShown t l hex Refuses AtEnd ReadsNoMore HasFailed text out (Err (Encode message fault)) = ⊥

@@ -33,13 +33,17 @@ signed integers | lenient | C0 8C 46 3A DD 80 00 40 81 80 7F 3F FF \
 signed integers that are no longer than they need to be | strict | C0 8C 46 3A DD 80 00 40 81 80 7F 3F FF \
     | m11 i12=-942755 /m m11 i12=8193 /m m11 i12=-8193 /m | between
 an integer past its type | lenient | C0 81 10 00 00 00 80 | m0 | D2@7
+an integer past its type that is no longer than it needs to be | strict | C0 81 10 00 00 00 80 | m0 | D2@7
 the greatest value, absent, 0, and an absent value of two bytes | lenient \
     | C0 8D 10 00 00 00 80 80 80 80 81 80 00 80 | m12 u13=4294967295 /m m12 /m m12 u13=0 /m m12 /m | between
 an absent value of two bytes is overlong | strict | C0 8D 10 00 00 00 80 80 80 80 81 80 00 80 \
     | m12 u13=4294967295 /m m12 /m m12 u13=0 /m m12 | R6@14
 the greatest of all integers, which takes ten bytes | lenient | C0 8E 01 00*8 80 | m13 i14=9223372036854775807 /m \
     | between
+the greatest of all integers is no longer than it needs to be | strict | C0 8E 01 00*8 80 | m13 i14=9223372036854775807 /m \
+    | between
 ten bytes and no stop bit | lenient | C0 8E 01*10 | m13 | D2@12
+ten bytes and no stop bit are no overlong integer | strict | C0 8E 01*10 | m13 | D2@12
 an identifier of ten bytes and no stop bit | lenient | C0 00*10 | | D2@11
 an overlong integer | lenient | C0 81 00 81 | m0 u0=1 /m | between
 an overlong integer is refused | strict | C0 81 00 81 | m0 | R6@4
@@ -66,6 +70,8 @@ a delta past every type | lenient | C0 90 3F 7F*8 FF | m15 | D2@12
 
 const DECIMALS: &str = "\
 a decimal, and one with an exponent out of range | lenient | C0 92 FF 8F 80 80 BF 81 81 85 80 00 C0 \
+    | m17 d23=15e-1 /m m17 d23=1e63 d24=5e0 /m m17 | R1@13
+decimals that are no longer than they need to be | strict | C0 92 FF 8F 80 80 BF 81 81 85 80 00 C0 \
     | m17 d23=15e-1 /m m17 d23=1e63 d24=5e0 /m m17 | R1@13
 an absent exponent leaves the next bit to the next field | lenient | F0 87 80 85 | m6 u8=5 /m | between
 a decimal by parts | lenient | F8 87 FF 8F 85 | m6 d7=15e-1 u8=5 /m | between

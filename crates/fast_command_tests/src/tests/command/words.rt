@@ -36,6 +36,16 @@ const PLANS: &[(&str, Plan<'static>)] = &[
         },
     ),
     (
+        "fastcat show --strict --max-text 16 a b",
+        Plan {
+            templates: "a",
+            input: Some("b"),
+            strict: true,
+            max_text: 16,
+            ..DEFAULTS
+        },
+    ),
+    (
         "fastcat check --explain t.toml",
         Plan {
             explain: true,

@@ -112,9 +112,9 @@ fn a_long_initial_value_is_refused_before_the_text_is_read(rt: HostRuntime) {
 
 /// Lines of whole messages, each of which is shown again as it was.
 const THERE_AND_BACK: &[&str] = &[
-    "message T3\nfield 3 t a \"ABCDE\"\nend message\nmessage T3\nfield 3 t a \"ABCXY\"\nend message\n",
+    "message T3\nfield 3 t a \"ABCDE\"\nend message\nmessage T3\nfield 3 t a \"ABCXY\"\nend message\nmessage T3\nfield 3 t a \"ABCXY\"\nend message\n",
     "message T4\nfield 4 d a \"GEH6\"\nend message\nmessage T4\nfield 4 d a \"GEM6\"\nend message\nmessage T4\nfield 4 d a \"ZZGEM6\"\nend message\n",
-    "message T5\nfield 5 n u 4294967295\nend message\nmessage T5\nfield 5 n u 0\nend message\n",
+    "message T5\nfield 5 n u 4294967295\nend message\nmessage T5\nfield 5 n u 0\nend message\nmessage T5\nfield 5 n u 1\nend message\n",
     "message T6\nfield 6 x u 0\nend message\nmessage T6\nend message\nmessage T6\nend message\n",
     "message T7\nfield 8 y u 5\nend message\n",
     "message T6\nfield 6 x u 0\nend message\nmessage T9\nend message\nmessage T9\nend message\nmessage T6\nend message\n",

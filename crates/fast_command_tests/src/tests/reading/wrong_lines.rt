@@ -1,6 +1,6 @@
 //! Texts that are at fault, with the line and what is wrong with it.
 
-use super::super::expect;
+use super::super::{built_in_set, expect};
 use super::{count_of, set_of};
 use LineFault::{Form, Missing, OutOfPlace, PassedOver, UnknownTemplate, WrongCount, WrongValue};
 use fast_reading::{LineFault, TextFault};
@@ -145,6 +145,28 @@ fn the_first_line_at_fault_is_named(rt: HostRuntime) {
     for (kind, texts) in FAULTS {
         expect_fault(&rt, alloc, &set, *kind, texts);
     }
+}
+
+/// The lines of a message of the built-in set, without those of the second of its two elements.
+const ONE_OF_TWO: &str = "message T15
+field 15 x u 5
+group 16 g
+field 17 b b 01ff
+end group
+sequence 18 legs 2
+element
+field 19 sym a \"AB\"
+field 20 px i 100
+end element
+end sequence
+end message
+";
+
+#[test]
+fn an_element_is_missing(rt: HostRuntime) {
+    let set = built_in_set(&rt, rt.alloc());
+    expect_fault(&rt, rt.alloc(), &set, WrongCount, &[(11, ONE_OF_TWO)]);
+    expect(&rt, WrongCount.number() == 6, "its number", 6);
 }
 
 #[test]

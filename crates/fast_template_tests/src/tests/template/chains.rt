@@ -188,6 +188,12 @@ const DEEPEST: (u32, Due) = (64, None);
 
 const TOO_DEEP: (u32, Due) = (65, Some((StaticCode::C4, Some(65))));
 
+/// A chain of 17 references.
+const LONG: (u32, Due) = (18, None);
+
+/// Groups in one another, 17 of them.
+const DEEP: (u32, Due) = (17, None);
+
 /// What stands in front, the letter, the brackets, the count, and what is due.
 type Chain = (
     (&'static [&'static str], &'static str),
@@ -196,8 +202,10 @@ type Chain = (
 );
 
 const CHAINS: &[Chain] = &[
+    ((&[], "B"), PLAIN, LONG),
     ((&[], "B"), PLAIN, LONGEST),
     ((&[], "B"), PLAIN, TOO_LONG),
+    ((&["A"], "G"), GROUPS, DEEP),
     ((&["A"], "G"), GROUPS, DEEPEST),
     ((&["A"], "G"), GROUPS, TOO_DEEP),
     ((&["A"], "G"), SEQUENCES, DEEPEST),

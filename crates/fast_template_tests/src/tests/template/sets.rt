@@ -227,6 +227,15 @@ fn expect_behind(
     expect_faults(rt, alloc, (text.as_str(), ""), faults)
 }
 
+/// As many as there are bits in 32 bytes of a map, beside the identifier's.
+const COPIES: usize = 224;
+
+#[test]
+fn a_map_has_more_than_32_bytes(rt: HostRuntime) -> Result<(), Fail> {
+    expect_behind(&rt, rt.alloc(), COPIES, ENOUGH_BITS)?;
+    Ok(())
+}
+
 #[test]
 fn a_message_has_1022_bits(rt: HostRuntime) -> Result<(), Fail> {
     expect_behind(&rt, rt.alloc(), 1021, ENOUGH_BITS)?;
