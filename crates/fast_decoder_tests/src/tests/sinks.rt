@@ -144,7 +144,9 @@ const A_FIRST_MESSAGE: &str =
     "a message as of a new decoder | lenient | C0 81 39 45 A3 | m0 u0=942755 /m | between";
 
 /// A decoder that has stopped, as `Debug` writes it.
-const STOPPED: &str = "Decoder { limits: Limits { strict: false, max_text: 1024, max_elements: 1000, max_total: 1000 }, consumed: 7, fault: Some(Fault { code: Stream(L2), place: 7 }), .. }";
+const STOPPED: &str = "Decoder { \
+    limits: Limits { strict: false, max_text: 1024, max_elements: 1000, max_total: 1000 }, \
+    consumed: 7, fault: Some(Fault { code: Stream(L2), place: 7 }), .. }";
 
 /// What `Debug` writes.
 fn debug_of(alloc: Global, decoder: &Decoder<'_>) -> Result<String, AllocError> {
@@ -156,7 +158,12 @@ pub fn expect_stays(rt: &impl Abort, alloc: Global, decoder: &mut Decoder<'_>) -
     let is_stopped = is_stopped_by_a_claim(decoder);
     expect(rt, is_stopped, "a claim", 0);
     let text = debug_of(alloc, decoder)?;
-    expect(rt, text.as_str() == STOPPED, "as Debug writes it", text.len());
+    expect(
+        rt,
+        text.as_str() == STOPPED,
+        "as Debug writes it",
+        text.len(),
+    );
     expect_line(rt, alloc, decoder, A_FIRST_MESSAGE)
 }
 

@@ -62,7 +62,8 @@ fn the_length_of_texts_has_bounds(rt: HostRuntime) -> Result<(), Fail> {
 }
 
 /// An encoder as `Debug` writes it.
-const ENCODER: &str = "Encoder { limits: Limits { strict: false, max_text: 1024, max_elements: 1000, max_total: 1000 }, .. }";
+const ENCODER: &str =
+    "Encoder { limits: Limits { strict: false, max_text: 1024, max_elements: 1000, max_total: 1000 }, .. }";
 
 /// What `Debug` writes.
 fn debug_of(alloc: Global, encoder: &Encoder<'_>) -> Result<String, AllocError> {

@@ -73,11 +73,7 @@ fn maps(rt: HostRuntime) {
 }
 
 /// An entity and a map in the making as `Debug` writes them.
-fn debug_of(
-    alloc: Global,
-    entity: &Entity,
-    builder: &MapBuilder,
-) -> Result<String, AllocError> {
+fn debug_of(alloc: Global, entity: &Entity, builder: &MapBuilder) -> Result<String, AllocError> {
     format!(in alloc; "{entity:?}, {builder:?}")
 }
 
@@ -88,6 +84,11 @@ fn debug_writes_the_bytes(rt: HostRuntime) -> Result<(), Fail> {
     builder.set(8);
     let text = debug_of(rt.alloc(), &write_unsigned(942_755), &builder)?;
     let want = "Entity { bytes: [57, 69, 163] }, MapBuilder { bytes: [64, 32] }";
-    expect(&rt, text.as_str() == want, "as Debug writes it", text.as_bytes());
+    expect(
+        &rt,
+        text.as_str() == want,
+        "as Debug writes it",
+        text.as_bytes(),
+    );
     Ok(())
 }
