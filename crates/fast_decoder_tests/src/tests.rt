@@ -257,6 +257,10 @@ enum Case<'t> {
     Comes(&'t Row<'t>),
     /// The steps of this name are read back that are not refused.
     ReadsBack(&'t str, &'t str),
+    /// A row of messages, encoded under the set, comes back.
+    ComesBack(&'t Templates, &'t str),
+    /// A list of messages of the set ends at the first that does not come back.
+    EndsInList(&'t Templates),
     /// A recorder keeps the events of these bytes.
     Keeps(&'t [u8], &'t str),
     /// Any two bytes end in events or a fault.
@@ -287,6 +291,10 @@ fn expect_shown(
         Case::ReadsBack(name, steps) => {
             return encoder::expect_heard(rt, alloc, decoder, name, steps);
         }
+        Case::ComesBack(set, text) => {
+            return encoder::expect_row_back(rt, alloc, decoder, set, text);
+        }
+        Case::EndsInList(set) => return encoder::expect_ends(rt, alloc, decoder, set),
         Case::Keeps(bytes, events) => sinks::expect_kept(rt, alloc, decoder, bytes, events),
         Case::Ends => sinks::expect_all_ends(rt, decoder),
         Case::AsOne => pieces::expect_as_one(rt, decoder),

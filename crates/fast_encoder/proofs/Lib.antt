@@ -1,3 +1,4 @@
 pub mod Able
 pub mod Answered
 pub mod ReadBack
+pub mod RoundTrips

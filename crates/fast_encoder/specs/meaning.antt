@@ -1,3 +1,4 @@
 -- What is meant: the contracts of public functions rest on these definitions.
 pub mod Encoders
 pub mod ReadBack
+pub mod RoundTrips

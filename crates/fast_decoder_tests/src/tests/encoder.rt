@@ -12,6 +12,7 @@
 //! `-*299` are 299 of them, and `1000*u2=7` are 1000 elements, each with this field. A text is in quotes, or is digits
 //! behind an `x` where it is not UTF-8. What comes of a message is its bytes, `00*146` for 146 of them, or a fault.
 
+mod back;
 mod growths;
 mod limits;
 mod messages;
@@ -22,6 +23,7 @@ mod worked;
 mod zeros;
 
 use super::{Case, LENIENT, Script, expect_of, feed, set_of};
+pub use back::{expect_ends, expect_row_back};
 use fast_decoder::{Decoder, MakeError};
 use fast_encoder::{EncodeFault, Encoder};
 use fast_template::Templates;
@@ -208,11 +210,27 @@ fn expect_so(
     expect_read(rt, alloc, set, row, is_so)
 }
 
-/// A row comes of the set, also if the messages that are refused are left out, and is read back in both modes.
+/// A row comes back as it is encoded, message by message and as a list, to a decoder in strict mode.
+fn expect_back(
+    rt: &impl Abort,
+    alloc: Global,
+    set: &Templates,
+    row: &Row<'_>,
+    text: &str,
+) -> Result<(), Fail> {
+    let limits = Limits {
+        strict: true,
+        ..row.limits
+    };
+    expect_of(rt, alloc, set, limits, Case::ComesBack(set, text))
+}
+
+/// A row comes of the set, also if the messages that are refused are left out, and is read back in both modes, and as it is encoded.
 fn expect_row(rt: &impl Abort, alloc: Global, set: &Templates, text: &str) -> Result<(), Fail> {
     let row = Row::of(text)?;
     expect_so(rt, alloc, set, &row, true)?;
-    expect_so(rt, alloc, set, &row, false)
+    expect_so(rt, alloc, set, &row, false)?;
+    expect_back(rt, alloc, set, &row, text)
 }
 
 /// Each row comes of the template set with this text.

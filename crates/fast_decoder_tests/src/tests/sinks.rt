@@ -90,7 +90,7 @@ fn event_of(kept: &Recorded) -> Event<'_> {
 }
 
 /// Whether the kept events are those that are due.
-fn are_due(events: &str, kept: &[Recorded]) -> bool {
+pub fn are_due(events: &str, kept: &[Recorded]) -> bool {
     let mut script = Script::of(events);
     for event in kept {
         if script.take(event_of(event)).is_err() {

@@ -1,8 +1,9 @@
 -- A decoder that reads what an encoder wrote.
-use Rattle.std.specs.Prelude.{◌≡◌, true, ℕ, List, ◌++◌, Result, Ok}
+use Rattle.std.specs.Prelude.{◌≡◌, true, ℕ, List, ◌++◌, Result, Ok, Err}
 use Rattle.fast_value.specs.meaning.Limits.{in_mode}
 use Rattle.fast_value.specs.meaning.Messages.{MessageData}
 use Rattle.fast_stream.specs.declared.faults.Fault.{Fault}
+use Rattle.fast_stream.specs.declared.faults.FaultCode.TheVariants as Why
 use Rattle.fast_stream.specs.meaning.Events.{EventData, events}
 use Rattle.fast_stream.specs.meaning.Sinks.{Takes}
 use Rattle.fast_stream.specs.meaning.Streams.{Chain}
@@ -18,12 +19,12 @@ pub record AreLevel (e : EncoderData) (d : DecoderData) (w : List ℕ) (es : Lis
   pub is_between : (account d).is_between ≡ true
   pub chain : Chain (decoded_tree d) d.limits w es e.dictionary
 
--- a sink that takes every event
-abbrev pub NeverStops : {S : Type 0} → (S → EventData → S → Type 0) → Type 0
-NeverStops {S} stops = (x y : S) (a : EventData) → ¬ (stops x a y)
+-- the feed ended since its sink stopped
+abbrev pub IsSinkStop : Result Unit Fault → Type 0
+IsSinkStop (Ok u) = ⊥
+IsSinkStop (Err f) = f.code ≡ Why.SinkStopped
 
 -- The sink took exactly the events of the message, and the two are level again behind its bytes.
-pub record IsReadBack {S : Type 0} (takes : S → EventData → S → Type 0) (m : MessageData) (bytes : List ℕ) (w : List ℕ) (es : List EventData) (s : S) (answer : Result Unit Fault) (e : EncoderData) (d : DecoderData) (s' : S) : Type 0 where
-  pub answered : answer ≡ Ok tt
+pub record IsReadBack {S : Type 0} (takes : S → EventData → S → Type 0) (m : MessageData) (bytes : List ℕ) (w : List ℕ) (es : List EventData) (s : S) (e : EncoderData) (d : DecoderData) (s' : S) : Type 0 where
   pub took : Takes takes s (events (tree e) m) s'
   pub level : AreLevel e d (w ++ bytes) (es ++ events (tree e) m)

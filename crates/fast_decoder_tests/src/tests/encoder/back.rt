@@ -1,0 +1,315 @@
+//! Messages that are encoded, and read at once by a decoder that is level with the encoder.
+
+use super::super::sinks::are_due;
+use super::super::{Case, LENIENT, Script, expect_of, put, set_of};
+use super::messages::message_of;
+use super::rows::{Row, Step, events_of, is_answer, is_hex};
+use super::{BEFORE, encoder_of, expect, reset};
+use fast_decoder::{Decoder, Fault, FaultCode};
+use fast_encoder::{
+    EncodeFault, Encoder, RoundTripFault, RoundTripStop, round_trip, round_trip_all,
+};
+use fast_template::{Templates, VECTORS};
+use fast_value::Message;
+use std::alloc::{AllocError, Global};
+use std::process::Abort;
+use std::test::Fail;
+
+/// Encodes a message and reads it. Without a contract, so that a call is cheap to prove, as those of the next functions.
+fn take(
+    encoder: &mut Encoder<'_>,
+    decoder: &mut Decoder<'_>,
+    message: &Message,
+    out: &mut Vec<u8>,
+    sink: &mut Script<'_>,
+) -> Result<(), RoundTripFault> {
+    round_trip(encoder, decoder, message, out, sink)
+}
+
+fn take_all(
+    encoder: &mut Encoder<'_>,
+    decoder: &mut Decoder<'_>,
+    messages: &[Message],
+    out: &mut Vec<u8>,
+    sink: &mut Script<'_>,
+) -> Result<(), RoundTripStop> {
+    round_trip_all(encoder, decoder, messages, out, sink)
+}
+
+/// Both as they were made.
+fn reset_both(encoder: &mut Encoder<'_>, decoder: &mut Decoder<'_>) {
+    reset(encoder);
+    super::super::reset(decoder);
+}
+
+/// Whether what is due of a message is appended to what `out` has, and comes back as these events; or it is refused, and nothing comes.
+fn is_back(
+    encoder: &mut Encoder<'_>,
+    decoder: &mut Decoder<'_>,
+    message: &Message,
+    out: &mut Vec<u8>,
+    events: &str,
+    due: &str,
+) -> bool {
+    let mut script = Script::of(events);
+    let (answer, is_heard) = match take(encoder, decoder, message, out, &mut script) {
+        Ok(()) => (Ok(()), script.is_played()),
+        Err(RoundTripFault::Encode(fault)) => (Err(fault), script.taken == 0),
+        Err(RoundTripFault::Decode(_)) => return false,
+    };
+    match out.strip_prefix(BEFORE) {
+        Some(bytes) => is_heard && is_answer(answer, bytes, due),
+        None => false,
+    }
+}
+
+/// Whether a step comes back, behind bytes that `out` has.
+fn is_step_back(
+    alloc: Global,
+    encoder: &mut Encoder<'_>,
+    decoder: &mut Decoder<'_>,
+    step: &Step<'_>,
+) -> Result<bool, AllocError> {
+    let events = events_of(alloc, step.words)?;
+    let mut out = Vec::from_slice(alloc, BEFORE)?;
+    Ok(match message_of(alloc, step.words)? {
+        Some(message) => is_back(
+            encoder,
+            decoder,
+            &message,
+            &mut out,
+            events.as_str().trim(),
+            step.due,
+        ),
+        None => false,
+    })
+}
+
+/// Each step comes back, one after the other: what is refused leaves both level.
+fn expect_each(
+    rt: &impl Abort,
+    alloc: Global,
+    encoder: &mut Encoder<'_>,
+    decoder: &mut Decoder<'_>,
+    row: &Row<'_>,
+) -> Result<(), Fail> {
+    for line in row.steps.lines() {
+        let step = Step::of(line);
+        if step.is_reset() {
+            reset_both(encoder, decoder);
+        } else {
+            let is_back = is_step_back(alloc, encoder, decoder, &step)?;
+            expect(rt, is_back, row.name, line);
+        }
+    }
+    Ok(())
+}
+
+/// Adds the message of a step that is not refused, and its events.
+fn add_step(
+    alloc: Global,
+    line: &str,
+    messages: &mut Vec<Message>,
+    events: &mut String,
+) -> Result<(), AllocError> {
+    let step = Step::of(line);
+    if let (false, Some(message)) = (step.is_refused(), message_of(alloc, step.words)?) {
+        let words = events_of(alloc, step.words)?;
+        put(events, &[words.as_str()])?;
+        messages.push(message)?;
+    }
+    Ok(())
+}
+
+/// Whether a recorder keeps these events of the messages.
+fn are_kept(
+    alloc: Global,
+    encoder: &mut Encoder<'_>,
+    decoder: &mut Decoder<'_>,
+    messages: &[Message],
+    events: &str,
+) -> bool {
+    let mut out = Vec::new(alloc);
+    let mut script = Script::keeping(alloc);
+    let answer = take_all(encoder, decoder, messages, &mut out, &mut script);
+    answer.is_ok() && decoder.between() && are_due(events, script.kept())
+}
+
+/// Whether the steps that are not refused come back as one list.
+fn are_steps_back(
+    alloc: Global,
+    encoder: &mut Encoder<'_>,
+    decoder: &mut Decoder<'_>,
+    steps: &str,
+) -> Result<bool, AllocError> {
+    let mut messages = Vec::new(alloc);
+    let mut events = String::new(alloc);
+    for line in steps.lines() {
+        add_step(alloc, line, &mut messages, &mut events)?;
+    }
+    Ok(are_kept(alloc, encoder, decoder, &messages, events.as_str().trim()))
+}
+
+/// What stands before a reset, and behind it, comes back as one list.
+fn expect_lists(
+    rt: &impl Abort,
+    alloc: Global,
+    encoder: &mut Encoder<'_>,
+    decoder: &mut Decoder<'_>,
+    row: &Row<'_>,
+) -> Result<(), Fail> {
+    for steps in row.steps.split("reset") {
+        reset_both(encoder, decoder);
+        let are_back = are_steps_back(alloc, encoder, decoder, steps)?;
+        expect(rt, are_back, row.name, steps);
+    }
+    Ok(())
+}
+
+/// The steps of a row come back, one by one and as lists, from an encoder and a decoder that are new.
+pub fn expect_row_back(
+    rt: &impl Abort,
+    alloc: Global,
+    decoder: &mut Decoder<'_>,
+    set: &Templates,
+    text: &str,
+) -> Result<(), Fail> {
+    let row = Row::of(text)?;
+    let mut encoder = encoder_of(alloc, set, row.limits)?;
+    expect_each(rt, alloc, &mut encoder, decoder, &row)?;
+    expect_lists(rt, alloc, &mut encoder, decoder, &row)
+}
+
+/// Three messages, of which the second is refused.
+const THREE: &str = "m0 u0=942755 /m\nm0 - /m\nm0 u0=0 /m";
+
+/// The first of them and the third.
+const TWO: &str = "m0 u0=942755 /m\nm0 u0=0 /m";
+
+/// The second message is refused.
+const REFUSED: RoundTripStop = RoundTripStop {
+    index: 1,
+    fault: RoundTripFault::Encode(EncodeFault::E2),
+};
+
+/// A sink of four events takes the first message and the start of the second.
+const STOPPED: RoundTripStop = RoundTripStop {
+    index: 1,
+    fault: RoundTripFault::Decode(SHORT),
+};
+
+const SHORT: Fault = Fault {
+    code: FaultCode::SinkStopped,
+    place: 7,
+};
+
+/// The messages on these lines.
+fn messages_of(alloc: Global, lines: &str) -> Result<Vec<Message>, AllocError> {
+    let mut messages = Vec::new(alloc);
+    for line in lines.lines() {
+        if let Some(message) = message_of(alloc, line)? {
+            messages.push(message)?;
+        }
+    }
+    Ok(messages)
+}
+
+/// Whether a list comes to this end, with these bytes.
+fn ends_so(
+    alloc: Global,
+    encoder: &mut Encoder<'_>,
+    decoder: &mut Decoder<'_>,
+    messages: &[Message],
+    sink: &mut Script<'_>,
+    due: (Result<(), RoundTripStop>, &str),
+) -> bool {
+    let mut out = Vec::new(alloc);
+    let answer = take_all(encoder, decoder, messages, &mut out, sink);
+    answer == due.0 && is_hex(&out, due.1)
+}
+
+/// A list ends at a message that is refused, and both are level behind the one before it: the messages behind it come back.
+fn expect_refused(
+    rt: &impl Abort,
+    alloc: Global,
+    encoder: &mut Encoder<'_>,
+    decoder: &mut Decoder<'_>,
+) -> Result<(), Fail> {
+    let messages = messages_of(alloc, THREE)?;
+    let mut sink = Script::of("m0 u0=942755 /m");
+    let due = (Err(REFUSED), "C0 81 39 45 A3");
+    let is_refused = ends_so(alloc, encoder, decoder, &messages, &mut sink, due);
+    expect(
+        rt,
+        is_refused && sink.is_played(),
+        "a list",
+        "up to a refusal",
+    );
+    let mut sink = Script::of("m0 u0=0 /m");
+    let rest = messages.get(2..).unwrap_or(&[]);
+    let is_back = ends_so(alloc, encoder, decoder, rest, &mut sink, (Ok(()), "80 80"));
+    expect(
+        rt,
+        is_back && sink.is_played(),
+        "a list",
+        "behind a refusal",
+    );
+    Ok(())
+}
+
+/// A list ends where the sink stops: the message is encoded, and the decoder says the same of the next one, until both are reset.
+fn expect_stopped(
+    rt: &impl Abort,
+    alloc: Global,
+    encoder: &mut Encoder<'_>,
+    decoder: &mut Decoder<'_>,
+) -> Result<(), Fail> {
+    let messages = messages_of(alloc, TWO)?;
+    let mut sink = Script::stopping(4);
+    let due = (Err(STOPPED), "C0 81 39 45 A3 80 80");
+    let is_stopped = ends_so(alloc, encoder, decoder, &messages, &mut sink, due);
+    expect(rt, is_stopped && sink.taken == 4, "a list", "up to a stop");
+    expect(
+        rt,
+        decoder.fault() == Some(SHORT),
+        "a list",
+        "with its fault",
+    );
+    Ok(())
+}
+
+/// Lists end at what does not come back.
+pub fn expect_ends(
+    rt: &impl Abort,
+    alloc: Global,
+    decoder: &mut Decoder<'_>,
+    set: &Templates,
+) -> Result<(), Fail> {
+    let mut encoder = encoder_of(alloc, set, LENIENT)?;
+    expect_refused(rt, alloc, &mut encoder, decoder)?;
+    reset_both(&mut encoder, decoder);
+    expect_stopped(rt, alloc, &mut encoder, decoder)?;
+    reset_both(&mut encoder, decoder);
+    expect_refused(rt, alloc, &mut encoder, decoder)
+}
+
+#[test]
+fn a_list_ends_at_what_does_not_come_back(rt: HostRuntime) -> Result<(), Fail> {
+    let set = set_of(rt.alloc(), VECTORS)?;
+    expect_of(&rt, rt.alloc(), &set, LENIENT, Case::EndsInList(&set))
+}
+
+#[rattlefmt::skip]
+const SENTENCES: &[(RoundTripStop, &str)] = &[
+    (REFUSED, "message 1: encoder: the message does not suit its template"),
+    (STOPPED, "message 1: decoder: SinkStopped at 7: the sink stopped"),
+];
+
+#[test]
+fn what_does_not_come_back_has_a_sentence(rt: HostRuntime) -> Result<(), Fail> {
+    for (stop, sentence) in SENTENCES {
+        let found = format!(in rt.alloc(); "{stop}")?;
+        expect(&rt, found.as_str() == *sentence, "a sentence", sentence);
+    }
+    Ok(())
+}
