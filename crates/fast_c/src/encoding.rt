@@ -3,23 +3,21 @@
 ghost use Rattle.std.specs.Prelude.{◌≡◌, Err};
 ghost use Rattle.fast_c.specs.contracts.encoding.Encoding.{the_row};
 ghost use Rattle.fast_c.specs.declared.encoding.Encoding.{Encoding};
-ghost use Rattle.fast_template.specs.meaning.Flat.{tree_of};
+ghost use Rattle.fast_encoder.specs.meaning.Encoders.{tree};
 ghost use Rattle.fast_c.specs.meaning.Called.{misplaced, HasCome, IsTaken};
 
 use crate::sets::SetHandle;
 use crate::{NO_MEMORY, limits_of};
 use fast_encoder::Encoder;
 use fast_records::{PutFault, PutRefusal, Record, Status, put_records};
-use fast_template::Templates;
 use fast_value::Limits;
 use std::alloc::Global;
 use std::marker::Model;
 
-/// An encoder, its set, and the bytes that were not taken yet.
+/// An encoder, and the bytes that were not taken yet.
 #[derive(Drop)]
 pub struct Encoding {
     alloc: Global,
-    templates: &'static Templates,
     encoder: Encoder<'static>,
     bytes: Vec<u8>,
 }
@@ -76,13 +74,11 @@ pub struct FastPut {
 
 /// An encoder in a box.
 fn made(alloc: Global, set: SetHandle, limits: Limits) -> Result<Box<Encoding, Global>, Status> {
-    let templates = set.lent();
-    match Encoder::new(alloc, templates, limits) {
+    match Encoder::new(alloc, set.lent(), limits) {
         Ok(encoder) => {
             let bytes = Vec::new(alloc);
             let encoding = Encoding {
                 alloc,
-                templates,
                 encoder,
                 bytes,
             };
@@ -114,16 +110,15 @@ pub extern "C" fn fast_encoder_open(
 
 /// Encodes the message of these records behind the bytes that wait.
 fn put(encoding: &mut Encoding, records: &[Record], texts: &[u8]) -> FastPut
-    ensures { HasCome (tree_of encoding.old.templates.now) encoding.old.encoder records.now texts.now
+    ensures { HasCome (tree encoding.old.encoder) encoding.old.encoder records.now texts.now
         encoding.old.bytes.items result }
 {
     let Encoding {
         alloc,
-        templates,
         encoder,
         bytes,
     } = encoding;
-    let (status, record) = match put_records(*alloc, templates, encoder, records, texts, bytes) {
+    let (status, record) = match put_records(*alloc, encoder, records, texts, bytes) {
         Ok(()) => (Status::Done, 0),
         Err(refusal) => (Status::from(refusal), record_of(refusal)),
     };
@@ -154,7 +149,7 @@ pub extern "C" fn fast_encoder_put(
     texts: &[u8],
     came: &mut FastPut,
 )
-    ensures { HasCome (tree_of encoder.value.templates.now) encoder.value.encoder records.now texts.now
+    ensures { HasCome (tree encoder.value.encoder) encoder.value.encoder records.now texts.now
         encoder.value.bytes.items came.new }
 {
     let mut encoding = encoder.into_box();

@@ -105,6 +105,13 @@ impl<'t> Encoder<'t> {
         }
     }
 
+    /// The template set whose messages it encodes.
+    pub fn templates(&self) -> &'t Templates
+        ensures { tree_of result.now ≡ tree self.now }
+    {
+        self.plan.templates
+    }
+
     /// The encoder as it was made: all entries of its dictionary are undefined.
     pub fn reset(&mut self)
         ensures fresh { self.new.dictionary ≡ fresh (tree self.old).entries }

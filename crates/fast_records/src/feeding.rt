@@ -1,10 +1,11 @@
 //! Bytes go in, records come out.
 
-ghost use Rattle.std.specs.Prelude.{◌≡◌, ℕ, ◌+◌, ◌≤◌, ◌==◌, ◌&&◌, nat_lt, List, length, take, IsSome, Err, Ok};
+ghost use Rattle.std.specs.Prelude.{◌≡◌, ℕ, ◌+◌, ◌≤◌, ◌==◌, ◌&&◌, nat_lt, List, length, take, IsSome, Some, Err, Ok};
+ghost use Rattle.fast_stream.specs.declared.faults.Fault.{Fault};
 ghost use Rattle.fast_stream.specs.meaning.Events.{EventData};
 ghost use Rattle.fast_decoder.specs.meaning.Decoding.{HasRead, tree, account, answer};
 ghost use Rattle.fast_records.specs.meaning.Waiting.{pending};
-ghost use Rattle.fast_records.specs.meaning.Feeding.{Delivers, unfinished, outcome_of};
+ghost use Rattle.fast_records.specs.meaning.Feeding.{Delivers, HandsOver, unfinished, outcome_of};
 
 use crate::records::Record;
 use crate::sink::RecordSink;
@@ -88,6 +89,9 @@ pub fn feed_records(
         → Delivers (tree decoder.old) decoder.old.limits w es piece.now (pending waiting.old) decoder.new
         (take result.records records.new)
         (take result.texts texts.new) (pending waiting.new) }
+    // The same of a decoder that had stopped before, whatever its fault is.
+    ensures waited { (f : Fault) → decoder.old.fault ≡ Some f
+        → HandsOver (pending waiting.old) f records.new texts.new result (pending waiting.new) }
     ensures room { (w : List ℕ) (es : List EventData) → HasRead decoder.old w es
         → (result.records ≤ length records.new) × (result.texts ≤ length texts.new) }
     ensures outcome { (w : List ℕ) (es : List EventData) → HasRead decoder.old w es

@@ -24,6 +24,8 @@ use fast_stream::Event;
 use fast_template::{Shape, Templates};
 use fast_value::{Item, Message, Scalar, Value};
 use std::alloc::{AllocError, Global};
+use std::error::Error;
+use std::fmt;
 
 /// Why records are no message.
 #[derive(Clone, Copy, Debug, PartialEq, Eq)]
@@ -36,6 +38,20 @@ pub enum PutFault {
     /// Memory was refused.
     Memory,
 }
+
+impl fmt::Display for PutFault {
+    fn fmt<W: fmt::Write>(&self, f: &mut fmt::Formatter<W>) -> fmt::Result {
+        match self {
+            PutFault::Misplaced { record } => write!(
+                f,
+                "record {record} is missing or out of place"
+            ),
+            PutFault::Memory => f.write_str("there is no memory left"),
+        }
+    }
+}
+
+impl Error for PutFault {}
 
 impl From<AllocError> for PutFault {
     ghost use Rattle.std.specs.Prelude.{◌≡◌};

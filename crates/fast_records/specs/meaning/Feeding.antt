@@ -1,12 +1,15 @@
 -- What a call gives that feeds bytes and hands records out.
-use Rattle.std.specs.Prelude.{◌≡◌, ℕ, ◌≤◌, Bool, true, false, List, [], ◌∷◌, ◌++◌, length, take, Result, Ok, Err}
+use Rattle.std.specs.Prelude.{◌≡◌, ℕ, ◌≤◌, ◌==◌, nat_lt, Bool, true, false, List, [], ◌∷◌, ◌++◌, length, take, Result, Ok, Err}
 use Rattle.fast_value.specs.declared.settings.Limits.{Limits}
 use Rattle.fast_tree.specs.meaning.Tree.{Tree}
 use Rattle.fast_stream.specs.declared.faults.Fault.{Fault}
+use Rattle.fast_stream.specs.declared.faults.FaultCode.{FaultCode}
+use Rattle.fast_stream.specs.declared.faults.FaultCode.TheVariants as Why
 use Rattle.fast_stream.specs.meaning.Events.{EventData}
-use Rattle.fast_decoder.specs.meaning.Decoding.{DecoderData, answer}
+use Rattle.fast_decoder.specs.meaning.Decoding.{DecoderData, HasRead, answer}
 use Rattle.fast_decoder.specs.meaning.Feeding.{Followed}
 use Rattle.fast_records.specs.declared.records.Record.{Record}
+use Rattle.fast_records.specs.declared.feeding.Fed.{Fed}
 use Rattle.fast_records.specs.declared.feeding.Outcome.{Outcome}
 use Rattle.fast_records.specs.declared.feeding.Outcome.TheVariants as Came
 use Rattle.fast_records.specs.meaning.Records.{AreRecordsOf}
@@ -18,15 +21,33 @@ Appends old e new = new ≡ old ++ e ∷ []
 abbrev pub Stays : List EventData → EventData → List EventData → Type 0
 Stays old e new = new ≡ old
 
--- Behind bytes that gave events, a front of the piece was fed. All events that waited, and then those of these bytes, are those whose
--- records were given, and then those that wait now: none is lost, none comes twice, none out of turn. The rest is what `feed` says of
--- a sink that is a list.
+-- Of these events the first were given, as their records and texts, and the others wait: none is lost, none comes twice, none out of turn.
+pub record Gives (es : List EventData) (records : List Record) (texts : List ℕ) (waits : List EventData) : Type 0 where
+  pub given : List EventData
+  pub are_records : AreRecordsOf given records texts
+  pub all : es ≡ given ++ waits
+
+-- so of a fault of the stream; the others are at no place in a stream
+abbrev pub OnStreamCode : FaultCode → Type 0 → Type 0
+OnStreamCode (Why.Stream c) A = A
+OnStreamCode Why.L4 A = Unit {0}
+OnStreamCode Why.SinkStopped A = Unit {0}
+
+-- so without a fault and at one of the stream
+abbrev pub OnStream : Result Unit Fault → Type 0 → Type 0
+OnStream (Ok u) A = A
+OnStream (Err f) A = OnStreamCode f.code A
+
+-- After bytes that gave events, a front of the piece was fed, which gave more. Those that waited and then these were given, or wait now.
+-- Without a fault, and at one of the stream, what was fed leads to the decoder, so that the same can be said of the next call. The rest is
+-- what `feed` says of a sink that is a list.
 pub record Delivers (t : Tree) (l : Limits) (w : List ℕ) (es : List EventData) (piece : List ℕ) (waited : List EventData) (new : DecoderData) (records : List Record) (texts : List ℕ) (waits : List EventData) : Type 0 where
   pub count : ℕ
   pub within : count ≤ length piece
-  pub given : List EventData
-  pub are_records : AreRecordsOf given records texts
-  pub followed : Followed Appends Stays t l w es (take count piece) waited (answer new.fault) new (given ++ waits)
+  pub more : List EventData
+  pub gives : Gives (waited ++ more) records texts waits
+  pub followed : Followed Appends Stays t l w es (take count piece) waited (answer new.fault) new (waited ++ more)
+  pub so : OnStream (answer new.fault) (HasRead new (w ++ take count piece) (es ++ more))
 
 -- how a call ends that is not done: at nothing taken and nothing given there is too little room for the next record
 abbrev pub unfinished : Bool → Outcome
@@ -40,3 +61,11 @@ outcome_of true r all nothing = unfinished nothing
 outcome_of false (Err f) all nothing = Came.Fault f.code
 outcome_of false (Ok u) true nothing = Came.Done
 outcome_of false (Ok u) false nothing = unfinished nothing
+
+-- What a call does of a decoder that had stopped before, at this fault: it takes no byte, and of the events that waited it gives the first.
+-- The fault is told once none waits.
+pub record HandsOver (waited : List EventData) (f : Fault) (records : List Record) (texts : List ℕ) (fed : Fed) (waits : List EventData) : Type 0 where
+  pub nothing : fed.taken ≡ 0
+  pub room : (fed.records ≤ length records) × (fed.texts ≤ length texts)
+  pub gives : Gives waited (take fed.records records) (take fed.texts texts) waits
+  pub outcome : fed.outcome ≡ outcome_of (nat_lt 0 (length waits)) (Err f) false (fed.records == 0)

@@ -1,39 +1,65 @@
-use Rattle.std.proofs.Common.{rules, arith, ◌≡◌, ℕ, ◌≤◌, List, length, ◌∙◌}
+use Rattle.std.proofs.Common.{rules, arith, ◌≡◌, ℕ, ◌-◌, ◌≤◌, List, length, ap, sym, subst, ◌∙◌}
+use Rattle.std.specs.Prelude.{is_some}
 use Rattle.std.proofs.lemmas.Grind.{common_steps}
-use Rattle.fast_decoder.specs.meaning.Decoding.{tree}
-use Rattle.fast_records.specs.declared.records.Record.{Record}
-use Rattle.fast_records.specs.declared.waiting.Waiting.{Waiting}
+use Rattle.fast_stream.specs.meaning.Account.{Account}
+use Rattle.fast_stream.specs.meaning.Events.{EventData}
+use Rattle.fast_decoder.specs.meaning.Decoding.{HasRead, tree, account}
+use Rattle.fast_records.specs.declared.sink.RecordSink.{RecordSink}
 use Rattle.fast_records.specs.meaning.Waiting.{pending}
-use Rattle.fast_records.proofs.Delivering.{delivers_by, same_by, room_by, outcome_by}
+use Rattle.fast_records.specs.meaning.Sink.{Shows, IsSameSink}
+use Rattle.fast_records.proofs.Delivering.{Listed, listed, same_stopped, gives_by, delivers_by, room_by, outcome_by, outcome_stopped}
 use Rattle.fast_records.proofs.feeding.feed_records.Goals as goal
+
+module _ (c : goal.After-outcome_of) (same : IsSameSink c.new-sink.result c.feed-answer.new.sink) where
+  -- what the sink holds at its end is what the caller has back
+  records_back : c.records-1.given.0 ≡ c.feed-answer.new.sink.records.now
+  records_back = let records = same.records ∙ c.new-sink.ensures.records in search (rules, records)
+
+  texts_back : c.texts-1.given.0 ≡ c.feed-answer.new.sink.texts.now
+  texts_back = let texts = same.texts ∙ c.new-sink.ensures.texts in search (rules, texts)
+
+  waiting_back : c.waiting-1.given.0 ≡ c.feed-answer.new.sink.waiting.now
+  waiting_back = let waiting = same.waiting ∙ c.new-sink.ensures.waiting in search (rules, waiting)
+
+  room : (c.filled-filled.result ≤ length c.records-1.given.0) × (c.used.result ≤ length c.texts-1.given.0)
+  room = room_by c.feed-answer.new.sink c.records-1.given.0 c.texts-1.given.0 c.filled-filled.result c.used.result records_back texts_back c.filled-filled.ensures c.used.ensures.used
 
 pub returns-clause-delivers : goal.returns-clause-delivers
 returns-clause-delivers c w es so =
-    let old = c.args.decoder.now in let s = c.new-sink.result in let s' = c.feed-answer.new.sink in let followed = c.feed-answer.ensures.followed w es so in
-    let same = same_by (tree old) old.limits w es _ (pending c.args.waiting.now) c.feed-answer.result c.feed-answer.new.self s s' c.new-sink.ensures.shows followed in
-    let records = same.records ∙ c.new-sink.ensures.records in
-    let texts = same.texts ∙ c.new-sink.ensures.texts in
-    let waiting = same.waiting ∙ c.new-sink.ensures.waiting in
+    let old = c.args.decoder.now in let s' = c.feed-answer.new.sink in let fed = c.feed-answer.ensures in
+    let x = listed old c.feed-answer.new.self w es _ (pending c.args.waiting.now) c.new-sink.result s' c.new-sink.ensures.shows fed.same_set.0 fed.same_set.1 c.feed-answer.result (fed.carried w es so) (fed.followed w es so) in
     let within : c.min.result ≤ length c.args.piece.now = omega (arith, c.min.ensures) in
-    let part = λ (rs : List Record) (ts : List ℕ) (v : Waiting) (er : rs ≡ s'.records.now) (et : ts ≡ s'.texts.now) (ev : v ≡ s'.waiting.now).
-    delivers_by (tree old) old.limits w es c.args.piece.now _ c.min.result (pending c.args.waiting.now) c.feed-answer.result c.feed-answer.new.self s s' rs ts v c.filled-filled.result c.used.result (grind (arith, common_steps)) within
-    c.new-sink.ensures.shows followed c.feed-answer.ensures.answer er et ev c.filled-filled.ensures c.used.ensures.used in
-    part _ _ c.waiting-1.given.0 (search (rules, records)) (search (rules, texts)) (search (rules, waiting))
+    delivers_by (tree old) old.limits w es c.args.piece.now _ c.min.result (pending c.args.waiting.now) c.feed-answer.result c.feed-answer.new.self c.new-sink.result s' c.records-1.given.0 c.texts-1.given.0 c.waiting-1.given.0 c.filled-filled.result c.used.result
+    (grind (arith, common_steps)) within x fed.answer (records_back c x.same) (texts_back c x.same) (waiting_back c x.same) c.filled-filled.ensures c.used.ensures.used
+
+same_read : (c : goal.After-outcome_of) (w : List ℕ) (es : List EventData) → HasRead c.args.decoder.now w es → IsSameSink c.new-sink.result c.feed-answer.new.sink
+same_read c w es so =
+    let fed = c.feed-answer.ensures in
+    (listed c.args.decoder.now c.feed-answer.new.self w es _ (pending c.args.waiting.now) c.new-sink.result c.feed-answer.new.sink c.new-sink.ensures.shows fed.same_set.0 fed.same_set.1 c.feed-answer.result (fed.carried w es so) (fed.followed w es so)).same
 
 pub returns-clause-room : goal.returns-clause-room
-returns-clause-room c w es so =
-    let old = c.args.decoder.now in let s = c.new-sink.result in let s' = c.feed-answer.new.sink in let followed = c.feed-answer.ensures.followed w es so in
-    let same = same_by (tree old) old.limits w es _ (pending c.args.waiting.now) c.feed-answer.result c.feed-answer.new.self s s' c.new-sink.ensures.shows followed in
-    let records = same.records ∙ c.new-sink.ensures.records in
-    let texts = same.texts ∙ c.new-sink.ensures.texts in
-    let part = λ (rs : List Record) (ts : List ℕ) (er : rs ≡ s'.records.now) (et : ts ≡ s'.texts.now). room_by s' rs ts c.filled-filled.result c.used.result er et c.filled-filled.ensures c.used.ensures.used in
-    part _ _ (search (rules, records)) (search (rules, texts))
+returns-clause-room c w es so = room c (same_read c w es so)
 
 pub returns-clause-outcome : goal.returns-clause-outcome
 returns-clause-outcome c w es so =
-    let old = c.args.decoder.now in let s = c.new-sink.result in let s' = c.feed-answer.new.sink in let followed = c.feed-answer.ensures.followed w es so in
-    let same = same_by (tree old) old.limits w es _ (pending c.args.waiting.now) c.feed-answer.result c.feed-answer.new.self s s' c.new-sink.ensures.shows followed in
-    let waiting = same.waiting ∙ c.new-sink.ensures.waiting in
-    let part = λ (v : Waiting) (ev : v ≡ s'.waiting.now). outcome_by c.outcome_of.result c.waits.result c.is_nothing.result _ _ c.feed-answer.result c.feed-answer.new.self v s'.waiting.now c.outcome_of.ensures c.waits.ensures ev
-    c.feed-answer.ensures.answer c.is_nothing.ensures in
-    part c.waiting-1.given.0 (search (rules, waiting))
+    outcome_by c.outcome_of.result c.waits.result c.is_nothing.result _ _ c.feed-answer.result c.feed-answer.new.self c.waiting-1.given.0 c.feed-answer.new.sink.waiting.now c.outcome_of.ensures c.waits.ensures (waiting_back c (same_read c w es so))
+    c.feed-answer.ensures.answer c.is_nothing.ensures
+
+nothing_taken : (c : goal.After-outcome_of) → account c.feed-answer.new.self ≡ account c.args.decoder.now → c.consumed.result - c.consumed-before.result ≡ 0
+nothing_taken c told = let count = ap (λ (a : Account). a.consumed) told in omega (arith, c.consumed.ensures, c.consumed-before.ensures, count)
+
+pub returns-clause-waited : goal.returns-clause-waited
+returns-clause-waited c f is =
+    let s' = c.feed-answer.new.sink in let waited = pending c.args.waiting.now in
+    let (told, heard) = c.feed-answer.ensures.stopped (ap is_some is) in
+    let same = same_stopped c.new-sink.result s' heard in
+    let shown = subst (λ (s : RecordSink). Shows s waited) (sym heard) c.new-sink.ensures.shows in
+    let nothing = nothing_taken c told in
+    record {
+      nothing = nothing;
+      room = room c same;
+      gives = gives_by s' waited c.records-1.given.0 c.texts-1.given.0 c.waiting-1.given.0 c.filled-filled.result c.used.result shown (records_back c same) (texts_back c same) (waiting_back c same) c.filled-filled.ensures c.used.ensures.used;
+      outcome = outcome_stopped c.outcome_of.result _ _ _ c.filled-filled.result f c.feed-answer.new.self
+          (outcome_by c.outcome_of.result c.waits.result c.is_nothing.result _ _ c.feed-answer.result c.feed-answer.new.self c.waiting-1.given.0 s'.waiting.now c.outcome_of.ensures c.waits.ensures (waiting_back c same) c.feed-answer.ensures.answer c.is_nothing.ensures)
+          (ap (λ (a : Account). a.fault) told ∙ is) nothing;
+    }
