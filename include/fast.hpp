@@ -1,4 +1,4 @@
-// The decoder and the encoder of fast.h for C++17: handles that close themselves, exceptions, and a visitor of events.
+// The decoder and the encoder of fast.h for C++17 and later: handles that close themselves, errors, and a visitor of events.
 //
 //     struct counter : fast::visitor {
 //         std::uint64_t messages = 0;
@@ -7,6 +7,9 @@
 //     fast::decoder decoder{fast::set{text}};
 //     counter sees;
 //     decoder.decode(piece, piece_len, sees);
+//
+// What goes wrong is thrown as a fast::error. Where exceptions are off (-fno-exceptions), nothing is thrown: each call that can fail returns
+// its status, and what a constructor could not make says so by status().
 #ifndef FAST_HPP
 #define FAST_HPP
 
@@ -15,11 +18,15 @@
 #include <cstddef>
 #include <cstdint>
 #include <memory>
-#include <stdexcept>
 #include <string>
 #include <string_view>
+#include <type_traits>
 #include <utility>
 #include <vector>
+
+#ifdef __cpp_exceptions
+#include <stdexcept>
+#endif
 
 namespace fast {
 
@@ -30,29 +37,39 @@ inline std::string words_of(std::uint32_t status) {
     return std::string(reinterpret_cast<const char *>(words), length < sizeof words ? length : sizeof words);
 }
 
-// What a call did not do, and why. place: of a stream at fault, how many bytes were consumed when it was decided; of records that are no
-// message (FAST_MISPLACED), the number of the one that is not due. It owns its words, and needs nothing of what threw it.
+#ifdef __cpp_exceptions
+// What a call did not do, and why. place: of a stream at fault or a packet that is cut, how many bytes were consumed by then; of records that are
+// no message (FAST_MISPLACED), the number of the first that is not due. It owns its words, and needs nothing of what threw it.
 class error : public std::runtime_error {
 public:
-    explicit error(std::uint32_t status, std::uint64_t place = 0)
-        : std::runtime_error(words_of(status)), status(status), place(place) {}
+    explicit error(std::uint32_t its_status, std::uint64_t its_place = 0)
+        : std::runtime_error(words_of(its_status)), status(its_status), place(its_place) {}
     std::uint32_t status;
     std::uint64_t place;
 };
+#endif
 
-inline void expect(std::uint32_t status) {
-    if (status != FAST_DONE) throw error(status);
+// Throws where a status is not FAST_DONE and exceptions are on, and returns it else.
+inline std::uint32_t expect(std::uint32_t status, std::uint64_t place = 0) {
+#ifdef __cpp_exceptions
+    if (status != FAST_DONE) throw error(status, place);
+#else
+    static_cast<void>(place);
+#endif
+    return status;
 }
 
-// A template set. Copies are the same set, which is closed behind the last of them and of the decoders and encoders that were made of it. The
+// A template set. Copies are the same set, which is closed after the last of them and of the decoders and encoders that were made of it. The
 // text is read in the constructor alone; names are copies.
 class set {
 public:
     explicit set(std::string_view text) {
         fast_set *made = nullptr;
-        expect(fast_set_read(reinterpret_cast<const std::uint8_t *>(text.data()), text.size(), &made));
-        it_ = std::shared_ptr<fast_set>(made, [](fast_set *its) { fast_close_set(&its); });
+        status_ = expect(fast_set_read(reinterpret_cast<const std::uint8_t *>(text.data()), text.size(), &made));
+        if (made) it_ = std::shared_ptr<fast_set>(made, [](fast_set *its) { fast_close_set(&its); });
     }
+    // FAST_DONE, or why there is no set: what the constructor throws where exceptions are on.
+    std::uint32_t status() const { return status_; }
     fast_set *get() const { return it_.get(); }
     std::uint32_t templates() const { return fast_count_templates(get()); }
     std::uint32_t nodes() const { return fast_count_nodes(get()); }
@@ -66,6 +83,7 @@ private:
         return it;
     }
     std::shared_ptr<fast_set> it_;
+    std::uint32_t status_ = FAST_CLOSED;
 };
 
 struct decimal {
@@ -86,15 +104,26 @@ struct bytes {
     std::size_t size;
 };
 
-// A visitor has the calls of these that it wants. It is a type parameter, so no call is virtual. A text is lent for the call alone.
+// Why a message has no end: the status, and how many bytes of the stream were consumed by then.
+struct fault {
+    std::uint32_t status;
+    std::uint64_t place;
+};
+
+// A visitor derives from this, and has the calls of these that it wants. It is a type parameter, so no call is virtual. A text is lent for the call
+// alone. Of the values it has any of these, or a template for all that the others do not take:
+//
+//     void field(std::uint32_t node, std::uint64_t value);
+//     void field(std::uint32_t node, std::int64_t value);
+//     void field(std::uint32_t node, fast::decimal value);
+//     void field(std::uint32_t node, fast::ascii value);
+//     void field(std::uint32_t node, fast::unicode value);
+//     void field(std::uint32_t node, fast::bytes value);
+//
+// A value is handed over as its own type and no other, so that a signed one never comes as an unsigned one; a `field` of another type does not
+// compile.
 struct visitor {
     void message_start(std::uint32_t) {}
-    void field(std::uint32_t, std::uint64_t) {}
-    void field(std::uint32_t, std::int64_t) {}
-    void field(std::uint32_t, decimal) {}
-    void field(std::uint32_t, ascii) {}
-    void field(std::uint32_t, unicode) {}
-    void field(std::uint32_t, bytes) {}
     void group_start(std::uint32_t) {}
     void group_end() {}
     void sequence_start(std::uint32_t, std::uint32_t) {}
@@ -102,23 +131,62 @@ struct visitor {
     void element_end() {}
     void sequence_end() {}
     void message_end() {}
+    // The message at hand is at fault, or its packet ends within it: it has no end.
+    void abandoned(fault) {}
 };
+
+namespace detail {
+
+// What becomes a T and nothing else.
+template <class T> struct exactly {
+    T value;
+    template <class U, std::enable_if_t<std::is_same_v<U, T>, int> = 0> operator U() const { return value; }
+};
+
+// What only a template takes.
+struct unknown {};
+
+template <class V, class T, class = void> constexpr bool takes = false;
+template <class V, class T> constexpr bool takes<V, T, std::void_t<decltype(std::declval<V &>().field(0u, std::declval<T>()))>> = true;
+template <class V, class = void> constexpr bool has_one_field = false;
+template <class V> constexpr bool has_one_field<V, std::void_t<decltype(&V::field)>> = true;
+
+template <class V, class... Ts> constexpr bool takes_any = (takes<V, exactly<Ts>> || ...);
+template <class V> constexpr bool takes_value = takes_any<V, std::uint64_t, std::int64_t, decimal, ascii, unicode, bytes>;
+// Whether a visitor has a `field` of the integers that are of these sizes and of other types, of smaller ones, or of what no value of FAST is.
+template <class V, class T> constexpr bool takes_other = !std::is_same_v<T, std::uint64_t> && !std::is_same_v<T, std::int64_t> && takes<V, exactly<T>>;
+template <class V, class... Ts> constexpr bool takes_others = (takes_other<V, Ts> || ...);
+template <class V> constexpr bool takes_foreign = takes_others<V, bool, char, signed char, unsigned char, short, unsigned short, int, unsigned, long,
+    unsigned long, long long, unsigned long long, float, double, long double, std::string, std::string_view, const char *, void *>;
+
+// Shows a value, where the visitor has a call for its type.
+template <class V, class T> void show_field(V &sees, std::uint32_t node, T value) {
+    if constexpr (takes<V, unknown>) {
+        sees.field(node, value);
+    } else {
+        static_assert(!takes_foreign<V> && (takes_value<V> || !has_one_field<V>),
+                      "a `field` takes a node and a std::uint64_t, a std::int64_t, or a fast::decimal, ascii, unicode or bytes");
+        if constexpr (takes<V, exactly<T>>) sees.field(node, exactly<T>{value});
+    }
+}
+
+inline std::string_view text_of(const fast_record &it, const std::uint8_t *texts) {
+    return {reinterpret_cast<const char *>(texts + it.value), it.length};
+}
+
+}  // namespace detail
 
 // Shows a record to a visitor.
 template <class V> void visit(const fast_record &it, const std::uint8_t *texts, V &&sees) {
-    std::string_view text;
+    using namespace detail;
     switch (it.kind) {
     case FAST_MESSAGE_START: return sees.message_start(it.node);
-    case FAST_UNSIGNED: return sees.field(it.node, it.value);
-    case FAST_SIGNED: return sees.field(it.node, static_cast<std::int64_t>(it.value));
-    case FAST_DECIMAL: return sees.field(it.node, decimal{static_cast<std::int64_t>(it.value), it.exponent});
-    case FAST_ASCII:
-        text = {reinterpret_cast<const char *>(texts + it.value), it.length};
-        return sees.field(it.node, ascii{text});
-    case FAST_UNICODE:
-        text = {reinterpret_cast<const char *>(texts + it.value), it.length};
-        return sees.field(it.node, unicode{text});
-    case FAST_BYTES: return sees.field(it.node, bytes{texts + it.value, it.length});
+    case FAST_UNSIGNED: return show_field(sees, it.node, it.value);
+    case FAST_SIGNED: return show_field(sees, it.node, static_cast<std::int64_t>(it.value));
+    case FAST_DECIMAL: return show_field(sees, it.node, decimal{static_cast<std::int64_t>(it.value), it.exponent});
+    case FAST_ASCII: return show_field(sees, it.node, ascii{text_of(it, texts)});
+    case FAST_UNICODE: return show_field(sees, it.node, unicode{text_of(it, texts)});
+    case FAST_BYTES: return show_field(sees, it.node, bytes{texts + it.value, it.length});
     case FAST_GROUP_START: return sees.group_start(it.node);
     case FAST_GROUP_END: return sees.group_end();
     case FAST_SEQUENCE_START: return sees.sequence_start(it.node, static_cast<std::uint32_t>(it.value));
@@ -129,26 +197,51 @@ template <class V> void visit(const fast_record &it, const std::uint8_t *texts, 
     }
 }
 
-// A decoder with buffers of its own, which keeps its set. It is moved, and never copied; one that was moved from answers FAST_CLOSED.
+// Room for the records of one call and their texts. One pair serves any number of decoders that are not fed at once, as those of one thread.
+struct buffers {
+    // 96 KiB and 64 KiB; a decoder makes room for its longest text where that is more.
+    explicit buffers(std::size_t records_len = 4096, std::size_t texts_len = 65536) : records(records_len ? records_len : 1), texts(texts_len) {}
+    std::vector<fast_record> records;
+    std::vector<std::uint8_t> texts;
+};
+
+// A decoder, which keeps its set. It is moved, and never copied; one that was moved from answers FAST_CLOSED.
 class decoder {
 public:
+    // A decoder with buffers of its own, which hold a text of limits.max_text bytes at least.
     explicit decoder(set of, fast_limits limits = fast_default_limits, std::size_t records = 4096)
-        : set_(std::move(of)), records_(records ? records : 1), texts_(limits.max_text > 65536 ? limits.max_text : 65536) {
+        : decoder(std::move(of), limits, std::make_shared<buffers>(records)) {}
+
+    // A decoder that shares its buffers with others: none of these is fed while another is.
+    decoder(set of, fast_limits limits, std::shared_ptr<buffers> room) : set_(std::move(of)), room_(std::move(room)) {
         fast_decoder *made = nullptr;
-        expect(fast_open_decoder(set_.get(), limits, &made));
+        status_ = expect(fast_open_decoder(set_.get(), limits, &made));
         it_.reset(made);
+        if (made && room_->texts.size() < limits.max_text) room_->texts.resize(limits.max_text);
     }
 
-    // Feeds a piece, which is read in the call alone, and shows its events to a visitor. Throws at a fault, behind the events before it, and
-    // so again until a reset. Where the visitor throws, the events of the rest of its buffer are lost: reset before the next stream.
-    template <class V> void decode(const std::uint8_t *piece, std::size_t piece_len, V &&sees) {
-        do {
-            last_ = fast_feed(it_.get(), piece, piece_len, records_.data(), records_.size(), texts_.data(), texts_.size());
-            for (std::uint64_t i = 0; i < last_.records; i++) visit(records_[i], texts_.data(), sees);
-            piece += last_.taken;
-            piece_len -= last_.taken;
-        } while (last_.status == FAST_MORE);
-        if (last_.status != FAST_DONE) throw error(last_.status, last_.consumed);
+    // FAST_DONE, or why there is no decoder: what the constructor throws where exceptions are on.
+    std::uint32_t status() const { return status_; }
+
+    // Feeds a piece, which is read in the call alone, and shows its events to a visitor. A fault is thrown after the events before it, and so
+    // again until a reset; the visitor's `abandoned` is called for it once. Where the visitor throws, the events of the rest of its buffer are
+    // lost: reset before the next stream.
+    template <class V> std::uint32_t decode(const std::uint8_t *piece, std::size_t piece_len, V &&sees) {
+        return show_all(piece, piece_len, sees, [this](const std::uint8_t *rest, std::size_t rest_len) {
+            return fast_feed(it_.get(), rest, rest_len, room_->records.data(), room_->records.size(), room_->texts.data(), room_->texts.size());
+        });
+    }
+
+    // Decodes one packet, which has to end between two messages, and shows its events: with FAST_AFRESH from a new dictionary, with FAST_ON from that
+    // which the packet before has left. Where it ends within a message, FAST_TRUNCATED is a fault as those of `decode`, until a reset or FAST_AFRESH.
+    template <class V>
+    std::uint32_t packet(const std::uint8_t *packet, std::size_t packet_len, V &&sees, std::uint32_t how = FAST_AFRESH) {
+        if (how == FAST_AFRESH) last_ = at_start;
+        return show_all(packet, packet_len, sees, [this, how](const std::uint8_t *rest, std::size_t rest_len) mutable {
+            const std::uint32_t now = std::exchange(how, std::uint32_t{FAST_ON});
+            return fast_decode_packet(it_.get(), now, rest, rest_len, room_->records.data(), room_->records.size(), room_->texts.data(),
+                                      room_->texts.size());
+        });
     }
 
     // Whether there is no fault, and no message that is begun and not whole.
@@ -166,17 +259,31 @@ private:
     struct closes {
         void operator()(fast_decoder *it) const { fast_close_decoder(&it); }
     };
+
+    // Calls until all bytes are taken, and shows what comes.
+    template <class V, class F> std::uint32_t show_all(const std::uint8_t *piece, std::size_t piece_len, V &sees, F feed) {
+        const bool was_abandoned = last_.status > FAST_MORE;
+        do {
+            last_ = feed(piece, piece_len);
+            for (std::uint64_t i = 0; i < last_.records; i++) visit(room_->records[i], room_->texts.data(), sees);
+            piece += last_.taken;
+            piece_len -= last_.taken;
+        } while (last_.status == FAST_MORE);
+        if (last_.status != FAST_DONE && !was_abandoned) sees.abandoned(fault{last_.status, last_.consumed});
+        return expect(last_.status, last_.consumed);
+    }
+
     static constexpr fast_fed at_start = {0, 0, 0, 0, 1, FAST_DONE};
-    set set_;  // before it_, so that it is closed behind it
-    std::vector<fast_record> records_;
-    std::vector<std::uint8_t> texts_;
+    set set_;  // before it_, so that it is closed after it
+    std::shared_ptr<buffers> room_;
     std::unique_ptr<fast_decoder, closes> it_;
     fast_fed last_ = at_start;
+    std::uint32_t status_ = FAST_CLOSED;
 };
 
 // Feeds a piece to a decoder, and shows its events to a visitor.
-template <class V> void decode(decoder &by, const std::uint8_t *piece, std::size_t piece_len, V &&sees) {
-    by.decode(piece, piece_len, std::forward<V>(sees));
+template <class V> std::uint32_t decode(decoder &by, const std::uint8_t *piece, std::size_t piece_len, V &&sees) {
+    return by.decode(piece, piece_len, std::forward<V>(sees));
 }
 
 // An encoder, which keeps its set. It is moved, and never copied; one that was moved from answers FAST_CLOSED.
@@ -184,20 +291,24 @@ class encoder {
 public:
     explicit encoder(set of, fast_limits limits = fast_default_limits) : set_(std::move(of)) {
         fast_encoder *made = nullptr;
-        expect(fast_open_encoder(set_.get(), limits, &made));
+        status_ = expect(fast_open_encoder(set_.get(), limits, &made));
         it_.reset(made);
     }
 
+    // FAST_DONE, or why there is no encoder: what the constructor throws where exceptions are on.
+    std::uint32_t status() const { return status_; }
+
     // Appends the bytes of one message, whose records these are, as a visitor sees them: records and texts are read in the call alone, and the
-    // bytes are the caller's. Throws where it is refused, and nothing has changed: FAST_MISPLACED where they are no message, FAST_E1 to
+    // bytes are the caller's. Where it is refused, nothing has changed: FAST_MISPLACED where they are no message, FAST_E1 to
     // FAST_MESSAGE_R9, FAST_MESSAGE_MEMORY. Where out cannot grow, the bytes wait in the encoder, and come first at the next call.
-    void encode(const fast_record *records, std::size_t count, const std::uint8_t *texts, std::size_t texts_len,
-                std::vector<std::uint8_t> &out) {
+    std::uint32_t encode(const fast_record *records, std::size_t count, const std::uint8_t *texts, std::size_t texts_len,
+                         std::vector<std::uint8_t> &out) {
         fast_put put = fast_put_message(it_.get(), records, count, texts, texts_len);
-        if (put.status != FAST_DONE) throw error(put.status, put.record);
+        if (put.status != FAST_DONE) return expect(put.status, put.record);
         std::size_t before = out.size();
         out.resize(before + put.waiting);
         fast_take_bytes(it_.get(), out.data() + before, put.waiting);
+        return FAST_DONE;
     }
     // As it was made: to be used where the reader's decoder is reset too.
     void reset() { fast_reset_encoder(it_.get()); }
@@ -208,6 +319,7 @@ private:
     };
     set set_;
     std::unique_ptr<fast_encoder, closes> it_;
+    std::uint32_t status_ = FAST_CLOSED;
 };
 
 }  // namespace fast

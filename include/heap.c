@@ -3,6 +3,10 @@
 #include <stddef.h>
 #include <stdlib.h>
 
+#ifdef __cplusplus
+extern "C" {
+#endif
+
 struct tried {
     bool is_given;
     void *block;
@@ -10,15 +14,21 @@ struct tried {
 
 struct tried rattle_alloc(size_t size, size_t alignment) {
     void *block = malloc(size ? size : alignment);
-    return (struct tried){block != NULL, block};
+    struct tried it = {block != NULL, block};
+    return it;
 }
 
 struct tried rattle_realloc(void *block, size_t kept, size_t size, size_t alignment) {
     (void)kept;
     void *moved = realloc(block, size ? size : alignment);
-    return (struct tried){moved != NULL, moved};
+    struct tried it = {moved != NULL, moved};
+    return it;
 }
 
 void rattle_dealloc(void *block) {
     free(block);
 }
+
+#ifdef __cplusplus
+}
+#endif

@@ -1,5 +1,5 @@
 // again TEMPLATES STREAM: decodes a stream, encodes its messages one after the other, and writes their bytes.
-#include "../../include/fast.h"
+#include <fast.h>
 
 #include <stdio.h>
 #include <stdlib.h>

@@ -1,5 +1,5 @@
-// again TEMPLATES STREAM [TIMES]: decodes a stream into messages, encodes them, so many times one behind the other, and writes their bytes.
-#include "../../include/fast.hpp"
+// again TEMPLATES STREAM [TIMES]: decodes a stream into messages, encodes them, so many times one after the other, and writes their bytes.
+#include <fast.hpp>
 
 #include <cstdlib>
 #include <cstring>
@@ -8,7 +8,7 @@
 #include <iterator>
 
 // The records of one message after the other, with their texts.
-struct messages {
+struct messages : fast::visitor {
     struct message {
         std::vector<fast_record> records;
         std::vector<std::uint8_t> texts;

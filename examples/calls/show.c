@@ -1,6 +1,6 @@
 // show TEMPLATES STREAM [PIECE [RECORDS]]: the lines of a stream, as `fastcat show` writes them. The stream is fed in pieces of so many bytes (0:
 // whole), with room for so many records at a time.
-#include "../../include/fast.h"
+#include <fast.h>
 
 #include <inttypes.h>
 #include <stdio.h>

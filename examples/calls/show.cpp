@@ -1,12 +1,12 @@
 // show TEMPLATES STREAM [PIECE]: the lines of a stream, as `fastcat show` writes them, by a visitor.
-#include "../../include/fast.hpp"
+#include <fast.hpp>
 
 #include <cstdlib>
 #include <fstream>
 #include <iostream>
 #include <iterator>
 
-struct lines {
+struct lines : fast::visitor {
     const fast::set &set;
     std::ostream &out;
 
@@ -66,7 +66,7 @@ int main(int argc, char **argv) {
     try {
         fast::set set{read_whole(argv[1])};
         fast::decoder decoder{set};
-        lines to{set, std::cout};
+        lines to{{}, set, std::cout};
         try {
             for (std::size_t at = 0; at < stream.size(); at += piece) {
                 std::size_t ahead = std::min(piece, stream.size() - at);

@@ -2,7 +2,9 @@
 //! that measure or test them.
 #![tactic(auto)]
 
-use fast_measure::{call_all, cut_everywhere, decode, encode, stop_and_decode, three_ways};
+use fast_measure::{
+    call_all, cut_everywhere, decode, decode_records, encode, stop_and_decode, three_ways,
+};
 use fast_measure_lines::{convert, read, show};
 use fast_value::Limits;
 use std::alloc::Global;
@@ -19,7 +21,7 @@ fn limits_of(strict: u32, max_text: u32, max_elements: u32, max_total: u32) -> L
 
 /// Decodes a stream under a template set, fed in pieces of so many bytes, or in one where `piece` is 0.
 ///
-/// Sink 0 counts, and each other takes the checksum. Four numbers are written to `out`, each as eight bytes, the least first:
+/// Sink 0 counts, sink 2 writes records as a caller from C has them written, with no sum, and each other takes the checksum. Four numbers are written to `out`, each as eight bytes, the least first:
 /// the status (0 between two messages, 1 inside of one, 2 to 19 at a fault; 256 where no decoder was made, 518 where there was no memory for
 /// one), the number of bytes consumed, the number of events, and the sum.
 #[unsafe(no_mangle)]
@@ -36,7 +38,11 @@ pub extern "C" fn fast_bench_run(
     out: &mut [u8; 32],
 ) {
     let limits = limits_of(strict, max_text, max_elements, max_total);
-    decode(alloc, templates, limits, stream, piece, sink == 0).write_to(out);
+    if sink == 2 {
+        decode_records(alloc, templates, limits, stream, piece).write_to(out);
+    } else {
+        decode(alloc, templates, limits, stream, piece, sink == 0).write_to(out);
+    }
 }
 
 /// Decodes a stream twice, fed in pieces of so many bytes, or in one where `piece` is 0: first with a sink that takes `most` events and

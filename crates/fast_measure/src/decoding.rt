@@ -18,7 +18,7 @@ pub const INSIDE: u64 = 1;
 pub const NOT_MADE: u64 = 256;
 
 /// The status of a run for which there was no memory.
-const NO_MEMORY: u64 = 518;
+pub const NO_MEMORY: u64 = 518;
 
 /// What a run came to.
 #[derive(Clone, Copy, PartialEq, Eq)]

@@ -80,7 +80,7 @@ fn text_field(record: Record, text: &[u8]) -> Option<Event<'_>>
 }
 
 /// An event of the kind, node and value of a record, with this text.
-fn event_with(record: Record, text: &[u8]) -> Option<Event<'_>>
+pub(crate) fn event_with(record: Record, text: &[u8]) -> Option<Event<'_>>
     ensures text { IfSome result (λ e. event_text (event_data e) ≡ text.now) }
     ensures some { IfSome result (λ e. event_data e ≡ event_back «record» text.now) }
     ensures none { IfNone result (HasNoEvent «record» text.now) }

@@ -2,10 +2,10 @@
 
 ghost use Rattle.std.specs.Prelude.{◌≤◌, length};
 
+use crate::lent::event_with;
 use crate::records::{
     ASCII, BYTES, DECIMAL, ELEMENT_END, ELEMENT_START, GROUP_END, GROUP_START, MESSAGE_END,
-    MESSAGE_START, Record, SEQUENCE_END, SEQUENCE_START, SIGNED, UNICODE, UNSIGNED, mark,
-    text_record,
+    MESSAGE_START, Record, SEQUENCE_END, SEQUENCE_START, SIGNED, UNICODE, UNSIGNED, text_record,
 };
 use crate::room::Room;
 use crate::waiting::{Waiting, hand_over};
@@ -31,11 +31,12 @@ pub(crate) struct RecordSink<'a> {
 }
 
 impl<'a> RecordSink<'a> {
-    ghost use Rattle.std.specs.Prelude.{◌≡◌, ℕ, nat_lt, ◌+◌, ◌≤◌, ◌++◌, length, take, OnOk, OnErr};
+    ghost use Rattle.std.specs.Prelude.{◌≡◌, ℕ, nat_lt, ◌+◌, ◌≤◌, [], ◌++◌, length, take, OnOk, OnErr};
     ghost use Rattle.fast_value.specs.meaning.Kinds.{text_of};
     ghost use Rattle.fast_value.specs.meaning.Values.{scalar_data};
-    ghost use Rattle.fast_stream.specs.meaning.Events.{FieldValue};
-    ghost use Rattle.fast_records.specs.meaning.Records.{text_record, field_record, record_of, event_text};
+    ghost use Rattle.fast_stream.specs.meaning.Events.{EventData, FieldValue};
+    ghost use Rattle.fast_records.specs.meaning.Records.{text_record, field_record};
+    ghost use Rattle.fast_records.specs.device.Lent.{IsOf, content};
     ghost use Rattle.std.specs.Bool.{OnTrue, OnFalse};
     ghost use Rattle.fast_stream.specs.meaning.Handed.{event_data};
     ghost use Rattle.fast_records.specs.meaning.Waiting.{pending};
@@ -130,18 +131,45 @@ impl<'a> RecordSink<'a> {
         !self.waiting.is_empty()
     }
 
-    /// Takes an event whose record and text these are.
+    /// Takes an event without a text, whose record has this content. Of an event that has room nothing but these four numbers is at hand, so
+    /// that the arms of the decoder's loop, into which this is inlined, stay small.
     #[inline(always)]
-    fn keep(&mut self, next: Record, text: &[u8], event: Event<'_>) -> Result<(), Stop>
-        requires is { next ≡ record_of self.old.used (event_data event) }
-        requires says { text.now ≡ event_text (event_data event) }
-        ensures ok { OnOk result (TakesRecord self.old (event_data event.entry) self.new) }
-        ensures err { OnErr result (RefusesRecord self.old (event_data event.entry) self.new) }
+    fn keep(&mut self, kind: u32, node: u32, value: u64, exponent: i32) -> Result<(), Stop>
+        ensures ok { (e : EventData) → IsOf (content kind node value exponent) [] e → OnOk result (TakesRecord self.old e self.new) }
+        ensures err { (e : EventData) → IsOf (content kind node value exponent) [] e
+            → OnErr result (RefusesRecord self.old e self.new) }
     {
-        if self.put(next, text) {
+        let next = Record {
+            kind,
+            node,
+            value,
+            length: 0,
+            exponent,
+        };
+        if self.put(next, &[]) {
             return Ok(());
         }
-        self.wait(event)
+        self.keep_back(kind, node, value, exponent)
+    }
+
+    /// Keeps an event without a text that has no room.
+    #[inline(never)]
+    fn keep_back(&mut self, kind: u32, node: u32, value: u64, exponent: i32) -> Result<(), Stop>
+        ensures ok { (e : EventData) → IsOf (content kind node value exponent) [] e → OnOk result (TakesRecord self.old e self.new) }
+        ensures err { (e : EventData) → IsOf (content kind node value exponent) [] e
+            → OnErr result (RefusesRecord self.old e self.new) }
+    {
+        let record = Record {
+            kind,
+            node,
+            value,
+            length: 0,
+            exponent,
+        };
+        match event_with(record, &[]) {
+            Some(event) => self.wait(event),
+            None => Err(Stop),
+        }
     }
 
     /// Takes a field with a text. Out of line, since one without needs far fewer registers.
@@ -159,30 +187,10 @@ impl<'a> RecordSink<'a> {
         ensures err { OnErr result (RefusesRecord self.old (FieldValue node (scalar_data value.entry)) self.new) }
     {
         let next = text_record(kind, node, self.used() as u64, text);
-        self.keep(next, text, Event::Field { node, value })
-    }
-
-    /// Takes a field.
-    #[inline(always)]
-    fn keep_field(&mut self, node: u32, value: Scalar<'_>) -> Result<(), Stop>
-        ensures ok { OnOk result (TakesRecord self.old (FieldValue node (scalar_data value.entry)) self.new) }
-        ensures err { OnErr result (RefusesRecord self.old (FieldValue node (scalar_data value.entry)) self.new) }
-    {
-        let event = Event::Field { node, value };
-        match value {
-            Scalar::U(number) => self.keep(mark(UNSIGNED, node, number), &[], event),
-            Scalar::I(number) => self.keep(mark(SIGNED, node, number.cast_unsigned()), &[], event),
-            Scalar::Dec { exponent, mantissa } => {
-                let next = Record {
-                    exponent,
-                    ..mark(DECIMAL, node, mantissa.cast_unsigned())
-                };
-                self.keep(next, &[], event)
-            }
-            Scalar::Ascii(text) => self.keep_text(ASCII, node, value, text),
-            Scalar::Unicode(text) => self.keep_text(UNICODE, node, value, text),
-            Scalar::Bytes(text) => self.keep_text(BYTES, node, value, text),
+        if self.put(next, text) {
+            return Ok(());
         }
+        self.wait(Event::Field { node, value })
     }
 
     /// Keeps an event that has no room, and lets no later one overtake it.
@@ -205,24 +213,26 @@ impl Sink for RecordSink<'_> {
 
     #[inline(always)]
     fn take(&mut self, event: Event<'_>) -> Result<(), Stop> {
-        match event {
-            Event::Field { node, value } => self.keep_field(node, value),
-            Event::MessageStart { template } => self.keep(
-                mark(MESSAGE_START, template, 0),
-                &[],
-                event,
-            ),
-            Event::GroupStart { node } => self.keep(mark(GROUP_START, node, 0), &[], event),
-            Event::GroupEnd => self.keep(mark(GROUP_END, 0, 0), &[], event),
-            Event::SequenceStart { node, count } => self.keep(
-                mark(SEQUENCE_START, node, u64::from(count)),
-                &[],
-                event,
-            ),
-            Event::ElementStart => self.keep(mark(ELEMENT_START, 0, 0), &[], event),
-            Event::ElementEnd => self.keep(mark(ELEMENT_END, 0, 0), &[], event),
-            Event::SequenceEnd => self.keep(mark(SEQUENCE_END, 0, 0), &[], event),
-            Event::MessageEnd => self.keep(mark(MESSAGE_END, 0, 0), &[], event),
-        }
+        let (kind, node, value, exponent) = match event {
+            Event::Field { node, value } => match value {
+                Scalar::U(number) => (UNSIGNED, node, number, 0),
+                Scalar::I(number) => (SIGNED, node, number.cast_unsigned(), 0),
+                Scalar::Dec { exponent, mantissa } => {
+                    (DECIMAL, node, mantissa.cast_unsigned(), exponent)
+                }
+                Scalar::Ascii(text) => return self.keep_text(ASCII, node, value, text),
+                Scalar::Unicode(text) => return self.keep_text(UNICODE, node, value, text),
+                Scalar::Bytes(text) => return self.keep_text(BYTES, node, value, text),
+            },
+            Event::MessageStart { template } => (MESSAGE_START, template, 0, 0),
+            Event::GroupStart { node } => (GROUP_START, node, 0, 0),
+            Event::GroupEnd => (GROUP_END, 0, 0, 0),
+            Event::SequenceStart { node, count } => (SEQUENCE_START, node, u64::from(count), 0),
+            Event::ElementStart => (ELEMENT_START, 0, 0, 0),
+            Event::ElementEnd => (ELEMENT_END, 0, 0, 0),
+            Event::SequenceEnd => (SEQUENCE_END, 0, 0, 0),
+            Event::MessageEnd => (MESSAGE_END, 0, 0, 0),
+        };
+        self.keep(kind, node, value, exponent)
     }
 }

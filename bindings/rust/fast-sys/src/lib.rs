@@ -9,7 +9,7 @@ use core::mem::{offset_of, size_of};
 mod heap;
 
 /// What [`fast_interface`] has to answer.
-pub const INTERFACE: u32 = 1;
+pub const INTERFACE: u32 = 2;
 
 /// An event of fixed size (`fast_record`).
 #[repr(C)]
@@ -91,6 +91,18 @@ extern "C" {
         back: *mut *mut Decoder,
         piece: *const u8,
         piece_len: usize,
+        records: *mut Record,
+        records_len: usize,
+        texts: *mut u8,
+        texts_len: usize,
+        fed: *mut Fed,
+    );
+    pub fn fast_decoder_packet(
+        decoder: Handle<Decoder>,
+        back: *mut *mut Decoder,
+        how: u32,
+        packet: *const u8,
+        packet_len: usize,
         records: *mut Record,
         records_len: usize,
         texts: *mut u8,

@@ -4,19 +4,48 @@ use crate::set::{Limits, Set};
 use fast_sys::{Fed, Handle, Record};
 use std::ptr::{null_mut, NonNull};
 
-/// How many records a decoder has room for: 96 KiB.
+/// How many records a room has: 96 KiB.
 const RECORDS: usize = 4096;
-/// How many bytes of texts it has room for, at least.
+/// How many bytes of texts it has, at least.
 const TEXTS: usize = 65536;
+
+/// Buffers for the records of one call and their texts, which are taken at the first use. One room serves any number of decoders
+/// ([`Decoder::feed_in`]).
+#[derive(Debug, Default)]
+pub struct Room {
+    records: Vec<Record>,
+    texts: Vec<u8>,
+}
+
+impl Room {
+    /// Makes room for a text of so many bytes.
+    fn hold(&mut self, max_text: usize) {
+        if self.records.len() < RECORDS {
+            self.records.resize(RECORDS, Record::default());
+        }
+        if self.texts.len() < max_text.max(TEXTS) {
+            self.texts.resize(max_text.max(TEXTS), 0);
+        }
+    }
+}
+
+/// How a packet begins.
+#[derive(Clone, Copy, Debug, PartialEq, Eq)]
+pub enum Packet {
+    /// With the dictionary that the packet before it has left.
+    On = 0,
+    /// With a new dictionary, as after a reset.
+    Afresh = 1,
+}
 
 /// Decodes a stream that comes in pieces, cut anywhere. It keeps its set open, and is closed where it is dropped.
 #[derive(Debug)]
 pub struct Decoder {
     at: NonNull<fast_sys::Decoder>,
-    records: Vec<Record>,
-    texts: Vec<u8>,
+    room: Room,
+    max_text: usize,
     last: Fed,
-    // what `at` borrows: dropped behind it
+    // what `at` borrows: dropped after it
     _set: Set,
 }
 
@@ -35,8 +64,8 @@ impl Decoder {
         })?;
         Ok(Decoder {
             at: NonNull::new(at).expect("a decoder was made"),
-            records: vec![Record::default(); RECORDS],
-            texts: vec![0; TEXTS.max(max_text as usize)],
+            room: Room::default(),
+            max_text: max_text as usize,
             last: Fed { between: 1, ..Fed::default() },
             _set: set.clone(),
         })
@@ -50,14 +79,51 @@ impl Decoder {
     /// further feed answers the same one, until a reset.
     ///
     /// It is generic, so that the loop over the records is compiled with `take`.
-    pub fn feed(&mut self, piece: &[u8], mut take: impl FnMut(Event<'_>)) -> Result<(), Error> {
+    pub fn feed(&mut self, piece: &[u8], take: impl FnMut(Event<'_>)) -> Result<(), Error> {
+        let mut room = std::mem::take(&mut self.room);
+        let end = self.feed_in(&mut room, piece, take);
+        self.room = room;
+        end
+    }
+
+    /// Feeds a piece as [`Decoder::feed`] does, with buffers that are lent: a program with thousands of decoders has one pair for all.
+    ///
+    /// # Errors
+    ///
+    /// Those of [`Decoder::feed`].
+    pub fn feed_in(&mut self, room: &mut Room, piece: &[u8], take: impl FnMut(Event<'_>)) -> Result<(), Error> {
+        self.run(room, piece, None, take)
+    }
+
+    /// Decodes one packet, which has to end between two messages, and hands its events over.
+    ///
+    /// # Errors
+    ///
+    /// Those of [`Decoder::feed`]; and status 6 where the packet ends within a message, with the number of bytes consumed as the place, and so
+    /// again until a reset or a packet that begins afresh.
+    pub fn packet(&mut self, packet: &[u8], how: Packet, take: impl FnMut(Event<'_>)) -> Result<(), Error> {
+        let mut room = std::mem::take(&mut self.room);
+        let end = self.run(&mut room, packet, Some(how), take);
+        self.room = room;
+        end
+    }
+
+    fn run(
+        &mut self,
+        room: &mut Room,
+        piece: &[u8],
+        mut how: Option<Packet>,
+        mut take: impl FnMut(Event<'_>),
+    ) -> Result<(), Error> {
+        room.hold(self.max_text);
         let mut rest = piece;
         loop {
-            let fed = self.feed_once(rest);
-            for record in &self.records[..fed.records as usize] {
-                take(event_of(record, &self.texts));
+            let fed = self.feed_once(room, rest, how);
+            for record in &room.records[..fed.records as usize] {
+                take(event_of(record, &room.texts));
             }
             rest = &rest[fed.taken as usize..];
+            how = how.map(|_| Packet::On);
             match fed.status {
                 0 => return Ok(()),
                 1 => {}
@@ -66,22 +132,20 @@ impl Decoder {
         }
     }
 
-    fn feed_once(&mut self, piece: &[u8]) -> Fed {
+    fn feed_once(&mut self, room: &mut Room, piece: &[u8], how: Option<Packet>) -> Fed {
         let mut back = self.at.as_ptr();
-        let (records, texts) = (&mut self.records, &mut self.texts);
-        // the decoder is open, and no other call has it; four slices of different memory
+        let (records, texts) = (room.records.as_mut_ptr(), room.texts.as_mut_ptr());
+        let (records_len, texts_len) = (room.records.len(), room.texts.len());
+        let (bytes, len, last) = (piece.as_ptr(), piece.len(), &mut self.last);
+        // the decoder is open, and no other call has it; slices of different memory
         unsafe {
-            fast_sys::fast_decoder_feed(
-                Handle(back),
-                &mut back,
-                piece.as_ptr(),
-                piece.len(),
-                records.as_mut_ptr(),
-                records.len(),
-                texts.as_mut_ptr(),
-                texts.len(),
-                &mut self.last,
-            );
+            let decoder = Handle(back);
+            match how {
+                None => fast_sys::fast_decoder_feed(decoder, &mut back, bytes, len, records, records_len, texts, texts_len, last),
+                Some(how) => fast_sys::fast_decoder_packet(
+                    decoder, &mut back, how as u32, bytes, len, records, records_len, texts, texts_len, last,
+                ),
+            }
         }
         self.last
     }

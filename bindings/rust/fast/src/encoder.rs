@@ -24,7 +24,7 @@ impl Records {
 #[derive(Debug)]
 pub struct Encoder {
     at: NonNull<fast_sys::Encoder>,
-    // what `at` borrows: dropped behind it
+    // what `at` borrows: dropped after it
     _set: Set,
 }
 

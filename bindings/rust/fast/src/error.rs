@@ -10,7 +10,7 @@ pub struct Error {
 }
 
 impl Error {
-    /// The sentence; behind a colon where it begins with the name of a code.
+    /// The sentence, which begins with the name of the code and a colon where there is a code.
     pub fn words(&self) -> String {
         let mut words = vec![0; 256];
         // a buffer and its length; the library writes no more than that

@@ -55,7 +55,9 @@ pub(crate) fn event_of<'a>(record: &Record, texts: &'a [u8]) -> Event<'a> {
 /// The record of an event, and its text.
 pub(crate) fn record_of<'a>(event: Event<'a>, place: u64) -> (Record, &'a [u8]) {
     let mark = |kind, node, value| Record { kind, node, value, ..Record::default() };
-    let text = |kind, node, text: &'a [u8]| (Record { length: text.len() as u32, ..mark(kind, node, place) }, text);
+    // one that is longer than its record can say is longer than any limit
+    let length = |text: &[u8]| u32::try_from(text.len()).unwrap_or(u32::MAX);
+    let text = |kind, node, text: &'a [u8]| (Record { length: length(text), ..mark(kind, node, place) }, text);
     match event {
         Event::MessageStart { template } => (mark(1, template, 0), &[]),
         Event::Field { node, value: Value::Unsigned(number) } => (mark(2, node, number), &[]),
