@@ -33,7 +33,7 @@ extern "C" {
 #endif
 
 // fast_interface() has to answer this number: the header and the library are of one build.
-#define FAST_INTERFACE 1
+#define FAST_INTERFACE 2
 
 // ---- records: the events of a stream. What a record has no use for is 0.
 
@@ -76,6 +76,7 @@ enum fast_status {
     FAST_NOT_TEXT = 3,   // the template text is not UTF-8
     FAST_CLOSED = 4,     // the pointer is null: what it pointed to is closed, or was never made
     FAST_MISPLACED = 5,  // the records are not those of one whole message
+    FAST_TRUNCATED = 6,  // the packet ends inside a message: it stays so until a reset
 
     // a stream at fault: it stays so until a reset
     FAST_D2 = 101, FAST_D4, FAST_D5, FAST_D6, FAST_D7, FAST_D9,
@@ -141,11 +142,17 @@ typedef struct fast_fed {
     uint64_t texts;     // how many bytes of texts were written
     uint64_t consumed;  // how many bytes of the stream were consumed since the decoder was made or reset: at a fault its place
     uint32_t between;   // 1: there is no fault, and no message that is begun and not whole
-    uint32_t status;    // FAST_DONE, FAST_MORE, FAST_NO_ROOM, or from FAST_D2 a fault, which is told behind all records before it
+    uint32_t status;    // FAST_DONE, FAST_MORE, FAST_NO_ROOM, FAST_TRUNCATED, or from FAST_D2 a fault, which is told behind all records before it
 } fast_fed;
 
 FAST_ASSERT(sizeof(fast_fed) == 40, "what comes of a feed has 40 bytes");
 FAST_ASSERT(offsetof(fast_fed, consumed) == 24 && offsetof(fast_fed, status) == 36, "its fields");
+
+// How fast_decode_packet begins.
+enum fast_start {
+    FAST_CONTINUE = 0,  // with the dictionary as it is, and with what waits of the packet
+    FAST_RESET = 1      // with a new dictionary: the decoder is reset first (so for each number but 0)
+};
 
 // ---- encoders
 
@@ -191,6 +198,10 @@ uint32_t fast_decoder_open(fast_set_handle set, uint32_t strict, uint32_t max_te
 // open.
 void fast_decoder_feed(fast_decoder_handle decoder, fast_decoder **back, const uint8_t *piece, size_t piece_len,
                        fast_record *records, size_t records_len, uint8_t *texts, size_t texts_len, fast_fed *fed);
+
+// The same of all that is left of a packet; start is one of fast_start.
+void fast_decoder_packet(fast_decoder_handle decoder, fast_decoder **back, uint32_t start, const uint8_t *packet, size_t packet_len,
+                         fast_record *records, size_t records_len, uint8_t *texts, size_t texts_len, fast_fed *fed);
 
 // The decoder stays open, and borrows its set on. Records that were given before are the caller's, and stay good.
 void fast_decoder_reset(fast_decoder_handle decoder, fast_decoder **back);
@@ -275,6 +286,24 @@ static inline fast_fed fast_feed(fast_decoder *decoder, const uint8_t *piece, si
     if (decoder) {
         fast_decoder_feed(handle, &handle.at, piece ? piece : nothing, piece ? piece_len : 0, records ? records : &fast_nothing,
                           records ? records_len : 0, texts ? texts : nothing + 8, texts ? texts_len : 0, &fed);
+    }
+    return fed;
+}
+
+// Feeds all that is left of one packet, as fast_feed does a piece. FAST_RESET is for feeds whose packets begin with a new dictionary,
+// FAST_CONTINUE for those whose dictionaries live on. Behind FAST_MORE the next call has the rest of the packet, from packet[fed.taken] on,
+// and FAST_CONTINUE. A packet has to end between two messages: else the status is FAST_TRUNCATED, once all bytes are taken and all records
+// given, and fed.consumed the place. The decoder takes nothing behind a packet that was cut: each feed answers FAST_TRUNCATED until a
+// reset, or a packet with FAST_RESET. An empty packet is one of no messages.
+static inline fast_fed fast_decode_packet(fast_decoder *decoder, uint32_t start, const uint8_t *packet, size_t packet_len,
+                                          fast_record *records, size_t records_len, uint8_t *texts, size_t texts_len) {
+    fast_fed fed = {0, 0, 0, 0, 0, FAST_CLOSED};
+    fast_decoder_handle handle = {decoder};
+    uint8_t *nothing = (uint8_t *)&fast_nothing;
+    if (decoder) {
+        fast_decoder_packet(handle, &handle.at, start, packet ? packet : nothing, packet ? packet_len : 0,
+                            records ? records : &fast_nothing, records ? records_len : 0, texts ? texts : nothing + 8,
+                            texts ? texts_len : 0, &fed);
     }
     return fed;
 }

@@ -67,6 +67,22 @@ static struct answer decode(fast_decoder *decoder, const struct row *r, size_t p
     return is;
 }
 
+// Decodes a row's stream from one byte to another as a packet, with this much room. What came before is `is`.
+static struct answer decode_packet(fast_decoder *decoder, const struct row *r, uint32_t start, size_t at, size_t end, size_t room,
+                                   struct answer is) {
+    fast_fed fed;
+    do {
+        fed = fast_decode_packet(decoder, start, r->stream + at, end - at, records, room, texts, r->max_text);
+        for (uint64_t i = 0; i < fed.records; i++) add_record(&is.sum, &records[i], texts);
+        is.events += fed.records;
+        at += fed.taken;
+        start = FAST_CONTINUE;
+    } while (fed.status == FAST_MORE);
+    is.status = fed.status == FAST_TRUNCATED ? 1 : status_of(&fed);
+    is.consumed = fed.consumed;
+    return is;
+}
+
 static bool is_same(const struct answer *a, const struct answer *b) {
     return a->status == b->status && a->consumed == b->consumed && a->events == b->events && a->sum == b->sum;
 }
@@ -82,12 +98,51 @@ static void run_row(const struct row *r) {
         struct answer is = decode(decoder, r, pieces[i / 3], rooms[i % 3]);
         expect(is_same(&is, &r->due), r, "not what is due");
         fast_reset_decoder(decoder);
+        // records may wait behind this one
+        fast_feed(decoder, r->stream, r->stream_len, records, 1, texts, r->max_text);
+        fast_reset_decoder(decoder);
     }
     fast_close_decoder(&decoder);
     fast_close_decoder(&decoder);
     fast_close_set(&set);
     fast_close_set(&set);
     expect(!blocks, r, "memory is left behind");
+}
+
+// Whether nothing is taken or given behind a packet that was cut.
+static bool stays_cut(const fast_fed *fed, uint64_t consumed) {
+    return fed->status == FAST_TRUNCATED && !fed->taken && !fed->records && !fed->texts && !fed->between && fed->consumed == consumed;
+}
+
+// A row's stream as a packet comes to what it comes to as a stream, but that one which ends inside a message is cut, and stays so until a reset.
+static void run_packet(const struct row *r) {
+    static const struct answer nothing = {.sum = basis};
+    static const size_t rooms[] = {RECORDS, 1, 5};
+    fast_set *set = NULL;
+    fast_decoder *decoder = NULL;
+    begin_run(none, none);
+    fast_set_read(r->templates, r->templates_len, &set);
+    fast_open_decoder(set, limits_of(r), &decoder);
+    for (int i = 0; i < 3; i++) {
+        struct answer is = decode_packet(decoder, r, i ? FAST_RESET : FAST_CONTINUE, 0, r->stream_len, rooms[i], nothing);
+        expect(is_same(&is, &r->due), r, "not what is due of a packet");
+        if (is.status == 1) {
+            fast_fed packet = fast_decode_packet(decoder, FAST_CONTINUE, r->stream, r->stream_len, records, RECORDS, texts, TEXTS);
+            fast_fed fed = fast_feed(decoder, r->stream, r->stream_len, records, RECORDS, texts, TEXTS);
+            expect(stays_cut(&packet, is.consumed) && stays_cut(&fed, is.consumed), r, "bytes behind a packet that was cut are taken");
+        }
+        // records may wait behind this one
+        fast_decode_packet(decoder, FAST_RESET, r->stream, r->stream_len, records, 1, texts, r->max_text);
+    }
+    // in two packets, cut anywhere, of which the second goes on with the dictionary
+    for (size_t cut = 0; cut <= r->stream_len && r->stream_len <= 64; cut++) {
+        struct answer first = decode_packet(decoder, r, FAST_RESET, 0, cut, RECORDS, nothing);
+        struct answer both = decode_packet(decoder, r, FAST_CONTINUE, cut, r->stream_len, RECORDS, first);
+        expect(is_same(&both, first.status == 1 ? &first : &r->due), r, "not what is due of two packets");
+    }
+    fast_close_decoder(&decoder);
+    fast_close_set(&set);
+    expect(!blocks, r, "memory is left behind packets");
 }
 
 // Each request is refused in turn, while a stream is fed with room for one record.
@@ -264,6 +319,7 @@ static void run_nothing(const struct row *r) {
     begin_run(none, none);
     expect(fast_interface() == FAST_INTERFACE, r, "another build");
     expect(fast_feed(decoder, NULL, 1, NULL, 1, NULL, 1).status == FAST_CLOSED, r, "a decoder that is not there");
+    expect(fast_decode_packet(decoder, FAST_RESET, NULL, 1, NULL, 1, NULL, 1).status == FAST_CLOSED, r, "a packet without a decoder");
     expect(fast_put_message(encoder, NULL, 1, NULL, 1).status == FAST_CLOSED, r, "an encoder that is not there");
     expect(fast_open_decoder(set, fast_default_limits, &decoder) == FAST_CLOSED && !decoder, r, "a set that is not there");
     expect(fast_take_bytes(encoder, words, 1) == 0 && fast_count_nodes(set) == 0, r, "nothing");
@@ -274,11 +330,15 @@ static void run_nothing(const struct row *r) {
     expect(fast_open_decoder(set, fast_default_limits, &decoder) == FAST_DONE, r, "no decoder");
     expect(fast_feed(decoder, NULL, 9, records, 1, texts, 1).status == FAST_DONE, r, "a null piece is an empty one");
     expect(fast_feed(decoder, r->stream, r->stream_len, NULL, 9, NULL, 9).status == FAST_NO_ROOM, r, "no room");
+    fast_fed empty = fast_decode_packet(decoder, FAST_RESET, NULL, 9, NULL, 9, NULL, 9);
+    expect(empty.status == FAST_DONE && empty.between && !empty.consumed, r, "an empty packet");
+    fast_fed wanting = fast_decode_packet(decoder, FAST_RESET, r->stream, r->stream_len, NULL, 9, NULL, 9);
+    expect(wanting.status == FAST_NO_ROOM && !wanting.taken, r, "no room for a packet");
     expect(fast_name_of_node(set, fast_count_nodes(set), NULL, 9) == 0, r, "a node that is not there");
     expect(fast_name_of_node(set, 0, NULL, 9) > 0 && fast_name_of_template(set, 0, (char *)words, 1) > 0, r, "names");
     for (uint32_t status = 0; status < 500; status++) {
         size_t length = fast_status_words(status, words, sizeof words);
-        bool is_one = status <= FAST_MISPLACED || (status > 100 && status < 118) || status == FAST_L5 || status == 201 || status == 202 ||
+        bool is_one = status <= FAST_TRUNCATED || (status > 100 && status < 118) || status == FAST_L5 || status == 201 || status == 202 ||
                       status == 204 || (status > 300 && status < 314) || (status > 400 && status < 407);
         expect(is_one ? length > 10 && length < 200 : !length, r, "the words of a status");
     }
@@ -298,6 +358,7 @@ int main(void) {
     int line = 0, rows = 0;
     while (next_row(file, &line, &r)) {
         run_row(&r);
+        run_packet(&r);
         put_back(&r);
         if (rows++ % 16 == 0) {
             refuse_each(&r);

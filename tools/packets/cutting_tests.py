@@ -158,6 +158,11 @@ def test_b3():
     expect("b3 missing at the end", cut(head(8, 1, 1, b"c"), head(9, 2, 2, b"ab")) == [(8, b"c", ""), (9, b"", "damaged chunks 1 of 2")])
     for length in (2, 4):
         expect("b3 length", cut(head(7, 1, 1, b"abc", length)) == [(7, b"abc", f"damaged length {length} of 3")])
+    for which in (0, 3):
+        expect("b3 chunk", cut(head(7, 2, which, b"abc")) == [(7, b"abc", f"damaged chunk {which} of 2")])
+    expect("b3 chunk twice", cut(head(7, 2, 1, b"ab"), head(7, 2, 1, b"xx"), head(7, 2, 2, b"c")) == [(7, b"abc", "")])
+    in_tcp = m.segments((0, head(7, 1, 1, b"abc")), (13, b""), flags={1: 17})
+    expect("b3 in a stream", [it[2:] for it in cut_out(in_tcp, "--b3")[0]] == [(b"abc", 0, "")])
     flows = [m.udp(head(7, 2, 1, b"a"), ("10.0.0.1", it)) for it in range(1030)] + [m.udp(head(8, 1, 1, b"b"))]
     found = cut_out(m.pcap([m.ethernet(m.ip(it)) for it in flows]), "--b3")[0]
     expect("b3 flows", len(found) == 1031 and found[6][2] == b"b")

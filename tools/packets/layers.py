@@ -72,16 +72,10 @@ class Payloads:
         if flow[0] == UDP:
             yield Piece(frame.time, flow, data, sent)
         else:
-            yield from self.stream(flow).take(frame.time, data, sent, *control)
-
-    def stream(self, flow):
-        """The stream of a flow; of too many the oldest is forgotten."""
-        if flow not in self.streams:
-            if len(self.streams) >= STREAMS:
-                del self.streams[next(iter(self.streams))]
+            if flow not in self.streams and len(self.streams) >= STREAMS:
                 self.count("streams beyond those that are followed at a time")
-            self.streams[flow] = Stream(flow)
-        return self.streams[flow]
+                yield from self.streams.pop(next(iter(self.streams))).flush(frame.time)
+            yield from self.streams.setdefault(flow, Stream(flow)).take(frame.time, data, sent, *control)
 
     def last(self):
         """What still waits when there are no more frames."""

@@ -27,6 +27,22 @@ class Packet:
     ends: bool = False
 
 
+@dataclass
+class Chunks:
+    """A message of B3 that comes in chunks: those that are there, and how many bytes they have."""
+
+    number: int
+    many: int
+    found: dict = field(default_factory=dict)
+    size: int = 0
+
+    def is_whole_with(self, which, data):
+        """Keeps a chunk, and returns whether the message is whole with it."""
+        if which not in self.found:
+            self.found[which], self.size = data, self.size + len(data)
+        return len(self.found) == self.many
+
+
 def number_in(text):
     """How a number is written, such as be4: the order of its bytes and how many there are."""
     found = re.fullmatch(r"(be|le)([1-8])", text)
@@ -90,11 +106,14 @@ class Preamble:
     def bare(self, piece):
         """The packet of a piece without a length."""
         is_cut = f"cut {len(piece.data)} of {piece.sent}" if len(piece.data) < piece.sent else ""
+        if piece.ends:
+            yield Packet(piece.time, piece.flow, ends=True)
+            return
         if self.is_b3:
             yield from self.chunks(piece, is_cut)
             return
         it = self.headed(piece, piece.data)
-        it.wrong, it.gap, it.is_stream, it.ends = it.wrong or is_cut, piece.gap, piece.is_stream, piece.ends
+        it.wrong, it.gap, it.is_stream = it.wrong or is_cut, piece.gap, piece.is_stream
         yield it
 
     def headed(self, piece, data):
@@ -112,26 +131,27 @@ class Preamble:
             return
         number, many, which, length = (int.from_bytes(head[a:b], "big") for a, b in ((0, 4), (4, 6), (6, 8), (8, 10)))
         kept = self.kept.get(piece.flow)
-        if kept and kept[:2] != (number, many):
+        if kept and (kept.number, kept.many) != (number, many):
             yield self.without_chunks(piece, piece.flow)
         wrong = is_cut or (f"damaged length {length} of {len(data)}" if length != len(data) else "")
+        if many > 1 and not 1 <= which <= many:
+            wrong = f"damaged chunk {which} of {many}"
         if wrong or many <= 1:
             yield Packet(piece.time, piece.flow, data, number, wrong=wrong)
             return
         if len(self.kept) >= FLOWS and piece.flow not in self.kept:
             yield self.without_chunks(piece, next(iter(self.kept)))
-        _, _, found = self.kept.setdefault(piece.flow, (number, many, {}))
-        found[which] = data
-        if all(it in found for it in range(1, many + 1)):
+        kept = self.kept.setdefault(piece.flow, Chunks(number, many))
+        if kept.is_whole_with(which, data):
             del self.kept[piece.flow]
-            yield Packet(piece.time, piece.flow, b"".join(found[it] for it in range(1, many + 1)), number)
-        elif sum(map(len, found.values())) > MOST:
+            yield Packet(piece.time, piece.flow, b"".join(kept.found[it] for it in range(1, many + 1)), number)
+        elif kept.size > MOST:
             yield self.without_chunks(piece, piece.flow)
 
     def without_chunks(self, piece, flow):
         """A message of a flow that will not be whole."""
-        number, many, found = self.kept.pop(flow)
-        return Packet(piece and piece.time, flow, sequence=number, wrong=f"damaged chunks {len(found)} of {many}")
+        kept = self.kept.pop(flow)
+        return Packet(piece and piece.time, flow, sequence=kept.number, wrong=f"damaged chunks {len(kept.found)} of {kept.many}")
 
     def last(self):
         """What was not whole when there are no more pieces."""

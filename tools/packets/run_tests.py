@@ -9,9 +9,10 @@ import sys
 import tempfile
 import threading
 import time
+from concurrent.futures import ThreadPoolExecutor
 
 import making as m
-from common import HERE, MADE, TOP, content, expect, run
+from common import FASTCAT, HERE, MADE, TOP, content, expect, run
 
 FEED = f"{TOP}/examples/packets/templates.toml"
 CAPTURE = f"{TOP}/examples/packets/capture.pcap"
@@ -29,7 +30,7 @@ def test_statuses():
         )
     }
     no_library = f"{MADE.folder}/none.so"
-    for words, status, said in (
+    refusals = (
         ((*ALWAYS, FEED, made["empty"]), 3, "it is empty: give a capture"),
         ((*ALWAYS, FEED, made["text"]), 3, "70 61 63 6b, so it is neither pcap nor pcapng: messages by themselves are shown by fastcat show"),
         ((*ALWAYS, FEED, made["packed.gz"]), 3, "it is packed by gzip: zcat FILE | tools/packets/run .. -"),
@@ -46,14 +47,21 @@ def test_statuses():
         ((*ALWAYS, "--library", no_library, FEED, CAPTURE), 3, "fast_c && cc -shared -fPIC -o "),
         ((*ALWAYS, "--library", FEED, FEED, CAPTURE), 3, "templates.toml"),
         (("--packet", "0", made["empty"]), 3, "it is empty: give a capture"),
-    ):
-        ended = run(*words)
-        is_line = ended[2].startswith("packets: ") and ended[2].count("\n") == 1
-        expect(" ".join(words), ended[:2] == (status, b"") and is_line and said in ended[2])
-    for words in ((), ("--packet", "x"), (FEED, CAPTURE), ALWAYS, ("--packet", "0", FEED, CAPTURE), (*ALWAYS, FEED, CAPTURE, "x"), ("--skip", "-1")):
-        expect(f"words {words}", run(*words)[:2] == (2, b""))
+    )
+    with ThreadPoolExecutor(4) as pool:
+        for (words, status, said), ended in zip(refusals, pool.map(lambda it: run(*it[0]), refusals)):
+            is_line = ended[2].startswith("packets: ") and ended[2].count("\n") == 1
+            expect(" ".join(words), ended[:2] == (status, b"") and is_line and said in ended[2])
+
+
+def test_words():
+    """A mistake in the words is told, with status 2."""
+    mistakes = [(), ("--packet", "x"), (FEED, CAPTURE), ALWAYS, ("--packet", "0", FEED, CAPTURE), (*ALWAYS, FEED, CAPTURE, "x"), ("--skip", "-1")]
     for words in (("--sequence", "be9"), ("--length", "4"), ("--b3", "--skip", "2"), ("--reset", "maybe")):
-        expect(f"words {words}", run(*ALWAYS, *words, FEED, CAPTURE)[:2] == (2, b""))
+        mistakes.append((*ALWAYS, *words, FEED, CAPTURE))
+    with ThreadPoolExecutor(4) as pool:
+        for words, ended in zip(mistakes, pool.map(lambda it: run(*it), mistakes)):
+            expect(f"words {words}", ended[:2] == (2, b""))
     expect("help", run("--help")[0] == 0)
     expect("a device that is full", full_device() == (3, "packets: reading or writing failed: No space left on device\n"))
 
@@ -117,7 +125,7 @@ def test_terminal():
         yield frames
 
     for is_terminal in (True, False):
-        ours, theirs = pty.openpty() if is_terminal else os.pipe()[::1]
+        ours, theirs = pty.openpty() if is_terminal else os.pipe()
         with tempfile.TemporaryFile() as out:
             status, _ = fed(slowly(), *ALWAYS, FEED, stdout=out, stderr=theirs)
             os.close(theirs)
@@ -147,12 +155,13 @@ def blocks_of(page):
 
 def test_page():
     """The commands of docs/FEEDS.md write what the page says."""
-    page, fastcat = f"{TOP}/docs/FEEDS.md", os.environ.get("FASTCAT") or f"{TOP}/fastcat"
-    commands = blocks_of(page)
+    commands = blocks_of(f"{TOP}/docs/FEEDS.md")
     with tempfile.TemporaryDirectory() as folder:
         for name in ("tools", "examples", "docs"):
             os.symlink(f"{TOP}/{name}", f"{folder}/{name}")
-        os.symlink(os.path.abspath(fastcat), f"{folder}/fastcat")
+        with open(f"{folder}/fastcat", "w", encoding="utf-8") as it:
+            it.write(f'#!/bin/sh\nexec "{os.path.abspath(FASTCAT)}" "$@"\n')
+        os.chmod(f"{folder}/fastcat", 0o755)
         for command, lines in commands:
             ran = subprocess.run(["bash", "-c", command], cwd=folder, capture_output=True, env=MADE.environment())
             form = "".join("(?s:.*)" if line == ".." else re.escape(line + "\n") for line in lines)

@@ -16,21 +16,23 @@ from lines import Lines
 
 LIBRARY = f"{TOP}/crates/fast_c/out/libfast_c.so"
 SECOND = 10**9
-# How many streams have a decoder at a time, and how many records are asked for at once.
-DECODERS, RECORDS = 256, 4096
+# How many streams have a decoder at a time.
+DECODERS = 256
+# The status of a packet that ends inside a message.
+TRUNCATED = 6
 
 
 def library(path):
-    """The shared library of a path; where there is none, how to make it."""
-    path = path or os.environ.get("FAST_LIBRARY") or LIBRARY
+    """The shared library of a path; where there is none, or one of another build, how to make it."""
+    path = os.path.relpath(path or os.environ.get("FAST_LIBRARY") or LIBRARY)
+    tool, archive, heap = (os.path.relpath(f"{TOP}/{it}") for it in ("tools/library", "crates/fast_c/out/libfast_c.a", "include/heap.c"))
+    link = f"cc -shared -fPIC -o {path} -Wl,--whole-archive {archive} -Wl,--no-whole-archive {heap}"
     if not os.path.exists(path):
-        archive, heap = (os.path.relpath(f"{TOP}/{it}") for it in ("crates/fast_c/out/libfast_c.a", "include/heap.c"))
-        link = f"cc -shared -fPIC -o {os.path.relpath(path)} -Wl,--whole-archive {archive} -Wl,--no-whole-archive {heap}"
-        raise Failed(3, f"{os.path.relpath(path)} is not there: make it by {os.path.relpath(f'{TOP}/tools/library')} fast_c && {link}")
+        raise Failed(3, f"{path} is not there: make it by {tool} fast_c && {link}")
     try:
         return fast.Library(os.path.abspath(path))
     except (OSError, AttributeError, ImportError) as error:
-        raise Failed(3, f"{path}: {error}") from error
+        raise Failed(3, f"{error}: make it by {tool} fast_c && {link}") from error
 
 
 def template_set(of, path):
@@ -78,7 +80,7 @@ class Shown:
             if len(self.decoders) >= DECODERS:
                 self.decoders.pop(next(iter(self.decoders))).close()
             try:
-                self.decoders[flow] = self.names.decoder(records=RECORDS, **self.limits)
+                self.decoders[flow] = self.names.decoder(**self.limits)
             except fast.Error as error:
                 raise Failed(2, f"limits: {error.words}") from error
         return self.decoders[flow]
@@ -99,23 +101,29 @@ class Shown:
         if packet.wrong:
             yield self.wrong(packet.wrong)
 
-    def messages(self, decoder, packet):
-        """The lines of a packet's messages, and behind them that of a fault or of a cut. A packet of a stream may end anywhere."""
-        if self.is_afresh:
-            decoder.reset()
-        begun, fault = 0 if packet.is_stream else decoder.consumed, None
+    def decoded(self, decoder, packet):
+        """The events of a packet's messages, and the fault after them, if there is one. A packet of a stream may end anywhere."""
+        events = []
         try:
-            for event in decoder.feed(packet.data):
-                yield self.lines.line(*event)
+            goes_on = packet.is_stream and not self.is_afresh
+            for event in decoder.feed(packet.data) if goes_on else decoder.packet(packet.data, afresh=self.is_afresh):
+                events.append(event)
         except fast.Error as error:
-            if not error.code:
-                raise Failed(3, error.words) from error
-            fault = f"fault {error.code} at {error.place - begun}"
-        if not fault and not decoder.between and (self.is_afresh or not packet.is_stream):
-            fault = f"truncated at {decoder.consumed - begun}"
+            return events or getattr(error, "events", []), error
+        return events, None
+
+    def messages(self, decoder, packet):
+        """The lines of a packet's messages, and after them that of a fault or of a cut."""
+        begun = 0 if packet.is_stream or self.is_afresh else decoder.consumed
+        events, fault = self.decoded(decoder, packet)
+        for event in events:
+            yield self.lines.line(*event)
         if fault:
+            if fault.status != TRUNCATED and not fault.code:
+                raise Failed(3, fault.words) from fault
+            what = "truncated" if fault.status == TRUNCATED else f"fault {fault.code}"
             decoder.reset()
-            yield self.wrong(fault)
+            yield self.wrong(f"{what} at {fault.place - begun}")
 
     def end(self, packet):
         """What is written where a stream ends: nothing, but where that is inside a message."""

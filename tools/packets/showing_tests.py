@@ -47,6 +47,11 @@ def test_shows():
         expect(f"{name} in a stream", is_whole and said == "" and status in (0, 1))
 
 
+def payloads():
+    """The messages of each packet of the example, without the five bytes in front of them."""
+    return [bytes.fromhex(it)[5:] for it in content(f"{TOP}/examples/packets/packets.hex").decode().splitlines()]
+
+
 def packets_of(out):
     """The lines of each packet, without its head."""
     return [it.partition(b"\n")[2] for it in re.split(rb"^(?=packet )", out, flags=re.M)[1:]]
@@ -54,13 +59,12 @@ def packets_of(out):
 
 def test_faults():
     """Of packets that begin anew, some damaged, each shows what `fastcat show` shows of its bytes, and so do those after it."""
-    templates, messages, _ = example("trades")
-    # each of these has the identifier of its template, and so is one that a packet can begin with
-    heads = [it for it in messages if it[0] & 0xC0 == 0xC0]
+    templates = f"{TOP}/examples/packets/templates.toml"
+    heads = [it for it in payloads() if shown(templates, it).endswith(b"end message\n")]
     chance, damaged = random.Random(20261129), []
     for it in heads * 4:
         place = chance.randrange(len(it))
-        damaged += [it, it[:place] + bytes([chance.randrange(256)]) + it[place + 1 :], it[:place], it + it[:place], it + it]
+        damaged += [it, it[:place] + bytes([chance.randrange(256)]) + it[place + 1 :], it[:place], it + it[:place]]
     capture = MADE.file("damaged.pcap", m.pcap([m.ethernet(m.ip(m.udp(b"ab" + it))) for it in damaged]))
     status, out, said = run("--reset", "always", "--skip", "2", templates, capture)
     parts = packets_of(out)
@@ -68,7 +72,7 @@ def test_faults():
     alone = [shown(templates, it) for it in damaged]
     expect("damaged packets as fastcat shows them", parts == alone)
     kinds = {it for part in alone for it in re.findall(rb"^(?:fault \w\w|truncated)", part, re.M)}
-    expect("damaged packets of more than one kind", len(kinds) > 3 and sum(it.endswith(b"end message\n") for it in alone) > len(heads) * 8)
+    expect("damaged packets of more than one kind", len(kinds) > 3 and sum(it.endswith(b"end message\n") for it in alone) > len(damaged) // 4)
     for number in (0, 1, 17, len(damaged) - 1):
         expect(f"the bytes of packet {number}", run("--packet", str(number), "--skip", "2", capture) == (0, damaged[number], ""))
     named = run("--packet", str(len(damaged)), capture)
@@ -85,16 +89,49 @@ def test_goes_on():
     first, second = messages[0], messages[1]
     cut = [m.ethernet(m.ip(m.udp(it))) for it in (first, second[:-1], first, second)]
     out = run("--reset", "never", templates, stdin=m.pcap(cut))
-    expect("a cut packet", out[0] == 1 and packets_of(out[1])[2:] == [it.encode() for it in lines[:2]] and b"truncated at" in packets_of(out[1])[1])
+    is_cut = packets_of(out[1])[1].endswith(b"\ntruncated at %d\n" % (len(second) - 1))
+    expect("a cut packet", out[0] == 1 and packets_of(out[1])[2:] == [it.encode() for it in lines[:2]] and is_cut)
     out = run("--reset", "never", templates, stdin=m.segments((0, first), (len(first) + 9, first + second)))
     gap = [lines[0].encode(), b"gap 9\n" + (lines[0] + lines[1]).encode()]
     expect("a gap", out[0] == 1 and packets_of(out[1]) == gap)
     out = run("--reset", "never", templates, stdin=m.segments((0, first + second[:-2]), (0, b""), flags={1: 17}))
     end = rb"packet 0 .*\n(?s:.*)packet - 2010-11-17T13:20:01\.500000125Z 10\.0\.0\.1:30001>239\.1\.2\.3:30002 -\ntruncated at %d\n"
     expect("a stream that ends inside a message", out[0] == 1 and re.fullmatch(end % (len(first + second) - 2), out[1]) is not None)
-    limits = run("--reset", "never", "--max-elements", "0", "--max-total", "0", "--strict", templates, stdin=m.pcap(frames[:1]))
-    as_shown = shown(templates, first, "--max-elements", "0", "--max-total", "0", "--strict")
-    expect("limits", packets_of(limits[1]) == [as_shown])
+
+
+def test_wrong():
+    """What is wrong with a packet itself comes after the lines of what there is of it."""
+    templates, first = f"{TOP}/examples/packets/templates.toml", payloads()[0]
+    whole, frame = shown(templates, first), m.ethernet(m.ip(m.udp(first)))
+    cut = run("--reset", "always", templates, stdin=m.pcap([frame], most=52))
+    expect("a packet that the capture cuts", cut[0] == 1 and packets_of(cut[1]) == [shown(templates, first[:10]) + b"cut 10 of %d\n" % len(first)])
+    short = m.pcap([m.ethernet(m.ip(m.udp(it))) for it in (b"abc", b"abcde" + first)])
+    out = run("--reset", "always", "--skip", "5", templates, stdin=short)
+    expect("a packet shorter than its preamble", out[0] == 1 and packets_of(out[1]) == [b"damaged preamble 3 of 5\n", whole])
+    fragment = m.pcap([m.ethernet(m.ip(m.udp(first), 0x2000)), frame])
+    out = run("--reset", "always", templates, stdin=fragment)
+    expect("a fragment", out[::2] == (1, "packets: -: 1 fragments of IP passed over\n") and packets_of(out[1]) == [whole])
+
+
+def test_texts():
+    """All characters of a text, and all bytes of a byte vector, are written as fastcat writes them."""
+    templates, text = f"{TOP}/examples/packets/templates.toml", bytes(range(128)) + "é€𝄞".encode()
+    sent = b"".join((bytes.fromhex("c09f07f10153bd"), bytes([len(text) + 1 >> 7, len(text) + 1 & 127 | 128]), text, b"\x02\x81", bytes(range(256))))
+    out = run("--reset", "always", templates, stdin=m.pcap([m.ethernet(m.ip(m.udp(sent)))]))
+    expect("texts", out[0] == 0 and packets_of(out[1]) == [shown(templates, sent)] and out[1].count(b"\n") == 8)
+
+
+def test_limits():
+    """Limits and the strict mode are those of fastcat."""
+    templates = f"{TOP}/examples/packets/templates.toml"
+    # two of whose elements, of a text of 17 bytes, and of an integer with a byte too many
+    sent = [payloads()[4], bytes.fromhex(f"c09f07f10153bd92{'41' * 17}80"), bytes.fromhex("c001850007ef")]
+    capture = m.pcap([m.ethernet(m.ip(m.udp(it))) for it in sent])
+    faults = {(): None, ("--max-elements", "1"): b"L2", ("--max-total", "1"): b"L5", ("--max-text", "16"): b"L1", ("--strict",): b"R6"}
+    for words, fault in faults.items():
+        out = run("--reset", "always", *words, templates, stdin=capture)[1]
+        is_there = fault is None or b"\nfault %b at" % fault in out
+        expect(f"limits {words}", is_there and packets_of(out) == [shown(templates, it, *words) for it in sent])
 
 
 def test_example():
@@ -105,10 +142,10 @@ def test_example():
     words = ("--skip", "5", "--sequence", "be4", f"{folder}/templates.toml", f"{folder}/capture.pcap")
     out = run("--reset", "always", *words)
     expect("the example's lines", out == (1, content(f"{folder}/capture.lines"), ""))
-    payloads = [bytes.fromhex(it)[5:] for it in content(f"{folder}/packets.hex").decode().splitlines()]
-    expect("the example as fastcat shows it", packets_of(out[1]) == [shown(words[4], it) for it in payloads])
-    bare = [m.ethernet(m.ip(m.udp(it))) for it in (payloads[0], payloads[3] + payloads[5], payloads[4])]
-    wrong = run("--reset", "never", words[4], stdin=m.pcap([m.ethernet(m.ip(m.udp(it))) for it in payloads[:3]]))
+    sent = payloads()
+    expect("the example as fastcat shows it", packets_of(out[1]) == [shown(words[4], it) for it in sent])
+    bare = [m.ethernet(m.ip(m.udp(it))) for it in (sent[0], sent[3] + sent[5], sent[4])]
+    wrong = run("--reset", "never", words[4], stdin=m.pcap([m.ethernet(m.ip(m.udp(it))) for it in sent[:3]]))
     prices = re.findall(rb"MDEntryPx d (\d+)e0", wrong[1])
     expect("wrong prices where the dictionary goes on", wrong[0] == 0 and prices == [b"129700", b"259425", b"389125"])
     expect("two messages in a packet", run("--reset", "always", words[4], stdin=m.pcap(bare))[0] == 0)

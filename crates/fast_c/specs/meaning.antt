@@ -1,2 +1,3 @@
 -- What is meant: the contracts of the C functions rest on these definitions.
-pub mod Called
+pub mod Decoders
+pub mod Encoders

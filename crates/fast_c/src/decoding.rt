@@ -1,11 +1,9 @@
 //! Decoders: bytes to records.
 
-ghost use Rattle.std.specs.Prelude.{ℕ, List};
-ghost use Rattle.fast_stream.specs.meaning.Events.{EventData};
-ghost use Rattle.fast_decoder.specs.meaning.Decoding.{HasRead, tree};
-ghost use Rattle.fast_records.specs.meaning.Waiting.{pending};
+ghost use Rattle.std.specs.Prelude.{◌≡◌, not, ◌==◌};
+ghost use Rattle.fast_decoder.specs.meaning.Decoding.{DecoderData};
 ghost use Rattle.fast_c.specs.declared.decoding.Decoding.{Decoding};
-ghost use Rattle.fast_c.specs.meaning.Called.{IsFed};
+ghost use Rattle.fast_c.specs.meaning.Decoders.{IsReset, Starts, Feeds, FeedsPacket, cut_fed, ends_inside};
 
 use crate::sets::SetHandle;
 use crate::{NO_MEMORY, limits_of};
@@ -15,11 +13,12 @@ use fast_value::Limits;
 use std::alloc::Global;
 use std::marker::Model;
 
-/// A decoder, and the events that wait for room.
+/// A decoder, the events that wait for room, and whether a packet has ended inside a message.
 #[derive(Drop)]
 pub struct Decoding {
     decoder: Decoder<'static>,
     waiting: Waiting,
+    is_cut: bool,
 }
 
 /// What C calls the type behind its pointer to a decoder.
@@ -81,7 +80,12 @@ fn made(alloc: Global, set: SetHandle, limits: Limits) -> Result<Box<Decoding, G
     match Decoder::new(alloc, set.lent(), limits) {
         Ok(decoder) => {
             let waiting = Waiting::new(alloc);
-            Box::new(alloc, Decoding { decoder, waiting }).map_err(|_| NO_MEMORY)
+            let decoding = Decoding {
+                decoder,
+                waiting,
+                is_cut: false,
+            };
+            Box::new(alloc, decoding).map_err(|_| NO_MEMORY)
         }
         Err(error) => Err(Status::Make(error)),
     }
@@ -108,13 +112,32 @@ pub extern "C" fn fast_decoder_open(
     }
 }
 
+/// What is answered behind a packet that has ended inside a message.
+fn cut_fed(consumed: u64) -> FastFed
+    ensures { result ≡ cut_fed consumed }
+{
+    FastFed {
+        taken: 0,
+        records: 0,
+        texts: 0,
+        consumed,
+        between: 0,
+        status: Status::Truncated.number(),
+    }
+}
+
 /// Feeds a piece, as far as its events have room.
 fn feed(decoding: &mut Decoding, piece: &[u8], records: &mut [Record], texts: &mut [u8]) -> FastFed
-    ensures { (w : List ℕ) (es : List EventData) → HasRead decoding.old.decoder w es
-        → IsFed (tree decoding.old.decoder) decoding.old.decoder.limits w es piece.now
-        (pending decoding.old.waiting) records.new texts.new result }
+    ensures { Feeds decoding.old piece.now records.new texts.new result decoding.new }
 {
-    let Decoding { decoder, waiting } = decoding;
+    if decoding.is_cut {
+        return cut_fed(decoding.decoder.consumed());
+    }
+    let Decoding {
+        decoder,
+        waiting,
+        ..
+    } = decoding;
     let fed = feed_records(decoder, waiting, piece, records, texts);
     FastFed {
         taken: fed.taken as u64,
@@ -136,21 +159,87 @@ pub extern "C" fn fast_decoder_feed(
     texts: &mut [u8],
     fed: &mut FastFed,
 )
-    ensures { (w : List ℕ) (es : List EventData) → HasRead decoder.value.decoder w es
-        → IsFed (tree decoder.value.decoder) decoder.value.decoder.limits w es piece.now
-        (pending decoder.value.waiting) records.new texts.new fed.new }
+    ensures { (new : Decoding) × Feeds decoder.value piece.now records.new texts.new fed.new new }
 {
     let mut decoding = decoder.into_box();
     *fed = feed(&mut decoding, piece, records, texts);
     *back = Box::into_raw(decoding) as *mut FastDecoder;
 }
 
-/// Makes a decoder as it was made, before the first byte.
+/// Whether all bytes were taken and nothing waits, inside a message.
+fn ends_inside(fed: FastFed) -> bool
+    ensures { result ≡ ends_inside fed }
+{
+    fed.status == Status::Done.number() && fed.between == 0
+}
+
+/// Resets a decoder, or leaves it as it is.
+fn start(decoding: &mut Decoding, is_reset: bool)
+    ensures { Starts is_reset decoding.old decoding.new }
+{
+    if is_reset {
+        reset(decoding);
+    }
+}
+
+/// Feeds all that is left of a packet, of a decoder that is reset before or goes on.
+fn feed_packet(
+    decoding: &mut Decoding,
+    is_reset: bool,
+    packet: &[u8],
+    records: &mut [Record],
+    texts: &mut [u8],
+) -> FastFed
+    ensures { FeedsPacket is_reset decoding.old packet.now records.new texts.new result decoding.new }
+{
+    start(decoding, is_reset);
+    let fed = feed(decoding, packet, records, texts);
+    if ends_inside(fed) {
+        decoding.is_cut = true;
+        return FastFed {
+            status: Status::Truncated.number(),
+            ..fed
+        };
+    }
+    fed
+}
+
+/// Feeds all that is left of a packet to a decoder, which is reset before where `start` is not 0. Where the bytes end inside a message
+/// the packet is cut, and so it stays until a reset.
 #[unsafe(no_mangle)]
-pub extern "C" fn fast_decoder_reset(decoder: DecoderHandle, back: &mut *mut FastDecoder) {
+pub extern "C" fn fast_decoder_packet(
+    decoder: DecoderHandle,
+    back: &mut *mut FastDecoder,
+    start: u32,
+    packet: &[u8],
+    records: &mut [Record],
+    texts: &mut [u8],
+    fed: &mut FastFed,
+)
+    ensures { (new : Decoding)
+        × FeedsPacket (not (start == 0)) decoder.value packet.now records.new texts.new fed.new new }
+{
     let mut decoding = decoder.into_box();
+    *fed = feed_packet(&mut decoding, start != 0, packet, records, texts);
+    *back = Box::into_raw(decoding) as *mut FastDecoder;
+}
+
+/// Makes a decoder as it was made.
+fn reset(decoding: &mut Decoding)
+    ensures { IsReset decoding.old decoding.new }
+{
     decoding.decoder.reset();
     decoding.waiting.clear();
+    decoding.is_cut = false;
+}
+
+/// Makes a decoder as it was made, before the first byte.
+#[unsafe(no_mangle)]
+pub extern "C" fn fast_decoder_reset(decoder: DecoderHandle, back: &mut *mut FastDecoder)
+    ensures { (new : Decoding) × IsReset decoder.value new }
+{
+    let mut decoding = decoder.into_box();
+    reset(&mut decoding);
     *back = Box::into_raw(decoding) as *mut FastDecoder;
 }
 

@@ -4,7 +4,7 @@ ghost use Rattle.std.specs.Prelude.{◌≡◌, Err};
 ghost use Rattle.fast_c.specs.contracts.encoding.Encoding.{the_row};
 ghost use Rattle.fast_c.specs.declared.encoding.Encoding.{Encoding};
 ghost use Rattle.fast_encoder.specs.meaning.Encoders.{tree};
-ghost use Rattle.fast_c.specs.meaning.Called.{misplaced, HasCome, IsTaken};
+ghost use Rattle.fast_c.specs.meaning.Encoders.{misplaced, HasCome, IsTaken};
 
 use crate::sets::SetHandle;
 use crate::{NO_MEMORY, limits_of};

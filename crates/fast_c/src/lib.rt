@@ -17,7 +17,7 @@ use fast_value::Limits;
 use std::fmt::Write;
 
 /// The number of this interface. It changes with the size of a struct, the parameters of a function or the meaning of a number.
-const INTERFACE: u32 = 1;
+const INTERFACE: u32 = 2;
 
 /// The status of no memory for what stands behind a handle.
 const NO_MEMORY: Status = Status::Make(MakeError::Memory);
@@ -44,7 +44,7 @@ fn write_front(text: &[u8], out: &mut [u8]) -> usize
 /// The number of this interface, which has to be `FAST_INTERFACE` of the header.
 #[unsafe(no_mangle)]
 pub extern "C" fn fast_interface() -> u32
-    ensures { result ≡ 1 }
+    ensures { result ≡ 2 }
 {
     INTERFACE
 }

@@ -27,6 +27,8 @@ pub enum Status {
     Closed,
     /// The records are not those of one whole message of the set.
     Misplaced,
+    /// The bytes of a packet end inside a message: answered by those who know where packets end.
+    Truncated,
     /// The stream is at fault.
     Stream(FaultCode),
     /// No decoder or encoder is made.
@@ -90,13 +92,14 @@ fn static_number(code: StaticCode) -> u32
 }
 
 /// Each status, for the way back from its number.
-const ALL: [Status; 46] = [
+const ALL: [Status; 47] = [
     Status::Done,
     Status::More,
     Status::NoRoom,
     Status::NotText,
     Status::Closed,
     Status::Misplaced,
+    Status::Truncated,
     Status::Stream(FaultCode::Stream(Code::D2)),
     Status::Stream(FaultCode::Stream(Code::D4)),
     Status::Stream(FaultCode::Stream(Code::D5)),
@@ -152,6 +155,7 @@ impl Status {
             Status::NotText => 3,
             Status::Closed => 4,
             Status::Misplaced => 5,
+            Status::Truncated => 6,
             Status::Stream(code) => 100 + u32::from(code.number()),
             Status::Make(error) => 200 + u32::from(error.number()),
             Status::Set(code) => 300 + static_number(code),
@@ -180,6 +184,7 @@ impl fmt::Display for Status {
             Status::NoRoom => f.write_str("a buffer has too little room"),
             Status::NotText => f.write_str("the template text is not UTF-8"),
             Status::Misplaced => f.write_str("the records are not those of one whole message"),
+            Status::Truncated => f.write_str("the packet ends inside a message"),
             Status::Closed => f.write_str("it is closed, or was never made"),
             Status::Stream(FaultCode::SinkStopped) => f.write_str(
                 "there is no memory left for records that wait",

@@ -37,6 +37,7 @@ status_number To.NoRoom = 2
 status_number To.NotText = 3
 status_number To.Closed = 4
 status_number To.Misplaced = 5
+status_number To.Truncated = 6
 status_number (To.Stream c) = 100 + code_number c
 status_number (To.Make e) = 200 + cause_number e
 status_number (To.Set c) = 300 + static_number c
