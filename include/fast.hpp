@@ -232,13 +232,14 @@ public:
         });
     }
 
-    // Decodes one packet, which has to end between two messages, and shows its events: with FAST_AFRESH from a new dictionary, with FAST_ON from that
-    // which the packet before has left. Where it ends within a message, FAST_TRUNCATED is a fault as those of `decode`, until a reset or FAST_AFRESH.
+    // Decodes one packet, which has to end between two messages, and shows its events: with FAST_RESET from a new dictionary, with FAST_CONTINUE from
+    // that which the packet before has left. Where it ends within a message, FAST_TRUNCATED is a fault as those of `decode`, until a reset or
+    // FAST_RESET.
     template <class V>
-    std::uint32_t packet(const std::uint8_t *packet, std::size_t packet_len, V &&sees, std::uint32_t how = FAST_AFRESH) {
-        if (how == FAST_AFRESH) last_ = at_start;
-        return show_all(packet, packet_len, sees, [this, how](const std::uint8_t *rest, std::size_t rest_len) mutable {
-            const std::uint32_t now = std::exchange(how, std::uint32_t{FAST_ON});
+    std::uint32_t packet(const std::uint8_t *data, std::size_t size, V &&sees, std::uint32_t start = FAST_RESET) {
+        if (start == FAST_RESET) last_ = at_start;
+        return show_all(data, size, sees, [this, start](const std::uint8_t *rest, std::size_t rest_len) mutable {
+            const std::uint32_t now = std::exchange(start, std::uint32_t{FAST_CONTINUE});
             return fast_decode_packet(it_.get(), now, rest, rest_len, room_->records.data(), room_->records.size(), room_->texts.data(),
                                       room_->texts.size());
         });
@@ -262,6 +263,7 @@ private:
 
     // Calls until all bytes are taken, and shows what comes.
     template <class V, class F> std::uint32_t show_all(const std::uint8_t *piece, std::size_t piece_len, V &sees, F feed) {
+        if (!it_) return expect(FAST_CLOSED);
         const bool was_abandoned = last_.status > FAST_MORE;
         do {
             last_ = feed(piece, piece_len);

@@ -100,7 +100,7 @@ extern "C" {
     pub fn fast_decoder_packet(
         decoder: Handle<Decoder>,
         back: *mut *mut Decoder,
-        how: u32,
+        start: u32,
         packet: *const u8,
         packet_len: usize,
         records: *mut Record,

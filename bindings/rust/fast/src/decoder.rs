@@ -29,13 +29,13 @@ impl Room {
     }
 }
 
-/// How a packet begins.
+/// How a packet begins (`fast_start`).
 #[derive(Clone, Copy, Debug, PartialEq, Eq)]
-pub enum Packet {
+pub enum Start {
     /// With the dictionary that the packet before it has left.
-    On = 0,
-    /// With a new dictionary, as after a reset.
-    Afresh = 1,
+    Continue = 0,
+    /// With a new dictionary.
+    Reset = 1,
 }
 
 /// Decodes a stream that comes in pieces, cut anywhere. It keeps its set open, and is closed where it is dropped.
@@ -100,10 +100,10 @@ impl Decoder {
     /// # Errors
     ///
     /// Those of [`Decoder::feed`]; and status 6 where the packet ends within a message, with the number of bytes consumed as the place, and so
-    /// again until a reset or a packet that begins afresh.
-    pub fn packet(&mut self, packet: &[u8], how: Packet, take: impl FnMut(Event<'_>)) -> Result<(), Error> {
+    /// again until a reset or a packet that begins with one.
+    pub fn packet(&mut self, packet: &[u8], start: Start, take: impl FnMut(Event<'_>)) -> Result<(), Error> {
         let mut room = std::mem::take(&mut self.room);
-        let end = self.run(&mut room, packet, Some(how), take);
+        let end = self.run(&mut room, packet, Some(start), take);
         self.room = room;
         end
     }
@@ -112,18 +112,18 @@ impl Decoder {
         &mut self,
         room: &mut Room,
         piece: &[u8],
-        mut how: Option<Packet>,
+        mut start: Option<Start>,
         mut take: impl FnMut(Event<'_>),
     ) -> Result<(), Error> {
         room.hold(self.max_text);
         let mut rest = piece;
         loop {
-            let fed = self.feed_once(room, rest, how);
+            let fed = self.feed_once(room, rest, start);
             for record in &room.records[..fed.records as usize] {
                 take(event_of(record, &room.texts));
             }
             rest = &rest[fed.taken as usize..];
-            how = how.map(|_| Packet::On);
+            start = start.map(|_| Start::Continue);
             match fed.status {
                 0 => return Ok(()),
                 1 => {}
@@ -132,7 +132,7 @@ impl Decoder {
         }
     }
 
-    fn feed_once(&mut self, room: &mut Room, piece: &[u8], how: Option<Packet>) -> Fed {
+    fn feed_once(&mut self, room: &mut Room, piece: &[u8], start: Option<Start>) -> Fed {
         let mut back = self.at.as_ptr();
         let (records, texts) = (room.records.as_mut_ptr(), room.texts.as_mut_ptr());
         let (records_len, texts_len) = (room.records.len(), room.texts.len());
@@ -140,10 +140,10 @@ impl Decoder {
         // the decoder is open, and no other call has it; slices of different memory
         unsafe {
             let decoder = Handle(back);
-            match how {
+            match start {
                 None => fast_sys::fast_decoder_feed(decoder, &mut back, bytes, len, records, records_len, texts, texts_len, last),
-                Some(how) => fast_sys::fast_decoder_packet(
-                    decoder, &mut back, how as u32, bytes, len, records, records_len, texts, texts_len, last,
+                Some(start) => fast_sys::fast_decoder_packet(
+                    decoder, &mut back, start as u32, bytes, len, records, records_len, texts, texts_len, last,
                 ),
             }
         }

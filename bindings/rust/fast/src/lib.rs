@@ -19,7 +19,7 @@ mod error;
 mod event;
 mod set;
 
-pub use decoder::{Decoder, Packet, Room};
+pub use decoder::{Decoder, Room, Start};
 pub use encoder::{Encoder, Records};
 pub use error::Error;
 pub use event::{Event, Value};
