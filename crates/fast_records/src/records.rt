@@ -3,6 +3,7 @@
 ghost use Rattle.std.specs.Prelude.{◌≡◌};
 ghost use Rattle.fast_value.specs.meaning.Values.{scalar_data};
 ghost use Rattle.fast_stream.specs.meaning.Handed.{event_data};
+ghost use Rattle.fast_records.specs.device.Lent.{content};
 ghost use Rattle.fast_records.specs.meaning.Records.{mark, text_record, field_record, record_of, event_text};
 
 use fast_stream::Event;
@@ -56,17 +57,25 @@ pub const MESSAGE_END: u32 = 14;
 /// The greatest length that a record can hold. The limits of a decoder keep texts below 2^21 bytes.
 const MAX_LENGTH: usize = 0xffff_ffff;
 
-/// The record of an event that has no text.
+/// The record of an event that has no text and no exponent.
 #[inline(always)]
 pub(crate) fn mark(kind: u32, node: u32, value: u64) -> Record
     ensures { result ≡ mark kind node value }
+{
+    content(kind, node, value, 0)
+}
+
+/// The record of an event that has no text.
+#[inline(always)]
+pub(crate) fn content(kind: u32, node: u32, value: u64, exponent: i32) -> Record
+    ensures { result ≡ content kind node value exponent }
 {
     Record {
         kind,
         node,
         value,
         length: 0,
-        exponent: 0,
+        exponent,
     }
 }
 
@@ -93,10 +102,9 @@ fn field_record(node: u32, place: u64, value: Scalar<'_>) -> Record
     match value {
         Scalar::U(number) => mark(UNSIGNED, node, number),
         Scalar::I(number) => mark(SIGNED, node, number.cast_unsigned()),
-        Scalar::Dec { exponent, mantissa } => Record {
-            exponent,
-            ..mark(DECIMAL, node, mantissa.cast_unsigned())
-        },
+        Scalar::Dec { exponent, mantissa } => {
+            content(DECIMAL, node, mantissa.cast_unsigned(), exponent)
+        }
         Scalar::Ascii(text) => text_record(ASCII, node, place, text),
         Scalar::Unicode(text) => text_record(UNICODE, node, place, text),
         Scalar::Bytes(text) => text_record(BYTES, node, place, text),

@@ -5,7 +5,8 @@ ghost use Rattle.std.specs.Prelude.{◌≤◌, length};
 use crate::lent::event_with;
 use crate::records::{
     ASCII, BYTES, DECIMAL, ELEMENT_END, ELEMENT_START, GROUP_END, GROUP_START, MESSAGE_END,
-    MESSAGE_START, Record, SEQUENCE_END, SEQUENCE_START, SIGNED, UNICODE, UNSIGNED, text_record,
+    MESSAGE_START, Record, SEQUENCE_END, SEQUENCE_START, SIGNED, UNICODE, UNSIGNED, content,
+    text_record,
 };
 use crate::room::Room;
 use crate::waiting::{Waiting, hand_over};
@@ -36,7 +37,7 @@ impl<'a> RecordSink<'a> {
     ghost use Rattle.fast_value.specs.meaning.Values.{scalar_data};
     ghost use Rattle.fast_stream.specs.meaning.Events.{EventData, FieldValue};
     ghost use Rattle.fast_records.specs.meaning.Records.{text_record, field_record};
-    ghost use Rattle.fast_records.specs.device.Lent.{IsOf, content};
+    ghost use Rattle.fast_records.specs.device.Lent.{IsMark, IsOf, content};
     ghost use Rattle.std.specs.Bool.{OnTrue, OnFalse};
     ghost use Rattle.fast_stream.specs.meaning.Handed.{event_data};
     ghost use Rattle.fast_records.specs.meaning.Waiting.{pending};
@@ -135,17 +136,11 @@ impl<'a> RecordSink<'a> {
     /// that the arms of the decoder's loop, into which this is inlined, stay small.
     #[inline(always)]
     fn keep(&mut self, kind: u32, node: u32, value: u64, exponent: i32) -> Result<(), Stop>
-        ensures ok { (e : EventData) → IsOf (content kind node value exponent) [] e → OnOk result (TakesRecord self.old e self.new) }
-        ensures err { (e : EventData) → IsOf (content kind node value exponent) [] e
+        ensures ok { (e : EventData) → IsMark (content kind node value exponent) e → OnOk result (TakesRecord self.old e self.new) }
+        ensures err { (e : EventData) → IsMark (content kind node value exponent) e
             → OnErr result (RefusesRecord self.old e self.new) }
     {
-        let next = Record {
-            kind,
-            node,
-            value,
-            length: 0,
-            exponent,
-        };
+        let next = content(kind, node, value, exponent);
         if self.put(next, &[]) {
             return Ok(());
         }
@@ -159,14 +154,7 @@ impl<'a> RecordSink<'a> {
         ensures err { (e : EventData) → IsOf (content kind node value exponent) [] e
             → OnErr result (RefusesRecord self.old e self.new) }
     {
-        let record = Record {
-            kind,
-            node,
-            value,
-            length: 0,
-            exponent,
-        };
-        match event_with(record, &[]) {
+        match event_with(content(kind, node, value, exponent), &[]) {
             Some(event) => self.wait(event),
             None => Err(Stop),
         }

@@ -1,5 +1,5 @@
 -- The event that a record of a kind stands for, and where there is none.
-use Rattle.std.specs.Prelude.{◌≡◌, ℕ, ℤ, if◌then◌else◌, nat_eq, List}
+use Rattle.std.specs.Prelude.{◌≡◌, ℕ, ℤ, if◌then◌else◌, nat_eq, List, []}
 use Rattle.std.specs.Int.{w64, cast_signed}
 use Rattle.fast_value.specs.meaning.Kinds.{U, I, Dec, AsciiText, UnicodeText, ByteVector}
 use Rattle.fast_stream.specs.meaning.Events.{EventData, MessageStart, FieldValue, GroupStart, GroupEnd, SequenceStart, ElementStart, ElementEnd, SequenceEnd, MessageEnd}
@@ -32,6 +32,12 @@ event_back r text = event_of_kind r.kind r text
 -- the record of an event without a text that has this content
 abbrev pub content : ℕ → ℕ → ℕ → ℤ → Record
 content kind node value exponent = record { kind = kind; node = node; value = value; length = 0; exponent = exponent }
+
+-- The event is of this record, wherever a text would begin: it has none.
+pub record IsMark (r : Record) (e : EventData) : Type 0 where
+  pub record_is : (place : ℕ) → r ≡ record_of place e
+  pub text_is : event_text e ≡ []
+  pub held : IsHeld e
 
 -- The event is of this record, with this text.
 pub record IsOf (r : Record) (text : List ℕ) (e : EventData) : Type 0 where
