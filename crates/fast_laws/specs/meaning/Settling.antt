@@ -12,8 +12,8 @@ use Rattle.fast_spelling.specs.meaning.Encoding.{EncodesMessage}
 abbrev pub HasShortIds : Tree → Type 0
 HasShortIds t = All (λ u. IfSome u.id (λ id. id < 2 ^ 32)) t.templates
 
--- The tree is one that reading a set grants, the limit on texts one that an encoder takes, and what each entry holds a value of its kind
--- within the limits.
+-- Reading a set grants the tree, and identifiers that differ; the limit on texts is one that an encoder takes; and what an entry holds is a
+-- value of its kind within the limits.
 pub record CanEncode (t : Tree) (l : Limits) (d : Dictionary) : Type 0 where
   pub granted : IsGrantedTree l t
   pub distinct_ids : HasDistinctIds t
