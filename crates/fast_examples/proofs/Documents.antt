@@ -1,11 +1,17 @@
 -- What the documents of template sets write.
 use Rattle.std.proofs.Common.{refl, arith, inl, inr}
 use Rattle.std.proofs.lemmas.List.Elements.{All-cons, All-nil}
-use Rattle.std.specs.Prelude.{ℕ, ◌≤◌, false, List, [], ◌∷◌, codes, Option, Some, None}
+use Rattle.std.specs.Prelude.{◌≡◌, ℕ, ◌≤◌, false, List, [], ◌∷◌, codes, Option, Some, None}
+use Rattle.toml.specs.Parse.{parse_document}
 use Rattle.toml.specs.Data.{Data, string, array, table, no_items, item, Members, no_members, member}
 use Rattle.fast_value.specs.declared.kinds.Kind.{Kind}
 use Rattle.fast_tree.specs.declared.operators.Operator.{Operator}
 use Rattle.fast_tree.specs.meaning.AsWritten.{Declared, scalar, no_more, more, DeclaredTemplate, IsNameByte, IsName}
+use Rattle.fast_notation.specs.declared.codes.StaticCode.{StaticCode}
+use Rattle.fast_notation.specs.meaning.Firsts.{IsFirst}
+use Rattle.fast_notation.specs.meaning.Refused.{StandsAt}
+use Rattle.fast_notation.proofs.outcomes.Firsts.{written_first}
+use Rattle.fast_examples.specs.meaning.Texts.{IsRefusedText}
 use Rattle.fast_notation.specs.meaning.Notation.{kind_name, operator_name, IsInUse, Writes, WritesTemplate, WritesSet}
 
 -- names of one letter
@@ -69,3 +75,10 @@ document_of name field = member (codes "template") (array (item (table (one_fiel
 
 pub writes_set : (name : List ℕ) (field : Data) (d : Declared) → IsName name → Writes field d → WritesSet (document_of name field) (declared name d ∷ [])
 writes_set name field d n w = (item (table (one_field name field)) no_items, refl, (one_field name field, no_items, refl, writes_one name field d n w, refl), omega arith, omega arith)
+
+-- a text that is refused
+pub refused_text : (text : List ℕ) (document : Members) (ts : List DeclaredTemplate) (code : StaticCode) → parse_document text ≡ Some document → WritesSet document ts → StandsAt ts code 0 → IsFirst ts code 0 → IsRefusedText text code
+refused_text text document ts code reads shape stands first = (
+  inr (record { document = document; written = ts; reads = reads; shape = shape; stands = stands }),
+  written_first (parse_document text) document ts code (Some 0) reads shape stands first,
+)

@@ -9,10 +9,12 @@ use Rattle.fast_convert.specs.meaning.Converting.{IsConverted}
 use Rattle.fast_examples.specs.meaning.Vectors.{vectors, lenient}
 use Rattle.fast_examples.specs.meaning.Lines.{with_lf}
 
--- Of any set that is the built-in one, a run with hexadecimal digits has read all of the lines and written this, and it ends so; neither reader
--- nor writer has failed.
+-- Under each set that is the built-in one, a run in hexadecimal digits has read all of the lines and written this, and ends so. Neither
+-- the reader nor the writer has failed.
 abbrev pub RunEnds : List (List ℕ) → List ℕ → Result (Unit {0}) RunFault → Type 0
-RunEnds text digits r = (set : Templates) → tree_of set ≡ vectors → IsConverted set lenient true (Some (flat_map with_lf text)) (Some []) (Some []) (Some digits) ⊥ ⊥ r
+RunEnds text digits r =
+    (set : Templates) → tree_of set ≡ vectors
+    → IsConverted set lenient true (Some (flat_map with_lf text)) (Some []) (Some []) (Some digits) ⊥ ⊥ r
 
 -- one message; and two of which the second is refused, so that the first alone is written
 abbrev pub LinesConverted : Type 0

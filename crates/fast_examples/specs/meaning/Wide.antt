@@ -10,7 +10,7 @@ use Rattle.fast_spelling.specs.meaning.Encoding.{EncodesMessage}
 use Rattle.fast_examples.specs.meaning.Vectors.{lenient, at, with_entry, template}
 use Rattle.fast_examples.specs.meaning.Asked.{message, only}
 
--- so many optional uInt32 under copy, with numbers from n on; each has the entry behind its number
+-- so many optional uInt32 under copy, with numbers from n on; the entry of each is one more than its number
 abbrev pub copies : ℕ → ℕ → Body
 copies n zero = end
 copies n (suc more) = step (field (at n (codes "f" ++ decimal n)) (with_entry UInt32 true Copy (suc n))) (copies (suc n) more)

@@ -4,7 +4,7 @@ use Rattle.std.specs.Fmt.{digits}
 use Rattle.std.specs.Prelude.{ℕ, ◌≤◌, ◌<◌, All, false, List, [], ◌∷◌, ◌++◌, length, codes, flat_map, true, pos, Some, Result, Ok, Err}
 use Rattle.fast_value.specs.declared.codes.Code.TheVariants.{D5}
 use Rattle.fast_value.specs.declared.kinds.Kind.TheVariants.{UInt32}
-use Rattle.fast_value.specs.meaning.Kinds.{U, AsciiText, unsigned_range}
+use Rattle.fast_value.specs.meaning.Kinds.{U, unsigned_range}
 use Rattle.fast_value.specs.meaning.Messages.{MessageData}
 use Rattle.fast_tree.specs.meaning.Tree.{identifier, Tree, HasDistinctIds}
 use Rattle.fast_template.specs.declared.sets.Templates.{Templates}

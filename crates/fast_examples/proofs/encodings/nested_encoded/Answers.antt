@@ -46,7 +46,7 @@ from_legs = step (sequence_of (at 18 (codes "legs")) length a_leg) end
 abbrev from_group : Body
 from_group = step (group_of (at 16 (codes "g")) true (one_field 17 (codes "b") b)) from_legs
 
--- the dictionary behind the identifier, and behind a leg
+-- the dictionary after the identifier, and after a leg
 abbrev base : Dictionary
 base = behind 15 start
 

@@ -22,7 +22,7 @@ f k = with_entry UInt32 true Copy (suc k)
 abbrev five : PreviousData
 five = assigned UInt32 (U 5)
 
--- the entry of a field, behind those of the fields before it
+-- a field has the entry after those of the fields before it
 there : (k : ℕ) (front : List PreviousData) (p : PreviousData) (rest : List PreviousData) → length front ≡ suc k → slice_index_or (front ++ p ∷ rest) (suc k) undefined ≡ p
 there k front p rest e = ap (λ (n : ℕ). slice_index_or (front ++ p ∷ rest) n undefined) (sym e) ∙ get_or-append_seam front p rest undefined
 

@@ -6,14 +6,12 @@ use Rattle.fast_value.specs.meaning.Kinds.{U, signed_range}
 use Rattle.fast_stream.specs.device.GrammarReaders.{within}
 use Rattle.fast_stream.specs.meaning.Events.{item_events, body_events}
 use Rattle.fast_spelling.specs.meaning.Suiting.{SuitsBody, SuitsTemplate}
-use Rattle.fast_messages.specs.meaning.Reading.{Says}
 use Rattle.fast_tree.specs.meaning.Tree.{Body, field, step}
 use Rattle.fast_value.specs.declared.kinds.Kind.TheVariants.{Int32, Ascii}
 use Rattle.fast_tree.specs.declared.operators.Operator.TheVariants.{Copy, Delta}
 use Rattle.fast_examples.specs.meaning.Vectors.{vectors, at, one_field, with_entry, t1, t15}
 use Rattle.fast_examples.specs.meaning.Asked.{message, only}
 use Rattle.fast_examples.specs.meaning.Encodings.{leg, nested}
-use Rattle.fast_examples.specs.meaning.Lines.{nested_text}
 use Rattle.fast_examples.proofs.Computed.{at_most}
 use Rattle.fast_examples.proofs.Encoded.{fits}
 use Rattle.fast_examples.proofs.lines.lines_said.Goals as goal
