@@ -9,6 +9,7 @@ use Rattle.fast_value.specs.meaning.Messages.{MessageData}
 use Rattle.fast_value.specs.meaning.Views.{message_data}
 use Rattle.fast_tree.specs.meaning.Tree.{Tree}
 use Rattle.fast_dict.specs.meaning.Dictionary.{Dictionary}
+use Rattle.fast_stream.specs.meaning.Streams.{AreBytes}
 use Rattle.fast_spelling.specs.declared.faults.EncodeFault.{EncodeFault}
 use Rattle.fast_spelling.specs.declared.faults.EncodeFault.TheVariants as Fault
 use Rattle.fast_spelling.specs.meaning.Refusals.{IsRefused}
@@ -80,13 +81,13 @@ so_refused t l hex d ms n held holds now m fault HasFailed inside there h refuse
     (map message_data (take n ms), map message_data (drop (n + 1) ms), message_data m, h.ws, now, record { all_are = parts; coded = h.coded }, sym (length-map (take n ms) message_data ∙ long), refused, h.written)
 
 -- what an encoder of the same set and limits has appended to nothing
-pub coded_from : (e0 e f : EncoderData) (m : MessageData) (out longer : List ℕ) → e.set ≡ e0.set → e.limits ≡ e0.limits → out ≡ [] → IsEncoded e m out f longer → IsCoded (tree e0) e0.limits e.dictionary m longer f.dictionary
-coded_from e0 e f m out longer set limits none h =
+pub coded_from : (e0 e f : EncoderData) (m : MessageData) (out longer : List ℕ) → e.set ≡ e0.set → e.limits ≡ e0.limits → out ≡ [] → AreBytes longer → IsEncoded e m out f longer → IsCoded (tree e0) e0.limits e.dictionary m longer f.dictionary
+coded_from e0 e f m out longer set limits none small h =
     let same : longer ≡ h.bytes = h.appended ∙ ap (λ (z : List ℕ). z ++ h.bytes) none in
     subst (λ (w : List ℕ). IsCoded (tree e0) e0.limits e.dictionary m w f.dictionary) (sym same)
     (subst (λ (s : Set). IsCoded (tree_in s) e0.limits e.dictionary m h.bytes f.dictionary) set
     (subst (λ (l : Limits). IsCoded (tree e) l e.dictionary m h.bytes f.dictionary) limits
-    (record { suits = h.suits; fits = h.fits; ruled = h.ruled; spelled = h.spelled })))
+    (record { suits = h.suits; fits = h.fits; ruled = h.ruled; spelled = h.spelled; bytes = subst AreBytes same small })))
 
 -- what an encoder of the same set and limits refuses, where there was memory
 pub refused_from : (e0 e : EncoderData) (m : MessageData) (fault : EncodeFault) → e.set ≡ e0.set → e.limits ≡ e0.limits → ¬ (fault ≡ Fault.Memory) → IsToldOf e m fault → IsRefused (tree e0) e0.limits e.dictionary m fault

@@ -4,6 +4,7 @@ ghost use Rattle.std.specs.Prelude.{◌≡◌, ◌⊎◌, ℕ, Bool, List, Optio
 ghost use Rattle.fast_value.specs.meaning.Views.{message_data};
 ghost use Rattle.fast_template.specs.meaning.Flat.{tree_of};
 ghost use Rattle.fast_dict.specs.meaning.Dictionary.{fresh};
+ghost use Rattle.fast_stream.specs.meaning.Streams.{AreBytes};
 ghost use Rattle.fast_decoder.specs.meaning.Decoding.{AreBadLimits};
 ghost use Rattle.fast_encoder.specs.meaning.Encoders.{tree};
 ghost use Rattle.fast_text.specs.meaning.Streams.{Appends, AppendsFront};
@@ -28,6 +29,7 @@ fn write_bytes<T: Target>(bytes: &[u8], hex: bool, writer: &mut T) -> Result<(),
     ensures part { OnErr result (AppendsFront (T.written writer.old) (T.written writer.new) (form hex bytes.now)) }
     ensures fails { OnErr result (IsTrue (T.has_failed writer.new)) }
     ensures stays { OnOk result (T.has_failed writer.new ≡ T.has_failed writer.old) }
+    ensures bytes { AreBytes bytes.now }
 {
     if !hex {
         return writer.write_all(bytes);

@@ -1,7 +1,7 @@
 //! The laws of lines that are turned into a stream and shown again, and of those that are shown and read again, from the contracts of the
 //! functions that do so.
 
-ghost use Rattle.std.specs.Prelude.{ℕ, true, false, List, Bool, IsTrue, Option, Result, Ok};
+ghost use Rattle.std.specs.Prelude.{ℕ, List, Bool, Option, Result, Ok};
 ghost use Rattle.std.specs.declared.alloc.Global.{Global};
 ghost use Rattle.std.specs.declared.vec.Vec.{Vec};
 ghost use Rattle.toml.specs.Data.{Members};
@@ -13,20 +13,16 @@ ghost use Rattle.fast_template.specs.meaning.Flat.{tree_of};
 ghost use Rattle.fast_messages.specs.declared.faults.TextFault.{TextFault};
 ghost use Rattle.fast_messages.specs.meaning.Back.{IsRead};
 ghost use Rattle.fast_command.specs.declared.faults.ShowEnd.TheVariants.{Good};
-ghost use Rattle.fast_convert.specs.meaning.Converting.{IsConverted};
-ghost use Rattle.fast_convert.specs.meaning.ThereAndBack.{IsBack, IsBackInDigits, IsAnswerOfShow, IsShownAndRead};
+ghost use Rattle.fast_convert.specs.meaning.ThereAndBack.{IsAnswerOfConvert, IsBack, IsAnswerOfShow, IsShownAndRead};
 
-/// What `run_convert` wrote of a text, all of it, `run_show` shows as the lines of that text, under the same limits and in both modes.
+/// What `run_convert` wrote of a text, all of it, as bytes or as digits, `run_show` shows as the lines of that text, under the same limits
+/// and in both modes.
 pub fn converted_is_shown_again()
-    // IsConverted is what `run_convert` ensures at a good end, and the premise within IsBack what `run_show` and `show_all` ensure.
-    ensures bytes { (set : Templates) (l : Limits) (left_old left_new held holds : Option (List ℕ))
+    // IsAnswerOfConvert is what `run_convert` ensures at a good end, and the premise within IsBack what `run_show` and `show_all` ensure.
+    ensures { (set : Templates) (l : Limits) (hex : Bool) (left_old left_new held holds : Option (List ℕ))
         (reader_failed writer_failed : Bool) (u : Unit {0})
-        → IsConverted set l false left_old left_new held holds (IsTrue reader_failed) (IsTrue writer_failed) (Ok u)
-        → IsBack set l left_old left_new held holds }
-    ensures digits { (set : Templates) (l : Limits) (left_old left_new held holds : Option (List ℕ))
-        (reader_failed writer_failed : Bool) (u : Unit {0})
-        → IsConverted set l true left_old left_new held holds (IsTrue reader_failed) (IsTrue writer_failed) (Ok u)
-        → IsBackInDigits set l left_old left_new held holds }
+        → IsAnswerOfConvert set l hex left_old left_new held holds reader_failed writer_failed (Ok u)
+        → IsBack set l hex left_old left_new held holds }
 {}
 
 /// The lines that `run_show` wrote of a stream, at a good end, `read_lines` reads as the messages that the bytes of the stream spell, where

@@ -9,6 +9,7 @@ use Rattle.fast_template.specs.declared.sets.Templates.{Templates}
 use Rattle.fast_template.specs.meaning.Flat.{tree_of}
 use Rattle.fast_dict.specs.meaning.Dictionary.{Dictionary, fresh}
 use Rattle.fast_stream.specs.meaning.Messages.{SpellsMessage}
+use Rattle.fast_stream.specs.meaning.Streams.{AreBytes}
 use Rattle.fast_lines.specs.meaning.Lines.{hex_byte}
 use Rattle.fast_spelling.specs.meaning.Encoding.{EncodesMessage}
 use Rattle.fast_spelling.specs.meaning.Refusals.{IsRefused}
@@ -31,13 +32,14 @@ abbrev pub form : (hex : Bool) → List ℕ → List ℕ
 form false w = w
 form true w = flat_map hex_byte w ++ 0x0A ∷ []
 
--- The message suits its template and keeps to the limits, and the bytes spell it in strict mode, by the encoder's rule. The next
--- dictionary is the one behind it.
+-- The message suits its template and keeps to the limits, and the bytes, each below 256, spell it in strict mode, by the encoder's rule.
+-- The next dictionary is the one behind it.
 pub record IsCoded (t : Tree) (l : Limits) (d : Dictionary) (m : MessageData) (w : List ℕ) (next : Dictionary) : Type 0 where
   pub suits : SuitsTemplate t m
   pub fits : FitsLimits l m.slots
   pub ruled : EncodesMessage t l d m w next
   pub spelled : SpellsMessage t (in_mode true l) d m w next
+  pub bytes : AreBytes w
 
 -- So are messages, each from the dictionary that the one before has left.
 abbrev pub AreCoded : Tree → Limits → Dictionary → List MessageData → List (List ℕ) → Dictionary → Type 0

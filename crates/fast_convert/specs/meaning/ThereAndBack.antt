@@ -1,5 +1,5 @@
 -- Lines that are turned into a stream and shown again, and lines that are shown and read again.
-use Rattle.std.specs.Prelude.{◌≡◌, ◌⊎◌, ℕ, ◌≤◌, Bool, true, false, List, length, Option, None, Result, Ok, Err, IsTrue}
+use Rattle.std.specs.Prelude.{◌≡◌, ◌⊎◌, ℕ, ◌≤◌, Bool, true, false, List, [], ◌++◌, length, Option, None, Result, Ok, Err, IsTrue}
 use Rattle.std.specs.Io.KnownBytes.{IsAtEnd}
 use Rattle.std.specs.declared.alloc.Global.{Global}
 use Rattle.std.specs.declared.vec.Vec.{Vec}
@@ -19,47 +19,41 @@ use Rattle.fast_text.specs.meaning.Streams.{Appends}
 use Rattle.fast_command.specs.declared.faults.ShowEnd.{ShowEnd}
 use Rattle.fast_command.specs.declared.faults.ShowEnd.TheVariants.{Good, Faulted, Truncated}
 use Rattle.fast_command.specs.declared.faults.RunFault.{RunFault}
-use Rattle.fast_command.specs.declared.faults.RunFault.TheVariants.{Read, Write, BadHex, Templates as Refused, Make, Text, Encode, Memory}
+use Rattle.fast_command.specs.declared.faults.RunFault.TheVariants.{Read, Write, Make, Memory}
 use Rattle.fast_command.specs.meaning.Showing.{IsShown, IsRefusal, IsStreamOf}
-use Rattle.fast_convert.specs.meaning.Converting.{IsWhole}
+use Rattle.fast_convert.specs.meaning.Converting.{IsWhole, IsConverted}
 
--- What a run of show has written of all the bytes that were written of a text: the lines of the text. The bytes are at no fault, and
--- end inside no message. Where the writer fails, or there is no memory, no more is said.
+-- What a run of show has written of all that was written of a text: the lines of the text. The bytes are at no fault, and end inside no
+-- message; digits are all good, and the limits too. Where the writer fails a front of the lines was written, and nothing where there is no
+-- memory.
 abbrev pub IsShownAgain : List ℕ → List ℕ → Result ShowEnd RunFault → Type 0
 IsShownAgain text out (Ok Good) = out ≡ closed text
 IsShownAgain text out (Ok (Faulted f)) = ⊥
 IsShownAgain text out (Ok (Truncated n)) = ⊥
-IsShownAgain text out (Err (BadHex place)) = ⊥
 IsShownAgain text out (Err Read) = out ≡ closed text
-IsShownAgain text out (Err Write) = Unit {0}
-IsShownAgain text out (Err (Refused fault)) = Unit {0}
-IsShownAgain text out (Err (Text line kind)) = Unit {0}
-IsShownAgain text out (Err (Encode message fault)) = Unit {0}
-IsShownAgain text out (Err (Make cause)) = Unit {0}
-IsShownAgain text out (Err Memory) = Unit {0}
+IsShownAgain text out (Err Write) = (rest : List ℕ) × (closed text ≡ out ++ rest)
+IsShownAgain text out (Err Memory) = out ≡ []
+IsShownAgain text out (Err fault) = ⊥
 
 -- what a run of show ensures of its answer by `shown`, where it has read this text
 abbrev pub IsRunOfShow : Templates → Limits → (hex : Bool) → (left : Option (List ℕ)) → (max_reads : ℕ) → (reader_failed writer_failed : Bool) → List ℕ → List ℕ → Result ShowEnd RunFault → Type 0
 IsRunOfShow set l hex left max_reads reader_failed writer_failed text out r =
     IsShown (tree_of set) l hex (IsRefusal set l) (IsAtEnd left) (IsTrue reader_failed ⊎ (max_reads ≤ length text)) (IsTrue writer_failed) text out r
 
--- The whole text was turned into these bytes, which show, in either mode, shows as the lines of the text.
-pub record IsBack (set : Templates) (l : Limits) (left_old left_new held holds : Option (List ℕ)) : Type 0 where
-  pub text : List ℕ
-  pub bytes : List ℕ
-  pub whole : IsWhole left_old left_new text
-  pub written : Appends held holds bytes
-  pub shown : (mode : Bool) (left : Option (List ℕ)) (max_reads : ℕ) (reader_failed writer_failed : Bool) (out : List ℕ) (r : Result ShowEnd RunFault)
-      → IsRunOfShow set (in_mode mode l) false left max_reads reader_failed writer_failed bytes out r → IsShownAgain text out r
+-- What a run of convert ensures of its answer by `converted`, `bad_limits` and `long_initial`.
+pub record IsAnswerOfConvert (set : Templates) (l : Limits) (hex : Bool) (left_old left_new held holds : Option (List ℕ)) (reader_failed writer_failed : Bool) (r : Result (Unit {0}) RunFault) : Type 0 where
+  pub converted : IsConverted set l hex left_old left_new held holds (IsTrue reader_failed) (IsTrue writer_failed) r
+  pub bad_limits : AreBadLimits l → r ≡ Err (Make BadLimits)
+  pub long_initial : IsRefusal set l InitialTooLong → r ≡ Err (Make InitialTooLong)
 
--- so of digits, where a run of show is good
-pub record IsBackInDigits (set : Templates) (l : Limits) (left_old left_new held holds : Option (List ℕ)) : Type 0 where
+-- The whole text was turned into these bytes, or digits, which show, in either mode, shows as the lines of the text.
+pub record IsBack (set : Templates) (l : Limits) (hex : Bool) (left_old left_new held holds : Option (List ℕ)) : Type 0 where
   pub text : List ℕ
-  pub digits : List ℕ
+  pub stream : List ℕ
   pub whole : IsWhole left_old left_new text
-  pub written : Appends held holds digits
-  pub shown : (mode : Bool) (left : Option (List ℕ)) (max_reads : ℕ) (reader_failed writer_failed : Bool) (out : List ℕ)
-      → IsRunOfShow set (in_mode mode l) true left max_reads reader_failed writer_failed digits out (Ok Good) → out ≡ closed text
+  pub written : Appends held holds stream
+  pub shown : (mode : Bool) (left : Option (List ℕ)) (max_reads : ℕ) (reader_failed writer_failed : Bool) (out : List ℕ) (r : Result ShowEnd RunFault)
+      → IsRunOfShow set (in_mode mode l) hex left max_reads reader_failed writer_failed stream out r → IsShownAgain text out r
 
 -- What a run of show ensures of its answer by `shown`, `bad_limits` and `long_initial`.
 pub record IsAnswerOfShow (set : Templates) (l : Limits) (hex : Bool) (left : Option (List ℕ)) (max_reads : ℕ) (reader_failed writer_failed : Bool) (text out : List ℕ) (r : Result ShowEnd RunFault) : Type 0 where

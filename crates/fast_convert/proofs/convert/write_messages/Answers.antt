@@ -29,7 +29,7 @@ returns-then-is_err-clause-written g c =
     let e = c.args.encoder.now in
     let m = c.index-messages-number.result in
     let there : get_or c.args.messages.now c.loop-number.number m ≡ m = search rules in
-    let one = coded_from e c.loop-number.encoder c.encode.new.self _ _ _ c.loop-number.invariant.set c.loop-number.invariant.limits c.clear.ensures.items c.in-Ok.ensures.ok in
+    let one = coded_from e c.loop-number.encoder c.encode.new.self _ _ _ c.loop-number.invariant.set c.loop-number.invariant.limits c.clear.ensures.items (rw c.deref.ensures.value at c.write_bytes.ensures.bytes) c.in-Ok.ensures.ok in
     let part = rw c.deref.ensures.value at (at_error c.write_bytes.result (sym c.if-is_err.ensures.value) c.write_bytes.ensures.part) in
     let failed = at_error c.write_bytes.result (sym c.if-is_err.ensures.value) c.write_bytes.ensures.fails in
     so_cut (tree e) e.limits c.args.hex e.dictionary c.args.messages.now c.loop-number.number _ _ _ _ _ m c.encode.new.out.items _ c.loop-number-test.true there c.loop-number.invariant.so one part failed
@@ -39,7 +39,7 @@ loop-number-preserved g c =
     let e = c.args.encoder.now in
     let m = c.index-messages-number.result in
     let there : get_or c.args.messages.now c.loop-number.number m ≡ m = search rules in
-    let one = coded_from e c.loop-number.encoder c.encode.new.self _ _ _ c.loop-number.invariant.set c.loop-number.invariant.limits c.clear.ensures.items c.in-Ok.ensures.ok in
+    let one = coded_from e c.loop-number.encoder c.encode.new.self _ _ _ c.loop-number.invariant.set c.loop-number.invariant.limits c.clear.ensures.items (rw c.deref.ensures.value at c.write_bytes.ensures.bytes) c.in-Ok.ensures.ok in
     let written = rw c.deref.ensures.value at (at_good c.write_bytes.result (sym c.if-is_err.ensures.value) c.write_bytes.ensures.written) in
     let stays = at_good c.write_bytes.result (sym c.if-is_err.ensures.value) c.write_bytes.ensures.stays in
     record {
