@@ -15,6 +15,7 @@ mod limits;
 mod maps;
 mod numbers;
 mod pieces;
+mod records;
 mod rows;
 mod script;
 mod sinks;
@@ -277,6 +278,8 @@ enum Case<'t> {
     Forgets,
     /// Events come as soon as they are decided.
     InTime,
+    /// Records have little room.
+    GivesRecords,
 }
 
 /// The decoder shows it.
@@ -303,6 +306,7 @@ fn expect_shown(
         Case::StaysStopped => return sinks::expect_stays(rt, alloc, decoder),
         Case::Forgets => return sinks::expect_forgets(rt, alloc, decoder),
         Case::InTime => worked::expect_in_time(rt, decoder),
+        Case::GivesRecords => records::expect_calls(rt, alloc, decoder),
     }
     Ok(())
 }

@@ -1,5 +1,5 @@
 -- Records are added one behind the other, and what waits moves into the buffers.
-use Rattle.std.proofs.Common.{◌≡◌, ℕ, ◌+◌, List, [], ◌∷◌, ◌++◌, length, map, drop, Some, Bor, sym, ap, ◌∙◌, length-append, arith, add-zero}
+use Rattle.std.proofs.Common.{◌≡◌, inl, inr, ℕ, ◌+◌, ◌-◌, List, [], ◌∷◌, ◌++◌, length, map, drop, Some, Bor, sym, ap, subst, ◌∙◌, length-append, arith, add-zero}
 use Rattle.std.specs.Slice.{IsItemAt}
 use Rattle.std.proofs.lemmas.List.{flat_map_more}
 use Rattle.fast_stream.specs.meaning.Events.{EventData}
@@ -9,9 +9,10 @@ use Rattle.fast_records.specs.declared.records.Record.{Record}
 use Rattle.fast_records.specs.declared.room.Room.{Room}
 use Rattle.fast_records.specs.declared.waiting.Waiting.{Waiting}
 use Rattle.fast_records.specs.meaning.Records.{record_of, event_text, records_of, texts_of}
-use Rattle.fast_records.specs.device.Room.{texts_in, Adds, IsAsFilled}
+use Rattle.fast_records.specs.device.Room.{texts_in, IsOpen, LacksRoom, IsFull, Adds, IsAsFilled}
 use Rattle.fast_records.specs.device.Waiting.{Holds, Moves}
 use Rattle.fast_records.specs.meaning.Waiting.{pending}
+use Rattle.fast_records.specs.meaning.Feeding.{HasNoRoom}
 
 -- the records of one event more
 pub records_of-append : (p : ℕ) (es : List EventData) (e : EventData) → records_of p (es ++ e ∷ []) ≡ records_of p es ++ record_of (p + length (texts_of es)) e ∷ []
@@ -43,6 +44,14 @@ holds_same r r' es same h = record { records_are = same.records ∙ h.records_ar
 pub front_is : (xs : List Recorded) (x : Bor Recorded) → IsItemAt xs 0 (Some x) → xs ≡ x.now ∷ drop 1 xs
 front_is [] x h = cc h.0
 front_is (y ∷ ys) x h = ap (λ (z : Recorded). z ∷ ys) (sym h.1)
+
+-- the first that waits has no room in one that is open
+pub full_first : (r : Room) (w : Waiting) (x : Recorded) (rest : List Recorded) (e : EventData) (t : List ℕ) → w.events.items ≡ x ∷ rest → e ≡ recorded_data x → t ≡ event_text e → LacksRoom t r → IsOpen r → IsFull r (pending w)
+full_first r w x rest e t items is text lacks unclosed some = subst (λ (es : List EventData). HasNoRoom (length r.records.now - r.filled) (length r.texts.now - r.used) es) (sym (ap (map recorded_data) items)) (by lacks)
+  where
+    by : LacksRoom t r → HasNoRoom (length r.records.now - r.filled) (length r.texts.now - r.used) (recorded_data x ∷ map recorded_data rest)
+    by (inl none) = inl (omega (arith, none, unclosed))
+    by (inr long) = inr (let same = ap length (text ∙ ap event_text is) in omega (arith, long, same))
 
 -- the first that waited went into the room
 pub moves_first : (r r' : Room) (w w' : Waiting) (x : Recorded) (e : EventData) (p : ℕ) (next : Record) (t : List ℕ) → w.events.items ≡ x ∷ w'.events.items → e ≡ recorded_data x → p ≡ length (texts_in r)

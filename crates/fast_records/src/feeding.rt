@@ -1,11 +1,11 @@
 //! Bytes go in, records come out.
 
-ghost use Rattle.std.specs.Prelude.{◌≡◌, ℕ, ◌+◌, ◌≤◌, ◌==◌, ◌&&◌, nat_lt, List, length, take, IsSome, Some, Err, Ok};
+ghost use Rattle.std.specs.Prelude.{◌≡◌, ◌≢◌, ℕ, ◌+◌, ◌-◌, ◌*◌, ◌≤◌, [], ◌==◌, ◌&&◌, nat_lt, List, length, take, IsSome, Some, Err, Ok};
 ghost use Rattle.fast_stream.specs.declared.faults.Fault.{Fault};
 ghost use Rattle.fast_stream.specs.meaning.Events.{EventData};
 ghost use Rattle.fast_decoder.specs.meaning.Decoding.{HasRead, tree, account, answer};
 ghost use Rattle.fast_records.specs.meaning.Waiting.{pending};
-ghost use Rattle.fast_records.specs.meaning.Feeding.{Delivers, HandsOver, unfinished, outcome_of};
+ghost use Rattle.fast_records.specs.meaning.Feeding.{Delivers, HandsOver, HasNoRoom, unfinished, outcome_of};
 
 use crate::records::Record;
 use crate::sink::RecordSink;
@@ -74,10 +74,11 @@ fn outcome_of(waits: bool, answer: Result<(), Fault>, all: bool, nothing: bool) 
 }
 
 /// Feeds a piece to a decoder, as far as its events have room, and writes their records and texts from the beginning of two buffers.
-/// Where all had room, the next call goes on behind the bytes that were taken.
+/// The next call goes on after the bytes that were taken.
 ///
-/// Half as many bytes are fed as there is room for records, so that most often nothing waits. What has no room waits in memory, at
-/// most the cap of a message for each of these bytes; where that is refused, the decoder is at `SinkStopped`.
+/// At most half as many bytes are fed as there are records free, rounded up, and none while events wait, so that most often nothing has
+/// to wait. What has no room waits in memory, at most the cap of a message for each of these bytes; where that is refused, the decoder
+/// is at `SinkStopped`.
 pub fn feed_records(
     decoder: &mut Decoder<'_>,
     waiting: &mut Waiting,
@@ -94,11 +95,20 @@ pub fn feed_records(
         → HandsOver (pending waiting.old) f records.new texts.new result (pending waiting.new) }
     ensures room { (w : List ℕ) (es : List EventData) → HasRead decoder.old w es
         → (result.records ≤ length records.new) × (result.texts ≤ length texts.new) }
+    // Where events wait, the first had no room after what was given.
+    ensures full { (w : List ℕ) (es : List EventData) → HasRead decoder.old w es → pending waiting.new ≢ []
+        → HasNoRoom (length records.new - result.records) (length texts.new - result.texts) (pending waiting.new) }
     ensures outcome { (w : List ℕ) (es : List EventData) → HasRead decoder.old w es
         → result.outcome ≡ outcome_of (nat_lt 0 (length (pending waiting.new))) (answer decoder.new.fault)
         (result.taken == length piece.now) (result.taken == 0 && result.records == 0) }
+    // Nothing is taken and nothing given only where there is no record, or the first text that waits is longer than `texts`.
+    ensures progress { (w : List ℕ) (es : List EventData) → HasRead decoder.old w es → result.outcome ≡ Outcome.NoRoom
+        → HasNoRoom (length records.new) (length texts.new) (pending waiting.new) }
     ensures consumed { decoder.new.consumed ≡ decoder.old.consumed + result.taken }
     ensures taken { result.taken ≤ length piece.now }
+    // What waits is of these bytes, by `late` of `delivers`.
+    ensures few { (w : List ℕ) (es : List EventData) → HasRead decoder.old w es
+        → 2 * result.taken ≤ length records.new + 1 }
     ensures same_set { (tree decoder.new ≡ tree decoder.old) × (decoder.new.limits ≡ decoder.old.limits) }
     ensures stopped { IsSome decoder.old.fault → account decoder.new ≡ account decoder.old }
 {

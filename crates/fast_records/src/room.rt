@@ -23,7 +23,7 @@ pub(crate) struct Room<'a> {
 impl<'a> Room<'a> {
     ghost use Rattle.std.specs.Prelude.{◌≡◌, ◌+◌, ◌≤◌, ◌<◌, [], ◌++◌, length};
     ghost use Rattle.std.specs.Bool.{OnTrue, OnFalse};
-    ghost use Rattle.fast_records.specs.device.Room.{records_in, texts_in, IsOver, SameBuffers, Adds, IsAsFilled, IsUnchanged};
+    ghost use Rattle.fast_records.specs.device.Room.{records_in, texts_in, IsOver, SameBuffers, Adds, IsAsFilled, IsUnchanged, LacksRoom};
 
     /// Buffers of which nothing is filled.
     pub(crate) fn new(records: &'a mut [Record], texts: &'a mut [u8]) -> Room<'a>
@@ -70,6 +70,7 @@ impl<'a> Room<'a> {
         ensures same { SameBuffers self.old self.new }
         ensures put { OnTrue result (Adds next text.now self.old self.new) }
         ensures full { OnFalse result (IsUnchanged self.old self.new) }
+        ensures lacks { OnFalse result (LacksRoom text.now self.new) }
     {
         if self.filled >= self.limit || text.len() > self.texts.len() - self.used {
             return false;

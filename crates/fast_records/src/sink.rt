@@ -32,16 +32,16 @@ pub(crate) struct RecordSink<'a> {
 }
 
 impl<'a> RecordSink<'a> {
-    ghost use Rattle.std.specs.Prelude.{◌≡◌, ℕ, nat_lt, ◌+◌, ◌≤◌, [], ◌++◌, length, take, OnOk, OnErr};
+    ghost use Rattle.std.specs.Prelude.{◌≡◌, ℕ, nat_lt, ◌+◌, ◌-◌, ◌≤◌, [], ◌++◌, length, take, OnOk, OnErr};
     ghost use Rattle.fast_value.specs.meaning.Kinds.{text_of};
     ghost use Rattle.fast_value.specs.meaning.Values.{scalar_data};
     ghost use Rattle.fast_stream.specs.meaning.Events.{EventData, FieldValue};
-    ghost use Rattle.fast_records.specs.meaning.Records.{text_record, field_record};
+    ghost use Rattle.fast_records.specs.meaning.Records.{text_record, field_record, event_text};
     ghost use Rattle.fast_records.specs.device.Lent.{IsMark, IsOf, content};
     ghost use Rattle.std.specs.Bool.{OnTrue, OnFalse};
     ghost use Rattle.fast_stream.specs.meaning.Handed.{event_data};
     ghost use Rattle.fast_records.specs.meaning.Waiting.{pending};
-    ghost use Rattle.fast_records.specs.device.Room.{Adds, IsUnchanged};
+    ghost use Rattle.fast_records.specs.device.Room.{Adds, IsUnchanged, LacksRoom};
     ghost use Rattle.fast_records.specs.meaning.Sink.{room_of, Shows, IsSameSink, TakesRecord, RefusesRecord};
 
     /// A sink over empty buffers, into which what waits was handed over as far as it has room.
@@ -77,6 +77,7 @@ impl<'a> RecordSink<'a> {
         ensures waiting { self.new.waiting.now ≡ self.old.waiting.now }
         ensures put { OnTrue result (Adds next text.now (room_of self.old) (room_of self.new)) }
         ensures full { OnFalse result (IsUnchanged (room_of self.old) (room_of self.new)) }
+        ensures lacks { OnFalse result (LacksRoom text.now (room_of self.new)) }
     {
         if self.filled >= self.limit || text.len() > self.texts.len() - self.used {
             return false;
@@ -105,7 +106,9 @@ impl<'a> RecordSink<'a> {
     }
 
     /// How many records may still be written.
-    pub(crate) fn left(&self) -> usize {
+    pub(crate) fn left(&self) -> usize
+        ensures { result ≡ self.now.limit - self.now.filled }
+    {
         self.limit - self.filled
     }
 
@@ -150,6 +153,7 @@ impl<'a> RecordSink<'a> {
     /// Keeps an event without a text that has no room.
     #[inline(never)]
     fn keep_back(&mut self, kind: u32, node: u32, value: u64, exponent: i32) -> Result<(), Stop>
+        requires lacks { LacksRoom [] (room_of self.old) }
         ensures ok { (e : EventData) → IsOf (content kind node value exponent) [] e → OnOk result (TakesRecord self.old e self.new) }
         ensures err { (e : EventData) → IsOf (content kind node value exponent) [] e
             → OnErr result (RefusesRecord self.old e self.new) }
@@ -184,11 +188,17 @@ impl<'a> RecordSink<'a> {
     /// Keeps an event that has no room, and lets no later one overtake it.
     #[inline(never)]
     fn wait(&mut self, event: Event<'_>) -> Result<(), Stop>
+        requires lacks { LacksRoom (event_text (event_data event)) (room_of self.old) }
         ensures ok { OnOk result (TakesRecord self.old (event_data event.entry) self.new) }
         ensures err { OnErr result (RefusesRecord self.old (event_data event.entry) self.new) }
     {
-        self.limit = self.filled;
-        self.waiting.add(event)
+        match self.waiting.add(event) {
+            Ok(()) => {
+                self.limit = self.filled;
+                Ok(())
+            }
+            Err(Stop) => Err(Stop),
+        }
     }
 }
 

@@ -1,9 +1,10 @@
 //! Events that wait for room in a caller's buffers.
 
-ghost use Rattle.std.specs.Prelude.{◌≡◌, [], ◌∷◌, ◌++◌, ◌==◌, ◌<◌, length, OnOk, OnErr};
+ghost use Rattle.std.specs.Prelude.{◌≡◌, [], ◌∷◌, ◌++◌, ◌==◌, ◌<◌, ◌+◌, length, OnOk, OnErr};
+ghost use Rattle.std.specs.Bool.{OnTrue, OnFalse};
 ghost use Rattle.fast_stream.specs.meaning.Handed.{event_data};
 ghost use Rattle.fast_decoder.specs.meaning.Recorded.{recorded_data};
-ghost use Rattle.fast_records.specs.device.Room.{SameBuffers};
+ghost use Rattle.fast_records.specs.device.Room.{SameBuffers, IsOpen, IsFull};
 ghost use Rattle.fast_records.specs.device.Waiting.{Moves};
 ghost use Rattle.fast_records.specs.meaning.Waiting.{pending};
 
@@ -89,6 +90,9 @@ fn lent(kept: &Recorded) -> Event<'_>
 fn hand_next(room: &mut Room<'_>, waiting: &mut Waiting) -> bool
     ensures same { SameBuffers room.old room.new }
     ensures moved { Moves room.old waiting.old room.new waiting.new }
+    ensures unclosed { IsOpen room.old → IsOpen room.new }
+    ensures one { OnTrue result (length (pending waiting.old) ≡ length (pending waiting.new) + 1) }
+    ensures none { OnFalse result (IsOpen room.new → IsFull room.new (pending waiting.new)) }
 {
     let Some(first) = waiting.events.front() else {
         return false;
@@ -103,15 +107,14 @@ fn hand_next(room: &mut Room<'_>, waiting: &mut Waiting) -> bool
 
 /// Hands over what waits, as far as it has room. If not all has, no later event is to have any.
 pub(crate) fn hand_over(room: &mut Room<'_>, waiting: &mut Waiting)
+    requires unclosed { IsOpen room.old }
     ensures same { SameBuffers room.old room.new }
     ensures moved { Moves room.old waiting.old room.new waiting.new }
     ensures in_order { room.new.filled < room.new.limit → pending waiting.new ≡ [] }
+    ensures unclosed { pending waiting.new ≡ [] → IsOpen room.new }
+    ensures full { IsFull room.new (pending waiting.new) }
 {
-    for _ in 0..waiting.events.len() {
-        if !hand_next(room, waiting) {
-            break;
-        }
-    }
+    'first: while hand_next(room, waiting) {}
     if !waiting.is_empty() {
         room.close();
     }

@@ -1,6 +1,7 @@
-use Rattle.std.proofs.Common.{sym, ap, ◌∷◌, ◌∙◌}
+use Rattle.std.proofs.Common.{sym, ap, ◌∷◌, ◌∙◌, length, map, arith}
 use Rattle.fast_stream.specs.meaning.Handed.{event_data}
-use Rattle.fast_records.proofs.Moving.{front_is, moves_first}
+use Rattle.fast_decoder.specs.meaning.Recorded.{recorded_data}
+use Rattle.fast_records.proofs.Moving.{front_is, full_first, moves_first}
 use mathlib.Core.List.{not-mem-nil}
 use Rattle.fast_records.proofs.waiting.hand_next.Goals as goal
 
@@ -9,6 +10,19 @@ returns-clause-moved c =
     let items = front_is c.args.waiting.now.events.items c.in-Some.first c.in-Some.ensures.item in
     moves_first c.args.room.now c.put.new.self c.args.waiting.now (record { alloc = c.args.waiting.now.alloc; events = c.pop_front.new.self }) c.in-Some.first.now (event_data c.lent-event.result) c.used.result c.record_of.result c.text_of.result.now
     (items ∙ ap (λ xs. c.in-Some.first.now ∷ xs) (sym c.pop_front.ensures.rest)) c.lent-event.ensures c.used.ensures.place c.record_of.ensures c.text_of.ensures c.if-not-put.ensures.put
+
+pub returns-clause-unclosed : goal.returns-clause-unclosed
+returns-clause-unclosed c unclosed = let put = c.if-not-put.ensures.put in put.limit ∙ unclosed ∙ sym put.long
+
+pub returns-clause-one : goal.returns-clause-one
+returns-clause-one c =
+    let items = front_is c.args.waiting.now.events.items c.in-Some.first c.in-Some.ensures.item in
+    let all = ap (λ xs. length (map recorded_data xs)) (items ∙ ap (λ xs. c.in-Some.first.now ∷ xs) (sym c.pop_front.ensures.rest)) in
+    omega (arith, all)
+
+pub returns-then-not-put-clause-none : goal.returns-then-not-put-clause-none
+returns-then-not-put-clause-none c =
+    full_first c.put.new.self c.args.waiting.now c.in-Some.first.now _ (event_data c.lent-event.result) c.text_of.result.now (front_is c.args.waiting.now.events.items c.in-Some.first c.in-Some.ensures.item) c.lent-event.ensures c.text_of.ensures c.if-not-put.ensures.lacks
 
 pub front-requires : goal.front-requires
 front-requires c κs = (λ a m. absurd (not-mem-nil m), λ a m. absurd (not-mem-nil m))

@@ -11,5 +11,6 @@ returns-then-put-clause-ok c e h =
     let next : c.content-next.result ≡ content c.args.kind c.args.node c.args.value c.args.exponent = search (rules, c.content-next.ensures) in
     record {
       same = c.put.ensures.same;
+      grows = c.if-put.ensures.put.grows;
       shows = shows_put c.args.self.now c.put.new.self e place c.content-next.result [] refl (next ∙ h.record_is place) (sym h.text_is) c.if-put.ensures.put c.put.ensures.waiting;
     }
