@@ -123,7 +123,7 @@ module _ {S : Type 0} (takes stops : S → EventData → S → Type 0) (e : Enco
 pub front_more : (ms : List Message) (n : ℕ) (m : Message) → n < length ms → get_or ms n m ≡ m → map message_data (take (n + 1) ms) ≡ map message_data (take n ms) ++ message_data m ∷ []
 front_more ms n m inside there = ap (map message_data) (take_more ms n m inside ∙ ap (λ (z : Message). take n ms ++ z ∷ []) there) ∙ map-append message_data (take n ms) (m ∷ [])
 
--- those before it, this one, and those behind it
+-- those before it, this one, and those after it
 pub around : (ms : List Message) (n : ℕ) (m : Message) → n < length ms → get_or ms n m ≡ m → map message_data ms ≡ map message_data (take n ms) ++ message_data m ∷ map message_data (drop (n + 1) ms)
 around ms n m inside there =
     ap (map message_data) (sym (take-append-drop (n + 1) ms)) ∙ map-append message_data (take (n + 1) ms) (drop (n + 1) ms)

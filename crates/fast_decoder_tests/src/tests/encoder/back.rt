@@ -63,7 +63,7 @@ fn is_back(
     }
 }
 
-/// Whether a step comes back, behind bytes that `out` has.
+/// Whether a step comes back, where `out` has other bytes already.
 fn is_step_back(
     alloc: Global,
     encoder: &mut Encoder<'_>,
@@ -150,7 +150,7 @@ fn are_steps_back(
     Ok(are_kept(alloc, encoder, decoder, &messages, events.as_str().trim()))
 }
 
-/// What stands before a reset, and behind it, comes back as one list.
+/// What is encoded before a reset, and after it, comes back as one list.
 fn expect_lists(
     rt: &impl Abort,
     alloc: Global,
@@ -228,7 +228,7 @@ fn ends_so(
     answer == due.0 && is_hex(&out, due.1)
 }
 
-/// A list ends at a message that is refused, and both are level behind the one before it: the messages behind it come back.
+/// A list ends at a message that is refused, and both are still level: the messages after it come back.
 fn expect_refused(
     rt: &impl Abort,
     alloc: Global,
@@ -248,12 +248,7 @@ fn expect_refused(
     let mut sink = Script::of("m0 u0=0 /m");
     let rest = messages.get(2..).unwrap_or(&[]);
     let is_back = ends_so(alloc, encoder, decoder, rest, &mut sink, (Ok(()), "80 80"));
-    expect(
-        rt,
-        is_back && sink.is_played(),
-        "a list",
-        "behind a refusal",
-    );
+    expect(rt, is_back && sink.is_played(), "a list", "after a refusal");
     Ok(())
 }
 
