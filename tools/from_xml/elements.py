@@ -8,7 +8,7 @@ from grammar import FIELDS, INCLUDE, SCP, SILENT, TD, TD_OF_ANY
 
 # How deep elements nest, and how many there are.
 DEPTH = 200
-MOST = 1_000_000
+MOST = 500_000
 # How texts begin that say by themselves how their characters are written; the longer ones first.
 MARKS = (
     *((b"\xff\xfe\0\0", "utf-32"), (b"\0\0\xfe\xff", "utf-32"), (b"\xff\xfe", "utf-16"), (b"\xfe\xff", "utf-16"), (b"\xef\xbb\xbf", "utf-8-sig")),

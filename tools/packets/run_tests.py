@@ -115,25 +115,29 @@ def test_long():
     expect(f"memory of long captures {most}", max(most) < min(most) + 12 * 1024)
 
 
+def slowly(frames, out):
+    """A capture whose second half comes a second after the first was shown."""
+    yield m.pcap([]) + frames
+    for _ in range(3000):
+        if os.pread(out.fileno(), 1 << 20, 0).count(b"packet ") >= 1024:
+            break
+        time.sleep(0.01)
+    time.sleep(1.05)
+    yield frames
+
+
 def test_terminal():
     """How far a long capture is, is said on a terminal, once it has taken a second; what is shown is the same."""
     frames = m.pcap([m.ethernet(m.ip(m.udp(b"")))] * 1024)[24:]
-
-    def slowly():
-        yield m.pcap([]) + frames
-        time.sleep(1.2)
-        yield frames
-
-    for is_terminal in (True, False):
+    for is_terminal, form in ((True, rb"(\r\x1b\[K(1024|2048) packets, 0 MiB){1,2}\r\x1b\[K"), (False, b"")):
         ours, theirs = pty.openpty() if is_terminal else os.pipe()
         with tempfile.TemporaryFile() as out:
-            status, _ = fed(slowly(), *ALWAYS, FEED, stdout=out, stderr=theirs)
+            status, _ = fed(slowly(frames, out), *ALWAYS, FEED, stdout=out, stderr=theirs)
             os.close(theirs)
-            said = os.read(ours, 4096) if is_terminal else b""
-            out.seek(0)
-            expect("packets on a terminal", status == 0 and len(re.findall(b"^packet ", out.read(), re.M)) == 2048)
-        expect("progress", said == (b"\r\x1b[K2048 packets, 0 MiB\r\x1b[K" if is_terminal else b""))
-        os.close(ours)
+            said = os.read(ours, 4096)
+            os.close(ours)
+            expect("packets on a terminal", status == 0 and os.pread(out.fileno(), 1 << 20, 0).count(b"packet ") == 2048)
+        expect("progress", re.fullmatch(form, said) is not None)
 
 
 def blocks_of(page):

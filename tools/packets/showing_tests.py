@@ -113,6 +113,13 @@ def test_wrong():
     expect("a fragment", out[::2] == (1, "packets: -: 1 fragments of IP passed over\n") and packets_of(out[1]) == [whole])
 
 
+def test_large():
+    """A packet of more events than the library gives at once begins anew once."""
+    templates, sent = f"{TOP}/examples/packets/templates.toml", bytes.fromhex("c0018581") + b"\x80\x81" * 30000
+    out = run("--reset", "always", templates, stdin=m.pcap([m.ethernet(m.ip(m.udp(sent)))]))
+    expect("a large packet", out[0] == 0 and packets_of(out[1]) == [shown(templates, sent)] and out[1].count(b"end message\n") == 30001)
+
+
 def test_texts():
     """All characters of a text, and all bytes of a byte vector, are written as fastcat writes them."""
     templates, text = f"{TOP}/examples/packets/templates.toml", bytes(range(128)) + "é€𝄞".encode()
