@@ -1,12 +1,12 @@
 //! Decoders: bytes to records.
 
-ghost use Rattle.std.specs.Prelude.{◌≡◌, not, ◌==◌};
-ghost use Rattle.fast_decoder.specs.meaning.Decoding.{DecoderData};
+ghost use Rattle.std.specs.Prelude.{◌≡◌, not, ◌==◌, IfOk, IfErr};
 ghost use Rattle.fast_c.specs.declared.decoding.Decoding.{Decoding};
-ghost use Rattle.fast_c.specs.meaning.Decoders.{IsReset, Starts, Feeds, FeedsPacket, cut_fed, ends_inside};
+ghost use Rattle.fast_c.specs.meaning.Opening.{limits_of, IsNotMade, Opens};
+ghost use Rattle.fast_c.specs.meaning.Decoders.{IsMade, IsReset, Starts, Feeds, FeedsPacket, cut_fed, ends_inside};
 
 use crate::sets::SetHandle;
-use crate::{NO_MEMORY, limits_of};
+use crate::{boxed, limits_of};
 use fast_decoder::Decoder;
 use fast_records::{Record, Status, Waiting, feed_records};
 use fast_value::Limits;
@@ -76,7 +76,10 @@ pub struct FastFed {
 }
 
 /// A decoder in a box.
-fn made(alloc: Global, set: SetHandle, limits: Limits) -> Result<Box<Decoding, Global>, Status> {
+fn made(alloc: Global, set: SetHandle, limits: Limits) -> Result<Box<Decoding, Global>, Status>
+    ensures ok { IfOk result (λ decoding. IsMade set.value limits decoding.value) }
+    ensures err { IfErr result (IsNotMade set.value limits) }
+{
     match Decoder::new(alloc, set.lent(), limits) {
         Ok(decoder) => {
             let waiting = Waiting::new(alloc);
@@ -85,7 +88,7 @@ fn made(alloc: Global, set: SetHandle, limits: Limits) -> Result<Box<Decoding, G
                 waiting,
                 is_cut: false,
             };
-            Box::new(alloc, decoding).map_err(|_| NO_MEMORY)
+            boxed(alloc, decoding)
         }
         Err(error) => Err(Status::Make(error)),
     }
@@ -101,7 +104,10 @@ pub extern "C" fn fast_decoder_open(
     max_elements: u32,
     max_total: u32,
     out: &mut *mut FastDecoder,
-) -> u32 {
+) -> u32
+    ensures { Opens (IsMade set.value (limits_of strict max_text max_elements max_total))
+        (IsNotMade set.value (limits_of strict max_text max_elements max_total)) out.old out.new result }
+{
     let limits = limits_of(strict, max_text, max_elements, max_total);
     match made(alloc, set, limits) {
         Ok(decoding) => {

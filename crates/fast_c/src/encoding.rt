@@ -1,13 +1,13 @@
 //! Encoders: records to bytes.
 
-ghost use Rattle.std.specs.Prelude.{◌≡◌, Err};
+ghost use Rattle.std.specs.Prelude.{◌≡◌, IfOk, IfErr, Err};
 ghost use Rattle.fast_c.specs.contracts.encoding.Encoding.{the_row};
 ghost use Rattle.fast_c.specs.declared.encoding.Encoding.{Encoding};
-ghost use Rattle.fast_encoder.specs.meaning.Encoders.{tree};
-ghost use Rattle.fast_c.specs.meaning.Encoders.{misplaced, HasCome, IsTaken};
+ghost use Rattle.fast_c.specs.meaning.Opening.{limits_of, IsNotMade, Opens};
+ghost use Rattle.fast_c.specs.meaning.Encoders.{IsNewEncoding, IsResetEncoding, misplaced, HasCome, IsTaken};
 
 use crate::sets::SetHandle;
-use crate::{NO_MEMORY, limits_of};
+use crate::{boxed, limits_of};
 use fast_encoder::Encoder;
 use fast_records::{PutFault, PutRefusal, Record, Status, put_records};
 use fast_value::Limits;
@@ -73,8 +73,12 @@ pub struct FastPut {
 }
 
 /// An encoder in a box.
-fn made(alloc: Global, set: SetHandle, limits: Limits) -> Result<Box<Encoding, Global>, Status> {
-    match Encoder::new(alloc, set.lent(), limits) {
+fn made(alloc: Global, set: SetHandle, limits: Limits) -> Result<Box<Encoding, Global>, Status>
+    ensures ok { IfOk result (λ encoding. IsNewEncoding set.value limits encoding.value) }
+    ensures err { IfErr result (IsNotMade set.value limits) }
+{
+    let templates = set.lent();
+    match Encoder::new(alloc, templates, limits) {
         Ok(encoder) => {
             let bytes = Vec::new(alloc);
             let encoding = Encoding {
@@ -82,7 +86,7 @@ fn made(alloc: Global, set: SetHandle, limits: Limits) -> Result<Box<Encoding, G
                 encoder,
                 bytes,
             };
-            Box::new(alloc, encoding).map_err(|_| NO_MEMORY)
+            boxed(alloc, encoding)
         }
         Err(error) => Err(Status::Make(error)),
     }
@@ -97,7 +101,10 @@ pub extern "C" fn fast_encoder_open(
     max_elements: u32,
     max_total: u32,
     out: &mut *mut FastEncoder,
-) -> u32 {
+) -> u32
+    ensures { Opens (IsNewEncoding set.value (limits_of 0 max_text max_elements max_total))
+        (IsNotMade set.value (limits_of 0 max_text max_elements max_total)) out.old out.new result }
+{
     let limits = limits_of(0, max_text, max_elements, max_total);
     match made(alloc, set, limits) {
         Ok(encoding) => {
@@ -110,8 +117,7 @@ pub extern "C" fn fast_encoder_open(
 
 /// Encodes the message of these records behind the bytes that wait.
 fn put(encoding: &mut Encoding, records: &[Record], texts: &[u8]) -> FastPut
-    ensures { HasCome (tree encoding.old.encoder) encoding.old.encoder records.now texts.now
-        encoding.old.bytes.items result }
+    ensures { HasCome encoding.old records.now texts.now result encoding.new }
 {
     let Encoding {
         alloc,
@@ -149,8 +155,7 @@ pub extern "C" fn fast_encoder_put(
     texts: &[u8],
     came: &mut FastPut,
 )
-    ensures { HasCome (tree encoder.value.encoder) encoder.value.encoder records.now texts.now
-        encoder.value.bytes.items came.new }
+    ensures { (new : Encoding) × HasCome encoder.value records.now texts.now came.new new }
 {
     let mut encoding = encoder.into_box();
     *came = put(&mut encoding, records, texts);
@@ -159,7 +164,7 @@ pub extern "C" fn fast_encoder_put(
 
 /// Takes out the first bytes that wait, as far as they have room.
 fn take(encoding: &mut Encoding, out: &mut [u8]) -> usize
-    ensures { IsTaken encoding.old.bytes.items out.new result }
+    ensures { IsTaken encoding.old out.old out.new result encoding.new }
 {
     let count = encoding.bytes.len().min(out.len());
     out[..count].copy_from_slice(&encoding.bytes[..count]);
@@ -176,7 +181,7 @@ pub extern "C" fn fast_encoder_take(
     back: &mut *mut FastEncoder,
     out: &mut [u8],
 ) -> usize
-    ensures { IsTaken encoder.value.bytes.items out.new result }
+    ensures { (new : Encoding) × IsTaken encoder.value out.old out.new result new }
 {
     let mut encoding = encoder.into_box();
     let count = take(&mut encoding, out);
@@ -185,11 +190,20 @@ pub extern "C" fn fast_encoder_take(
 }
 
 /// Makes an encoder as it was made, and forgets the bytes that wait.
-#[unsafe(no_mangle)]
-pub extern "C" fn fast_encoder_reset(encoder: EncoderHandle, back: &mut *mut FastEncoder) {
-    let mut encoding = encoder.into_box();
+fn reset(encoding: &mut Encoding)
+    ensures { IsResetEncoding encoding.old encoding.new }
+{
     encoding.encoder.reset();
     encoding.bytes.clear();
+}
+
+/// Makes an encoder as it was made, and forgets the bytes that wait.
+#[unsafe(no_mangle)]
+pub extern "C" fn fast_encoder_reset(encoder: EncoderHandle, back: &mut *mut FastEncoder)
+    ensures { (new : Encoding) × IsResetEncoding encoder.value new }
+{
+    let mut encoding = encoder.into_box();
+    reset(&mut encoding);
     *back = Box::into_raw(encoding) as *mut FastEncoder;
 }
 

@@ -8,22 +8,26 @@ mod decoding;
 mod encoding;
 mod sets;
 
-ghost use Rattle.std.specs.Prelude.{◌≡◌, length};
+ghost use Rattle.std.specs.Prelude.{◌≡◌, ◌≢◌, ◌≤◌, [], List, ℕ, length, IfOk, IfErr};
+ghost use Rattle.fast_records.specs.declared.status.Status.{Status as StatusData};
+ghost use Rattle.fast_records.specs.meaning.Status.{status_number};
+ghost use Rattle.fast_c.specs.meaning.Opening.{limits_of};
+ghost use Rattle.fast_c.specs.meaning.Written.{IsWritten};
 
 use arrayvec::ArrayString;
 use fast_decoder::MakeError;
 use fast_records::Status;
 use fast_value::Limits;
+use std::alloc::Global;
 use std::fmt::Write;
 
 /// The number of this interface. It changes with the size of a struct, the parameters of a function or the meaning of a number.
 const INTERFACE: u32 = 2;
 
-/// The status of no memory for what stands behind a handle.
-const NO_MEMORY: Status = Status::Make(MakeError::Memory);
-
 /// The limits of a call.
-fn limits_of(strict: u32, max_text: u32, max_elements: u32, max_total: u32) -> Limits {
+fn limits_of(strict: u32, max_text: u32, max_elements: u32, max_total: u32) -> Limits
+    ensures { result ≡ limits_of strict max_text max_elements max_total }
+{
     Limits {
         strict: strict != 0,
         max_text: max_text as usize,
@@ -32,9 +36,20 @@ fn limits_of(strict: u32, max_text: u32, max_elements: u32, max_total: u32) -> L
     }
 }
 
+/// A value in a box.
+fn boxed<T: Drop>(alloc: Global, value: T) -> Result<Box<T, Global>, Status>
+    ensures ok { IfOk result (λ it. it.value ≡ value) }
+    ensures err { IfErr result (λ status. status ≡ Status.Make MakeError.Memory) }
+{
+    match Box::new(alloc, value) {
+        Ok(it) => Ok(it),
+        Err(_) => Err(Status::Make(MakeError::Memory)),
+    }
+}
+
 /// Writes the front of a text that has room, and answers the length of the whole text.
 fn write_front(text: &[u8], out: &mut [u8]) -> usize
-    ensures { result ≡ length text.now }
+    ensures { IsWritten text.now out.old out.new result }
 {
     let front = text.len().min(out.len());
     out[..front].copy_from_slice(&text[..front]);
@@ -51,7 +66,10 @@ pub extern "C" fn fast_interface() -> u32
 
 /// Writes what a status says, in English, as far as there is room, and answers its length; 0 where no status has the number.
 #[unsafe(no_mangle)]
-pub extern "C" fn fast_status_words(status: u32, out: &mut [u8]) -> usize {
+pub extern "C" fn fast_status_words(status: u32, out: &mut [u8]) -> usize
+    ensures written { (words : List ℕ) × (length words ≤ 256) × IsWritten words out.old out.new result }
+    ensures none { ((s : StatusData) → status_number s ≢ status) → IsWritten [] out.old out.new result }
+{
     let Some(status) = Status::of_number(status) else {
         return 0;
     };

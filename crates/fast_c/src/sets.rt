@@ -1,13 +1,15 @@
 //! Template sets.
 
-ghost use Rattle.std.specs.Prelude.{◌≡◌, ◌<◌, ◌≤◌, length, slice_get, Some, string_bytes};
+ghost use Rattle.std.specs.Prelude.{◌≡◌, ◌<◌, ◌≤◌, [], length, slice_get, Some, string_bytes, IfOk, IfErr};
 ghost use Rattle.fast_tree.specs.declared.instructions.Node.{Node};
 ghost use Rattle.fast_tree.specs.declared.instructions.Template.{Template};
 ghost use Rattle.fast_template.specs.contracts.sets.Templates.{the_row};
 ghost use Rattle.fast_template.specs.declared.sets.Templates.{Templates};
 ghost use Rattle.fast_template.specs.meaning.Flat.{nodes_of, templates_of};
+ghost use Rattle.fast_c.specs.meaning.Opening.{IsSetOf, IsNoSet, Opens};
+ghost use Rattle.fast_c.specs.meaning.Written.{IsWritten};
 
-use crate::{NO_MEMORY, write_front};
+use crate::{boxed, write_front};
 use fast_records::Status;
 use fast_template::Templates;
 use std::alloc::Global;
@@ -57,19 +59,24 @@ impl SetHandle {
 }
 
 /// A set in a box, of the text of its templates.
-fn made(alloc: Global, text: &[u8]) -> Result<Box<Templates, Global>, Status> {
+fn made(alloc: Global, text: &[u8]) -> Result<Box<Templates, Global>, Status>
+    ensures ok { IfOk result (λ set. IsSetOf text.now set.value) }
+    ensures err { IfErr result (IsNoSet text.now) }
+{
     let Ok(text) = std::str::from_utf8(text) else {
         return Err(Status::NotText);
     };
     match Templates::read(alloc, text) {
-        Ok(set) => Box::new(alloc, set).map_err(|_| NO_MEMORY),
+        Ok(set) => boxed(alloc, set),
         Err(fault) => Err(Status::Set(fault.code)),
     }
 }
 
 /// Reads a template set, and hands a pointer to it out. The answer is 0, or the status for which there is none.
 #[unsafe(no_mangle)]
-pub extern "C" fn fast_set_read(alloc: Global, text: &[u8], out: &mut *mut FastSet) -> u32 {
+pub extern "C" fn fast_set_read(alloc: Global, text: &[u8], out: &mut *mut FastSet) -> u32
+    ensures { Opens (IsSetOf text.now) (IsNoSet text.now) out.old out.new result }
+{
     match made(alloc, text) {
         Ok(set) => {
             *out = Box::into_raw(set) as *mut FastSet;
@@ -105,8 +112,8 @@ pub extern "C" fn fast_set_nodes(set: SetHandle) -> u32
 #[unsafe(no_mangle)]
 pub extern "C" fn fast_template_name(set: SetHandle, template: u32, out: &mut [u8]) -> usize
     ensures some { (t : Template) → slice_get (templates_of set.value) template ≡ Some t
-        → result ≡ length (string_bytes t.name) }
-    ensures none { length (templates_of set.value) ≤ template → result ≡ 0 }
+        → IsWritten (string_bytes t.name) out.old out.new result }
+    ensures none { length (templates_of set.value) ≤ template → IsWritten [] out.old out.new result }
 {
     let set = set.lent();
     if template >= set.count() {
@@ -119,8 +126,8 @@ pub extern "C" fn fast_template_name(set: SetHandle, template: u32, out: &mut [u
 #[unsafe(no_mangle)]
 pub extern "C" fn fast_node_name(set: SetHandle, node: u32, out: &mut [u8]) -> usize
     ensures some { (n : Node) → slice_get (nodes_of set.value) node ≡ Some n
-        → result ≡ length (string_bytes n.name) }
-    ensures none { length (nodes_of set.value) ≤ node → result ≡ 0 }
+        → IsWritten (string_bytes n.name) out.old out.new result }
+    ensures none { length (nodes_of set.value) ≤ node → IsWritten [] out.old out.new result }
 {
     let set = set.lent();
     if node >= set.nodes() {

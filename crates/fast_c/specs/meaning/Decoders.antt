@@ -2,6 +2,9 @@
 -- not of the pointer, since no clause says what is behind a pointer that is handed out.
 use Rattle.std.specs.Prelude.{◌≡◌, ℕ, ◌≤◌, ◌==◌, ◌&&◌, if◌then◌else◌, nat_lt, Bool, true, false, List, [], length, take}
 use Rattle.std.specs.Int.{from_bool}
+use Rattle.fast_value.specs.declared.settings.Limits.{Limits}
+use Rattle.fast_template.specs.declared.sets.Templates.{Templates}
+use Rattle.fast_template.specs.meaning.Flat.{tree_of}
 use Rattle.fast_stream.specs.meaning.Events.{EventData}
 use Rattle.fast_decoder.specs.meaning.Decoding.{HasRead, tree, account, answer}
 use Rattle.fast_records.specs.declared.records.Record.{Record}
@@ -11,6 +14,16 @@ use Rattle.fast_records.specs.meaning.Feeding.{Delivers, outcome_of}
 use Rattle.fast_records.specs.meaning.Status.{status_number, ended}
 use Rattle.fast_c.specs.declared.decoding.Decoding.{Decoding}
 use Rattle.fast_c.specs.declared.decoding.FastFed.{FastFed}
+use Rattle.fast_c.specs.meaning.Opening.{CanBeMade}
+
+-- A new decoder of the set, with these limits: no byte has led to it, and nothing waits.
+pub record IsMade (t : Templates) (l : Limits) (new : Decoding) : Type 0 where
+  pub can : CanBeMade t l
+  pub read : HasRead new.decoder [] []
+  pub nothing_waits : pending new.waiting ≡ []
+  pub whole : new.is_cut ≡ false
+  pub its_set : tree new.decoder ≡ tree_of t
+  pub its_limits : new.decoder.limits ≡ l
 
 -- The decoder is as it was made: no byte has led to it, and nothing waits. It has the set and the limits that it had.
 pub record IsReset (old new : Decoding) : Type 0 where
