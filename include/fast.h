@@ -12,7 +12,7 @@
 //
 //     fast_set *set = NULL;
 //     fast_decoder *decoder = NULL;
-//     if ((status = fast_set_read(text, text_len, &set)) != FAST_DONE) ..
+//     if ((status = fast_read_set(text, text_len, &set)) != FAST_DONE) ..
 //     if ((status = fast_open_decoder(set, fast_default_limits, &decoder)) != FAST_DONE) ..
 //     fast_fed fed = fast_feed(decoder, piece, piece_len, records, 4096, texts, 65536);
 //     .. records[0 .. fed.records - 1]; and again with the rest of the piece, while fed.status is FAST_MORE ..
@@ -109,7 +109,7 @@ uint32_t fast_interface(void);
 
 // ---- the heap: the library asks the program for memory. heap.c hands on to malloc, realloc and free. No alignment is greater than 16.
 
-// ---- template sets
+// ---- template sets (fast_set_read is what the library has; programs call fast_read_set)
 
 typedef struct fast_set fast_set;
 typedef struct fast_set_handle {
@@ -234,10 +234,19 @@ void fast_encoder_close(fast_encoder_handle encoder);
 // Where a buffer is null: the library wants a place even for nothing.
 static fast_record fast_nothing;
 
+// Reads a template set from its TOML text, in UTF-8, which is read during the call alone; a null text is an empty one. FAST_DONE, and then *out is the
+// caller's to close; FAST_CLOSED where out is null; FAST_NOT_TEXT, FAST_S1 to FAST_SET_MEMORY or FAST_NO_MEMORY, and then *out is as it was.
+static inline uint32_t fast_read_set(const uint8_t *text, size_t text_len, fast_set **out) {
+    if (!out) return FAST_CLOSED;
+    return fast_set_read(text ? text : (uint8_t *)&fast_nothing, text ? text_len : 0, out);
+}
+
 // Gives a set's memory back, and makes the pointer null, so that a second time does nothing. All decoders and encoders of the set are closed before.
+// A null place does nothing, here and at the other calls that close.
 static inline void fast_close_set(fast_set **set) {
-    fast_set_handle handle = {*set};
-    if (handle.at) fast_set_close(handle);
+    fast_set_handle handle = {set ? *set : NULL};
+    if (!handle.at) return;
+    fast_set_close(handle);
     *set = NULL;
 }
 
@@ -265,10 +274,10 @@ static inline size_t fast_name_of_node(fast_set *set, uint32_t number, char *out
 }
 
 // Makes a decoder, which borrows the set until it is closed, and takes all memory that it will need, but for records that wait. FAST_DONE, and
-// then *out is the caller's to close; FAST_CLOSED or FAST_BAD_LIMITS to FAST_NO_MEMORY, and then *out is as it was.
+// then *out is the caller's to close; FAST_CLOSED (set or out is null) or FAST_BAD_LIMITS to FAST_NO_MEMORY, and then *out is as it was.
 static inline uint32_t fast_open_decoder(fast_set *set, fast_limits limits, fast_decoder **out) {
     fast_set_handle handle = {set};
-    if (!set) return FAST_CLOSED;
+    if (!set || !out) return FAST_CLOSED;
     return fast_decoder_open(handle, limits.strict, limits.max_text, limits.max_elements, limits.max_total, out);
 }
 
@@ -316,16 +325,18 @@ static inline void fast_reset_decoder(fast_decoder *decoder) {
 
 // Gives a decoder's memory back with the records that wait, and makes the pointer null, so that a second time does nothing. The set stays open.
 static inline void fast_close_decoder(fast_decoder **decoder) {
-    fast_decoder_handle handle = {*decoder};
-    if (handle.at) fast_decoder_close(handle);
+    fast_decoder_handle handle = {decoder ? *decoder : NULL};
+    if (!handle.at) return;
+    fast_decoder_close(handle);
     *decoder = NULL;
 }
 
 // Makes an encoder, which borrows the set until it is closed, with an empty dictionary and no bytes. It looks at all limits but `strict`.
-// FAST_DONE, and then *out is the caller's to close; FAST_CLOSED or FAST_BAD_LIMITS to FAST_NO_MEMORY, and then *out is as it was.
+// FAST_DONE, and then *out is the caller's to close; FAST_CLOSED (set or out is null) or FAST_BAD_LIMITS to FAST_NO_MEMORY, and then *out is as it
+// was.
 static inline uint32_t fast_open_encoder(fast_set *set, fast_limits limits, fast_encoder **out) {
     fast_set_handle handle = {set};
-    if (!set) return FAST_CLOSED;
+    if (!set || !out) return FAST_CLOSED;
     return fast_encoder_open(handle, limits.max_text, limits.max_elements, limits.max_total, out);
 }
 
@@ -361,8 +372,9 @@ static inline void fast_reset_encoder(fast_encoder *encoder) {
 
 // Gives an encoder's memory back with the bytes that wait, and makes the pointer null, so that a second time does nothing. The set stays open.
 static inline void fast_close_encoder(fast_encoder **encoder) {
-    fast_encoder_handle handle = {*encoder};
-    if (handle.at) fast_encoder_close(handle);
+    fast_encoder_handle handle = {encoder ? *encoder : NULL};
+    if (!handle.at) return;
+    fast_encoder_close(handle);
     *encoder = NULL;
 }
 

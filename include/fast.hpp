@@ -65,7 +65,7 @@ class set {
 public:
     explicit set(std::string_view text) {
         fast_set *made = nullptr;
-        status_ = expect(fast_set_read(reinterpret_cast<const std::uint8_t *>(text.data()), text.size(), &made));
+        status_ = expect(fast_read_set(reinterpret_cast<const std::uint8_t *>(text.data()), text.size(), &made));
         if (made) it_ = std::shared_ptr<fast_set>(made, [](fast_set *its) { fast_close_set(&its); });
     }
     // FAST_DONE, or why there is no set: what the constructor throws where exceptions are on.

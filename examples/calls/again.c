@@ -83,7 +83,7 @@ int main(int argc, char **argv) {
     fast_set *set = NULL;
     fast_decoder *decoder = NULL;
     fast_encoder *encoder = NULL;
-    uint32_t status = fast_set_read(text, text_len, &set);
+    uint32_t status = fast_read_set(text, text_len, &set);
     if (status != FAST_DONE) return refuse("templates", status);
     if ((status = fast_open_decoder(set, fast_default_limits, &decoder)) != FAST_DONE) return refuse("limits", status);
     if ((status = fast_open_encoder(set, fast_default_limits, &encoder)) != FAST_DONE) return refuse("limits", status);

@@ -100,7 +100,7 @@ int main(int argc, char **argv) {
     if (!piece) piece = len ? len : 1;
     fast_set *set = NULL;
     fast_decoder *decoder = NULL;
-    uint32_t status = fast_set_read(text, text_len, &set);
+    uint32_t status = fast_read_set(text, text_len, &set);
     if (status != FAST_DONE) return refuse("templates", status);
     status = fast_open_decoder(set, fast_default_limits, &decoder);
     if (status != FAST_DONE) return refuse("limits", status);

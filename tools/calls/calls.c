@@ -91,7 +91,7 @@ static void run_row(const struct row *r) {
     fast_set *set = NULL;
     fast_decoder *decoder = NULL;
     begin_run(none, none);
-    expect(fast_set_read(r->templates, r->templates_len, &set) == FAST_DONE, r, "no set");
+    expect(fast_read_set(r->templates, r->templates_len, &set) == FAST_DONE, r, "no set");
     expect(fast_open_decoder(set, limits_of(r), &decoder) == FAST_DONE, r, "no decoder");
     static const size_t pieces[] = {SIZE_MAX, 1, 3}, rooms[] = {RECORDS, 1, 5};
     for (int i = 0; i < 9; i++) {
@@ -121,7 +121,7 @@ static void run_packet(const struct row *r) {
     fast_set *set = NULL;
     fast_decoder *decoder = NULL;
     begin_run(none, none);
-    fast_set_read(r->templates, r->templates_len, &set);
+    fast_read_set(r->templates, r->templates_len, &set);
     fast_open_decoder(set, limits_of(r), &decoder);
     for (int i = 0; i < 3; i++) {
         struct answer is = decode_packet(decoder, r, i ? FAST_RESET : FAST_CONTINUE, 0, r->stream_len, rooms[i], nothing);
@@ -151,7 +151,7 @@ static void refuse_each(const struct row *r) {
         fast_set *set = NULL;
         fast_decoder *decoder = NULL;
         begin_run(none, number);
-        uint32_t status = fast_set_read(r->templates, r->templates_len, &set);
+        uint32_t status = fast_read_set(r->templates, r->templates_len, &set);
         if (!status) status = fast_open_decoder(set, limits_of(r), &decoder);
         bool is_waiting = false;
         if (!status) {
@@ -175,7 +175,7 @@ static void put_back(const struct row *r) {
     fast_decoder *decoder = NULL;
     fast_encoder *encoder = NULL;
     begin_run(none, none);
-    fast_set_read(r->templates, r->templates_len, &set);
+    fast_read_set(r->templates, r->templates_len, &set);
     fast_open_decoder(set, limits_of(r), &decoder);
     expect(fast_open_encoder(set, limits_of(r), &encoder) == FAST_DONE, r, "no encoder");
     fast_fed fed = fast_feed(decoder, r->stream, r->stream_len, records, RECORDS, texts, TEXTS);
@@ -229,7 +229,7 @@ static void refuse_each_put(const struct row *r) {
     fast_set *set = NULL;
     fast_decoder *decoder = NULL;
     begin_run(none, none);
-    fast_set_read(r->templates, r->templates_len, &set);
+    fast_read_set(r->templates, r->templates_len, &set);
     fast_open_decoder(set, limits_of(r), &decoder);
     uint64_t given = fast_feed(decoder, r->stream, r->stream_len, records, RECORDS, texts, TEXTS).records, len = 0;
     while (len < given && records[len++].kind != FAST_MESSAGE_END) {}
@@ -286,7 +286,7 @@ static void put_refused(const struct row *r) {
     fast_encoder *encoder = NULL;
     uint8_t out[8];
     begin_run(none, none);
-    expect(fast_set_read((const uint8_t *)set_text, sizeof set_text - 1, &set) == FAST_DONE, r, "no set of messages to refuse");
+    expect(fast_read_set((const uint8_t *)set_text, sizeof set_text - 1, &set) == FAST_DONE, r, "no set of messages to refuse");
     expect(fast_open_encoder(set, (fast_limits){0, 15, 1, 1}, &encoder) == FAST_BAD_LIMITS && !encoder, r, "limits of an encoder");
     expect(fast_open_encoder(set, (fast_limits){0, 16, 1, 1}, &encoder) == FAST_DONE, r, "no encoder of messages to refuse");
     expect(fast_put_message(encoder, NULL, 9, NULL, 9).status == FAST_MISPLACED, r, "no records are no message");
@@ -323,10 +323,21 @@ static void run_nothing(const struct row *r) {
     expect(fast_put_message(encoder, NULL, 1, NULL, 1).status == FAST_CLOSED, r, "an encoder that is not there");
     expect(fast_open_decoder(set, fast_default_limits, &decoder) == FAST_CLOSED && !decoder, r, "a set that is not there");
     expect(fast_take_bytes(encoder, words, 1) == 0 && fast_count_nodes(set) == 0, r, "nothing");
-    expect(fast_set_read((const uint8_t *)"\xff", 1, &set) == FAST_NOT_TEXT && !set, r, "a text that is none");
-    expect(fast_set_read((const uint8_t *)"x", 1, &set) == FAST_S1 && !set, r, "a text that is refused");
-    expect(fast_set_read(r->templates, r->templates_len, &set) == FAST_DONE, r, "no set");
+    expect(fast_read_set(r->templates, r->templates_len, NULL) == FAST_CLOSED, r, "no place for a set");
+    fast_set *of_none = NULL;
+    uint32_t of_null = fast_read_set(NULL, 10, &of_none);
+    fast_close_set(&of_none);
+    expect(of_null == fast_read_set((const uint8_t *)"", 0, &of_none), r, "a null text is an empty one");
+    fast_close_set(&of_none);
+    fast_close_set(NULL);
+    fast_close_decoder(NULL);
+    fast_close_encoder(NULL);
+    expect(fast_read_set((const uint8_t *)"\xff", 1, &set) == FAST_NOT_TEXT && !set, r, "a text that is none");
+    expect(fast_read_set((const uint8_t *)"x", 1, &set) == FAST_S1 && !set, r, "a text that is refused");
+    expect(fast_read_set(r->templates, r->templates_len, &set) == FAST_DONE, r, "no set");
     expect(fast_open_decoder(set, (fast_limits){0, 15, 1, 1}, &decoder) == FAST_BAD_LIMITS && !decoder, r, "limits");
+    expect(fast_open_decoder(set, fast_default_limits, NULL) == FAST_CLOSED, r, "no place for a decoder");
+    expect(fast_open_encoder(set, fast_default_limits, NULL) == FAST_CLOSED, r, "no place for an encoder");
     expect(fast_open_decoder(set, fast_default_limits, &decoder) == FAST_DONE, r, "no decoder");
     expect(fast_feed(decoder, NULL, 9, records, 1, texts, 1).status == FAST_DONE, r, "a null piece is an empty one");
     expect(fast_feed(decoder, r->stream, r->stream_len, NULL, 9, NULL, 9).status == FAST_NO_ROOM, r, "no room");

@@ -103,14 +103,11 @@ class Shown:
 
     def decoded(self, decoder, packet):
         """The events of a packet's messages, and the fault after them, if there is one. A packet of a stream may end anywhere."""
-        events = []
+        goes_on = packet.is_stream and not self.is_afresh
         try:
-            goes_on = packet.is_stream and not self.is_afresh
-            for event in decoder.feed(packet.data) if goes_on else decoder.packet(packet.data, afresh=self.is_afresh):
-                events.append(event)
+            return decoder.feed(packet.data) if goes_on else decoder.packet(packet.data, afresh=self.is_afresh), None
         except fast.Error as error:
-            return events or getattr(error, "events", []), error
-        return events, None
+            return error.events, error
 
     def messages(self, decoder, packet):
         """The lines of a packet's messages, and after them that of a fault or of a cut."""
