@@ -49,7 +49,7 @@ one_encoded = encoded vectors lenient start (behind 1 start) (behind 1 start) on
 one_coded : HasDistinctIds vectors → IsCoded vectors lenient start one (0xC0 ∷ 0x81 ∷ 0x39 ∷ 0x45 ∷ 0xA3 ∷ []) (behind 1 start)
 one_coded distinct =
     let few : FitsLimits lenient one.slots = ((omega arith, tt), omega arith) in
-    record { suits = one_suits; fits = few; ruled = one_encoded; spelled = encoded_is_spelled vectors lenient start one _ _ distinct one_suits few one_encoded }
+    record { suits = one_suits; fits = few; ruled = one_encoded; spelled = encoded_is_spelled vectors lenient start one _ _ distinct one_suits few one_encoded; bytes = at_most 255 (0xC0 ∷ 0x81 ∷ 0x39 ∷ 0x45 ∷ 0xA3 ∷ []) refl }
 
 -- a message of T3 with five characters or with two
 tail_suits : (text : List ℕ) → All (λ c. c < 128) text → SuitsTemplate vectors (tail text)
@@ -59,7 +59,7 @@ tail_coded : HasDistinctIds vectors → IsCoded vectors lenient start (tail (cod
 tail_coded distinct =
     let suits = tail_suits (codes "ABCDE") (at_most 127 (codes "ABCDE") refl) in
     let few : FitsLimits lenient (tail (codes "ABCDE")).slots = ((omega arith, tt), omega arith) in
-    record { suits = suits; fits = few; ruled = whole_text; spelled = encoded_is_spelled vectors lenient start (tail (codes "ABCDE")) _ _ distinct suits few whole_text }
+    record { suits = suits; fits = few; ruled = whole_text; spelled = encoded_is_spelled vectors lenient start (tail (codes "ABCDE")) _ _ distinct suits few whole_text; bytes = at_most 255 (0xE0 ∷ 0x83 ∷ 0x41 ∷ 0x42 ∷ 0x43 ∷ 0x44 ∷ 0xC5 ∷ []) refl }
 
 -- the lines of both
 one_said : Says vectors (flat_map with_lf (codes "message T1" ∷ codes "field 0 x u 942755" ∷ codes "end message" ∷ [])) (one ∷ [])
