@@ -284,7 +284,7 @@ static inline uint32_t fast_open_decoder(fast_set *set, fast_limits limits, fast
 // Feeds a piece of the stream, cut anywhere, and writes the records of its events from records[0] on, and their texts from texts[0] on. Where
 // the buffers are full, FAST_MORE: records[0 .. fed.records - 1] are the caller's, who calls again with the piece from piece[fed.taken] on,
 // which may be empty. With one record and max_text bytes of texts it always comes forward; 4,096 records (96 KiB) are fast. What has no room
-// waits in memory of the library, which is asked for then alone: at most the events of half as many bytes as there are records. FAST_NO_ROOM
+// waits in memory of the library, which is asked for then alone: at most the events of half as many bytes as there are records, rounded up. FAST_NO_ROOM
 // where not even the next record has room with its text: a call with larger buffers goes on. FAST_CLOSED, and nothing else is written, where
 // there is no decoder.
 static inline fast_fed fast_feed(fast_decoder *decoder, const uint8_t *piece, size_t piece_len, fast_record *records,
