@@ -15,7 +15,7 @@ fields = [
 [[template]]
 name = "S"
 id = 2
-fields = [{ sequence = [{ kind = "uInt32", name = "e" }], name = "s" }]
+fields = [{ kind = "sequence", name = "s", fields = [{ kind = "uInt32", name = "e" }] }]
 )";
 
 static void check(bool is, const char *words) {
@@ -53,7 +53,8 @@ struct seen : fast::visitor {
 static const std::uint8_t first[] = {0xe0, 0x81, 0x85, 0x83, 'a', 'b', 'c'}, second[] = {0x80, 0x80};
 
 static void check_packets() {
-    fast::decoder decoder{fast::set{set_text}};
+    // with room for one record, so that a packet takes several calls of the library
+    fast::decoder decoder{fast::set{set_text}, fast_default_limits, 1};
     seen it;
     std::uint64_t place = 0;
     check(status_of([&] { return decoder.packet(first, sizeof first, it); }) == FAST_DONE && it.messages == 1 && it.last == 5, "a packet");
@@ -96,6 +97,11 @@ static void check_limits() {
     const std::size_t before = out.size();
     check(status_of([&] { return encoder.encode(records, 3, text.data(), text.size(), out); }, &place) == FAST_MISPLACED, "records that are no message");
     check(out.size() == before, "what is refused changes nothing");
+    const fast_record few[] = {{FAST_MESSAGE_START, 0, 0, 0, 0}, {FAST_UNSIGNED, 0, 5, 0, 0}, {FAST_BYTES, 1, 0, 3, 0}, {FAST_MESSAGE_END, 0, 0, 0, 0}};
+    out.clear();
+    encoder.reset();
+    const std::uint8_t abc[] = {'a', 'b', 'c'};
+    check(encoder.encode(few, 4, abc, 3, out) == FAST_DONE && out == std::vector<std::uint8_t>(first, first + sizeof first), "the bytes of a message");
 #ifdef __cpp_exceptions
     check(place == 3, "the record that is missing");
 #endif

@@ -51,6 +51,7 @@ def check_numbers(of):
     raised(ValueError, "the node of event 1", encoder.encode, [START, (fast.UNSIGNED, 2**32, 5), END])
     raised(ValueError, "the kind of event 0", encoder.encode, [(-1, 0, 0)])
     assert raised(fast.Error, "", encoder.encode, MESSAGE[:-1]).place == 5
+    encoder.reset()
     assert encoder.encode(MESSAGE) == due
     assert encoder.encode(with_value(1, 2**64 - 1)) and encoder.encode(with_value(2, -(2**63)))
     for name in ("max_text", "max_elements", "max_total"):
@@ -99,6 +100,8 @@ def check_faults(of, due):
     decoder.reset()
     decoder.feed(due[:4])
     assert raised(fast.Error, "", decoder.feed, b"\x7f" * 10).template == 0
+    # with room for one record, so that a packet takes several calls of the library
+    decoder = of.decoder(room=fast.Room(1, 3))
     assert list(decoder.packet(due)) == MESSAGE
     cut = raised(fast.Error, "", decoder.packet, due[:4])
     assert (cut.status, cut.code, cut.place, cut.template) == (6, None, 4, 0) and not decoder.between

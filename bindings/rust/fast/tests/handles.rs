@@ -12,7 +12,7 @@ fields = [
 [[template]]
 name = "S"
 id = 2
-fields = [{ sequence = [{ kind = "uInt32", name = "e" }], name = "s" }]
+fields = [{ kind = "sequence", name = "s", fields = [{ kind = "uInt32", name = "e" }] }]
 "#;
 /// T with 5 and the bytes "abc"; then, by increment, with 6 and none.
 const FIRST: &[u8] = b"\xe0\x81\x85\x83abc";
@@ -39,6 +39,9 @@ fn packets() {
     assert_eq!(values(|take| decoder.packet(FIRST, Start::Reset, take)), (Ok(()), vec![5], 3));
     assert_eq!(values(|take| decoder.packet(SECOND, Start::Continue, take)), (Ok(()), vec![6], 0));
     assert_eq!((decoder.consumed(), decoder.between()), (9, true));
+    // more records than a room has
+    let (end, numbers, _) = values(|take| decoder.packet(&[FIRST, &SECOND.repeat(1100)].concat(), Start::Reset, take));
+    assert_eq!((end, numbers.len(), numbers.last()), (Ok(()), 1101, Some(&1105)));
     let undefined = Error { status: 103, place: 1 };
     assert_eq!(values(|take| decoder.packet(SECOND, Start::Reset, take)), (Err(undefined), vec![], 0));
     assert_eq!(undefined.code().as_deref(), Some("D5"));
