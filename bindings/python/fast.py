@@ -4,13 +4,11 @@ The shared library is made of the static one:
 
     cc -shared -o libfast_c.so -Wl,--whole-archive libfast_c.a -Wl,--no-whole-archive include/heap.c
 
-    library = fast.Library("./libfast_c.so")
-    with library.set(text).decoder() as decoder:
+    with fast.Library("./libfast_c.so").set(text).decoder() as decoder:
         for kind, node, value in decoder.feed(piece): ..
         for records, texts in decoder.feed_records(piece): ..     # NumPy structured arrays where NumPy is there
 
-A call has decoded its piece when it returns: what it returns can be kept, iterated twice or not at all. What is proved is the library; this face
-of it is tested.
+A call has decoded its piece when it returns. What is proved is the library; this face of it is tested.
 """
 
 from __future__ import annotations
@@ -39,12 +37,11 @@ Event = tuple[int, int, Any]
 
 
 class Record(c.Structure):
-    """An event of fixed size: fast_record of fast.h."""
+    """An event of fixed size: fast_record of fast.h. ROW has the same of its bytes."""
 
     _fields_ = [("kind", c.c_uint32), ("node", c.c_uint32), ("value", c.c_uint64), ("length", c.c_uint32), ("exponent", c.c_int32)]
 
 
-# the same, as bytes
 ROW = struct.Struct("<IIQIi")
 
 
@@ -95,9 +92,8 @@ FUNCTIONS = {
 class Error(Exception):
     """Why a call did not do its work.
 
-    status: its number. code: the name of the fault, such as D9, if it has one. place: at a fault how many bytes of the stream were consumed, of
-    records that are no message which one is not due. template: the number of the template whose message is at fault, None between messages.
-    events: what the piece gave before the fault (Events).
+    place: at a fault how many bytes of the stream were consumed, of records that are no message which one is not due. template: the number of
+    the template whose message is at fault, None between messages. events: what the piece gave before the fault.
     """
 
     def __init__(self, status: int, place: int, words: str, template: int | None = None, events: Events | None = None):
@@ -122,6 +118,10 @@ def integer(name: str, value: Any, bits: int, signed: bool = False) -> int:
     if not low <= number <= high:
         raise ValueError(f"{name} is {number}, and has to be from {low} to {high}")
     return number
+
+
+def numbers_of(**named: Any) -> list[int]:
+    return [integer(name, value, 32) for name, value in named.items()]
 
 
 class Library:
@@ -234,7 +234,7 @@ class Set(Held):
 
 
 class Room:
-    """Buffers for the records of one call (24 bytes each) and the bytes of their texts. One serves any number of decoders of one thread."""
+    """Buffers for the records of one call (24 bytes each) and their texts. One serves any number of decoders of one thread."""
 
     def __init__(self, records: int = 4096, texts: int = 65536):
         self.records, self.texts = (Record * max(records, 1))(), c.create_string_buffer(max(texts, 1))
@@ -294,8 +294,7 @@ class Decoder(Held):
         super().__init__(of.library, of.library.calls.fast_decoder_close, of.owned)
         if not isinstance(strict, bool):
             raise TypeError(f"strict is {strict!r}, and has to be True or False")
-        named = {"max_text": max_text, "max_elements": max_elements, "max_total": max_total}
-        limits = [integer(name, value, 32) for name, value in named.items()]
+        limits = numbers_of(max_text=max_text, max_elements=max_elements, max_total=max_total)
         self.set = of
         self.library.expect(self.library.calls.fast_decoder_open(of.handle, strict, *limits, byref(self.owned.at)))
         self.room = room or Room()
@@ -307,11 +306,8 @@ class Decoder(Held):
         raw = piece if isinstance(piece, bytes) else bytes(memoryview(piece))
         start, at, fed, room, parts = c.cast(c.c_char_p(raw), P).value, 0, self._fed, self.room, []
         while True:
-            back = P(self.owned.at.value)
-            call(
-                self.handle, byref(back), *how, start + at, len(raw) - at,
-                room.records, len(room.records), room.texts, len(room.texts), byref(fed),
-            )  # fmt: skip
+            buffers = room.records, len(room.records), room.texts, len(room.texts)
+            call(self.handle, byref(P()), *how, start + at, len(raw) - at, *buffers, byref(fed))
             if fed.records:
                 parts.append((c.string_at(room.records, fed.records * ROW.size), room.texts[: fed.texts]))
             at += fed.taken
@@ -335,14 +331,12 @@ class Decoder(Held):
         """Decodes one packet, which has to end between two messages, and returns its events: from a new dictionary, or, where `afresh` is false, from
         that which the packet before it has left.
 
-        Where the packet ends within a message, it raises an Error of status 6, and so again until a reset or a packet that begins afresh.
+        Where it ends within a message, it raises an Error of status 6, and so again until a reset or a packet that begins afresh.
         """
         return self._decode(packet, self.library.calls.fast_decoder_packet, 1 if afresh else 0)
 
     def feed_records(self, piece: Any) -> list[tuple[Any, bytes]]:
-        """Decodes a piece of the stream, and returns pairs of records and their texts: an array of Record, or of NumPy where that is there, and
-        bytes. A fault is raised as by `feed`.
-        """
+        """Decodes a piece as `feed` does, and returns what `Events.arrays` has of it."""
         return self.feed(piece).arrays()
 
     @property
@@ -362,25 +356,22 @@ class Decoder(Held):
 
 
 class Encoder(Held):
-    """Encodes messages, one after the other. It copies events and texts for the call, and the bytes that it returns are the caller's."""
+    """Encodes messages, one after the other. It copies events and texts for the call."""
 
     def __init__(self, of: Set, max_text: int = 1024, max_elements: int = 1000, max_total: int = 1000):
         super().__init__(of.library, of.library.calls.fast_encoder_close, of.owned)
-        named = {"max_text": max_text, "max_elements": max_elements, "max_total": max_total}
-        limits = [integer(name, value, 32) for name, value in named.items()]
+        limits = numbers_of(max_text=max_text, max_elements=max_elements, max_total=max_total)
         self.set = of
         self.library.expect(self.library.calls.fast_encoder_open(of.handle, *limits, byref(self.owned.at)))
 
     def encode(self, events: Iterable[Event]) -> bytes:
         """The bytes of one message, whose events are as Decoder.feed returns them.
 
-        Where it is refused, it raises an Error, and nothing has changed: of status 5 where the events are no message, with the number of the
-        one that is not due as its place; from 401 with the codes E1 to E4 and R9; 406 where memory was refused. A number that its event has
-        no room for is a ValueError, one that is no integer a TypeError.
+        Where it is refused, it raises an Error, and nothing has changed: of status 5 where the events are no message; from 401 with the codes E1
+        to E4 and R9; 406 where memory was refused. A number that has no room is a ValueError, one that is no integer a TypeError.
         """
-        records, texts = [], bytearray()
-        for number, event in enumerate(events):
-            records.append(packed(f"event {number}", event, texts))
+        texts = bytearray()
+        records = [packed(f"event {number}", event, texts) for number, event in enumerate(events)]
         put, calls = Put(), self.library.calls
         calls.fast_encoder_put(self.handle, byref(P()), b"".join(records), len(records), bytes(texts), len(texts), byref(put))
         self.library.expect(put.status, put.record)
