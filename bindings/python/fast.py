@@ -63,8 +63,7 @@ class Handle(c.Structure):
     _fields_ = [("at", c.c_void_p)]
 
 
-assert ROW.size == c.sizeof(Record)
-assert (c.sizeof(Record), c.sizeof(Fed), c.sizeof(Put), c.sizeof(c.c_size_t)) == (24, 40, 24, 8)
+assert (ROW.size, c.sizeof(Record), c.sizeof(Fed), c.sizeof(Put), c.sizeof(c.c_size_t)) == (24, 24, 40, 24, 8)
 
 U, N, P = c.c_uint32, c.c_size_t, c.c_void_p
 FUNCTIONS = {
@@ -249,7 +248,7 @@ class Events:
     """The events of a piece that has been decoded: pairs of records and their texts, as bytes."""
 
     def __init__(self, parts: list[tuple[bytes, bytes]]):
-        self.parts = parts
+        self.parts = parts  # of each call of the library
 
     def __len__(self) -> int:
         return sum(len(records) for records, _ in self.parts) // ROW.size
