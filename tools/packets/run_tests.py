@@ -44,7 +44,7 @@ def test_statuses():
         ((*ALWAYS, made["latin"], CAPTURE), 2, "byte 2 is no UTF-8"),
         ((*ALWAYS, made["refused.toml"], CAPTURE), 2, "S1: "),
         ((*ALWAYS, FEED, "--max-text", "1", CAPTURE), 2, "limits: "),
-        ((*ALWAYS, "--library", no_library, FEED, CAPTURE), 3, "fast_c && cc -shared -fPIC -o "),
+        ((*ALWAYS, "--library", no_library, FEED, CAPTURE), 3, "none.so is not there: "),
         ((*ALWAYS, "--library", FEED, FEED, CAPTURE), 3, "templates.toml"),
         (("--packet", "0", made["empty"]), 3, "it is empty: give a capture"),
     )

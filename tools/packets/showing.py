@@ -25,14 +25,13 @@ TRUNCATED = 6
 def library(path):
     """The shared library of a path; where there is none, or one of another build, how to make it."""
     path = os.path.relpath(path or os.environ.get("FAST_LIBRARY") or LIBRARY)
-    tool, archive, heap = (os.path.relpath(f"{TOP}/{it}") for it in ("tools/library", "crates/fast_c/out/libfast_c.a", "include/heap.c"))
-    link = f"cc -shared -fPIC -o {path} -Wl,--whole-archive {archive} -Wl,--no-whole-archive {heap}"
+    tool = os.path.relpath(f"{TOP}/tools/library")
     if not os.path.exists(path):
-        raise Failed(3, f"{path} is not there: make it by {tool} fast_c && {link}")
+        raise Failed(3, f"{path} is not there: {tool} fast_c makes {os.path.relpath(LIBRARY)}")
     try:
         return fast.Library(os.path.abspath(path))
     except (OSError, AttributeError, ImportError) as error:
-        raise Failed(3, f"{error}: make it by {tool} fast_c && {link}") from error
+        raise Failed(3, f"{error}: {tool} fast_c makes {os.path.relpath(LIBRARY)}") from error
 
 
 def template_set(of, path):
