@@ -5,7 +5,7 @@ use super::super::{Case, LENIENT, Script, expect_of, put, set_of};
 use super::messages::message_of;
 use super::rows::{Row, Step, events_of, is_answer, is_hex};
 use super::{BEFORE, encoder_of, expect, reset};
-use fast_decoder::{Decoder, Fault, FaultCode};
+use fast_decoder::{Decoder, Fault, FaultCode, Recorder};
 use fast_encoder::{
     EncodeFault, Encoder, RoundTripFault, RoundTripStop, round_trip, round_trip_all,
 };
@@ -34,6 +34,16 @@ fn take_all(
     sink: &mut Script<'_>,
 ) -> Result<(), RoundTripStop> {
     round_trip_all(encoder, decoder, messages, out, sink)
+}
+
+fn record_all(
+    encoder: &mut Encoder<'_>,
+    decoder: &mut Decoder<'_>,
+    messages: &[Message],
+    out: &mut Vec<u8>,
+    recorder: &mut Recorder,
+) -> Result<(), RoundTripStop> {
+    round_trip_all(encoder, decoder, messages, out, recorder)
 }
 
 /// Both as they were made.
@@ -130,9 +140,9 @@ fn are_kept(
     events: &str,
 ) -> bool {
     let mut out = Vec::new(alloc);
-    let mut script = Script::keeping(alloc);
-    let answer = take_all(encoder, decoder, messages, &mut out, &mut script);
-    answer.is_ok() && decoder.between() && are_due(events, script.kept())
+    let mut recorder = Recorder::new(alloc);
+    let answer = record_all(encoder, decoder, messages, &mut out, &mut recorder);
+    answer.is_ok() && decoder.between() && are_due(events, recorder.events())
 }
 
 /// Whether the steps that are not refused come back as one list.
