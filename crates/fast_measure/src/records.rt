@@ -62,12 +62,7 @@ fn feed_piece(decoder: &mut Decoder<'_>, buffers: &mut Buffers, piece: &[u8]) ->
 }
 
 /// Feeds a stream in pieces of so many bytes, and answers the status at its end.
-fn feed_pieces(
-    decoder: &mut Decoder<'_>,
-    buffers: &mut Buffers,
-    stream: &[u8],
-    piece: usize,
-) -> u64
+fn feed_pieces(decoder: &mut Decoder<'_>, buffers: &mut Buffers, stream: &[u8], piece: usize) -> u64
     requires { 0 < piece }
 {
     for bytes in stream.chunks(piece) {
