@@ -5,14 +5,14 @@ import os
 import sys
 
 sys.path.insert(0, os.path.join(os.path.dirname(os.path.abspath(__file__)), "../../bindings/python"))
-import fast
+import talvrugon
 
 PLAIN = {
-    fast.GROUP_END: "end group",
-    fast.ELEMENT_START: "element",
-    fast.ELEMENT_END: "end element",
-    fast.SEQUENCE_END: "end sequence",
-    fast.MESSAGE_END: "end message",
+    talvrugon.GROUP_END: "end group",
+    talvrugon.ELEMENT_START: "element",
+    talvrugon.ELEMENT_END: "end element",
+    talvrugon.SEQUENCE_END: "end sequence",
+    talvrugon.MESSAGE_END: "end message",
 }
 
 
@@ -29,24 +29,24 @@ def quoted(text):
 
 def value_of(kind, value):
     """Returns the letter and the value of a field."""
-    if kind == fast.DECIMAL:
+    if kind == talvrugon.DECIMAL:
         return "d", f"{value[0]}e{value[1]}"
-    if kind == fast.BYTES:
+    if kind == talvrugon.BYTES:
         return "b", value.hex()
-    if kind in (fast.ASCII, fast.UNICODE):
-        return "a" if kind == fast.ASCII else "s", quoted(value)
-    return "u" if kind == fast.UNSIGNED else "i", str(value)
+    if kind in (talvrugon.ASCII, talvrugon.UNICODE):
+        return "a" if kind == talvrugon.ASCII else "s", quoted(value)
+    return "u" if kind == talvrugon.UNSIGNED else "i", str(value)
 
 
 def line(names, kind, node, value):
     """Returns the line of an event."""
     if kind in PLAIN:
         return PLAIN[kind]
-    if kind == fast.MESSAGE_START:
+    if kind == talvrugon.MESSAGE_START:
         return f"message {names.template_name(node)}"
-    if kind == fast.GROUP_START:
+    if kind == talvrugon.GROUP_START:
         return f"group {node} {names.node_name(node)}"
-    if kind == fast.SEQUENCE_START:
+    if kind == talvrugon.SEQUENCE_START:
         return f"sequence {node} {names.node_name(node)} {value}"
     return " ".join(("field", str(node), names.node_name(node), *value_of(kind, value)))
 
@@ -59,7 +59,7 @@ def show(names, stream, piece):
             for at in range(0, len(stream), piece):
                 for event in decoder.feed(stream[at : at + piece]):
                     print(line(names, *event), file=out)
-        except fast.Error as fault:
+        except talvrugon.Error as fault:
             print(f"fault {fault.code} at {fault.place}", file=out)
             return 1
         if not decoder.between:
@@ -73,7 +73,7 @@ def again(names, stream):
         message = []
         for event in decoder.feed(stream):
             message.append(event)
-            if event[0] == fast.MESSAGE_END:
+            if event[0] == talvrugon.MESSAGE_END:
                 sys.stdout.buffer.write(encoder.encode(message))
                 message = []
 
@@ -82,7 +82,7 @@ def main(words):
     is_again = words[:1] == ["--again"]
     library, templates, stream, *piece = words[1:] if is_again else words
     with open(templates, encoding="utf-8") as text, open(stream, "rb") as bytes_of:
-        names, stream = fast.Library(library).set(text.read()), bytes_of.read()
+        names, stream = talvrugon.Library(library).set(text.read()), bytes_of.read()
     if is_again:
         return again(names, stream)
     return show(names, stream, int(piece[0]) if piece and int(piece[0]) else max(len(stream), 1))

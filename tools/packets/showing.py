@@ -11,7 +11,7 @@ from layers import named
 
 TOP = os.path.dirname(os.path.dirname(os.path.dirname(os.path.realpath(__file__))))
 sys.path.insert(0, f"{TOP}/bindings/python")
-import fast
+import talvrugon
 from lines import Lines
 
 LIBRARY = f"{TOP}/crates/fast_c/out/libfast_c.so"
@@ -29,7 +29,7 @@ def library(path):
     if not os.path.exists(path):
         raise Failed(3, f"{path} is not there: {tool} fast_c makes {os.path.relpath(LIBRARY)}")
     try:
-        return fast.Library(os.path.abspath(path))
+        return talvrugon.Library(os.path.abspath(path))
     except (OSError, AttributeError, ImportError) as error:
         raise Failed(3, f"{error}: {tool} fast_c makes {os.path.relpath(LIBRARY)}") from error
 
@@ -47,7 +47,7 @@ def template_set(of, path):
         return of.set(text.decode())
     except UnicodeDecodeError as error:
         raise Failed(2, f"{path}: byte {error.start} is no UTF-8: give a template text, as tools/from_xml/run makes it") from error
-    except fast.Error as error:
+    except talvrugon.Error as error:
         raise Failed(2, f"{path}: {error.words} (fastcat check --explain {path} says where)") from error
 
 
@@ -80,7 +80,7 @@ class Shown:
                 self.decoders.pop(next(iter(self.decoders))).close()
             try:
                 self.decoders[flow] = self.names.decoder(**self.limits)
-            except fast.Error as error:
+            except talvrugon.Error as error:
                 raise Failed(2, f"limits: {error.words}") from error
         return self.decoders[flow]
 
@@ -105,7 +105,7 @@ class Shown:
         goes_on = packet.is_stream and not self.is_afresh
         try:
             return decoder.feed(packet.data) if goes_on else decoder.packet(packet.data, afresh=self.is_afresh), None
-        except fast.Error as error:
+        except talvrugon.Error as error:
             return error.events, error
 
     def messages(self, decoder, packet):

@@ -1,11 +1,11 @@
-"""python.py LIBRARY: what bindings/python/fast.py does with numbers out of range, sets that are closed, pieces of all types and calls that nobody looks at."""
+"""python.py LIBRARY: what bindings/python/talvrugon.py does with numbers out of range, sets that are closed, pieces of all types and calls that nobody looks at."""
 
 import os
 import sys
 
 HERE = os.path.dirname(os.path.abspath(__file__))
 sys.path.insert(0, os.path.join(HERE, "../../../bindings/python"))
-import fast
+import talvrugon
 
 SET = """
 [[template]]
@@ -18,8 +18,8 @@ fields = [
   { kind = "bytes", name = "b" },
 ]
 """
-START, END = (fast.MESSAGE_START, 0, 0), (fast.MESSAGE_END, 0, 0)
-MESSAGE = [START, (fast.UNSIGNED, 0, 5), (fast.SIGNED, 1, -5), (fast.DECIMAL, 2, (-7, -2)), (fast.BYTES, 3, b"abc"), END]
+START, END = (talvrugon.MESSAGE_START, 0, 0), (talvrugon.MESSAGE_END, 0, 0)
+MESSAGE = [START, (talvrugon.UNSIGNED, 0, 5), (talvrugon.SIGNED, 1, -5), (talvrugon.DECIMAL, 2, (-7, -2)), (talvrugon.BYTES, 3, b"abc"), END]
 
 
 def raised(kind, words, call, *arguments, **named):
@@ -48,9 +48,9 @@ def check_numbers(of):
         raised(TypeError, f"event {event}", encoder.encode, with_value(event, value))
     raised(TypeError, "", encoder.encode, with_value(4, 5))
     raised(TypeError, "", encoder.encode, with_value(4, "abc"))
-    raised(ValueError, "the node of event 1", encoder.encode, [START, (fast.UNSIGNED, 2**32, 5), END])
+    raised(ValueError, "the node of event 1", encoder.encode, [START, (talvrugon.UNSIGNED, 2**32, 5), END])
     raised(ValueError, "the kind of event 0", encoder.encode, [(-1, 0, 0)])
-    assert raised(fast.Error, "", encoder.encode, MESSAGE[:-1]).place == 5
+    assert raised(talvrugon.Error, "", encoder.encode, MESSAGE[:-1]).place == 5
     encoder.reset()
     assert encoder.encode(MESSAGE) == due
     assert encoder.encode(with_value(1, 2**64 - 1)) and encoder.encode(with_value(2, -(2**63)))
@@ -72,7 +72,7 @@ def check_pieces(of, due):
             events = decoder.feed(piece)
             assert (decoder.consumed, decoder.between) == (len(due), True)
             assert list(events) == MESSAGE and list(events) == MESSAGE and len(events) == len(MESSAGE)
-    decoder = of.decoder(room=fast.Room(1, 1))
+    decoder = of.decoder(room=talvrugon.Room(1, 1))
     for piece in (5, "abc", None, [1, 2]):
         raised(TypeError, "", decoder.feed, piece)
     assert decoder.consumed == 0
@@ -88,24 +88,24 @@ def check_pieces(of, due):
 def check_faults(of, due):
     """An error has the code, the place, the template and the events before it, also after pieces; a packet that is cut is one."""
     decoder = of.decoder()
-    fault = raised(fast.Error, "D2", decoder.feed, due + due[:2] + b"\x7f" * 10)
+    fault = raised(talvrugon.Error, "D2", decoder.feed, due + due[:2] + b"\x7f" * 10)
     assert (fault.status, fault.code, fault.place, fault.template) == (101, "D2", len(due) + 12, 0)
     assert list(fault.events) == [*MESSAGE, START]
-    again = raised(fast.Error, "D2", decoder.feed, due)
+    again = raised(talvrugon.Error, "D2", decoder.feed, due)
     assert (again.place, len(again.events)) == (fault.place, 0) and not decoder.between
     decoder.reset()
     assert (decoder.consumed, decoder.between) == (0, True) and len(decoder.feed(due)) == len(MESSAGE)
-    fault = raised(fast.Error, "D9", decoder.feed, b"\xc0\xff")
+    fault = raised(talvrugon.Error, "D9", decoder.feed, b"\xc0\xff")
     assert (fault.code, fault.place, fault.template) == ("D9", len(due) + 2, None)
     decoder.reset()
     decoder.feed(due[:4])
-    assert raised(fast.Error, "", decoder.feed, b"\x7f" * 10).template == 0
+    assert raised(talvrugon.Error, "", decoder.feed, b"\x7f" * 10).template == 0
     # with room for one record, so that a packet takes several calls of the library
-    decoder = of.decoder(room=fast.Room(1, 3))
+    decoder = of.decoder(room=talvrugon.Room(1, 3))
     assert list(decoder.packet(due)) == MESSAGE
-    cut = raised(fast.Error, "", decoder.packet, due[:4])
+    cut = raised(talvrugon.Error, "", decoder.packet, due[:4])
     assert (cut.status, cut.code, cut.place, cut.template) == (6, None, 4, 0) and not decoder.between
-    assert raised(fast.Error, "", decoder.packet, due, afresh=False).status == 6
+    assert raised(talvrugon.Error, "", decoder.packet, due, afresh=False).status == 6
     assert list(decoder.packet(due)) == MESSAGE and list(decoder.packet(due, afresh=False)) == MESSAGE
     assert decoder.consumed == 2 * len(due) and list(decoder.packet(b"")) == []
 
@@ -118,21 +118,21 @@ def check_closing(library, due):
         of.close()
         assert list(decoder.feed(due)) == MESSAGE and encoder.encode(MESSAGE) == due
         for call in (of.decoder, of.encoder, lambda: of.nodes, lambda: of.node_name(0)):
-            assert raised(fast.Error, "", call).status == fast.CLOSED
+            assert raised(talvrugon.Error, "", call).status == talvrugon.CLOSED
     for call in (lambda: decoder.feed(b""), decoder.reset, lambda: encoder.encode(MESSAGE), encoder.reset):
-        assert raised(fast.Error, "", call).status == fast.CLOSED
-    raised(fast.Error, "S1", library.set, "x")
-    assert raised(fast.Error, "", library.set(SET).decoder, max_text=15).status == 201
+        assert raised(talvrugon.Error, "", call).status == talvrugon.CLOSED
+    raised(talvrugon.Error, "S1", library.set, "x")
+    assert raised(talvrugon.Error, "", library.set(SET).decoder, max_text=15).status == 201
 
 
 def check_room(of):
     """A text of max_text bytes comes through, whatever room was given."""
     text = b"x" * 1048576
     message = with_value(4, text)
-    encoder, room = of.encoder(max_text=len(text)), fast.Room(2, 2)
+    encoder, room = of.encoder(max_text=len(text)), talvrugon.Room(2, 2)
     decoders = [of.decoder(max_text=size, room=room) for size in (len(text), 16)]
     assert list(decoders[0].feed(encoder.encode(message))) == message
-    assert raised(fast.Error, "L1", decoders[1].feed, of.encoder().encode(MESSAGE[:4] + [(fast.BYTES, 3, b"x" * 17), END])).place > 0
+    assert raised(talvrugon.Error, "L1", decoders[1].feed, of.encoder().encode(MESSAGE[:4] + [(talvrugon.BYTES, 3, b"x" * 17), END])).place > 0
 
 
 def check_sentences(library):
@@ -143,7 +143,7 @@ def check_sentences(library):
 
 
 def main(path):
-    library = fast.Library(path)
+    library = talvrugon.Library(path)
     of = library.set(SET)
     due = check_numbers(of)
     check_pieces(of, due)

@@ -1,10 +1,10 @@
-"""rows.py LIBRARY: what comes of each stream of the rows on standard input, by bindings/python/fast.py, as rows.cpp has it."""
+"""rows.py LIBRARY: what comes of each stream of the rows on standard input, by bindings/python/talvrugon.py, as rows.cpp has it."""
 
 import os
 import sys
 
 sys.path.insert(0, os.path.join(os.path.dirname(os.path.abspath(__file__)), "../../../bindings/python"))
-import fast
+import talvrugon
 
 BASIS, PRIME, SPREAD, MASK = 0xCBF29CE484222325, 0x100000001B3, 0x9E3779B97F4A7C15, (1 << 64) - 1
 
@@ -12,9 +12,9 @@ BASIS, PRIME, SPREAD, MASK = 0xCBF29CE484222325, 0x100000001B3, 0x9E3779B97F4A7C
 def words_of(kind, node, value):
     """Returns the words of 64 bits that an event adds to the checksum of docs/PERFORMANCE.md."""
     key = (node * 16 + kind) * SPREAD
-    if kind == fast.DECIMAL:
+    if kind == talvrugon.DECIMAL:
         return [key + value[0], value[1]]
-    if kind in (fast.ASCII, fast.UNICODE, fast.BYTES):
+    if kind in (talvrugon.ASCII, talvrugon.UNICODE, talvrugon.BYTES):
         return [key + len(value), *(int.from_bytes(value[at : at + 8], "little") for at in range(0, len(value), 8))]
     return [key + value]
 
@@ -36,14 +36,14 @@ def status_of(decoder, piece, to):
     """Feeds a piece, and returns its status: 1 where an error says anything but what the decoder does."""
     try:
         to.add(decoder.feed(piece))
-    except fast.Error as fault:
+    except talvrugon.Error as fault:
         to.add(fault.events)
         return fault.status if fault.place == decoder.consumed and fault.words.startswith(f"{fault.code}: ") else 1
-    return fast.DONE
+    return talvrugon.DONE
 
 
 def run(decoder, stream, piece):
-    to, status = Sums(), fast.DONE
+    to, status = Sums(), talvrugon.DONE
     for at in range(0, len(stream), piece):
         status = status or status_of(decoder, memoryview(stream)[at : at + piece], to)
     if status and status_of(decoder, b"", to) != status:
@@ -52,7 +52,7 @@ def run(decoder, stream, piece):
 
 
 def main(library):
-    names, room = fast.Library(library), fast.Room(16, 1)
+    names, room = talvrugon.Library(library), talvrugon.Room(16, 1)
     for row in sys.stdin:
         path, strict, max_text, max_elements, max_total, piece, stream = row.split()
         stream = bytes.fromhex(stream.strip("-"))

@@ -1,8 +1,8 @@
 use crate::error::{expect, Error};
 use crate::event::{record_of, Event};
 use crate::set::{Limits, Set};
-use fast_sys::{Handle, Put, Record};
 use std::ptr::{null_mut, NonNull};
+use talvrugon_sys::{Handle, Put, Record};
 
 /// The events of one message, kept for an encoder: it owns copies of their texts.
 #[derive(Clone, Debug, Default, PartialEq, Eq)]
@@ -23,7 +23,7 @@ impl Records {
 /// Encodes messages, one after the other. It keeps its set open, and is closed where it is dropped.
 #[derive(Debug)]
 pub struct Encoder {
-    at: NonNull<fast_sys::Encoder>,
+    at: NonNull<talvrugon_sys::Encoder>,
     // what `at` borrows: dropped after it
     _set: Set,
 }
@@ -38,7 +38,7 @@ impl Encoder {
         let mut at = null_mut();
         // the set is open, and stays so as long as the encoder; a place for a pointer
         expect(unsafe {
-            fast_sys::fast_encoder_open(set.handle(), limits.max_text, limits.max_elements, limits.max_total, &mut at)
+            talvrugon_sys::fast_encoder_open(set.handle(), limits.max_text, limits.max_elements, limits.max_total, &mut at)
         })?;
         Ok(Encoder { at: NonNull::new(at).expect("an encoder was made"), _set: set.clone() })
     }
@@ -55,7 +55,7 @@ impl Encoder {
         let mut back = self.at.as_ptr();
         // the encoder is open, and no other call has it; slices of different memory
         unsafe {
-            fast_sys::fast_encoder_put(
+            talvrugon_sys::fast_encoder_put(
                 Handle(back),
                 &mut back,
                 records.as_ptr(),
@@ -72,7 +72,7 @@ impl Encoder {
         out.resize(before + put.waiting as usize, 0);
         let room = &mut out[before..];
         // the encoder is open, and no other call has it
-        unsafe { fast_sys::fast_encoder_take(Handle(back), &mut back, room.as_mut_ptr(), room.len()) };
+        unsafe { talvrugon_sys::fast_encoder_take(Handle(back), &mut back, room.as_mut_ptr(), room.len()) };
         Ok(())
     }
 
@@ -80,13 +80,13 @@ impl Encoder {
     pub fn reset(&mut self) {
         let mut back = self.at.as_ptr();
         // the encoder is open, and no other call has it
-        unsafe { fast_sys::fast_encoder_reset(Handle(back), &mut back) };
+        unsafe { talvrugon_sys::fast_encoder_reset(Handle(back), &mut back) };
     }
 }
 
 impl Drop for Encoder {
     fn drop(&mut self) {
         // made by fast_encoder_open, and closed here alone
-        unsafe { fast_sys::fast_encoder_close(Handle(self.at.as_ptr())) }
+        unsafe { talvrugon_sys::fast_encoder_close(Handle(self.at.as_ptr())) }
     }
 }

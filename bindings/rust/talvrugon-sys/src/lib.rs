@@ -1,6 +1,6 @@
 //! The functions of `libfast_c.a`, as `include/fast.h` has them, and the heap that the library asks for, which is Rust's.
 //!
-//! The crate `fast` is the safe face. Nothing here is proved: what each call asks for stands in the header.
+//! The crate `talvrugon` is the safe face. Nothing here is proved: what each call asks for stands in the header.
 #![no_std]
 extern crate alloc;
 

@@ -1,7 +1,7 @@
 //! rows: what comes of each stream of the rows on standard input, as `tools/calls/faces/rows.cpp` has it.
-use fast::{Decoder, Event, Limits, Room, Set, Value};
 use std::error::Error;
 use std::io::{self, BufRead};
+use talvrugon::{Decoder, Event, Limits, Room, Set, Value};
 
 /// The checksum of docs/PERFORMANCE.md.
 struct Sums {

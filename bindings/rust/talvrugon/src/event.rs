@@ -1,4 +1,4 @@
-use fast_sys::Record;
+use talvrugon_sys::Record;
 
 /// A value of a field. Texts are lent for the call alone.
 #[derive(Clone, Copy, Debug, PartialEq, Eq)]

@@ -1,7 +1,7 @@
 use crate::error::{expect, Error};
-use fast_sys::Handle;
 use std::ptr::{null_mut, NonNull};
 use std::rc::Rc;
+use talvrugon_sys::Handle;
 
 /// What a decoder or an encoder is asked to keep to.
 #[derive(Clone, Copy, Debug, PartialEq, Eq)]
@@ -27,12 +27,12 @@ impl Default for Limits {
 pub struct Set(Rc<Owned>);
 
 #[derive(Debug)]
-struct Owned(NonNull<fast_sys::Set>);
+struct Owned(NonNull<talvrugon_sys::Set>);
 
 impl Drop for Owned {
     fn drop(&mut self) {
         // made by fast_set_read, closed here alone, and nothing borrows it any more
-        unsafe { fast_sys::fast_set_close(Handle(self.0.as_ptr())) }
+        unsafe { talvrugon_sys::fast_set_close(Handle(self.0.as_ptr())) }
     }
 }
 
@@ -40,40 +40,40 @@ impl Set {
     /// Reads a template set from its TOML text.
     pub fn read(text: &str) -> Result<Set, Error> {
         // no buffers
-        let is_built_with = unsafe { fast_sys::fast_interface() };
-        assert_eq!(is_built_with, fast_sys::INTERFACE, "libfast_c.a is of another build");
+        let is_built_with = unsafe { talvrugon_sys::fast_interface() };
+        assert_eq!(is_built_with, talvrugon_sys::INTERFACE, "libfast_c.a is of another build");
         let mut set = null_mut();
         // a slice, and a place for a pointer
-        expect(unsafe { fast_sys::fast_set_read(text.as_ptr(), text.len(), &mut set) })?;
+        expect(unsafe { talvrugon_sys::fast_set_read(text.as_ptr(), text.len(), &mut set) })?;
         Ok(Set(Rc::new(Owned(NonNull::new(set).expect("a set was made")))))
     }
 
-    pub(crate) fn handle(&self) -> Handle<fast_sys::Set> {
+    pub(crate) fn handle(&self) -> Handle<talvrugon_sys::Set> {
         Handle(self.0 .0.as_ptr())
     }
 
     /// How many templates it has.
     pub fn templates(&self) -> u32 {
         // the set is open
-        unsafe { fast_sys::fast_set_templates(self.handle()) }
+        unsafe { talvrugon_sys::fast_set_templates(self.handle()) }
     }
 
     /// How many nodes it has.
     pub fn nodes(&self) -> u32 {
         // the set is open
-        unsafe { fast_sys::fast_set_nodes(self.handle()) }
+        unsafe { talvrugon_sys::fast_set_nodes(self.handle()) }
     }
 
     /// The name of a template; `None` where there is none of the number.
     pub fn template_name(&self, template: u32) -> Option<String> {
         // the set is open, and the buffer has the length
-        named(|to, len| unsafe { fast_sys::fast_template_name(self.handle(), template, to, len) })
+        named(|to, len| unsafe { talvrugon_sys::fast_template_name(self.handle(), template, to, len) })
     }
 
     /// The name of a node; `None` where there is none of the number.
     pub fn node_name(&self, node: u32) -> Option<String> {
         // the set is open, and the buffer has the length
-        named(|to, len| unsafe { fast_sys::fast_node_name(self.handle(), node, to, len) })
+        named(|to, len| unsafe { talvrugon_sys::fast_node_name(self.handle(), node, to, len) })
     }
 }
 

@@ -1,10 +1,10 @@
 //! show TEMPLATES STREAM [PIECE]: the lines of a stream, as `fastcat show` writes them. With `--again` before it the bytes of its messages,
 //! encoded again.
-use fast::{Decoder, Encoder, Event, Limits, Records, Set, Value};
 use std::error::Error;
 use std::fmt::Write as _;
 use std::io::{self, Write};
 use std::process::ExitCode;
+use talvrugon::{Decoder, Encoder, Event, Limits, Records, Set, Value};
 
 fn quoted(text: &[u8], out: &mut Vec<u8>) {
     out.push(b'"');

@@ -4,7 +4,7 @@ The shared library is made of the static one:
 
     cc -shared -o libfast_c.so -Wl,--whole-archive libfast_c.a -Wl,--no-whole-archive include/heap.c
 
-    with fast.Library("./libfast_c.so").set(text).decoder() as decoder:
+    with talvrugon.Library("./libfast_c.so").set(text).decoder() as decoder:
         for kind, node, value in decoder.feed(piece): ..
         for records, texts in decoder.feed_records(piece): ..     # NumPy structured arrays where NumPy is there
 

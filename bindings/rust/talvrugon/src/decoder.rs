@@ -1,8 +1,8 @@
 use crate::error::{expect, Error};
 use crate::event::{event_of, Event};
 use crate::set::{Limits, Set};
-use fast_sys::{Fed, Handle, Record};
 use std::ptr::{null_mut, NonNull};
+use talvrugon_sys::{Fed, Handle, Record};
 
 /// How many records a room has: 96 KiB.
 const RECORDS: usize = 4096;
@@ -41,7 +41,7 @@ pub enum Start {
 /// Decodes a stream that comes in pieces, cut anywhere. It keeps its set open, and is closed where it is dropped.
 #[derive(Debug)]
 pub struct Decoder {
-    at: NonNull<fast_sys::Decoder>,
+    at: NonNull<talvrugon_sys::Decoder>,
     room: Room,
     max_text: usize,
     last: Fed,
@@ -60,7 +60,7 @@ impl Decoder {
         let mut at = null_mut();
         // the set is open, and stays so as long as the decoder; a place for a pointer
         expect(unsafe {
-            fast_sys::fast_decoder_open(set.handle(), u32::from(strict), max_text, max_elements, max_total, &mut at)
+            talvrugon_sys::fast_decoder_open(set.handle(), u32::from(strict), max_text, max_elements, max_total, &mut at)
         })?;
         Ok(Decoder {
             at: NonNull::new(at).expect("a decoder was made"),
@@ -141,8 +141,8 @@ impl Decoder {
         unsafe {
             let decoder = Handle(back);
             match start {
-                None => fast_sys::fast_decoder_feed(decoder, &mut back, bytes, len, records, records_len, texts, texts_len, last),
-                Some(start) => fast_sys::fast_decoder_packet(
+                None => talvrugon_sys::fast_decoder_feed(decoder, &mut back, bytes, len, records, records_len, texts, texts_len, last),
+                Some(start) => talvrugon_sys::fast_decoder_packet(
                     decoder, &mut back, start as u32, bytes, len, records, records_len, texts, texts_len, last,
                 ),
             }
@@ -164,7 +164,7 @@ impl Decoder {
     pub fn reset(&mut self) {
         let mut back = self.at.as_ptr();
         // the decoder is open, and no other call has it
-        unsafe { fast_sys::fast_decoder_reset(Handle(back), &mut back) };
+        unsafe { talvrugon_sys::fast_decoder_reset(Handle(back), &mut back) };
         self.last = Fed { between: 1, ..Fed::default() };
     }
 }
@@ -172,6 +172,6 @@ impl Decoder {
 impl Drop for Decoder {
     fn drop(&mut self) {
         // made by fast_decoder_open, and closed here alone
-        unsafe { fast_sys::fast_decoder_close(Handle(self.at.as_ptr())) }
+        unsafe { talvrugon_sys::fast_decoder_close(Handle(self.at.as_ptr())) }
     }
 }

@@ -14,7 +14,7 @@ impl Error {
     pub fn words(&self) -> String {
         let mut words = vec![0; 256];
         // a buffer and its length; the library writes no more than that
-        let length = unsafe { fast_sys::fast_status_words(self.status, words.as_mut_ptr(), words.len()) };
+        let length = unsafe { talvrugon_sys::fast_status_words(self.status, words.as_mut_ptr(), words.len()) };
         words.truncate(length);
         String::from_utf8_lossy(&words).into_owned()
     }

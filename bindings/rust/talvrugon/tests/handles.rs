@@ -1,5 +1,5 @@
-//! What `fast` does with packets, faults, limits and messages that are refused.
-use fast::{Decoder, Encoder, Error, Event, Limits, Records, Room, Set, Start, Value};
+//! What `talvrugon` does with packets, faults, limits and messages that are refused.
+use talvrugon::{Decoder, Encoder, Error, Event, Limits, Records, Room, Set, Start, Value};
 
 const SET: &str = r#"
 [[template]]
