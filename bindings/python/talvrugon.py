@@ -15,6 +15,7 @@ from __future__ import annotations
 
 import ctypes as c
 import operator
+import os
 import struct
 from collections.abc import Iterable, Iterator
 from ctypes import byref
@@ -26,6 +27,9 @@ except ImportError:
     numpy = None
 
 INTERFACE = 2
+
+# The library that a wheel has beside this module.
+BESIDE = os.path.join(os.path.dirname(os.path.abspath(__file__)), "libfast.so.0")
 
 MESSAGE_START, UNSIGNED, SIGNED, DECIMAL, ASCII, UNICODE, BYTES = range(1, 8)
 GROUP_START, GROUP_END, SEQUENCE_START, ELEMENT_START, ELEMENT_END, SEQUENCE_END, MESSAGE_END = range(8, 15)
@@ -124,9 +128,9 @@ def numbers_of(**named: Any) -> list[int]:
 
 
 class Library:
-    """The shared library of a path."""
+    """The shared library of a path, or the one that came with the module."""
 
-    def __init__(self, path: str):
+    def __init__(self, path: str = BESIDE):
         self.calls = c.CDLL(path)
         if self.calls.fast_interface() != INTERFACE:
             raise ImportError(f"{path} is of another build")
@@ -168,12 +172,13 @@ class Held:
     """
 
     def __init__(self, library: Library, close: Any, *borrows: Any):
-        self.library, self._owned = library, Owned(close, *borrows)
+        self.library = library
+        self._owned: Owned | None = Owned(close, *borrows)
 
     @property
     def owned(self) -> Owned:
         if self._owned is None:
-            self.library.expect(CLOSED)
+            raise Error(CLOSED, 0, self.library.words(CLOSED))
         return self._owned
 
     @property
@@ -298,17 +303,19 @@ class Decoder(Held):
         self.library.expect(self.library.calls.fast_decoder_open(of.handle, strict, *limits, byref(self.owned.at)))
         self.room = room or Room()
         self.room.hold(max_text)
-        self._fed, self._template = Fed(between=1), None
+        self._fed = Fed(between=1)
+        self._template: int | None = None
 
     def _decode(self, piece: Any, call: Any, *how: int) -> Events:
         """Feeds a piece by a call of the library until all of it is taken."""
         raw = piece if isinstance(piece, bytes) else bytes(memoryview(piece))
-        start, at, fed, room, parts = c.cast(c.c_char_p(raw), P).value, 0, self._fed, self.room, []
+        start, at, fed, room = c.cast(c.c_char_p(raw), P).value or 0, 0, self._fed, self.room
+        parts: list[tuple[bytes, bytes]] = []
         while True:
             buffers = room.records, len(room.records), room.texts, len(room.texts)
             call(self.handle, byref(P()), *how, start + at, len(raw) - at, *buffers, byref(fed))
             if fed.records:
-                parts.append((c.string_at(room.records, fed.records * ROW.size), room.texts[: fed.texts]))
+                parts.append((c.string_at(room.records, fed.records * ROW.size), c.string_at(room.texts, fed.texts)))
             at += fed.taken
             how = (0,) * len(how)
             if fed.status != MORE:
@@ -375,7 +382,7 @@ class Encoder(Held):
         calls.fast_encoder_put(self.handle, byref(P()), b"".join(records), len(records), bytes(texts), len(texts), byref(put))
         self.library.expect(put.status, put.record)
         room = c.create_string_buffer(put.waiting)
-        return room[: calls.fast_encoder_take(self.handle, byref(P()), room, len(room))]
+        return c.string_at(room, calls.fast_encoder_take(self.handle, byref(P()), room, len(room)))
 
     def reset(self) -> None:
         """Makes it as it was made: to be used where the reader's decoder is reset too."""
