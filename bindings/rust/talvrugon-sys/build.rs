@@ -1,7 +1,12 @@
-// FAST_C_DIR is the folder of libfast_c.a, which `tools/library fast_c` makes (crates/fast_c/out).
+// libfast_c.a lies in the folder FAST_C_DIR, or, in a release, in lib/ of this crate. In the repository `tools/library fast_c` makes it, in
+// crates/fast_c/out.
+use std::{env, path::Path};
+
 fn main() {
     println!("cargo:rerun-if-env-changed=FAST_C_DIR");
-    let dir = std::env::var("FAST_C_DIR").expect("FAST_C_DIR names the folder of libfast_c.a");
+    let own = concat!(env!("CARGO_MANIFEST_DIR"), "/lib");
+    let dir = env::var("FAST_C_DIR").unwrap_or_else(|_| own.to_owned());
+    assert!(Path::new(&dir).join("libfast_c.a").is_file(), "FAST_C_DIR names the folder of libfast_c.a");
     println!("cargo:rerun-if-changed={dir}/libfast_c.a");
     println!("cargo:rustc-link-search=native={dir}");
     println!("cargo:rustc-link-lib=static=fast_c");
