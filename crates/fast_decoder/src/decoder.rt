@@ -23,7 +23,7 @@ use std::alloc::Global;
 use std::fmt;
 use std::marker::Model;
 
-/// Decodes a stream of FAST messages that comes in pieces, cut anywhere. All its memory is taken when it is made.
+/// Decodes a stream of FAST messages that arrives in pieces, split anywhere. It allocates memory only when it is made.
 #[derive(Drop)]
 pub struct Decoder<'t> {
     templates: &'t Templates,
@@ -56,7 +56,7 @@ impl<'t> Model for Decoder<'t> {
     }) };
 }
 
-/// Its limits, how many bytes it has consumed, and the fault at which it stopped.
+/// Formats the limits, the number of bytes consumed, and the fault at which the decoder stopped.
 impl<'t> fmt::Debug for Decoder<'t> {
     fn fmt<W: fmt::Write>(&self, f: &mut fmt::Formatter<W>) -> fmt::Result {
         f.debug_struct("Decoder")
@@ -68,12 +68,12 @@ impl<'t> fmt::Debug for Decoder<'t> {
 }
 
 impl<'t> Decoder<'t> {
-    /// A decoder of streams under a template set and limits, before the first byte.
+    /// Makes a decoder for streams of a template set, under these limits, before the first byte.
     ///
     /// # Errors
     ///
-    /// `BadLimits` where `max_text` is not one of 16 to 1,048,576; then `InitialTooLong` where a field has an initial value that is a
-    /// text longer than `max_text`; then `Memory` where memory was refused.
+    /// `BadLimits` if `max_text` is not in 16 to 1,048,576; else `InitialTooLong` if a field has an initial value, a string or byte vector,
+    /// that is longer than `max_text`; else `Memory` if an allocation failed.
     pub fn new(
         alloc: Global,
         templates: &'t Templates,
@@ -106,30 +106,30 @@ impl<'t> Decoder<'t> {
         }
     }
 
-    /// Takes the next piece of the stream, which may be cut anywhere, and hands its events to the sink.
+    /// Reads the next piece of the stream, which may be split anywhere, and passes its events to the sink.
     ///
-    /// At a fault the bytes up to its place were consumed, and each further feed answers the same fault, until `reset`.
+    /// At a fault the bytes up to its offset (`place`) are consumed, and each further feed returns the same fault, until `reset`.
     pub fn feed<S: Sink>(&mut self, piece: &[u8], sink: &mut S) -> Result<(), Fault>
-        // What led to the decoder, and then the piece, leads to it afterwards, and the sink takes what the piece gives.
+        // The decoder has then read the piece after what it had read before, and the sink receives the events of the piece.
         ensures carried { (w : List ℕ) (es : List EventData) → HasRead self.old w es
             → Carried S.takes S.stops self.old w es piece.now sink.old result self.new sink.new }
         ensures answer { result ≡ answer self.new.fault }
         ensures same_set { (tree self.new ≡ tree self.old) × (self.new.limits ≡ self.old.limits) }
-        // Once there is a fault it stays: the decoder says of itself what it said before, and the sink hears nothing.
+        // A fault stays: the decoder's account does not change, and the sink receives nothing.
         ensures stopped { IsSome self.old.fault → (account self.new ≡ account self.old) × (sink.new ≡ sink.old) }
-        // L4 comes exactly where the bytes can no longer be counted.
+        // L4 is returned exactly where the bytes can no longer be counted.
         ensures counted { self.old.fault ≡ None
             → (IsUncounted result ↔ (2 ^ 64 ≤ self.old.consumed + length piece.now)) }
         ensures bounded { held (stored self.new) ≤ stored_cap (tree self.new) self.new.limits }
-        // At every fault what is consumed is the fault's place.
+        // At every fault the number of bytes consumed is the fault's offset.
         ensures at_place { IsAtPlace self.new }
         ensures consumed { ConsumesAtMost (length piece.now) self.old self.new }
-        // The same in terms of the stream, with the bound on the events, which holds at L4 and at the sink's stop too.
+        // `carried` in terms of the stream, with the bound on the events, which holds at L4 and when the sink stops too.
         ensures followed { (w : List ℕ) (es : List EventData) → HasRead self.old w es
             → Followed S.takes S.stops (tree self.old) self.old.limits w es piece.now sink.old result self.new
             sink.new }
-        // The turns of the call are at most the cap of a message and one for each byte that it consumes.
-        // A turn is a part settled, or a frame or element opened or closed; docs/DEFINITIONS.md tells what counts as one.
+        // The call takes at most `1 + turn_cap` turns for each byte that it consumes. A turn is a part settled, or a frame or element
+        // opened or closed; docs/DEFINITIONS.md says what counts as one.
         ensures turns { turns self.new
             ≤ (self.new.consumed - self.old.consumed) * (1 + turn_cap (tree self.new) self.new.limits) }
     {
@@ -160,7 +160,7 @@ impl<'t> Decoder<'t> {
         }
     }
 
-    /// A feed of one byte.
+    /// Reads one byte of the stream and passes its events to the sink, as `feed` does with a piece of one byte.
     pub fn push<S: Sink>(&mut self, byte: u8, sink: &mut S) -> Result<(), Fault>
         ensures carried { (w : List ℕ) (es : List EventData) → HasRead self.old w es
             → Carried S.takes S.stops self.old w es (byte ∷ []) sink.old result self.new sink.new }
@@ -180,17 +180,17 @@ impl<'t> Decoder<'t> {
         self.feed(&[byte], sink)
     }
 
-    /// Feeds the pieces of a stream, one after the other, up to the first fault.
+    /// Feeds the pieces of a stream in order, up to the first fault, which it returns.
     ///
-    /// The sink takes exactly what the stream means; where the stream is wrong, the call tells which fault and where. All that has been
-    /// handed over is at most the cap of a message for each byte consumed, and what is stored at most the cap of the set. Both bounds
-    /// are clauses of `feed`, which takes each piece, so they hold behind each piece, and with pieces of one byte behind each byte.
+    /// The sink receives exactly the events of the stream; where the stream is at fault, the error says which fault and at which offset.
+    /// The number of events is at most the cap of a message for each byte consumed, and the memory used at most the cap of the set. Both
+    /// bounds are clauses of `feed`, which reads each piece, so they hold after each piece, and with pieces of one byte after each byte.
     pub fn feed_all<S: Sink>(&mut self, pieces: &[&[u8]], sink: &mut S) -> Result<(), Fault>
-        // Behind bytes that led to the decoder, the pieces are fed as if they were one.
+        // The pieces are read as if they were one, after the bytes that the decoder had read before.
         ensures followed { (w : List ℕ) (es : List EventData) → HasRead self.old w es
             → Followed S.takes S.stops (tree self.old) self.old.limits w es (all_bytes pieces.now) sink.old result
             self.new sink.new }
-        // The same of a decoder that was made or reset: the stream is that of the pieces alone.
+        // For a decoder that was just made or reset, the stream is that of the pieces alone.
         ensures from_start { HasRead self.old [] []
             → Followed S.takes S.stops (tree self.old) self.old.limits [] [] (all_bytes pieces.now) sink.old result
             self.new sink.new }
@@ -201,7 +201,7 @@ impl<'t> Decoder<'t> {
         ensures at_place { IsAtPlace self.new }
         ensures consumed { ConsumesAtMost (length (all_bytes pieces.now)) self.old self.new }
     {
-        // An empty piece first: a decoder that has stopped answers its fault, however few the pieces are.
+        // An empty piece first: a decoder that has stopped returns its fault, even if there is no piece.
         self.feed(&[], sink)?;
         for piece in pieces {
             self.feed(piece, sink)?;
@@ -209,7 +209,7 @@ impl<'t> Decoder<'t> {
         Ok(())
     }
 
-    /// The decoder as it was made: before the first byte, without a fault.
+    /// Restores the decoder to the state in which it was made: before the first byte, without a fault.
     pub fn reset(&mut self)
         ensures so { HasRead self.new [] [] }
         ensures no_turn { turns self.new ≡ 0 }
@@ -221,31 +221,31 @@ impl<'t> Decoder<'t> {
         self.fault = None;
     }
 
-    /// The number of bytes consumed since the decoder was made or reset.
+    /// Returns the number of bytes consumed since the decoder was made or reset.
     pub fn consumed(&self) -> u64
         ensures { result ≡ (account self.now).consumed }
     {
         self.consumed
     }
 
-    /// Whether there is no fault, and no message that is begun and not whole.
+    /// Returns whether the decoder is between two messages: it has no fault, and each message that began is complete.
     pub fn between(&self) -> bool
         ensures { result ≡ (account self.now).is_between }
     {
         self.fault.is_none() && self.machine.is_idle()
     }
 
-    /// The fault at which the decoder stopped, if it did.
+    /// Returns the fault at which the decoder stopped, if it did.
     pub fn fault(&self) -> Option<Fault>
         ensures { result ≡ (account self.now).fault }
     {
         self.fault
     }
 
-    /// What the decoder waits for, or where it has stopped, to say where a stream is cut or at fault.
+    /// Returns what the decoder waits for, or where it has stopped, to report where a stream is truncated or at fault.
     ///
-    /// At a fault it is the next instruction: in a presence map (R7, R8, L3) the first one behind the map, at a sequence that is too
-    /// long (L2, L5) the one behind the sequence.
+    /// At a fault it is the next instruction: in a presence map (R7, R8, L3) the first one after the map, at a sequence that is too long
+    /// (L2, L5) the one after the sequence.
     pub fn in_hand(&self) -> Due
         ensures { result ≡ in_hand self.now }
     {
@@ -256,30 +256,30 @@ impl<'t> Decoder<'t> {
     }
 }
 
-/// What leads to a decoder is a stream with these events, and the decoder tells how it ends: whether it is between two messages,
-/// its fault, and the number of bytes consumed.
+/// The bytes that a decoder has read are a stream with these events, and the decoder reports how it ends: whether it is between two
+/// messages, its fault, and the number of bytes consumed.
 pub fn read_is_stream()
     ensures { (d : DecoderData) (w : List ℕ) (es : List EventData) → HasRead d w es
         → TellsStream (tree d) d.limits w es (account d) }
 {}
 
-/// The events of what leads to a decoder are no more than the cap of a message for each byte consumed.
+/// The events that a decoder has emitted are no more than the cap of a message for each byte consumed.
 pub fn read_bounds_events()
     ensures { (d : DecoderData) (w : List ℕ) (es : List EventData) → HasRead d w es
         → length es ≤ (account d).consumed * message_cap (tree d) d.limits }
 {}
 
-/// They are also no more than the cap of a message for each message of which a byte was read: whole ones, and then perhaps one that is
-/// cut short or wrong.
+/// The events that a decoder has emitted are no more than the cap of a message for each message of which a byte was read: complete ones,
+/// and then perhaps one that is truncated or wrong.
 pub fn read_bounds_messages()
     ensures { (d : DecoderData) (w : List ℕ) (es : List EventData) → HasRead d w es
         → (e : End) × (n : ℕ) × (account d ≡ account_at w e)
         × Begins (tree d) d.limits w e n × (length es ≤ n * message_cap (tree d) d.limits) }
 {}
 
-/// All of a decoder at once, whatever its template set, its limits and the bytes: what leads to it is a stream with these events,
-/// whose end the decoder tells; what it stores is at most the cap of the set; and the events are no more than the cap of a message
-/// for each byte consumed. That a sink takes these events is said of a call: by `Decoder::feed_all`, and by `feed` and `push`.
+/// The theorem of the decoder, for every template set, limits and bytes: the bytes read are a stream with these events, whose end the
+/// decoder reports; the memory used is at most the cap of the set; and the events are no more than the cap of a message for each byte
+/// consumed. That a sink receives these events is a clause of each call: of `Decoder::feed_all`, `feed` and `push`.
 pub fn headline()
     ensures { (d : DecoderData) (w : List ℕ) (es : List EventData) → HasRead d w es
         → TellsStream (tree d) d.limits w es (account d)

@@ -1,4 +1,4 @@
-//! Laws of streams, and of what has led to a decoder.
+//! Laws of streams, and of the bytes and events that a decoder has read.
 
 pub use crate::decoder::{headline, read_bounds_events, read_bounds_messages, read_is_stream};
 pub use fast_stream::laws::{

@@ -1,10 +1,10 @@
-//! A sink that keeps what it takes.
+//! A sink that keeps the events that it receives.
 
 use fast_stream::{Event, Sink, Stop};
 use fast_value::Value;
 use std::alloc::{AllocError, Global};
 
-/// An event in memory of its own.
+/// An event that owns its value.
 #[derive(Debug, Drop, PartialEq)]
 pub enum Recorded {
     /// A message begins.
@@ -24,22 +24,22 @@ pub enum Recorded {
         /// The number of the group's node.
         node: u32,
     },
-    /// The innermost group is whole.
+    /// The innermost group ends.
     GroupEnd,
     /// A sequence begins.
     SequenceStart {
         /// The number of the sequence's node.
         node: u32,
-        /// How many elements follow.
+        /// The number of elements that follow.
         count: u32,
     },
     /// An element of the innermost sequence begins.
     ElementStart,
-    /// An element of the innermost sequence is whole.
+    /// An element of the innermost sequence ends.
     ElementEnd,
-    /// The innermost sequence is whole.
+    /// The innermost sequence ends.
     SequenceEnd,
-    /// The message is whole.
+    /// The message ends.
     MessageEnd,
 }
 
@@ -48,7 +48,7 @@ impl Recorded {
     ghost use Rattle.fast_stream.specs.meaning.Handed.{event_data};
     ghost use Rattle.fast_decoder.specs.meaning.Recorded.{recorded_data};
 
-    /// The same event in memory of its own.
+    /// Copies an event into memory of its own. Fails only if an allocation fails.
     pub fn copy_of(alloc: Global, event: Event<'_>) -> Result<Recorded, AllocError>
         ensures { IfOk result (λ kept. recorded_data kept ≡ event_data event.entry) }
     {
@@ -69,7 +69,7 @@ impl Recorded {
     }
 }
 
-/// A sink that keeps a list of the events, and stops on want of memory.
+/// A sink that keeps a list of the events, and stops when an allocation fails.
 #[derive(Drop)]
 pub struct Recorder {
     alloc: Global,
@@ -80,7 +80,7 @@ impl Recorder {
     ghost use Rattle.std.specs.Prelude.{◌≡◌, [], map};
     ghost use Rattle.fast_decoder.specs.meaning.Recorded.{recorded, recorded_data};
 
-    /// A recorder that has kept nothing.
+    /// Makes a recorder that has kept nothing.
     pub fn new(alloc: Global) -> Recorder
         ensures { recorded result ≡ [] }
     {
@@ -90,7 +90,7 @@ impl Recorder {
         }
     }
 
-    /// The events that were kept, in order.
+    /// Returns the events that were kept, in order.
     pub fn events(&self) -> &[Recorded]
         ensures { map recorded_data result.now ≡ recorded self.now }
     {
