@@ -1,4 +1,4 @@
-//! How deep a set nests, and the most events that a message of it can have.
+//! The nesting depth of a set, and the most events that a message of it can have.
 
 ghost use Rattle.std.specs.Prelude.{◌≡◌, ℕ, ◌+◌, ◌*◌, ◌^◌, max, ◌<◌, ◌≤◌, length, slice_index_or};
 ghost use Rattle.fast_template.specs.meaning.Flat.{tree_of, body_of, instructions_from, no_instruction};
@@ -12,7 +12,7 @@ use fast_tree::{Node, Shape};
 use fast_value::Limits;
 
 impl Templates {
-    /// How deep groups and sequences nest, at most: 0 for a set without any.
+    /// Returns the depth to which groups and sequences nest: 0 for a set without any.
     pub fn depth(&self) -> u32
         ensures greatest { result ≡ set_depth (tree_of self.now) }
         ensures few { result ≤ 65536 }
@@ -24,8 +24,8 @@ impl Templates {
         deepest
     }
 
-    /// The most events of a message: the greatest message by the limit on the elements of each sequence, or by that on the
-    /// elements of the whole message, whichever is less.
+    /// Returns the most events that a message can have under these limits: the lesser of two bounds, one by the limit on the elements of
+    /// each sequence, one by the limit on the elements of the whole message.
     pub fn message_cap(&self, limits: Limits) -> u64
         ensures { result ≡ message_cap (tree_of self.now) limits }
     {
@@ -41,7 +41,7 @@ impl Templates {
     }
 }
 
-/// The limit in 64 bits.
+/// Returns the limit in 64 bits.
 fn widened(limit: u32) -> u64
     ensures value { result ≡ limit }
     ensures small { result < 2 ^ 32 }
@@ -49,7 +49,7 @@ fn widened(limit: u32) -> u64
     u64::from(limit)
 }
 
-/// The most events of a message with so many elements.
+/// Returns the most events of a message with `max_total` elements.
 fn with_elements(message: Counts, max_total: u64) -> u64
     ensures { (a o w : ℕ) → AreCounts message a o w → result ≡ in_64_bits (o + max_total * w) }
 {
@@ -59,7 +59,7 @@ fn with_elements(message: Counts, max_total: u64) -> u64
         .saturating_add(message.outer)
 }
 
-/// How deep groups and sequences nest in a body.
+/// Returns the depth to which groups and sequences nest in a body.
 #[cycle(depth)]
 fn body_depth(nodes: &[Node], body: &[u32]) -> u32
     requires later { NameLaterNodes nodes.now }
@@ -73,7 +73,7 @@ fn body_depth(nodes: &[Node], body: &[u32]) -> u32
     deepest
 }
 
-/// How deep groups and sequences nest in a node.
+/// Returns the depth to which groups and sequences nest in a node.
 #[cycle(depth)]
 fn node_depth(nodes: &[Node], number: usize) -> u32
     requires later { NameLaterNodes nodes.now }
@@ -88,19 +88,18 @@ fn node_depth(nodes: &[Node], number: usize) -> u32
     }
 }
 
-/// What a part of a message counts in events: with the most elements that its sequences may have, without the elements of
-/// its sequences, and the greatest element in it without those of its own. Each stops at `u64::MAX`.
+/// The number of events of a part of a message, counted in three ways. Each count stops at `u64::MAX`.
 #[derive(Clone, Copy, Debug)]
 struct Counts {
-    /// With the most elements.
+    /// With as many elements as each sequence may have.
     all: u64,
-    /// Without elements.
+    /// Without the elements of its sequences.
     outer: u64,
-    /// The greatest element.
+    /// The greatest element in it, without the elements of that element's own sequences.
     widest: u64,
 }
 
-/// The events of a body.
+/// Counts the events of a body.
 #[cycle(counts)]
 fn body_counts(nodes: &[Node], limits: Limits, body: &[u32]) -> Counts
     requires later { NameLaterNodes nodes.now }
@@ -118,7 +117,7 @@ fn body_counts(nodes: &[Node], limits: Limits, body: &[u32]) -> Counts
     counts
 }
 
-/// The events of a node.
+/// Counts the events of a node.
 #[cycle(counts)]
 fn node_counts(nodes: &[Node], limits: Limits, number: usize) -> Counts
     requires later { NameLaterNodes nodes.now }
@@ -135,7 +134,7 @@ fn node_counts(nodes: &[Node], limits: Limits, number: usize) -> Counts
     }
 }
 
-/// The events of one part of a body and of the next.
+/// Counts the events of one part of a body and the next together.
 fn counts_of_both(first: Counts, next: Counts) -> Counts
     ensures { (a o w b p v : ℕ) → AreCounts first a o w → AreCounts next b p v
         → AreCounts result (a + b) (o + p) (max w v) }
@@ -147,7 +146,7 @@ fn counts_of_both(first: Counts, next: Counts) -> Counts
     }
 }
 
-/// The events of a field.
+/// Counts the events of a field.
 fn field_counts() -> Counts
     ensures { AreCounts result 1 1 0 }
 {
@@ -158,7 +157,7 @@ fn field_counts() -> Counts
     }
 }
 
-/// The events of a group, by those of its body.
+/// Counts the events of a group, from those of its body.
 fn group_counts(body: Counts) -> Counts
     ensures { (a o w : ℕ) → AreCounts body a o w → AreCounts result (2 + a) (2 + o) w }
 {
@@ -169,7 +168,7 @@ fn group_counts(body: Counts) -> Counts
     }
 }
 
-/// The events of a sequence, by those of an element's body.
+/// Counts the events of a sequence, from those of an element's body.
 fn sequence_counts(body: Counts, max_elements: u32) -> Counts
     ensures { (a o w : ℕ) → AreCounts body a o w → AreCounts result (2 + max_elements * (2 + a)) 2 (max (2 + o) w) }
 {

@@ -1,4 +1,4 @@
-//! Template sets of FAST streams: what is read of a text, in the form that a decoder walks.
+//! Template sets of FAST streams: read from a TOML file and kept in the form that a decoder walks.
 #![tactic(auto)]
 
 mod caps;

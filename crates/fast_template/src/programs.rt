@@ -1,4 +1,4 @@
-//! The bodies of a set as a decoder's loop runs through them.
+//! The bodies of a set as a program of ops, which the decoder's loop runs.
 
 ghost use Rattle.std.specs.Prelude.{◌≡◌, ◌<◌, [], Some, length, slice_get};
 ghost use Rattle.fast_tree.specs.declared.instructions.Node.{Node};
@@ -14,8 +14,7 @@ use crate::sets::Templates;
 use fast_program::{Op, Start};
 
 impl Templates {
-    /// The bodies of all templates, groups and sequences, each a run of its nodes' ops with an end behind it. The first op is
-    /// an end.
+    /// Returns the bodies of all templates, groups and sequences, each a run of its nodes' ops followed by an end. The first op is an end.
     #[inline(always)]
     pub fn program(&self) -> &[Op]
         ensures is { result.now ≡ program_of self.now }
@@ -26,7 +25,7 @@ impl Templates {
         &self.program.ops
     }
 
-    /// Where the messages of a template start.
+    /// Returns where the messages of template `i` start.
     #[inline(always)]
     pub fn start_of(&self, i: u32) -> &Start
         requires { i < length (templates_of self.now) }
@@ -37,7 +36,7 @@ impl Templates {
         &self.program.template_starts[i as usize]
     }
 
-    /// Where the body of a node begins in the program: that of a group, or of an element of a sequence.
+    /// Returns where the body of node `n` begins in the program: that of a group, or of an element of a sequence.
     #[inline]
     pub fn body_start(&self, n: u32) -> usize
         requires { n < length (nodes_of self.now) }

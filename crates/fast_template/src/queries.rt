@@ -1,4 +1,4 @@
-//! What can be asked of a template set. No query takes memory.
+//! Queries of a template set. None of them allocates.
 
 ghost use Rattle.std.specs.Prelude.{◌≡◌, ◌≢◌, ◌≤◌, ◌<◌, ℕ, length, slice_get, Some, IfSome, IfNone, string_bytes};
 ghost use Rattle.fast_tree.specs.declared.instructions.Template.{Template};
@@ -14,14 +14,14 @@ use crate::sets::Templates;
 use fast_tree::{Node, Template};
 
 impl Templates {
-    /// The number of templates.
+    /// Returns the number of templates.
     pub fn count(&self) -> u32
         ensures { result ≡ length (templates_of self.now) }
     {
         self.templates.len() as u32
     }
 
-    /// The number of nodes, at most 65,536.
+    /// Returns the number of nodes, at most 65,536.
     pub fn nodes(&self) -> u32
         ensures number { result ≡ length (nodes_of self.now) }
         ensures few { result ≤ 65536 }
@@ -30,7 +30,7 @@ impl Templates {
         self.nodes.len() as u32
     }
 
-    /// The number of dictionary entries. Entry 0 is the template identifier's.
+    /// Returns the number of dictionary entries. Entry 0 is that of the template identifier.
     pub fn entries(&self) -> u32
         ensures number { result ≡ (tree_of self.now).entries }
         ensures some { 1 ≤ result }
@@ -38,7 +38,7 @@ impl Templates {
         self.entries
     }
 
-    /// A template by its number.
+    /// Returns template `i`, numbered from 0.
     #[inline]
     pub fn template(&self, i: u32) -> &Template
         requires { i < length (templates_of self.now) }
@@ -48,7 +48,7 @@ impl Templates {
         &self.templates[i as usize]
     }
 
-    /// A node by its number.
+    /// Returns node `n`, numbered from 0.
     #[inline]
     pub fn node(&self, n: u32) -> &Node
         requires { n < length (nodes_of self.now) }
@@ -59,7 +59,7 @@ impl Templates {
         &self.nodes[n as usize]
     }
 
-    /// The number of the template with an identifier.
+    /// Returns the number of the template with this identifier, if there is one.
     #[inline]
     pub fn by_id(&self, id: u32) -> Option<u32>
         ensures found { IfSome result (λ i. (t : Template) × (slice_get (templates_of self.now) i ≡ Some t)
@@ -73,7 +73,7 @@ impl Templates {
         self.ids.get(&id).copied()
     }
 
-    /// The number of the template with a name.
+    /// Returns the number of the template with this name, if there is one.
     pub fn by_name(&self, name: &str) -> Option<u32>
         ensures found { IfSome result (λ i. (t : Template) × (slice_get (templates_of self.now) i ≡ Some t)
             × (string_bytes t.name ≡ name.now)) }

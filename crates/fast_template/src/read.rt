@@ -1,4 +1,4 @@
-//! From the text of a template set to the set.
+//! Reads a template set from a TOML file's contents.
 
 ghost use Rattle.std.specs.Prelude.{◌≡◌, ◌≢◌, None, Some, IfOk, IfErr};
 ghost use Rattle.toml.specs.Data.{Members};
@@ -15,7 +15,7 @@ use fast_notation::{CheckedSet, StaticCode, StaticFault};
 use fast_program::Program;
 use std::alloc::Global;
 
-/// That there was no memory left.
+/// Returns the fault of a failed allocation.
 fn no_memory() -> StaticFault
     ensures code { result.code ≡ StaticCode.Memory }
     ensures template { result.template ≡ None }
@@ -27,12 +27,12 @@ fn no_memory() -> StaticFault
 }
 
 impl Templates {
-    /// Reads a template set from its TOML text: the array `template` of tables, one for each template.
+    /// Reads a template set from the contents of a TOML file: the array `template` of tables, one for each template.
     ///
     /// # Errors
     ///
-    /// The fault of the first pass that finds one, at the first template at which it stands: S1, C1, C2, S2 to S5, D8,
-    /// C3, C4, C6, C5. Or that there was no memory left.
+    /// The fault of the first pass that finds one, at the first template that has it: S1, C1, C2, S2 to S5, D8, C3, C4, C6, C5. Or that an
+    /// allocation failed.
     pub fn read(alloc: Global, text: &str) -> Result<Templates, StaticFault>
         ensures read { IfOk result (λ t. (document : Members) × (parse_document text.now ≡ Some document)
             × IsTree document (tree_of t)) }

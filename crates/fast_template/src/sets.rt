@@ -13,8 +13,8 @@ use fast_program::Program;
 use fast_tree::{Node, Template};
 use std::collections::HashMap;
 
-/// A checked template set. Templates are numbered from 0 in the order of their text; nodes, which are the instructions of
-/// all templates with references in place, from 0 in preorder.
+/// A checked template set. Templates are numbered from 0 in the order of the file; nodes, which are the instructions of all templates with
+/// references expanded in place, from 0 in preorder.
 #[derive(Debug, Drop)]
 pub struct Templates {
     pub(crate) templates: Vec<Template>,

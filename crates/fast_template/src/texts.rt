@@ -1,4 +1,4 @@
-//! Which dictionary entries can have texts.
+//! Which dictionary entries can hold strings or byte vectors.
 
 ghost use Rattle.std.specs.Prelude.{◌↔◌, Any, IsTrue};
 ghost use Rattle.fast_template.specs.meaning.Flat.{nodes_of, tree_of};
@@ -9,7 +9,7 @@ use crate::sets::Templates;
 use fast_tree::{FieldInstruction, Node, Shape};
 use fast_value::Kind;
 
-/// Whether a field has texts under this entry.
+/// Returns whether the field is a string or byte vector that uses this entry.
 fn is_text_under(field: &FieldInstruction, entry: u32) -> bool
     ensures { IsTrue result ↔ IsTextUnder entry (field_data field.now) }
 {
@@ -22,7 +22,7 @@ fn is_text_under(field: &FieldInstruction, entry: u32) -> bool
     }
 }
 
-/// Whether a node is a field that has texts under this entry.
+/// Returns whether the node is a string or byte vector field that uses this entry.
 fn is_text_node(node: &Node, entry: u32) -> bool
     ensures { IsTrue result ↔ IsTextNode entry node.now }
 {
@@ -33,7 +33,8 @@ fn is_text_node(node: &Node, entry: u32) -> bool
 }
 
 impl Templates {
-    /// Whether a dictionary entry can have a text: whether an ASCII, Unicode or byte vector field reads and writes it.
+    /// Returns whether a dictionary entry can hold a string or byte vector: whether an ASCII, Unicode or byte vector field reads and writes
+    /// it.
     pub fn holds_text(&self, entry: u32) -> bool
         ensures nodes { IsTrue result ↔ Any (IsTextNode entry) (nodes_of self.now) }
         ensures tree { IsTrue result ↔ SetHoldsText (tree_of self.now) entry }

@@ -1,7 +1,7 @@
-//! The text of the built-in template set.
+//! The TOML source of the built-in template set.
 
-/// The text of the built-in set: 19 templates, which have fields of each kind and each operator. The streams and messages of the tests are
-/// worked out over it.
+/// The TOML source of the built-in set: 19 templates, which have fields of each type and each operator. The streams and messages of the
+/// tests are encoded with it.
 pub const VECTORS: &str = r#"
 [[template]]
 name = "T1"

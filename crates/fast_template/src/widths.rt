@@ -1,4 +1,4 @@
-//! How many presence bits segments use, counted once when a set is read, and which instructions may be absent.
+//! The number of presence bits that each segment uses, counted once when a set is read, and which instructions are optional.
 
 ghost use Rattle.std.specs.Prelude.{◌≡◌, ◌<◌, ◌^◌, ◌-◌, length, slice_get, Some, IfOk};
 ghost use Rattle.fast_tree.specs.meaning.Tree.{bits_of, message_bits};
@@ -15,8 +15,8 @@ use fast_tree::{Node, Shape, Template};
 use std::alloc::{AllocError, Global};
 
 impl Templates {
-    /// The greatest number of presence bits that a message of a template can use in its own map, the identifier's among
-    /// them.
+    /// Returns the greatest number of presence bits that a message of template `i` can use in its own map, that of the template identifier
+    /// included.
     #[inline]
     pub fn message_bits(&self, i: u32) -> usize
         requires { i < length (templates_of self.now) }
@@ -26,8 +26,8 @@ impl Templates {
         self.message_widths[i as usize]
     }
 
-    /// The greatest number of presence bits that the segment within a node can use: that of a group, or of each element
-    /// of a sequence. 0 for a field.
+    /// Returns the greatest number of presence bits that the segment within node `n` can use: that of a group, or of each element of a
+    /// sequence. It is 0 for a field.
     #[inline]
     pub fn segment_bits(&self, n: u32) -> usize
         requires { n < length (nodes_of self.now) }
@@ -37,7 +37,7 @@ impl Templates {
         self.segment_widths[n as usize]
     }
 
-    /// Whether the instruction of a node may be absent.
+    /// Returns whether the instruction of node `n` is optional.
     pub fn is_optional(&self, n: u32) -> bool
         requires { n < length (nodes_of self.now) }
         ensures { (v : Node) → slice_get (nodes_of self.now) n ≡ Some v → result ≡ may_be_absent v.shape }
@@ -51,7 +51,7 @@ impl Templates {
     }
 }
 
-/// The bits that the segment within each node uses.
+/// Counts the presence bits that the segment within each node uses.
 pub(crate) fn segment_widths_of(alloc: Global, nodes: &[Node]) -> Result<Vec<usize>, AllocError>
     requires { NameLaterNodes nodes.now }
     ensures { IfOk result (λ widths. AreNodeWidths nodes.now widths.items) }
@@ -63,7 +63,7 @@ pub(crate) fn segment_widths_of(alloc: Global, nodes: &[Node]) -> Result<Vec<usi
     Ok(widths)
 }
 
-/// The bits that a message of each template uses.
+/// Counts the presence bits that a message of each template uses.
 pub(crate) fn message_widths_of(
     alloc: Global,
     templates: &[Template],
@@ -79,7 +79,7 @@ pub(crate) fn message_widths_of(
     Ok(widths)
 }
 
-/// The bits that the segment of these nodes uses.
+/// Counts the presence bits that the segment of these nodes uses.
 fn body_bits(nodes: &[Node], body: &[u32]) -> usize
     requires within { AreBelow (length nodes.now) body.now }
     requires short { length body.now < 2 ^ 63 }
@@ -93,7 +93,7 @@ fn body_bits(nodes: &[Node], body: &[u32]) -> usize
     bits
 }
 
-/// The nodes of the segment within a group or a sequence.
+/// Returns the nodes of the segment within a group or a sequence.
 fn body_of(node: &Node) -> &[u32]
     ensures numbers { result.now ≡ numbers_of node.now.shape }
     ensures short { length result.now < 2 ^ 63 }
