@@ -1,10 +1,10 @@
-//! What can be wrong with a stream.
+//! The error codes of a stream.
 
 use std::error::Error;
 use std::fmt;
 
-/// What is wrong with a stream. Codes that begin with D or R are those that the FAST Specification Version 1.1 lists as
-/// dynamic and reportable errors; codes that begin with L are limits of this decoder.
+/// The error of a stream. Codes that begin with D or R are those that the FAST Specification Version 1.1 lists as dynamic and reportable
+/// errors; codes that begin with L are limits of this decoder.
 #[derive(Clone, Copy, Debug, PartialEq, Eq)]
 pub enum Code {
     /// An integer lies outside its type, or has ten bytes and no stop bit.
@@ -31,7 +31,7 @@ pub enum Code {
     R8,
     /// An ASCII string begins with a zero character.
     R9,
-    /// A text is longer than `max_text`.
+    /// A string or byte vector is longer than `max_text`.
     L1,
     /// A sequence has more elements than `max_elements`.
     L2,
@@ -45,7 +45,7 @@ impl Code {
     ghost use Rattle.std.specs.Prelude.{◌≡◌};
     ghost use Rattle.fast_value.specs.meaning.Codes.{stream_code_number, stream_code_text};
 
-    /// The number of the code, for a caller that cannot be handed an enum. It is never given to another code.
+    /// Returns the number of the code, for callers that cannot be passed an enum. A number is never reused for another code.
     pub fn number(self) -> u8
         ensures { result ≡ stream_code_number self }
     {
@@ -69,7 +69,7 @@ impl Code {
         }
     }
 
-    /// The name of the code: `D2`, where `Display` says in words what is wrong.
+    /// Returns the name of the code, such as `D2`; `Display` writes a description.
     pub fn name(self) -> &'static str
         ensures { result.now ≡ stream_code_text self }
     {

@@ -1,4 +1,4 @@
-//! Initial values, as they stand in the text of a template set.
+//! Initial values, as they are written in a template file.
 
 ghost use Rattle.std.specs.Prelude.{◌≡◌, ◌≢◌, ◌<◌, ◌^◌, ℤ, pos, List, ℕ, length, slice_index, IfSome, IfNone, IfOk, Err};
 ghost use Rattle.fast_value.specs.meaning.Initial.{IsNumeral, IsInteger, digits_value, IsDecimal, IsInitial, IsHex};
@@ -13,12 +13,12 @@ use std::alloc::{AllocError, Global};
 use std::error::Error;
 use std::fmt;
 
-/// Why a text gives no initial value.
+/// The reason why a string is no initial value.
 #[derive(Clone, Copy, Debug, PartialEq, Eq)]
 pub enum InitialFault {
-    /// The text is no value of the kind.
+    /// The string is no value of the type.
     S3,
-    /// There was no memory left.
+    /// An allocation failed.
     Memory,
 }
 
@@ -44,7 +44,7 @@ impl From<AllocError> for InitialFault {
     }
 }
 
-/// The number that 1 to 20 decimal digits stand for.
+/// Returns the number that 1 to 20 decimal digits stand for.
 fn parse_digits(digits: &[u8]) -> Option<u128>
     ensures number { IfSome result (λ n. IsNumeral digits.now × (n ≡ digits_value digits.now)) }
     ensures small { IfSome result (λ n. n < 10 ^ 20) }
@@ -63,7 +63,7 @@ fn parse_digits(digits: &[u8]) -> Option<u128>
     Some(number)
 }
 
-/// The integer that 1 to 20 decimal digits stand for, perhaps behind a minus.
+/// Returns the integer that 1 to 20 decimal digits stand for, with an optional minus in front.
 fn parse_signed(text: &[u8]) -> Option<i128>
     ensures integer { IfSome result (λ x. IsSigned text.now x) }
     ensures none { IfNone result ((x : ℤ) → ¬ (IsSigned text.now x)) }
@@ -81,7 +81,7 @@ fn parse_signed(text: &[u8]) -> Option<i128>
     }
 }
 
-/// The integer, where it lies within the bounds.
+/// Returns the integer if it lies within the bounds.
 fn parse_within(text: &[u8], low: i128, high: i128) -> Option<i128>
     ensures integer { IfSome result (λ x. IsInteger (range_between low high) text.now x) }
     ensures none { IfNone result ((x : ℤ) → ¬ (IsInteger (range_between low high) text.now x)) }
@@ -92,7 +92,7 @@ fn parse_within(text: &[u8], low: i128, high: i128) -> Option<i128>
     }
 }
 
-/// An integer of 64 bits with a sign.
+/// Returns a signed integer of 64 bits.
 fn parse_int64(text: &[u8]) -> Option<i64>
     ensures integer { IfSome result (λ x. IsInteger (signed_range 63) text.now x) }
     ensures none { IfNone result ((x : ℤ) → ¬ (IsInteger (signed_range 63) text.now x)) }
@@ -103,7 +103,7 @@ fn parse_int64(text: &[u8]) -> Option<i64>
     }
 }
 
-/// An exponent of ten, -63 to 63.
+/// Returns an exponent of ten, -63 to 63.
 fn parse_exponent(text: &[u8]) -> Option<i32>
     ensures integer { IfSome result (λ x. IsInteger exponent_range text.now x) }
     ensures none { IfNone result ((x : ℤ) → ¬ (IsInteger exponent_range text.now x)) }
@@ -114,7 +114,7 @@ fn parse_exponent(text: &[u8]) -> Option<i32>
     }
 }
 
-/// Where the first `e` stands.
+/// Returns the offset of the first `e`.
 fn find_e(text: &[u8]) -> Option<usize>
     ensures found { IfSome result (λ k. (k < length text.now) × (slice_index text.now k ≡ 0x65)) }
     ensures before { IfSome result (λ k. (j : ℕ) → j < k → slice_index text.now j ≢ 0x65) }
@@ -123,7 +123,7 @@ fn find_e(text: &[u8]) -> Option<usize>
     text.iter().position(|b| *b == b'e')
 }
 
-/// A mantissa, or one with `e` and an exponent behind it: the exponent, then the mantissa.
+/// Returns the exponent and the mantissa of a decimal: a mantissa alone, or followed by `e` and an exponent.
 fn parse_decimal(text: &[u8]) -> Option<(i32, i64)>
     ensures decimal { IfSome result (λ d. IsDecimal text.now d.0 d.1) }
     ensures none { IfNone result ((e m : ℤ) → ¬ (IsDecimal text.now e m)) }
@@ -143,7 +143,7 @@ fn parse_decimal(text: &[u8]) -> Option<(i32, i64)>
     }
 }
 
-/// Bytes by pairs of hexadecimal digits.
+/// Decodes bytes from pairs of hexadecimal digits.
 fn parse_bytes(alloc: Global, text: &[u8]) -> Result<Vec<u8>, InitialFault>
     ensures bytes { IfOk result (λ v. IsHex text.now v.items) }
     ensures none { result ≡ Err InitialFault.S3 → (w : List ℕ) → ¬ (IsHex text.now w) }
@@ -157,7 +157,7 @@ fn parse_bytes(alloc: Global, text: &[u8]) -> Result<Vec<u8>, InitialFault>
     }
 }
 
-/// The integer of a kind without sign.
+/// Returns the integer of an unsigned type whose greatest value is `high`. It is S3 if there is none.
 fn parse_unsigned(text: &[u8], high: u64) -> Result<Value, InitialFault>
     ensures value { IfOk result (λ v. (n : ℕ) × IsInteger (range_between (pos 0) (pos high)) text.now (pos n)
         × (value_data v ≡ U n)) }
@@ -170,7 +170,7 @@ fn parse_unsigned(text: &[u8], high: u64) -> Result<Value, InitialFault>
     }
 }
 
-/// The integer of a kind with a sign.
+/// Returns the integer of a signed type with values from `low` to `high`. It is S3 if there is none.
 fn parse_integer(text: &[u8], low: i64, high: i64) -> Result<Value, InitialFault>
     ensures value { IfOk result (λ v. (x : ℤ) × IsInteger (range_between low high) text.now x × (value_data v ≡ I x)) }
     ensures none { result ≡ Err InitialFault.S3 → (x : ℤ) → ¬ (IsInteger (range_between low high) text.now x) }
@@ -181,9 +181,9 @@ fn parse_integer(text: &[u8], low: i64, high: i64) -> Result<Value, InitialFault
     }
 }
 
-/// The value that an initial value of a kind stands for: 1 to 20 digits, perhaps behind a minus, for an integer; such an
-/// integer, perhaps with `e` and an exponent of -63 to 63 behind it, for a decimal; the text itself for strings, of
-/// characters below U+0080 for ASCII; pairs of hexadecimal digits for bytes. It is S3 where there is none.
+/// Returns the value that a string gives as the initial value of a field of this type: 1 to 20 digits, with an optional minus in front, for
+/// an integer; such an integer, optionally followed by `e` and an exponent of -63 to 63, for a decimal; the string itself for a string, of
+/// characters below U+0080 for ASCII; pairs of hexadecimal digits for a byte vector. It is S3 if there is none.
 pub fn parse_initial(alloc: Global, kind: Kind, text: &str) -> Result<Value, InitialFault>
     ensures value { IfOk result (λ v. IsInitial kind text.now (value_data v)) }
     ensures none { result ≡ Err InitialFault.S3 → (v : ScalarData) → ¬ (IsInitial kind text.now v) }

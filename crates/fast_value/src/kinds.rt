@@ -1,4 +1,4 @@
-//! The kinds of fields.
+//! The types of fields.
 
 /// The primitive types of FAST 1.1 (Template Definition, Primitive Field Types).
 #[derive(Clone, Copy, Debug, PartialEq, Eq)]

@@ -1,4 +1,4 @@
-//! Values, kinds of values, messages and limits of FAST streams.
+//! Values, types of values, messages and limits of FAST streams.
 #![tactic(auto)]
 
 pub mod codes;

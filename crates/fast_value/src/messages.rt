@@ -2,7 +2,7 @@
 
 use crate::values::Value;
 
-/// A message: its template, and what its instructions hold.
+/// A message: its template, and the values of its instructions.
 #[derive(Debug, Drop, PartialEq)]
 pub struct Message {
     /// The number of the template in its set, from 0.
@@ -11,7 +11,7 @@ pub struct Message {
     pub items: Vec<Option<Item>>,
 }
 
-/// What one slot of a message holds.
+/// The contents of one slot of a message.
 #[derive(Debug, Drop, PartialEq)]
 pub enum Item {
     /// The value of a field.

@@ -1,17 +1,17 @@
-//! What a decoder or an encoder is asked to keep to.
+//! The mode and the limits of a decoder or an encoder.
 
-/// The least length, in bytes, that texts may be limited to.
+/// The least value of `max_text`, in bytes.
 pub const MIN_TEXT: usize = 16;
 
-/// The greatest length, in bytes, that texts may be limited to.
+/// The greatest value of `max_text`, in bytes.
 pub const MAX_TEXT: usize = 1_048_576;
 
 /// The mode and the limits of a decoder or an encoder.
 #[derive(Clone, Copy, Debug, PartialEq, Eq)]
 pub struct Limits {
-    /// Whether an encoding that is longer than it needs to be is a fault (R6, R7, R8).
+    /// If set, an encoding that is longer than it needs to be is a fault (R6, R7, R8).
     pub strict: bool,
-    /// The greatest length of a text, in bytes: `MIN_TEXT` to `MAX_TEXT`.
+    /// The greatest length of a string or byte vector, in bytes: `MIN_TEXT` to `MAX_TEXT`.
     pub max_text: usize,
     /// The most elements of one sequence.
     pub max_elements: u32,
@@ -25,7 +25,7 @@ impl Default for Limits {
 
     ghost is_default = { λ limits. limits ≡ default_limits };
 
-    /// Lenient mode, texts of at most 1,024 bytes, and at most 1,000 elements in a sequence and in a message.
+    /// Returns lenient mode, strings and byte vectors of at most 1,024 bytes, and at most 1,000 elements in a sequence and in a message.
     fn default() -> Limits {
         Limits {
             strict: false,

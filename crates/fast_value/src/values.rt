@@ -1,8 +1,8 @@
-//! The values of fields, lent and owned.
+//! The values of fields, borrowed and owned.
 
 use std::alloc::{AllocError, Global};
 
-/// A value of a field, as it is lent to a sink.
+/// A value of a field, borrowed by a sink for one call.
 #[derive(Clone, Copy, Debug, PartialEq, Eq)]
 pub enum Scalar<'a> {
     /// An unsigned integer.
@@ -24,7 +24,7 @@ pub enum Scalar<'a> {
     Bytes(&'a [u8]),
 }
 
-/// A value of a field, in memory of its own.
+/// A value of a field that owns its bytes.
 #[derive(Debug, Drop, PartialEq)]
 pub enum Value {
     /// An unsigned integer.
@@ -50,7 +50,7 @@ impl Value {
     ghost use Rattle.std.specs.Prelude.{◌≡◌, IfOk};
     ghost use Rattle.fast_value.specs.meaning.Values.{scalar_data, value_data};
 
-    /// The same value in memory of its own.
+    /// Copies a borrowed value into memory of its own. Fails only if an allocation fails.
     pub fn copy_of(alloc: Global, scalar: Scalar<'_>) -> Result<Value, AllocError>
         ensures { IfOk result (λ v. value_data v ≡ scalar_data scalar.entry) }
     {
@@ -64,7 +64,7 @@ impl Value {
         }
     }
 
-    /// The same value, lent.
+    /// Borrows the value.
     pub fn as_scalar(&self) -> Scalar<'_>
         ensures { scalar_data result ≡ value_data self.now }
     {
