@@ -1,4 +1,4 @@
-//! What a decoder hands over, and to whom.
+//! The events that a decoder emits, and the sink that receives them.
 
 ghost use Rattle.std.specs.Prelude.{OnOk, OnErr};
 ghost use Rattle.fast_stream.specs.meaning.Handed.{event_data};
@@ -7,7 +7,7 @@ use fast_value::Scalar;
 use std::error::Error;
 use std::fmt;
 
-/// What is handed over of a stream, as soon as the bytes decide it. Absent fields, groups and sequences give no event.
+/// An event of a stream, emitted as soon as the bytes decide it. Absent fields, groups and sequences give no event.
 #[derive(Clone, Copy, Debug, PartialEq, Eq)]
 pub enum Event<'a> {
     /// A message begins: its template identifier is known.
@@ -19,7 +19,7 @@ pub enum Event<'a> {
     Field {
         /// The number of the field's node in its set.
         node: u32,
-        /// The value, which is lent for the call.
+        /// The value, which is borrowed for the call.
         value: Scalar<'a>,
     },
     /// A group begins.
@@ -27,26 +27,26 @@ pub enum Event<'a> {
         /// The number of the group's node in its set.
         node: u32,
     },
-    /// The innermost group is whole.
+    /// The innermost group ends.
     GroupEnd,
     /// A sequence begins.
     SequenceStart {
         /// The number of the sequence's node in its set.
         node: u32,
-        /// How many elements follow.
+        /// The number of elements that follow.
         count: u32,
     },
     /// An element of the innermost sequence begins.
     ElementStart,
-    /// An element of the innermost sequence is whole.
+    /// An element of the innermost sequence ends.
     ElementEnd,
-    /// The innermost sequence is whole.
+    /// The innermost sequence ends.
     SequenceEnd,
-    /// The message is whole.
+    /// The message ends.
     MessageEnd,
 }
 
-/// A sink takes no more events.
+/// A sink's refusal of an event: it receives no more of them.
 #[derive(Clone, Copy, Debug, PartialEq, Eq)]
 pub struct Stop;
 
@@ -58,16 +58,16 @@ impl fmt::Display for Stop {
 
 impl Error for Stop {}
 
-/// Takes events, one after the other.
+/// Receives events, one after the other.
 pub trait Sink {
     ghost use Rattle.fast_stream.specs.meaning.Events.{EventData};
 
-    // The old sink, an event and the new sink, where the event is taken, and where the sink stops at it.
+    // The old sink, an event and the new sink: if the sink accepts the event, and if it stops at it.
     ghost takes: { Self → EventData → Self → Type 0 };
 
     ghost stops: { Self → EventData → Self → Type 0 };
 
-    /// Takes an event, or stops. A sink that has stopped is not called again.
+    /// Receives an event, and returns `Err(Stop)` to stop. A sink that has stopped is not called again.
     fn take(&mut self, event: Event<'_>) -> Result<(), Stop>
         ensures takes { OnOk result (takes self.old (event_data event.entry) self.new) }
         ensures stops { OnErr result (stops self.old (event_data event.entry) self.new) };

@@ -1,16 +1,15 @@
-//! Why a decoder stops, and why none is made.
+//! The reasons why a decoder stops, and why none is made.
 
 use fast_value::Code;
 use std::error::Error;
 use std::fmt;
 
-/// Why a decoder stopped.
+/// The reason why a decoder stopped.
 #[derive(Clone, Copy, Debug, PartialEq, Eq)]
 pub enum FaultCode {
     /// The stream is at fault.
     Stream(Code),
-    /// The bytes of a stream are more than can be counted: the bytes consumed and the piece together pass 2^64 - 1. Nothing
-    /// of the piece is read.
+    /// The bytes of a stream exceed the counter: the bytes consumed and the piece together pass 2^64 - 1. Nothing of the piece is read.
     L4,
     /// The sink stopped.
     SinkStopped,
@@ -20,7 +19,7 @@ impl FaultCode {
     ghost use Rattle.std.specs.Prelude.{◌≡◌};
     ghost use Rattle.fast_stream.specs.meaning.FaultCodes.{code_number, code_text};
 
-    /// The number of the code, for a caller that cannot be handed an enum. It is never given to another code.
+    /// Returns the number of the code, for callers that cannot be passed an enum. A number is never reused for another code.
     pub fn number(self) -> u8
         ensures { result ≡ code_number self }
     {
@@ -31,7 +30,7 @@ impl FaultCode {
         }
     }
 
-    /// The name of the code: `D2`, where `Display` says in words what is wrong.
+    /// Returns the name of the code, such as `D2`; `Display` writes a description.
     pub fn name(self) -> &'static str
         ensures { result.now ≡ code_text self }
     {
@@ -55,12 +54,12 @@ impl fmt::Display for FaultCode {
 
 impl Error for FaultCode {}
 
-/// Why and where a decoder stopped.
+/// A fault of a stream: why and where a decoder stopped.
 #[derive(Clone, Copy, Debug, PartialEq, Eq)]
 pub struct Fault {
-    /// What was wrong.
+    /// The reason.
     pub code: FaultCode,
-    /// The number of bytes of the stream that were consumed when it was decided.
+    /// The byte offset: the number of bytes of the stream that were consumed when the fault was decided.
     pub place: u64,
 }
 
@@ -73,14 +72,14 @@ impl fmt::Display for Fault {
 
 impl Error for Fault {}
 
-/// Why no decoder is made.
+/// The reason why no decoder is made.
 #[derive(Clone, Copy, Debug, PartialEq, Eq)]
 pub enum MakeError {
     /// `max_text` is not one of 16 to 1,048,576.
     BadLimits,
-    /// A field has an initial value that is a text longer than `max_text`.
+    /// A field has an initial value, a string or byte vector, that is longer than `max_text`.
     InitialTooLong,
-    /// There is no memory.
+    /// An allocation failed.
     Memory,
 }
 
@@ -88,7 +87,7 @@ impl MakeError {
     ghost use Rattle.std.specs.Prelude.{◌≡◌};
     ghost use Rattle.fast_stream.specs.meaning.FaultCodes.{cause_number};
 
-    /// The number of the cause, for a caller that cannot be handed an enum. It is never given to another cause.
+    /// Returns the number of the cause, for callers that cannot be passed an enum. A number is never reused for another cause.
     pub fn number(self) -> u8
         ensures { result ≡ cause_number self }
     {

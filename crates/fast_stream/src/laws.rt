@@ -1,4 +1,4 @@
-//! Laws of streams: which bytes spell which messages, where a fault is decided, and what is handed over. They speak of the
+//! Laws of streams: which bytes encode which messages, where a fault is decided, and which events are emitted. They speak of the
 //! definitions alone, over all template sets, limits and bytes.
 
 ghost use Rattle.std.specs.Prelude.{true, ◌++◌, ◌≡◌, ◌≤◌, ◌+◌, ◌*◌, ℕ, List, length, map, max, min};
@@ -16,19 +16,19 @@ ghost use Rattle.fast_stream.specs.meaning.Streams.{Stream, Chain, End, between,
 ghost use Rattle.fast_stream.specs.meaning.Begins.{Begins, joined};
 ghost use Rattle.fast_stream.specs.device.Running.{reading, run, message_begun, end_of};
 
-/// A stream has at most one answer: the same events, and the same end.
+/// A stream has at most one meaning: the same events, and the same end.
 pub fn one_answer()
     ensures { (t : Tree) (l : Limits) (w : List ℕ) (es fs : List EventData) (e f : End) → Stream t l w es e
         → Stream t l w fs f → (es ≡ fs) × (e ≡ f) }
 {}
 
-/// Each stream of bytes has an answer.
+/// Each stream of bytes has a meaning.
 pub fn some_answer()
     ensures { (t : Tree) (l : Limits) (w : List ℕ) → AreBytes w
         → (es : List EventData) × (e : End) × Stream t l w es e }
 {}
 
-/// What is read from bytes, one after the other, is their stream.
+/// The result of reading bytes, one after the other, is their stream.
 pub fn reading_is_the_stream()
     ensures { (t : Tree) (l : Limits) (w : List ℕ) → AreBytes w
         → Stream t l w (reading t l w).0 (end_of (reading t l w).1) }
@@ -41,39 +41,39 @@ pub fn reading_in_pieces()
         × ((reading t l (w ++ v)).1 ≡ (run (message_begun t l) (length w) (reading t l w).1 v).1) }
 {}
 
-/// What a whole message hands over is the events of the message.
+/// The events that a complete message emits are the events of the message.
 pub fn message_events()
     ensures { (t : Tree) (l : Limits) (d : Dictionary) (w : List ℕ) (es : List EventData) (r : MessageData × Dictionary)
         → message t l d w es (whole r) → es ≡ events t r.0 }
 {}
 
-/// Lenient mode takes what strict mode takes: bytes that spell a message there spell it here too.
+/// Lenient mode accepts all that strict mode accepts: bytes that encode a message in strict mode encode it in lenient mode too.
 pub fn strict_is_lenient()
     ensures { (t : Tree) (l : Limits) (d : Dictionary) (m : MessageData) (w : List ℕ) (d' : Dictionary)
         → SpellsMessage t (in_mode true l) d m w d' → SpellsMessage t l d m w d' }
 {}
 
-/// A chain of messages, and one more that is spelled in strict mode, are a stream between messages and a chain, in both modes.
+/// A chain of messages, followed by one that is encoded in strict mode, is a stream between messages and a chain, in both modes.
 pub fn read_back()
     ensures { (t : Tree) (l : Limits) (w v : List ℕ) (es : List EventData) (m : MessageData) (d d' : Dictionary)
         → Chain t l w es d → SpellsMessage t (in_mode true l) d m v d'
         → Stream t l (w ++ v) (es ++ events t m) between × Chain t l (w ++ v) (es ++ events t m) d' }
 {}
 
-/// A message that was begun hands over no more events than the cap of the set, whether it is whole, cut short or at fault.
+/// A message that has begun emits no more events than the cap of the set, whether it is complete, truncated or at fault.
 pub fn message_bound()
     ensures { (t : Tree) (l : Limits) (d : Dictionary) (w : List ℕ) (es : List EventData)
         (r : Reached (MessageData × Dictionary)) → message t l d w es r → length es ≤ message_cap t l }
 {}
 
-/// A stream hands over no more events than its bytes times the cap of the set.
+/// A stream emits no more events than its bytes times the cap of the set.
 pub fn events_bound()
     ensures { (t : Tree) (l : Limits) (w : List ℕ) (es : List EventData) (e : End) → Stream t l w es e
         → length es ≤ length w * message_cap t l }
 {}
 
-/// Each stream begins a number of messages: whole ones, and then perhaps one that is cut short or wrong. It hands over no more
-/// events than the cap of the set for each.
+/// Each stream begins a number of messages: complete ones, and then perhaps one that is truncated or wrong. It emits no more events than
+/// the cap of the set for each.
 pub fn begun_bound()
     ensures some { (t : Tree) (l : Limits) (w : List ℕ) (es : List EventData) (e : End) → Stream t l w es e
         → (n : ℕ) × Begins t l w e n }

@@ -1,4 +1,4 @@
-//! What a FAST stream means: events, the relation between bytes and events, and its laws.
+//! The meaning of a FAST stream: events, the relation between bytes and events, and its laws.
 #![tactic(auto)]
 
 pub mod events;
