@@ -32,8 +32,8 @@ pub enum StoreCommand<'a> {
     ResetAll,
 }
 
-/// Carries the commands out in order, up to the first one that wants memory which is refused, and answers how many were
-/// carried out. Each command meets the conditions of its call.
+/// Carries the commands out in order, up to the first one whose allocation fails, and returns the number carried out. Each command meets
+/// the conditions of its call.
 pub fn run<D: Store>(store: &mut D, commands: &[StoreCommand<'_>]) -> usize
     requires { All (IsRunnable (D.terms store.old) (length (D.dictionary store.old))) (map command_data commands.now) }
     ensures count { result ≤ length commands.now }
@@ -51,7 +51,7 @@ pub fn run<D: Store>(store: &mut D, commands: &[StoreCommand<'_>]) -> usize
     commands.len()
 }
 
-/// Whether [`run`] can be called: each command meets the conditions of its call.
+/// Returns whether [`run`] can be called: each command meets the conditions of its call.
 pub fn can_run<D: Store>(store: &D, commands: &[StoreCommand<'_>]) -> bool
     ensures { IsTrue result
         ↔ All (IsRunnable (D.terms store.now) (length (D.dictionary store.now))) (map command_data commands.now) }
@@ -64,7 +64,7 @@ pub fn can_run<D: Store>(store: &D, commands: &[StoreCommand<'_>]) -> bool
     true
 }
 
-/// Whether the command meets the conditions of its call.
+/// Returns whether the command meets the conditions of its call.
 fn is_runnable<D: Store>(store: &D, command: StoreCommand<'_>) -> bool
     ensures { IsTrue result
         ↔ IsRunnable (D.terms store.now) (length (D.dictionary store.now)) (command_data command.entry) }
@@ -78,7 +78,7 @@ fn is_runnable<D: Store>(store: &D, command: StoreCommand<'_>) -> bool
     }
 }
 
-/// Whether the value can be put at the entry.
+/// Returns whether the value can be stored at the entry.
 fn is_storable<D: Store>(store: &D, entry: usize, scalar: Scalar<'_>) -> bool
     requires { entry < length (D.dictionary store.now) }
     ensures { IsTrue result ↔ IsStorable (D.terms store.now) entry (scalar_data scalar.entry) }

@@ -8,13 +8,13 @@ ghost use Rattle.fast_dict.specs.meaning.Entry.{text_length, with_text};
 
 use fast_value::{Kind, Scalar};
 
-/// What an entry holds, but for the bytes of a text, which stand in a slot of their own. A value of the field's own type
-/// has a variant for the type, so that one look at the variant tells undefined, empty, another type and the value.
+/// The contents of an entry, except the bytes of a string, which lie in a slot of their own. A value of the field's own type has a variant
+/// for the type, so that one look at the variant distinguishes undefined, empty, another type and the value.
 #[derive(Clone, Copy, Debug)]
 pub enum Entry {
-    /// Nothing has been kept since the entry was reset.
+    /// Nothing has been stored since the entry was reset.
     Undefined,
-    /// The field that was kept last was absent.
+    /// The field that was stored last was absent.
     Empty,
     /// A number under [`Kind::UInt32`].
     UInt32(u64),
@@ -26,28 +26,28 @@ pub enum Entry {
     Int64(i64),
     /// A decimal under [`Kind::Decimal`]: exponent and mantissa.
     Decimal(i32, i64),
-    /// The length of a text under [`Kind::Ascii`].
+    /// The length of a string under [`Kind::Ascii`].
     Ascii(usize),
-    /// The length of a text under [`Kind::Unicode`].
+    /// The length of a string under [`Kind::Unicode`].
     Unicode(usize),
-    /// The length of a text under [`Kind::Bytes`].
+    /// The length of a byte vector under [`Kind::Bytes`].
     Bytes(usize),
-    /// An unsigned number under a kind of other values.
+    /// An unsigned number under a type of other values.
     OtherUnsigned(Kind, u64),
-    /// A signed number under a kind of other values.
+    /// A signed number under a type of other values.
     OtherSigned(Kind, i64),
-    /// A decimal under a kind of other values.
+    /// A decimal under a type of other values.
     OtherDecimal(Kind, i32, i64),
-    /// The length of an ASCII text under a kind of other values.
+    /// The length of an ASCII string under a type of other values.
     OtherAscii(Kind, usize),
-    /// The length of a Unicode text under a kind of other values.
+    /// The length of a Unicode string under a type of other values.
     OtherUnicode(Kind, usize),
-    /// The length of a byte vector under a kind of other values.
+    /// The length of a byte vector under a type of other values.
     OtherBytes(Kind, usize),
 }
 
 impl Entry {
-    /// The entry of a value under a kind, without the bytes of a text.
+    /// Returns the entry of a value under a type, without the bytes of a string.
     #[inline(always)]
     pub fn of(kind: Kind, scalar: Scalar<'_>) -> Entry
         ensures value { with_text result (text_of (scalar_data scalar.entry))
@@ -73,7 +73,7 @@ impl Entry {
         }
     }
 
-    /// Changes the entry to another one. Where both hold an integer under the same kind, the number alone is written.
+    /// Changes the entry to another one. If both hold an integer under the same type, only the number is written.
     #[inline(always)]
     pub(crate) fn change(&mut self, to: Entry)
         ensures { self.new ≡ to }
@@ -87,7 +87,7 @@ impl Entry {
         }
     }
 
-    /// The entry of an unsigned number under a kind.
+    /// Returns the entry of an unsigned number under a type.
     #[inline(always)]
     pub fn of_unsigned(kind: Kind, number: u64) -> Entry
         ensures value { with_text result [] ≡ assigned kind (U number) }
@@ -100,7 +100,7 @@ impl Entry {
         }
     }
 
-    /// The entry of a signed number under a kind.
+    /// Returns the entry of a signed number under a type.
     #[inline(always)]
     pub fn of_signed(kind: Kind, number: i64) -> Entry
         ensures value { with_text result [] ≡ assigned kind (I number) }
@@ -113,7 +113,7 @@ impl Entry {
         }
     }
 
-    /// The entry of a decimal under a kind.
+    /// Returns the entry of a decimal under a type.
     #[inline(always)]
     pub fn of_decimal(kind: Kind, exponent: i32, mantissa: i64) -> Entry
         ensures value { with_text result [] ≡ assigned kind (Dec exponent mantissa) }

@@ -10,19 +10,19 @@ use crate::previous::Previous;
 use fast_value::{Kind, Scalar, Value};
 use std::alloc::{AllocError, Global};
 
-/// What an entry holds, with a text in memory of its own.
+/// The contents of an entry, which owns the bytes of its string.
 #[derive(Debug, Drop)]
 pub enum Held {
-    /// Nothing has been kept since the entry was reset.
+    /// Nothing has been stored since the entry was reset.
     Undefined,
-    /// The field that was kept last was absent.
+    /// The field that was stored last was absent.
     Empty,
-    /// The value that was kept last, and the type of the field that kept it.
+    /// The value that was stored last, and the type of the field that stored it.
     Assigned(Kind, Value),
 }
 
 impl Held {
-    /// The same, with a text lent.
+    /// Borrows the contents of the entry.
     pub fn as_previous(&self) -> Previous<'_>
         ensures { previous_data result ≡ held_data self.now }
     {
@@ -33,7 +33,7 @@ impl Held {
         }
     }
 
-    /// The same, with a text in memory of its own.
+    /// Copies the entry, with its string in memory of its own.
     pub fn copy(&self, alloc: Global) -> Result<Held, AllocError>
         ensures { IfOk result (λ h. held_data h ≡ held_data self.now) }
     {
@@ -47,7 +47,7 @@ impl Held {
     }
 }
 
-/// The value, with a text in memory of its own. Only a text wants memory.
+/// Copies a value, with its string in memory of its own. Only a string allocates.
 pub fn owned(alloc: Global, scalar: Scalar<'_>) -> Result<Value, AllocError>
     ensures value { IfOk result (λ v. value_data v ≡ scalar_data scalar.entry) }
     ensures text { OnErr result (IsText (scalar_data scalar.entry)) }

@@ -10,8 +10,7 @@ use crate::store::Store;
 use fast_value::{Kind, Scalar};
 use std::alloc::{AllocError, Global};
 
-/// A [`Store`] in which each text has memory of its own, so that a [`Store::set`] of a text takes memory. Any entry takes
-/// a text.
+/// A [`Store`] in which each string has memory of its own, so that a [`Store::set`] of a string allocates. Any entry can hold a string.
 #[derive(Debug, Drop)]
 pub struct Lists {
     entries: Vec<Held>,
@@ -24,11 +23,11 @@ impl Lists {
     ghost use Rattle.fast_dict.specs.meaning.Dictionary.{fresh};
     ghost use Rattle.fast_dict.specs.meaning.Lists.{lists_dictionary, lists_terms};
 
-    /// A dictionary of so many entries, all undefined, for texts of at most `max_text` bytes.
+    /// Makes a dictionary of `entries` entries, all undefined, for strings of at most `max_text` bytes.
     ///
     /// # Errors
     ///
-    /// Memory was refused.
+    /// An allocation failed.
     pub fn new(alloc: Global, entries: usize, max_text: usize) -> Result<Lists, AllocError>
         ensures entries { IfOk result (λ s. lists_dictionary s ≡ fresh entries) }
         ensures max_text { IfOk result (λ s. (lists_terms s).max_text ≡ max_text) }
@@ -39,11 +38,11 @@ impl Lists {
         })
     }
 
-    /// A dictionary that is equal to this one.
+    /// Copies the dictionary.
     ///
     /// # Errors
     ///
-    /// Memory was refused.
+    /// An allocation failed.
     pub fn copy(&self) -> Result<Lists, AllocError>
         ensures entries { IfOk result (λ s. lists_dictionary s ≡ lists_dictionary self.now) }
         ensures terms { IfOk result (λ s. lists_terms s ≡ lists_terms self.now) }
@@ -108,7 +107,7 @@ impl Store for Lists {
     }
 }
 
-/// So many entries, all undefined.
+/// Returns `count` entries, all undefined.
 fn undefined_entries(alloc: Global, count: usize) -> Result<Vec<Held>, AllocError>
     ensures { IfOk result (λ v. v.items ≡ replicate count Undefined) }
 {
@@ -119,7 +118,7 @@ fn undefined_entries(alloc: Global, count: usize) -> Result<Vec<Held>, AllocErro
     Ok(entries)
 }
 
-/// The same entries, with texts in memory of their own.
+/// Copies entries, with strings in memory of their own.
 fn copied_entries(alloc: Global, entries: &[Held]) -> Result<Vec<Held>, AllocError>
     ensures { IfOk result (λ v. map held_data v.items ≡ map held_data entries.now) }
 {

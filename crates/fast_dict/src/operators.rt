@@ -1,7 +1,7 @@
-//! The field operators, as functions of an instruction, a previous value and what was sent (FAST 1.1, Field Operators).
+//! The field operators, as functions of an instruction, a previous value and the value sent (FAST 1.1, Field Operators).
 //!
-//! A function answers the value of the field and what the entry holds next, or the first fault that is decided there.
-//! None of them takes memory: a value that is a text is lent by the entry, by the instruction or by the caller.
+//! A function returns the value of the field and the next contents of the entry, or the first fault that is decided there. None of them
+//! allocates: a string is borrowed from the entry, the instruction or the caller.
 
 pub mod decimals;
 pub mod integers;
@@ -26,17 +26,17 @@ pub use table::{Sent, checked, decide, needs_join, received, replaced};
 pub use texts::{Kept, checked_text, is_utf8, joined, sized, subtract, tail_base, tail_keeps};
 pub use unsent::{Left, leave, null_empties};
 
-/// What an operator gives.
+/// The result of an operator.
 #[derive(Clone, Copy, Debug)]
 pub struct Outcome<'a> {
     /// The value of the field, `None` if it is absent.
     pub value: Option<Scalar<'a>>,
-    /// What the entry holds next. Without an entry it is as it was.
+    /// The next contents of the entry. Without an entry it is unchanged.
     pub next: Previous<'a>,
 }
 
 impl<'a> Outcome<'a> {
-    /// The value, which the entry then holds.
+    /// Returns the value, which the entry then holds.
     #[inline]
     pub fn kept(kind: Kind, value: Scalar<'a>) -> Outcome<'a>
         ensures { Ok (outcome_data result) ≡ keeps kind (scalar_data value.entry) }
@@ -47,7 +47,7 @@ impl<'a> Outcome<'a> {
         }
     }
 
-    /// The value, and the entry as it was.
+    /// Returns the value, with the entry unchanged.
     #[inline]
     pub fn given(value: Scalar<'a>, previous: Previous<'a>) -> Outcome<'a>
         ensures { Ok (outcome_data result) ≡ gives (scalar_data value.entry) (previous_data previous.entry) }
@@ -58,7 +58,7 @@ impl<'a> Outcome<'a> {
         }
     }
 
-    /// Absent, and what the entry holds next.
+    /// Returns absence, with the next contents of the entry.
     #[inline]
     pub fn absent(next: Previous<'a>) -> Outcome<'a>
         ensures { Ok (outcome_data result) ≡ gives_none (previous_data next.entry) }
@@ -67,7 +67,7 @@ impl<'a> Outcome<'a> {
     }
 }
 
-/// The initial value of an instruction, lent.
+/// Borrows the initial value of an instruction.
 #[inline]
 pub fn initial_value(field: &FieldInstruction) -> Option<Scalar<'_>>
     ensures { option_map scalar_data result ≡ (field_data field.now).initial }
@@ -78,7 +78,7 @@ pub fn initial_value(field: &FieldInstruction) -> Option<Scalar<'_>>
     }
 }
 
-/// The base of a delta: the previous value, or without one the initial value, or else 0 or the empty text.
+/// Returns the base of a delta: the previous value, or without one the initial value, or else 0 or the empty string.
 ///
 /// # Errors
 ///
@@ -97,7 +97,7 @@ pub fn delta_base<'a>(
     }
 }
 
-/// What a delta or a tail is joined to under an undefined entry.
+/// Returns the base of a delta or a tail under an undefined entry: the initial value, or else 0 or the empty string.
 pub fn start_value(field: &FieldInstruction) -> Scalar<'_>
     ensures { scalar_data result ≡ start_value (field_data field.now) }
 {
@@ -107,7 +107,7 @@ pub fn start_value(field: &FieldInstruction) -> Scalar<'_>
     }
 }
 
-/// The value that counts as 0 or empty in a kind.
+/// Returns the value that counts as 0 or empty in a type.
 fn zero_of(kind: Kind) -> Scalar<'static>
     ensures { scalar_data result ≡ zero_in kind (family kind) }
 {
@@ -124,7 +124,7 @@ fn zero_of(kind: Kind) -> Scalar<'static>
     }
 }
 
-/// The previous value, if it is of the field's type.
+/// Returns the previous value, if it is of the field's type.
 #[inline]
 fn of_kind<'a>(kind: Kind, found: Kind, value: Scalar<'a>) -> Result<Scalar<'a>, Code>
     ensures { scalar_answer result ≡ of_kind kind found (scalar_data value.entry) }

@@ -1,4 +1,4 @@
-//! What an encoder sends for a value.
+//! The content that an encoder sends for a value.
 
 pub mod common;
 pub mod items;
@@ -18,17 +18,17 @@ use fast_tree::FieldInstruction;
 use fast_value::Scalar;
 use items::item_for;
 
-/// What an encoder sends for a field.
+/// The presence bit and the content that an encoder sends for a field.
 #[derive(Clone, Copy, Debug)]
 pub struct Choice<'a> {
-    /// The presence bit, true where the instruction uses none.
+    /// The presence bit, true if the instruction uses none.
     pub bit: bool,
-    /// What stands in the stream.
+    /// The content of the stream.
     pub item: Sent<'a>,
 }
 
-/// What is sent for a value, or for absence, under a previous value: nothing wherever the clear presence bit gives just
-/// that, and else the value, its delta or its tail. `None` where neither will do.
+/// Chooses what is sent for a value, or for absence, under a previous value: nothing if the clear presence bit gives exactly that, and else
+/// the value, its delta or its tail. `None` if neither will do.
 pub fn choose<'a, 'p>(
     field: &'p FieldInstruction,
     previous: Previous<'p>,
@@ -49,7 +49,7 @@ pub fn choose<'a, 'p>(
     Some(Choice { bit: true, item })
 }
 
-/// Whether the clear presence bit gives just this value or absence.
+/// Returns whether the clear presence bit gives exactly this value or absence.
 fn goes_unsent<'p>(
     field: &'p FieldInstruction,
     previous: Previous<'p>,

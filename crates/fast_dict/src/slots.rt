@@ -1,4 +1,4 @@
-//! A dictionary in memory that is taken at once.
+//! A dictionary in memory that is allocated at once.
 
 mod ascii;
 mod texts;
@@ -16,12 +16,12 @@ use crate::store::Store;
 use fast_value::{Kind, Scalar};
 use std::alloc::{AllocError, Global};
 
-/// A [`Store`] that takes all its memory when it is made: one block has a slot of the greatest length for each entry that
-/// takes a text. No later call takes memory, so [`Store::set`] never fails.
+/// A [`Store`] that allocates all its memory when it is made: one block has a slot of the greatest length for each entry that can hold a
+/// string. No later call allocates, so [`Store::set`] never fails.
 #[derive(Debug, Drop)]
 pub struct Slots {
     entries: Vec<Entry>,
-    // where each entry's slot begins in the block, if it has one
+    // the offset of each entry's slot in the block, if it has one
     places: Vec<Option<usize>>,
     block: Vec<u8>,
     max_text: usize,
@@ -41,12 +41,12 @@ impl Slots {
     ghost use Rattle.fast_dict.specs.meaning.Slots.{slots_dictionary, slots_terms, text_in, entry_data};
     ghost use Rattle.fast_dict.specs.declared.entry.Entry.TheVariants.{Undefined};
 
-    /// A dictionary with all entries undefined: as many as there are marks, each of which says whether its entry takes a
-    /// text, of at most `max_text` bytes.
+    /// Makes a dictionary with all entries undefined: one for each mark, which says whether the entry can hold a string, of at most
+    /// `max_text` bytes.
     ///
     /// # Errors
     ///
-    /// Memory was refused.
+    /// An allocation failed.
     pub fn new(alloc: Global, takes_text: &[bool], max_text: usize) -> Result<Slots, AllocError>
         ensures entries { IfOk result (λ s. slots_dictionary s ≡ fresh (length takes_text.now)) }
         ensures texts { IfOk result (λ s. (e : ℕ)
@@ -66,8 +66,8 @@ impl Slots {
         })
     }
 
-    /// The entry without the bytes of a text. One look at the variant tells a number of the field's own type from all
-    /// else, which [`Store::get`] then tells apart.
+    /// Returns the entry without the bytes of a string. One look at the variant distinguishes a number of the field's own type from all
+    /// else, which [`Store::get`] then reads.
     #[inline(always)]
     pub fn held(&self, entry: usize) -> Entry
         requires { entry < length (slots_dictionary self.now) }
@@ -76,8 +76,7 @@ impl Slots {
         self.entry(entry)
     }
 
-    /// Keeps a number at the entry, under the kind that `held` names. Unlike [`Store::set`] it looks neither at the kind
-    /// nor for a text.
+    /// Stores a number at the entry, under the type that `held` names. Unlike [`Store::set`] it checks neither the type nor for a string.
     #[inline(always)]
     pub fn set_number(&mut self, entry: usize, held: Entry)
         requires there { entry < length (slots_dictionary self.old) }
@@ -89,8 +88,7 @@ impl Slots {
         self.put(entry, held);
     }
 
-    /// The same as [`Slots::set_number`], for an entry that holds an integer under the kind: the number alone is written
-    /// then.
+    /// Stores a number as [`Slots::set_number`] does, at an entry that holds an integer under that type: only the number is written.
     #[inline(always)]
     pub fn change_number(&mut self, entry: usize, held: Entry)
         requires there { entry < length (slots_dictionary self.old) }
@@ -102,7 +100,7 @@ impl Slots {
         self.entries[entry].change(held);
     }
 
-    /// The entry without the bytes of its text.
+    /// Returns the entry without the bytes of its string.
     #[inline(always)]
     fn entry(&self, entry: usize) -> Entry
         requires { entry < vec_len self.now.entries }
@@ -112,7 +110,7 @@ impl Slots {
         self.entries[entry]
     }
 
-    /// What the entry holds.
+    /// Returns the contents of the entry.
     #[inline(always)]
     fn previous(&self, entry: usize) -> Previous<'_>
         requires { entry < vec_len self.now.entries }
@@ -156,7 +154,7 @@ impl Slots {
         }
     }
 
-    /// Puts the entry in its place, without the bytes of its text.
+    /// Stores the entry, without the bytes of its string.
     #[inline(always)]
     fn put(&mut self, entry: usize, held: Entry)
         requires there { entry < vec_len self.old.entries }
@@ -169,7 +167,7 @@ impl Slots {
         self.entries[entry] = held;
     }
 
-    /// The text of an entry, which has so many bytes.
+    /// Returns the string of an entry, which has `size` bytes.
     fn text(&self, entry: usize, size: usize) -> &[u8]
         requires there { entry < vec_len self.now.entries }
         requires fits { size ≤ self.now.max_text }
@@ -181,7 +179,7 @@ impl Slots {
         }
     }
 
-    /// Writes a text into the slot of an entry.
+    /// Writes a string into the slot of an entry.
     #[inline(always)]
     fn write_text(&mut self, entry: usize, text: &[u8])
         requires there { entry < vec_len self.old.entries }
@@ -265,7 +263,7 @@ impl Store for Slots {
     }
 }
 
-/// The bytes of a text, none of a number.
+/// Returns the bytes of a string, none of a number.
 #[inline(always)]
 fn bytes_of(scalar: Scalar<'_>) -> &[u8]
     ensures { result.now ≡ text_of (scalar_data scalar.entry) }
@@ -302,7 +300,7 @@ fn clear_others(entries: &mut Vec<Entry>)
     clear(&mut entries[1..]);
 }
 
-/// Where slots of `size` bytes begin, one behind the other, one for each mark that is set.
+/// Returns the offsets of slots of `size` bytes, one after the other, one for each mark that is set.
 fn places_of(alloc: Global, marks: &[bool], size: usize) -> Result<Vec<Option<usize>>, AllocError>
     requires { count_by (λ b. b) marks.now * size < 2 ^ 64 }
     ensures items { IfOk result (λ v. v.items ≡ places_from size 0 marks.now) }
@@ -321,7 +319,7 @@ fn places_of(alloc: Global, marks: &[bool], size: usize) -> Result<Vec<Option<us
     Ok(places)
 }
 
-/// Writes the text into the block at the place.
+/// Writes the string into the block at the offset.
 #[inline(always)]
 fn copy_into(block: &mut Vec<u8>, place: usize, text: &[u8])
     requires { place + length text.now ≤ vec_len block.old }

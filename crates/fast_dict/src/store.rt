@@ -1,4 +1,4 @@
-//! What a dictionary is to those who read and write it.
+//! The trait of dictionaries, for the code that reads and writes them.
 
 ghost use Rattle.std.specs.Prelude.{◌≡◌, ◌<◌, length, IsTrue, OnOk, OnErr};
 ghost use Rattle.fast_value.specs.meaning.Values.{scalar_data};
@@ -10,52 +10,52 @@ use crate::previous::Previous;
 use fast_value::{Kind, Scalar};
 use std::alloc::AllocError;
 
-/// A dictionary: a number of entries, each undefined, empty, or assigned a value with the type of the field that
-/// assigned it (FAST 1.1, Dictionaries and Previous Values). Entry 0 is the template identifier's.
+/// A dictionary: a number of entries, each undefined, empty, or assigned a value with the type of the field that assigned it (FAST 1.1,
+/// Dictionaries and Previous Values). Entry 0 is the template identifier's.
 ///
-/// A method that takes an entry is called with one below [`Store::entries`].
+/// The methods that have an entry as an argument require it to be below [`Store::entries`].
 pub trait Store {
     ghost use Rattle.std.specs.Prelude.{ℕ, ◌+◌, ◌*◌, ◌≤◌, length};
     ghost use Rattle.fast_dict.specs.meaning.Dictionary.{Dictionary};
     ghost use Rattle.fast_dict.specs.meaning.Stores.{Terms};
 
-    // what each entry holds
+    // the contents of each entry
     ghost dictionary: { Self → Dictionary };
 
     // what the store was made for, which no call changes
     ghost terms: { Self → Terms };
 
-    // the bytes that are held for texts, and the entries
+    // the bytes that are held for strings, and the entries
     ghost units: { Self → ℕ };
 
-    /// The number of entries.
+    /// Returns the number of entries.
     fn entries(&self) -> usize
         ensures { result ≡ length (dictionary self.now) };
 
-    /// The greatest length of a text, in bytes.
+    /// Returns the greatest length of a string, in bytes.
     fn max_text(&self) -> usize
         ensures { result ≡ (terms self.now).max_text };
 
-    /// Whether a text can be put at the entry.
+    /// Returns whether the entry can hold a string.
     fn takes_text(&self, entry: usize) -> bool
         requires { entry < length (dictionary self.now) }
         ensures { result ≡ (terms self.now).takes_text entry };
 
-    /// Whether a [`Store::set`] of a text may want memory that is refused.
+    /// Returns whether a [`Store::set`] of a string can fail to allocate.
     fn can_refuse(&self) -> bool
         ensures { result ≡ (terms self.now).can_refuse };
 
-    /// What the entry holds. A text is lent.
+    /// Returns the contents of the entry. A string is borrowed.
     fn get(&self, entry: usize) -> Previous<'_>
         requires { entry < length (dictionary self.now) }
         ensures { previous_data result ≡ previous_at (Some entry) (dictionary self.now) };
 
-    /// Assigns the value to the entry, as a field of the type does. A text is no longer than [`Store::max_text`], and
-    /// stands at an entry that takes one.
+    /// Assigns the value to the entry, as a field of the type does. A string is no longer than [`Store::max_text`], and its entry can hold
+    /// one.
     ///
     /// # Errors
     ///
-    /// Memory for a text was refused, and nothing has changed: only where [`Store::can_refuse`].
+    /// The allocation for a string failed, and nothing has changed: only if [`Store::can_refuse`].
     fn set(&mut self, entry: usize, kind: Kind, scalar: Scalar<'_>) -> Result<(), AllocError>
         requires there { entry < length (dictionary self.old) }
         requires room { IsStorable (terms self.old) entry (scalar_data scalar) }
@@ -82,6 +82,6 @@ pub trait Store {
         ensures entries { dictionary self.new ≡ fresh (length (dictionary self.old)) }
         ensures same { terms self.new ≡ terms self.old };
 
-    // each text takes up to the greatest length, and each entry one
+    // each string needs up to the greatest length, and each entry one
     ghost bounded: { (s : Self) → units s ≤ length (dictionary s) * (terms s).max_text + length (dictionary s) };
 }

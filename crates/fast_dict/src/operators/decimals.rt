@@ -14,7 +14,7 @@ use crate::previous::Previous;
 use fast_tree::FieldInstruction;
 use fast_value::{Code, Kind, Scalar};
 
-/// The exponent of a decimal behind its delta.
+/// Returns the exponent of a decimal after its delta.
 ///
 /// # Errors
 ///
@@ -32,7 +32,7 @@ pub fn exponent_delta(
     Ok(exponent_value(sum))
 }
 
-/// The decimal of an exponent and of the mantissa behind its delta, which the entry then holds.
+/// Returns the decimal of an exponent and of the mantissa after its delta, which the entry then holds.
 ///
 /// # Errors
 ///
@@ -53,7 +53,7 @@ pub fn mantissa_delta<'a>(
     Ok(Outcome::kept(field.kind, decimal_value(exponent, sum)))
 }
 
-/// An exponent in range.
+/// Returns an exponent that lies in range.
 #[inline]
 fn exponent_value(exponent: i128) -> i32
     requires low { neg_ℤ (pos 63) ≤ℤ exponent }
@@ -63,7 +63,7 @@ fn exponent_value(exponent: i128) -> i32
     exponent as i32
 }
 
-/// A decimal of an exponent and a mantissa in range.
+/// Returns the decimal of an exponent and a mantissa in range.
 #[inline]
 fn decimal_value(exponent: i32, mantissa: i128) -> Scalar<'static>
     requires low { (signed_range 63).low ≤ℤ mantissa }
@@ -76,7 +76,7 @@ fn decimal_value(exponent: i32, mantissa: i128) -> Scalar<'static>
     }
 }
 
-/// The exponent of a value, 0 if it has none.
+/// Returns the exponent of a value, 0 if it has none.
 #[inline]
 pub fn exponent_of(value: Scalar<'_>) -> i128
     ensures value { result ≡ exponent_of (scalar_data value.entry) }
@@ -89,7 +89,7 @@ pub fn exponent_of(value: Scalar<'_>) -> i128
     }
 }
 
-/// The mantissa of a value, 0 if it has none.
+/// Returns the mantissa of a value, 0 if it has none.
 #[inline]
 pub fn mantissa_of(value: Scalar<'_>) -> i128
     ensures value { result ≡ mantissa_of (scalar_data value.entry) }

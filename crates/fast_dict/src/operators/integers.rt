@@ -13,7 +13,7 @@ use crate::previous::Previous;
 use fast_tree::FieldInstruction;
 use fast_value::{Code, Kind, Scalar};
 
-/// The delta of an integer: the sum of its base and the delta, which the entry then holds.
+/// Adds a delta to the base of an integer field. The entry then holds the sum.
 ///
 /// # Errors
 ///
@@ -32,7 +32,7 @@ pub fn integer_delta<'a>(
     Ok(Outcome::kept(field.kind, integer_value(field.kind, sum)))
 }
 
-/// The sum, if it lies between the two bounds, else the fault.
+/// Returns the sum if it lies between the two bounds, else the fault.
 #[inline]
 pub fn sum_in(low: i128, high: i128, fault: Code, base: i128, delta: i128) -> Result<i128, Code>
     ensures sum { result ≡ ranged (record { is_signed = true; low = low; high = high }) fault (base +ℤ delta) }
@@ -47,7 +47,7 @@ pub fn sum_in(low: i128, high: i128, fault: Code, base: i128, delta: i128) -> Re
     Ok(sum)
 }
 
-/// The least and the greatest integer of a kind: the range of exponents for a kind of other values.
+/// Returns the least and the greatest integer of a type: the range of exponents for a type of other values.
 #[inline]
 pub fn range_of(kind: Kind) -> (i128, i128)
     ensures low { result.0 ≡ (range_of kind).low }
@@ -63,7 +63,7 @@ pub fn range_of(kind: Kind) -> (i128, i128)
     }
 }
 
-/// The integer of a value, 0 if it has none.
+/// Returns the integer of a value, 0 if it has none.
 #[inline]
 pub fn integer_of(value: Scalar<'_>) -> i128
     ensures value { result ≡ integer_of (scalar_data value.entry) }
@@ -77,7 +77,7 @@ pub fn integer_of(value: Scalar<'_>) -> i128
     }
 }
 
-/// An integer as a value of a kind.
+/// Returns an integer as a value of a type.
 #[inline]
 pub fn integer_value(kind: Kind, number: i128) -> Scalar<'static>
     requires low { neg_ℤ (pos (2 ^ 63)) ≤ℤ number }

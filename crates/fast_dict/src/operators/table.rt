@@ -18,30 +18,30 @@ use crate::previous::Previous;
 use fast_tree::{FieldInstruction, Operator};
 use fast_value::{Code, Kind, Scalar};
 
-/// What was sent for a field.
+/// The content of the stream for a field.
 #[derive(Clone, Copy, Debug)]
 pub enum Sent<'a> {
     /// Nothing, since the presence bit is clear or the value is a constant.
     Nothing,
     /// NULL.
     Null,
-    /// A value. Of a tail, the tail.
+    /// A value. For a tail, the tail.
     Value(Scalar<'a>),
-    /// What is added to an integer.
+    /// The number that is added to an integer.
     IntegerDelta(i128),
-    /// What is added to the exponent and to the mantissa of a decimal.
+    /// The numbers that are added to the exponent and to the mantissa of a decimal.
     DecimalDelta(i128, i128),
-    /// The subtraction length of a text, and the part that is joined to what it keeps.
+    /// The subtraction length of a string, and the part that is joined to the bytes kept of the base.
     TextDelta(i128, &'a [u8]),
 }
 
-/// What the field's operator gives under a previous value, a presence bit (true where the instruction uses none) and what
-/// was sent. A text that is joined of two parts wants a buffer: [`subtract`](super::subtract),
-/// [`tail_base`](super::tail_base) and [`joined`](super::joined) answer it in steps.
+/// Returns the result of the field's operator under a previous value, a presence bit (true if the instruction uses none) and the content of
+/// the stream. A string that is joined from two parts needs a buffer: [`subtract`](super::subtract), [`tail_base`](super::tail_base) and
+/// [`joined`](super::joined) decode it in steps.
 ///
 /// # Errors
 ///
-/// The first of D4, D5, D6, D2, R1 and R2 that stands.
+/// The first of D4, D5, D6, D2, R1 and R2 that applies.
 pub fn decide<'a>(
     field: &'a FieldInstruction,
     previous: Previous<'a>,
@@ -67,7 +67,7 @@ pub fn decide<'a>(
     }
 }
 
-/// Whether what was sent has to be joined to what is kept of the previous value, so that [`decide`] cannot answer it.
+/// Returns whether the part sent has to be joined to the bytes kept of the previous value, so that [`decide`] cannot decode it.
 pub fn needs_join(operator: Operator, bit: bool, sent: Sent<'_>) -> bool
     ensures { result ≡ false ↔ NeedsNoJoin operator bit (sent_data sent.entry) }
 {
@@ -78,7 +78,7 @@ pub fn needs_join(operator: Operator, bit: bool, sent: Sent<'_>) -> bool
     }
 }
 
-/// What is sent without an operator and under default: the value, or NULL for absence.
+/// Decodes a field without an operator or under default: the value, or NULL for absence.
 pub fn received<'a>(
     field: &'a FieldInstruction,
     previous: Previous<'a>,
@@ -93,7 +93,8 @@ pub fn received<'a>(
     }
 }
 
-/// What is sent under copy and increment: the value, which the entry then holds, or NULL, which makes it empty.
+/// Decodes a field under copy or increment of which something is sent: the value, which the entry then holds, or NULL, which makes it
+/// empty.
 pub fn replaced<'a>(field: &FieldInstruction, sent: Sent<'a>) -> Result<Outcome<'a>, Code>
     ensures { outcome_answer result ≡ sent_kept (field_data field.now) (sent_data sent.entry) }
 {
@@ -103,7 +104,7 @@ pub fn replaced<'a>(field: &FieldInstruction, sent: Sent<'a>) -> Result<Outcome<
     }
 }
 
-/// What is sent under delta for an integer or a decimal: the delta, or NULL, which leaves the entry as it is.
+/// Decodes an integer or a decimal under delta: the delta, or NULL, which leaves the entry unchanged.
 fn changed<'a>(
     field: &'a FieldInstruction,
     previous: Previous<'a>,
@@ -125,11 +126,11 @@ fn changed<'a>(
     }
 }
 
-/// A value that is sent, as a value of the kind.
+/// Returns a value that is sent as a value of the type.
 ///
 /// # Errors
 ///
-/// R2 if the kind is unicode and the text no UTF-8.
+/// R2 if the type is unicode and the string is not UTF-8.
 #[inline]
 pub fn checked(kind: Kind, value: Scalar<'_>) -> Result<Scalar<'_>, Code>
     ensures { scalar_answer result ≡ checked_in (family kind) kind (scalar_data value.entry) }

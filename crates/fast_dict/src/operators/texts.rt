@@ -1,7 +1,7 @@
-//! Texts under a delta and a tail.
+//! Strings under a delta and a tail.
 //!
-//! Both are answered in steps: first what is kept of the base, before the part that is sent has come. The caller puts the two
-//! together where it likes, and the text that comes of it is checked at the end.
+//! Both are decoded in steps: first the bytes kept of the base, before the part that is sent has arrived. The caller puts the two together
+//! where it likes, and the joined string is checked at the end.
 
 ghost use Rattle.std.specs.Prelude.{◌≡◌, ◌-◌, ◌++◌, ℕ, List, length, ◌≤◌, nat_le, if◌then◌else◌, SomeIff};
 ghost use Rattle.std.specs.Str.{is_utf8};
@@ -17,17 +17,17 @@ use crate::previous::Previous;
 use fast_tree::FieldInstruction;
 use fast_value::{Code, Kind, Scalar};
 
-/// What a text's delta keeps of its base, and on which side of it the part goes that is sent.
+/// The bytes that a string's delta keeps of its base, and the side of them on which the part goes that is sent.
 #[derive(Clone, Copy, Debug)]
 pub enum Kept<'a> {
-    /// The part goes behind what is kept.
+    /// The part goes after the bytes kept.
     AppendTo(&'a [u8]),
-    /// The part goes before what is kept.
+    /// The part goes before the bytes kept.
     PrependTo(&'a [u8]),
 }
 
 impl<'a> Kept<'a> {
-    /// What is kept.
+    /// Returns the bytes kept.
     pub fn text(self) -> &'a [u8]
         ensures { length result.now ≡ kept_length (kept_data self.entry) }
     {
@@ -36,7 +36,7 @@ impl<'a> Kept<'a> {
         }
     }
 
-    /// The most bytes that the part may have.
+    /// Returns the most bytes that the part may have.
     pub fn room(self, max_text: usize) -> usize
         ensures { result ≡ max_text - kept_length (kept_data self.entry) }
     {
@@ -44,7 +44,7 @@ impl<'a> Kept<'a> {
     }
 }
 
-/// The size of a text or of a part, if there is room for it.
+/// Returns the size of a string or of a part, if there is room for it.
 ///
 /// # Errors
 ///
@@ -60,12 +60,12 @@ pub fn sized(size: u32, room: usize) -> Result<usize, Code>
     }
 }
 
-/// What a subtraction length keeps of the base. A length of k takes k bytes from the back, one of -k - 1 takes k from the
-/// front.
+/// Returns the bytes of the base that a subtraction length keeps. A length of k removes k bytes from the back, one of -k - 1 removes k from
+/// the front.
 ///
 /// # Errors
 ///
-/// D4 if the previous value is of another type, D6 if it is empty, D7 if the base has fewer bytes than are taken.
+/// D4 if the previous value is of another type, D6 if it is empty, D7 if the base has fewer bytes than are removed.
 pub fn subtract<'a>(
     field: &'a FieldInstruction,
     previous: Previous<'a>,
@@ -77,7 +77,7 @@ pub fn subtract<'a>(
     kept_of(text_of(base), length)
 }
 
-/// What a subtraction length keeps of a text.
+/// Returns the bytes that a subtraction length keeps of a string.
 fn kept_of(base: &[u8], length: i128) -> Result<Kept<'_>, Code>
     ensures { kept_answer result ≡ kept_of base.now length }
 {
@@ -89,7 +89,7 @@ fn kept_of(base: &[u8], length: i128) -> Result<Kept<'_>, Code>
     Ok(Kept::PrependTo(&base[taken..]))
 }
 
-/// A number of bytes to be taken, if there are as many.
+/// Returns a number of bytes to be removed, if the string has that many.
 fn at_most(taken: u128, size: usize) -> Option<usize>
     ensures { SomeIff result (taken ≤ size) taken }
 {
@@ -100,7 +100,7 @@ fn at_most(taken: u128, size: usize) -> Option<usize>
     }
 }
 
-/// The base of a tail: the previous value, or without one the initial value, or else the empty text.
+/// Returns the base of a tail: the previous value, or without one the initial value, or else the empty string.
 ///
 /// # Errors
 ///
@@ -117,8 +117,8 @@ pub fn tail_base<'a>(
     }
 }
 
-/// What a tail of so many bytes keeps of its base: all but as many at the end, or nothing under a longer tail. The tail
-/// goes behind it.
+/// Returns the bytes that a tail of `size` bytes keeps of its base: all but the last `size`, or none under a longer tail. The tail goes
+/// after them.
 pub fn tail_keeps(base: &[u8], size: usize) -> &[u8]
     ensures { (part : List ℕ) → length part ≡ size → with_tail base.now part ≡ result.now ++ part }
 {
@@ -129,11 +129,11 @@ pub fn tail_keeps(base: &[u8], size: usize) -> &[u8]
     }
 }
 
-/// A joined text as a value of a kind of texts.
+/// Returns a joined string as a value of a string type.
 ///
 /// # Errors
 ///
-/// R2 if it is of the kind unicode and no UTF-8.
+/// R2 if the type is unicode and the string is not UTF-8.
 #[inline]
 pub fn checked_text(kind: Kind, text: &[u8]) -> Result<Scalar<'_>, Code>
     ensures { scalar_answer result ≡ checked_text kind text.now }
@@ -151,18 +151,18 @@ pub fn checked_text(kind: Kind, text: &[u8]) -> Result<Scalar<'_>, Code>
     }
 }
 
-/// A joined text as the value of a field under delta or tail, which the entry then holds.
+/// Returns a joined string as the value of a field under delta or tail, which the entry then holds.
 ///
 /// # Errors
 ///
-/// R2 if it is of the kind unicode and no UTF-8.
+/// R2 if the type is unicode and the string is not UTF-8.
 pub fn joined(kind: Kind, text: &[u8]) -> Result<Outcome<'_>, Code>
     ensures { outcome_answer result ≡ kept_text kind text.now }
 {
     Ok(Outcome::kept(kind, checked_text(kind, text)?))
 }
 
-/// Whether a text is UTF-8. A short one is read in fewer steps than a check by vectors takes for its first block.
+/// Returns whether the bytes are UTF-8. A short string is read in fewer steps than a check by vectors needs for its first block.
 #[inline(never)]
 pub fn is_utf8(text: &[u8]) -> bool
     ensures { result ≡ is_utf8 text.now }
@@ -173,7 +173,7 @@ pub fn is_utf8(text: &[u8]) -> bool
     simdutf8::is_utf8(text)
 }
 
-/// The text of a value, empty if it has none.
+/// Returns the bytes of a value's string, empty if it has none.
 pub fn text_of(value: Scalar<'_>) -> &[u8]
     ensures { result.now ≡ text_of (scalar_data value.entry) }
 {

@@ -15,26 +15,26 @@ use crate::previous::Previous;
 use fast_tree::{FieldInstruction, Operator};
 use fast_value::{Code, Kind, Scalar};
 
-/// What is left of a field of which no value is sent: where its value stands, and what its entry holds next. It lends nothing, so that the
-/// entry can be written by it.
+/// The result for a field of which no value is sent: where its value comes from, and what its entry holds next. It borrows nothing, so that
+/// the entry can be changed by it.
 #[derive(Clone, Copy, Debug, PartialEq, Eq)]
 pub enum Left {
-    /// No value, and the entry as it was.
+    /// No value, and the entry unchanged.
     Absent,
     /// No value, and an empty entry.
     Emptied,
-    /// The initial value, if there is one, and the entry as it was.
+    /// The initial value, if there is one, and the entry unchanged.
     Initial,
     /// The initial value, which the entry then holds.
     Started,
     /// The previous value.
     Copied,
-    /// One more than the previous value, and behind the greatest of the type the least, which the entry then holds.
+    /// One more than the previous value, which the entry then holds; after the greatest of the type comes the least.
     Increased,
 }
 
 impl Left {
-    /// The outcome, under the previous value by which it was decided.
+    /// Returns the outcome, under the previous value by which it was decided.
     pub fn outcome<'a>(self, field: &'a FieldInstruction, previous: Previous<'a>) -> Outcome<'a>
         ensures { outcome_data result ≡ left_data self (field_data field.now) (previous_data previous.entry) }
     {
@@ -55,8 +55,8 @@ impl Left {
     }
 }
 
-/// Whether NULL leaves an empty entry, as under the operators that take their value from it where nothing is sent. Under the others
-/// it leaves the entry as it is.
+/// Returns whether NULL leaves an empty entry, as under the operators that read their value from it if nothing is sent. Under the others it
+/// leaves the entry unchanged.
 #[inline]
 pub fn null_empties(operator: Operator) -> bool
     ensures { result ≡ null_empties operator }
@@ -67,12 +67,12 @@ pub fn null_empties(operator: Operator) -> bool
     )
 }
 
-/// What is left of a field of which no value is sent: where its presence bit is clear, nothing is, and else NULL. Of a constant nothing is sent
-/// in any case.
+/// Decodes a field of which no value is sent: if its presence bit is clear, nothing is, and else NULL. Of a constant nothing is sent in any
+/// case.
 ///
 /// # Errors
 ///
-/// Under copy, increment and tail, where nothing is sent: D4 if the previous value is of another type; of a mandatory field D5 if there is
+/// Under copy, increment and tail, if nothing is sent: D4 if the previous value is of another type; of a mandatory field D5 if there is
 /// neither a previous nor an initial value, and D6 if the previous value is empty.
 pub fn leave(field: &FieldInstruction, previous: Previous<'_>, bit: bool) -> Result<Left, Code>
     ensures nothing { left_answer result (field_data field.now) (previous_data previous.entry)
@@ -89,7 +89,7 @@ pub fn leave(field: &FieldInstruction, previous: Previous<'_>, bit: bool) -> Res
     }
 }
 
-/// What the previous value leaves under copy, increment and tail. Under an undefined entry the initial value takes its place.
+/// Decodes an unsent field under copy, increment or tail from the previous value. Under an undefined entry the initial value replaces it.
 fn kept(field: &FieldInstruction, previous: Previous<'_>) -> Result<Left, Code>
     ensures { left_answer result (field_data field.now) (previous_data previous.entry)
         ≡ unsent (field_data field.now) (previous_data previous.entry) }
@@ -106,7 +106,7 @@ fn kept(field: &FieldInstruction, previous: Previous<'_>) -> Result<Left, Code>
     }
 }
 
-/// Absent, if the field may be; the entry is then empty.
+/// Returns absence if the field is optional; the entry is then empty. Else returns the fault.
 fn absent(field: &FieldInstruction, fault: Code) -> Result<Left, Code>
     ensures { (p : PreviousData) → left_answer result (field_data field.now) p
         ≡ from_initial field.now.kind field.now.optional fault None }
@@ -118,7 +118,7 @@ fn absent(field: &FieldInstruction, fault: Code) -> Result<Left, Code>
     }
 }
 
-/// The initial value, which the entry then holds.
+/// Returns the initial value, which the entry then holds.
 fn started<'a>(field: &'a FieldInstruction, previous: Previous<'a>) -> Outcome<'a>
     ensures { outcome_data result ≡ left_data Left.Started (field_data field.now) (previous_data previous.entry) }
 {
@@ -128,7 +128,7 @@ fn started<'a>(field: &'a FieldInstruction, previous: Previous<'a>) -> Outcome<'
     }
 }
 
-/// One more than the previous value.
+/// Returns one more than the previous value, which the entry then holds.
 fn increased<'a>(field: &FieldInstruction, previous: Previous<'a>) -> Outcome<'a>
     ensures { outcome_data result ≡ left_data Left.Increased (field_data field.now) (previous_data previous.entry) }
 {
@@ -138,7 +138,7 @@ fn increased<'a>(field: &FieldInstruction, previous: Previous<'a>) -> Outcome<'a
     }
 }
 
-/// One more, and behind the greatest value of the kind the least.
+/// Returns one more than the value; after the greatest value of the type comes the least.
 #[inline(always)]
 pub fn next_integer<'a>(kind: Kind, value: Scalar<'a>) -> Scalar<'a>
     ensures { scalar_data result ≡ value_of_integer kind
@@ -173,7 +173,7 @@ pub fn next_integer<'a>(kind: Kind, value: Scalar<'a>) -> Scalar<'a>
     }
 }
 
-/// The same for any pair of kind and value.
+/// Returns one more than the value, for any pair of type and value; after the greatest of the type comes the least.
 #[cold]
 #[inline(never)]
 fn next_in_range(kind: Kind, value: Scalar<'_>) -> Scalar<'static>

@@ -1,4 +1,4 @@
-//! Comparisons of values and texts.
+//! Comparisons of values and strings.
 
 ghost use Rattle.std.specs.Prelude.{◌≡◌, ◌↔◌, ◌+◌, ◌≤◌, length, take, drop, IsTrue, option_map};
 ghost use Rattle.std.specs.Int.{w64, from_le_bytes};
@@ -7,7 +7,7 @@ ghost use Rattle.fast_dict.specs.meaning.Rule.{common_front, common_back};
 
 use fast_value::Scalar;
 
-/// Whether two values, or absences, are the same: 15e-1 and 150e-2 are not.
+/// Returns whether two values, or absences, are identical: 15e-1 and 150e-2 are not.
 pub fn is_same_value(a: Option<Scalar<'_>>, b: Option<Scalar<'_>>) -> bool
     ensures { IsTrue result ↔ (option_map scalar_data a.entry ≡ option_map scalar_data b.entry) }
 {
@@ -18,7 +18,7 @@ pub fn is_same_value(a: Option<Scalar<'_>>, b: Option<Scalar<'_>>) -> bool
     }
 }
 
-/// Whether two values are the same.
+/// Returns whether two values are identical.
 pub fn is_same(a: Scalar<'_>, b: Scalar<'_>) -> bool
     ensures { IsTrue result ↔ (scalar_data a.entry ≡ scalar_data b.entry) }
 {
@@ -39,7 +39,7 @@ pub fn is_same(a: Scalar<'_>, b: Scalar<'_>) -> bool
     }
 }
 
-/// The length of the longest common front of two texts.
+/// Returns the length of the longest common prefix of two strings.
 pub fn common_front(a: &[u8], b: &[u8]) -> usize
     ensures size { result ≡ common_front a.now b.now }
     ensures in_a { result ≤ length a.now }
@@ -52,7 +52,7 @@ pub fn common_front(a: &[u8], b: &[u8]) -> usize
     size
 }
 
-/// How many characters of two texts are the same from the front on, where they are compared by eights.
+/// Counts the characters of the common prefix of two strings, compared eight at a time.
 #[inline(always)]
 fn common_eights(a: &[u8], b: &[u8]) -> usize
     ensures size { result + common_front (drop result a.now) (drop result b.now) ≡ common_front a.now b.now }
@@ -66,7 +66,7 @@ fn common_eights(a: &[u8], b: &[u8]) -> usize
     size
 }
 
-/// Eight characters from a place on, as one number.
+/// Returns the eight characters at an offset, as one number.
 #[inline(always)]
 fn eight_at(text: &[u8], at: usize) -> u64
     requires { at + 8 ≤ length text.now }
@@ -84,7 +84,7 @@ fn eight_at(text: &[u8], at: usize) -> u64
     ])
 }
 
-/// The length of the longest common back of two texts.
+/// Returns the length of the longest common suffix of two strings.
 pub fn common_back(a: &[u8], b: &[u8]) -> usize
     ensures size { result ≡ common_back a.now b.now }
     ensures in_a { result ≤ length a.now }

@@ -1,4 +1,4 @@
-//! What stands in the stream for a value that is sent.
+//! The content of the stream for a value that is sent.
 
 ghost use Rattle.std.specs.Prelude.{◌≡◌, ◌^◌, ℕ, pos, neg_ℤ, ◌-ℤ◌, ◌≤ℤ◌, ◌<ℤ◌, List, Ok, IfSome, IfNone, option_map};
 ghost use Rattle.fast_value.specs.meaning.Kinds.{ScalarData, family, text_of, value_of_text};
@@ -18,7 +18,7 @@ use crate::previous::Previous;
 use fast_tree::{FieldInstruction, Operator};
 use fast_value::{Kind, Scalar};
 
-/// What stands in the stream for a value, or for its absence, under a set presence bit, if anything can.
+/// Returns the content of the stream for a value, or for its absence, under a set presence bit, if any is possible.
 pub fn item_for<'a, 'p>(
     field: &'p FieldInstruction,
     previous: Previous<'p>,
@@ -44,7 +44,7 @@ pub fn item_for<'a, 'p>(
     }
 }
 
-/// The delta from the base to a value, if there is a base.
+/// Returns the delta from the base to a value, if there is a base.
 fn delta_for<'a, 'p>(
     field: &'p FieldInstruction,
     previous: Previous<'p>,
@@ -62,7 +62,7 @@ fn delta_for<'a, 'p>(
     }
 }
 
-/// The delta from one value of a kind to another.
+/// Returns the delta from one value of a type to another.
 fn difference<'a>(kind: Kind, base: Scalar<'_>, value: Scalar<'a>) -> Sent<'a>
     ensures { IsDelta (family kind) (scalar_data base.entry) (scalar_data value.entry) (sent_data result) }
 {
@@ -79,7 +79,7 @@ fn difference<'a>(kind: Kind, base: Scalar<'_>, value: Scalar<'a>) -> Sent<'a>
     }
 }
 
-/// The difference of two integers of 65 bits.
+/// Returns the difference of two integers of 65 bits.
 fn minus(a: i128, b: i128) -> i128
     requires low_a { neg_ℤ (pos (2 ^ 63)) ≤ℤ a }
     requires high_a { a <ℤ pos (2 ^ 64) }
@@ -90,8 +90,8 @@ fn minus(a: i128, b: i128) -> i128
     a - b
 }
 
-/// The delta from one text to another: what stands behind the common front is appended, or, if that is shorter, what
-/// stands before the common back is prepended.
+/// Returns the delta from one string to another: the part after the common prefix is appended, or, if that is shorter, the part before the
+/// common suffix is prepended.
 pub fn text_delta<'a>(base: &[u8], text: &'a [u8]) -> Sent<'a>
     ensures { IsTextDelta base.now text.now (sent_data result) }
 {
@@ -106,7 +106,7 @@ pub fn text_delta<'a>(base: &[u8], text: &'a [u8]) -> Sent<'a>
     }
 }
 
-/// The tail that makes a value of the base, if there is a base and the value is no shorter.
+/// Returns the tail that makes a value of the base, if there is a base and the value is no shorter.
 fn tail_for<'a, 'p>(
     field: &'p FieldInstruction,
     previous: Previous<'p>,
@@ -129,7 +129,7 @@ fn tail_for<'a, 'p>(
     }
 }
 
-/// The tail that makes one text of another, if it is no shorter.
+/// Returns the tail that makes one string of another, if it is no shorter.
 pub fn tail_of<'a>(base: &[u8], text: &'a [u8]) -> Option<&'a [u8]>
     ensures some { IfSome result (λ part. IsTail base.now text.now part.now) }
     ensures none { IfNone result ((part : List ℕ) → ¬ (IsTail base.now text.now part)) }
@@ -143,7 +143,7 @@ pub fn tail_of<'a>(base: &[u8], text: &'a [u8]) -> Option<&'a [u8]>
     Some(&text[common_front(base, text)..])
 }
 
-/// A text as a value of a kind of texts.
+/// Returns a string as a value of a string type.
 pub fn text_value(kind: Kind, text: &[u8]) -> Scalar<'_>
     ensures { scalar_data result ≡ value_of_text kind text.now }
 {

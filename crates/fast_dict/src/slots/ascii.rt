@@ -1,4 +1,5 @@
-//! ASCII texts in the slots of a dictionary, under their own kind: what need not be asked again, and blocks that are moved as a whole.
+//! ASCII strings in the slots of a dictionary, under their own type: without checks that were already made, and with blocks that are moved
+//! as a whole.
 
 use super::{Slots, copy_into};
 use crate::entry::Entry;
@@ -11,7 +12,7 @@ impl Slots {
     ghost use Rattle.fast_dict.specs.meaning.Operators.{with_tail};
     ghost use Rattle.fast_dict.specs.meaning.Slots.{slots_dictionary, slots_terms, text_in, HoldsAscii};
 
-    /// Whether the entry holds an ASCII text of its own kind, in a slot.
+    /// Returns whether the entry holds an ASCII string of its own type, in a slot.
     #[inline(always)]
     pub fn holds_ascii(&self, entry: usize) -> bool
         requires { entry < length (slots_dictionary self.now) }
@@ -25,7 +26,7 @@ impl Slots {
         }
     }
 
-    /// The ASCII text that the entry is known to hold.
+    /// Returns the ASCII string that the entry is known to hold.
     #[inline(always)]
     pub fn kept_ascii(&self, entry: usize) -> &[u8]
         requires { HoldsAscii self.now entry }
@@ -40,7 +41,7 @@ impl Slots {
         &self.block[place..place + size]
     }
 
-    /// Keeps an ASCII text at an entry that takes one.
+    /// Stores an ASCII string at an entry that can hold one.
     pub fn set_ascii(&mut self, entry: usize, text: &[u8])
         requires there { entry < length (slots_dictionary self.old) }
         requires takes { IsTrue ((slots_terms self.old).takes_text entry) }
@@ -54,7 +55,7 @@ impl Slots {
         self.put(entry, Entry::Ascii(text.len()));
     }
 
-    /// The same of the first bytes of a block, which is moved as a whole.
+    /// Stores the first `count` bytes of a block as an ASCII string at an entry that can hold one. The block is moved as a whole.
     #[inline(always)]
     pub fn set_ascii_block(&mut self, entry: usize, block: &[u8], count: usize)
         requires there { entry < length (slots_dictionary self.old) }
@@ -71,8 +72,8 @@ impl Slots {
         self.put(entry, Entry::Ascii(count));
     }
 
-    /// The same of a tail, whose text is joined to the one that the entry holds. `false` stands for an entry that holds no ASCII
-    /// text of its own kind, and for a block that has no room there: nothing has changed then.
+    /// Stores the ASCII string that joins a tail, the first `count` bytes of a block, to the string that the entry holds. Returns `false`,
+    /// with nothing changed, if the entry holds no ASCII string of its own type, or the block has no room there.
     #[inline(always)]
     pub fn set_ascii_tail(&mut self, entry: usize, block: &[u8], count: usize) -> bool
         requires there { entry < length (slots_dictionary self.old) }
@@ -98,7 +99,7 @@ impl Slots {
         true
     }
 
-    /// Writes a block of 16 bytes into the slot of an entry. What stands in front of it stays.
+    /// Writes a block of 16 bytes into the slot of an entry. The bytes in front of it stay.
     #[inline(always)]
     fn write_block(&mut self, entry: usize, at: usize, block: &[u8])
         requires there { entry < vec_len self.old.entries }

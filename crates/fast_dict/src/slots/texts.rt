@@ -1,4 +1,4 @@
-//! Texts that change in their slots.
+//! Strings that change in their slots.
 
 ghost use Rattle.std.specs.Prelude.{◌≡◌, ◌≢◌, ◌+◌, ◌<◌, ◌≤◌, ◌++◌, ℕ, List, length, take, slice_index_or, vec_len, IsTrue, None, IfSome};
 ghost use Rattle.fast_value.specs.meaning.Kinds.{family, texts, value_of_text};
@@ -16,7 +16,7 @@ impl Slots {
     ghost use Rattle.fast_dict.specs.meaning.Dictionary.{assigned, previous_at, write_at};
     ghost use Rattle.fast_dict.specs.meaning.Slots.{slots_dictionary, slots_terms, text_in};
 
-    /// The text that the entry holds in its slot, if it is one of this kind.
+    /// Returns the string that the entry holds in its slot, if it is one of this type.
     #[inline(always)]
     pub fn own_text(&self, entry: usize, kind: Kind) -> Option<&[u8]>
         requires { entry < length (slots_dictionary self.now) }
@@ -30,7 +30,7 @@ impl Slots {
         Some(&self.block[place..place + size])
     }
 
-    /// Puts bytes behind the first ones of the text that the entry holds.
+    /// Writes bytes after the first `keep` ones of the string that the entry holds, which then ends with them.
     #[inline(always)]
     pub fn extend_text(&mut self, entry: usize, kind: Kind, keep: usize, part: &[u8])
         requires there { entry < length (slots_dictionary self.old) }
@@ -48,7 +48,7 @@ impl Slots {
         self.put(entry, entry_of(kind, keep + part.len()));
     }
 
-    /// Writes bytes into the slot of an entry, behind the first ones.
+    /// Writes bytes into the slot of an entry, after the first `keep` ones.
     #[inline(always)]
     fn write_behind(&mut self, entry: usize, keep: usize, part: &[u8])
         requires there { entry < vec_len self.old.entries }
@@ -71,7 +71,7 @@ impl Slots {
     }
 }
 
-/// The length of a text under this kind.
+/// Returns the length of a string under this type.
 #[inline(always)]
 fn size_under(kind: Kind, held: Entry) -> Option<usize>
     ensures { IfSome result (λ n. (text_length held ≡ n)
@@ -85,7 +85,7 @@ fn size_under(kind: Kind, held: Entry) -> Option<usize>
     }
 }
 
-/// The entry of a text under its own kind.
+/// Returns the entry of a string under its own type.
 #[inline(always)]
 fn entry_of(kind: Kind, size: usize) -> Entry
     requires { family kind ≡ texts }
