@@ -1,4 +1,4 @@
-//! Presence maps in the making.
+//! A builder of presence maps.
 
 ghost use Rattle.std.specs.Prelude.{◌≡◌, ℕ, ◌<◌, true, false, replicate, slice_set, slice_index_or};
 ghost use Rattle.fast_wire.specs.meaning.Maps.{bits, IsMap};
@@ -13,7 +13,7 @@ use std::marker::Model;
 pub struct MapBuilder {
     /// The bits, seven a byte, most significant first.
     cells: [u8; MAP_LIMIT],
-    /// How many cells the map takes: at least one, and else up to the last set bit.
+    /// The number of cells that the map uses: at least one, and else up to the last set bit.
     len: usize,
 }
 
@@ -28,7 +28,7 @@ impl Model for MapBuilder {
     ghost invariant = { λ b. IsBuilt b.cells b.len };
 }
 
-/// The bytes of the map so far, without the stop bit.
+/// Formats the bytes of the map so far, without the stop bit.
 impl fmt::Debug for MapBuilder {
     fn fmt<W: fmt::Write>(&self, f: &mut fmt::Formatter<W>) -> fmt::Result {
         f.debug_struct("MapBuilder")
@@ -38,7 +38,7 @@ impl fmt::Debug for MapBuilder {
 }
 
 impl MapBuilder {
-    /// No bit is set.
+    /// Makes a builder with no bit set.
     pub fn new() -> MapBuilder
         ensures { result ≡ replicate 1022 false }
     {
@@ -48,7 +48,7 @@ impl MapBuilder {
         }
     }
 
-    /// Sets the bit at place `i`, counted from 0.
+    /// Sets bit `i`, counted from 0.
     pub fn set(&mut self, i: usize)
         requires { i < 1022 }
         ensures { self.new ≡ slice_set self.old i true }
@@ -58,7 +58,7 @@ impl MapBuilder {
         self.len = self.len.max(byte + 1);
     }
 
-    /// The shortest map of these bits, of at least one byte.
+    /// Returns the shortest map of these bits, of at least one byte.
     pub fn finish(self) -> ArrayVec<u8, MAP_LIMIT>
         ensures map { IsMap true result.items }
         ensures bits { (i : ℕ) → slice_index_or (bits result.items) i false ≡ slice_index_or self i false }

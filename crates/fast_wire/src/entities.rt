@@ -1,4 +1,4 @@
-//! The bytes of one entity, as they come.
+//! The bytes of one entity, received one at a time.
 
 ghost use Rattle.std.specs.Prelude.{◌≡◌, ◌≢◌, ℕ, ◌<◌, ◌≤◌, ◌↔◌, ◌==◌, List, [], ◌∷◌, ◌++◌, length};
 ghost use Rattle.fast_wire.specs.meaning.Entities.{HaveNoStop, IsEntity};
@@ -6,18 +6,18 @@ ghost use Rattle.fast_wire.specs.meaning.Entities.{HaveNoStop, IsEntity};
 use arrayvec::ArrayVec;
 use std::marker::Model;
 
-/// What one more byte made of an entity.
+/// The state of an entity after one more byte.
 #[derive(Clone, Copy, Debug, PartialEq, Eq)]
 pub enum Step {
     /// No stop bit yet.
     More,
-    /// The byte has the stop bit: the entity is whole.
+    /// The byte has the stop bit: the entity is complete.
     Whole,
     /// The tenth byte has no stop bit.
     TooLong,
 }
 
-/// The bytes of one stop-bit entity as they come, at most ten: a contract sees them as a list.
+/// The bytes of one stop-bit entity, received one at a time, at most ten: a contract sees them as a list.
 #[derive(Debug, Drop)]
 pub struct Entity {
     bytes: ArrayVec<u8, 10>,
@@ -32,7 +32,7 @@ impl Model for Entity {
 }
 
 impl Entity {
-    /// No byte yet.
+    /// Makes an entity without bytes.
     #[inline]
     pub fn new() -> Entity
         ensures { result ≡ [] }
@@ -42,7 +42,7 @@ impl Entity {
         }
     }
 
-    /// Takes one more byte of an entity that isn't whole.
+    /// Appends one more byte to an entity that is not complete.
     #[inline]
     pub fn push(&mut self, byte: u8) -> Step
         requires open { HaveNoStop self.old }
@@ -64,7 +64,7 @@ impl Entity {
         }
     }
 
-    /// The bytes, in order.
+    /// Returns the bytes, in order.
     #[inline]
     pub fn as_slice(&self) -> &[u8]
         ensures { result.now ≡ self.now }
@@ -72,7 +72,7 @@ impl Entity {
         self.bytes.as_slice()
     }
 
-    /// The number of bytes.
+    /// Returns the number of bytes.
     #[inline]
     pub fn len(&self) -> usize
         ensures { result ≡ length self.now }
@@ -80,7 +80,7 @@ impl Entity {
         self.bytes.len()
     }
 
-    /// Whether no byte has come.
+    /// Returns whether there are no bytes.
     #[inline]
     pub fn is_empty(&self) -> bool
         ensures { result ≡ (length self.now == 0) }
@@ -88,7 +88,7 @@ impl Entity {
         self.bytes.is_empty()
     }
 
-    /// Forgets the bytes.
+    /// Removes all bytes.
     #[inline]
     pub fn clear(&mut self)
         ensures { self.new ≡ [] }

@@ -2,47 +2,47 @@
 
 ghost use Rattle.fast_wire.specs.meaning.Laws.{NoProperFront, NoStopNoEntity, OneReading, OneOutcome, StrictIsLenient, StrictIsShortest, ShortestIsStrict, OneSpelling, ReadBack, MapIsShortest, MapIsNarrow};
 
-/// An entity is no proper front of an entity.
+/// An entity is no proper prefix of an entity.
 pub fn no_proper_front()
     ensures { NoProperFront }
 {}
 
-/// An entity is no front of bytes without a stop.
+/// An entity is no prefix of bytes without a stop bit.
 pub fn no_stop_no_entity()
     ensures { NoStopNoEntity }
 {}
 
-/// Bytes spell at most one integer.
+/// Bytes encode at most one integer.
 pub fn one_reading()
     ensures { OneReading }
 {}
 
-/// Bytes that spell an integer decide no fault.
+/// Bytes that encode an integer decide no fault.
 pub fn one_outcome()
     ensures { OneOutcome }
 {}
 
-/// What is spelled in strict mode is spelled in both modes.
+/// Bytes that encode a value in strict mode encode it in both modes.
 pub fn strict_is_lenient()
     ensures { StrictIsLenient }
 {}
 
-/// A spelling in strict mode is no longer than any other of the same integer.
+/// An encoding in strict mode is no longer than any other of the same integer.
 pub fn strict_is_shortest()
     ensures { StrictIsShortest }
 {}
 
-/// The shortest spelling of an integer isn't overlong.
+/// The shortest encoding of an integer is not overlong.
 pub fn shortest_is_strict()
     ensures { ShortestIsStrict }
 {}
 
-/// An integer has one spelling in strict mode.
+/// An integer has one encoding in strict mode.
 pub fn one_spelling()
     ensures { OneSpelling }
 {}
 
-/// What is written of an integer spells it in both modes, and nothing else.
+/// The bytes written for an integer encode it in both modes, and nothing else.
 pub fn read_back()
     ensures { ReadBack }
 {}
@@ -52,7 +52,7 @@ pub fn map_is_shortest()
     ensures { MapIsShortest }
 {}
 
-/// A map in strict mode has no more bytes than its last set bit wants.
+/// A map in strict mode has no more bytes than its last set bit needs.
 pub fn map_is_narrow()
     ensures { MapIsNarrow }
 {}

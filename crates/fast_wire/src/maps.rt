@@ -4,12 +4,12 @@ ghost use Rattle.std.specs.Prelude.{◌≡◌, ◌+◌, ◌<◌, ◌≤◌, ◌�
 ghost use Rattle.fast_wire.specs.meaning.Entities.{IsEntity};
 ghost use Rattle.fast_wire.specs.meaning.Maps.{map_limit, bits, first_bit, HasSpareByte};
 
-/// What one more byte made of a presence map.
+/// The state of a presence map after one more byte.
 #[derive(Clone, Copy, Debug, PartialEq, Eq)]
 pub enum MapStep {
     /// No stop bit yet.
     More,
-    /// The byte has the stop bit: the map is whole.
+    /// The byte has the stop bit: the map is complete.
     Whole,
     /// The last byte that a map may have has no stop bit.
     TooLong,
@@ -18,7 +18,7 @@ pub enum MapStep {
 /// The greatest length of a presence map, in bytes.
 pub const MAP_LIMIT: usize = 146;
 
-/// Writes one more byte of a map, of which `len` bytes have come, into its cells.
+/// Writes one more byte of a map, of which `len` bytes have been received, into its cells.
 #[inline]
 pub fn map_push(cells: &mut [u8], len: usize, byte: u8) -> MapStep
     requires cells { length cells.old ≡ map_limit }
@@ -39,7 +39,7 @@ pub fn map_push(cells: &mut [u8], len: usize, byte: u8) -> MapStep
     }
 }
 
-/// The bit at place `i` of a whole map, counted from 0; behind the last one stand zeros for ever.
+/// Returns bit `i` of a complete map, counted from 0. The bits after the last one are all zero.
 #[inline]
 pub fn map_bit(map: &[u8], i: usize) -> bool
     requires entity { IsEntity map.now }
@@ -51,7 +51,7 @@ pub fn map_bit(map: &[u8], i: usize) -> bool
     byte < map.len() && (map[byte] >> (6 - i % 7)) % 2 == 1
 }
 
-/// Whether the last byte of a whole map could be left out: there are others before it, and none of its seven bits is set.
+/// Returns whether the last byte of a complete map could be left out: there are others before it, and none of its seven bits is set.
 #[inline]
 pub fn map_overlong(map: &[u8]) -> bool
     requires entity { IsEntity map.now }

@@ -1,8 +1,8 @@
-//! Integers of whole entities: FAST 1.1, Transfer Encoding.
+//! Integers of complete entities: FAST 1.1, Transfer Encoding.
 //!
-//! A read answers in one of three ways, of which exactly one holds: the integer, or NULL where it may be; `R6`
-//! where the entity is overlong in strict mode; else `D2`, where the integer lies outside its range. In lenient
-//! mode an overlong entity stands for its integer, and an overlong zero for NULL where that may be.
+//! A read has one of three results, of which exactly one applies: the integer, or NULL if the type is nullable; `R6` if the entity is
+//! overlong in strict mode; else `D2`, if the integer lies outside its range. In lenient mode an overlong entity encodes its integer, and
+//! an overlong zero NULL in a nullable type.
 
 ghost use Rattle.std.specs.Prelude.{◌≡◌, ◌<◌, ◌≤◌, ◌^◌, ◌*◌, ◌↔◌, ◌∷◌, [], true, false, IsTrue, if◌then◌else◌, IfOk, Some, Err, pos, option_map, length};
 ghost use Rattle.fast_wire.specs.meaning.Entities.{IsEntity, number, has_sign, signed, IsOverlong};
@@ -11,10 +11,10 @@ ghost use Rattle.fast_wire.specs.meaning.Integers.{value, Means, IsWithin, IsInt
 use std::error::Error;
 use std::fmt;
 
-/// Why an entity is no integer of its type.
+/// The reason why an entity is no integer of its type.
 #[derive(Clone, Copy, Debug, PartialEq, Eq)]
 pub enum WireFault {
-    /// Overlong: without its first byte it would stand for the same integer. Strict mode alone.
+    /// Overlong: without its first byte it would encode the same integer. Strict mode alone.
     R6,
     /// The integer lies outside its type, or ten bytes have no stop bit.
     D2,
@@ -31,7 +31,7 @@ impl fmt::Display for WireFault {
 
 impl Error for WireFault {}
 
-/// The mandatory integer of an entity of at most ten bytes, from 0 to `top`.
+/// Reads the mandatory integer of an entity of at most ten bytes, from 0 to `top`.
 ///
 /// `R6` if the entity is overlong and the mode strict, else `D2` if the integer is over `top`.
 pub fn read_unsigned(w: &[u8], strict: bool, top: u64) -> Result<u64, WireFault>
@@ -44,7 +44,7 @@ pub fn read_unsigned(w: &[u8], strict: bool, top: u64) -> Result<u64, WireFault>
     judge_unsigned(w, number_of(w), strict, top)
 }
 
-/// The nullable integer of an entity of at most ten bytes, from 0 to `top`: `None` is NULL.
+/// Reads the nullable integer of an entity of at most ten bytes, from 0 to `top`: `None` is NULL.
 ///
 /// `R6` if the entity is overlong and the mode strict, else `D2` if the integer is over `top`.
 pub fn read_nullable_unsigned(w: &[u8], strict: bool, top: u64) -> Result<Option<u64>, WireFault>
@@ -57,7 +57,7 @@ pub fn read_nullable_unsigned(w: &[u8], strict: bool, top: u64) -> Result<Option
     judge_nullable_unsigned(w, number_of(w).checked_sub(1), strict, top)
 }
 
-/// The mandatory integer of an entity of at most ten bytes in two's complement, from `low` to `top`.
+/// Reads the mandatory integer of an entity of at most ten bytes in two's complement, from `low` to `top`.
 ///
 /// `R6` if the entity is overlong and the mode strict, else `D2` if the integer is outside.
 pub fn read_signed(w: &[u8], strict: bool, low: i128, top: i128) -> Result<i128, WireFault>
@@ -71,7 +71,7 @@ pub fn read_signed(w: &[u8], strict: bool, low: i128, top: i128) -> Result<i128,
     judge_signed(w, signed_of(w), strict, low, top)
 }
 
-/// The nullable integer of an entity of at most ten bytes in two's complement, from `low` to `top`: `None` is NULL.
+/// Reads the nullable integer of an entity of at most ten bytes in two's complement, from `low` to `top`: `None` is NULL.
 ///
 /// `R6` if the entity is overlong and the mode strict, else `D2` if the integer is outside.
 pub fn read_nullable_signed(
@@ -90,7 +90,9 @@ pub fn read_nullable_signed(
     judge_nullable_signed(w, lowered(signed_of(w)), strict, low, top)
 }
 
-/// What an entity that stands for `n` is as a mandatory unsigned integer.
+/// Returns the mandatory unsigned integer of an entity whose bits are the number `n`, from 0 to `top`.
+///
+/// `R6` if the entity is overlong and the mode strict, else `D2` if the integer is over `top`.
 #[inline]
 pub fn judge_unsigned(w: &[u8], n: u128, strict: bool, top: u64) -> Result<u64, WireFault>
     requires entity { IsEntity w.now }
@@ -109,7 +111,9 @@ pub fn judge_unsigned(w: &[u8], n: u128, strict: bool, top: u64) -> Result<u64, 
     Ok(n as u64)
 }
 
-/// What an entity is as a nullable unsigned integer, where `x` is what it means.
+/// Returns the nullable unsigned integer `x` of an entity if it lies in range: `None` is NULL.
+///
+/// `R6` if the entity is overlong and the mode strict, else `D2` if the integer is over `top`.
 #[inline(always)]
 pub fn judge_nullable_unsigned(
     w: &[u8],
@@ -136,7 +140,9 @@ pub fn judge_nullable_unsigned(
     Ok(Some(x as u64))
 }
 
-/// What an entity that stands for `n` is as a mandatory signed integer.
+/// Returns the mandatory signed integer of an entity whose bits are the number `n`, from `low` to `top`.
+///
+/// `R6` if the entity is overlong and the mode strict, else `D2` if the integer is outside.
 #[inline(always)]
 pub fn judge_signed(
     w: &[u8],
@@ -163,7 +169,9 @@ pub fn judge_signed(
     Ok(n)
 }
 
-/// What an entity is as a nullable signed integer, where `x` is what it means.
+/// Returns the nullable signed integer `x` of an entity if it lies in range: `None` is NULL.
+///
+/// `R6` if the entity is overlong and the mode strict, else `D2` if the integer is outside.
 #[inline(always)]
 pub fn judge_nullable_signed(
     w: &[u8],
@@ -193,7 +201,7 @@ pub fn judge_nullable_signed(
     Ok(Some(x))
 }
 
-/// The lower seven bits of each byte as one number.
+/// Returns the lower seven bits of each byte as one number.
 fn number_of(w: &[u8]) -> u128
     requires { length w.now ≤ 10 }
     ensures value { result ≡ number w.now }
@@ -206,7 +214,7 @@ fn number_of(w: &[u8]) -> u128
     sum
 }
 
-/// The same in two's complement.
+/// Returns the lower seven bits of each byte as one number in two's complement.
 fn signed_of(w: &[u8]) -> i128
     requires entity { IsEntity w.now }
     requires short { length w.now ≤ 10 }
@@ -220,7 +228,7 @@ fn signed_of(w: &[u8]) -> i128
     }
 }
 
-/// Whether an unsigned integer has a byte too many, in strict mode: a zero in front.
+/// Returns whether an unsigned integer has a byte too many, in strict mode: a zero in front.
 #[inline(always)]
 fn is_refused_unsigned(w: &[u8], strict: bool) -> bool
     requires { IsEntity w.now }
@@ -229,7 +237,7 @@ fn is_refused_unsigned(w: &[u8], strict: bool) -> bool
     w[0] == 0 && strict
 }
 
-/// Whether a signed integer has a byte too many, in strict mode: seven bits in front that repeat the sign behind them.
+/// Returns whether a signed integer has a byte too many, in strict mode: seven bits in front that repeat the sign of the next byte.
 #[inline(always)]
 fn is_refused_signed(w: &[u8], strict: bool) -> bool
     requires { IsEntity w.now }
@@ -241,7 +249,7 @@ fn is_refused_signed(w: &[u8], strict: bool) -> bool
     w.len() > 1 && w[0] == sign_byte(w[1])
 }
 
-/// Seven bits like the sign bit of `byte`.
+/// Returns seven bits like the sign bit of `byte`.
 #[inline(always)]
 fn sign_byte(byte: u8) -> u8
     ensures { result ≡ (if has_sign (byte ∷ []) then 127 else 0) }
@@ -249,7 +257,7 @@ fn sign_byte(byte: u8) -> u8
     if byte & 0x40 == 0 { 0x00 } else { 0x7f }
 }
 
-/// What the nullable form sends as `n`: `None` is NULL.
+/// Returns the integer that the nullable form sends as `n`: `None` is NULL.
 #[inline(always)]
 fn lowered(n: i128) -> Option<i128>
     ensures { Means true n result }
@@ -261,7 +269,7 @@ fn lowered(n: i128) -> Option<i128>
     }
 }
 
-/// Whether an integer lies in a range.
+/// Returns whether an integer lies in a range.
 #[inline(always)]
 fn is_within(x: i128, low: i128, top: i128) -> bool
     ensures { IsTrue result ↔ IsWithin (signed_between low top) x }

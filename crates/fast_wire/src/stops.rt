@@ -6,7 +6,7 @@ ghost use Rattle.std.specs.Simd.Lanes.{chunk};
 
 use std::simd::prelude::*;
 
-/// How many of the 16 bytes from `at` come before the first stop bit: 16 if there is none.
+/// Returns the number of bytes before the first stop bit of the 16 from `at`: 16 if there is none.
 #[inline(always)]
 pub fn stop_in_block(s: &[u8], at: usize) -> u32
     requires { at + 16 ≤ length s.now }
@@ -21,7 +21,7 @@ pub fn stop_in_block(s: &[u8], at: usize) -> u32
     if hits == 0 { 16 } else { hits.trailing_zeros() }
 }
 
-/// The place of the first stop bit, counted from 0, if there is one.
+/// Returns the offset of the first stop bit, counted from 0, if there is one.
 pub fn find_stop(bytes: &[u8]) -> Option<usize>
     ensures within { IfSome result (λ i. i < length bytes.now) }
     ensures found { IfSome result (λ i. 128 ≤ slice_index bytes.now i) }

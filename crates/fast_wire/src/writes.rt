@@ -8,7 +8,7 @@ ghost use Rattle.fast_wire.specs.meaning.Shortest.{IsShortest};
 
 use crate::entities::Entity;
 
-/// The shortest entity of a mandatory unsigned integer.
+/// Returns the shortest entity of a mandatory unsigned integer.
 pub fn write_unsigned(x: u64) -> Entity
     ensures entity { IsEntity result }
     ensures short { length result ≤ 10 }
@@ -17,7 +17,7 @@ pub fn write_unsigned(x: u64) -> Entity
     shortest_unsigned(u128::from(x))
 }
 
-/// The shortest entity of a nullable unsigned integer: `None` is NULL.
+/// Returns the shortest entity of a nullable unsigned integer: `None` is NULL.
 pub fn write_nullable_unsigned(x: Option<u64>) -> Entity
     ensures entity { IsEntity result }
     ensures short { length result ≤ 10 }
@@ -26,7 +26,7 @@ pub fn write_nullable_unsigned(x: Option<u64>) -> Entity
     shortest_unsigned(raised_unsigned(x))
 }
 
-/// The shortest entity of a mandatory signed integer, of a magnitude of at most 2^68.
+/// Returns the shortest entity of a mandatory signed integer, of a magnitude of at most 2^68.
 pub fn write_signed(x: i128) -> Entity
     requires { unsigned_abs x ≤ 2 ^ 68 }
     ensures entity { IsEntity result }
@@ -36,7 +36,7 @@ pub fn write_signed(x: i128) -> Entity
     shortest_signed(x)
 }
 
-/// The shortest entity of a nullable signed integer, of a magnitude of at most 2^68: `None` is NULL.
+/// Returns the shortest entity of a nullable signed integer, of a magnitude of at most 2^68: `None` is NULL.
 pub fn write_nullable_signed(x: Option<i128>) -> Entity
     requires { IfSome x (λ n. unsigned_abs n ≤ 2 ^ 68) }
     ensures entity { IsEntity result }
@@ -46,7 +46,7 @@ pub fn write_nullable_signed(x: Option<i128>) -> Entity
     shortest_signed(raised_signed(x))
 }
 
-/// What the nullable form sends for an unsigned integer.
+/// Returns the number that the nullable form sends for an unsigned integer.
 fn raised_unsigned(x: Option<u64>) -> u128
     ensures meaning { Means true (pos result) (option_map pos x) }
     ensures small { result ≤ 2 ^ 64 }
@@ -57,7 +57,7 @@ fn raised_unsigned(x: Option<u64>) -> u128
     }
 }
 
-/// What the nullable form sends for a signed integer.
+/// Returns the number that the nullable form sends for a signed integer.
 fn raised_signed(x: Option<i128>) -> i128
     requires { IfSome x (λ n. unsigned_abs n ≤ 2 ^ 68) }
     ensures meaning { Means true result x }
@@ -70,7 +70,7 @@ fn raised_signed(x: Option<i128>) -> i128
     }
 }
 
-/// The shortest entity that has this number.
+/// Returns the shortest entity of this number.
 fn shortest_unsigned(n: u128) -> Entity
     requires { n < 2 ^ 70 }
     ensures entity { IsEntity result }
@@ -81,7 +81,7 @@ fn shortest_unsigned(n: u128) -> Entity
     entity_of(n, groups(n))
 }
 
-/// The shortest entity that has this number in two's complement.
+/// Returns the shortest entity of this number in two's complement.
 fn shortest_signed(n: i128) -> Entity
     requires { unsigned_abs n ≤ 2 ^ 68 + 1 }
     ensures entity { IsEntity result }
@@ -96,7 +96,7 @@ fn shortest_signed(n: i128) -> Entity
     }
 }
 
-/// The shortest entity of `-1 - complement`, in two's complement.
+/// Returns the shortest entity of `-1 - complement`, in two's complement.
 fn shortest_negative(complement: u128) -> Entity
     requires { complement < 2 ^ 69 }
     ensures entity { IsEntity result }
@@ -108,7 +108,7 @@ fn shortest_negative(complement: u128) -> Entity
     entity_of((1u128 << (7 * len)) - 1 - complement, len)
 }
 
-/// The shortest entity of a number in two's complement.
+/// Returns the shortest entity of a natural number in two's complement.
 fn shortest_natural(sum: u128) -> Entity
     requires { sum < 2 ^ 69 }
     ensures entity { IsEntity result }
@@ -119,7 +119,7 @@ fn shortest_natural(sum: u128) -> Entity
     entity_of(sum, groups(sum * 2))
 }
 
-/// How many groups of seven bits a number takes, at least one.
+/// Returns the number of groups of seven bits that a number needs, at least one.
 fn groups(n: u128) -> usize
     requires { n < 2 ^ 70 }
     ensures some { 0 < result }
@@ -135,7 +135,7 @@ fn groups(n: u128) -> usize
     10
 }
 
-/// The entity of so many bytes that has this number.
+/// Returns the entity of `len` bytes that has this number.
 fn entity_of(n: u128, len: usize) -> Entity
     requires some { 0 < len }
     requires few { len ≤ 10 }
