@@ -1,7 +1,7 @@
 //! The first entity of a slice as an integer.
 //!
-//! An entity of one byte is by far the most common, and is looked for first. Where eight bytes are left and the entity
-//! ends among them, it is taken by one load of eight bytes. All else goes byte by byte, out of line.
+//! An entity of one byte is by far the most common, and is looked for first. If eight bytes are left and the entity ends among them, it is
+//! read by one load of eight bytes. All others are read byte by byte, out of line.
 
 ghost use Rattle.std.specs.Prelude.{◌≡◌, ◌<◌, ◌≤◌, true, false, if◌then◌else◌, nat_lt, Option, IfSome, IfNone, Some, pos, option_map, length, take};
 ghost use Rattle.fast_wire.specs.meaning.Entities.{HaveNoStop, IsEntity};
@@ -18,18 +18,18 @@ use fast_wire::{
     read_nullable_signed, read_nullable_unsigned, read_signed, read_unsigned,
 };
 
-/// What a slice begins with.
+/// The result of reading the entity at the front of a slice.
 #[derive(Clone, Copy, Debug, PartialEq, Eq)]
 pub enum First<T> {
-    /// An entity of so many bytes, which stands for this value.
+    /// An entity with this value, and its length in bytes.
     Whole(T, usize),
-    /// So many bytes decide this fault, and no fewer would.
+    /// A fault, and the number of bytes that decide it: no fewer would.
     Wrong(WireFault, usize),
     /// The slice ends inside an entity, or is empty.
     Cut,
 }
 
-/// The first entity as a mandatory integer from 0 to `top`.
+/// Reads the first entity as a mandatory integer from 0 to `top`.
 #[inline(always)]
 pub fn first_unsigned(bytes: &[u8], strict: bool, top: u64) -> First<u64>
     ensures { IsFirstInt (λ x. Some (pos x)) strict (unsigned_up_to top) false result bytes.now }
@@ -40,7 +40,7 @@ pub fn first_unsigned(bytes: &[u8], strict: bool, top: u64) -> First<u64>
     }
 }
 
-/// The first entity as a nullable integer from 0 to `top`: `None` is NULL.
+/// Reads the first entity as a nullable integer from 0 to `top`: `None` is NULL.
 #[inline(always)]
 pub fn first_nullable_unsigned(bytes: &[u8], strict: bool, top: u64) -> First<Option<u64>>
     ensures { IsFirstInt (λ x. option_map pos x) strict (unsigned_up_to top) true result bytes.now }
@@ -53,7 +53,7 @@ pub fn first_nullable_unsigned(bytes: &[u8], strict: bool, top: u64) -> First<Op
     }
 }
 
-/// The first entity as a mandatory integer in two's complement, from `low` to `top`.
+/// Reads the first entity as a mandatory integer in two's complement, from `low` to `top`.
 #[inline(always)]
 pub fn first_signed(bytes: &[u8], strict: bool, low: i128, top: i128) -> First<i128>
     ensures { IsFirstInt (λ x. Some x) strict (signed_between low top) false result bytes.now }
@@ -67,7 +67,7 @@ pub fn first_signed(bytes: &[u8], strict: bool, low: i128, top: i128) -> First<i
     long_signed(bytes, strict, low, top)
 }
 
-/// The first entity as a nullable integer in two's complement, from `low` to `top`: `None` is NULL.
+/// Reads the first entity as a nullable integer in two's complement, from `low` to `top`: `None` is NULL.
 #[inline(always)]
 pub fn first_nullable_signed(
     bytes: &[u8],
@@ -86,7 +86,7 @@ pub fn first_nullable_signed(
     long_nullable_signed(bytes, strict, low, top)
 }
 
-/// `first_unsigned` of a short entity, its number and length known.
+/// Returns the result of `first_unsigned` for a short entity with this number and length.
 #[inline(always)]
 fn front_unsigned(bytes: &[u8], sum: u64, len: usize, strict: bool, top: u64) -> First<u64>
     requires { IsShortEntity sum len bytes.now }
@@ -96,7 +96,7 @@ fn front_unsigned(bytes: &[u8], sum: u64, len: usize, strict: bool, top: u64) ->
     decided(judge_unsigned(w, u128::from(sum), strict, top), len)
 }
 
-/// `first_nullable_unsigned` of a short entity, its number and length known.
+/// Returns the result of `first_nullable_unsigned` for a short entity with this number and length.
 #[inline(always)]
 fn front_nullable_unsigned(
     bytes: &[u8],
@@ -115,7 +115,7 @@ fn front_nullable_unsigned(
     )
 }
 
-/// `first_signed` of a short entity, its number and length known.
+/// Returns the result of `first_signed` for a short entity with this number and length.
 #[inline(always)]
 fn front_signed(
     bytes: &[u8],
@@ -135,7 +135,7 @@ fn front_signed(
     )
 }
 
-/// `first_nullable_signed` of a short entity, its number and length known.
+/// Returns the result of `first_nullable_signed` for a short entity with this number and length.
 #[inline(always)]
 fn front_nullable_signed(
     bytes: &[u8],
@@ -161,7 +161,7 @@ fn front_nullable_signed(
     )
 }
 
-/// `first_unsigned` byte by byte.
+/// Reads as `first_unsigned` does, byte by byte.
 #[inline(never)]
 fn long_unsigned(bytes: &[u8], strict: bool, top: u64) -> First<u64>
     ensures { IsFirstInt (λ x. Some (pos x)) strict (unsigned_up_to top) false result bytes.now }
@@ -172,7 +172,7 @@ fn long_unsigned(bytes: &[u8], strict: bool, top: u64) -> First<u64>
     }
 }
 
-/// `first_nullable_unsigned` byte by byte.
+/// Reads as `first_nullable_unsigned` does, byte by byte.
 #[inline(never)]
 fn long_nullable_unsigned(bytes: &[u8], strict: bool, top: u64) -> First<Option<u64>>
     ensures { IsFirstInt (λ x. option_map pos x) strict (unsigned_up_to top) true result bytes.now }
@@ -183,7 +183,7 @@ fn long_nullable_unsigned(bytes: &[u8], strict: bool, top: u64) -> First<Option<
     }
 }
 
-/// `first_signed` byte by byte.
+/// Reads as `first_signed` does, byte by byte.
 #[inline(never)]
 fn long_signed(bytes: &[u8], strict: bool, low: i128, top: i128) -> First<i128>
     ensures { IsFirstInt (λ x. Some x) strict (signed_between low top) false result bytes.now }
@@ -194,7 +194,7 @@ fn long_signed(bytes: &[u8], strict: bool, low: i128, top: i128) -> First<i128>
     }
 }
 
-/// `first_nullable_signed` byte by byte.
+/// Reads as `first_nullable_signed` does, byte by byte.
 #[inline(never)]
 fn long_nullable_signed(bytes: &[u8], strict: bool, low: i128, top: i128) -> First<Option<i128>>
     ensures { IsFirstInt (λ x. x) strict (signed_between low top) true result bytes.now }
@@ -205,7 +205,7 @@ fn long_nullable_signed(bytes: &[u8], strict: bool, low: i128, top: i128) -> Fir
     }
 }
 
-/// The length of the first entity, if it ends within ten bytes.
+/// Returns the length of the first entity, if it ends within ten bytes.
 fn entity_len(bytes: &[u8]) -> Option<usize>
     ensures some { IfSome result (λ len. (len ≤ 10) × (len ≤ length bytes.now) × IsEntity (take len bytes.now)) }
     ensures none { IfNone result (HaveNoStop (take 10 bytes.now)) }
@@ -221,7 +221,7 @@ fn entity_len(bytes: &[u8]) -> Option<usize>
     None
 }
 
-/// What was read of an entity of this length.
+/// Returns the result of reading an entity of this length.
 #[inline]
 fn decided<T>(read: Result<T, WireFault>, len: usize) -> First<T>
     ensures { result ≡ first_of read len }
@@ -232,7 +232,7 @@ fn decided<T>(read: Result<T, WireFault>, len: usize) -> First<T>
     }
 }
 
-/// What a slice of this length is that has no stop bit within ten bytes.
+/// Returns the result for a slice of this length that has no stop bit within ten bytes.
 #[inline]
 fn endless<T>(len: usize) -> First<T>
     ensures { result ≡ (if nat_lt len 10 then First.Cut else First.Wrong WireFault.D2 10) }

@@ -1,6 +1,6 @@
-//! Integers in front of the bytes that are left: FAST 1.1, Transfer Encoding, eight bytes at a time.
+//! Integers at the front of the bytes that are left: FAST 1.1, Transfer Encoding, eight bytes at a time.
 //!
-//! What an entity means is fast_wire's; here it is looked for, and taken as one word where it has at most eight bytes.
+//! The crate fast_wire defines the value of an entity; here an entity is found, and read as one word if it has at most eight bytes.
 #![tactic(auto)]
 
 mod fronts;

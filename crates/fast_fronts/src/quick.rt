@@ -1,7 +1,7 @@
-//! Short entities as integers. That is all but every integer of a stream.
+//! Short entities as integers. Nearly all integers of a stream are such.
 //!
-//! The functions answer `None` where the entity is no such integer, which [`first_unsigned`](crate::first_unsigned) and its kin
-//! then tell apart, so nothing here calls out of line.
+//! The functions return `None` if the entity is no such integer, which [`first_unsigned`](crate::first_unsigned) and its variants then
+//! read, so that nothing here calls out of line.
 
 ghost use Rattle.std.specs.Prelude.{◌≡◌, Some, pos, true, false, option_map, IfSome};
 ghost use Rattle.fast_wire.specs.meaning.Integers.{unsigned_up_to, signed_between};
@@ -12,7 +12,7 @@ ghost use Rattle.fast_fronts.specs.declared.fronts.First.TheVariants.{Whole};
 use crate::words::{ShortEntity, lowered, short_lowered, short_signed};
 use fast_wire::{judge_nullable_signed, judge_nullable_unsigned, judge_signed, judge_unsigned};
 
-/// The first entity as a mandatory integer from 0 to `top`.
+/// Reads a short entity as a mandatory integer from 0 to `top`.
 #[inline(always)]
 pub fn quick_unsigned(bytes: &[u8], entity: ShortEntity, strict: bool, top: u64) -> Option<u64>
     requires first { IsShortEntity entity.number entity.len bytes.now }
@@ -26,7 +26,7 @@ pub fn quick_unsigned(bytes: &[u8], entity: ShortEntity, strict: bool, top: u64)
     }
 }
 
-/// The first entity as a nullable integer from 0 to `top`: `None` in the answer is NULL.
+/// Reads a short entity as a nullable integer from 0 to `top`: `Some(None)` is NULL.
 #[inline]
 pub fn quick_nullable_unsigned(
     bytes: &[u8],
@@ -45,7 +45,7 @@ pub fn quick_nullable_unsigned(
     }
 }
 
-/// The first entity as a mandatory integer in two's complement, from `low` to `top`.
+/// Reads a short entity as a mandatory integer in two's complement, from `low` to `top`.
 #[inline(always)]
 pub fn quick_signed(
     bytes: &[u8],
@@ -66,7 +66,7 @@ pub fn quick_signed(
     }
 }
 
-/// The first entity as a nullable integer in two's complement, from `low` to `top`: `None` in the answer is NULL.
+/// Reads a short entity as a nullable integer in two's complement, from `low` to `top`: `Some(None)` is NULL.
 #[inline(always)]
 pub fn quick_nullable_signed(
     bytes: &[u8],
@@ -87,7 +87,7 @@ pub fn quick_nullable_signed(
     }
 }
 
-/// The same integer with more bits.
+/// Returns the integer in 128 bits.
 #[inline(always)]
 fn widened(number: Option<i64>) -> Option<i128>
     ensures { result ≡ number }

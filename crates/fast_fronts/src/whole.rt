@@ -1,8 +1,7 @@
-//! Integers that stand whole in the bytes, taken at one go. That is all but every integer of a stream.
+//! Integers of which all bytes are there, read at once. Nearly all integers of a stream are such.
 //!
-//! The functions answer `None` where they don't take the integer, which [`first_unsigned`](crate::first_unsigned) and
-//! its kin then tell. At most calls all arguments but the bytes are constants, by which the answers fold, and nothing
-//! here calls out of line.
+//! The functions return `None` for the others, which [`first_unsigned`](crate::first_unsigned) and its variants then read. At most calls
+//! all arguments but the bytes are constants, by which the results fold, and nothing here calls out of line.
 
 ghost use Rattle.std.specs.Prelude.{◌≡◌, ◌≤◌, ◌≤ℤ◌, ◌↔◌, ◌∷◌, [], ℕ, Bool, List, length, true, false, IsTrue, if◌then◌else◌, pos, neg_ℤ, option_map, IfSome};
 ghost use Rattle.fast_wire.specs.meaning.Entities.{number, has_sign, signed};
@@ -17,8 +16,8 @@ use crate::words::{
     second_in,
 };
 
-/// The first entity as an integer from 0 to `top`, or NULL where it may be, and its length: one byte, or up to eight
-/// where eight bytes are there. One of up to four bytes is within any `top`. One with a byte too many is not taken.
+/// Reads the first entity as an integer from 0 to `top`, or NULL if `nullable`, with its length: one byte, or up to eight if eight bytes
+/// are there. An entity of up to four bytes is within any `top`. An entity with a byte too many is not read.
 #[inline(always)]
 pub fn whole_unsigned(
     bytes: &[u8],
@@ -50,8 +49,8 @@ pub fn whole_unsigned(
     Some((number, len))
 }
 
-/// The first entity as an integer in two's complement, from `low` to `top`, or NULL where it may be, and its length: one
-/// byte, or up to eight where eight bytes are there. One of up to four bytes is within any such range.
+/// Reads the first entity as an integer in two's complement, from `low` to `top`, or NULL if `nullable`, with its length: one byte, or up
+/// to eight if eight bytes are there. An entity of up to four bytes is within any such range.
 #[inline(always)]
 pub fn whole_signed(
     bytes: &[u8],
@@ -86,8 +85,8 @@ pub fn whole_signed(
     Some((number, len))
 }
 
-/// The first entity as a delta, or NULL where it may be, and its length: one byte, or up to eight where eight bytes are
-/// there. All of these are within its range.
+/// Reads the first entity as a delta, or NULL if `nullable`, with its length: one byte, or up to eight if eight bytes are there. All of
+/// these are within its range.
 #[inline(always)]
 pub fn whole_delta(bytes: &[u8], nullable: bool, strict: bool) -> Option<(Option<i64>, usize)>
     ensures { IfSome result (λ r. IsFirstInt (λ y. y) strict delta_range nullable (Whole r.0 r.1) bytes.now) }
@@ -95,7 +94,7 @@ pub fn whole_delta(bytes: &[u8], nullable: bool, strict: bool) -> Option<(Option
     whole_signed(bytes, nullable, strict, i64::MIN, i64::MAX)
 }
 
-/// The first entity as a delta, or NULL where it may be, if it is one byte.
+/// Reads the first entity as a delta, or NULL if `nullable`, if it is one byte.
 #[inline(always)]
 pub fn one_byte_delta(bytes: &[u8], nullable: bool) -> Option<Option<i64>>
     ensures { IfSome result (λ r. (strict : Bool)
@@ -105,7 +104,7 @@ pub fn one_byte_delta(bytes: &[u8], nullable: bool) -> Option<Option<i64>>
     Some(meant_signed(sum, 1, nullable))
 }
 
-/// What is sent as `n`: `None` is NULL, where that may be.
+/// Returns the integer that is sent as `n`: `None` is NULL, if `nullable`.
 #[inline(always)]
 fn meant(n: u64, nullable: bool) -> Option<u64>
     ensures { Means nullable (pos n) (option_map pos result) }
@@ -119,7 +118,7 @@ fn meant(n: u64, nullable: bool) -> Option<u64>
     Some(n - 1)
 }
 
-/// The same of an entity of so many bytes in two's complement.
+/// Returns the integer of an entity of `len` bytes in two's complement: `None` is NULL, if `nullable`.
 #[inline(always)]
 fn meant_signed(sum: u64, len: usize, nullable: bool) -> Option<i64>
     requires some { 1 ≤ len }
@@ -129,7 +128,7 @@ fn meant_signed(sum: u64, len: usize, nullable: bool) -> Option<i64>
     meant_integer(extended(sum, len), nullable)
 }
 
-/// What is sent as an integer: `None` is NULL, where that may be.
+/// Returns the signed integer that is sent as `n`: `None` is NULL, if `nullable`.
 #[inline(always)]
 fn meant_integer(n: i64, nullable: bool) -> Option<i64>
     ensures { Means nullable n result }
@@ -140,8 +139,8 @@ fn meant_integer(n: i64, nullable: bool) -> Option<i64>
     lowered(n)
 }
 
-/// Whether the first byte has no stop bit, and is not zero, which in front would be a byte too many. Few senders write such a byte, so
-/// in neither mode it is taken here: that spares all others a look at the mode. Both are one test of the byte's sign.
+/// Returns whether the first byte has no stop bit, and is not zero, which in front would be a byte too many. Few senders write such a byte,
+/// so it is read here in neither mode: that spares all others a look at the mode. Both are one test of the byte's sign.
 #[inline(always)]
 fn goes_on(word: u64, bytes: &[u8]) -> bool
     requires front { IsFrontWord word bytes.now }
@@ -151,8 +150,8 @@ fn goes_on(word: u64, bytes: &[u8]) -> bool
     first != 0 && first < 0x80
 }
 
-/// Whether a signed integer in front, of two bytes and more, has a byte too many, in strict mode: seven bits in front that repeat
-/// the sign behind them.
+/// Returns whether a signed integer in front, of two or more bytes, has a byte too many, in strict mode: seven bits in front that repeat
+/// the sign of the next byte.
 #[inline(always)]
 fn is_refused_signed_front(word: u64, bytes: &[u8], strict: bool) -> bool
     requires front { IsFrontWord word bytes.now }
@@ -161,7 +160,7 @@ fn is_refused_signed_front(word: u64, bytes: &[u8], strict: bool) -> bool
     strict && repeats_sign(first_in(word, bytes), second_in(word, bytes))
 }
 
-/// Whether the seven bits of a byte are all like the sign of the byte behind it.
+/// Returns whether the seven bits of a byte are all like the sign of the next byte.
 #[inline(always)]
 fn repeats_sign(first: u8, second: u8) -> bool
     ensures { IsTrue result ↔ (first ≡ (if has_sign (second ∷ []) then 127 else 0)) }
@@ -173,7 +172,7 @@ fn repeats_sign(first: u8, second: u8) -> bool
     }
 }
 
-/// Whether an integer is at most `top`. NULL has no range.
+/// Returns whether an integer is at most `top`. NULL has no range.
 #[inline(always)]
 fn is_up_to(number: Option<u64>, top: u64) -> bool
     ensures { IsTrue result → IfSome number (λ n. n ≤ top) }
@@ -184,7 +183,7 @@ fn is_up_to(number: Option<u64>, top: u64) -> bool
     }
 }
 
-/// Whether an integer lies in a range. NULL has none.
+/// Returns whether an integer lies in a range. NULL has none.
 #[inline(always)]
 fn is_between(number: Option<i64>, low: i64, top: i64) -> bool
     ensures { IsTrue result → IfSome number (IsWithin (signed_between low top)) }

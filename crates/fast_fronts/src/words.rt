@@ -1,4 +1,4 @@
-//! Entities of at most eight bytes, taken as one word.
+//! Entities of at most eight bytes, read as one word.
 
 ghost use Rattle.std.specs.Prelude.{◌≡◌, ℕ, ◌*◌, ◌++◌, ◌<◌, ◌≤◌, true, All, List, IfSome, pos, option_map, length, take, get_or};
 ghost use Rattle.std.specs.Int.{w32, from_le_bytes};
@@ -17,11 +17,11 @@ const SHORT_STOP_BITS: u32 = 0x8080_8080;
 pub struct ShortEntity {
     /// The number that the lower seven bits of its bytes make up.
     pub number: u64,
-    /// How many bytes it has.
+    /// Its number of bytes.
     pub len: usize,
 }
 
-/// The first entity, if it ends within eight bytes. Where fewer are left of a piece, those that are there are enough.
+/// Returns the first entity, if it ends within eight bytes. The slice may have fewer than eight.
 #[inline(always)]
 pub fn short_entity(bytes: &[u8]) -> Option<ShortEntity>
     ensures { IfSome result (λ e. IsShortEntity e.number e.len bytes.now) }
@@ -42,7 +42,7 @@ pub fn short_entity(bytes: &[u8]) -> Option<ShortEntity>
     Some(ShortEntity { number, len })
 }
 
-/// The number of the first entity, if it is one byte.
+/// Returns the number of the first entity, if it is one byte.
 #[inline(always)]
 pub(crate) fn one_byte(bytes: &[u8]) -> Option<u64>
     ensures { IfSome result (λ sum. IsShortEntity sum 1 bytes.now) }
@@ -54,8 +54,8 @@ pub(crate) fn one_byte(bytes: &[u8]) -> Option<u64>
     Some(u64::from(byte & 0x7f))
 }
 
-/// The number and the length of the first entity, if four bytes are there and it ends among them. Most do: so their number is made of
-/// 32 bits, which leaves no question of its range.
+/// Returns the number and the length of the first entity, if four bytes are there and it ends among them. Most do: so their number is made
+/// of 32 bits, which leaves no question of its range.
 #[inline(always)]
 pub(crate) fn four_bytes(bytes: &[u8]) -> Option<(u64, usize)>
     ensures entity { IfSome result (λ e. IsShortEntity e.0 e.1 bytes.now) }
@@ -71,8 +71,8 @@ pub(crate) fn four_bytes(bytes: &[u8]) -> Option<(u64, usize)>
     Some((u64::from(packed_short(word)), bits as usize / 8))
 }
 
-/// The number and the length of the first entity, if two or three bytes are there and it ends among them: those of four bytes with zeros
-/// behind, of which none is a last byte.
+/// Returns the number and the length of the first entity, if two or three bytes are there and it ends among them: those of four bytes,
+/// padded with zeros, of which none is a last byte.
 #[inline(always)]
 fn few_bytes(bytes: &[u8]) -> Option<(u64, usize)>
     ensures { IfSome result (λ e. IsShortEntity e.0 e.1 bytes.now) }
@@ -89,7 +89,8 @@ fn few_bytes(bytes: &[u8]) -> Option<(u64, usize)>
     Some((number, len))
 }
 
-/// The same of five to seven bytes, by eight bytes with zeros behind.
+/// Returns the number and the length of the first entity, if five to seven bytes are there and it ends among them: those of eight bytes,
+/// padded with zeros.
 #[cold]
 #[inline(never)]
 fn seven_bytes(bytes: &[u8]) -> Option<(u64, usize)>
@@ -107,7 +108,7 @@ fn seven_bytes(bytes: &[u8]) -> Option<(u64, usize)>
     Some((number, len))
 }
 
-/// The number and the length of the first entity, if eight bytes are there and it ends among them.
+/// Returns the number and the length of the first entity, if eight bytes are there and it ends among them.
 #[inline(always)]
 pub(crate) fn eight_bytes(bytes: &[u8]) -> Option<(u64, usize)>
     ensures { IfSome result (λ e. IsShortEntity e.0 e.1 bytes.now) }
@@ -116,7 +117,7 @@ pub(crate) fn eight_bytes(bytes: &[u8]) -> Option<(u64, usize)>
     Some((packed(word), len))
 }
 
-/// The first entity as the lower bytes of a word, and its length, if eight bytes are there and it ends among them.
+/// Returns the first entity as the lower bytes of a word, and its length, if eight bytes are there and it ends among them.
 #[inline(always)]
 fn word_in_front(bytes: &[u8]) -> Option<(u64, usize)>
     ensures { IfSome result (λ e. IsWordInFront e.0 e.1 bytes.now) }
@@ -131,8 +132,8 @@ fn word_in_front(bytes: &[u8]) -> Option<(u64, usize)>
     Some((word, bits as usize / 8))
 }
 
-/// The eight bytes in front as one word, the first one the lowest, if so many are there: what asks for their bytes one by one and for
-/// some of them together is then one load. Those who take the word take the bytes too, for what their clauses say of them.
+/// Returns the eight bytes in front as one word, the first one the lowest, if that many are there. Reading the bytes one by one and some of
+/// them together is then one load. The functions that use the word have the bytes as an argument too, for their clauses.
 #[inline(always)]
 pub(crate) fn front_word(bytes: &[u8]) -> Option<u64>
     ensures { IfSome result (λ word. IsFrontWord word bytes.now) }
@@ -141,7 +142,7 @@ pub(crate) fn front_word(bytes: &[u8]) -> Option<u64>
     Some(u64::from_le_bytes(*chunk))
 }
 
-/// The first byte.
+/// Returns the first byte.
 #[inline(always)]
 pub(crate) fn first_in(word: u64, bytes: &[u8]) -> u8
     requires front { IsFrontWord word bytes.now }
@@ -151,7 +152,7 @@ pub(crate) fn first_in(word: u64, bytes: &[u8]) -> u8
     (word & 0xff) as u8
 }
 
-/// The second byte.
+/// Returns the second byte.
 #[inline(always)]
 pub(crate) fn second_in(word: u64, bytes: &[u8]) -> u8
     requires front { IsFrontWord word bytes.now }
@@ -161,7 +162,7 @@ pub(crate) fn second_in(word: u64, bytes: &[u8]) -> u8
     (word >> 8 & 0xff) as u8
 }
 
-/// The first four bytes.
+/// Returns the first four bytes.
 #[inline(always)]
 fn four_of(word: u64, bytes: &[u8]) -> u32
     requires front { IsFrontWord word bytes.now }
@@ -171,7 +172,7 @@ fn four_of(word: u64, bytes: &[u8]) -> u32
     (word & 0xffff_ffff) as u32
 }
 
-/// The number of the first entity, if it is one byte.
+/// Returns the number of the first entity, if it is one byte.
 #[inline(always)]
 pub(crate) fn byte_in(word: u64, bytes: &[u8]) -> Option<u64>
     requires front { IsFrontWord word bytes.now }
@@ -184,7 +185,7 @@ pub(crate) fn byte_in(word: u64, bytes: &[u8]) -> Option<u64>
     Some(u64::from(byte & 0x7f))
 }
 
-/// The number and the length of the first entity, if it ends among four bytes.
+/// Returns the number and the length of the first entity, if it ends among four bytes.
 #[inline(always)]
 pub(crate) fn four_in(word: u64, bytes: &[u8]) -> Option<(u64, usize)>
     requires front { IsFrontWord word bytes.now }
@@ -201,8 +202,8 @@ pub(crate) fn four_in(word: u64, bytes: &[u8]) -> Option<(u64, usize)>
     Some((u64::from(packed_short(low)), bits as usize / 8))
 }
 
-/// The integer in two's complement and the length of the first entity, if it ends among four bytes. Its sign is spread over the word
-/// before its bytes are packed, which takes fewer steps than to do so for each length behind that.
+/// Returns the integer in two's complement and the length of the first entity, if it ends among four bytes. Its sign is spread over the
+/// word before its bytes are packed, which needs fewer steps than to do so for each length afterwards.
 #[inline(always)]
 pub(crate) fn four_signed_in(word: u64, bytes: &[u8]) -> Option<(i64, usize)>
     requires front { IsFrontWord word bytes.now }
@@ -221,7 +222,7 @@ pub(crate) fn four_signed_in(word: u64, bytes: &[u8]) -> Option<(i64, usize)>
     Some((extended(sum, 4), bits as usize / 8))
 }
 
-/// So many upper bits of four bytes, which are an entity, at the lower end of four bytes that are the same integer.
+/// Moves the upper `bits` bits of four bytes, which are an entity, to the lower end of four bytes that are the same integer.
 #[inline(always)]
 fn with_sign(word: u32, bits: u32) -> u32
     requires some { 8 ≤ bits }
@@ -232,7 +233,7 @@ fn with_sign(word: u32, bits: u32) -> u32
     ((word << 1).cast_signed() >> (33 - bits)).cast_unsigned()
 }
 
-/// The number and the length of the first entity, if it ends among the eight bytes. More than four bytes are expected.
+/// Returns the number and the length of the first entity, if it ends among the eight bytes. More than four bytes are expected.
 #[inline(always)]
 pub(crate) fn eight_in(word: u64, bytes: &[u8]) -> Option<(u64, usize)>
     requires front { IsFrontWord word bytes.now }
@@ -248,7 +249,7 @@ pub(crate) fn eight_in(word: u64, bytes: &[u8]) -> Option<(u64, usize)>
     Some((packed_whole(low), bits as usize / 8))
 }
 
-/// The lower seven bits of each of eight bytes, side by side. Most entities have four bytes at most.
+/// Packs the lower seven bits of each of eight bytes side by side. Most entities have four bytes at most.
 #[inline(always)]
 fn packed(word: u64) -> u64
     ensures { (w : List ℕ) → length w ≡ 8 → All (λ byte. byte < 256) w → word ≡ word_of w → result ≡ number w }
@@ -259,7 +260,7 @@ fn packed(word: u64) -> u64
     packed_whole(word)
 }
 
-/// The same in three steps.
+/// Packs the lower seven bits of each of eight bytes side by side, in three steps.
 #[inline(always)]
 fn packed_whole(word: u64) -> u64
     ensures { (w : List ℕ) → length w ≡ 8 → All (λ byte. byte < 256) w → word ≡ word_of w → result ≡ number w }
@@ -270,7 +271,7 @@ fn packed_whole(word: u64) -> u64
     fours - (fours >> 32) * 0xf000_0000
 }
 
-/// The same in two, where the upper four bytes are zero.
+/// Packs the lower seven bits of each of eight bytes side by side, in two steps, if the upper four bytes are zero.
 #[inline(always)]
 fn packed_low(word: u64) -> u64
     requires low { word ≤ 4294967295 }
@@ -281,7 +282,7 @@ fn packed_low(word: u64) -> u64
     pairs - (pairs >> 16) * 0xc000
 }
 
-/// The lower seven bits of each of four bytes, side by side.
+/// Packs the lower seven bits of each of four bytes side by side.
 #[inline(always)]
 fn packed_short(word: u32) -> u32
     ensures { (w : List ℕ) → length w ≡ 8 → All (λ byte. byte < 256) w → word ≡ word_of w → result ≡ number w }
@@ -291,7 +292,7 @@ fn packed_short(word: u32) -> u32
     pairs - (pairs >> 16) * 0xc000
 }
 
-/// The number in two's complement of so many bytes, by the number that their lower seven bits make up.
+/// Returns the number in two's complement of `len` bytes, by the number that their lower seven bits make up.
 #[inline(always)]
 pub(crate) fn extended(sum: u64, len: usize) -> i64
     requires some { 1 ≤ len }
@@ -302,7 +303,7 @@ pub(crate) fn extended(sum: u64, len: usize) -> i64
     (sum << spare).cast_signed() >> spare
 }
 
-/// The number of a short entity in two's complement.
+/// Returns the number of a short entity in two's complement.
 #[inline(always)]
 pub(crate) fn short_signed(w: &[u8], sum: u64) -> i64
     requires entity { IsEntity w.now }
@@ -314,7 +315,7 @@ pub(crate) fn short_signed(w: &[u8], sum: u64) -> i64
     (sum << spare).cast_signed() >> spare
 }
 
-/// What the nullable form of an unsigned integer sends as `n`: `None` is NULL.
+/// Returns the integer that the nullable form of an unsigned integer sends as `n`: `None` is NULL.
 #[inline(always)]
 pub(crate) fn short_lowered(n: u64) -> Option<u128>
     ensures { Means true (pos n) (option_map pos result) }
@@ -325,7 +326,7 @@ pub(crate) fn short_lowered(n: u64) -> Option<u128>
     Some(u128::from(n - 1))
 }
 
-/// What the nullable form of a signed integer sends as `n`: `None` is NULL.
+/// Returns the integer that the nullable form of a signed integer sends as `n`, in 128 bits: `None` is NULL.
 #[inline(always)]
 pub(crate) fn short_signed_lowered(n: i64) -> Option<i128>
     ensures { Means true n result }
@@ -336,7 +337,7 @@ pub(crate) fn short_signed_lowered(n: i64) -> Option<i128>
     }
 }
 
-/// The same, with as many bits as `n`.
+/// Returns the integer that the nullable form of a signed integer sends as `n`, in 64 bits: `None` is NULL.
 #[inline(always)]
 pub(crate) fn lowered(n: i64) -> Option<i64>
     ensures { Means true n result }
