@@ -1,4 +1,4 @@
-//! Templates and their instructions, as they are kept.
+//! Templates and their instructions, as they are stored.
 
 ghost use Rattle.std.specs.Prelude.{◌≡◌, ◌≤◌, ℕ, List};
 ghost use Rattle.fast_tree.specs.meaning.Nodes.{field_data, instruction_of};
@@ -7,23 +7,23 @@ ghost use Rattle.fast_tree.specs.meaning.Tree.{Label, Instruction, uses_bit, bit
 use crate::operators::Operator;
 use fast_value::{Kind, Value};
 
-/// How one value is sent: that of a field, the length of a sequence, the exponent or the mantissa of a decimal.
+/// The encoding of one value: that of a field, the length of a sequence, the exponent or the mantissa of a decimal.
 #[derive(Debug, Drop)]
 pub struct FieldInstruction {
     /// The type of the value.
     pub kind: Kind,
-    /// Whether the value may be absent.
+    /// If set, the value may be absent.
     pub optional: bool,
     /// The field operator.
     pub operator: Operator,
-    /// The initial value, where the operator has one.
+    /// The initial value, if the operator has one.
     pub initial: Option<Value>,
-    /// The number of the dictionary entry that the operator reads and writes, where it is one that does.
+    /// The number of the dictionary entry that the operator reads and writes, if it uses one.
     pub entry: Option<u32>,
 }
 
 impl FieldInstruction {
-    /// Whether the value has a bit in the presence map of its segment.
+    /// Returns whether the value has a bit in the presence map of its segment.
     #[inline]
     pub fn uses_bit(&self) -> bool
         ensures { result ≡ uses_bit (field_data self.now) }
@@ -32,7 +32,7 @@ impl FieldInstruction {
     }
 }
 
-/// What an instruction of a template stands for.
+/// The shape of an instruction of a template.
 #[derive(Debug, Drop)]
 pub enum Shape {
     /// A field.
@@ -41,12 +41,12 @@ pub enum Shape {
     Decimal {
         /// The exponent, which is optional if the decimal is.
         exponent: FieldInstruction,
-        /// The mantissa, which is there if the exponent is.
+        /// The mantissa, which is present if the exponent is.
         mantissa: FieldInstruction,
     },
     /// A group.
     Group {
-        /// Whether the group may be absent.
+        /// If set, the group may be absent.
         optional: bool,
         /// The nodes of its instructions, in order.
         body: Vec<u32>,
@@ -61,7 +61,7 @@ pub enum Shape {
 }
 
 impl Shape {
-    /// The greatest number of presence bits that the instruction uses of its own segment.
+    /// Returns the greatest number of presence bits that the instruction uses of its own segment.
     pub fn bits_used(&self) -> usize
         ensures used { (at : Label) (first : ℕ) (is : List Instruction)
             → result ≡ bits_used (instruction_of at first is self.now) }
@@ -83,18 +83,18 @@ impl Shape {
 pub struct Node {
     /// The name of the field, group or sequence.
     pub name: String,
-    /// What the instruction stands for.
+    /// The shape of the instruction.
     pub shape: Shape,
 }
 
-/// A template with its references in place.
+/// A template with its references expanded in place.
 #[derive(Debug, Drop)]
 pub struct Template {
     /// The name, which no other template of the set has.
     pub name: String,
     /// The template identifier, if the template can be sent, which no other template of the set has.
     pub id: Option<u32>,
-    /// Whether a message of the template resets the dictionary.
+    /// If set, a message of the template resets the dictionary.
     pub reset: bool,
     /// The nodes of its instructions, in order.
     pub body: Vec<u32>,

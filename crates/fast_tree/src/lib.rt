@@ -1,4 +1,4 @@
-//! What a template set is, apart from any text: its tree, and the form that it is kept in.
+//! Template sets, apart from any file: their tree, and the form in which they are stored.
 #![tactic(auto)]
 
 pub mod instructions;

@@ -10,20 +10,20 @@ pub enum Operator {
     None,
     /// The initial value, which is never sent.
     Constant,
-    /// The initial value where nothing is sent.
+    /// The initial value if nothing is sent.
     Default,
-    /// The previous value where nothing is sent.
+    /// The previous value if nothing is sent.
     Copy,
-    /// One more than the previous value where nothing is sent.
+    /// One more than the previous value if nothing is sent.
     Increment,
     /// The difference to the previous value is sent.
     Delta,
-    /// The end of a string is sent, and replaces as much of the previous value.
+    /// The end of a string is sent, and replaces that many bytes of the previous value.
     Tail,
 }
 
 impl Operator {
-    /// Whether a value under the operator, which may be optional, has a bit in the presence map of its segment (FAST 1.1,
+    /// Returns whether a value under the operator, which may be optional, has a bit in the presence map of its segment (FAST 1.1,
     /// Transfer Encoding, Presence Map Utilization).
     #[inline]
     pub fn uses_bit(self, optional: bool) -> bool
