@@ -1,4 +1,4 @@
-//! What a decoder's loop has to do at a node, as one number.
+//! The code of a node: the case of the decoder's loop that decodes it, as one number.
 
 ghost use Rattle.fast_program.specs.device.Codes.{IsCodeFor};
 ghost use Rattle.fast_value.specs.declared.kinds.Kind.{Kind};
@@ -8,166 +8,166 @@ ghost use Rattle.fast_value.specs.declared.kinds.Kind.TheVariants.{Decimal as de
 use fast_tree::Operator;
 use fast_value::Kind;
 
-/// What a decoder's loop has to do at a node, as one number, so that one jump leads there. A field is named by its kind, by
-/// whether it may be absent, and by its operator.
+/// The case of a decoder's loop that decodes a node, as one number, so that one jump leads there. A field is named by its type, by whether
+/// it is optional, and by its operator.
 #[derive(Clone, Copy, Debug, PartialEq, Eq)]
 pub enum Code {
-    /// All that has no code of its own.
+    /// All nodes that have no code of their own.
     General,
     /// No node: the end of a body.
     End,
     /// `UInt32` without an operator.
     UInt32Plain,
-    /// `UInt32` without an operator, and it may be absent.
+    /// `UInt32` without an operator, optional.
     UInt32NullablePlain,
     /// `UInt32` under Default.
     UInt32Default,
-    /// `UInt32` under Default, and it may be absent.
+    /// `UInt32` under Default, optional.
     UInt32NullableDefault,
     /// `UInt32` under Copy.
     UInt32Copy,
-    /// `UInt32` under Copy, and it may be absent.
+    /// `UInt32` under Copy, optional.
     UInt32NullableCopy,
     /// `UInt32` under Increment.
     UInt32Increment,
-    /// `UInt32` under Increment, and it may be absent.
+    /// `UInt32` under Increment, optional.
     UInt32NullableIncrement,
     /// `UInt32` under Delta.
     UInt32Delta,
-    /// `UInt32` under Delta, and it may be absent.
+    /// `UInt32` under Delta, optional.
     UInt32NullableDelta,
     /// `Int32` without an operator.
     Int32Plain,
-    /// `Int32` without an operator, and it may be absent.
+    /// `Int32` without an operator, optional.
     Int32NullablePlain,
     /// `Int32` under Default.
     Int32Default,
-    /// `Int32` under Default, and it may be absent.
+    /// `Int32` under Default, optional.
     Int32NullableDefault,
     /// `Int32` under Copy.
     Int32Copy,
-    /// `Int32` under Copy, and it may be absent.
+    /// `Int32` under Copy, optional.
     Int32NullableCopy,
     /// `Int32` under Increment.
     Int32Increment,
-    /// `Int32` under Increment, and it may be absent.
+    /// `Int32` under Increment, optional.
     Int32NullableIncrement,
     /// `Int32` under Delta.
     Int32Delta,
-    /// `Int32` under Delta, and it may be absent.
+    /// `Int32` under Delta, optional.
     Int32NullableDelta,
     /// `UInt64` without an operator.
     UInt64Plain,
-    /// `UInt64` without an operator, and it may be absent.
+    /// `UInt64` without an operator, optional.
     UInt64NullablePlain,
     /// `UInt64` under Default.
     UInt64Default,
-    /// `UInt64` under Default, and it may be absent.
+    /// `UInt64` under Default, optional.
     UInt64NullableDefault,
     /// `UInt64` under Copy.
     UInt64Copy,
-    /// `UInt64` under Copy, and it may be absent.
+    /// `UInt64` under Copy, optional.
     UInt64NullableCopy,
     /// `UInt64` under Increment.
     UInt64Increment,
-    /// `UInt64` under Increment, and it may be absent.
+    /// `UInt64` under Increment, optional.
     UInt64NullableIncrement,
     /// `UInt64` under Delta.
     UInt64Delta,
-    /// `UInt64` under Delta, and it may be absent.
+    /// `UInt64` under Delta, optional.
     UInt64NullableDelta,
     /// `Int64` without an operator.
     Int64Plain,
-    /// `Int64` without an operator, and it may be absent.
+    /// `Int64` without an operator, optional.
     Int64NullablePlain,
     /// `Int64` under Default.
     Int64Default,
-    /// `Int64` under Default, and it may be absent.
+    /// `Int64` under Default, optional.
     Int64NullableDefault,
     /// `Int64` under Copy.
     Int64Copy,
-    /// `Int64` under Copy, and it may be absent.
+    /// `Int64` under Copy, optional.
     Int64NullableCopy,
     /// `Int64` under Increment.
     Int64Increment,
-    /// `Int64` under Increment, and it may be absent.
+    /// `Int64` under Increment, optional.
     Int64NullableIncrement,
     /// `Int64` under Delta.
     Int64Delta,
-    /// `Int64` under Delta, and it may be absent.
+    /// `Int64` under Delta, optional.
     Int64NullableDelta,
-    /// A constant that is there, of any kind.
+    /// A constant that is mandatory, of any type.
     Constant,
     /// `Decimal` without an operator.
     DecimalPlain,
-    /// `Decimal` without an operator, and it may be absent.
+    /// `Decimal` without an operator, optional.
     DecimalNullablePlain,
     /// `Decimal` under Copy.
     DecimalCopy,
-    /// `Decimal` under Copy, and it may be absent.
+    /// `Decimal` under Copy, optional.
     DecimalNullableCopy,
     /// `Decimal` under Delta.
     DecimalDelta,
-    /// `Decimal` under Delta, and it may be absent.
+    /// `Decimal` under Delta, optional.
     DecimalNullableDelta,
     /// `Ascii` without an operator.
     AsciiPlain,
-    /// `Ascii` without an operator, and it may be absent.
+    /// `Ascii` without an operator, optional.
     AsciiNullablePlain,
     /// `Ascii` under Default.
     AsciiDefault,
-    /// `Ascii` under Default, and it may be absent.
+    /// `Ascii` under Default, optional.
     AsciiNullableDefault,
     /// `Ascii` under Copy.
     AsciiCopy,
-    /// `Ascii` under Copy, and it may be absent.
+    /// `Ascii` under Copy, optional.
     AsciiNullableCopy,
     /// `Ascii` under Tail.
     AsciiTail,
-    /// `Ascii` under Tail, and it may be absent.
+    /// `Ascii` under Tail, optional.
     AsciiNullableTail,
     /// `Ascii` under Delta.
     AsciiDelta,
-    /// `Ascii` under Delta, and it may be absent.
+    /// `Ascii` under Delta, optional.
     AsciiNullableDelta,
     /// `Unicode` without an operator.
     UnicodePlain,
-    /// `Unicode` without an operator, and it may be absent.
+    /// `Unicode` without an operator, optional.
     UnicodeNullablePlain,
     /// `Unicode` under Delta.
     UnicodeDelta,
-    /// `Unicode` under Delta, and it may be absent.
+    /// `Unicode` under Delta, optional.
     UnicodeNullableDelta,
     /// `Bytes` without an operator.
     BytesPlain,
-    /// `Bytes` without an operator, and it may be absent.
+    /// `Bytes` without an operator, optional.
     BytesNullablePlain,
     /// `Bytes` under Tail.
     BytesTail,
-    /// `Bytes` under Tail, and it may be absent.
+    /// `Bytes` under Tail, optional.
     BytesNullableTail,
     /// A decimal by parts.
     Parts,
-    /// A decimal by parts: an exponent under Default, and behind it a mantissa under Delta.
+    /// A decimal by parts: an exponent under Default, followed by a mantissa under Delta.
     PartsDefault,
-    /// The same with an exponent that may be absent, and so the decimal.
+    /// A decimal by parts: an optional exponent under Default, followed by a mantissa under Delta. The decimal is then optional.
     PartsNullableDefault,
-    /// A decimal by parts: an exponent under Copy, and behind it a mantissa under Delta.
+    /// A decimal by parts: an exponent under Copy, followed by a mantissa under Delta.
     PartsCopy,
-    /// The same with an exponent that may be absent, and so the decimal.
+    /// A decimal by parts: an optional exponent under Copy, followed by a mantissa under Delta. The decimal is then optional.
     PartsNullableCopy,
-    /// A group that is there.
+    /// A mandatory group.
     Group,
-    /// A group that may be absent.
+    /// An optional group.
     OptionalGroup,
     /// A sequence whose length has no operator.
     Sequence,
-    /// A sequence whose length has no operator, and which may be absent.
+    /// An optional sequence whose length has no operator.
     OptionalSequence,
 }
 
 impl Code {
-    /// The code of a field of kind `UInt32`.
+    /// Returns the code of a field of type `UInt32`.
     #[tactic(auto, unfolding(crate::specs::device::Codes::IsCoded))]
     fn of_uint32(operator: Operator, optional: bool) -> Code
         ensures { IsCodeFor uint32 operator optional result }
@@ -189,7 +189,7 @@ impl Code {
         }
     }
 
-    /// The code of a field of kind `Int32`.
+    /// Returns the code of a field of type `Int32`.
     #[tactic(auto, unfolding(crate::specs::device::Codes::IsCoded))]
     fn of_int32(operator: Operator, optional: bool) -> Code
         ensures { IsCodeFor int32 operator optional result }
@@ -211,7 +211,7 @@ impl Code {
         }
     }
 
-    /// The code of a field of kind `UInt64`.
+    /// Returns the code of a field of type `UInt64`.
     #[tactic(auto, unfolding(crate::specs::device::Codes::IsCoded))]
     fn of_uint64(operator: Operator, optional: bool) -> Code
         ensures { IsCodeFor uint64 operator optional result }
@@ -233,7 +233,7 @@ impl Code {
         }
     }
 
-    /// The code of a field of kind `Int64`.
+    /// Returns the code of a field of type `Int64`.
     #[tactic(auto, unfolding(crate::specs::device::Codes::IsCoded))]
     fn of_int64(operator: Operator, optional: bool) -> Code
         ensures { IsCodeFor int64 operator optional result }
@@ -255,7 +255,7 @@ impl Code {
         }
     }
 
-    /// The code of a field of kind `Decimal`.
+    /// Returns the code of a field of type `Decimal`.
     #[tactic(auto, unfolding(crate::specs::device::Codes::IsCoded))]
     fn of_decimal(operator: Operator, optional: bool) -> Code
         ensures { IsCodeFor decimal operator optional result }
@@ -273,7 +273,7 @@ impl Code {
         }
     }
 
-    /// The code of a field of kind `Ascii`.
+    /// Returns the code of a field of type `Ascii`.
     #[tactic(auto, unfolding(crate::specs::device::Codes::IsCoded))]
     fn of_ascii(operator: Operator, optional: bool) -> Code
         ensures { IsCodeFor ascii operator optional result }
@@ -295,7 +295,7 @@ impl Code {
         }
     }
 
-    /// The code of a field of kind `Unicode`.
+    /// Returns the code of a field of type `Unicode`.
     #[tactic(auto, unfolding(crate::specs::device::Codes::IsCoded))]
     fn of_unicode(operator: Operator, optional: bool) -> Code
         ensures { IsCodeFor unicode operator optional result }
@@ -312,7 +312,7 @@ impl Code {
         }
     }
 
-    /// The code of a field of kind `Bytes`.
+    /// Returns the code of a field of type `Bytes`.
     #[tactic(auto, unfolding(crate::specs::device::Codes::IsCoded))]
     fn of_bytes(operator: Operator, optional: bool) -> Code
         ensures { IsCodeFor bytes operator optional result }
@@ -329,7 +329,7 @@ impl Code {
         }
     }
 
-    /// The code of a field of the kind under the operator, which may be absent or not.
+    /// Returns the code of a field of the type under the operator, optional or mandatory.
     #[tactic(auto, unfolding(crate::specs::device::Codes::IsCoded))]
     pub(crate) fn of_field(kind: Kind, operator: Operator, optional: bool) -> Code
         ensures { IsCodeFor kind operator optional result }

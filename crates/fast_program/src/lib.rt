@@ -1,4 +1,4 @@
-//! Template sets as programs: what a decoder's loop has to know of each node, in few bytes.
+//! Template sets as programs: the few bytes that a decoder's loop needs of each node.
 #![tactic(auto)]
 
 pub mod codes;

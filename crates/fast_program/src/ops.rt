@@ -1,4 +1,4 @@
-//! What a decoder's loop has to know of a node.
+//! The op of a node, which the decoder's loop reads.
 
 ghost use Rattle.std.specs.Prelude.{◌≡◌};
 ghost use Rattle.fast_tree.specs.declared.instructions.Shape.TheVariants.{Field, Decimal as by_parts};
@@ -9,21 +9,20 @@ ghost use Rattle.fast_program.specs.device.Ops.{IsOpOf};
 use crate::codes::Code;
 use fast_tree::{FieldInstruction, Operator, Shape};
 
-/// All that a decoder's loop has to know of a node.
+/// An op: all that a decoder's loop needs of a node.
 #[derive(Clone, Copy, Debug)]
 pub struct Op {
-    /// What there is to do.
+    /// The case of the loop that decodes the node.
     pub code: Code,
     /// The number of the node.
     pub node: u16,
-    /// The number of the entry of the field, or of the mantissa under Delta, where it has one and its operator keeps a value there,
-    /// else 0.
+    /// The number of the entry of the field, or of the mantissa under Delta, if it has one and its operator keeps a value there, else 0.
     pub entry: u32,
-    /// Where it stands in the program.
+    /// Its index in the program.
     pub at: u32,
 }
 
-/// Whether an operator keeps a value in the dictionary.
+/// Returns whether an operator keeps a value in the dictionary.
 fn keeps_value(operator: Operator) -> bool
     ensures { result ≡ keeps_value operator }
 {
@@ -34,7 +33,7 @@ fn keeps_value(operator: Operator) -> bool
 }
 
 impl Op {
-    /// That of a field.
+    /// Returns the op of a field.
     #[tactic(auto, unfolding(crate::specs::device::Codes::IsCoded))]
     fn of_field(at: u32, node: u16, field: &FieldInstruction) -> Op
         ensures is { IsOpOf result node (Field field.now) }
@@ -63,7 +62,7 @@ impl Op {
         }
     }
 
-    /// The code of a decimal by parts whose mantissa is under delta and there, by its exponent.
+    /// Returns the code of a decimal by parts whose mantissa is mandatory and under delta, by its exponent.
     #[tactic(auto, unfolding(crate::specs::device::Codes::IsCoded))]
     fn parts_code(exponent: &FieldInstruction) -> Code
         ensures { IsPartsCode exponent.now result }
@@ -77,7 +76,7 @@ impl Op {
         }
     }
 
-    /// That of a decimal by parts. Where its code is one of a mantissa under delta, the entry is the mantissa's.
+    /// Returns the op of a decimal by parts. If its code is one of a mantissa under delta, the entry is the mantissa's.
     #[tactic(auto, unfolding(crate::specs::device::Codes::IsCoded))]
     fn of_parts(at: u32, node: u16, exponent: &FieldInstruction, mantissa: &FieldInstruction) -> Op
         ensures is { IsOpOf result node (by_parts exponent.now mantissa.now) }
@@ -99,7 +98,7 @@ impl Op {
         }
     }
 
-    /// The code of a group.
+    /// Returns the code of a group.
     #[tactic(auto, unfolding(crate::specs::device::Codes::IsCoded))]
     fn group_code(optional: bool) -> Code
         ensures { IsGroupCode optional result }
@@ -111,7 +110,7 @@ impl Op {
         }
     }
 
-    /// The code of a sequence, by its length.
+    /// Returns the code of a sequence, by its length.
     #[tactic(auto, unfolding(crate::specs::device::Codes::IsCoded))]
     fn sequence_code(length: &FieldInstruction) -> Code
         ensures { IsSequenceCode length.now result }
@@ -123,7 +122,7 @@ impl Op {
         }
     }
 
-    /// That of a node with this number and shape.
+    /// Returns the op of a node with this number and shape.
     #[tactic(auto, unfolding(crate::specs::device::Codes::IsCoded))]
     pub fn of(at: u32, node: u16, shape: &Shape) -> Op
         ensures is { IsOpOf result node shape.now }

@@ -1,4 +1,4 @@
-//! A template set as one row of ops.
+//! A template set as one list of ops.
 
 ghost use Rattle.std.specs.Prelude.{◌≡◌, ◌<◌, ◌≤◌, ◌^◌, [], IfOk, OnOk, length};
 ghost use Rattle.fast_tree.specs.meaning.Numbers.{numbers_of, AreBelow, NameNodes, NameLaterNodes};
@@ -12,19 +12,19 @@ use crate::starts::Start;
 use fast_tree::{Node, Shape, Template};
 use std::alloc::{AllocError, Global};
 
-/// The bodies of a template set, each a run of its nodes' ops with an end behind it, and where they begin. The first op is
-/// an end: there all empty bodies begin.
+/// The bodies of a template set, each a run of its nodes' ops followed by an end, and where they begin. The first op is an end: all empty
+/// bodies begin there.
 #[derive(Debug, Drop)]
 pub struct Program {
-    /// The runs, one behind the other.
+    /// The runs, one after the other.
     pub ops: Vec<Op>,
     /// Where the messages of each template start.
     pub template_starts: Vec<Start>,
-    /// Where the body of each node begins: that of a group, of an element of a sequence, or none.
+    /// The index at which the body of each node begins: that of a group, of an element of a sequence, or an empty one.
     pub body_starts: Vec<usize>,
 }
 
-/// The end of a body.
+/// Returns the end of a body.
 fn end(at: u32) -> Op
     ensures code { result.code ≡ Code.End }
     ensures at { result.at ≡ at }
@@ -37,7 +37,7 @@ fn end(at: u32) -> Op
     }
 }
 
-/// The nodes within a node.
+/// Returns the nodes within a node.
 fn body_of(node: &Node) -> &[u32]
     ensures { result.now ≡ numbers_of node.now.shape }
 {
@@ -47,14 +47,14 @@ fn body_of(node: &Node) -> &[u32]
     }
 }
 
-/// Where the next op will stand. Of more ops than a `u32` can tell there is no program, as if memory were out.
+/// Returns the index of the next op. A program of more ops than a `u32` can count fails as if an allocation had failed.
 fn next_place(ops: &Vec<Op>) -> Result<u32, AllocError>
     ensures { IfOk result (λ at. at ≡ length ops.now.items) }
 {
     u32::try_from(ops.len()).map_err(|_| AllocError)
 }
 
-/// Puts the run of a body behind the others, and says where it begins.
+/// Appends the run of a body, and returns where it begins.
 fn add_body(ops: &mut Vec<Op>, nodes: &[Node], body: &[u32]) -> Result<usize, AllocError>
     requires few { length nodes.now ≤ 65536 }
     requires below { AreBelow (length nodes.now) body.now }
@@ -76,7 +76,7 @@ fn add_body(ops: &mut Vec<Op>, nodes: &[Node], body: &[u32]) -> Result<usize, Al
     Ok(start)
 }
 
-/// Puts the runs of templates behind the others, and says where their messages start.
+/// Appends the runs of templates, and returns where their messages start.
 fn add_templates(
     alloc: Global,
     ops: &mut Vec<Op>,
@@ -99,7 +99,7 @@ fn add_templates(
     Ok(starts)
 }
 
-/// Puts the runs of groups and sequences behind the others, and says where they begin.
+/// Appends the runs of groups and sequences, and returns where they begin.
 fn add_bodies(alloc: Global, ops: &mut Vec<Op>, nodes: &[Node]) -> Result<Vec<usize>, AllocError>
     requires few { length nodes.now ≤ 65536 }
     requires later { NameLaterNodes nodes.now }
@@ -116,7 +116,7 @@ fn add_bodies(alloc: Global, ops: &mut Vec<Op>, nodes: &[Node]) -> Result<Vec<us
 }
 
 impl Program {
-    /// The program of a template set.
+    /// Makes the program of a template set. Fails only if an allocation fails, or the program has more ops than a `u32` can count.
     pub fn of(alloc: Global, templates: &[Template], nodes: &[Node]) -> Result<Program, AllocError>
         requires few { length nodes.now ≤ 65536 }
         requires few_templates { length templates.now < 2 ^ 32 }

@@ -5,24 +5,24 @@ ghost use Rattle.fast_program.specs.device.Starts.{id_number};
 
 use fast_tree::Template;
 
-/// What stands for the identifier of a template that has none.
+/// The number that stands for the identifier of a template that has none.
 const NO_ID: u64 = u64::MAX;
 
-/// What has to be known of a template where its message starts, in one record.
+/// The start of a template's messages: all that a decoder needs of the template there, in one record.
 #[derive(Clone, Copy, Debug)]
 pub struct Start {
     /// The template identifier, or the greatest of 64 bits for none.
     pub id: u64,
-    /// Where its body begins.
+    /// The index in the program at which its body begins.
     pub at: usize,
-    /// Whether a message of it resets the dictionary.
+    /// If set, a message of the template resets the dictionary.
     pub reset: bool,
     /// The number of the template in its set.
     pub number: u32,
 }
 
 impl Start {
-    /// The start of the template with the number, whose body begins there.
+    /// Returns the start of the template with this number, whose body begins at `at`.
     pub fn of(template: &Template, number: u32, at: usize) -> Start
         ensures id { result.id ≡ id_number template.now.id }
         ensures at { result.at ≡ at }
