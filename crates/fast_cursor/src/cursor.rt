@@ -1,4 +1,4 @@
-//! Where a decoder is in a message: the open segments, and what is left of each.
+//! The position of a decoder in a message: the open segments, and the part of each that is left.
 
 ghost use Rattle.std.specs.Prelude.{◌≡◌, ◌↔◌, ◌<◌, true, false, ℕ, List, [], ◌∷◌, length, drop};
 ghost use Rattle.std.specs.Prelude.{IfOk, IsTrue, Some, None, option_map, slice_get};
@@ -24,14 +24,14 @@ use fast_wire::MAP_LIMIT;
 use std::alloc::{AllocError, Global};
 use std::marker::Model;
 
-/// Where a decoder is in a message. All its memory is taken when it is made.
+/// The position of a decoder in a message. It allocates memory only when it is made.
 #[derive(Drop)]
 pub struct Cursor<'t> {
     // The first `level` frames count, the outermost first.
     frames: Vec<Frame>,
     level: usize,
     ops: &'t [Op],
-    // where the next instruction stands in the program
+    // the index of the next instruction in the program
     ip: usize,
     // The cells of one map for each level, the outermost first; those of the innermost segment begin at `start`.
     maps: Vec<u8>,
@@ -54,12 +54,12 @@ impl<'t> Model for Cursor<'t> {
 }
 
 impl<'t> Cursor<'t> {
-    /// A cursor before a message, for at most so many open groups and elements at once. The program begins with an End, and its ops tell
-    /// where they stand.
+    /// Makes a cursor before a message, for at most `depth` open groups and elements at once. The program begins with an End, and its ops
+    /// hold their own indexes.
     ///
     /// # Errors
     ///
-    /// Memory was refused.
+    /// An allocation failed.
     pub fn new(alloc: Global, ops: &'t [Op], depth: usize) -> Result<Cursor<'t>, AllocError>
         requires rest { Begins ops.now 0 [] }
         requires numbered { AreNumbered ops.now }
@@ -80,7 +80,7 @@ impl<'t> Cursor<'t> {
         })
     }
 
-    /// Forgets all that was read.
+    /// Discards all that was read.
     pub fn reset(&mut self)
         ensures { self.new ≡ resting self.old }
     {
@@ -90,7 +90,7 @@ impl<'t> Cursor<'t> {
         self.map = NO_MAP;
     }
 
-    /// The instructions of a message's template are to come, which begin at a place in the program.
+    /// Begins the instructions of a message's template, which start at this index of the program.
     #[inline(always)]
     pub fn begin(&mut self, start: usize)
         requires run { IsRun self.old.ops start }
@@ -99,7 +99,7 @@ impl<'t> Cursor<'t> {
         self.ip = start;
     }
 
-    /// Where it is in the innermost segment.
+    /// Returns the position in the innermost segment.
     #[inline(always)]
     pub fn place(&self) -> Place<'t>
         ensures same { at_place self.now result ≡ self.now }
@@ -111,7 +111,7 @@ impl<'t> Cursor<'t> {
         }
     }
 
-    /// Goes to a place in the innermost segment.
+    /// Moves to a position in the innermost segment.
     #[inline(always)]
     pub fn set_place(&mut self, place: Place<'t>)
         requires { IsPlaceOf self.old place }
@@ -121,7 +121,7 @@ impl<'t> Cursor<'t> {
         self.map.word = place.word;
     }
 
-    /// Takes the bytes of the innermost segment's map that a piece goes on with.
+    /// Reads the bytes of the innermost segment's map from the rest of a piece.
     #[inline(always)]
     pub fn take_map(&mut self, rest: &[u8]) -> MapFront
         requires open { HaveNoStop self.old.map }
@@ -135,7 +135,7 @@ impl<'t> Cursor<'t> {
         self.take_more(rest)
     }
 
-    /// Takes a map of one byte, if none of its bytes has come and the piece goes on with it.
+    /// Reads a map of one byte, if none of its bytes has been read and the piece goes on with it. Returns whether it did.
     #[inline(always)]
     pub fn take_byte(&mut self, rest: &[u8]) -> bool
         ensures none { result ≡ true → self.old.map ≡ [] }
@@ -154,7 +154,7 @@ impl<'t> Cursor<'t> {
         false
     }
 
-    /// The same, whether or not bytes of the map have come, and whether one byte or more of the piece are the map's.
+    /// Reads the bytes of the innermost segment's map from the rest of a piece, whether or not some have been read before.
     #[inline(never)]
     fn take_more(&mut self, rest: &[u8]) -> MapFront
         requires open { HaveNoStop self.old.map }
@@ -175,8 +175,8 @@ impl<'t> Cursor<'t> {
         front
     }
 
-    /// Takes a map of at most eight bytes that the piece begins with, if none of its bytes has come and the piece has
-    /// eight.
+    /// Reads a map of at most eight bytes at the front of the piece, if none of its bytes has been read and the piece has eight. Returns
+    /// whether it did.
     #[inline(always)]
     pub fn take_short(&mut self, rest: &[u8], entity: ShortEntity) -> bool
         requires entity { IsShortEntity entity.number entity.len rest.now }
@@ -193,7 +193,7 @@ impl<'t> Cursor<'t> {
         true
     }
 
-    /// A message begins, whose map is one byte: the place goes behind the first bit, to where a run of the program begins. The cursor
+    /// Begins a message whose map is one byte: the position moves past the first bit, to where a run of the program begins. The cursor
     /// itself stays where it was in the program.
     #[inline(always)]
     pub fn begin_message(&mut self, place: &mut Place<'t>, byte: u8, start: usize)
@@ -212,7 +212,7 @@ impl<'t> Cursor<'t> {
         place.use_bit();
     }
 
-    /// Brings a place to the next bit of the innermost segment's map. Where it is in the program stays.
+    /// Moves a position to the next bit of the innermost segment's map. Its index in the program stays.
     #[inline(always)]
     pub fn show_map(&self, place: &mut Place<'t>)
         requires ahead { IsAhead self.now.ops place.old.ahead.now }
@@ -222,7 +222,7 @@ impl<'t> Cursor<'t> {
         place.word = self.map.word;
     }
 
-    /// The innermost segment has no map.
+    /// Sets the innermost segment to have no map.
     #[inline(always)]
     pub fn clear_map(&mut self)
         ensures { self.new ≡ record self.old { map = []; used = 0; ends = 8 } }
@@ -230,7 +230,7 @@ impl<'t> Cursor<'t> {
         self.map = NO_MAP;
     }
 
-    /// The bytes of the innermost segment's map that have come.
+    /// Returns the bytes of the innermost segment's map that have been read.
     #[inline]
     pub fn map(&self) -> &[u8]
         ensures { result.now ≡ self.now.map }
@@ -238,7 +238,7 @@ impl<'t> Cursor<'t> {
         &self.maps[self.start..self.start + self.map.len as usize]
     }
 
-    /// How many they are.
+    /// Returns the number of bytes of the innermost segment's map that have been read.
     #[inline(always)]
     pub fn map_len(&self) -> usize
         ensures { result ≡ length self.now.map }
@@ -246,7 +246,7 @@ impl<'t> Cursor<'t> {
         self.map.len as usize
     }
 
-    /// The next bit of the innermost segment. Behind the last one stand zeros for ever.
+    /// Returns the next bit of the innermost segment. The bits after the last one are all zero.
     #[inline(always)]
     pub fn bit(&self) -> bool
         ensures { result ≡ first_bit (bits_left self.now) }
@@ -257,7 +257,7 @@ impl<'t> Cursor<'t> {
         self.map.word >= SPENT
     }
 
-    /// Uses the next bit.
+    /// Moves past the next bit.
     #[inline(always)]
     pub fn use_bit(&mut self)
         ensures bits { bits_left self.new ≡ later_bits (bits_left self.old) }
@@ -269,7 +269,7 @@ impl<'t> Cursor<'t> {
         self.map.word <<= 1;
     }
 
-    /// The next instruction's node, if one is left of the innermost segment.
+    /// Returns the next instruction's node, if one is left of the innermost segment.
     #[inline(always)]
     pub fn next(&self) -> Option<u32>
         ensures { result ≡ first_node self.now.left }
@@ -281,7 +281,7 @@ impl<'t> Cursor<'t> {
         }
     }
 
-    /// What there is to do next.
+    /// Returns the op of the next instruction, or the end.
     #[inline(always)]
     pub fn op(&self) -> Op
         ensures within { (n : ℕ) × (slice_get self.now.ops n ≡ Some result) }
@@ -291,7 +291,7 @@ impl<'t> Cursor<'t> {
         self.ops[self.ip]
     }
 
-    /// The next instruction is whole.
+    /// Moves past the next instruction.
     #[inline(always)]
     pub fn advance(&mut self)
         requires { 0 < length self.old.left }
@@ -300,7 +300,7 @@ impl<'t> Cursor<'t> {
         self.ip += 1;
     }
 
-    /// A group begins, behind which the innermost segment goes on.
+    /// Opens a group, after which the innermost segment goes on.
     #[inline(always)]
     pub fn open_group(&mut self, start: usize)
         requires room { length self.old.frames < self.old.depth }
@@ -310,7 +310,7 @@ impl<'t> Cursor<'t> {
         self.enter(None, start);
     }
 
-    /// An element begins, behind which come others, and then what is left of the innermost segment.
+    /// Opens an element, after which others follow, and then the rest of the innermost segment.
     #[inline(always)]
     pub fn open_element(&mut self, elements: Elements)
         requires room { length self.old.frames < self.old.depth }
@@ -321,7 +321,7 @@ impl<'t> Cursor<'t> {
         self.enter(Some(elements), elements.start);
     }
 
-    /// A segment begins.
+    /// Opens a segment.
     #[inline(always)]
     fn enter(&mut self, elements: Option<Elements>, start: usize)
         requires room { length self.old.frames < self.old.depth }
@@ -337,8 +337,8 @@ impl<'t> Cursor<'t> {
         self.map = NO_MAP;
     }
 
-    /// The innermost segment is whole. If it is an element, behind which another one comes, that one begins, and the
-    /// answer is how many bits it uses. Otherwise nothing changes.
+    /// Ends the innermost segment if it is an element that another one follows: that one begins, and the number of bits that it uses is
+    /// returned. Otherwise nothing changes, and the result is `None`.
     #[inline(always)]
     pub fn next_element(&mut self) -> Option<usize>
         requires inner { 0 < length self.old.frames }
@@ -358,7 +358,7 @@ impl<'t> Cursor<'t> {
         Some(frame.width)
     }
 
-    /// Whether the innermost segment is the message's.
+    /// Returns whether the innermost segment is the message's.
     #[inline]
     pub fn is_outermost(&self) -> bool
         ensures { IsTrue result ↔ (self.now.frames ≡ []) }
@@ -366,7 +366,8 @@ impl<'t> Cursor<'t> {
         self.level == 0
     }
 
-    /// The innermost segment is whole, and the one around it goes on. The answer is what is still to come of a sequence.
+    /// Closes the innermost segment, which is complete, and goes on with the one around it. Returns the elements of a sequence that still
+    /// follow.
     #[inline(always)]
     pub fn close(&mut self) -> Option<Elements>
         requires inner { 0 < length self.old.frames }

@@ -1,18 +1,18 @@
-//! The segments around an open group or element, and what is still to come of a sequence.
+//! The segments around an open group or element, and the elements of a sequence that still follow.
 
 ghost use Rattle.std.specs.Prelude.{◌≡◌};
 ghost use Rattle.fast_cursor.specs.device.Segments.{frame_elements};
 
 use crate::map_place::MapPlace;
 
-/// What is still to come of a sequence behind an element.
+/// The elements of a sequence that still follow an open one.
 #[derive(Clone, Copy, Debug)]
 pub struct Elements {
-    /// How many elements.
+    /// The number of elements.
     pub more: u32,
-    /// Where each one's nodes begin in the program.
+    /// The index in the program at which each one's nodes begin.
     pub start: usize,
-    /// The bits that each uses.
+    /// The number of bits that each uses.
     pub width: usize,
 }
 
@@ -20,18 +20,18 @@ pub struct Elements {
 #[derive(Clone, Copy)]
 pub(crate) struct Frame {
     pub(crate) map: MapPlace,
-    // where in the program it goes on behind the group or sequence
+    // the index in the program after the group or sequence
     pub(crate) after: usize,
-    // 0 around a group, whose next fields say nothing, and 1 around an element
+    // 0 around a group, whose next fields have no meaning, and 1 around an element
     pub(crate) is_element: u32,
-    // what is still to come of the sequence
+    // the number of elements of the sequence that still follow
     pub(crate) more: u32,
     pub(crate) start: usize,
     pub(crate) width: usize,
 }
 
 impl Frame {
-    /// The frame of a segment around one that begins.
+    /// Returns the frame of a segment around one that begins.
     #[inline(always)]
     pub(crate) fn around(map: MapPlace, after: usize, elements: Option<Elements>) -> Frame
         ensures map { result.map ≡ map }
@@ -58,7 +58,7 @@ impl Frame {
         }
     }
 
-    /// What is still to come of the sequence, if the open segment is an element.
+    /// Returns the elements of the sequence that still follow, if the open segment is an element.
     #[inline(always)]
     pub(crate) fn elements(self) -> Option<Elements>
         ensures { result ≡ frame_elements self }

@@ -1,4 +1,4 @@
-//! Where a decoder is in a message: the open segments with their presence maps, and the instructions that are left.
+//! The position of a decoder in a message: the open segments with their presence maps, and the instructions that are left.
 #![tactic(auto)]
 
 pub mod cursor;

@@ -1,4 +1,4 @@
-//! Which bit of a presence map is the next one.
+//! The next bit of a presence map.
 
 ghost use Rattle.std.specs.Prelude.{◌≡◌, ℕ, ◌+◌, ◌*◌, ◌<◌, ◌≤◌, List, [], ◌∷◌, ◌++◌, length, take, drop, Bool, vec_len};
 ghost use Rattle.fast_wire.specs.device.Words.{IsShortEntity};
@@ -8,26 +8,26 @@ ghost use Rattle.fast_cursor.specs.device.Segments.{map_at};
 
 use fast_fronts::ShortEntity;
 
-/// How many bytes of a segment's map have come, and which bit is the next one. No byte of it is unused, so that it is
-/// copied in two words.
+/// The number of bytes of a segment's map that have been read, and the next bit. No byte of it is unused, so that it is copied in two
+/// words.
 #[derive(Clone, Copy)]
 pub struct MapPlace {
-    /// The next bits, the first of them at the top, and zeros behind the last one of the map. Behind those of eight bytes stands the
-    /// mark, a set bit with zeros behind it: where it is at the top, no bit is left.
+    /// The next bits, the first of them at the top, and zeros after the last one of the map. The bits of eight bytes are followed by the
+    /// mark, a set bit with zeros after it: if it is at the top, no bit is left.
     pub word: u64,
-    /// The byte behind those whose bits are in the word.
+    /// The index of the byte after those whose bits are in the word.
     pub end: u32,
-    /// The bytes that have come.
+    /// The number of bytes that have been read.
     pub len: u32,
 }
 
-/// The mark, where the 56 bits of eight bytes stand before it.
+/// The mark, after the 56 bits of eight bytes.
 const MARK: u64 = 0x80;
 
 /// The word of which no bit is left.
 pub const SPENT: u64 = 0x8000_0000_0000_0000;
 
-/// The place in a map that has not come.
+/// The position in a map of which nothing has been read.
 pub const NO_MAP: MapPlace = MapPlace {
     word: MARK,
     end: 8,
@@ -35,7 +35,7 @@ pub const NO_MAP: MapPlace = MapPlace {
 };
 
 impl MapPlace {
-    /// The place before the first bit of a map of one byte.
+    /// Returns the position before the first bit of a map of one byte.
     #[inline(always)]
     pub fn of_byte(byte: u8) -> MapPlace
         ensures place { IsPlace (byte ∷ []) result }
@@ -51,7 +51,7 @@ impl MapPlace {
         }
     }
 
-    /// The place before the first bit of a map of at most eight bytes.
+    /// Returns the position before the first bit of a map of at most eight bytes.
     #[inline(always)]
     pub fn of_entity(map: ShortEntity) -> MapPlace
         requires short { map.len ≤ 8 }
@@ -67,7 +67,7 @@ impl MapPlace {
         }
     }
 
-    /// The place in what the map has become, where no other bits are used.
+    /// Returns the position in the map after more bytes were read, if no other bits are used.
     pub fn in_map(self, map: &[u8]) -> MapPlace
         requires place { (front : List ℕ) × (length front ≡ self.len) × IsPlace front self }
         requires short { length map.now ≤ map_limit }
@@ -93,8 +93,7 @@ impl MapPlace {
         }
     }
 
-    /// Takes the next bits into the word, where none of it is left. It writes where the place stands, so that a caller keeps no room
-    /// for an answer.
+    /// Loads the next bits into the word if none is left in it. It writes in place, so that a caller keeps no room for a result.
     #[cold]
     #[inline(never)]
     pub fn refill(&mut self, maps: &Vec<u8>, start: usize)
@@ -111,7 +110,7 @@ impl MapPlace {
         *self = self.refilled(maps, start);
     }
 
-    /// The next bit, where none of the word is left.
+    /// Returns the next bit if none is left in the word.
     #[cold]
     #[inline(never)]
     pub fn bit_behind(&self, maps: &Vec<u8>, start: usize) -> bool
@@ -124,7 +123,7 @@ impl MapPlace {
         self.refilled(maps, start).word >= SPENT
     }
 
-    /// The same place, where no bit of the word is left, with the next ones in it.
+    /// Returns the position with the next bits loaded into the word, of which none is left.
     fn refilled(self, maps: &Vec<u8>, start: usize) -> MapPlace
         requires place { IsPlace (map_at maps.now.items start self.len) self }
         requires spent { self.word ≡ 9223372036854775808 }
@@ -148,7 +147,7 @@ impl MapPlace {
     }
 }
 
-/// The bits of the eight bytes from a place on, and the mark.
+/// Returns the bits of the eight bytes from an index on, and the mark.
 fn word_at(map: &[u8], first: u32) -> u64
     ensures { HasTop 56 result (drop (7 * first) (bits map.now)) }
 {
@@ -160,7 +159,7 @@ fn word_at(map: &[u8], first: u32) -> u64
     word_of(&map[..map.len().min(8)])
 }
 
-/// The bits of up to eight bytes, the first of them at the top, and the mark.
+/// Returns the bits of up to eight bytes, the first of them at the top, and the mark.
 fn word_of(bytes: &[u8]) -> u64
     requires { length bytes.now ≤ 8 }
     ensures { (rest : List Bool) → (length bytes.now < 8 → rest ≡ []) → HasTop 56 result (bits bytes.now ++ rest) }

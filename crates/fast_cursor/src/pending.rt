@@ -1,4 +1,4 @@
-//! Presence maps that a piece may cut.
+//! Presence maps that a piece may split.
 
 ghost use Rattle.std.specs.Prelude.{◌≡◌, ◌<◌, length, take};
 ghost use Rattle.fast_wire.specs.meaning.Entities.{HaveNoStop};
@@ -7,18 +7,18 @@ ghost use Rattle.fast_cursor.specs.device.Pending.{IsNextMap};
 
 use fast_wire::{MapStep, map_push};
 
-/// What the bytes of a piece make of a presence map, and how many of them decide it.
+/// The result of reading a presence map from the bytes of a piece, and the number of bytes that decide it.
 #[derive(Clone, Copy)]
 pub enum MapFront {
-    /// These many bytes make it whole.
+    /// This number of bytes completes it.
     Whole(usize),
-    /// With these many bytes it has all the bytes that a map may have, and no stop bit.
+    /// With this number of bytes it has all the bytes that a map may have, and no stop bit.
     TooLong(usize),
     /// The piece ends before the map does.
     Cut,
 }
 
-/// The presence map whose first bytes stand in the cells and that goes on with the rest.
+/// Reads the presence map whose first `len` bytes are in the cells and that goes on with the rest.
 pub fn next_map(cells: &mut [u8], len: usize, rest: &[u8]) -> MapFront
     requires cells { length cells.old ≡ map_limit }
     requires room { len < map_limit }

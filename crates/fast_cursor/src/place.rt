@@ -1,4 +1,4 @@
-//! Where a cursor is in the innermost segment, apart from the cursor.
+//! The position of a cursor in the innermost segment, apart from the cursor.
 
 ghost use Rattle.std.specs.Prelude.{◌≡◌, ◌↔◌, ◌<◌, [], ◌∷◌, length, drop, true, false, if◌then◌else◌};
 ghost use Rattle.std.specs.Prelude.{IsTrue, Some, slice_get};
@@ -11,7 +11,7 @@ ghost use Rattle.fast_cursor.specs.device.Places.{place_left, at_place, HasBits,
 use crate::map_place::SPENT;
 use fast_program::{Code, Op};
 
-/// Where a cursor is in the innermost segment. It stands apart from the cursor, so that a loop can keep it in registers.
+/// The position of a cursor in the innermost segment. It is kept apart from the cursor, so that a loop can keep it in registers.
 #[derive(Clone, Copy)]
 pub struct Place<'t> {
     /// The program, from the next instruction on.
@@ -21,7 +21,7 @@ pub struct Place<'t> {
 }
 
 impl<'t> Place<'t> {
-    /// What there is to do next. It is lent, so that each arm of a loop loads what it needs of it.
+    /// Returns the op of the next instruction, or the end. It is borrowed, so that each arm of a loop loads the parts that it needs.
     #[inline(always)]
     pub fn op(&self) -> &'t Op
         requires run { HasEnd self.now.ahead.now }
@@ -34,7 +34,7 @@ impl<'t> Place<'t> {
         &ahead[0]
     }
 
-    /// The next instruction's node, if one is left.
+    /// Returns the next instruction's node, if one is left.
     #[inline(always)]
     pub fn next(&self) -> Option<u32>
         requires run { HasEnd self.now.ahead.now }
@@ -47,7 +47,7 @@ impl<'t> Place<'t> {
         }
     }
 
-    /// The next instruction is whole.
+    /// Moves past the next instruction.
     #[inline(always)]
     pub fn advance(&mut self)
         requires { 0 < length (place_left self.old) }
@@ -58,8 +58,8 @@ impl<'t> Place<'t> {
         self.ahead = &self.ahead[1..];
     }
 
-    /// The next bit, where one is left in the word. Behind the last one stand zeros for ever. Of a word that is spent the answer is
-    /// the mark, and so true.
+    /// Returns the next bit, if one is left in the word. The bits after the last one are all zero. If the word is spent, the result is the
+    /// mark, and so true.
     #[inline(always)]
     pub fn bit(&self) -> bool
         ensures clear { result ≡ false → HasBits self.now }
@@ -69,7 +69,7 @@ impl<'t> Place<'t> {
         self.word >= SPENT
     }
 
-    /// Whether no bit is left in the word: then the cursor has to use the next one, for other bytes of the map may be behind.
+    /// Returns whether no bit is left in the word: then the cursor has to use the next one, since other bytes of the map may follow.
     #[inline(always)]
     pub fn is_spent(&self) -> bool
         ensures spent { IsTrue result ↔ (self.now.word ≡ 9223372036854775808) }
@@ -78,7 +78,7 @@ impl<'t> Place<'t> {
         self.word == SPENT
     }
 
-    /// Uses the next bit, where one is left in the word.
+    /// Moves past the next bit, if one is left in the word.
     #[inline(always)]
     pub fn use_bit(&mut self)
         requires more { HasBits self.old }
@@ -92,7 +92,7 @@ impl<'t> Place<'t> {
         self.word <<= 1;
     }
 
-    /// Goes past the next instruction, which uses a bit that is left in the word, or none.
+    /// Moves past the next instruction, which uses a bit that is left in the word, or none.
     #[inline(always)]
     pub fn pass(&mut self, has_bit: bool)
         requires left { 0 < length (place_left self.old) }
